@@ -6,8 +6,11 @@ use Rattle.ratatui_core.specs.Terminal.{TerminalData, IsInline, IsInStep, Insert
 use Rattle.ratatui_core.specs.Headline.{IsHeadline, Draw, Clear, Resize, Insert}
 use Rattle.guide.specs.Renewing.{Renews}
 
-pub renews : {B : Type 0} (screen : B → Screen) (area : Rect) (over : TerminalData B → Rect) (filled : TerminalData B → Result (Unit {0}) AllocError → BufferData → Type 0) (s drawn cleared resized t : TerminalData B) → IsHeadline screen
-    → IsInStep screen s → DrawsFrame screen s drawn → IsSettledBuffer drawn.previous → ClearsViewport screen drawn cleared → Resizes screen area cleared resized
+pub renews : {B : Type 0} (screen : B → Screen) (area : Rect) (over : TerminalData B → Rect)
+    (filled : TerminalData B → Result (Unit {0}) AllocError → BufferData → Type 0) (s drawn cleared resized t : TerminalData B)
+    → IsHeadline screen
+    → IsInStep screen s → DrawsFrame screen s drawn → IsSettledBuffer drawn.previous → ClearsViewport screen drawn cleared
+    → Resizes screen area cleared resized
     → (IsInline resized.viewport → InsertOk screen (over resized) (filled resized) resized t) → Renews screen area filled s t
 renews screen area over filled s drawn cleared resized t law step draw settled clear resize insert = record {
   drawn = drawn;
@@ -20,7 +23,13 @@ renews screen area over filled s drawn cleared resized t law step draw settled c
         rows.inserted,
         rows.closure,
         λ fair.
-            law s (record { call = Draw drawn.previous; after = drawn } ∷ record { call = Clear; after = cleared } ∷ record { call = Resize area; after = resized } ∷ record { call = Insert rows.inserted; after = t } ∷ []) step
+            law s (record { call = Draw drawn.previous; after = drawn } ∷ record {
+              call = Clear;
+              after = cleared;
+            } ∷ record { call = Resize area; after = resized } ∷ record {
+              call = Insert rows.inserted;
+              after = t;
+            } ∷ []) step
             ((refl, record { before = s; taken = inl refl; then = draw }), (clear, (resize, (rows.inserts some, tt))))
             (settled, (tt, (on, ((fair, takes), tt)))),
       );

@@ -1,7 +1,8 @@
 -- A text painted on an empty buffer, and what a screen then shows.
 use Rattle.std.specs.Prelude.{◌≡◌, ℕ, ◌+◌, ◌<◌, List, length, take}
 use Rattle.ratatui_core.specs.Layout.{Rect, Position, HasPosition}
-use Rattle.ratatui_core.specs.Buffer.{Grid, BufferData, IsEmptied, ShowsBuffer, PaintsPieces, right_by, Piece, columns, shown, piece_at, look_of, empty_cell}
+use Rattle.ratatui_core.specs.Buffer.{Grid, BufferData, IsEmptied, ShowsBuffer, PaintsPieces, right_by, Piece}
+use Rattle.ratatui_core.specs.Buffer.{columns, shown, piece_at, look_of, empty_cell}
 
 -- the grid shows an empty buffer of this area with these pieces painted at a position
 pub record ShowsLabel (area : Rect) (p : Position) (ps : List Piece) (g : Grid) : Type 0 where

@@ -3,7 +3,8 @@
 ghost use Rattle.std.specs.Prelude.{◌≡◌, ◌≤◌, ◌+◌, ◌-◌, List, OnOk};
 ghost use Rattle.ratatui_core.specs.Layout.{Rect, Position, HasPosition};
 ghost use Rattle.ratatui_core.specs.Style.{new_style};
-ghost use Rattle.ratatui_core.specs.Buffer.{Grid, IsEmptied, IsSettledBuffer, PaintsPieces, Piece, columns, pieces_at};
+ghost use Rattle.ratatui_core.specs.Buffer.{Grid, IsEmptied, IsSettledBuffer, PaintsPieces, Piece, columns};
+ghost use Rattle.ratatui_core.specs.Buffer.{pieces_at};
 ghost use Rattle.guide.specs.Labels.{StandsAt, ShowsLabel};
 
 use ratatui_core::buffer::Buffer;

@@ -1,7 +1,8 @@
 //! Rows that are logged above an inline viewport.
 
 ghost use Rattle.std.specs.Prelude.{IfOk, IsTrue};
-ghost use Rattle.ratatui_core.specs.Terminal.{TerminalData, IsInStep, AcceptsFrames, AcceptsRows, FillsRows, TakesRows, inserted_area};
+ghost use Rattle.ratatui_core.specs.Terminal.{TerminalData, IsInStep, AcceptsFrames, AcceptsRows, FillsRows};
+ghost use Rattle.ratatui_core.specs.Terminal.{TakesRows, inserted_area};
 ghost use Rattle.guide.specs.Logging.{Logs};
 
 use crate::frames::draw_checked;

@@ -2,7 +2,8 @@
 
 ghost use Rattle.std.specs.Prelude.{IfOk, IsTrue};
 ghost use Rattle.ratatui_core.specs.Layout.{EdgesFit};
-ghost use Rattle.ratatui_core.specs.Terminal.{TerminalData, IsInStep, AcceptsFrames, AcceptsRows, FillsRows, inserted_area};
+ghost use Rattle.ratatui_core.specs.Terminal.{TerminalData, IsInStep, AcceptsFrames, AcceptsRows, FillsRows};
+ghost use Rattle.ratatui_core.specs.Terminal.{inserted_area};
 ghost use Rattle.guide.specs.Renewing.{Renews};
 
 use crate::frames::draw_checked;

@@ -13,7 +13,10 @@ none i = lit< tt
 
 label : IsAscii (codes "lines: ")
 label =
-    more 108 (codes "ines: ") (lit< tt) (more 105 (codes "nes: ") (lit< tt) (more 110 (codes "es: ") (lit< tt) (more 101 (codes "s: ") (lit< tt) (more 115 (codes ": ") (lit< tt) (more 58 (codes " ") (lit< tt)
+    more 108 (codes "ines: ") (lit< tt)
+    (more 105 (codes "nes: ") (lit< tt)
+    (more 110 (codes "es: ") (lit< tt)
+    (more 101 (codes "s: ") (lit< tt) (more 115 (codes ": ") (lit< tt) (more 58 (codes " ") (lit< tt)
     (more 32 [] (lit< tt) none))))))
 
 pub ascii-status : (n : ℕ) → n < 2 ^ 64 → IsAscii (status_text n)

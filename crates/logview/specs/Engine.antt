@@ -1,16 +1,19 @@
 -- From the bytes of a log to what is printed, or to a fault.
-use Rattle.std.specs.Prelude.{◌≡◌, ◌⊎◌, ℕ, ◌-◌, ◌<◌, min, List, [], ◌∷◌, ◌++◌, length, take, drop, slice_get, Option, None, Some, codes}
+use Rattle.std.specs.Prelude.{◌≡◌, ◌⊎◌, ℕ, ◌-◌, ◌<◌, min, List, [], ◌∷◌, ◌++◌, length, take, drop, slice_get}
+use Rattle.std.specs.Prelude.{Option, None, Some, codes}
 use Rattle.std.specs.{Fmt.decimal, Str.IsUtf8, Str.Lines.lines, Io.KnownBytes.Appends}
 use Rattle.ratatui_core.specs.Layout.{Size}
-use Rattle.ratatui_core.specs.Backend.{Screen, TestBackend, TestError, screen_of, size_of, rows_above, printed_screen}
+use Rattle.ratatui_core.specs.Backend.{Screen, TestBackend, TestError, screen_of, size_of, rows_above}
+use Rattle.ratatui_core.specs.Backend.{printed_screen}
 use Rattle.ratatui_core.specs.Terminal.{row_area, ShowsText, IsBlankBelow, TerminalError}
-use Rattle.logview.specs.{Rows.counted, Rows.status_text, Rows.AreRowsOfLines, Views.IsViewOf, Views.RefusesPush, declared.view.LogView.LogView}
+use Rattle.logview.specs.{Rows.counted, Rows.status_text, Rows.AreRowsOfLines, Views.IsViewOf}
+use Rattle.logview.specs.{Views.RefusesPush, declared.view.LogView.LogView}
 use Rattle.script_words.specs.Words.{parsed_size}
 use Rattle.logview.specs.declared.fault.LogFault.{LogFault}
 use Rattle.logview.specs.declared.fault.LogFault.TheVariants as fault
 
--- the screen of a log from a blank one on: a row for each line, those that have no room scrolled off, after them the status line, and blank
--- rows below it
+-- the screen of a log from a blank one on: a row for each line, those that have no room scrolled off, after
+-- them the status line, and blank rows below it
 pub record ShowsLog (size : Size) (log : List (List ℕ)) (s : Screen) : Type 0 where
   pub size_is : size_of s ≡ size
   pub top : ℕ
@@ -35,7 +38,8 @@ pub record IsLog (bytes : List ℕ) (size : Size) : Type 0 where
   pub text : IsUtf8 bytes
   pub first : size_of_log (lines bytes) ≡ Some size
 
--- the writer took the printed screen of the log: of a blank screen of its size, and of its lines after the first one
+-- the writer took the printed screen of the log: of a blank screen of its size, and of its lines after the
+-- first one
 pub record PrintsLog (bytes : List ℕ) (old new : Option (List ℕ)) : Type 0 where
   pub size : Size
   pub is : IsLog bytes size
@@ -43,8 +47,10 @@ pub record PrintsLog (bytes : List ℕ) (old new : Option (List ℕ)) : Type 0 w
   pub shown : ShowsLog size (drop 1 (lines bytes)) screen
   pub written : Appends old new (printed_screen screen)
 
--- the push of line n of a log was refused, after all lines between the first one and it, on a screen of this size, and left this view
-pub record StopsAtLine (size : Size) (log : List (List ℕ)) (n : ℕ) (left : LogView TestBackend TestError) : Type 0 where
+-- the push of line n of a log was refused, after all lines between the first one and it, on a screen of this
+-- size, and left this view
+pub record StopsAtLine (size : Size) (log : List (List ℕ)) (n : ℕ)
+    (left : LogView TestBackend TestError) : Type 0 where
   pub after : 1 < n
   pub line : List ℕ
   pub line_is : slice_get (drop 1 log) (n - 2) ≡ Some line
@@ -58,10 +64,12 @@ abbrev pub StopsPushing : Size → List (List ℕ) → LogView TestBackend TestE
 StopsPushing size log left (fault.Refused n) = StopsAtLine size log n left
 StopsPushing size log left other = ⊥
 
--- why nothing of these bytes was printed, or with a failed writer a part; at 1 the view itself was refused, and at no line
+-- why nothing of these bytes was printed, or with a failed writer a part; at 1 the view itself was refused,
+-- and at no line
 abbrev pub IsLogFault : List ℕ → LogFault → Type 0
 IsLogFault bytes fault.Size = IsUtf8 bytes × (size_of_log (lines bytes) ≡ None)
-IsLogFault bytes (fault.Refused n) = (size : Size) × IsLog bytes size × ((n ≡ 1) ⊎ ((left : LogView TestBackend TestError) × StopsAtLine size (lines bytes) n left))
+IsLogFault bytes (fault.Refused n) = (size : Size) × IsLog bytes size
+    × ((n ≡ 1) ⊎ ((left : LogView TestBackend TestError) × StopsAtLine size (lines bytes) n left))
 IsLogFault bytes fault.NotText = IsUtf8 bytes → ⊥
 IsLogFault bytes fault.Read = Unit {0}
 IsLogFault bytes fault.Memory = Unit {0}

@@ -1,7 +1,9 @@
 -- Views of a log, and what a push does to them.
 use Rattle.std.specs.Prelude.{◌≡◌, ◌⊎◌, ℕ, ◌+◌, ◌-◌, ◌<◌, min, nat_lt, if◌then◌else◌, List, length}
 use Rattle.ratatui_core.specs.{Layout.Size, Backend.Screen, Backend.size_of, Buffer.BufferData}
-use Rattle.ratatui_core.specs.Terminal.{IsBlankBelow, IsOverRow, FillsRow, ShowsRow, InsertsRow, StartsOverRow, TerminalData, StopsInserting, WritesAtMost, inserted_area, rows_over}
+use Rattle.ratatui_core.specs.Terminal.{IsBlankBelow, IsOverRow, FillsRow, ShowsRow, InsertsRow}
+use Rattle.ratatui_core.specs.Terminal.{StartsOverRow, TerminalData, StopsInserting, WritesAtMost}
+use Rattle.ratatui_core.specs.Terminal.{inserted_area, rows_over}
 use Rattle.ratatui_core.specs.Terminal.{TerminalError, Backend, Memory, Area, Closure}
 use Rattle.logview.specs.{Rows.counted, Rows.status_text, Rows.AreRowsOfLines, declared.view.LogView.LogView}
 
@@ -29,10 +31,11 @@ module _ {B E : Type 0} (screen : B → Screen) where
 
   -- the rows below the status line, as it now stands, stay
   pub record KeepsBelow (v w : LogView B E) : Type 0 where
-    pub at : (a b : ℕ) → a < (screen_in v).width → b < (screen_in v).height → w.terminal.viewport_area.y < b → (screen_in w).grid a b ≡ (screen_in v).grid a b
+    pub at : (a b : ℕ) → a < (screen_in v).width → b < (screen_in v).height → w.terminal.viewport_area.y < b
+        → (screen_in w).grid a b ≡ (screen_in v).grid a b
 
-  -- a push: exactly one row, the line's, came in above the status line, which shows the new count, and the rows below stay; at most the cells of
-  -- the row and of the status line were written
+  -- a push: exactly one row, the line's, came in above the status line, which shows the new count, and the
+  -- rows below stay; at most the cells of the row and of the status line were written
   pub record PushesLine (line : List ℕ) (v w : LogView B E) : Type 0 where
     pub inserts : InsertsRow screen line v.terminal w.terminal
     pub status : ShowsStatus w
@@ -59,7 +62,8 @@ module _ {B E : Type 0} (screen : B → Screen) where
     pub inserts : InsertsRow screen line v.terminal inserted
     pub count : w.count ≡ counted (v.count + 1)
 
-  -- a refused push: by the backend, in the insertion or after it; or for want of memory, and then nothing changed
+  -- a refused push: by the backend, in the insertion or after it; or for want of memory, and then nothing
+  -- changed
   abbrev pub RefusesPush : List ℕ → LogView B E → LogView B E → TerminalError E → Type 0
   RefusesPush line v w (Backend error) = StopsLine line v w ⊎ LacksStatus line v w
   RefusesPush line v w Memory = w ≡ v

@@ -1,11 +1,13 @@
 //! Lines above a status line.
 
 ghost use Rattle.std.specs.Prelude.{◌≡◌, ◌+◌, ◌<◌, IfOk, IfErr, IsOk, OnOk};
-ghost use Rattle.ratatui_core.specs.Terminal.{DrawsRow, Faults, HasAreas, Inline, InsertsRow, IsBackendFault, IsBlank, IsSized};
+ghost use Rattle.ratatui_core.specs.Terminal.{DrawsRow, Faults, HasAreas, Inline, InsertsRow, IsBackendFault};
+ghost use Rattle.ratatui_core.specs.Terminal.{IsBlank, IsSized};
 ghost use Rattle.ratatui_core.specs.Terminal.{KeepsFrame, StartErr, WritesAtMost};
 ghost use Rattle.ratatui_core.specs.Widgets.{HasFirstRow, RendersStr, RendersShortStr};
 ghost use Rattle.logview.specs.Rows.{counted, status_text};
-ghost use Rattle.logview.specs.Views.{IsFollowing, KeepsBelow, PushesLine, RefusesLine, RefusesPush, StartsView};
+ghost use Rattle.logview.specs.Views.{IsFollowing, KeepsBelow, PushesLine, RefusesLine, RefusesPush};
+ghost use Rattle.logview.specs.Views.{StartsView};
 ghost use Rattle.logview.specs.Views.{cells_pushed, screen_in};
 
 use crate::status::status_text;

@@ -23,59 +23,77 @@ room-is : (r : Rect) (x n : ℕ) → x + n ≤ r.x + r.width → n ≤ 65535 →
 room-is r x n fits small = omega arith
 
 -- a text painted in columns that its row has
-pub text-painted : (x y m n : ℕ) (style : Style) (text : List ℕ) (old new : BufferData) → m ≡ n → x + n ≤ old.area.x + old.area.width → n ≤ 65535
-    → PaintsPieces (position_of (x, y)) (pieces_at old.area x m style text) old new → PaintsPieces (position_of (x, y)) (text_pieces n style text) old new
+pub text-painted : (x y m n : ℕ) (style : Style) (text : List ℕ) (old new : BufferData) → m ≡ n
+    → x + n ≤ old.area.x + old.area.width → n ≤ 65535
+    → PaintsPieces (position_of (x, y)) (pieces_at old.area x m style text) old new
+    → PaintsPieces (position_of (x, y)) (text_pieces n style text) old new
 text-painted x y m n style text old new same fits small paints =
-    subst (λ k. PaintsPieces (position_of (x, y)) (text_pieces k style text) old new) (ap (room_at old.area x) same ∙ room-is old.area x n fits small) paints
+    subst (λ k. PaintsPieces (position_of (x, y)) (text_pieces k style text) old new) (ap (room_at old.area x) same
+    ∙ room-is old.area x n fits small) paints
 
-pub text-columns : (own : Rect) (x m n : ℕ) (style : Style) (text : List ℕ) → m ≡ n → x + n ≤ own.x + own.width → n ≤ 65535 → columns (pieces_at own x m style text) ≡ columns (text_pieces n style text)
-text-columns own x m n style text same fits small = ap (λ k. columns (text_pieces k style text)) (ap (room_at own x) same ∙ room-is own x n fits small)
+pub text-columns : (own : Rect) (x m n : ℕ) (style : Style) (text : List ℕ) → m ≡ n → x + n ≤ own.x + own.width → n ≤ 65535
+    → columns (pieces_at own x m style text) ≡ columns (text_pieces n style text)
+text-columns own x m n style text same fits small = ap (λ k. columns (text_pieces k style text)) (ap (room_at own x) same
+    ∙ room-is own x n fits small)
 
 -- what may be painted from a column on may be painted from a later one
-pub ready-later : (x z y : ℕ) (s : BufferData) → IsReadyAt x y s → HasRow s.area y → x ≤ z → z ≤ s.area.x + s.area.width → IsReadyAt z y s
+pub ready-later : (x z y : ℕ) (s : BufferData) → IsReadyAt x y s → HasRow s.area y → x ≤ z → z ≤ s.area.x + s.area.width
+    → IsReadyAt z y s
 ready-later x z y s ready row le fits =
     let e = ready.edges in let r = e.right in let b = e.bottom in let t = row.top in let d = row.bottom in
     record {
       edges = ready.edges;
       settled = ready.settled;
-      plain = λ p has from. ready.plain p has (⊎_elim (λ (below : y < p.y). inl below) (λ (at : (p.y ≡ y) × (z ≤ p.x)). inr (at.0, (let more = at.1 in omega arith))) from);
+      plain = λ p has from. ready.plain p has (⊎_elim (λ (below : y < p.y). inl below)
+          (λ (at : (p.y ≡ y) × (z ≤ p.x)). inr (at.0, (let more = at.1 in omega arith))) from);
       before = λ a from to off.
           ⊎_elim
           (λ (lt : a < x). let end = ready.before a from lt off in omega arith)
           (λ (ge : x ≤ a).
-          let one = (ready.plain (position_of (a, y)) (record { left = from; right = omega arith; top = t; bottom = omega arith }) (inr (refl, ge))).narrow in
+          let one = (ready.plain (position_of (a, y)) (record { left = from; right = omega arith; top = t; bottom = omega arith })
+          (inr (refl, ge))).narrow in
           omega arith)
           (cases_lt a x);
     }
 
 -- ---- symbols one by one
 
-turn-if : (b : Bool) (x y : ℕ) (v : View) (s : LineSymbol) (ss : List LineSymbol) (now mid new : BufferData) → is_in_view v s ≡ b → PaintsIf b x y v s now mid
+turn-if : (b : Bool) (x y : ℕ) (v : View) (s : LineSymbol) (ss : List LineSymbol) (now mid new : BufferData) → is_in_view v s ≡ b
+    → PaintsIf b x y v s now mid
     → PaintsSymbols x y v (symbols_in_view v ss) mid new → PaintsSymbols x y v (symbols_in_view v (s ∷ ss)) now new
 unfolding PaintsSymbols
 turn-if true x y v s ss now mid new is made others = rw is (record { between = mid; first = made; second = others })
-turn-if false x y v s ss now mid new is made others = rw is (subst (λ b. PaintsSymbols x y v (symbols_in_view v ss) b new) made others)
+turn-if false x y v s ss now mid new is made others =
+    rw is (subst (λ b. PaintsSymbols x y v (symbols_in_view v ss) b new) made others)
 
 -- to paint what is left of a line is to paint all of it
 abbrev pub FinishesLine : ℕ → ℕ → View → List ℕ → ℕ → ℕ → List (List ℕ) → List ℕ → BufferData → BufferData → Type 0
 FinishesLine x y v pattern marked column gs line old now =
-    (new : BufferData) → PaintsSymbols x y v (symbols_in_view v (symbols_from pattern marked column gs)) now new → PaintsLine x y v pattern line old new
+    (new : BufferData) → PaintsSymbols x y v (symbols_in_view v (symbols_from pattern marked column gs)) now new
+    → PaintsLine x y v pattern line old new
 
-pub line-turn : (x y : ℕ) (v : View) (pattern : List ℕ) (marked here column : ℕ) (g rest_text : List ℕ) (all rest : List (List ℕ)) (line : List ℕ) (old now mid : BufferData)
+pub line-turn : (x y : ℕ) (v : View) (pattern : List ℕ) (marked here column : ℕ) (g rest_text : List ℕ) (all rest : List (List ℕ))
+    (line : List ℕ) (old now mid : BufferData)
     → all ≡ g ∷ rest → rest_text ≡ concat all → here ≡ marked_bytes pattern marked rest_text
     → FinishesLine x y v pattern marked column all line old now
-    → PaintsIfInView x y v (line_symbol (mark_style here) column g) now mid → FinishesLine x y v pattern (here - length g) (column + shown_columns column g) rest line old mid
+    → PaintsIfInView x y v (line_symbol (mark_style here) column g) now mid → FinishesLine x y v pattern (here - length g)
+    (column + shown_columns column g) rest line old mid
 unfolding symbols_from
 line-turn x y v pattern marked here column g rest_text all rest line old now mid is text_is here_is finishes made = λ new others.
-    let same : marked_bytes pattern marked (concat (g ∷ rest)) ≡ here = ap (λ t. marked_bytes pattern marked t) (ap concat (sym is) ∙ sym text_is) ∙ sym here_is in
+    let same : marked_bytes pattern marked (concat (g ∷ rest)) ≡ here = ap (λ t. marked_bytes pattern marked t)
+    (ap concat (sym is) ∙ sym text_is) ∙ sym here_is in
     finishes new (subst (λ gs. PaintsSymbols x y v (symbols_in_view v (symbols_from pattern marked column gs)) now new) (sym is)
-    (subst (λ h. PaintsSymbols x y v (symbols_in_view v (line_symbol (mark_style h) column g ∷ symbols_from pattern (h - length g) (column + shown_columns column g) rest)) now new) (sym same)
-    (turn-if (is_in_view v (line_symbol (mark_style here) column g)) x y v (line_symbol (mark_style here) column g) (symbols_from pattern (here - length g) (column + shown_columns column g) rest) now mid new refl made others)))
+    (subst (λ h. PaintsSymbols x y v (symbols_in_view v (line_symbol (mark_style h) column g ∷ symbols_from pattern (h - length g)
+    (column + shown_columns column g) rest)) now new) (sym same)
+    (turn-if (is_in_view v (line_symbol (mark_style here) column g)) x y v (line_symbol (mark_style here) column g)
+    (symbols_from pattern (here - length g) (column + shown_columns column g) rest) now mid new refl made others)))
 
-off-view : (v : View) (style : Style) (column : ℕ) (g : List ℕ) → v.limit ≤ column → is_in_view v (line_symbol style column g) ≡ false
+off-view : (v : View) (style : Style) (column : ℕ) (g : List ℕ) → v.limit ≤ column
+    → is_in_view v (line_symbol style column g) ≡ false
 off-view v style column g le = grind (arith, nat_tests)
 
-none-in-view : (v : View) (pattern : List ℕ) (marked column : ℕ) (gs : List (List ℕ)) → v.limit ≤ column → symbols_in_view v (symbols_from pattern marked column gs) ≡ []
+none-in-view : (v : View) (pattern : List ℕ) (marked column : ℕ) (gs : List (List ℕ)) → v.limit ≤ column
+    → symbols_in_view v (symbols_from pattern marked column gs) ≡ []
 unfolding symbols_from
 none-in-view v pattern marked column [] le = refl
 none-in-view v pattern marked column (g ∷ gs) le =
@@ -88,12 +106,15 @@ unfolding PaintsSymbols
 painted-none x y v ss now none = rw none refl
 
 -- no column is left
-pub line-full : (x y : ℕ) (v : View) (pattern : List ℕ) (marked column : ℕ) (gs : List (List ℕ)) (line : List ℕ) (old now : BufferData) → v.limit ≤ column → FinishesLine x y v pattern marked column gs line old now
+pub line-full : (x y : ℕ) (v : View) (pattern : List ℕ) (marked column : ℕ) (gs : List (List ℕ)) (line : List ℕ)
+    (old now : BufferData) → v.limit ≤ column → FinishesLine x y v pattern marked column gs line old now
     → PaintsLine x y v pattern line old now
-line-full x y v pattern marked column gs line old now le finishes = finishes now (painted-none x y v _ now (none-in-view v pattern marked column gs le))
+line-full x y v pattern marked column gs line old now le finishes =
+    finishes now (painted-none x y v _ now (none-in-view v pattern marked column gs le))
 
 -- no grapheme is left
-pub line-end : (x y : ℕ) (v : View) (pattern : List ℕ) (marked column : ℕ) (gs : List (List ℕ)) (line : List ℕ) (old now : BufferData) → gs ≡ [] → FinishesLine x y v pattern marked column gs line old now
+pub line-end : (x y : ℕ) (v : View) (pattern : List ℕ) (marked column : ℕ) (gs : List (List ℕ)) (line : List ℕ)
+    (old now : BufferData) → gs ≡ [] → FinishesLine x y v pattern marked column gs line old now
     → PaintsLine x y v pattern line old now
 unfolding symbols_from
 line-end x y v pattern marked column gs line old now none finishes = finishes now (painted-none x y v _ now (rw none refl))
@@ -107,7 +128,8 @@ numbers-fit columns width wide = ⊎_elim
 
 -- ---- in a part of a buffer
 
-module _ (part : Rect) (y : ℕ) (s : BufferData) (box : IsBoxArea part) (inside : IsInside part s.area) (top : part.y ≤ y) (bottom : y < part.y + part.height) where
+module _ (part : Rect) (y : ℕ) (s : BufferData) (box : IsBoxArea part) (inside : IsInside part s.area) (top : part.y ≤ y)
+    (bottom : y < part.y + part.height) where
   -- a row may be painted from each of its columns on
   pub part-ready : (x : ℕ) → x ≤ part.x + part.width → IsReadyFrom y s → IsReadyAt x y s
   part-ready x fits ready =
@@ -121,7 +143,8 @@ module _ (part : Rect) (y : ℕ) (s : BufferData) (box : IsBoxArea part) (inside
 
 -- ---- a page
 
-pub pager-ok : {A : Type 0} (r : Result A AllocError) (p : Pager) (area part : Rect) (old new : BufferData) → IsClipped area old.area part → ChangesWithin part old new → OnOk r (PaintsPage p part old new)
+pub pager-ok : {A : Type 0} (r : Result A AllocError) (p : Pager) (area part : Rect) (old new : BufferData)
+    → IsClipped area old.area part → ChangesWithin part old new → OnOk r (PaintsPage p part old new)
     → (IsReadyFrom part.y old → OnOk r (IsSettledBuffer new)) → OnOk r (PaintsPager p area old new)
 pager-ok (Ok x) p area part old new is within page settled = record {
   within = within-wider part area old new is.of_area within;
@@ -130,7 +153,8 @@ pager-ok (Ok x) p area part old new is within page settled = record {
 }
 pager-ok (Err e) p area part old new is within page settled = tt
 
-pub err-within : {A : Type 0} (r : Result A AllocError) (area part : Rect) (old new : BufferData) → IsClipped area old.area part → ChangesWithin part old new → OnErr r (ChangesWithin area old new)
+pub err-within : {A : Type 0} (r : Result A AllocError) (area part : Rect) (old new : BufferData) → IsClipped area old.area part
+    → ChangesWithin part old new → OnErr r (ChangesWithin area old new)
 err-within (Ok x) area part old new is within = tt
 err-within (Err e) area part old new is within = within-wider part area old new is.of_area within
 
@@ -138,6 +162,7 @@ pub rows-none : (p : Pager) (r : Rect) (s : BufferData) → PaintsPageRows p r 0
 unfolding PaintsPageRows
 rows-none p r s = refl
 
-pub rows-next : (p : Pager) (r : Rect) (k : ℕ) (old mid new : BufferData) → PaintsPageRows p r k old mid → PaintsPageRow p r k mid new → PaintsPageRows p r (k + 1) old new
+pub rows-next : (p : Pager) (r : Rect) (k : ℕ) (old mid new : BufferData) → PaintsPageRows p r k old mid
+    → PaintsPageRow p r k mid new → PaintsPageRows p r (k + 1) old new
 unfolding PaintsPageRows
 rows-next p r k old mid new before row = rw add-one (record { between = mid; first = before; second = row })

@@ -97,7 +97,8 @@ obeyed-in Wrap p is = moved-in Wrap p is
 obeyed-in Help p is = is
 obeyed-in Quit p is = is
 
-sought_first-if : (is_back : Bool) (p : Pager) → IsInText p → IsInText (if is_back then sought_before p.top p else sought_from p.top p)
+sought_first-if : (is_back : Bool) (p : Pager) → IsInText p
+    → IsInText (if is_back then sought_before p.top p else sought_from p.top p)
 sought_first-if true p is = found-in (last_match p.pattern p.document p.top) p is
 sought_first-if false p is = found-in (next_match p.pattern p.document p.top) p is
 
@@ -105,14 +106,16 @@ pattern-if : (b : Bool) (pattern : List ℕ) (p : Pager) → IsInText p → IsIn
 pattern-if true pattern p is = is
 pattern-if false pattern p is = is
 
-erased-if : (b : Bool) (typed : List ℕ) (p : Pager) → IsInText p → IsInText (if b then record p { typed = typed } else record p { mode = Reading })
+erased-if : (b : Bool) (typed : List ℕ) (p : Pager) → IsInText p
+    → IsInText (if b then record p { typed = typed } else record p { mode = Reading })
 erased-if true typed p is = is
 erased-if false typed p is = is
 
 answered-in : (answer : Answer) (p : Pager) → IsInText p → IsInText (answered answer p)
 answered-in (Add c) p is = is
 answered-in Erase p is = erased-if (nat_lt 0 (length p.typed)) (take (length p.typed - 1) p.typed) p is
-answered-in Search p is = sought_first-if (with_pattern p).is_back (with_pattern p) (pattern-if (nat_lt 0 (length p.typed)) (flat_map encode_utf8 p.typed) p is)
+answered-in Search p is = sought_first-if (with_pattern p).is_back (with_pattern p) (pattern-if (nat_lt 0 (length p.typed))
+    (flat_map encode_utf8 p.typed) p is)
 answered-in Cancel p is = is
 answered-in Ignore p is = is
 

@@ -61,23 +61,30 @@ unfolding occurs
 none-matches [] line none = refl
 none-matches (b ∷ bs) line none = rw none (and-false (nat_lt 0 (length (b ∷ bs))))
 
-pub next-here : (pattern : List ℕ) (lines : List (List ℕ)) (k : ℕ) → k < length lines → has_match pattern (numbered_line lines k) ≡ true → position_from (has_match pattern) k (drop k lines) ≡ Some k
+pub next-here : (pattern : List ℕ) (lines : List (List ℕ)) (k : ℕ) → k < length lines
+    → has_match pattern (numbered_line lines k) ≡ true → position_from (has_match pattern) k (drop k lines) ≡ Some k
 next-here pattern lines k lt is = ap (position_from (has_match pattern) k) (drop_more lines k [] lt) ∙ rw is refl
 
-pub next-later : (pattern : List ℕ) (lines : List (List ℕ)) (k : ℕ) → k < length lines → has_match pattern (numbered_line lines k) ≡ false
+pub next-later : (pattern : List ℕ) (lines : List (List ℕ)) (k : ℕ) → k < length lines
+    → has_match pattern (numbered_line lines k) ≡ false
     → position_from (has_match pattern) k (drop k lines) ≡ position_from (has_match pattern) (k + 1) (drop (k + 1) lines)
 next-later pattern lines k lt is = ap (position_from (has_match pattern) k) (drop_more lines k [] lt) ∙ rw is refl
 
-pub next-none : (pattern : List ℕ) (lines : List (List ℕ)) (k : ℕ) → length lines ≤ k → position_from (has_match pattern) k (drop k lines) ≡ None
+pub next-none : (pattern : List ℕ) (lines : List (List ℕ)) (k : ℕ) → length lines ≤ k
+    → position_from (has_match pattern) k (drop k lines) ≡ None
 next-none pattern lines k le = ap (position_from (has_match pattern) k) (drop_all k lines le)
 
-pub last-here : (pattern : List ℕ) (lines : List (List ℕ)) (k n : ℕ) → n ≡ k + 1 → has_match pattern (numbered_line lines k) ≡ true → last_match pattern lines n ≡ Some k
+pub last-here : (pattern : List ℕ) (lines : List (List ℕ)) (k n : ℕ) → n ≡ k + 1
+    → has_match pattern (numbered_line lines k) ≡ true → last_match pattern lines n ≡ Some k
 unfolding last_match
-last-here pattern lines k n same is = ap (last_match pattern lines) (same ∙ (let e : k + 1 ≡ suc k = omega arith in e)) ∙ rw is refl
+last-here pattern lines k n same is = ap (last_match pattern lines) (same ∙ (let e : k + 1 ≡ suc k = omega arith in e))
+    ∙ rw is refl
 
-pub last-earlier : (pattern : List ℕ) (lines : List (List ℕ)) (k n : ℕ) → n ≡ k + 1 → has_match pattern (numbered_line lines k) ≡ false → last_match pattern lines n ≡ last_match pattern lines k
+pub last-earlier : (pattern : List ℕ) (lines : List (List ℕ)) (k n : ℕ) → n ≡ k + 1
+    → has_match pattern (numbered_line lines k) ≡ false → last_match pattern lines n ≡ last_match pattern lines k
 unfolding last_match
-last-earlier pattern lines k n same is = ap (last_match pattern lines) (same ∙ (let e : k + 1 ≡ suc k = omega arith in e)) ∙ rw is refl
+last-earlier pattern lines k n same is = ap (last_match pattern lines) (same ∙ (let e : k + 1 ≡ suc k = omega arith in e))
+    ∙ rw is refl
 
 pub last-none : (pattern : List ℕ) (lines : List (List ℕ)) (k : ℕ) → k ≡ 0 → last_match pattern lines k ≡ None
 unfolding last_match

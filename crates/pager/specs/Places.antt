@@ -39,7 +39,8 @@ breaking p = record { lines = p.document; wraps = p.wraps; stride = stride p }
 
 -- how many rows a line takes
 abbrev pub rows_of_line : Breaking → List ℕ → ℕ
-rows_of_line t line = if t.wraps then min (last_start 0 (line_symbols [] line)) 4294967295 / t.stride + 1 else 1
+rows_of_line t line = if t.wraps then min (last_start 0 (line_symbols [] line)) 4294967295 / t.stride + 1
+    else 1
 
 -- the next row of a text, which goes on behind its end
 abbrev pub next_place : Breaking → Place → Place
@@ -51,7 +52,8 @@ next_place t q =
 abbrev pub previous_place : Breaking → Place → Place
 previous_place t q =
     if nat_lt 0 q.row then text_place q.line (q.row - 1)
-    else if nat_lt 0 q.line then text_place (q.line - 1) (rows_of_line t (numbered_line t.lines (q.line - 1)) - 1)
+    else if nat_lt 0 q.line then text_place (q.line - 1)
+    (rows_of_line t (numbered_line t.lines (q.line - 1)) - 1)
     else q
 
 -- so many rows further, and back

@@ -3,7 +3,8 @@
 ghost use Rattle.std.specs.Prelude.{◌≡◌};
 ghost use Rattle.ratatui_core.specs.Text.{has_control};
 ghost use Rattle.pager.specs.Search.{begins_with};
-ghost use Rattle.pager.specs.Symbols.{is_tab, is_replaced, shown_symbol, shown_columns, reversed, marked_bytes};
+ghost use Rattle.pager.specs.Symbols.{is_tab, is_replaced, shown_symbol, shown_columns, reversed};
+ghost use Rattle.pager.specs.Symbols.{marked_bytes};
 ghost use Rattle.pager.specs.Symbols.{mark_style};
 
 use ansi_model::is_printed;

@@ -16,32 +16,47 @@ module _ {W S : Type 0} (paints : S → Rect → BufferData → BufferData → T
   failed b = b.failures
 
   -- the first frame
-  pub glass-start : (t0 : TerminalData (BackendState W)) (d : Decoder) (s : S) (all : Option (List ℕ)) (t : TerminalData (BackendState W)) → d ≡ fresh_decoder → DrawsFrame shown_by t0 t
+  pub glass-start : (t0 : TerminalData (BackendState W)) (d : Decoder) (s : S) (all : Option (List ℕ))
+      (t : TerminalData (BackendState W)) → d ≡ fresh_decoder → DrawsFrame shown_by t0 t
       → failed t.backend ≡ failed t0.backend → ShowsState shown_by is_flushed paints s t → IsOnGlass paints s t
       → RunsAlongGlass paints u o t0 (record { decoder = fresh_decoder; state = s }) all (record { decoder = d; state = s }) all t
   glass-start t0 d s all t fresh draws same shows glass =
-      subst (λ (x : Decoder). RunsAlongGlass paints u o t0 (record { decoder = fresh_decoder; state = s }) all (record { decoder = x; state = s }) all t) (sym fresh)
-      (ran-start u o (ShowsOnGlass paints) (Moves shown_by failed) (TakesSize shown_by failed) t0 (record { decoder = fresh_decoder; state = s }) all t
-      (record { drawn = inr (record { before = t0; taken = inl refl-here; then = draws }); faults = same }) (record { state = shows; glass = glass }))
+      subst (λ (x : Decoder). RunsAlongGlass paints u o t0 (record { decoder = fresh_decoder; state = s }) all
+      (record { decoder = x; state = s }) all t) (sym fresh)
+      (ran-start u o (ShowsOnGlass paints) (Moves shown_by failed) (TakesSize shown_by failed) t0
+      (record { decoder = fresh_decoder; state = s }) all t
+      (record { drawn = inr (record { before = t0; taken = inl refl-here; then = draws }); faults = same })
+      (record { state = shows; glass = glass }))
     where
       refl-here : t0 ≡ t0
       refl-here = λ i. t0
 
   -- one more read
-  pub glass-step : (t0 : TerminalData (BackendState W)) (first : Between S) (all : Option (List ℕ)) (now : Between S) (rest : Option (List ℕ)) (t : TerminalData (BackendState W)) (next : Between S)
-      (left : Option (List ℕ)) (t' : TerminalData (BackendState W)) (came : Bool) → RunsAlongGlass paints u o t0 first all now rest t
-      → StepsTo shown_by failed is_flushed paints u o now rest t next left t' came → IsOnGlass paints next.state t' → RunsAlongGlass paints u o t0 first all next left t'
+  pub glass-step : (t0 : TerminalData (BackendState W)) (first : Between S) (all : Option (List ℕ)) (now : Between S)
+      (rest : Option (List ℕ)) (t : TerminalData (BackendState W)) (next : Between S)
+      (left : Option (List ℕ)) (t' : TerminalData (BackendState W)) (came : Bool)
+      → RunsAlongGlass paints u o t0 first all now rest t
+      → StepsTo shown_by failed is_flushed paints u o now rest t next left t' came → IsOnGlass paints next.state t'
+      → RunsAlongGlass paints u o t0 first all next left t'
   glass-step t0 first all now rest t next left t' came ran step glass =
-      ran-step u o (ShowsOnGlass paints) (Moves shown_by failed) (TakesSize shown_by failed) t0 first all now rest t next left t' came ran (record {
+      ran-step u o (ShowsOnGlass paints) (Moves shown_by failed)
+      (TakesSize shown_by failed) t0 first all now rest t next left t' came ran (record {
         bytes = step.bytes;
         some = step.some;
         none = step.none;
         consumed = step.consumed;
-        fed = record { taken = step.fed.taken; moved = step.fed.moved; sized = step.fed.sized; shown = record { state = step.fed.shown; glass = glass } };
+        fed = record {
+          taken = step.fed.taken;
+          moved = step.fed.moved;
+          sized = step.fed.sized;
+          shown = record { state = step.fed.shown; glass = glass };
+        };
       })
 
   -- no call of a run has failed, if none had before
-  pub run-unfailed : (t0 : TerminalData (BackendState W)) (first : Between S) (all : Option (List ℕ)) (now : Between S) (rest : Option (List ℕ)) (t : TerminalData (BackendState W))
+  pub run-unfailed : (t0 : TerminalData (BackendState W)) (first : Between S) (all : Option (List ℕ)) (now : Between S)
+      (rest : Option (List ℕ)) (t : TerminalData (BackendState W))
       → RunsTo shown_by failed is_flushed paints u o t0 first all now rest t → failed t0.backend ≡ 0 → failed t.backend ≡ 0
   run-unfailed t0 first all now rest t ran none =
-      ran-kept u o (ShowsState shown_by is_flushed paints) (Moves shown_by failed) (TakesSize shown_by failed) (λ s. failed s.backend) (λ s x moves. moves.faults) t0 first all now rest t ran ∙ none
+      ran-kept u o (ShowsState shown_by is_flushed paints) (Moves shown_by failed) (TakesSize shown_by failed)
+      (λ s. failed s.backend) (λ s x moves. moves.faults) t0 first all now rest t ran ∙ none

@@ -1,6 +1,7 @@
 -- A run down to the bytes.
 use Rattle.std.specs.Prelude.{◌≡◌, ℕ, Bool, true, false, List, Option}
-use Rattle.ratatui_core.specs.{Layout.Rect, Buffer.BufferData, Terminal.TerminalData, Terminal.ShowsRendered, Terminal.Starts, Terminal.Fullscreen}
+use Rattle.ratatui_core.specs.{Layout.Rect, Buffer.BufferData, Terminal.TerminalData, Terminal.ShowsRendered}
+use Rattle.ratatui_core.specs.{Terminal.Starts, Terminal.Fullscreen}
 use Rattle.ansi_model.specs.Commands.{AsksSize}
 use Rattle.ratatui_ansi.specs.Backend.{BackendState, LeavesTerminal, BringsBack, shown_by, is_flushed}
 use Rattle.ratatui_ansi.specs.Headline.{IsShownToAll}
@@ -16,8 +17,8 @@ abbrev pub RunsOnGlass : {W S : Type 0} → (S → Rect → BufferData → Buffe
     → TerminalData (BackendState W) → Type 0
 RunsOnGlass {W = W} = RunsTo shown_by (λ (b : BackendState W). b.failures) is_flushed
 
--- a buffer that is what painting the state makes of an empty one is shown by each terminal of the backend's size that has
--- read what was sent, however it was left before, and all of it was flushed
+-- a buffer that is what painting the state makes of an empty one is shown by each terminal of the backend's
+-- size that has read what was sent, however it was left before, and all of it was flushed
 pub record IsOnGlass {W S : Type 0} (paints : S → Rect → BufferData → BufferData → Type 0) (s : S)
     (t : TerminalData (BackendState W)) : Type 0 where
   pub painted : ShowsRendered shown_by (paints s) t
@@ -35,7 +36,8 @@ abbrev pub RunsAlongGlass : {W S : Type 0} → (S → Rect → BufferData → Bu
     → (S → Bool) → TerminalData (BackendState W) → Between S → Option (List ℕ) → Between S → Option (List ℕ)
     → TerminalData (BackendState W) → Type 0
 RunsAlongGlass {W = W} paints updated is_over =
-    Ran updated is_over (ShowsOnGlass paints) (Moves shown_by (λ (b : BackendState W). b.failures)) (TakesSize shown_by (λ (b : BackendState W). b.failures))
+    Ran updated is_over (ShowsOnGlass paints) (Moves shown_by (λ (b : BackendState W). b.failures))
+    (TakesSize shown_by (λ (b : BackendState W). b.failures))
 
 -- a terminal was asked for its size, and begun on the backend's screen
 pub record Begins {W : Type 0} (backend : BackendState W) (t : TerminalData (BackendState W)) : Type 0 where
@@ -45,19 +47,24 @@ pub record Begins {W : Type 0} (backend : BackendState W) (t : TerminalData (Bac
   pub starts : Starts shown_by Fullscreen asked t
   pub faults : t.backend.failures ≡ backend.failures
 
--- a writer holds bytes that give the terminal back: it stands below its last row, or has its main screen again
+-- a writer holds bytes that give the terminal back: it stands below its last row, or has its main screen
+-- again
 pub record IsGivenBack {W : Type 0} (b : BackendState W) (contents : Option (List ℕ)) : Type 0 where
   pub left : b.is_on_alternate ≡ false → LeavesTerminal b contents
   pub back : b.is_on_alternate ≡ true → BringsBack b contents
 
--- a run from beginning to end: the terminal was begun on a backend's screen, showed the state at each moment, and was
--- given back after the last one
-pub record RunsWhole {W S : Type 0} (paints : S → Rect → BufferData → BufferData → Type 0) (updated : S → Event → S)
+-- a run from beginning to end: the terminal was begun on a backend's screen, showed the state at each moment,
+-- and was given back after the last one
+pub record RunsWhole {W S : Type 0} (paints : S → Rect → BufferData → BufferData → Type 0)
+    (updated : S → Event → S)
     (is_over : S → Bool) (backend : BackendState W) (first : Between S) (all : Option (List ℕ)) (state : S)
     (rest contents : Option (List ℕ)) : Type 0 where
   pub begun : TerminalData (BackendState W)
   pub begins : Begins backend begun
   pub ended : TerminalData (BackendState W)
   pub decoder : Decoder
-  pub ran : RunsAlongGlass paints updated is_over begun first all (record { decoder = decoder; state = state }) rest ended
+  pub ran : RunsAlongGlass paints updated is_over begun first all (record {
+    decoder = decoder;
+    state = state;
+  }) rest ended
   pub given_back : IsGivenBack ended.backend contents

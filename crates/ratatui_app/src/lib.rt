@@ -8,9 +8,9 @@ mod from_blank;
 pub mod laws;
 mod moments;
 mod running;
-mod whole;
 #[cfg(test)]
 mod tests;
+mod whole;
 
 pub use application::Application;
 pub use by_hand::count_by_hand;

@@ -1,4 +1,5 @@
--- What the author of a widget cites: an empty buffer is settled, may be painted anywhere and has empty cells, and painting is painting by columns.
+-- What the author of a widget cites: an empty buffer is settled, may be painted anywhere and has empty cells, and painting is
+-- painting by columns.
 pub use Rattle.rtui_buffer.proofs.EmptyLemmas.{IsSettledBuffer-empty, IsPaintable-empty, cell-empty}
 pub use Rattle.rtui_buffer.proofs.ColumnLemmas.{PaintsByColumns-paints, same-beside, text-keeps, line-keeps}
 -- A shown buffer's columns have the looks of its cells.
@@ -17,9 +18,11 @@ pub use Rattle.rtui_cell.proofs.WidthLemmas.{one_byte, one_character}
 -- A change of each cell of an area, and what stays within one.
 pub use Rattle.rtui_changes.proofs.ChangeLemmas.{Changes-within, within-same, within-wider, on-ok, has-or-not}
 -- Plain cells are settled, and painting keeps a buffer ready for more.
-pub use Rattle.rtui_changes.proofs.PlainLemmas.{plain-styled, plain-with_symbol, plain-if, settled-plain, put-ready, ready-next, ready-row, ready-plain, changed-settled, painted-settled, plain-changed}
+pub use Rattle.rtui_changes.proofs.PlainLemmas.{plain-styled, plain-with_symbol, plain-if, settled-plain, put-ready, ready-next}
+pub use Rattle.rtui_changes.proofs.PlainLemmas.{ready-row, ready-plain, changed-settled, painted-settled, plain-changed}
 -- Texts whose graphemes take one column each keep cells plain.
-pub use Rattle.rtui_changes.proofs.NarrowTextLemmas.{text-plain, line-stays, pieces-narrow, pieces-plain, changed-plain, styled-plain, parts-plain, over-all, from-over}
+pub use Rattle.rtui_changes.proofs.NarrowTextLemmas.{text-plain, line-stays, pieces-narrow, pieces-plain, changed-plain}
+pub use Rattle.rtui_changes.proofs.NarrowTextLemmas.{styled-plain, parts-plain, over-all, from-over}
 -- Parts that are changed apart from each other.
 pub use Rattle.rtui_changes.proofs.PartLemmas.{Parts-none, Parts-next, Parts-within}
 -- What is joined of narrow symbols takes a column and no memory, and each block symbol is narrow.

@@ -17,11 +17,19 @@ pub use Rattle.rtui_diff.specs.Shows.{ShowsColumn, Shows, Repaints}
 pub use Rattle.rtui_diff.specs.Updates.{updates, IsBefore, Rises, IsCellOfNext}
 pub use Rattle.rtui_diff.specs.Remaining.{updates_left}
 pub use Rattle.rtui_diff.specs.Diff.{IsDiff}
-pub use Rattle.rtui_buffer.specs.BufferData.{BufferData, area_size, IsBuffer, HasRoomFor, position_of, cell_index, place_position, cell_in, with_cell, with_cells, moved_to, buffer_row, HasRow, empty_cells, resized, IsEmptied, IsSameBuffer, IsEqualBuffer}
-pub use Rattle.rtui_buffer.specs.Shown.{IsSettledBuffer, IsShownByRepaint, ShowsBuffer, IsAligned, IsBufferDiff, HaveSettledRows, listed}
+pub use Rattle.rtui_buffer.specs.BufferData.{BufferData, area_size, IsBuffer, HasRoomFor, position_of}
+pub use Rattle.rtui_buffer.specs.BufferData.{cell_index, place_position, cell_in, with_cell, with_cells}
+pub use Rattle.rtui_buffer.specs.BufferData.{moved_to, buffer_row, HasRow, empty_cells, resized, IsEmptied}
+pub use Rattle.rtui_buffer.specs.BufferData.{IsSameBuffer, IsEqualBuffer}
+pub use Rattle.rtui_buffer.specs.Shown.{IsSettledBuffer, IsShownByRepaint, ShowsBuffer, IsAligned}
+pub use Rattle.rtui_buffer.specs.Shown.{IsBufferDiff, HaveSettledRows, listed}
 unfoldable pub use Rattle.rtui_buffer.specs.Painting.{painted_width, kept}
-pub use Rattle.rtui_buffer.specs.Painting.{has_painted_width, IsLongestFront, Piece, piece_of, text_pieces, columns, AreWide, shown, piece_at, HasPieces}
-pub use Rattle.rtui_buffer.specs.PaintedText.{room_at, pieces_at, PaintsPieces, right_by, IsBeside, PaintsByColumns, IsSameBeside, AreShort, IsPaintable, PaintsOrRefuses, IsStyled, IsOneGrapheme, HasShortGraphemes, HaveShortGraphemes}
+pub use Rattle.rtui_buffer.specs.Painting.{has_painted_width, IsLongestFront, Piece, piece_of, text_pieces}
+pub use Rattle.rtui_buffer.specs.Painting.{columns, AreWide, shown, piece_at, HasPieces}
+pub use Rattle.rtui_buffer.specs.PaintedText.{room_at, pieces_at, PaintsPieces, right_by, IsBeside}
+pub use Rattle.rtui_buffer.specs.PaintedText.{PaintsByColumns, IsSameBeside, AreShort, IsPaintable}
+pub use Rattle.rtui_buffer.specs.PaintedText.{PaintsOrRefuses, IsStyled, IsOneGrapheme, HasShortGraphemes}
+pub use Rattle.rtui_buffer.specs.PaintedText.{HaveShortGraphemes}
 pub use Rattle.rtui_buffer.specs.Bar.{bar_of, PaintsOnBar, ShowsPieces, bar_cell}
 unfoldable pub use Rattle.rtui_buffer.specs.Line.{line_pieces}
 pub use Rattle.rtui_buffer.specs.Line.{line_pieces_at, lines_area, IsOfLines, raw_lines}

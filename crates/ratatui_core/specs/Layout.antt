@@ -5,12 +5,18 @@ pub use Rattle.rtui_geometry.specs.declared.offset.Offset.{Offset}
 pub use Rattle.rtui_geometry.specs.declared.size.Size.{Size}
 pub use Rattle.rtui_geometry.specs.declared.margin.Margin.{Margin}
 pub use Rattle.rtui_geometry.specs.Offset.{opposite, moved_rect, moved_position}
-pub use Rattle.rtui_geometry.specs.Rect.{right_edge, bottom_edge, HasPosition, corner, EdgesFit, IsInside, cut_rect, united, intersected, Intersects, SharePosition, HasRoom, shrunk, grown, KeepsMargin, between}
-pub use Rattle.rtui_geometry.specs.Rows.{numbers, row_at, column_at, rows_of, columns_of, positions_of, positions_from, IsPlace, ListsPositions, ListsRows, ListsColumns}
+pub use Rattle.rtui_geometry.specs.Rect.{right_edge, bottom_edge, HasPosition, corner, EdgesFit, IsInside}
+pub use Rattle.rtui_geometry.specs.Rect.{cut_rect, united, intersected, Intersects, SharePosition, HasRoom}
+pub use Rattle.rtui_geometry.specs.Rect.{shrunk, grown, KeepsMargin, between}
+pub use Rattle.rtui_geometry.specs.Rows.{numbers, row_at, column_at, rows_of, columns_of, positions_of}
+pub use Rattle.rtui_geometry.specs.Rows.{positions_from, IsPlace, ListsPositions, ListsRows, ListsColumns}
 pub use Rattle.rtui_geometry.specs.Display.{position_text, size_text, margin_text, rect_text}
-pub use Rattle.rtui_layout.specs.Constraint.{IsMin, IsMax, IsLength, IsPercentage, IsRatio, IsFill, constraint_text}
+pub use Rattle.rtui_layout.specs.Constraint.{IsMin, IsMax, IsLength, IsPercentage, IsRatio, IsFill}
+pub use Rattle.rtui_layout.specs.Constraint.{constraint_text}
 pub use Rattle.rtui_layout.specs.Layout.{LayoutData, default_layout}
-pub use Rattle.rtui_layout.specs.Names.{ReadsName, direction_name, horizontal_name, vertical_name, flex_name, ReadsBack}
+pub use Rattle.rtui_layout.specs.Names.{ReadsName, direction_name, horizontal_name, vertical_name, flex_name}
+pub use Rattle.rtui_layout.specs.Names.{ReadsBack}
 pub use Rattle.rtui_layout.specs.Spacing.{spacing_from, cut_spacing_from}
-pub use Rattle.rtui_split.specs.Split.{inner, centered_layout, IsSplit, HasWish, WithinWish, FitWishes, SharesRest, LeavesNothing}
+pub use Rattle.rtui_split.specs.Split.{inner, centered_layout, IsSplit, HasWish, WithinWish, FitWishes}
+pub use Rattle.rtui_split.specs.Split.{SharesRest, LeavesNothing}
 pub use Rattle.rtui_split.specs.Spacers.{IsSplitWithSpacers, AreSpacers}

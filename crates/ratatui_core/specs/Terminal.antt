@@ -1,12 +1,14 @@
 -- Terminals, frames, and what each call does.
 pub use Rattle.rtui_terminal.specs.declared.terminal.error.TerminalError.{TerminalError}
-pub use Rattle.rtui_terminal.specs.declared.terminal.error.TerminalError.TheVariants.{Backend, Memory, Area, Closure}
+pub use Rattle.rtui_terminal.specs.declared.terminal.error.TerminalError.TheVariants.{Backend, Memory, Area}
+pub use Rattle.rtui_terminal.specs.declared.terminal.error.TerminalError.TheVariants.{Closure}
 pub use Rattle.rtui_terminal.specs.declared.terminal.frame.Frame.{Frame}
 pub use Rattle.rtui_viewport.specs.declared.viewport.Viewport.{Viewport}
 pub use Rattle.rtui_viewport.specs.declared.viewport.Viewport.TheVariants.{Fullscreen, Inline, Fixed}
 pub use Rattle.rtui_viewport.specs.Areas.{KeepsOutside, IsBlankBelow}
 pub use Rattle.rtui_viewport.specs.Viewports.{IsInline, IsFixed, FitsEdges, rows_in, viewport_text}
-pub use Rattle.rtui_terminal.specs.TerminalData.{TerminalData, IsInPlace, HasAreas, IsSameTerminal, IsDefaultOver}
+pub use Rattle.rtui_terminal.specs.TerminalData.{TerminalData, IsInPlace, HasAreas, IsSameTerminal}
+pub use Rattle.rtui_terminal.specs.TerminalData.{IsDefaultOver}
 pub use Rattle.rtui_terminal.specs.InStep.{IsInStep, IsSized, IsReady, rows_over, KeepsAroundViewport}
 pub use Rattle.rtui_terminal.specs.Frames.{IsNewFrame, KeepsFrame, IsDrawFrame, AcceptsFrames, PaintsCurrent}
 pub use Rattle.rtui_terminal.specs.Borrows.{LendsBuffer}
@@ -20,9 +22,11 @@ pub use Rattle.rtui_terminal.specs.Drawing.{CompletesFrame, DrawsFrame, DrawOk, 
 pub use Rattle.rtui_terminal.specs.Rendered.{RendersCurrent, ShowsRendered}
 pub use Rattle.rtui_viewport.specs.Lying.{FitsSize}
 pub use Rattle.rtui_terminal.specs.AtRest.{IsAtRest}
-pub use Rattle.rtui_terminal.specs.TextRow.{row_area, IsPaintedText, IsRowOf, ShowsText, FillsRow, IsOverRow, ShowsRow, DrawsRow, InsertsRow, StartsOverRow}
+pub use Rattle.rtui_terminal.specs.TextRow.{row_area, IsPaintedText, IsRowOf, ShowsText, FillsRow, IsOverRow}
+pub use Rattle.rtui_terminal.specs.TextRow.{ShowsRow, DrawsRow, InsertsRow, StartsOverRow}
 pub use Rattle.rtui_terminal.specs.Display.{terminal_error_text}
 pub use Rattle.rtui_insert.specs.Filling.{AcceptsRows, FillsRows, RefusesFilling}
 pub use Rattle.rtui_insert.specs.Rows.{WritesAtMost}
 pub use Rattle.rtui_insert.specs.Insertion.{AppendsRows}
-pub use Rattle.rtui_terminal.specs.Insertion.{inserted_area, TakesRows, Inserts, StopsInserting, InsertOk, InsertsBy}
+pub use Rattle.rtui_terminal.specs.Insertion.{inserted_area, TakesRows, Inserts, StopsInserting, InsertOk}
+pub use Rattle.rtui_terminal.specs.Insertion.{InsertsBy}

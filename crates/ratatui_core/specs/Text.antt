@@ -1,7 +1,10 @@
 -- Spans, lines and their columns.
-pub use Rattle.rtui_text.specs.Text.{SpanData, plain, LineData, line_of, raw_line, TextData, text_of, raw_text, with_span, with_last_span}
+pub use Rattle.rtui_text.specs.Text.{SpanData, plain, LineData, line_of, raw_line, TextData, text_of}
+pub use Rattle.rtui_text.specs.Text.{raw_text, with_span, with_last_span}
 pub use Rattle.rtui_text.specs.Widths.{span_width, line_width, widest}
-pub use Rattle.rtui_text.specs.Graphemes.{GraphemeData, grapheme_data, has_control, span_graphemes, line_graphemes, span_graphemes_left, line_graphemes_left, is_whitespace_symbol}
+pub use Rattle.rtui_text.specs.Graphemes.{GraphemeData, grapheme_data, has_control, span_graphemes}
+pub use Rattle.rtui_text.specs.Graphemes.{line_graphemes, span_graphemes_left, line_graphemes_left}
+pub use Rattle.rtui_text.specs.Graphemes.{is_whitespace_symbol}
 pub use Rattle.rtui_text.specs.Display.{printed_span, printed_spans, line_content, printed_lines}
 pub use Rattle.rtui_text.specs.Printable.{ArePrintable}
 pub use Rattle.rtui_text.specs.Masked.{MaskedData, mask_value}

@@ -1,5 +1,6 @@
 -- Characters by their UTF-8, with Alt and without.
-use Rattle.std.proofs.Common.{◌≡◌, ◌≢◌, ◌⊎◌, inl, inr, ℕ, ◌+◌, ◌-◌, ◌*◌, ◌/◌, ◌%◌, ◌^◌, ◌<◌, ◌≤◌, Bool, true, false, List, [], ◌∷◌, ◌++◌, refl, ap, sym, ◌∙◌, arith}
+use Rattle.std.proofs.Common.{◌≡◌, ◌≢◌, ◌⊎◌, inl, inr, ℕ, ◌+◌, ◌-◌, ◌*◌, ◌/◌, ◌%◌, ◌^◌, ◌<◌, ◌≤◌, Bool, true, false, List, []}
+use Rattle.std.proofs.Common.{◌∷◌, ◌++◌, refl, ap, sym, ◌∙◌, arith}
 use lib.Utf8.{encode, scalar, scalar_cases}
 use Rattle.std.specs.Int.Bits.{bit_and}
 use Rattle.std.specs.Char.{IsScalar, is_control}
@@ -12,7 +13,8 @@ use Rattle.ratatui_input.specs.declared.decoder.State.{State}
 use Rattle.ratatui_input.specs.declared.decoder.State.TheVariants.{Ground, Escape, Character}
 use Rattle.ratatui_input.specs.declared.decoder.Next.TheVariants.{Whole, More}
 use Rattle.ratatui_input.specs.Keys.{typed_key, control_key, with_alt}
-use Rattle.ratatui_input.specs.Decoding.{stepped, first, begun, partial, after_escape, in_character, character_event, read, byte_told, decoded, told_event}
+use Rattle.ratatui_input.specs.Decoding.{stepped, first, begun, partial, after_escape, in_character, character_event, read}
+use Rattle.ratatui_input.specs.Decoding.{byte_told, decoded, told_event}
 use Rattle.ratatui_input.specs.Encodings.{fresh_decoder, Gives}
 use Rattle.ratatui_input.proofs.EncodingLemmas.{first-typed}
 use Rattle.ratatui_input.proofs.StepLemmas.{at, Leads, leads-one, leads-cons, ends}
@@ -82,11 +84,13 @@ middle-byte : (alt : Bool) (code left low high r : ℕ) → code < 2 ^ 20 → 1 
 unfolding stepped in_character
 middle-byte alt code left low high r h l k a b = grind (arith, common_steps, low_six r k)
 
-last-byte : (alt : Bool) (code r : ℕ) → code < 2 ^ 20 → r < 64 → stepped (waiting alt code 1 128 191) (128 + r) ≡ Whole (character_event (code * 64 + r) alt)
+last-byte : (alt : Bool) (code r : ℕ) → code < 2 ^ 20 → r < 64
+    → stepped (waiting alt code 1 128 191) (128 + r) ≡ Whole (character_event (code * 64 + r) alt)
 unfolding stepped in_character
 last-byte alt code r h k = grind (arith, common_steps, low_six r k)
 
-character-is : (c : ℕ) (alt : Bool) → (c < 55296) ⊎ ((57344 ≤ c) × (c < 1114112)) → is_control c ≡ false → character_event c alt ≡ with_alt (typed_key c) alt
+character-is : (c : ℕ) (alt : Bool) → (c < 55296) ⊎ ((57344 ≤ c) × (c < 1114112)) → is_control c ≡ false
+    → character_event c alt ≡ with_alt (typed_key c) alt
 unfolding character_event
 character-is c alt scalar h = grind (arith, common_steps)
 
@@ -101,12 +105,15 @@ pub record Begins (s : State) (alt : Bool) : Type 0 where
   pub begins : (b : ℕ) → 128 ≤ b → stepped s b ≡ first b alt
 
 -- the last byte, after the others
-whole : (p : Bool) (s : State) (alt : Bool) (bytes : List ℕ) (code r c : ℕ) → Leads s bytes (waiting alt code 1 128 191) → code < 2 ^ 20 → r < 64 → code * 64 + r ≡ c
-    → IsScalar c → is_control c ≡ false → decoded (at p s) (bytes ++ ((128 + r) ∷ [])) ≡ told_event (with_alt (typed_key c) alt) Ground p
+whole : (p : Bool) (s : State) (alt : Bool) (bytes : List ℕ) (code r c : ℕ) → Leads s bytes (waiting alt code 1 128 191)
+    → code < 2 ^ 20 → r < 64 → code * 64 + r ≡ c
+    → IsScalar c → is_control c ≡ false
+    → decoded (at p s) (bytes ++ ((128 + r) ∷ [])) ≡ told_event (with_alt (typed_key c) alt) Ground p
 whole p s alt bytes code r c h low k e scalar plain =
     h.to p ((128 + r) ∷ [])
     ∙ ends p (waiting alt code 1 128 191) (128 + r) (with_alt (typed_key c) alt)
-    (last-byte alt code r low k ∙ ap Whole (ap (λ (x : ℕ). character_event x alt) e ∙ character-is c alt (scalar_cases c scalar) plain))
+    (last-byte alt code r low k ∙ ap Whole (ap (λ (x : ℕ). character_event x alt) e
+    ∙ character-is c alt (scalar_cases c scalar) plain))
 
 pub encode-two : (c : ℕ) → 128 ≤ c → c < 2048 → encode c ≡ (192 + c / 64) ∷ (128 + c % 64) ∷ []
 unfolding encode
@@ -116,7 +123,8 @@ pub encode-three : (c : ℕ) → 2048 ≤ c → c < 65536 → encode c ≡ (224 
 unfolding encode
 encode-three c low high = grind (arith, nat_tests)
 
-pub encode-four : (c : ℕ) → 65536 ≤ c → encode c ≡ (240 + c / 262144) ∷ (128 + c / 4096 % 64) ∷ (128 + c / 64 % 64) ∷ (128 + c % 64) ∷ []
+pub encode-four : (c : ℕ) → 65536 ≤ c → encode c ≡ (240 + c / 262144) ∷ (128 + c / 4096 % 64) ∷ (128 + c / 64 % 64) ∷
+    (128 + c % 64) ∷ []
 unfolding encode
 encode-four c low = grind (arith, nat_tests)
 
@@ -128,13 +136,15 @@ record Second (s : State) (alt : Bool) (first_byte code left r : ℕ) : Type 0 w
   above : low ≤ 128 + r
   below : 128 + r ≤ high
 
-second-of_three : (s : State) (alt : Bool) (q r : ℕ) → Begins s alt → q < 16 → (q ≡ 0 → 32 ≤ r) → (q ≡ 13 → r < 32) → r < 64 → Second s alt (224 + q) q 2 r
+second-of_three : (s : State) (alt : Bool) (q r : ℕ) → Begins s alt → q < 16 → (q ≡ 0 → 32 ≤ r) → (q ≡ 13 → r < 32) → r < 64
+    → Second s alt (224 + q) q 2 r
 second-of_three s alt q r h small zero thirteen k =
     elim (cases_eq q 0) [
       | inl e ↦ record {
         low = 160;
         high = 191;
-        led = ap (λ (x : ℕ). stepped s (224 + x)) e ∙ h.begins 224 (omega arith) ∙ first-e0 alt ∙ ap (λ (x : ℕ). More (waiting alt x 2 160 191)) (sym e);
+        led = ap (λ (x : ℕ). stepped s (224 + x)) e ∙ h.begins 224 (omega arith) ∙ first-e0 alt
+            ∙ ap (λ (x : ℕ). More (waiting alt x 2 160 191)) (sym e);
         above = let l = zero e in omega (arith, l);
         below = omega arith;
       }
@@ -142,7 +152,8 @@ second-of_three s alt q r h small zero thirteen k =
         | inl e ↦ record {
           low = 128;
           high = 159;
-          led = ap (λ (x : ℕ). stepped s (224 + x)) e ∙ h.begins 237 (omega arith) ∙ first-ed alt ∙ ap (λ (x : ℕ). More (waiting alt x 2 128 159)) (sym e);
+          led = ap (λ (x : ℕ). stepped s (224 + x)) e ∙ h.begins 237 (omega arith) ∙ first-ed alt
+              ∙ ap (λ (x : ℕ). More (waiting alt x 2 128 159)) (sym e);
           above = omega arith;
           below = let l = thirteen e in omega (arith, l);
         }
@@ -156,13 +167,15 @@ second-of_three s alt q r h small zero thirteen k =
       ]
     ]
 
-second-of_four : (s : State) (alt : Bool) (q r : ℕ) → Begins s alt → q < 5 → (q ≡ 0 → 16 ≤ r) → (q ≡ 4 → r < 16) → r < 64 → Second s alt (240 + q) q 3 r
+second-of_four : (s : State) (alt : Bool) (q r : ℕ) → Begins s alt → q < 5 → (q ≡ 0 → 16 ≤ r) → (q ≡ 4 → r < 16) → r < 64
+    → Second s alt (240 + q) q 3 r
 second-of_four s alt q r h small zero four k =
     elim (cases_eq q 0) [
       | inl e ↦ record {
         low = 144;
         high = 191;
-        led = ap (λ (x : ℕ). stepped s (240 + x)) e ∙ h.begins 240 (omega arith) ∙ first-f0 alt ∙ ap (λ (x : ℕ). More (waiting alt x 3 144 191)) (sym e);
+        led = ap (λ (x : ℕ). stepped s (240 + x)) e ∙ h.begins 240 (omega arith) ∙ first-f0 alt
+            ∙ ap (λ (x : ℕ). More (waiting alt x 3 144 191)) (sym e);
         above = let l = zero e in omega (arith, l);
         below = omega arith;
       }
@@ -170,7 +183,8 @@ second-of_four s alt q r h small zero four k =
         | inl e ↦ record {
           low = 128;
           high = 143;
-          led = ap (λ (x : ℕ). stepped s (240 + x)) e ∙ h.begins 244 (omega arith) ∙ first-f4 alt ∙ ap (λ (x : ℕ). More (waiting alt x 3 128 143)) (sym e);
+          led = ap (λ (x : ℕ). stepped s (240 + x)) e ∙ h.begins 244 (omega arith) ∙ first-f4 alt
+              ∙ ap (λ (x : ℕ). More (waiting alt x 3 128 143)) (sym e);
           above = omega arith;
           below = let l = four e in omega (arith, l);
         }
@@ -189,34 +203,48 @@ two-bytes : (p : Bool) (s : State) (alt : Bool) (c : ℕ) → Begins s alt → I
 two-bytes p s alt c h scalar plain low high =
     ap (decoded (at p s)) (encode-two c low high)
     ∙ whole p s alt ((192 + c / 64) ∷ []) (c / 64) (c % 64) c
-    (leads-one s (waiting alt (c / 64) 1 128 191) (192 + c / 64) (h.begins (192 + c / 64) (omega arith) ∙ first-two alt (c / 64) (omega arith) (omega arith)))
+    (leads-one s (waiting alt (c / 64) 1 128 191) (192 + c / 64) (h.begins (192 + c / 64) (omega arith) ∙ first-two alt (c / 64)
+    (omega arith) (omega arith)))
     (omega arith) (omega arith) (omega arith) scalar plain
 
-three-bytes : (p : Bool) (s : State) (alt : Bool) (c : ℕ) → Begins s alt → IsScalar c → is_control c ≡ false → 2048 ≤ c → c < 65536
+three-bytes : (p : Bool) (s : State) (alt : Bool) (c : ℕ) → Begins s alt → IsScalar c → is_control c ≡ false → 2048 ≤ c
+    → c < 65536
     → decoded (at p s) (encode c) ≡ told_event (with_alt (typed_key c) alt) Ground p
 three-bytes p s alt c h scalar plain low high =
     let ranges = scalar_cases c scalar in
-    let second = second-of_three s alt (c / 4096) (c / 64 % 64) h (omega arith) (λ e. omega arith) (λ e. omega (arith, ranges)) (omega arith) in
+    let second = second-of_three s alt (c / 4096) (c / 64 % 64) h (omega arith) (λ e. omega arith) (λ e. omega (arith, ranges))
+    (omega arith) in
     ap (decoded (at p s)) (encode-three c low high)
     ∙ whole p s alt ((224 + c / 4096) ∷ (128 + c / 64 % 64) ∷ []) (c / 4096 * 64 + c / 64 % 64) (c % 64) c
-    (leads-cons s (waiting alt (c / 4096) 2 second.low second.high) (waiting alt (c / 4096 * 64 + c / 64 % 64) 1 128 191) (224 + c / 4096) ((128 + c / 64 % 64) ∷ [])
-    second.led (leads-one (waiting alt (c / 4096) 2 second.low second.high) (waiting alt (c / 4096 * 64 + c / 64 % 64) 1 128 191) (128 + c / 64 % 64)
-    (middle-byte alt (c / 4096) 2 second.low second.high (c / 64 % 64) (omega arith) (omega arith) (omega arith) second.above second.below)))
+    (leads-cons s (waiting alt (c / 4096) 2 second.low second.high) (waiting alt (c / 4096 * 64 + c / 64 % 64) 1 128 191)
+    (224 + c / 4096) ((128 + c / 64 % 64) ∷ [])
+    second.led (leads-one (waiting alt (c / 4096) 2 second.low second.high) (waiting alt (c / 4096 * 64 + c / 64 % 64) 1 128 191)
+    (128 + c / 64 % 64)
+    (middle-byte alt (c / 4096) 2 second.low second.high (c / 64 % 64) (omega arith) (omega arith)
+    (omega arith) second.above second.below)))
     (omega arith) (omega arith) (omega arith) scalar plain
 
-four-bytes : (p : Bool) (s : State) (alt : Bool) (c : ℕ) → Begins s alt → IsScalar c → is_control c ≡ false → 65536 ≤ c → c < 1114112
+four-bytes : (p : Bool) (s : State) (alt : Bool) (c : ℕ) → Begins s alt → IsScalar c → is_control c ≡ false → 65536 ≤ c
+    → c < 1114112
     → decoded (at p s) (encode c) ≡ told_event (with_alt (typed_key c) alt) Ground p
 four-bytes p s alt c h scalar plain low high =
-    let second = second-of_four s alt (c / 262144) (c / 4096 % 64) h (omega arith) (λ e. omega arith) (λ e. omega arith) (omega arith) in
+    let second = second-of_four s alt (c / 262144) (c / 4096 % 64) h (omega arith) (λ e. omega arith) (λ e. omega arith)
+    (omega arith) in
     ap (decoded (at p s)) (encode-four c low)
-    ∙ whole p s alt ((240 + c / 262144) ∷ (128 + c / 4096 % 64) ∷ (128 + c / 64 % 64) ∷ []) ((c / 262144 * 64 + c / 4096 % 64) * 64 + c / 64 % 64) (c % 64) c
-    (leads-cons s (waiting alt (c / 262144) 3 second.low second.high) (waiting alt ((c / 262144 * 64 + c / 4096 % 64) * 64 + c / 64 % 64) 1 128 191)
+    ∙ whole p s alt ((240 + c / 262144) ∷ (128 + c / 4096 % 64) ∷ (128 + c / 64 % 64) ∷ [])
+    ((c / 262144 * 64 + c / 4096 % 64) * 64 + c / 64 % 64) (c % 64) c
+    (leads-cons s (waiting alt (c / 262144) 3 second.low second.high)
+    (waiting alt ((c / 262144 * 64 + c / 4096 % 64) * 64 + c / 64 % 64) 1 128 191)
     (240 + c / 262144) ((128 + c / 4096 % 64) ∷ (128 + c / 64 % 64) ∷ []) second.led
     (leads-cons (waiting alt (c / 262144) 3 second.low second.high) (waiting alt (c / 262144 * 64 + c / 4096 % 64) 2 128 191)
-    (waiting alt ((c / 262144 * 64 + c / 4096 % 64) * 64 + c / 64 % 64) 1 128 191) (128 + c / 4096 % 64) ((128 + c / 64 % 64) ∷ [])
-    (middle-byte alt (c / 262144) 3 second.low second.high (c / 4096 % 64) (omega arith) (omega arith) (omega arith) second.above second.below)
-    (leads-one (waiting alt (c / 262144 * 64 + c / 4096 % 64) 2 128 191) (waiting alt ((c / 262144 * 64 + c / 4096 % 64) * 64 + c / 64 % 64) 1 128 191) (128 + c / 64 % 64)
-    (middle-byte alt (c / 262144 * 64 + c / 4096 % 64) 2 128 191 (c / 64 % 64) (omega arith) (omega arith) (omega arith) (omega arith) (omega arith)))))
+    (waiting alt ((c / 262144 * 64 + c / 4096 % 64) * 64 + c / 64 % 64) 1 128 191) (128 + c / 4096 % 64)
+    ((128 + c / 64 % 64) ∷ [])
+    (middle-byte alt (c / 262144) 3 second.low second.high (c / 4096 % 64) (omega arith) (omega arith)
+    (omega arith) second.above second.below)
+    (leads-one (waiting alt (c / 262144 * 64 + c / 4096 % 64) 2 128 191)
+    (waiting alt ((c / 262144 * 64 + c / 4096 % 64) * 64 + c / 64 % 64) 1 128 191) (128 + c / 64 % 64)
+    (middle-byte alt (c / 262144 * 64 + c / 4096 % 64) 2 128 191 (c / 64 % 64) (omega arith) (omega arith) (omega arith)
+    (omega arith) (omega arith)))))
     (omega arith) (omega arith) (omega arith) scalar plain
 
 pub encode-one : (c : ℕ) → c < 128 → encode c ≡ c ∷ []
@@ -234,7 +262,8 @@ one-byte p s alt c h plain low =
     ∙ ends p s c (with_alt (typed_key c) alt) (h ∙ first-typed c alt bounds.0 bounds.1)
 
 -- a character by its UTF-8
-pub character-read : (p : Bool) (s : State) (alt : Bool) (c : ℕ) → Begins s alt → stepped s c ≡ first c alt → IsScalar c → is_control c ≡ false
+pub character-read : (p : Bool) (s : State) (alt : Bool) (c : ℕ) → Begins s alt → stepped s c ≡ first c alt → IsScalar c
+    → is_control c ≡ false
     → decoded (at p s) (encode c) ≡ told_event (with_alt (typed_key c) alt) Ground p
 character-read p s alt c h one scalar plain =
     let below : c < 1114112 = let ranges = scalar_cases c scalar in omega (arith, ranges) in
@@ -272,11 +301,16 @@ unfolding decoded byte_told stepped first
 escape-reached rest = refl
 
 pub character-gives : (c : ℕ) → IsScalar c → is_control c ≡ false → Gives (encode c) (with_alt (typed_key c) false ∷ [])
-character-gives c scalar plain = record { all = character-read false Ground false c ground-begins (ground-first c) scalar plain ∙ key-told (typed_key c) false }
+character-gives c scalar plain = record {
+  all = character-read false Ground false c ground-begins (ground-first c) scalar plain
+      ∙ key-told (typed_key c) false;
+}
 
-pub alt-character-gives : (c : ℕ) → IsScalar c → is_control c ≡ false → c ≢ 91 → c ≢ 79 → Gives (27 ∷ encode c) (with_alt (typed_key c) true ∷ [])
+pub alt-character-gives : (c : ℕ) → IsScalar c → is_control c ≡ false → c ≢ 91 → c ≢ 79
+    → Gives (27 ∷ encode c) (with_alt (typed_key c) true ∷ [])
 alt-character-gives c scalar plain x y = record {
-  all = escape-reached (encode c) ∙ character-read false Escape true c escape-begins (after-escape c (no-escape c plain) x y) scalar plain
+  all = escape-reached (encode c) ∙ character-read false Escape true c escape-begins (after-escape c (no-escape c plain) x y)
+      scalar plain
       ∙ key-told (typed_key c) true;
 }
 
@@ -287,7 +321,8 @@ first-control b alt low other = grind (arith, common_steps)
 
 pub control-gives : (b : ℕ) → (b < 32) ⊎ (b ≡ 127) → b ≢ 27 → Gives (b ∷ []) (with_alt (control_key b) false ∷ [])
 control-gives b low other = record {
-  all = ends false Ground b (with_alt (control_key b) false) (ground-first b ∙ first-control b false low other) ∙ key-told (control_key b) false;
+  all = ends false Ground b (with_alt (control_key b) false) (ground-first b ∙ first-control b false low other)
+      ∙ key-told (control_key b) false;
 }
 
 pub alt-control-gives : (b : ℕ) → (b < 32) ⊎ (b ≡ 127) → b ≢ 27 → Gives (27 ∷ b ∷ []) (with_alt (control_key b) true ∷ [])

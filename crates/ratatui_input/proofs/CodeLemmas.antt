@@ -1,5 +1,6 @@
 -- What the tables of keys have at a number.
-use Rattle.std.proofs.Common.{◌≡◌, ◌⊎◌, inl, inr, ℕ, ◌-◌, ◌<◌, ◌≤◌, Bool, true, false, List, [], ◌∷◌, Option, Some, None, refl, sym, subst, arith}
+use Rattle.std.proofs.Common.{◌≡◌, ◌⊎◌, inl, inr, ℕ, ◌-◌, ◌<◌, ◌≤◌, Bool, true, false, List, [], ◌∷◌, Option, Some, None, refl}
+use Rattle.std.proofs.Common.{sym, subst, arith}
 use Rattle.std.specs.Prelude.{nat_le, if◌then◌else◌, ◌==◌, ◌&&◌, find}
 use Rattle.std.specs.Option.{option_map}
 use Rattle.std.proofs.lemmas.Bool.{cases_eq, cases_lt}
@@ -8,11 +9,33 @@ use Rattle.std.specs.Char.{IsScalar, is_control}
 use Rattle.ratatui_events.specs.declared.key.KeyCode.{KeyCode}
 use Rattle.ratatui_events.specs.declared.key.KeyCode.TheVariants.{Char, Enter, F}
 use Rattle.ratatui_input.specs.declared.keys.TheConstants.{LETTERS, NUMBERS, CODES, KEYPAD}
-use Rattle.ratatui_input.specs.Keys.{key_at, letter_key, number_key, code_key, keypad_key, name_key, named_key, pad_key, character_key, scalar_at, is_scalar}
+use Rattle.ratatui_input.specs.Keys.{key_at, letter_key, number_key, code_key, keypad_key, name_key, named_key, pad_key}
+use Rattle.ratatui_input.specs.Keys.{character_key, scalar_at, is_scalar}
 use Rattle.ratatui_input.specs.KeyTables.{IsLetter, IsTilde, IsCode, code_character}
-use Rattle.ratatui_input.specs.KeyTables.{letter_up, letter_down, letter_right, letter_left, letter_keypad_begin, letter_end, letter_home, letter_f1, letter_f2, letter_f3, letter_f4, letter_back_tab}
-use Rattle.ratatui_input.specs.KeyTables.{tilde_home, tilde_insert, tilde_delete, tilde_end, tilde_page_up, tilde_page_down, tilde7_home, tilde8_end, tilde_f1, tilde_f2, tilde_f3, tilde_f4, tilde_f5, tilde_f6, tilde_f7, tilde_f8, tilde_f9, tilde_f10, tilde_f11, tilde_f12, tilde_f13, tilde_f14, tilde_f15, tilde_f16, tilde_f17, tilde_f18, tilde_f19, tilde_f20}
-use Rattle.ratatui_input.specs.KeyTables.{code_esc, code_enter, code_tab, code_backspace, code_caps_lock, code_scroll_lock, code_num_lock, code_print_screen, code_pause, code_menu, code_media_play, code_media_pause, code_media_play_pause, code_media_reverse, code_media_stop, code_media_fast_forward, code_media_rewind, code_media_track_next, code_media_track_previous, code_media_record, code_media_lower_volume, code_media_raise_volume, code_media_mute_volume, code_modifier_left_shift, code_modifier_left_control, code_modifier_left_alt, code_modifier_left_super, code_modifier_left_hyper, code_modifier_left_meta, code_modifier_right_shift, code_modifier_right_control, code_modifier_right_alt, code_modifier_right_super, code_modifier_right_hyper, code_modifier_right_meta, code_modifier_iso_level3_shift, code_modifier_iso_level5_shift, code_f13, code_f14, code_f15, code_f16, code_f17, code_f18, code_f19, code_f20, code_f21, code_f22, code_f23, code_f24, code_f25, code_f26, code_f27, code_f28, code_f29, code_f30, code_f31, code_f32, code_f33, code_f34, code_f35, pad_char48, pad_char49, pad_char50, pad_char51, pad_char52, pad_char53, pad_char54, pad_char55, pad_char56, pad_char57, pad_char46, pad_char47, pad_char42, pad_char45, pad_char43, pad_enter, pad_char61, pad_char44, pad_left, pad_right, pad_up, pad_down, pad_page_up, pad_page_down, pad_home, pad_end, pad_insert, pad_delete, pad_keypad_begin}
+use Rattle.ratatui_input.specs.KeyTables.{letter_up, letter_down, letter_right, letter_left, letter_keypad_begin, letter_end}
+use Rattle.ratatui_input.specs.KeyTables.{letter_home, letter_f1, letter_f2, letter_f3, letter_f4, letter_back_tab}
+use Rattle.ratatui_input.specs.KeyTables.{tilde_home, tilde_insert, tilde_delete, tilde_end, tilde_page_up, tilde_page_down}
+use Rattle.ratatui_input.specs.KeyTables.{tilde7_home, tilde8_end, tilde_f1, tilde_f2, tilde_f3, tilde_f4, tilde_f5, tilde_f6}
+use Rattle.ratatui_input.specs.KeyTables.{tilde_f7, tilde_f8, tilde_f9, tilde_f10, tilde_f11, tilde_f12, tilde_f13, tilde_f14}
+use Rattle.ratatui_input.specs.KeyTables.{tilde_f15, tilde_f16, tilde_f17, tilde_f18, tilde_f19, tilde_f20}
+use Rattle.ratatui_input.specs.KeyTables.{code_esc, code_enter, code_tab, code_backspace, code_caps_lock, code_scroll_lock}
+use Rattle.ratatui_input.specs.KeyTables.{code_num_lock, code_print_screen, code_pause, code_menu, code_media_play}
+use Rattle.ratatui_input.specs.KeyTables.{code_media_pause, code_media_play_pause, code_media_reverse, code_media_stop}
+use Rattle.ratatui_input.specs.KeyTables.{code_media_fast_forward, code_media_rewind, code_media_track_next}
+use Rattle.ratatui_input.specs.KeyTables.{code_media_track_previous, code_media_record, code_media_lower_volume}
+use Rattle.ratatui_input.specs.KeyTables.{code_media_raise_volume, code_media_mute_volume, code_modifier_left_shift}
+use Rattle.ratatui_input.specs.KeyTables.{code_modifier_left_control, code_modifier_left_alt, code_modifier_left_super}
+use Rattle.ratatui_input.specs.KeyTables.{code_modifier_left_hyper, code_modifier_left_meta, code_modifier_right_shift}
+use Rattle.ratatui_input.specs.KeyTables.{code_modifier_right_control, code_modifier_right_alt, code_modifier_right_super}
+use Rattle.ratatui_input.specs.KeyTables.{code_modifier_right_hyper, code_modifier_right_meta, code_modifier_iso_level3_shift}
+use Rattle.ratatui_input.specs.KeyTables.{code_modifier_iso_level5_shift, code_f13, code_f14, code_f15, code_f16, code_f17}
+use Rattle.ratatui_input.specs.KeyTables.{code_f18, code_f19, code_f20, code_f21, code_f22, code_f23, code_f24, code_f25}
+use Rattle.ratatui_input.specs.KeyTables.{code_f26, code_f27, code_f28, code_f29, code_f30, code_f31, code_f32, code_f33}
+use Rattle.ratatui_input.specs.KeyTables.{code_f34, code_f35, pad_char48, pad_char49, pad_char50, pad_char51, pad_char52}
+use Rattle.ratatui_input.specs.KeyTables.{pad_char53, pad_char54, pad_char55, pad_char56, pad_char57, pad_char46, pad_char47}
+use Rattle.ratatui_input.specs.KeyTables.{pad_char42, pad_char45, pad_char43, pad_enter, pad_char61, pad_char44, pad_left}
+use Rattle.ratatui_input.specs.KeyTables.{pad_right, pad_up, pad_down, pad_page_up, pad_page_down, pad_home, pad_end, pad_insert}
+use Rattle.ratatui_input.specs.KeyTables.{pad_delete, pad_keypad_begin}
 use Rattle.ratatui_input.specs.Pieces.{IsCodePoint, named_code, private_code}
 use Rattle.ratatui_input.proofs.StandLemmas.{same, lies, lies-not}
 
@@ -21,7 +44,8 @@ AllAre P [] = Unit {0}
 AllAre P (e ∷ table) = P e.0 e.1 × AllAre P table
 
 -- what a table has at a number
-head-or : (t : Bool) (P : ℕ → KeyCode → Type 0) (e : ℕ × KeyCode) (o : Option (ℕ × KeyCode)) (n : ℕ) (code : KeyCode) → (t ≡ true → e.0 ≡ n) → P e.0 e.1
+head-or : (t : Bool) (P : ℕ → KeyCode → Type 0) (e : ℕ × KeyCode) (o : Option (ℕ × KeyCode)) (n : ℕ) (code : KeyCode)
+    → (t ≡ true → e.0 ≡ n) → P e.0 e.1
     → (option_map (λ (x : ℕ × KeyCode). x.1) o ≡ Some code → P n code)
     → option_map (λ (x : ℕ × KeyCode). x.1) (if t then Some e else o) ≡ Some code → P n code
 head-or true P e o n code f h k eq =
@@ -29,7 +53,8 @@ head-or true P e o n code f h k eq =
     subst (λ (x : ℕ). P x code) (f refl) (subst (P e.0) is h)
 head-or false P e o n code f h k eq = k eq
 
-pub at-table : (P : ℕ → KeyCode → Type 0) (table : List (ℕ × KeyCode)) (n : ℕ) (code : KeyCode) → AllAre P table → key_at table n ≡ Some code → P n code
+pub at-table : (P : ℕ → KeyCode → Type 0) (table : List (ℕ × KeyCode)) (n : ℕ) (code : KeyCode) → AllAre P table
+    → key_at table n ≡ Some code → P n code
 unfolding key_at
 at-table P [] n code h eq = cc
 at-table P (e ∷ table) n code h eq =
@@ -39,10 +64,100 @@ abbrev pub LetterOrEnter : ℕ → KeyCode → Type 0
 LetterOrEnter b code = IsLetter b code ⊎ ((b ≡ 77) × (code ≡ Enter))
 
 pub letters : AllAre LetterOrEnter LETTERS
-letters = (inl letter_up, (inl letter_down, (inl letter_right, (inl letter_left, (inl letter_keypad_begin, (inl letter_end, (inl letter_home, (inl letter_f1, (inl letter_f2, (inl letter_f3, (inl letter_f4, (inl letter_back_tab, (inr (refl, refl), tt)))))))))))))
+letters = (
+  inl letter_up,
+  (
+    inl letter_down,
+    (
+      inl letter_right,
+      (
+        inl letter_left,
+        (
+          inl letter_keypad_begin,
+          (
+            inl letter_end,
+            (
+              inl letter_home,
+              (
+                inl letter_f1,
+                (inl letter_f2, (inl letter_f3, (inl letter_f4, (inl letter_back_tab, (inr (refl, refl), tt))))),
+              ),
+            ),
+          ),
+        ),
+      ),
+    ),
+  ),
+)
 
 tildes : AllAre IsTilde NUMBERS
-tildes = (tilde_home, (tilde_insert, (tilde_delete, (tilde_end, (tilde_page_up, (tilde_page_down, (tilde7_home, (tilde8_end, (tilde_f1, (tilde_f2, (tilde_f3, (tilde_f4, (tilde_f5, (tilde_f6, (tilde_f7, (tilde_f8, (tilde_f9, (tilde_f10, (tilde_f11, (tilde_f12, (tilde_f13, (tilde_f14, (tilde_f15, (tilde_f16, (tilde_f17, (tilde_f18, (tilde_f19, (tilde_f20, tt))))))))))))))))))))))))))))
+tildes = (
+  tilde_home,
+  (
+    tilde_insert,
+    (
+      tilde_delete,
+      (
+        tilde_end,
+        (
+          tilde_page_up,
+          (
+            tilde_page_down,
+            (
+              tilde7_home,
+              (
+                tilde8_end,
+                (
+                  tilde_f1,
+                  (
+                    tilde_f2,
+                    (
+                      tilde_f3,
+                      (
+                        tilde_f4,
+                        (
+                          tilde_f5,
+                          (
+                            tilde_f6,
+                            (
+                              tilde_f7,
+                              (
+                                tilde_f8,
+                                (
+                                  tilde_f9,
+                                  (
+                                    tilde_f10,
+                                    (
+                                      tilde_f11,
+                                      (
+                                        tilde_f12,
+                                        (
+                                          tilde_f13,
+                                          (
+                                            tilde_f14,
+                                            (tilde_f15, (tilde_f16, (tilde_f17, (tilde_f18, (tilde_f19, (tilde_f20, tt)))))),
+                                          ),
+                                        ),
+                                      ),
+                                    ),
+                                  ),
+                                ),
+                              ),
+                            ),
+                          ),
+                        ),
+                      ),
+                    ),
+                  ),
+                ),
+              ),
+            ),
+          ),
+        ),
+      ),
+    ),
+  ),
+)
 
 abbrev pub IsName : ℕ → KeyCode → Type 0
 IsName n code = IsCode n code false
@@ -51,10 +166,199 @@ abbrev pub IsPad : ℕ → KeyCode → Type 0
 IsPad n code = IsCode n code true
 
 pub names : AllAre IsName CODES
-names = (code_esc, (code_enter, (code_tab, (code_backspace, (code_caps_lock, (code_scroll_lock, (code_num_lock, (code_print_screen, (code_pause, (code_menu, (code_media_play, (code_media_pause, (code_media_play_pause, (code_media_reverse, (code_media_stop, (code_media_fast_forward, (code_media_rewind, (code_media_track_next, (code_media_track_previous, (code_media_record, (code_media_lower_volume, (code_media_raise_volume, (code_media_mute_volume, (code_modifier_left_shift, (code_modifier_left_control, (code_modifier_left_alt, (code_modifier_left_super, (code_modifier_left_hyper, (code_modifier_left_meta, (code_modifier_right_shift, (code_modifier_right_control, (code_modifier_right_alt, (code_modifier_right_super, (code_modifier_right_hyper, (code_modifier_right_meta, (code_modifier_iso_level3_shift, (code_modifier_iso_level5_shift, (code_f13, (code_f14, (code_f15, (code_f16, (code_f17, (code_f18, (code_f19, (code_f20, (code_f21, tt))))))))))))))))))))))))))))))))))))))))))))))
+names = (
+  code_esc,
+  (
+    code_enter,
+    (
+      code_tab,
+      (
+        code_backspace,
+        (
+          code_caps_lock,
+          (
+            code_scroll_lock,
+            (
+              code_num_lock,
+              (
+                code_print_screen,
+                (
+                  code_pause,
+                  (
+                    code_menu,
+                    (
+                      code_media_play,
+                      (
+                        code_media_pause,
+                        (
+                          code_media_play_pause,
+                          (
+                            code_media_reverse,
+                            (
+                              code_media_stop,
+                              (
+                                code_media_fast_forward,
+                                (
+                                  code_media_rewind,
+                                  (
+                                    code_media_track_next,
+                                    (
+                                      code_media_track_previous,
+                                      (
+                                        code_media_record,
+                                        (
+                                          code_media_lower_volume,
+                                          (
+                                            code_media_raise_volume,
+                                            (
+                                              code_media_mute_volume,
+                                              (
+                                                code_modifier_left_shift,
+                                                (
+                                                  code_modifier_left_control,
+                                                  (
+                                                    code_modifier_left_alt,
+                                                    (
+                                                      code_modifier_left_super,
+                                                      (
+                                                        code_modifier_left_hyper,
+                                                        (
+                                                          code_modifier_left_meta,
+                                                          (
+                                                            code_modifier_right_shift,
+                                                            (
+                                                              code_modifier_right_control,
+                                                              (
+                                                                code_modifier_right_alt,
+                                                                (
+                                                                  code_modifier_right_super,
+                                                                  (
+                                                                    code_modifier_right_hyper,
+                                                                    (
+                                                                      code_modifier_right_meta,
+                                                                      (
+                                                                        code_modifier_iso_level3_shift,
+                                                                        (
+                                                                          code_modifier_iso_level5_shift,
+                                                                          (
+                                                                            code_f13,
+                                                                            (
+                                                                              code_f14,
+                                                                              (
+                                                                                code_f15,
+                                                                                (code_f16, (code_f17, (code_f18, (code_f19, (code_f20, (code_f21, tt)))))),
+                                                                              ),
+                                                                            ),
+                                                                          ),
+                                                                        ),
+                                                                      ),
+                                                                    ),
+                                                                  ),
+                                                                ),
+                                                              ),
+                                                            ),
+                                                          ),
+                                                        ),
+                                                      ),
+                                                    ),
+                                                  ),
+                                                ),
+                                              ),
+                                            ),
+                                          ),
+                                        ),
+                                      ),
+                                    ),
+                                  ),
+                                ),
+                              ),
+                            ),
+                          ),
+                        ),
+                      ),
+                    ),
+                  ),
+                ),
+              ),
+            ),
+          ),
+        ),
+      ),
+    ),
+  ),
+)
 
 pub pads : AllAre IsPad KEYPAD
-pads = (pad_char48, (pad_char49, (pad_char50, (pad_char51, (pad_char52, (pad_char53, (pad_char54, (pad_char55, (pad_char56, (pad_char57, (pad_char46, (pad_char47, (pad_char42, (pad_char45, (pad_char43, (pad_enter, (pad_char61, (pad_char44, (pad_left, (pad_right, (pad_up, (pad_down, (pad_page_up, (pad_page_down, (pad_home, (pad_end, (pad_insert, (pad_delete, (pad_keypad_begin, tt)))))))))))))))))))))))))))))
+pads = (
+  pad_char48,
+  (
+    pad_char49,
+    (
+      pad_char50,
+      (
+        pad_char51,
+        (
+          pad_char52,
+          (
+            pad_char53,
+            (
+              pad_char54,
+              (
+                pad_char55,
+                (
+                  pad_char56,
+                  (
+                    pad_char57,
+                    (
+                      pad_char46,
+                      (
+                        pad_char47,
+                        (
+                          pad_char42,
+                          (
+                            pad_char45,
+                            (
+                              pad_char43,
+                              (
+                                pad_enter,
+                                (
+                                  pad_char61,
+                                  (
+                                    pad_char44,
+                                    (
+                                      pad_left,
+                                      (
+                                        pad_right,
+                                        (
+                                          pad_up,
+                                          (
+                                            pad_down,
+                                            (
+                                              pad_page_up,
+                                              (pad_page_down, (pad_home, (pad_end, (pad_insert, (pad_delete, (pad_keypad_begin, tt)))))),
+                                            ),
+                                          ),
+                                        ),
+                                      ),
+                                    ),
+                                  ),
+                                ),
+                              ),
+                            ),
+                          ),
+                        ),
+                      ),
+                    ),
+                  ),
+                ),
+              ),
+            ),
+          ),
+        ),
+      ),
+    ),
+  ),
+)
 
 pub letter-of : (b : ℕ) (code : KeyCode) → letter_key b ≡ Some code → LetterOrEnter b code
 letter-of b code e = at-table LetterOrEnter LETTERS b code letters e
@@ -67,7 +371,8 @@ abbrev pub IsCodeOf : ℕ → Option (KeyCode × Bool) → Type 0
 IsCodeOf n None = Unit {0}
 IsCodeOf n (Some key) = IsCodePoint n key.0 key.1
 
-if-code : (n : ℕ) (t : Bool) (x y : Option (KeyCode × Bool)) → (t ≡ true → IsCodeOf n x) → (t ≡ false → IsCodeOf n y) → IsCodeOf n (if t then x else y)
+if-code : (n : ℕ) (t : Bool) (x y : Option (KeyCode × Bool)) → (t ≡ true → IsCodeOf n x) → (t ≡ false → IsCodeOf n y)
+    → IsCodeOf n (if t then x else y)
 if-code n true x y f g = f refl
 if-code n false x y f g = g refl
 
@@ -75,7 +380,8 @@ pub scalar-is : (n : ℕ) → is_scalar n ≡ true → IsScalar n
 scalar-is n h = grind (arith, nat_tests)
 
 -- a code point without a key of its own
-unnamed : {n : ℕ} {code : KeyCode} {is_keypad : Bool} → IsCode n code is_keypad → key_at CODES n ≡ None → key_at KEYPAD n ≡ None → 57344 ≤ n → n < 63744
+unnamed : {n : ℕ} {code : KeyCode} {is_keypad : Bool} → IsCode n code is_keypad → key_at CODES n ≡ None → key_at KEYPAD n ≡ None
+    → 57344 ≤ n → n < 63744
     → (n < 57385) ⊎ (57398 < n) → ⊥
 unfolding key_at
 unnamed code_esc none pad low high out = cc
@@ -182,7 +488,8 @@ plain-code n scalar_it plain free =
       ]
     ]
 
-character-code : (n : ℕ) (t : Bool) → (t ≡ true → IsScalar n) → (57344 ≤ n → n < 63744 → IsFree n) → IsCodeOf n (character_key (if t then Some n else None))
+character-code : (n : ℕ) (t : Bool) → (t ≡ true → IsScalar n) → (57344 ≤ n → n < 63744 → IsFree n)
+    → IsCodeOf n (character_key (if t then Some n else None))
 character-code n false h free = tt
 character-code n true h free = if-code n (is_control n) None (Some (Char n, false)) (λ e. tt) (λ e. plain-code n (h refl) e free)
 
@@ -214,7 +521,23 @@ function-code n low high =
                             | inl e ↦ subst (λ (x : ℕ). IsCode x (F (x - 57363)) false) (sym e) code_f33
                             | inr h57396 ↦ elim (cases_eq n 57397) [
                               | inl e ↦ subst (λ (x : ℕ). IsCode x (F (x - 57363)) false) (sym e) code_f34
-                              | inr h57397 ↦ subst (λ (x : ℕ). IsCode x (F (x - 57363)) false) (let e : 57398 ≡ n = omega (arith, h57385, h57386, h57387, h57388, h57389, h57390, h57391, h57392, h57393, h57394, h57395, h57396, h57397) in e) code_f35
+                              | inr h57397 ↦ subst (λ (x : ℕ). IsCode x (F (x - 57363)) false)
+                                  (let e : 57398 ≡ n = omega (
+                                    arith,
+                                    h57385,
+                                    h57386,
+                                    h57387,
+                                    h57388,
+                                    h57389,
+                                    h57390,
+                                    h57391,
+                                    h57392,
+                                    h57393,
+                                    h57394,
+                                    h57395,
+                                    h57396,
+                                    h57397,
+                                  ) in e) code_f35
                             ]
                           ]
                         ]
@@ -237,7 +560,8 @@ named-code n None h free =
     (λ e. let bounds = lies 57385 57398 n e in named_code (function-code n bounds.0 bounds.1))
     (λ e. character-code n (is_scalar n) (scalar-is n) (λ low high. free refl low high (lies-not 57385 57398 n e)))
 
-padded-code : (n : ℕ) (o : Option KeyCode) (other : Option (KeyCode × Bool)) → ((code : KeyCode) → o ≡ Some code → IsCode n code true) → (o ≡ None → IsCodeOf n other)
+padded-code : (n : ℕ) (o : Option KeyCode) (other : Option (KeyCode × Bool))
+    → ((code : KeyCode) → o ≡ Some code → IsCode n code true) → (o ≡ None → IsCodeOf n other)
     → IsCodeOf n (pad_key o other)
 padded-code n (Some key) other h k = named_code (h key refl)
 padded-code n None other h k = k refl

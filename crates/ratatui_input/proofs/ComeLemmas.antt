@@ -1,5 +1,6 @@
 -- What has come of an event, and what each byte makes of it, state by state.
-use Rattle.std.proofs.Common.{◌≡◌, ◌≢◌, ◌⊎◌, inl, inr, ℕ, ◌+◌, ◌-◌, ◌*◌, ◌/◌, ◌%◌, ◌^◌, min, ◌<◌, ◌≤◌, Bool, true, false, List, [], ◌∷◌, ◌++◌, Option, Some, None, refl, ap, sym, ◌∙◌, subst, arith}
+use Rattle.std.proofs.Common.{◌≡◌, ◌≢◌, ◌⊎◌, inl, inr, ℕ, ◌+◌, ◌-◌, ◌*◌, ◌/◌, ◌%◌, ◌^◌, min, ◌<◌, ◌≤◌, Bool, true, false, List}
+use Rattle.std.proofs.Common.{[], ◌∷◌, ◌++◌, Option, Some, None, refl, ap, sym, ◌∙◌, subst, arith}
 use Rattle.std.specs.Prelude.{nat_lt, nat_le, if◌then◌else◌, ◌==◌, ◌&&◌, ◌||◌}
 use Rattle.std.proofs.lemmas.Bool.{cases_eq}
 use Rattle.std.proofs.lemmas.Bool.Decides.{nat_tests}
@@ -14,7 +15,8 @@ use Rattle.ratatui_events.specs.declared.key.KeyEventKind.TheVariants.{Press}
 use Rattle.ratatui_events.specs.Key.{held}
 use Rattle.ratatui_input.specs.declared.decoder.Partial.{Partial}
 use Rattle.ratatui_input.specs.declared.decoder.State.{State}
-use Rattle.ratatui_input.specs.declared.decoder.State.TheVariants.{Ground, Escape, Single, Bracket, Function, Numbers, Click, ClickButton, ClickColumn, Character}
+use Rattle.ratatui_input.specs.declared.decoder.State.TheVariants.{Ground, Escape, Single, Bracket, Function, Numbers, Click}
+use Rattle.ratatui_input.specs.declared.decoder.State.TheVariants.{ClickButton, ClickColumn, Character}
 use Rattle.ratatui_input.specs.declared.decoder.Next.{Next}
 use Rattle.ratatui_input.specs.declared.decoder.Next.TheVariants.{Whole, More, Apart}
 use Rattle.ratatui_input.specs.declared.sequence.Sequence.{Sequence}
@@ -24,14 +26,20 @@ use Rattle.ratatui_input.specs.Keys.{typed_key, control_key, with_alt, letter_ke
 use Rattle.ratatui_input.specs.Mouse.{mouse_event}
 use Rattle.ratatui_input.specs.Encodings.{value_after}
 use Rattle.ratatui_input.specs.Grammar.{WritesNumber, value_from, csi, key_told, mouse_told}
-use Rattle.ratatui_input.specs.Grammar.{character, control, alt_character, alt_control, by_single, single_enter, by_console, by_bytes}
-use Rattle.ratatui_input.specs.Sequences.{pushed, digit_pushed, from_mouse, sequence_event, source_event, letter_event, single_event}
-use Rattle.ratatui_input.specs.Decoding.{stepped, first, begun, beginning, after_escape, after_bracket, in_sequence, going_on, after_single, after_function, in_character, character_event, scalar_event, after_click, cut, lies_in}
+use Rattle.ratatui_input.specs.Grammar.{character, control, alt_character, alt_control, by_single, single_enter, by_console}
+use Rattle.ratatui_input.specs.Grammar.{by_bytes}
+use Rattle.ratatui_input.specs.Sequences.{pushed, digit_pushed, from_mouse, sequence_event, source_event, letter_event}
+use Rattle.ratatui_input.specs.Sequences.{single_event}
+use Rattle.ratatui_input.specs.Decoding.{stepped, first, begun, beginning, after_escape, after_bracket, in_sequence, going_on}
+use Rattle.ratatui_input.specs.Decoding.{after_single, after_function, in_character, character_event, scalar_event, after_click}
+use Rattle.ratatui_input.specs.Decoding.{cut, lies_in}
 use Rattle.ratatui_input.specs.Pieces.{KeepsNumber}
 use Rattle.ratatui_input.proofs.CharacterLemmas.{encode-one, encode-two, encode-three, encode-four}
-use Rattle.ratatui_input.proofs.StandLemmas.{Stands, if-stands, same, differ, lies, not-below, grammar_stands, escape_stands, bracket_stands, single_stands, not_known}
+use Rattle.ratatui_input.proofs.StandLemmas.{Stands, if-stands, same, differ, lies, not-below, grammar_stands, escape_stands}
+use Rattle.ratatui_input.proofs.StandLemmas.{bracket_stands, single_stands, not_known}
 use Rattle.ratatui_input.proofs.CodeLemmas.{letter-of, scalar-is}
-use Rattle.ratatui_input.proofs.NumberLemmas.{keeps-digit, keeps-none, Come, come-numbers, come-source, come-digit, with_colon, with_semicolon, come-colon, come-semicolon, field_comes, come_one}
+use Rattle.ratatui_input.proofs.NumberLemmas.{keeps-digit, keeps-none, Come, come-numbers, come-source, come-digit, with_colon}
+use Rattle.ratatui_input.proofs.NumberLemmas.{with_semicolon, come-colon, come-semicolon, field_comes, come_one}
 use Rattle.ratatui_input.proofs.NothingLemmas.{digit-keeps}
 use Rattle.ratatui_input.proofs.TableLemmas.{printed-plain}
 use Rattle.ratatui_input.proofs.SequenceLemmas.{csi-some, letter-answer, mouse-stands, keys-stand, pointer-stands}
@@ -46,7 +54,8 @@ unfolding sequence_event
 sequence-stands {s = s} {body = body} b (keys_come h) =
     subst (λ (x : Source). Stands (csi body b) (source_event x s b)) (sym (come-source h)) (keys-stand s body b (come-numbers h))
 sequence-stands {s = s} b (mouse_comes {body = body} h) =
-    subst (λ (x : Source). Stands (csi (60 ∷ body) b) (source_event x s b)) (sym (come-source h)) (pointer-stands s body b (come-numbers h))
+    subst (λ (x : Source). Stands (csi (60 ∷ body) b) (source_event x s b)) (sym (come-source h))
+    (pointer-stands s body b (come-numbers h))
 sequence-stands {s = s} b (mark_comes body e) =
     subst (λ (x : Source). Stands (csi body b) (source_event x s b)) (sym e) (not_known (csi-some body b))
 
@@ -55,11 +64,13 @@ abbrev IsPushed : List ℕ → Option Sequence → Type 0
 IsPushed body None = Unit {0}
 IsPushed body (Some s) = InSequence s body
 
-if-pushed : (body : List ℕ) (t : Bool) (x y : Option Sequence) → (t ≡ true → IsPushed body x) → (t ≡ false → IsPushed body y) → IsPushed body (if t then x else y)
+if-pushed : (body : List ℕ) (t : Bool) (x y : Option Sequence) → (t ≡ true → IsPushed body x) → (t ≡ false → IsPushed body y)
+    → IsPushed body (if t then x else y)
 if-pushed body true x y f g = f refl
 if-pushed body false x y f g = g refl
 
-digit-come : {s : Sequence} {body : List ℕ} (b : ℕ) → InSequence s body → 48 ≤ b → b ≤ 57 → InSequence (digit_pushed s b) (body ++ (b ∷ []))
+digit-come : {s : Sequence} {body : List ℕ} (b : ℕ) → InSequence s body → 48 ≤ b → b ≤ 57
+    → InSequence (digit_pushed s b) (body ++ (b ∷ []))
 digit-come b (keys_come h) low high = keys_come (come-digit b h low high)
 digit-come b (mouse_comes h) low high = mouse_comes (come-digit b h low high)
 digit-come {s = s} b (mark_comes body e) low high = mark_comes (body ++ (b ∷ [])) (digit-keeps s b e)
@@ -85,7 +96,8 @@ pushed-come {s = s} {body = body} b h =
     (λ e. subst (λ (x : ℕ). InSequence (with_semicolon s) (body ++ (x ∷ []))) (sym (same b 59 e)) (semicolon-come h))
     (λ n2. if-pushed (body ++ (b ∷ [])) (b == 58) _ _
     (λ e. subst (λ (x : ℕ). InSequence (with_colon s) (body ++ (x ∷ []))) (sym (same b 58 e)) (colon-come h))
-    (λ n3. if-pushed (body ++ (b ∷ [])) ((nat_le 32 b && nat_le b 47) || (nat_le 60 b && nat_le b 63)) (Some (record s { source = Other })) None
+    (λ n3. if-pushed (body ++ (b ∷ [])) ((nat_le 32 b && nat_le b 47) || (nat_le 60 b && nat_le b 63))
+    (Some (record s { source = Other })) None
     (λ e. mark_comes (body ++ (b ∷ [])) refl) (λ e. tt))))
 
 -- a character of which some bytes have come
@@ -94,15 +106,20 @@ part alt code left low high = record { is_alt = alt; code = code; left = left; l
 
 pub data CharacterComes : Bool → Partial → List ℕ → Type 0 where
   one_of_two : {alt : Bool} (b x : ℕ) → 194 ≤ b → b ≤ 223 → x ≡ b - 192 → CharacterComes alt (part alt x 1 128 191) (b ∷ [])
-  one_of_three : {alt : Bool} (b x low high : ℕ) → 224 ≤ b → b ≤ 239 → x ≡ b - 224 → 128 ≤ low → high ≤ 191 → (b ≡ 224 → 160 ≤ low) → (b ≡ 237 → high ≤ 159)
+  one_of_three : {alt : Bool} (b x low high : ℕ) → 224 ≤ b → b ≤ 239 → x ≡ b - 224 → 128 ≤ low → high ≤ 191
+      → (b ≡ 224 → 160 ≤ low) → (b ≡ 237 → high ≤ 159)
       → CharacterComes alt (part alt x 2 low high) (b ∷ [])
-  two_of_three : {alt : Bool} (b c x : ℕ) → 224 ≤ b → b ≤ 239 → 128 ≤ c → c ≤ 191 → (b ≡ 224 → 160 ≤ c) → (b ≡ 237 → c ≤ 159) → x ≡ (b - 224) * 64 + (c - 128)
+  two_of_three : {alt : Bool} (b c x : ℕ) → 224 ≤ b → b ≤ 239 → 128 ≤ c → c ≤ 191 → (b ≡ 224 → 160 ≤ c) → (b ≡ 237 → c ≤ 159)
+      → x ≡ (b - 224) * 64 + (c - 128)
       → CharacterComes alt (part alt x 1 128 191) (b ∷ c ∷ [])
-  one_of_four : {alt : Bool} (b x low high : ℕ) → 240 ≤ b → b ≤ 244 → x ≡ b - 240 → 128 ≤ low → high ≤ 191 → (b ≡ 240 → 144 ≤ low) → (b ≡ 244 → high ≤ 143)
+  one_of_four : {alt : Bool} (b x low high : ℕ) → 240 ≤ b → b ≤ 244 → x ≡ b - 240 → 128 ≤ low → high ≤ 191 → (b ≡ 240 → 144 ≤ low)
+      → (b ≡ 244 → high ≤ 143)
       → CharacterComes alt (part alt x 3 low high) (b ∷ [])
-  two_of_four : {alt : Bool} (b c x : ℕ) → 240 ≤ b → b ≤ 244 → 128 ≤ c → c ≤ 191 → (b ≡ 240 → 144 ≤ c) → (b ≡ 244 → c ≤ 143) → x ≡ (b - 240) * 64 + (c - 128)
+  two_of_four : {alt : Bool} (b c x : ℕ) → 240 ≤ b → b ≤ 244 → 128 ≤ c → c ≤ 191 → (b ≡ 240 → 144 ≤ c) → (b ≡ 244 → c ≤ 143)
+      → x ≡ (b - 240) * 64 + (c - 128)
       → CharacterComes alt (part alt x 2 128 191) (b ∷ c ∷ [])
-  three_of_four : {alt : Bool} (b c d x : ℕ) → 240 ≤ b → b ≤ 244 → 128 ≤ c → c ≤ 191 → (b ≡ 240 → 144 ≤ c) → (b ≡ 244 → c ≤ 143) → 128 ≤ d → d ≤ 191
+  three_of_four : {alt : Bool} (b c d x : ℕ) → 240 ≤ b → b ≤ 244 → 128 ≤ c → c ≤ 191 → (b ≡ 240 → 144 ≤ c) → (b ≡ 244 → c ≤ 143)
+      → 128 ≤ d → d ≤ 191
       → x ≡ ((b - 240) * 64 + (c - 128)) * 64 + (d - 128)
       → CharacterComes alt (part alt x 1 128 191) (b ∷ c ∷ d ∷ [])
 
@@ -122,7 +139,8 @@ pub data HasCome : State → List ℕ → Type 0 where
   click_comes : HasCome Click (27 ∷ 91 ∷ 77 ∷ [])
   button_comes : (n : ℕ) → 32 ≤ n → n < 256 → HasCome (ClickButton n) (27 ∷ 91 ∷ 77 ∷ n ∷ [])
   column_comes : (n x : ℕ) → 32 ≤ n → n < 256 → 32 ≤ x → x < 256 → HasCome (ClickColumn n x) (27 ∷ 91 ∷ 77 ∷ n ∷ x ∷ [])
-  character_comes : {alt : Bool} {p : Partial} {bytes : List ℕ} → CharacterComes alt p bytes → HasCome (Character p) (after_alt alt bytes)
+  character_comes : {alt : Bool} {p : Partial} {bytes : List ℕ} → CharacterComes alt p bytes
+      → HasCome (Character p) (after_alt alt bytes)
 
 -- what a byte makes of it
 abbrev pub Follows : Next → List ℕ → Type 0
@@ -130,21 +148,24 @@ Follows (Whole event) bytes = Stands bytes event
 Follows (More s) bytes = HasCome s bytes
 Follows Apart bytes = Unit {0}
 
-if-follows : (bytes : List ℕ) (t : Bool) (x y : Next) → (t ≡ true → Follows x bytes) → (t ≡ false → Follows y bytes) → Follows (if t then x else y) bytes
+if-follows : (bytes : List ℕ) (t : Bool) (x y : Next) → (t ≡ true → Follows x bytes) → (t ≡ false → Follows y bytes)
+    → Follows (if t then x else y) bytes
 if-follows bytes true x y f g = f refl
 if-follows bytes false x y f g = g refl
 
 control-asked : (b : ℕ) → (nat_le b 31 || (b == 127)) ≡ true → (b < 32) ⊎ (b ≡ 127)
 control-asked b h = grind (arith, nat_tests)
 
-control-stands : (alt : Bool) (b : ℕ) → (b < 32) ⊎ (b ≡ 127) → b ≢ 27 → Stands (after_alt alt (b ∷ [])) (with_alt (control_key b) alt)
+control-stands : (alt : Bool) (b : ℕ) → (b < 32) ⊎ (b ≡ 127) → b ≢ 27
+    → Stands (after_alt alt (b ∷ [])) (with_alt (control_key b) alt)
 control-stands false b low other = grammar_stands (control b low other)
 control-stands true b low other = grammar_stands (alt_control b low other)
 
 low-scalar : (c : ℕ) → c < 128 → IsScalar c
 low-scalar c h = grind (arith, nat_tests)
 
-typed-stands : (alt : Bool) (b : ℕ) → 32 ≤ b → b ≤ 126 → (alt ≡ true → (b ≢ 91) × (b ≢ 79)) → Stands (after_alt alt (b ∷ [])) (with_alt (typed_key b) alt)
+typed-stands : (alt : Bool) (b : ℕ) → 32 ≤ b → b ≤ 126 → (alt ≡ true → (b ≢ 91) × (b ≢ 79))
+    → Stands (after_alt alt (b ∷ [])) (with_alt (typed_key b) alt)
 typed-stands false b low high other =
     subst (λ (x : List ℕ). Stands x (with_alt (typed_key b) false)) (encode-one b (omega arith))
     (grammar_stands (character b (low-scalar b (omega arith)) (printed-plain b low high)))
@@ -157,7 +178,8 @@ abbrev IsBegun : Bool → ℕ → Option Partial → Type 0
 IsBegun alt b None = Unit {0}
 IsBegun alt b (Some p) = CharacterComes alt p (b ∷ [])
 
-if-begun : (alt : Bool) (b : ℕ) (t : Bool) (x y : Option Partial) → (t ≡ true → IsBegun alt b x) → (t ≡ false → IsBegun alt b y) → IsBegun alt b (if t then x else y)
+if-begun : (alt : Bool) (b : ℕ) (t : Bool) (x y : Option Partial) → (t ≡ true → IsBegun alt b x) → (t ≡ false → IsBegun alt b y)
+    → IsBegun alt b (if t then x else y)
 if-begun alt b true x y f g = f refl
 if-begun alt b false x y f g = g refl
 
@@ -176,33 +198,41 @@ low-six b low high = and_mask b 6 ∙ omega arith
 begun-comes : (alt : Bool) (b : ℕ) → IsBegun alt b (begun b alt)
 unfolding begun
 begun-comes alt b =
-    if-begun alt b (lies_in 194 223 b) _ _ (λ e. let f = lies 194 223 b e in one_of_two b (bit_and b 31) f.0 f.1 (low-five b f.0 f.1))
+    if-begun alt b (lies_in 194 223 b) _ _ (λ e. let f = lies 194 223 b e in
+    one_of_two b (bit_and b 31) f.0 f.1 (low-five b f.0 f.1))
     (λ n1. if-begun alt b (b == 224) _ _
     (λ e. let is : b ≡ 224 = same b 224 e in
-    one_of_three b 0 160 191 (omega arith) (omega arith) (omega arith) (omega arith) (omega arith) (λ x. omega arith) (λ x. omega (arith, x, is)))
+    one_of_three b 0 160 191 (omega arith) (omega arith) (omega arith) (omega arith) (omega arith) (λ x. omega arith)
+    (λ x. omega (arith, x, is)))
     (λ n2. if-begun alt b (b == 237) _ _
     (λ e. let is : b ≡ 237 = same b 237 e in
-    one_of_three b 13 128 159 (omega arith) (omega arith) (omega arith) (omega arith) (omega arith) (λ x. omega (arith, x, is)) (λ x. omega arith))
+    one_of_three b 13 128 159 (omega arith) (omega arith) (omega arith) (omega arith) (omega arith) (λ x. omega (arith, x, is))
+    (λ x. omega arith))
     (λ n3. if-begun alt b (lies_in 225 239 b) _ _
     (λ e. let f = lies 225 239 b e in
-    one_of_three b (bit_and b 15) 128 191 (omega (arith, f.0)) f.1 (low-four b (omega (arith, f.0)) f.1) (omega arith) (omega arith)
+    one_of_three b (bit_and b 15) 128 191 (omega (arith, f.0)) f.1 (low-four b (omega (arith, f.0)) f.1) (omega arith)
+    (omega arith)
     (λ x. omega (arith, f.0, x)) (λ x. absurd (differ b 237 n3 x)))
     (λ n4. if-begun alt b (b == 240) _ _
     (λ e. let is : b ≡ 240 = same b 240 e in
-    one_of_four b 0 144 191 (omega arith) (omega arith) (omega arith) (omega arith) (omega arith) (λ x. omega arith) (λ x. omega (arith, x, is)))
+    one_of_four b 0 144 191 (omega arith) (omega arith) (omega arith) (omega arith) (omega arith) (λ x. omega arith)
+    (λ x. omega (arith, x, is)))
     (λ n5. if-begun alt b (lies_in 241 243 b) _ _
     (λ e. let f = lies 241 243 b e in
-    one_of_four b (bit_and b 7) 128 191 (omega (arith, f.0)) (omega (arith, f.1)) (low-three b (omega (arith, f.0)) (omega (arith, f.1))) (omega arith) (omega arith)
+    one_of_four b (bit_and b 7) 128 191 (omega (arith, f.0)) (omega (arith, f.1))
+    (low-three b (omega (arith, f.0)) (omega (arith, f.1))) (omega arith) (omega arith)
     (λ x. omega (arith, f.0, x)) (λ x. omega (arith, f.1, x)))
     (λ n6. if-begun alt b (b == 244) _ _
     (λ e. let is : b ≡ 244 = same b 244 e in
-    one_of_four b 4 128 143 (omega arith) (omega arith) (omega arith) (omega arith) (omega arith) (λ x. omega (arith, x, is)) (λ x. omega arith))
+    one_of_four b 4 128 143 (omega arith) (omega arith) (omega arith) (omega arith) (omega arith) (λ x. omega (arith, x, is))
+    (λ x. omega arith))
     (λ n7. tt)))))))
 
 one-some : (b : ℕ) → b ∷ [] ≢ []
 one-some b e = cc
 
-beginning-follows : (alt : Bool) (b : ℕ) (o : Option Partial) → IsBegun alt b o → Follows (beginning o alt) (after_alt alt (b ∷ []))
+beginning-follows : (alt : Bool) (b : ℕ) (o : Option Partial) → IsBegun alt b o
+    → Follows (beginning o alt) (after_alt alt (b ∷ []))
 beginning-follows alt b (Some p) h = character_comes h
 beginning-follows true b None h = tt
 beginning-follows false b None h = not_known (one-some b)
@@ -215,8 +245,10 @@ any-first : (alt : Bool) (b : ℕ) → (alt ≡ true → (b ≢ 27) × (b ≢ 91
 unfolding first
 any-first alt b other =
     if-follows (after_alt alt (b ∷ [])) (b == 27) _ _ (λ e. at-escape alt b (same b 27 e) (λ a. (other a).0))
-    (λ n1. if-follows (after_alt alt (b ∷ [])) (nat_le b 31 || (b == 127)) _ _ (λ e. control-stands alt b (control-asked b e) (differ b 27 n1))
-    (λ n2. if-follows (after_alt alt (b ∷ [])) (lies_in 32 126 b) _ _ (λ e. let f = lies 32 126 b e in typed-stands alt b f.0 f.1 (λ a. ((other a).1, (other a).2)))
+    (λ n1. if-follows (after_alt alt (b ∷ [])) (nat_le b 31 || (b == 127)) _ _ (λ e. control-stands alt b (control-asked b e)
+    (differ b 27 n1))
+    (λ n2. if-follows (after_alt alt (b ∷ [])) (lies_in 32 126 b) _ _ (λ e. let f = lies 32 126 b e in
+    typed-stands alt b f.0 f.1 (λ a. ((other a).1, (other a).2)))
     (λ n3. beginning-follows alt b (begun b alt) (begun-comes alt b))))
 
 pub first-follows : (b : ℕ) → Follows (first b false) (b ∷ [])
@@ -226,8 +258,10 @@ escape-follows : (b : ℕ) → Follows (after_escape b) (27 ∷ b ∷ [])
 unfolding after_escape
 escape-follows b =
     if-follows (27 ∷ b ∷ []) (b == 27) _ _ (λ e. tt)
-    (λ n1. if-follows (27 ∷ b ∷ []) (b == 91) _ _ (λ e. subst (λ (x : ℕ). HasCome Bracket (27 ∷ x ∷ [])) (sym (same b 91 e)) bracket_comes)
-    (λ n2. if-follows (27 ∷ b ∷ []) (b == 79) _ _ (λ e. subst (λ (x : ℕ). HasCome (Single 0) (27 ∷ x ∷ [])) (sym (same b 79 e)) (single_comes keeps-none))
+    (λ n1. if-follows (27 ∷ b ∷ []) (b == 91) _ _ (λ e. subst (λ (x : ℕ). HasCome Bracket (27 ∷ x ∷ []))
+    (sym (same b 91 e)) bracket_comes)
+    (λ n2. if-follows (27 ∷ b ∷ []) (b == 79) _ _ (λ e. subst (λ (x : ℕ). HasCome (Single 0) (27 ∷ x ∷ [])) (sym (same b 79 e))
+    (single_comes keeps-none))
     (λ n3. any-first true b (λ a. (differ b 27 n1, differ b 91 n2, differ b 79 n3)))))
 
 -- a number that is kept whole
@@ -240,7 +274,8 @@ kept-least (b ∷ ds) n =
 writes : {ds : List ℕ} {n : ℕ} → KeepsNumber ds n → n ≤ 256 → WritesNumber ds n
 writes {ds = ds} {n = n} h small = record {
   digits = h.digits;
-  number = let e : value_after 0 ds ≡ min (value_from 0 ds) (2 ^ 32 - 1) = kept-least ds 0 in let i = h.number in omega (arith, e, i);
+  number = let e : value_after 0 ds ≡ min (value_from 0 ds) (2 ^ 32 - 1) = kept-least ds 0 in let i = h.number in
+      omega (arith, e, i);
 }
 
 single-some : (bs : List ℕ) → 27 ∷ 79 ∷ bs ≢ []
@@ -249,20 +284,24 @@ single-some bs e = cc
 single-letter : {ds : List ℕ} {n : ℕ} (b : ℕ) → KeepsNumber ds n → Stands (27 ∷ 79 ∷ (ds ++ (b ∷ []))) (single_event n b)
 unfolding single_event letter_event
 single-letter {ds = ds} {n = n} b h =
-    letter-answer b (letter_key b) 0 n (single-some (ds ++ (b ∷ []))) (letter-of b) (λ code letter small. grammar_stands (by_single letter (writes h small) small))
-    (λ e small. subst (λ (x : ℕ). Stands (27 ∷ 79 ∷ (ds ++ (x ∷ []))) (key_told Enter false n Press)) (sym e) (grammar_stands (single_enter (writes h small) small)))
+    letter-answer b (letter_key b) 0 n (single-some (ds ++ (b ∷ []))) (letter-of b)
+    (λ code letter small. grammar_stands (by_single letter (writes h small) small))
+    (λ e small. subst (λ (x : ℕ). Stands (27 ∷ 79 ∷ (ds ++ (x ∷ []))) (key_told Enter false n Press)) (sym e)
+    (grammar_stands (single_enter (writes h small) small)))
 
 single-follows : {ds : List ℕ} {n : ℕ} (b : ℕ) → KeepsNumber ds n → Follows (after_single n b) (27 ∷ 79 ∷ (ds ++ (b ∷ [])))
 unfolding after_single
 single-follows {ds = ds} {n = n} b h =
-    if-follows (27 ∷ 79 ∷ (ds ++ (b ∷ []))) (lies_in 48 57 b) _ _ (λ e. let f = lies 48 57 b e in single_comes (keeps-digit b h f.0 f.1))
+    if-follows (27 ∷ 79 ∷ (ds ++ (b ∷ []))) (lies_in 48 57 b) _ _ (λ e. let f = lies 48 57 b e in
+    single_comes (keeps-digit b h f.0 f.1))
     (λ n1. if-follows (27 ∷ 79 ∷ (ds ++ (b ∷ []))) (lies_in 64 126 b) _ _ (λ e. single-letter b h) (λ n2. tt))
 
 going-follows : (body : List ℕ) (o : Option Sequence) → IsPushed body o → Follows (going_on o) (27 ∷ 91 ∷ body)
 going-follows body None h = tt
 going-follows body (Some s) h = numbers_come h
 
-sequence-follows : {s : Sequence} {body : List ℕ} (b : ℕ) → InSequence s body → Follows (in_sequence s b) (27 ∷ 91 ∷ (body ++ (b ∷ [])))
+sequence-follows : {s : Sequence} {body : List ℕ} (b : ℕ) → InSequence s body
+    → Follows (in_sequence s b) (27 ∷ 91 ∷ (body ++ (b ∷ [])))
 unfolding in_sequence
 sequence-follows {s = s} {body = body} b h =
     if-follows (27 ∷ 91 ∷ (body ++ (b ∷ []))) (lies_in 64 126 b) _ _ (λ e. sequence-stands b h)
@@ -271,10 +310,13 @@ sequence-follows {s = s} {body = body} b h =
 bracket-follows : (b : ℕ) → Follows (after_bracket b) (27 ∷ 91 ∷ b ∷ [])
 unfolding after_bracket
 bracket-follows b =
-    if-follows (27 ∷ 91 ∷ b ∷ []) (b == 91) _ _ (λ e. subst (λ (x : ℕ). HasCome Function (27 ∷ 91 ∷ x ∷ [])) (sym (same b 91 e)) function_comes)
-    (λ n1. if-follows (27 ∷ 91 ∷ b ∷ []) (b == 77) _ _ (λ e. subst (λ (x : ℕ). HasCome Click (27 ∷ 91 ∷ x ∷ [])) (sym (same b 77 e)) click_comes)
+    if-follows (27 ∷ 91 ∷ b ∷ []) (b == 91) _ _ (λ e. subst (λ (x : ℕ). HasCome Function (27 ∷ 91 ∷ x ∷ []))
+    (sym (same b 91 e)) function_comes)
+    (λ n1. if-follows (27 ∷ 91 ∷ b ∷ []) (b == 77) _ _ (λ e. subst (λ (x : ℕ). HasCome Click (27 ∷ 91 ∷ x ∷ []))
+    (sym (same b 77 e)) click_comes)
     (λ n2. if-follows (27 ∷ 91 ∷ b ∷ []) (b == 60) _ _
-    (λ e. subst (λ (x : ℕ). HasCome (Numbers from_mouse) (27 ∷ 91 ∷ x ∷ [])) (sym (same b 60 e)) (numbers_come (mouse_comes (come_one (field_comes keeps-none)))))
+    (λ e. subst (λ (x : ℕ). HasCome (Numbers from_mouse) (27 ∷ 91 ∷ x ∷ [])) (sym (same b 60 e))
+    (numbers_come (mouse_comes (come_one (field_comes keeps-none)))))
     (λ n3. sequence-follows b (keys_come (come_one (field_comes keeps-none))))))
 
 function-some : (b : ℕ) → 27 ∷ 91 ∷ 91 ∷ b ∷ [] ≢ []
@@ -283,7 +325,8 @@ function-some b e = cc
 function-follows : (b : ℕ) → Follows (after_function b) (27 ∷ 91 ∷ 91 ∷ b ∷ [])
 unfolding after_function
 function-follows b =
-    if-follows (27 ∷ 91 ∷ 91 ∷ b ∷ []) (lies_in 65 69 b) _ _ (λ e. let f = lies 65 69 b e in grammar_stands (by_console b f.0 f.1))
+    if-follows (27 ∷ 91 ∷ 91 ∷ b ∷ []) (lies_in 65 69 b) _ _ (λ e. let f = lies 65 69 b e in
+    grammar_stands (by_console b f.0 f.1))
     (λ n1. if-follows (27 ∷ 91 ∷ 91 ∷ b ∷ []) (lies_in 64 126 b) _ _ (λ e. not_known (function-some b)) (λ n2. tt))
 
 -- the mouse by three bytes
@@ -294,7 +337,8 @@ click-follows bytes b next h = if-follows bytes (nat_lt b 32) Apart next (λ e. 
 click-some : (n x y : ℕ) → 27 ∷ 91 ∷ 77 ∷ n ∷ x ∷ y ∷ [] ≢ []
 click-some n x y e = cc
 
-click-bytes : (n x y : ℕ) → 32 ≤ n → 32 ≤ x → 32 ≤ y → 27 ∷ 91 ∷ 77 ∷ (n - 32 + 32) ∷ (x - 32 + 32) ∷ (y - 32 + 32) ∷ [] ≡ 27 ∷ 91 ∷ 77 ∷ n ∷ x ∷ y ∷ []
+click-bytes : (n x y : ℕ) → 32 ≤ n → 32 ≤ x → 32 ≤ y
+    → 27 ∷ 91 ∷ 77 ∷ (n - 32 + 32) ∷ (x - 32 + 32) ∷ (y - 32 + 32) ∷ [] ≡ 27 ∷ 91 ∷ 77 ∷ n ∷ x ∷ y ∷ []
 click-bytes n x y a b c =
     let e : n - 32 + 32 ≡ n = omega arith in
     let f : x - 32 + 32 ≡ x = omega arith in
@@ -312,13 +356,16 @@ after-some : (alt : Bool) (bytes : List ℕ) → bytes ≢ [] → after_alt alt 
 after-some true bytes h e = cc
 after-some false bytes h e = h e
 
-plain-stands : (alt : Bool) (c : ℕ) (bytes : List ℕ) → 128 ≤ c → IsScalar c → encode c ≡ bytes → is_control c ≡ false → Stands (after_alt alt bytes) (with_alt (typed_key c) alt)
-plain-stands false c bytes high scalar_it is plain = subst (λ (x : List ℕ). Stands x (with_alt (typed_key c) false)) is (grammar_stands (character c scalar_it plain))
+plain-stands : (alt : Bool) (c : ℕ) (bytes : List ℕ) → 128 ≤ c → IsScalar c → encode c ≡ bytes → is_control c ≡ false
+    → Stands (after_alt alt bytes) (with_alt (typed_key c) alt)
+plain-stands false c bytes high scalar_it is plain = subst (λ (x : List ℕ). Stands x (with_alt (typed_key c) false)) is
+    (grammar_stands (character c scalar_it plain))
 plain-stands true c bytes high scalar_it is plain =
     subst (λ (x : List ℕ). Stands (27 ∷ x) (with_alt (typed_key c) true)) is
     (grammar_stands (alt_character c scalar_it plain (λ e. omega (arith, e)) (λ e. omega (arith, e))))
 
-scalar-answer : (alt : Bool) (c : ℕ) (bytes : List ℕ) (t : Bool) → 128 ≤ c → bytes ≢ [] → (t ≡ true → IsScalar c × (encode c ≡ bytes))
+scalar-answer : (alt : Bool) (c : ℕ) (bytes : List ℕ) (t : Bool) → 128 ≤ c → bytes ≢ []
+    → (t ≡ true → IsScalar c × (encode c ≡ bytes))
     → Stands (after_alt alt bytes) (scalar_event (if t then Some c else None) alt)
 scalar-answer alt c bytes false high some h = not_known (after-some alt bytes some)
 scalar-answer alt c bytes true high some h =
@@ -328,7 +375,8 @@ scalar-answer alt c bytes true high some h =
 scalar-stands : (alt : Bool) (code : ℕ) (bytes : List ℕ) → 128 ≤ code → bytes ≢ [] → (IsScalar code → encode code ≡ bytes)
     → Stands (after_alt alt bytes) (character_event code alt)
 unfolding character_event
-scalar-stands alt code bytes high some h = scalar-answer alt code bytes (is_scalar code) high some (λ e. (scalar-is code e, h (scalar-is code e)))
+scalar-stands alt code bytes high some h = scalar-answer alt code bytes (is_scalar code) high some
+    (λ e. (scalar-is code e, h (scalar-is code e)))
 
 two-some : (a b : ℕ) → a ∷ b ∷ [] ≢ []
 two-some a b e = cc
@@ -346,17 +394,23 @@ two-are a b code a1 a2 b1 b2 is =
     let e = encode-two code (omega arith) (omega arith) in
     cc
 
-three-are : (a b c code : ℕ) → 224 ≤ a → a ≤ 239 → 128 ≤ b → b ≤ 191 → (a ≡ 224 → 160 ≤ b) → 128 ≤ c → c ≤ 191 → code ≡ ((a - 224) * 64 + (b - 128)) * 64 + (c - 128)
+three-are : (a b c code : ℕ) → 224 ≤ a → a ≤ 239 → 128 ≤ b → b ≤ 191 → (a ≡ 224 → 160 ≤ b) → 128 ≤ c → c ≤ 191
+    → code ≡ ((a - 224) * 64 + (b - 128)) * 64 + (c - 128)
     → encode code ≡ a ∷ b ∷ c ∷ []
 three-are a b c code a1 a2 b1 b2 low c1 c2 is =
     let p : 224 + code / 4096 ≡ a = omega arith in
     let q : 128 + code / 64 % 64 ≡ b = omega arith in
     let r : 128 + code % 64 ≡ c = omega arith in
-    let least : 2048 ≤ code = elim (cases_eq a 224) [ inl e ↦ let l = low e in omega (arith, l, e, is) | inr n ↦ omega (arith, n, is) ] in
+    let least : 2048 ≤ code = elim (cases_eq a 224) [
+      | inl e ↦ let l = low e in
+          omega (arith, l, e, is)
+      | inr n ↦ omega (arith, n, is)
+    ] in
     let e = encode-three code least (omega arith) in
     cc
 
-four-are : (a b c d code : ℕ) → 240 ≤ a → a ≤ 244 → 128 ≤ b → b ≤ 191 → (a ≡ 240 → 144 ≤ b) → 128 ≤ c → c ≤ 191 → 128 ≤ d → d ≤ 191
+four-are : (a b c d code : ℕ) → 240 ≤ a → a ≤ 244 → 128 ≤ b → b ≤ 191 → (a ≡ 240 → 144 ≤ b) → 128 ≤ c → c ≤ 191 → 128 ≤ d
+    → d ≤ 191
     → code ≡ (((a - 240) * 64 + (b - 128)) * 64 + (c - 128)) * 64 + (d - 128)
     → encode code ≡ a ∷ b ∷ c ∷ d ∷ []
 four-are a b c d code a1 a2 b1 b2 low c1 c2 d1 d2 is =
@@ -364,17 +418,23 @@ four-are a b c d code a1 a2 b1 b2 low c1 c2 d1 d2 is =
     let q : 128 + code / 4096 % 64 ≡ b = omega arith in
     let r : 128 + code / 64 % 64 ≡ c = omega arith in
     let s : 128 + code % 64 ≡ d = omega arith in
-    let least : 65536 ≤ code = elim (cases_eq a 240) [ inl e ↦ let l = low e in omega (arith, l, e, is) | inr n ↦ omega (arith, n, is) ] in
+    let least : 65536 ≤ code = elim (cases_eq a 240) [
+      | inl e ↦ let l = low e in
+          omega (arith, l, e, is)
+      | inr n ↦ omega (arith, n, is)
+    ] in
     let e = encode-four code least in
     cc
 
-going-on : (b low high : ℕ) → 128 ≤ low → high ≤ 191 → (nat_lt b 128 || (nat_lt b low || nat_lt high b)) ≡ false → (low ≤ b) × (b ≤ high)
+going-on : (b low high : ℕ) → 128 ≤ low → high ≤ 191 → (nat_lt b 128 || (nat_lt b low || nat_lt high b)) ≡ false
+    → (low ≤ b) × (b ≤ high)
 going-on b low high x y h = grind (arith, nat_tests)
 
 code-now : (x b : ℕ) → x < 2 ^ 20 → 128 ≤ b → b ≤ 191 → min (x * 64 + bit_and b 63) (2 ^ 32 - 1) ≡ x * 64 + (b - 128)
 code-now x b h low high = let e = low-six b low high in omega (arith, e)
 
-character-follows : {alt : Bool} {p : Partial} {bytes : List ℕ} (b : ℕ) → CharacterComes alt p bytes → Follows (in_character p b) (after_alt alt (bytes ++ (b ∷ [])))
+character-follows : {alt : Bool} {p : Partial} {bytes : List ℕ} (b : ℕ) → CharacterComes alt p bytes
+    → Follows (in_character p b) (after_alt alt (bytes ++ (b ∷ [])))
 unfolding in_character
 character-follows {alt = alt} b (one_of_two a x a1 a2 is) =
     if-follows (after_alt alt (a ∷ b ∷ [])) (nat_lt b 128 || (nat_lt b 128 || nat_lt 191 b)) _ _ (λ e. tt)
@@ -394,7 +454,8 @@ character-follows {alt = alt} b (two_of_three a a' x a1 a2 b1 b2 l2 h2 is) =
     let c = code-now x b (omega arith) f.0 f.1 in
     let are = three-are a a' b (min (x * 64 + bit_and b 63) (2 ^ 32 - 1)) a1 a2 b1 b2 l2 f.0 f.1 (omega (arith, c, is)) in
     scalar-stands alt (min (x * 64 + bit_and b 63) (2 ^ 32 - 1)) (a ∷ a' ∷ b ∷ [])
-    (elim (cases_eq a 224) [ inl e ↦ let m = l2 e in omega (arith, m, e, c, is) | inr n ↦ omega (arith, n, c, is) ]) (three-some a a' b) (λ s. are))
+    (elim (cases_eq a 224) [ inl e ↦ let m = l2 e in omega (arith, m, e, c, is) | inr n ↦ omega (arith, n, c, is) ])
+    (three-some a a' b) (λ s. are))
 character-follows {alt = alt} b (one_of_four a x low high a1 a2 is l h l2 h2) =
     if-follows (after_alt alt (a ∷ b ∷ [])) (nat_lt b 128 || (nat_lt b low || nat_lt high b)) _ _ (λ e. tt)
     (λ e. let f = going-on b low high l h e in
@@ -405,14 +466,16 @@ character-follows {alt = alt} b (two_of_four a a' x a1 a2 b1 b2 l2 h2 is) =
     if-follows (after_alt alt (a ∷ a' ∷ b ∷ [])) (nat_lt b 128 || (nat_lt b 128 || nat_lt 191 b)) _ _ (λ e. tt)
     (λ e. let f = going-on b 128 191 (omega arith) (omega arith) e in
     let c = code-now x b (omega arith) f.0 f.1 in
-    character_comes (three_of_four a a' b (min (x * 64 + bit_and b 63) (2 ^ 32 - 1)) a1 a2 b1 b2 l2 h2 f.0 f.1 (omega (arith, c, is))))
+    character_comes (three_of_four a a' b (min (x * 64 + bit_and b 63) (2 ^ 32 - 1)) a1 a2 b1 b2 l2 h2 f.0 f.1
+    (omega (arith, c, is))))
 character-follows {alt = alt} b (three_of_four a a' d x a1 a2 b1 b2 l2 h2 d1 d2 is) =
     if-follows (after_alt alt (a ∷ a' ∷ d ∷ b ∷ [])) (nat_lt b 128 || (nat_lt b 128 || nat_lt 191 b)) _ _ (λ e. tt)
     (λ e. let f = going-on b 128 191 (omega arith) (omega arith) e in
     let c = code-now x b (omega arith) f.0 f.1 in
     let are = four-are a a' d b (min (x * 64 + bit_and b 63) (2 ^ 32 - 1)) a1 a2 b1 b2 l2 d1 d2 f.0 f.1 (omega (arith, c, is)) in
     scalar-stands alt (min (x * 64 + bit_and b 63) (2 ^ 32 - 1)) (a ∷ a' ∷ d ∷ b ∷ [])
-    (elim (cases_eq a 240) [ inl e ↦ let m = l2 e in omega (arith, m, e, c, is) | inr n ↦ omega (arith, n, c, is) ]) (four-some a a' d b) (λ s. are))
+    (elim (cases_eq a 240) [ inl e ↦ let m = l2 e in omega (arith, m, e, c, is) | inr n ↦ omega (arith, n, c, is) ])
+    (four-some a a' d b) (λ s. are))
 
 after-snoc : (alt : Bool) (bytes : List ℕ) (b : ℕ) → after_alt alt (bytes ++ (b ∷ [])) ≡ after_alt alt bytes ++ (b ∷ [])
 after-snoc true bytes b = refl
@@ -430,7 +493,8 @@ follows click_comes b small = click-follows (27 ∷ 91 ∷ 77 ∷ b ∷ []) b (M
 follows (button_comes n n1 n2) b small =
     click-follows (27 ∷ 91 ∷ 77 ∷ n ∷ b ∷ []) b (More (ClickColumn n b)) (λ low. column_comes n b n1 n2 low small)
 follows (column_comes n x n1 n2 x1 x2) b small =
-    click-follows (27 ∷ 91 ∷ 77 ∷ n ∷ x ∷ b ∷ []) b (Whole (mouse_event (n - 32) (x - 32) (b - 32) false)) (λ low. click-stands n x b n1 n2 x1 x2 low small)
+    click-follows (27 ∷ 91 ∷ 77 ∷ n ∷ x ∷ b ∷ []) b (Whole (mouse_event (n - 32) (x - 32) (b - 32) false))
+    (λ low. click-stands n x b n1 n2 x1 x2 low small)
 follows (character_comes {alt = alt} {p = p} {bytes = bytes} h) b small =
     subst (Follows (in_character p b)) (after-snoc alt bytes b) (character-follows b h)
 
@@ -449,7 +513,8 @@ beginning-joined None = tt
 
 pub first-joined : (b : ℕ) → IsJoined (first b false)
 unfolding first
-first-joined b = if-joined (b == 27) _ _ tt (if-joined (nat_le b 31 || (b == 127)) _ _ tt (if-joined (lies_in 32 126 b) _ _ tt (beginning-joined (begun b false))))
+first-joined b = if-joined (b == 27) _ _ tt (if-joined (nat_le b 31 || (b == 127)) _ _ tt
+    (if-joined (lies_in 32 126 b) _ _ tt (beginning-joined (begun b false))))
 
 -- what has come, where nothing goes on with it
 abbrev pub IsCut : Option Event → State → List ℕ → Type 0

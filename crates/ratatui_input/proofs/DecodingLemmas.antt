@@ -1,5 +1,6 @@
 -- Laws of the decoder.
-use Rattle.std.proofs.Common.{◌≡◌, ◌≢◌, ℕ, ◌≤◌, Bool, true, false, List, [], ◌∷◌, ◌++◌, Option, Some, None, length, refl, ap, sym, ◌∙◌, append_assoc, arith}
+use Rattle.std.proofs.Common.{◌≡◌, ◌≢◌, ℕ, ◌≤◌, Bool, true, false, List, [], ◌∷◌, ◌++◌, Option, Some, None, length, refl, ap, sym}
+use Rattle.std.proofs.Common.{◌∙◌, append_assoc, arith}
 use Rattle.std.specs.Prelude.{◌==◌, if◌then◌else◌}
 use Rattle.std.proofs.lemmas.Bool.Decides.{nat_tests}
 use Rattle.ratatui_events.specs.declared.event.Event.{Event}
@@ -8,13 +9,16 @@ use Rattle.ratatui_events.specs.declared.key.KeyCode.TheVariants.{Esc}
 use Rattle.ratatui_events.specs.Key.{pressed, held}
 use Rattle.ratatui_input.specs.declared.decoder.Decoder.{Decoder}
 use Rattle.ratatui_input.specs.declared.decoder.State.{State}
-use Rattle.ratatui_input.specs.declared.decoder.State.TheVariants.{Ground, Escape, Single, Bracket, Function, Numbers, Click, ClickButton, ClickColumn, Character}
+use Rattle.ratatui_input.specs.declared.decoder.State.TheVariants.{Ground, Escape, Single, Bracket, Function, Numbers, Click}
+use Rattle.ratatui_input.specs.declared.decoder.State.TheVariants.{ClickButton, ClickColumn, Character}
 use Rattle.ratatui_input.specs.declared.decoder.Next.{Next}
 use Rattle.ratatui_input.specs.declared.decoder.Next.TheVariants.{Whole, More, Apart}
 use Rattle.ratatui_input.specs.Keys.{with_alt, typed_key}
 use Rattle.ratatui_input.specs.Sequences.{pushed}
-use Rattle.ratatui_input.specs.Decoding.{Told, stepped, first, after_escape, after_bracket, in_sequence, after_single, after_function, in_character, after_click, cut, read}
-use Rattle.ratatui_input.specs.Decoding.{told_event, fresh, after_cut, byte_told, fed_next, decoded, next_told, escaped, some_list, settled, settled_single}
+use Rattle.ratatui_input.specs.Decoding.{Told, stepped, first, after_escape, after_bracket, in_sequence, after_single}
+use Rattle.ratatui_input.specs.Decoding.{after_function, in_character, after_click, cut, read}
+use Rattle.ratatui_input.specs.Decoding.{told_event, fresh, after_cut, byte_told, fed_next, decoded, next_told, escaped}
+use Rattle.ratatui_input.specs.Decoding.{some_list, settled, settled_single}
 use Rattle.ratatui_input.specs.Encodings.{fresh_decoder, settled_after}
 
 -- bytes in two pieces give what they give at once
@@ -23,11 +27,14 @@ unfolding decoded
 decoded-append d [] b = refl
 decoded-append d (x ∷ a) b =
     ap (λ (t : Told). ((byte_told d x).0 ++ t.0, t.1)) (decoded-append (byte_told d x).1 a b)
-    ∙ ap (λ (es : List Event). (es, (decoded (decoded (byte_told d x).1 a).1 b).1)) (sym (append_assoc (byte_told d x).0 (decoded (byte_told d x).1 a).0 (decoded (decoded (byte_told d x).1 a).1 b).0))
+    ∙ ap (λ (es : List Event). (es, (decoded (decoded (byte_told d x).1 a).1 b).1))
+    (sym (append_assoc (byte_told d x).0 (decoded (byte_told d x).1 a).0 (decoded (decoded (byte_told d x).1 a).1 b).0))
 
 -- whatever has come, ESC begins anew
-pub fed-escape : (state : State) (is_pasting : Bool) → byte_told (record { state = state; is_pasting = is_pasting }) 27 ≡ escaped (cut state) is_pasting
-unfolding byte_told stepped first after_escape after_bracket in_sequence after_single after_function in_character after_click cut pushed
+pub fed-escape : (state : State) (is_pasting : Bool) → byte_told (record { state = state; is_pasting = is_pasting }) 27 ≡ escaped
+    (cut state) is_pasting
+unfolding byte_told stepped first after_escape after_bracket in_sequence after_single after_function in_character after_click cut
+    pushed
 fed-escape Ground p = refl
 fed-escape Escape p = refl
 fed-escape (Single n) p = refl
@@ -60,7 +67,8 @@ cut-plain (Character q) = refl
 pub anew-from-escape : (state : State) (rest : List ℕ) → decoded (record { state = state; is_pasting = false }) (27 ∷ rest)
     ≡ (some_list (cut state) ++ (decoded fresh_decoder (27 ∷ rest)).0, (decoded fresh_decoder (27 ∷ rest)).1)
 unfolding decoded byte_told stepped first
-anew-from-escape state rest = ap (λ (t : Told). let r = decoded t.1 rest in (t.0 ++ r.0, r.1)) (fed-escape state false ∙ cut-plain state)
+anew-from-escape state rest = ap (λ (t : Told). let r = decoded t.1 rest in (t.0 ++ r.0, r.1)) (fed-escape state false
+    ∙ cut-plain state)
 
 -- ---- at most two events
 
@@ -90,7 +98,13 @@ other-number n h = grind (arith, nat_tests)
 single-others : (n : ℕ) (p : Bool) → (Single n ≡ Single 0 → ⊥)
     → settled_single n (record { state = Single n; is_pasting = p }) ≡ ([], record { state = Single n; is_pasting = p })
 single-others n p z =
-    ap (λ (b : Bool). if b then told_event (with_alt (typed_key 79) true) Ground p else ([], record { state = Single n; is_pasting = p }))
+    ap (λ (b : Bool). if b then told_event (with_alt (typed_key 79) true) Ground p else (
+      [],
+      record {
+        state = Single n;
+        is_pasting = p;
+      },
+    ))
     (other-number n (λ e. z (ap Single e)))
 
 pub settled-others : (state : State) (p : Bool) → (state ≡ Escape → ⊥) → (state ≡ Bracket → ⊥) → (state ≡ Single 0 → ⊥)

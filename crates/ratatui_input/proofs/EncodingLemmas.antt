@@ -9,7 +9,8 @@ use Rattle.ratatui_input.specs.Encodings.{fresh_decoder, Gives}
 use Rattle.ratatui_input.proofs.DecodingLemmas.{decoded-append}
 
 -- what stands for events stands for them whatever follows
-pub gives-before : (a rest : List ℕ) (xs : List Event) → Gives a xs → decoded fresh_decoder (a ++ rest) ≡ (xs ++ (decoded fresh_decoder rest).0, (decoded fresh_decoder rest).1)
+pub gives-before : (a rest : List ℕ) (xs : List Event) → Gives a xs
+    → decoded fresh_decoder (a ++ rest) ≡ (xs ++ (decoded fresh_decoder rest).0, (decoded fresh_decoder rest).1)
 gives-before a rest xs h = decoded-append fresh_decoder a rest ∙ ap (λ (t : Told). next_told t rest) h.all
 
 -- and so do bytes of several events, one after the other

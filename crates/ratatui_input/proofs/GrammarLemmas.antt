@@ -1,5 +1,6 @@
 -- Each encoding is read as its event.
-use Rattle.std.proofs.Common.{◌≡◌, ◌≢◌, ◌⊎◌, inl, inr, ℕ, ◌+◌, ◌-◌, ◌*◌, min, ◌<◌, ◌≤◌, ◌^◌, Bool, true, false, List, [], ◌∷◌, ◌++◌, Option, Some, refl, ap, ◌∙◌, subst, append_assoc, arith}
+use Rattle.std.proofs.Common.{◌≡◌, ◌≢◌, ◌⊎◌, inl, inr, ℕ, ◌+◌, ◌-◌, ◌*◌, min, ◌<◌, ◌≤◌, ◌^◌, Bool, true, false, List, [], ◌∷◌}
+use Rattle.std.proofs.Common.{◌++◌, Option, Some, refl, ap, ◌∙◌, subst, append_assoc, arith}
 use Rattle.std.specs.Prelude.{nat_lt, if◌then◌else◌}
 use Rattle.std.proofs.lemmas.Bool.{cases_eq}
 use Rattle.std.proofs.lemmas.Grind.{common_steps}
@@ -15,24 +16,34 @@ use Rattle.ratatui_events.specs.declared.mouse.MouseEventKind.{MouseEventKind}
 use Rattle.ratatui_events.specs.declared.mouse.MouseEvent.{MouseEvent}
 use Rattle.ratatui_events.specs.Key.{pressed, held}
 use Rattle.ratatui_input.specs.declared.decoder.State.{State}
-use Rattle.ratatui_input.specs.declared.decoder.State.TheVariants.{Bracket, Function, Single, Click, ClickButton, ClickColumn, Numbers}
+use Rattle.ratatui_input.specs.declared.decoder.State.TheVariants.{Bracket, Function, Single, Click, ClickButton, ClickColumn}
+use Rattle.ratatui_input.specs.declared.decoder.State.TheVariants.{Numbers}
 use Rattle.ratatui_input.specs.declared.decoder.Next.TheVariants.{Whole, More}
 use Rattle.ratatui_input.specs.declared.sequence.Sequence.{Sequence}
 use Rattle.ratatui_input.specs.declared.sequence.Source.TheVariants.{Keys, Mouse as FromMouse}
 use Rattle.ratatui_input.specs.Keys.{key_at, code_key, tab_key}
 use Rattle.ratatui_input.specs.Mouse.{mouse_kind, mouse_event, kind_told}
-use Rattle.ratatui_input.specs.Sequences.{sequence_event, keys_event, pointer_event, tilde_event, code_event, code_key_event, pushed, digit_pushed, size_event, position_event, letter_event, single_event, key_event, kind_of}
-use Rattle.ratatui_input.specs.Decoding.{Told, stepped, first, after_escape, after_bracket, in_sequence, after_single, after_function, after_click, cut, read, byte_told, decoded, some_list}
+use Rattle.ratatui_input.specs.Sequences.{sequence_event, keys_event, pointer_event, tilde_event, code_event, code_key_event}
+use Rattle.ratatui_input.specs.Sequences.{pushed, digit_pushed, size_event, position_event, letter_event, single_event, key_event}
+use Rattle.ratatui_input.specs.Sequences.{kind_of}
+use Rattle.ratatui_input.specs.Decoding.{Told, stepped, first, after_escape, after_bracket, in_sequence, after_single}
+use Rattle.ratatui_input.specs.Decoding.{after_function, after_click, cut, read, byte_told, decoded, some_list}
 use Rattle.ratatui_input.specs.Encodings.{fresh_decoder, Gives}
 use Rattle.ratatui_input.specs.KeyTables.{IsLetter, IsTilde, IsCode}
-use Rattle.ratatui_input.specs.Grammar.{Encodes, WritesNumber, Held, AreCodes, held_down, held_told, csi, two_numbers, three_numbers, key_told, letter_told, code_told, mouse_told}
-use Rattle.ratatui_input.specs.Grammar.{character, control, alt_character, alt_control, by_letter, by_letter_held, by_single, single_enter, by_console}
-use Rattle.ratatui_input.specs.Grammar.{by_tilde, by_tilde_held, by_code, by_code_held, by_codes, by_other, by_numbers_down, by_numbers_up, by_bytes, by_plain_numbers}
+use Rattle.ratatui_input.specs.Grammar.{Encodes, WritesNumber, Held, AreCodes, held_down, held_told, csi, two_numbers}
+use Rattle.ratatui_input.specs.Grammar.{three_numbers, key_told, letter_told, code_told, mouse_told}
+use Rattle.ratatui_input.specs.Grammar.{character, control, alt_character, alt_control, by_letter, by_letter_held, by_single}
+use Rattle.ratatui_input.specs.Grammar.{single_enter, by_console}
+use Rattle.ratatui_input.specs.Grammar.{by_tilde, by_tilde_held, by_code, by_code_held, by_codes, by_other, by_numbers_down}
+use Rattle.ratatui_input.specs.Grammar.{by_numbers_up, by_bytes, by_plain_numbers}
 use Rattle.ratatui_input.specs.Grammar.{focus_gained, focus_lost, size, position}
 use Rattle.ratatui_input.proofs.DecodingLemmas.{anew-from-escape}
 use Rattle.ratatui_input.proofs.EncodingLemmas.{gives-before, gives-append}
-use Rattle.ratatui_input.proofs.TableLemmas.{seq, EndsSequence, letter-alone, letter-held, letter-single, letter-ends, letter-is, tilde-told, tilde-small, code-told, code-small, key-is}
-use Rattle.ratatui_input.proofs.StepLemmas.{at, Leads, leads-none, leads-one, leads-cons, leads-append, IsPlain, ends-plain, csi-alone, csi-gives, single-read, bracket-two, bracket-colon, second-after, bracket-three, mouse-three, kind-read, digit_of}
+use Rattle.ratatui_input.proofs.TableLemmas.{seq, EndsSequence, letter-alone, letter-held, letter-single, letter-ends, letter-is}
+use Rattle.ratatui_input.proofs.TableLemmas.{tilde-told, tilde-small, code-told, code-small, key-is}
+use Rattle.ratatui_input.proofs.StepLemmas.{at, Leads, leads-none, leads-one, leads-cons, leads-append, IsPlain, ends-plain}
+use Rattle.ratatui_input.proofs.StepLemmas.{csi-alone, csi-gives, single-read, bracket-two, bracket-colon, second-after}
+use Rattle.ratatui_input.proofs.StepLemmas.{bracket-three, mouse-three, kind-read, digit_of}
 use Rattle.ratatui_input.proofs.CharacterLemmas.{character-gives, alt-character-gives, control-gives, alt-control-gives}
 
 key-plain : (key : KeyEvent) → IsPlain (Key key)
@@ -71,7 +82,8 @@ record HeldRead (body : List ℕ) (n m : ℕ) (kind : KeyEventKind) : Type 0 whe
   leads : Leads Bracket body (Numbers (seq Keys 1 parts n m 0 number))
   is : kind_of number ≡ kind
 
-held-read : {ds tail : List ℕ} {n m : ℕ} {kind : KeyEventKind} → WritesNumber ds n → n < 2 ^ 32 → Held tail m kind → m ≤ 256 → HeldRead (ds ++ tail) n m kind
+held-read : {ds tail : List ℕ} {n m : ℕ} {kind : KeyEventKind} → WritesNumber ds n → n < 2 ^ 32 → Held tail m kind → m ≤ 256
+    → HeldRead (ds ++ tail) n m kind
 held-read {ds = ds} {n = n} {m = m} w small (held_down {es = es} v) low =
     record { parts = 0; number = 0; leads = bracket-two ds es n m w small v (omega arith); is = refl }
 held-read {ds = ds} {n = n} {m = m} w small (held_told {es = es} {ks = ks} {k = k} v u tiny) low = record {
@@ -83,11 +95,14 @@ held-read {ds = ds} {n = n} {m = m} w small (held_told {es = es} {ks = ks} {k = 
   is = refl;
 }
 
-letter-read : {b n : ℕ} {code : KeyCode} {ds : List ℕ} → IsLetter b code → WritesNumber ds n → n ≤ 256 → Gives (csi ds b) (letter_told code n Press ∷ [])
+letter-read : {b n : ℕ} {code : KeyCode} {ds : List ℕ} → IsLetter b code → WritesNumber ds n → n ≤ 256
+    → Gives (csi ds b) (letter_told code n Press ∷ [])
 letter-read {b = b} {n = n} {code = code} {ds = ds} letter w small =
-    csi-alone ds n b (letter_told code n Press) w (omega arith) (letter-ends letter) (letter-alone letter n ∙ letter-is letter 0 n small) (key-plain _)
+    csi-alone ds n b (letter_told code n Press) w (omega arith) (letter-ends letter) (letter-alone letter n
+    ∙ letter-is letter 0 n small) (key-plain _)
 
-letter-held-read : {b m : ℕ} {code : KeyCode} {ds tail : List ℕ} {kind : KeyEventKind} → IsLetter b code → WritesNumber ds 1 → Held tail m kind → m ≤ 256
+letter-held-read : {b m : ℕ} {code : KeyCode} {ds tail : List ℕ} {kind : KeyEventKind} → IsLetter b code → WritesNumber ds 1
+    → Held tail m kind → m ≤ 256
     → Gives (csi (ds ++ tail) b) (letter_told code m kind ∷ [])
 letter-held-read {b = b} {m = m} {code = code} {ds = ds} {tail = tail} {kind = kind} letter w h small =
     let r = held-read w (omega arith) h small in
@@ -103,25 +118,30 @@ single-last : (n b : ℕ) → 64 ≤ b → b ≤ 126 → stepped (Single n) b �
 unfolding stepped after_single
 single-last n b low high = grind (arith, common_steps)
 
-single-gives : (ds : List ℕ) (n b : ℕ) (event : Event) → WritesNumber ds n → n < 2 ^ 32 → 64 ≤ b → b ≤ 126 → single_event n b ≡ event → IsPlain event
+single-gives : (ds : List ℕ) (n b : ℕ) (event : Event) → WritesNumber ds n → n < 2 ^ 32 → 64 ≤ b → b ≤ 126
+    → single_event n b ≡ event → IsPlain event
     → Gives (27 ∷ 79 ∷ (ds ++ (b ∷ []))) (event ∷ [])
 single-gives ds n b event w small low high e plain = record {
-  all = single-reached (ds ++ (b ∷ [])) ∙ Leads.to (single-read ds n w small) false (b ∷ []) ∙ ends-plain (Single n) b event (single-last n b low high ∙ ap Whole e) plain;
+  all = single-reached (ds ++ (b ∷ [])) ∙ Leads.to (single-read ds n w small) false (b ∷ [])
+      ∙ ends-plain (Single n) b event (single-last n b low high ∙ ap Whole e) plain;
 }
 
 single-read-letter : {b n : ℕ} {code : KeyCode} {ds : List ℕ} → IsLetter b code → WritesNumber ds n → n ≤ 256
     → Gives (27 ∷ 79 ∷ (ds ++ (b ∷ []))) (letter_told code n Press ∷ [])
 single-read-letter {b = b} {n = n} {code = code} {ds = ds} letter w small =
     let ending = letter-ends letter in
-    single-gives ds n b (letter_told code n Press) w (omega arith) ending.low ending.high (letter-single letter n ∙ letter-is letter 0 n small) (key-plain _)
+    single-gives ds n b (letter_told code n Press) w (omega arith) ending.low ending.high (letter-single letter n
+    ∙ letter-is letter 0 n small) (key-plain _)
 
 enter-told : (n : ℕ) → single_event n 77 ≡ key_event 0 Enter false n
 unfolding single_event letter_event key_at
 enter-told n = refl
 
-single-read-enter : {n : ℕ} {ds : List ℕ} → WritesNumber ds n → n ≤ 256 → Gives (27 ∷ 79 ∷ (ds ++ (77 ∷ []))) (key_told Enter false n Press ∷ [])
+single-read-enter : {n : ℕ} {ds : List ℕ} → WritesNumber ds n → n ≤ 256
+    → Gives (27 ∷ 79 ∷ (ds ++ (77 ∷ []))) (key_told Enter false n Press ∷ [])
 single-read-enter {n = n} {ds = ds} w small =
-    single-gives ds n 77 (key_told Enter false n Press) w (omega arith) (omega arith) (omega arith) (enter-told n ∙ key-is 0 Enter false n small) (key-plain _)
+    single-gives ds n 77 (key_told Enter false n Press) w (omega arith) (omega arith) (omega arith)
+    (enter-told n ∙ key-is 0 Enter false n small) (key-plain _)
 
 function-reached : (rest : List ℕ) → decoded fresh_decoder (27 ∷ 91 ∷ 91 ∷ rest) ≡ decoded (at false Function) rest
 unfolding decoded byte_told stepped first after_escape after_bracket
@@ -132,20 +152,32 @@ unfolding stepped after_function
 console-last b low high = grind (arith, common_steps)
 
 console-read : (b : ℕ) → 65 ≤ b → b ≤ 69 → Gives (27 ∷ 91 ∷ 91 ∷ b ∷ []) (Key (pressed (F (b - 64)) (held 0)) ∷ [])
-console-read b low high = record { all = function-reached (b ∷ []) ∙ ends-plain Function b (Key (pressed (F (b - 64)) (held 0))) (console-last b low high) (key-plain _) }
+console-read b low high = record {
+  all = function-reached (b ∷ []) ∙ ends-plain Function b (Key (pressed (F (b - 64)) (held 0)))
+      (console-last b low high) (key-plain _);
+}
 
 tilde-ends : EndsSequence 126
-tilde-ends = record { low = omega arith; high = omega arith; no_bracket = λ e. omega (arith, e); no_click = λ e. omega (arith, e) }
+tilde-ends = record {
+  low = omega arith;
+  high = omega arith;
+  no_bracket = λ e. omega (arith, e);
+  no_click = λ e. omega (arith, e);
+}
 
-tilde-read : {n : ℕ} {code : KeyCode} {ds : List ℕ} → IsTilde n code → WritesNumber ds n → Gives (csi ds 126) (key_told code false 0 Press ∷ [])
+tilde-read : {n : ℕ} {code : KeyCode} {ds : List ℕ} → IsTilde n code → WritesNumber ds n
+    → Gives (csi ds 126) (key_told code false 0 Press ∷ [])
 tilde-read {n = n} {code = code} {ds = ds} tilde w =
-    csi-alone ds n 126 (key_told code false 0 Press) w (tilde-small tilde) tilde-ends (tilde-told tilde 0 0 0 0 0 ∙ key-is 0 code false 0 (omega arith)) (key-plain _)
+    csi-alone ds n 126 (key_told code false 0 Press) w (tilde-small tilde) tilde-ends (tilde-told tilde 0 0 0 0 0
+    ∙ key-is 0 code false 0 (omega arith)) (key-plain _)
 
-tilde-held-read : {n m : ℕ} {code : KeyCode} {ds tail : List ℕ} {kind : KeyEventKind} → IsTilde n code → WritesNumber ds n → Held tail m kind → m ≤ 256
+tilde-held-read : {n m : ℕ} {code : KeyCode} {ds tail : List ℕ} {kind : KeyEventKind} → IsTilde n code → WritesNumber ds n
+    → Held tail m kind → m ≤ 256
     → Gives (csi (ds ++ tail) 126) (key_told code false m kind ∷ [])
 tilde-held-read {n = n} {m = m} {code = code} {ds = ds} {tail = tail} {kind = kind} tilde w h small =
     let r = held-read w (tilde-small tilde) h small in
-    csi-gives (ds ++ tail) (seq Keys 1 r.parts n m 0 r.number) 126 (key_told code false m kind) r.leads (omega arith) (omega arith)
+    csi-gives (ds ++ tail) (seq Keys 1 r.parts n m 0 r.number) 126 (key_told code false m kind) r.leads (omega arith)
+    (omega arith)
     (tilde-told tilde 1 r.parts m 0 r.number ∙ key-is r.number code false m small ∙ ap (key_told code false m) r.is) (key-plain _)
 
 code-event-is : {n : ℕ} {code : KeyCode} {is_keypad : Bool} → IsCode n code is_keypad → (k m : ℕ) → m ≤ 256
@@ -167,13 +199,16 @@ code-ends = record { low = omega arith; high = omega arith; no_bracket = λ e. o
 code-read : {n : ℕ} {code : KeyCode} {is_keypad : Bool} {ds : List ℕ} → IsCode n code is_keypad → WritesNumber ds n
     → Gives (csi ds 117) (code_told code is_keypad 0 Press ∷ [])
 code-read {n = n} {code = code} {is_keypad = is_keypad} {ds = ds} h w =
-    csi-alone ds n 117 (code_told code is_keypad 0 Press) w (code-small h) code-ends (code-first 0 0 n 0 0 0 ∙ code-event-is h 0 0 (omega arith)) (key-plain _)
+    csi-alone ds n 117 (code_told code is_keypad 0 Press) w (code-small h) code-ends (code-first 0 0 n 0 0 0
+    ∙ code-event-is h 0 0 (omega arith)) (key-plain _)
 
-code-held-read : {n m : ℕ} {code : KeyCode} {is_keypad : Bool} {ds tail : List ℕ} {kind : KeyEventKind} → IsCode n code is_keypad → WritesNumber ds n → Held tail m kind
+code-held-read : {n m : ℕ} {code : KeyCode} {is_keypad : Bool} {ds tail : List ℕ} {kind : KeyEventKind} → IsCode n code is_keypad
+    → WritesNumber ds n → Held tail m kind
     → m ≤ 256 → Gives (csi (ds ++ tail) 117) (code_told code is_keypad m kind ∷ [])
 code-held-read {n = n} {m = m} {code = code} {is_keypad = is_keypad} {ds = ds} {tail = tail} {kind = kind} c w h small =
     let r = held-read w (code-small c) h small in
-    csi-gives (ds ++ tail) (seq Keys 1 r.parts n m 0 r.number) 117 (code_told code is_keypad m kind) r.leads (omega arith) (omega arith)
+    csi-gives (ds ++ tail) (seq Keys 1 r.parts n m 0 r.number) 117 (code_told code is_keypad m kind) r.leads (omega arith)
+    (omega arith)
     (code-first 1 r.parts n m 0 r.number ∙ code-event-is c r.number m small ∙ ap (code_told code is_keypad m) r.is) (key-plain _)
 
 -- ---- further codes, which are read over
@@ -183,11 +218,13 @@ record CodesRead (n : ℕ) (parts : ℕ) (bytes : List ℕ) : Type 0 where
   low : 1 ≤ to
   leads : Leads (Numbers (seq Keys 0 parts n 0 0 0)) bytes (Numbers (seq Keys 0 to n 0 0 0))
 
-code-digit : (n parts b : ℕ) → 1 ≤ parts → 48 ≤ b → b ≤ 57 → stepped (Numbers (seq Keys 0 parts n 0 0 0)) b ≡ More (Numbers (seq Keys 0 parts n 0 0 0))
+code-digit : (n parts b : ℕ) → 1 ≤ parts → 48 ≤ b → b ≤ 57
+    → stepped (Numbers (seq Keys 0 parts n 0 0 0)) b ≡ More (Numbers (seq Keys 0 parts n 0 0 0))
 unfolding stepped in_sequence pushed digit_pushed
 code-digit n parts b h low high = grind (arith, nat_tests)
 
-code-colon : (n parts : ℕ) → stepped (Numbers (seq Keys 0 parts n 0 0 0)) 58 ≡ More (Numbers (seq Keys 0 (if nat_lt parts 2 then parts + 1 else 2) n 0 0 0))
+code-colon : (n parts : ℕ) → stepped (Numbers (seq Keys 0 parts n 0 0 0)) 58 ≡ More
+    (Numbers (seq Keys 0 (if nat_lt parts 2 then parts + 1 else 2) n 0 0 0))
 unfolding stepped in_sequence pushed
 code-colon n parts = refl
 
@@ -203,15 +240,18 @@ codes-read (b ∷ bs) n parts h low =
           record {
             to = rest.to;
             low = rest.low;
-            leads = leads-cons (Numbers (seq Keys 0 parts n 0 0 0)) (Numbers (seq Keys 0 (if nat_lt parts 2 then parts + 1 else 2) n 0 0 0))
-                (Numbers (seq Keys 0 rest.to n 0 0 0)) b bs (ap (stepped (Numbers (seq Keys 0 parts n 0 0 0))) e ∙ code-colon n parts) rest.leads;
+            leads = leads-cons (Numbers (seq Keys 0 parts n 0 0 0))
+                (Numbers (seq Keys 0 (if nat_lt parts 2 then parts + 1 else 2) n 0 0 0))
+                (Numbers (seq Keys 0 rest.to n 0 0 0)) b bs (ap (stepped (Numbers (seq Keys 0 parts n 0 0 0))) e
+                ∙ code-colon n parts) rest.leads;
           }
       | inr other ↦
           let rest = codes-read bs n parts h.2 low in
           record {
             to = rest.to;
             low = rest.low;
-            leads = leads-cons (Numbers (seq Keys 0 parts n 0 0 0)) (Numbers (seq Keys 0 parts n 0 0 0)) (Numbers (seq Keys 0 rest.to n 0 0 0)) b bs
+            leads = leads-cons (Numbers (seq Keys 0 parts n 0 0 0)) (Numbers (seq Keys 0 parts n 0 0 0))
+                (Numbers (seq Keys 0 rest.to n 0 0 0)) b bs
                 (code-digit n parts b low h.0 (omega (arith, h.1, other))) rest.leads;
           }
     ]
@@ -223,13 +263,15 @@ record HeldAfter (from : Sequence) (tail : List ℕ) (n m : ℕ) (kind : KeyEven
   leads : Leads (Numbers from) tail (Numbers (seq Keys 1 parts n m 0 number))
   is : kind_of number ≡ kind
 
-held-after : {tail : List ℕ} {m : ℕ} {kind : KeyEventKind} (n parts : ℕ) → Held tail m kind → m ≤ 256 → HeldAfter (seq Keys 0 parts n 0 0 0) tail n m kind
+held-after : {tail : List ℕ} {m : ℕ} {kind : KeyEventKind} (n parts : ℕ) → Held tail m kind → m ≤ 256
+    → HeldAfter (seq Keys 0 parts n 0 0 0) tail n m kind
 held-after {m = m} n parts (held_down {es = es} v) low =
     record { parts = 0; number = 0; leads = second-after parts n es m v (omega arith); is = refl }
 held-after {m = m} n parts (held_told {es = es} {ks = ks} {k = k} v u tiny) low = record {
   parts = 1;
   number = k;
-  leads = leads-append (Numbers (seq Keys 0 parts n 0 0 0)) (Numbers (seq Keys 1 0 n m 0 0)) (Numbers (seq Keys 1 1 n m 0 k)) (59 ∷ es) (58 ∷ ks)
+  leads = leads-append (Numbers (seq Keys 0 parts n 0 0 0)) (Numbers (seq Keys 1 0 n m 0 0)) (Numbers (seq Keys 1 1 n m 0 k))
+      (59 ∷ es) (58 ∷ ks)
       (second-after parts n es m v (omega arith)) (kind-read n m ks k u (omega arith));
   is = refl;
 }
@@ -240,15 +282,18 @@ record TextRead (from : Sequence) (bytes : List ℕ) (n m k : ℕ) : Type 0 wher
   third : ℕ
   leads : Leads (Numbers from) bytes (Numbers (seq Keys 2 parts n m third k))
 
-text-first : (n m k t b : ℕ) → 48 ≤ b → b ≤ 57 → stepped (Numbers (seq Keys 2 0 n m t k)) b ≡ More (Numbers (seq Keys 2 0 n m (min (t * 10 + (b - 48)) (2 ^ 32 - 1)) k))
+text-first : (n m k t b : ℕ) → 48 ≤ b → b ≤ 57
+    → stepped (Numbers (seq Keys 2 0 n m t k)) b ≡ More (Numbers (seq Keys 2 0 n m (min (t * 10 + (b - 48)) (2 ^ 32 - 1)) k))
 unfolding stepped in_sequence pushed digit_pushed
 text-first n m k t b low high = grind (arith, common_steps, digit_of b low high)
 
-text-other : (n m k t p b : ℕ) → p ≢ 0 → 48 ≤ b → b ≤ 57 → stepped (Numbers (seq Keys 2 p n m t k)) b ≡ More (Numbers (seq Keys 2 p n m t k))
+text-other : (n m k t p b : ℕ) → p ≢ 0 → 48 ≤ b → b ≤ 57
+    → stepped (Numbers (seq Keys 2 p n m t k)) b ≡ More (Numbers (seq Keys 2 p n m t k))
 unfolding stepped in_sequence pushed digit_pushed
 text-other n m k t p b h low high = grind (arith, nat_tests)
 
-text-colon : (n m k t p : ℕ) → stepped (Numbers (seq Keys 2 p n m t k)) 58 ≡ More (Numbers (seq Keys 2 (if nat_lt p 2 then p + 1 else 2) n m t k))
+text-colon : (n m k t p : ℕ) → stepped (Numbers (seq Keys 2 p n m t k)) 58 ≡ More
+    (Numbers (seq Keys 2 (if nat_lt p 2 then p + 1 else 2) n m t k))
 unfolding stepped in_sequence pushed
 text-colon n m k t p = refl
 
@@ -262,7 +307,8 @@ text-read (b ∷ bs) n m k t p h =
             parts = rest.parts;
             third = rest.third;
             leads = leads-cons (Numbers (seq Keys 2 p n m t k)) (Numbers (seq Keys 2 (if nat_lt p 2 then p + 1 else 2) n m t k))
-                (Numbers (seq Keys 2 rest.parts n m rest.third k)) b bs (ap (stepped (Numbers (seq Keys 2 p n m t k))) e ∙ text-colon n m k t p) rest.leads;
+                (Numbers (seq Keys 2 rest.parts n m rest.third k)) b bs (ap (stepped (Numbers (seq Keys 2 p n m t k))) e
+                ∙ text-colon n m k t p) rest.leads;
           }
       | inr other ↦ elim (cases_eq p 0) [
         | inl zero_parts ↦
@@ -270,16 +316,19 @@ text-read (b ∷ bs) n m k t p h =
             record {
               parts = rest.parts;
               third = rest.third;
-              leads = leads-cons (Numbers (seq Keys 2 p n m t k)) (Numbers (seq Keys 2 0 n m (min (t * 10 + (b - 48)) (2 ^ 32 - 1)) k))
+              leads = leads-cons (Numbers (seq Keys 2 p n m t k))
+                  (Numbers (seq Keys 2 0 n m (min (t * 10 + (b - 48)) (2 ^ 32 - 1)) k))
                   (Numbers (seq Keys 2 rest.parts n m rest.third k)) b bs
-                  (ap (λ (q : ℕ). stepped (Numbers (seq Keys 2 q n m t k)) b) zero_parts ∙ text-first n m k t b h.0 (omega (arith, h.1, other))) rest.leads;
+                  (ap (λ (q : ℕ). stepped (Numbers (seq Keys 2 q n m t k)) b) zero_parts
+                  ∙ text-first n m k t b h.0 (omega (arith, h.1, other))) rest.leads;
             }
         | inr some_parts ↦
             let rest = text-read bs n m k t p h.2 in
             record {
               parts = rest.parts;
               third = rest.third;
-              leads = leads-cons (Numbers (seq Keys 2 p n m t k)) (Numbers (seq Keys 2 p n m t k)) (Numbers (seq Keys 2 rest.parts n m rest.third k)) b bs
+              leads = leads-cons (Numbers (seq Keys 2 p n m t k)) (Numbers (seq Keys 2 p n m t k))
+                  (Numbers (seq Keys 2 rest.parts n m rest.third k)) b bs
                   (text-other n m k t p b some_parts h.0 (omega (arith, h.1, other))) rest.leads;
             }
       ]
@@ -289,13 +338,16 @@ text-begins : (p n m k : ℕ) → stepped (Numbers (seq Keys 1 p n m 0 k)) 59 �
 unfolding stepped in_sequence pushed
 text-begins p n m k = refl
 
-whole-codes : (ds codes tail text : List ℕ) → (ds ++ (58 ∷ [])) ++ (codes ++ (tail ++ (59 ∷ text))) ≡ ds ++ (58 ∷ (codes ++ (tail ++ (59 ∷ text))))
+whole-codes : (ds codes tail text : List ℕ)
+    → (ds ++ (58 ∷ [])) ++ (codes ++ (tail ++ (59 ∷ text))) ≡ ds ++ (58 ∷ (codes ++ (tail ++ (59 ∷ text))))
 whole-codes ds codes tail text = append_assoc ds (58 ∷ []) (codes ++ (tail ++ (59 ∷ text)))
 
-codes-held-read : {n m : ℕ} {code : KeyCode} {is_keypad : Bool} {ds tail : List ℕ} {kind : KeyEventKind} (codes text : List ℕ) → IsCode n code is_keypad → WritesNumber ds n
+codes-held-read : {n m : ℕ} {code : KeyCode} {is_keypad : Bool} {ds tail : List ℕ} {kind : KeyEventKind} (codes text : List ℕ)
+    → IsCode n code is_keypad → WritesNumber ds n
     → AreCodes codes → Held tail m kind → m ≤ 256 → AreCodes text
     → Gives (csi (ds ++ (58 ∷ (codes ++ (tail ++ (59 ∷ text))))) 117) (code_told code is_keypad m kind ∷ [])
-codes-held-read {n = n} {m = m} {code = code} {is_keypad = is_keypad} {ds = ds} {tail = tail} {kind = kind} codes text c w further_codes h small text_codes =
+codes-held-read {n = n} {m = m} {code = code} {is_keypad = is_keypad} {ds = ds} {tail = tail} {kind = kind} codes text c w
+    further_codes h small text_codes =
     let r = codes-read codes n 1 further_codes (omega arith) in
     let held_part = held-after n r.to h small in
     let last = text-read text n m held_part.number 0 0 text_codes in
@@ -305,23 +357,30 @@ codes-held-read {n = n} {m = m} {code = code} {is_keypad = is_keypad} {ds = ds} 
     let last_state = Numbers (seq Keys 2 last.parts n m last.third held_part.number) in
     let body : Leads Bracket (ds ++ (58 ∷ (codes ++ (tail ++ (59 ∷ text))))) last_state =
     subst (λ (bs : List ℕ). Leads Bracket bs last_state) (whole-codes ds codes tail text)
-    (leads-append Bracket first_state last_state (ds ++ (58 ∷ [])) (codes ++ (tail ++ (59 ∷ text))) (bracket-colon ds n w (code-small c))
+    (leads-append Bracket first_state last_state (ds ++ (58 ∷ [])) (codes ++ (tail ++ (59 ∷ text)))
+    (bracket-colon ds n w (code-small c))
     (leads-append first_state codes_state last_state codes (tail ++ (59 ∷ text)) r.leads
     (leads-append codes_state held_state last_state tail (59 ∷ text) held_part.leads
-    (leads-cons held_state (Numbers (seq Keys 2 0 n m 0 held_part.number)) last_state 59 text (text-begins held_part.parts n m held_part.number) last.leads)))) in
-    csi-gives (ds ++ (58 ∷ (codes ++ (tail ++ (59 ∷ text))))) (seq Keys 2 last.parts n m last.third held_part.number) 117 (code_told code is_keypad m kind) body
+    (leads-cons held_state (Numbers (seq Keys 2 0 n m 0 held_part.number)) last_state 59 text
+    (text-begins held_part.parts n m held_part.number) last.leads)))) in
+    csi-gives (ds ++ (58 ∷ (codes ++ (tail ++ (59 ∷ text))))) (seq Keys 2 last.parts n m last.third held_part.number) 117
+    (code_told code is_keypad m kind) body
     (omega arith) (omega arith)
-    (code-first 2 last.parts n m last.third held_part.number ∙ code-event-is c held_part.number m small ∙ ap (code_told code is_keypad m) held_part.is) (key-plain _)
+    (code-first 2 last.parts n m last.third held_part.number ∙ code-event-is c held_part.number m small
+    ∙ ap (code_told code is_keypad m) held_part.is) (key-plain _)
 
-other-read : {n m : ℕ} {code : KeyCode} {is_keypad : Bool} {ds es fs : List ℕ} → IsCode n code is_keypad → WritesNumber ds 27 → WritesNumber es m → m ≤ 256 → WritesNumber fs n
+other-read : {n m : ℕ} {code : KeyCode} {is_keypad : Bool} {ds es fs : List ℕ} → IsCode n code is_keypad → WritesNumber ds 27
+    → WritesNumber es m → m ≤ 256 → WritesNumber fs n
     → Gives (csi (three_numbers ds es fs) 126) (code_told code is_keypad m Press ∷ [])
 other-read {n = n} {m = m} {code = code} {is_keypad = is_keypad} {ds = ds} {es = es} {fs = fs} c w v small u =
     csi-gives (three_numbers ds es fs) (seq Keys 2 0 27 m n 0) 126 (code_told code is_keypad m Press)
-    (bracket-three ds es fs 27 m n w (omega arith) v (omega arith) u (code-small c)) (omega arith) (omega arith) (code-third n m ∙ code-event-is c 0 m small) (key-plain _)
+    (bracket-three ds es fs 27 m n w (omega arith) v (omega arith) u (code-small c)) (omega arith) (omega arith)
+    (code-third n m ∙ code-event-is c 0 m small) (key-plain _)
 
 -- ---- the mouse
 
-pub mouse-is : (n x y : ℕ) (is_up : Bool) (kind : MouseEventKind) → n ≤ 255 → x ≤ 65535 → y ≤ 65535 → mouse_kind n is_up ≡ Some kind
+pub mouse-is : (n x y : ℕ) (is_up : Bool) (kind : MouseEventKind) → n ≤ 255 → x ≤ 65535 → y ≤ 65535
+    → mouse_kind n is_up ≡ Some kind
     → mouse_event n x y is_up ≡ mouse_told kind n x y
 unfolding mouse_event
 mouse-is n x y is_up kind a b c e =
@@ -340,19 +399,24 @@ plain-numbers : (n x y : ℕ) → sequence_event (seq Keys 2 0 (n + 32) x y 0) 7
 unfolding sequence_event keys_event
 plain-numbers n x y = grind (arith, nat_tests)
 
-down-read : {n x y : ℕ} {ds es fs : List ℕ} {kind : MouseEventKind} → WritesNumber ds n → WritesNumber es x → WritesNumber fs y → n ≤ 255 → x ≤ 65535 → y ≤ 65535
+down-read : {n x y : ℕ} {ds es fs : List ℕ} {kind : MouseEventKind} → WritesNumber ds n → WritesNumber es x → WritesNumber fs y
+    → n ≤ 255 → x ≤ 65535 → y ≤ 65535
     → mouse_kind n false ≡ Some kind → Gives (csi (60 ∷ three_numbers ds es fs) 77) (mouse_told kind n x y ∷ [])
 down-read {n = n} {x = x} {y = y} {ds = ds} {es = es} {fs = fs} {kind = kind} w v u a b c e =
     csi-gives (60 ∷ three_numbers ds es fs) (seq FromMouse 2 0 n x y 0) 77 (mouse_told kind n x y)
-    (mouse-three ds es fs n x y w (omega arith) v (less x b) u (less y c)) (omega arith) (omega arith) (pointer-down n x y ∙ mouse-is n x y false kind a b c e) (mouse-plain _)
+    (mouse-three ds es fs n x y w (omega arith) v (less x b) u (less y c)) (omega arith) (omega arith)
+    (pointer-down n x y ∙ mouse-is n x y false kind a b c e) (mouse-plain _)
 
-up-read : {n x y : ℕ} {ds es fs : List ℕ} {kind : MouseEventKind} → WritesNumber ds n → WritesNumber es x → WritesNumber fs y → n ≤ 255 → x ≤ 65535 → y ≤ 65535
+up-read : {n x y : ℕ} {ds es fs : List ℕ} {kind : MouseEventKind} → WritesNumber ds n → WritesNumber es x → WritesNumber fs y
+    → n ≤ 255 → x ≤ 65535 → y ≤ 65535
     → mouse_kind n true ≡ Some kind → Gives (csi (60 ∷ three_numbers ds es fs) 109) (mouse_told kind n x y ∷ [])
 up-read {n = n} {x = x} {y = y} {ds = ds} {es = es} {fs = fs} {kind = kind} w v u a b c e =
     csi-gives (60 ∷ three_numbers ds es fs) (seq FromMouse 2 0 n x y 0) 109 (mouse_told kind n x y)
-    (mouse-three ds es fs n x y w (omega arith) v (less x b) u (less y c)) (omega arith) (omega arith) (pointer-up n x y ∙ mouse-is n x y true kind a b c e) (mouse-plain _)
+    (mouse-three ds es fs n x y w (omega arith) v (less x b) u (less y c)) (omega arith) (omega arith)
+    (pointer-up n x y ∙ mouse-is n x y true kind a b c e) (mouse-plain _)
 
-plain-numbers-read : {n x y : ℕ} {ds es fs : List ℕ} {kind : MouseEventKind} → WritesNumber ds (n + 32) → WritesNumber es x → WritesNumber fs y → n ≤ 255 → x ≤ 65535 → y ≤ 65535
+plain-numbers-read : {n x y : ℕ} {ds es fs : List ℕ} {kind : MouseEventKind} → WritesNumber ds (n + 32) → WritesNumber es x
+    → WritesNumber fs y → n ≤ 255 → x ≤ 65535 → y ≤ 65535
     → mouse_kind n false ≡ Some kind → Gives (csi (three_numbers ds es fs) 77) (mouse_told kind n x y ∷ [])
 plain-numbers-read {n = n} {x = x} {y = y} {ds = ds} {es = es} {fs = fs} {kind = kind} w v u a b c e =
     csi-gives (three_numbers ds es fs) (seq Keys 2 0 (n + 32) x y 0) 77 (mouse_told kind n x y)
@@ -401,30 +465,46 @@ no-digits = record { digits = tt; number = refl }
 
 gained-read : Gives (csi [] 73) (FocusGained ∷ [])
 gained-read = csi-alone [] 0 73 FocusGained no-digits (omega arith)
-    (record { low = omega arith; high = omega arith; no_bracket = λ e. omega (arith, e); no_click = λ e. omega (arith, e) }) gained-told gained-plain
+    (record {
+      low = omega arith;
+      high = omega arith;
+      no_bracket = λ e. omega (arith, e);
+      no_click = λ e. omega (arith, e);
+    }) gained-told gained-plain
 
 lost-read : Gives (csi [] 79) (FocusLost ∷ [])
 lost-read = csi-alone [] 0 79 FocusLost no-digits (omega arith)
-    (record { low = omega arith; high = omega arith; no_bracket = λ e. omega (arith, e); no_click = λ e. omega (arith, e) }) lost-told lost-plain
+    (record {
+      low = omega arith;
+      high = omega arith;
+      no_bracket = λ e. omega (arith, e);
+      no_click = λ e. omega (arith, e);
+    }) lost-told lost-plain
 
-size-told : (n rows columns : ℕ) → (n ≡ 8) ⊎ (n ≡ 48) → rows ≤ 65535 → columns ≤ 65535 → sequence_event (seq Keys 2 0 n rows columns 0) 116 ≡ Size columns rows
+size-told : (n rows columns : ℕ) → (n ≡ 8) ⊎ (n ≡ 48) → rows ≤ 65535 → columns ≤ 65535
+    → sequence_event (seq Keys 2 0 n rows columns 0) 116 ≡ Size columns rows
 unfolding sequence_event keys_event size_event
 size-told n rows columns h a b = grind (arith, nat_tests)
 
-size-read : {n rows columns : ℕ} {ds es fs : List ℕ} → WritesNumber ds n → (n ≡ 8) ⊎ (n ≡ 48) → WritesNumber es rows → rows ≤ 65535 → WritesNumber fs columns → columns ≤ 65535
+size-read : {n rows columns : ℕ} {ds es fs : List ℕ} → WritesNumber ds n → (n ≡ 8) ⊎ (n ≡ 48) → WritesNumber es rows
+    → rows ≤ 65535 → WritesNumber fs columns → columns ≤ 65535
     → Gives (csi (three_numbers ds es fs) 116) (Size columns rows ∷ [])
 size-read {n = n} {rows = rows} {columns = columns} {ds = ds} {es = es} {fs = fs} w h v a u b =
     csi-gives (three_numbers ds es fs) (seq Keys 2 0 n rows columns 0) 116 (Size columns rows)
-    (bracket-three ds es fs n rows columns w (omega (arith, h)) v (less rows a) u (less columns b)) (omega arith) (omega arith) (size-told n rows columns h a b) (size-plain columns rows)
+    (bracket-three ds es fs n rows columns w (omega (arith, h)) v (less rows a) u (less columns b)) (omega arith) (omega arith)
+    (size-told n rows columns h a b) (size-plain columns rows)
 
-position-told : (row column : ℕ) → row ≢ 1 → row ≤ 65535 → column ≤ 65535 → sequence_event (seq Keys 1 0 row column 0 0) 82 ≡ Position (column - 1) (row - 1)
+position-told : (row column : ℕ) → row ≢ 1 → row ≤ 65535 → column ≤ 65535
+    → sequence_event (seq Keys 1 0 row column 0 0) 82 ≡ Position (column - 1) (row - 1)
 unfolding sequence_event keys_event position_event
 position-told row column h a b = grind (arith, nat_tests)
 
-position-read : {row column : ℕ} {ds es : List ℕ} → WritesNumber ds row → row ≢ 1 → row ≤ 65535 → WritesNumber es column → column ≤ 65535
+position-read : {row column : ℕ} {ds es : List ℕ} → WritesNumber ds row → row ≢ 1 → row ≤ 65535 → WritesNumber es column
+    → column ≤ 65535
     → Gives (csi (two_numbers ds es) 82) (Position (column - 1) (row - 1) ∷ [])
 position-read {row = row} {column = column} {ds = ds} {es = es} w h a v b =
-    csi-gives (two_numbers ds es) (seq Keys 1 0 row column 0 0) 82 (Position (column - 1) (row - 1)) (bracket-two ds es row column w (less row a) v (less column b))
+    csi-gives (two_numbers ds es) (seq Keys 1 0 row column 0 0) 82 (Position (column - 1) (row - 1))
+    (bracket-two ds es row column w (less row a) v (less column b))
     (omega arith) (omega arith) (position-told row column h a b) (position-plain (column - 1) (row - 1))
 
 -- each encoding is read as its event
@@ -454,14 +534,22 @@ encodes-read (size w n v a u b) = size-read w n v a u b
 encodes-read (position w n a v b) = position-read w n a v b
 
 -- among others
-pub encodes-among : (before bytes after : List ℕ) (events : List Event) (event : Event) → Gives before events → Encodes bytes event
-    → decoded fresh_decoder ((before ++ bytes) ++ after) ≡ ((events ++ (event ∷ [])) ++ (decoded fresh_decoder after).0, (decoded fresh_decoder after).1)
+pub encodes-among : (before bytes after : List ℕ) (events : List Event) (event : Event) → Gives before events
+    → Encodes bytes event
+    → decoded fresh_decoder ((before ++ bytes) ++ after) ≡ (
+      (events ++ (event ∷ [])) ++ (decoded fresh_decoder after).0,
+      (decoded fresh_decoder after).1,
+    )
 encodes-among before bytes after events event h e =
-    gives-before (before ++ bytes) after (events ++ (event ∷ [])) (gives-append before bytes events (event ∷ []) h (encodes-read e))
+    gives-before (before ++ bytes) after (events ++ (event ∷ []))
+    (gives-append before bytes events (event ∷ []) h (encodes-read e))
 
 -- after whatever has come of an event that isn't whole
 pub encodes-anyhow : (state : State) (bytes after : List ℕ) (event : Event) → Encodes (27 ∷ bytes) event
-    → decoded (at false state) (27 ∷ (bytes ++ after)) ≡ (some_list (cut state) ++ (event ∷ (decoded fresh_decoder after).0), (decoded fresh_decoder after).1)
+    → decoded (at false state) (27 ∷ (bytes ++ after)) ≡ (
+      some_list (cut state) ++ (event ∷ (decoded fresh_decoder after).0),
+      (decoded fresh_decoder after).1,
+    )
 encodes-anyhow state bytes after event e =
     anew-from-escape state (bytes ++ after)
     ∙ ap (λ (t : Told). (some_list (cut state) ++ t.0, t.1)) (gives-before (27 ∷ bytes) after (event ∷ []) (encodes-read e))

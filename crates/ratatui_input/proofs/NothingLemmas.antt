@@ -1,5 +1,6 @@
 -- Bytes that belong together and stand for nothing.
-use Rattle.std.proofs.Common.{◌≡◌, ◌≢◌, ◌⊎◌, inl, inr, ℕ, ◌+◌, ◌<◌, ◌≤◌, ◌^◌, Bool, true, false, List, [], ◌∷◌, ◌++◌, Option, Some, None, refl, ap, ◌∙◌, arith}
+use Rattle.std.proofs.Common.{◌≡◌, ◌≢◌, ◌⊎◌, inl, inr, ℕ, ◌+◌, ◌<◌, ◌≤◌, ◌^◌, Bool, true, false, List, [], ◌∷◌, ◌++◌, Option}
+use Rattle.std.proofs.Common.{Some, None, refl, ap, ◌∙◌, arith}
 use Rattle.std.specs.Prelude.{if◌then◌else◌, ◌==◌, ◌&&◌, nat_lt}
 use Rattle.std.proofs.lemmas.Bool.{cases_lt, cases_eq}
 use Rattle.std.proofs.lemmas.Bool.Decides.{nat_tests}
@@ -15,15 +16,22 @@ use Rattle.ratatui_input.specs.declared.sequence.Source.{Source}
 use Rattle.ratatui_input.specs.declared.sequence.Source.TheVariants.{Keys, Other}
 use Rattle.ratatui_input.specs.declared.keys.TheConstants.{NUMBERS}
 use Rattle.ratatui_input.specs.Keys.{key_at, letter_key, number_key, tab_key}
-use Rattle.ratatui_input.specs.Sequences.{keys_event, letter_event, tilde_event, number_key_event, sequence_event, source_event, pushed, digit_pushed, no_numbers, key_event, letter_code_event, code_key_event, with_shift}
+use Rattle.ratatui_input.specs.Sequences.{keys_event, letter_event, tilde_event, number_key_event, sequence_event, source_event}
+use Rattle.ratatui_input.specs.Sequences.{pushed, digit_pushed, no_numbers, key_event, letter_code_event, code_key_event}
+use Rattle.ratatui_input.specs.Sequences.{with_shift}
 use Rattle.ratatui_input.specs.Decoding.{stepped, first, begun, beginning, after_bracket, in_sequence, going_on, read}
 use Rattle.ratatui_input.specs.declared.decoder.Partial.{Partial}
 use Rattle.ratatui_input.specs.Encodings.{Gives}
 use Rattle.ratatui_input.specs.KeyTables.{IsLetter, IsTilde, IsCode}
-use Rattle.ratatui_input.specs.KeyTables.{letter_up, letter_down, letter_right, letter_left, letter_keypad_begin, letter_end, letter_home, letter_f1, letter_f2, letter_f3, letter_f4, letter_back_tab}
-use Rattle.ratatui_input.specs.Grammar.{WritesNumber, csi, two_numbers, IsMark, AreNumbers, AreInside, StandsForNothing, stray, marked, held_by_letter, held_by_tilde, held_by_code, nameless, numberless, IsNameless, IsNoTilde}
-use Rattle.ratatui_input.proofs.TableLemmas.{none-above, seq, EndsSequence, letter-held, letter-ends, tilde-told, tilde-small, code-told, code-small}
-use Rattle.ratatui_input.proofs.StepLemmas.{csi-alone, Leads, leads-none, leads-cons, leads-append, IsPlain, ends-plain, csi-gives, bracket-two}
+use Rattle.ratatui_input.specs.KeyTables.{letter_up, letter_down, letter_right, letter_left, letter_keypad_begin, letter_end}
+use Rattle.ratatui_input.specs.KeyTables.{letter_home, letter_f1, letter_f2, letter_f3, letter_f4, letter_back_tab}
+use Rattle.ratatui_input.specs.Grammar.{WritesNumber, csi, two_numbers, IsMark, AreNumbers, AreInside, StandsForNothing, stray}
+use Rattle.ratatui_input.specs.Grammar.{marked, held_by_letter, held_by_tilde, held_by_code, nameless, numberless, IsNameless}
+use Rattle.ratatui_input.specs.Grammar.{IsNoTilde}
+use Rattle.ratatui_input.proofs.TableLemmas.{none-above, seq, EndsSequence, letter-held, letter-ends, tilde-told, tilde-small}
+use Rattle.ratatui_input.proofs.TableLemmas.{code-told, code-small}
+use Rattle.ratatui_input.proofs.StepLemmas.{csi-alone, Leads, leads-none, leads-cons, leads-append, IsPlain, ends-plain}
+use Rattle.ratatui_input.proofs.StepLemmas.{csi-gives, bracket-two}
 use Rattle.ratatui_input.proofs.GrammarLemmas.{code-first}
 
 unknown-plain : IsPlain Unknown
@@ -63,13 +71,15 @@ pub digit-keeps : (s : Sequence) (b : ℕ) → s.source ≡ Other → (digit_pus
 unfolding digit_pushed
 digit-keeps s b h =
     either ((s.numbers == 0) && (s.parts == 0)) _ _ h
-    (either ((s.numbers == 1) && (s.parts == 0)) _ _ h (either ((s.numbers == 2) && (s.parts == 0)) _ _ h (either ((s.numbers == 1) && (s.parts == 1)) _ _ h h)))
+    (either ((s.numbers == 1) && (s.parts == 0)) _ _ h (either ((s.numbers == 2) && (s.parts == 0)) _ _ h
+    (either ((s.numbers == 1) && (s.parts == 1)) _ _ h h)))
 
 pub digit-goes : (s : Sequence) (b : ℕ) → 48 ≤ b → b ≤ 57 → pushed s b ≡ Some (digit_pushed s b)
 unfolding pushed
 digit-goes s b low high = grind (arith, nat_tests)
 
-mark-goes : (s : Sequence) (b : ℕ) → ((32 ≤ b) × (b ≤ 47)) ⊎ ((60 ≤ b) × (b ≤ 63)) → pushed s b ≡ Some (record s { source = Other })
+mark-goes : (s : Sequence) (b : ℕ) → ((32 ≤ b) × (b ≤ 47)) ⊎ ((60 ≤ b) × (b ≤ 63))
+    → pushed s b ≡ Some (record s { source = Other })
 unfolding pushed
 mark-goes s b h = grind (arith, nat_tests)
 
@@ -77,21 +87,40 @@ colon-goes : (s : Sequence) → pushed s 58 ≡ Some (record s { parts = if nat_
 unfolding pushed
 colon-goes s = refl
 
-semicolon-goes : (s : Sequence) → pushed s 59 ≡ Some (record s { numbers = if nat_lt s.numbers 3 then s.numbers + 1 else 3; parts = 0 })
+semicolon-goes : (s : Sequence) → pushed s 59 ≡ Some (record s {
+  numbers = if nat_lt s.numbers 3 then s.numbers + 1 else 3;
+  parts = 0;
+})
 unfolding pushed
 semicolon-goes s = refl
 
 pub goes : (s : Sequence) (b : ℕ) → 32 ≤ b → b ≤ 63 → Goes s b
 goes s b low high =
     elim (cases_lt b 48) [
-      | inl small ↦ record { next = record s { source = Other }; leads = mark-goes s b (inl (low, omega arith)); keeps = λ h. refl }
+      | inl small ↦ record {
+        next = record s { source = Other };
+        leads = mark-goes s b (inl (low, omega arith));
+        keeps = λ h. refl;
+      }
       | inr a ↦ elim (cases_lt b 58) [
         | inl digit ↦ record { next = digit_pushed s b; leads = digit-goes s b a (omega arith); keeps = digit-keeps s b }
         | inr c ↦ elim (cases_eq b 58) [
-          | inl e ↦ record { next = record s { parts = if nat_lt s.parts 2 then s.parts + 1 else 2 }; leads = ap (pushed s) e ∙ colon-goes s; keeps = λ h. h }
+          | inl e ↦ record {
+            next = record s { parts = if nat_lt s.parts 2 then s.parts + 1 else 2 };
+            leads = ap (pushed s) e ∙ colon-goes s;
+            keeps = λ h. h;
+          }
           | inr d ↦ elim (cases_eq b 59) [
-            | inl e ↦ record { next = record s { numbers = if nat_lt s.numbers 3 then s.numbers + 1 else 3; parts = 0 }; leads = ap (pushed s) e ∙ semicolon-goes s; keeps = λ h. h }
-            | inr f ↦ record { next = record s { source = Other }; leads = mark-goes s b (inr (omega (arith, d, f), high)); keeps = λ h. refl }
+            | inl e ↦ record {
+              next = record s { numbers = if nat_lt s.numbers 3 then s.numbers + 1 else 3; parts = 0 };
+              leads = ap (pushed s) e ∙ semicolon-goes s;
+              keeps = λ h. h;
+            }
+            | inr f ↦ record {
+              next = record s { source = Other };
+              leads = mark-goes s b (inr (omega (arith, d, f), high));
+              keeps = λ h. refl;
+            }
           ]
         ]
       ]
@@ -133,12 +162,14 @@ inside-marks (b ∷ bs) s h e =
     let rest = inside-marks bs one.next h.2 (one.keeps e) in
     record {
       to = rest.to;
-      leads = leads-cons (Numbers s) (Numbers one.next) (Numbers rest.to) b bs (inside-step s b h.0 h.1 ∙ ap going_on one.leads) rest.leads;
+      leads = leads-cons (Numbers s) (Numbers one.next) (Numbers rest.to) b bs (inside-step s b h.0 h.1
+          ∙ ap going_on one.leads) rest.leads;
       is = rest.is;
     }
 
 -- a mark, and what follows it
-mark-then : (from : State) (s : Sequence) (mark : ℕ) (after : List ℕ) → stepped from mark ≡ going_on (pushed s mark) → IsMark mark → AreInside after
+mark-then : (from : State) (s : Sequence) (mark : ℕ) (after : List ℕ) → stepped from mark ≡ going_on (pushed s mark) → IsMark mark
+    → AreInside after
     → Marks from (mark ∷ after)
 mark-then from s mark after e h k =
     let rest = inside-marks after (record s { source = Other }) k refl in
@@ -152,7 +183,8 @@ mark-then from s mark after e h k =
 mark-inside : (mark : ℕ) → IsMark mark → (32 ≤ mark) × (mark ≤ 63) × (mark ≢ 60)
 mark-inside mark h = (omega (arith, h), omega (arith, h), λ e. omega (arith, h, e))
 
-bracket-marks : (before after : List ℕ) (mark : ℕ) → AreNumbers before → IsMark mark → AreInside after → Marks Bracket (before ++ (mark ∷ after))
+bracket-marks : (before after : List ℕ) (mark : ℕ) → AreNumbers before → IsMark mark → AreInside after
+    → Marks Bracket (before ++ (mark ∷ after))
 bracket-marks [] after mark h m k =
     let bounds = mark-inside mark m in mark-then Bracket no_numbers mark after (bracket-step mark bounds.0 bounds.1 bounds.2) m k
 bracket-marks (b ∷ bs) after mark h m k =
@@ -190,7 +222,8 @@ shift-stays m h = grind (arith, nat_tests)
 shift-too-many : (k m : ℕ) → 256 < m → key_event k BackTab false (with_shift m) ≡ Unknown
 shift-too-many k m h = ap (key_event k BackTab false) (shift-stays m h) ∙ too-many k BackTab false m h
 
-pub letter-too-many : {b : ℕ} {code : KeyCode} → IsLetter b code → (k m : ℕ) → 256 < m → letter_code_event (Some code) k m ≡ Unknown
+pub letter-too-many : {b : ℕ} {code : KeyCode} → IsLetter b code → (k m : ℕ) → 256 < m
+    → letter_code_event (Some code) k m ≡ Unknown
 letter-too-many letter_up k m h = too-many k _ false m h
 letter-too-many letter_down k m h = too-many k _ false m h
 letter-too-many letter_right k m h = too-many k _ false m h
@@ -204,29 +237,41 @@ letter-too-many letter_f3 k m h = too-many k _ false m h
 letter-too-many letter_f4 k m h = too-many k _ false m h
 letter-too-many letter_back_tab k m h = shift-too-many k m h
 
-letter-told : {b m : ℕ} {code : KeyCode} {ds es : List ℕ} → IsLetter b code → WritesNumber ds 1 → WritesNumber es m → 256 < m → m < 2 ^ 32
+letter-told : {b m : ℕ} {code : KeyCode} {ds es : List ℕ} → IsLetter b code → WritesNumber ds 1 → WritesNumber es m → 256 < m
+    → m < 2 ^ 32
     → Gives (csi (two_numbers ds es) b) (Unknown ∷ [])
 letter-told {b = b} {m = m} {ds = ds} {es = es} letter w v many small =
     let ending = letter-ends letter in
-    csi-gives (two_numbers ds es) (seq Keys 1 0 1 m 0 0) b Unknown (bracket-two ds es 1 m w (omega arith) v small) ending.low ending.high
+    csi-gives (two_numbers ds es) (seq Keys 1 0 1 m 0 0) b Unknown (bracket-two ds es 1 m w (omega arith) v small) ending.low
+    ending.high
     (letter-held letter 0 m 0 ∙ letter-too-many letter 0 m many) unknown-plain
 
-tilde-nothing : {n m : ℕ} {code : KeyCode} {ds es : List ℕ} → IsTilde n code → WritesNumber ds n → WritesNumber es m → 256 < m → m < 2 ^ 32
+tilde-nothing : {n m : ℕ} {code : KeyCode} {ds es : List ℕ} → IsTilde n code → WritesNumber ds n → WritesNumber es m → 256 < m
+    → m < 2 ^ 32
     → Gives (csi (two_numbers ds es) 126) (Unknown ∷ [])
 tilde-nothing {n = n} {m = m} {code = code} {ds = ds} {es = es} tilde w v many small =
-    csi-gives (two_numbers ds es) (seq Keys 1 0 n m 0 0) 126 Unknown (bracket-two ds es n m w (tilde-small tilde) v small) (omega arith) (omega arith)
+    csi-gives (two_numbers ds es) (seq Keys 1 0 n m 0 0) 126 Unknown (bracket-two ds es n m w (tilde-small tilde) v small)
+    (omega arith) (omega arith)
     (tilde-told tilde 1 0 m 0 0 ∙ too-many 0 code false m many) unknown-plain
 
-code-nothing : {n m : ℕ} {code : KeyCode} {is_keypad : Bool} {ds es : List ℕ} → IsCode n code is_keypad → WritesNumber ds n → WritesNumber es m → 256 < m → m < 2 ^ 32
+code-nothing : {n m : ℕ} {code : KeyCode} {is_keypad : Bool} {ds es : List ℕ} → IsCode n code is_keypad → WritesNumber ds n
+    → WritesNumber es m → 256 < m → m < 2 ^ 32
     → Gives (csi (two_numbers ds es) 117) (Unknown ∷ [])
 code-nothing {n = n} {m = m} {code = code} {is_keypad = is_keypad} {ds = ds} {es = es} c w v many small =
-    csi-gives (two_numbers ds es) (seq Keys 1 0 n m 0 0) 117 Unknown (bracket-two ds es n m w (code-small c) v small) (omega arith) (omega arith)
-    (code-first 1 0 n m 0 0 ∙ ap (λ (o : Option (KeyCode × Bool)). code_key_event o 0 m) (code-told c) ∙ too-many 0 (tab_key code m) is_keypad m many) unknown-plain
+    csi-gives (two_numbers ds es) (seq Keys 1 0 n m 0 0) 117 Unknown (bracket-two ds es n m w (code-small c) v small)
+    (omega arith) (omega arith)
+    (code-first 1 0 n m 0 0 ∙ ap (λ (o : Option (KeyCode × Bool)). code_key_event o 0 m) (code-told c)
+    ∙ too-many 0 (tab_key code m) is_keypad m many) unknown-plain
 
 -- ---- a letter and a number that no key has
 
 nameless-bounds : (b : ℕ) → IsNameless b → EndsSequence b
-nameless-bounds b h = record { low = omega (arith, h); high = omega (arith, h); no_bracket = λ e. omega (arith, h, e); no_click = λ e. omega (arith, h, e) }
+nameless-bounds b h = record {
+  low = omega (arith, h);
+  high = omega (arith, h);
+  no_bracket = λ e. omega (arith, h, e);
+  no_click = λ e. omega (arith, h, e);
+}
 
 nameless-key : (b : ℕ) → IsNameless b → letter_key b ≡ None
 unfolding key_at
@@ -256,7 +301,12 @@ unfolding sequence_event keys_event tilde_event
 numberless-event n h = grind (arith, nat_tests)
 
 tilde-ending : EndsSequence 126
-tilde-ending = record { low = omega arith; high = omega arith; no_bracket = λ e. omega (arith, e); no_click = λ e. omega (arith, e) }
+tilde-ending = record {
+  low = omega arith;
+  high = omega arith;
+  no_bracket = λ e. omega (arith, e);
+  no_click = λ e. omega (arith, e);
+}
 
 numberless-told : {n : ℕ} {ds : List ℕ} → IsNoTilde n → WritesNumber ds n → n < 2 ^ 32 → Gives (csi ds 126) (Unknown ∷ [])
 numberless-told {n = n} {ds = ds} h w small =

@@ -1,21 +1,25 @@
 -- What is pasted is told as it is, and is no key.
-use Rattle.std.proofs.Common.{◌≡◌, ◌⊎◌, inl, inr, ℕ, Bool, true, false, List, [], ◌∷◌, ◌++◌, Option, Some, None, refl, ap, sym, ◌∙◌, subst, map}
+use Rattle.std.proofs.Common.{◌≡◌, ◌⊎◌, inl, inr, ℕ, Bool, true, false, List, [], ◌∷◌, ◌++◌, Option, Some, None, refl, ap, sym}
+use Rattle.std.proofs.Common.{◌∙◌, subst, map}
 use lib.Utf8.{encode, encodes}
 use Rattle.std.specs.Prelude.{◌==◌, nat_le, ◌&&◌, if◌then◌else◌}
 use Rattle.std.specs.Char.Unicode.Uppercase.{is_uppercase}
 use Rattle.ratatui_events.specs.declared.event.Event.{Event}
-use Rattle.ratatui_events.specs.declared.event.Event.TheVariants.{FocusGained, FocusLost, Key, Mouse, PasteBegun, PasteEnded, Pasted, Size, Position, Unknown}
+use Rattle.ratatui_events.specs.declared.event.Event.TheVariants.{FocusGained, FocusLost, Key, Mouse, PasteBegun, PasteEnded}
+use Rattle.ratatui_events.specs.declared.event.Event.TheVariants.{Pasted, Size, Position, Unknown}
 use Rattle.ratatui_events.specs.declared.key.KeyCode.{KeyCode}
 use Rattle.ratatui_events.specs.declared.key.KeyCode.TheVariants.{Char, Enter, Tab, Esc}
 use Rattle.ratatui_events.specs.Key.{pressed, held}
 use Rattle.ratatui_input.specs.declared.decoder.Decoder.{Decoder}
 use Rattle.ratatui_input.specs.declared.decoder.State.{State}
-use Rattle.ratatui_input.specs.declared.decoder.State.TheVariants.{Ground, Escape, Single, Bracket, Function, Numbers, Click, ClickButton, ClickColumn, Character}
+use Rattle.ratatui_input.specs.declared.decoder.State.TheVariants.{Ground, Escape, Single, Bracket, Function, Numbers, Click}
+use Rattle.ratatui_input.specs.declared.decoder.State.TheVariants.{ClickButton, ClickColumn, Character}
 use Rattle.ratatui_input.specs.declared.decoder.Next.{Next}
 use Rattle.ratatui_input.specs.declared.decoder.Next.TheVariants.{Whole, More, Apart}
 use Rattle.ratatui_input.specs.Keys.{control_key, typed_key, with_alt}
 use Rattle.ratatui_input.specs.Sequences.{sequence_event, keys_event, tilde_event, pushed, digit_pushed}
-use Rattle.ratatui_input.specs.Decoding.{Told, stepped, first, after_escape, after_bracket, in_sequence, cut, read, fresh, after_cut, byte_told, fed_next, decoded, next_told, pasted_code, settled, told_event}
+use Rattle.ratatui_input.specs.Decoding.{Told, stepped, first, after_escape, after_bracket, in_sequence, cut, read, fresh}
+use Rattle.ratatui_input.specs.Decoding.{after_cut, byte_told, fed_next, decoded, next_told, pasted_code, settled, told_event}
 use Rattle.ratatui_input.specs.Encodings.{fresh_decoder, in_brackets, IsPlainText, IsTextCharacter, IsNoKey, AreNoKeys, HaveEnd}
 use Rattle.ratatui_input.proofs.DecodingLemmas.{decoded-append}
 use Rattle.ratatui_input.proofs.StepLemmas.{at}
@@ -32,11 +36,13 @@ abbrev closing : List ℕ
 closing = 27 ∷ 91 ∷ 50 ∷ 48 ∷ 49 ∷ 126 ∷ []
 
 opened : decoded fresh_decoder opening ≡ (PasteBegun ∷ [], inside)
-unfolding decoded byte_told stepped first after_escape after_bracket in_sequence read sequence_event keys_event tilde_event pushed digit_pushed
+unfolding decoded byte_told stepped first after_escape after_bracket in_sequence read sequence_event keys_event tilde_event pushed
+    digit_pushed
 opened = refl
 
 closed : decoded inside closing ≡ (PasteEnded ∷ [], fresh_decoder)
-unfolding decoded byte_told stepped first after_escape after_bracket in_sequence read sequence_event keys_event tilde_event pushed digit_pushed
+unfolding decoded byte_told stepped first after_escape after_bracket in_sequence read sequence_event keys_event tilde_event pushed
+    digit_pushed
 closed = refl
 
 small : (u : Bool) (c : ℕ) → pasted_code (Char c) (if u then 1 else 0) ≡ Pasted c
@@ -58,7 +64,8 @@ return-pasted = refl
 one-pasted : (c : ℕ) → IsTextCharacter c → decoded inside (encode c) ≡ (Pasted c ∷ [], inside)
 unfolding read
 one-pasted c (inl h) =
-    character-read true Ground false c ground-begins (ground-first c) h.0 h.1 ∙ ap (λ (e : Event). let t : Told = (e ∷ [], inside) in t) (small (is_uppercase c) c)
+    character-read true Ground false c ground-begins (ground-first c) h.0 h.1
+    ∙ ap (λ (e : Event). let t : Told = (e ∷ [], inside) in t) (small (is_uppercase c) c)
 one-pasted c (inr (inl e)) = subst (λ (x : ℕ). decoded inside (encode x) ≡ (Pasted x ∷ [], inside)) (sym e) tab-pasted
 one-pasted c (inr (inr (inl e))) = subst (λ (x : ℕ). decoded inside (encode x) ≡ (Pasted x ∷ [], inside)) (sym e) line-pasted
 one-pasted c (inr (inr (inr e))) = subst (λ (x : ℕ). decoded inside (encode x) ≡ (Pasted x ∷ [], inside)) (sym e) return-pasted
@@ -70,7 +77,8 @@ text-pasted (c ∷ text) h =
     decoded-append inside (encode c) (encodes text) ∙ ap (λ (t : Told). next_told t (encodes text)) (one-pasted c h.0)
     ∙ ap (λ (t : Told). (Pasted c ∷ t.0, t.1)) (text-pasted text h.1)
 
-pub pasted-whole : (text : List ℕ) → IsPlainText text → decoded fresh_decoder (in_brackets text) ≡ (PasteBegun ∷ (map Pasted text ++ (PasteEnded ∷ [])), fresh_decoder)
+pub pasted-whole : (text : List ℕ) → IsPlainText text
+    → decoded fresh_decoder (in_brackets text) ≡ (PasteBegun ∷ (map Pasted text ++ (PasteEnded ∷ [])), fresh_decoder)
 pasted-whole text h =
     decoded-append fresh_decoder opening (encodes text ++ closing)
     ∙ ap (λ (t : Told). next_told t (encodes text ++ closing)) opened
@@ -85,7 +93,8 @@ either false x y h k = k
 
 code-no_key : (code : KeyCode) (bits : ℕ) → IsNoKey (pasted_code code bits)
 code-no_key (Char c) bits =
-    either (nat_le bits 1) (Pasted c) (if (c == 106) && (bits == 4) then Pasted 10 else Unknown) tt (either ((c == 106) && (bits == 4)) (Pasted 10) Unknown tt tt)
+    either (nat_le bits 1) (Pasted c) (if (c == 106) && (bits == 4) then Pasted 10 else Unknown) tt
+    (either ((c == 106) && (bits == 4)) (Pasted 10) Unknown tt tt)
 code-no_key Enter bits = either (bits == 0) (Pasted 13) Unknown tt tt
 code-no_key Tab bits = either (bits == 0) (Pasted 9) Unknown tt tt
 code-no_key _ bits = tt
@@ -164,7 +173,10 @@ abbrev GoesOn : Told → Type 0
 GoesOn told = (told.1.is_pasting ≡ true) ⊎ HaveEnd told.0
 
 fresh-goes_on : (next : Next) → GoesOn (fresh next true)
-fresh-goes_on (Whole event) = elim (read-goes_on event) [ inl h ↦ inl h | inr e ↦ inr (subst (λ (x : Event). HaveEnd (x ∷ [])) (sym e) tt) ]
+fresh-goes_on (Whole event) = elim (read-goes_on event) [
+  | inl h ↦ inl h
+  | inr e ↦ inr (subst (λ (x : Event). HaveEnd (x ∷ [])) (sym e) tt)
+]
 fresh-goes_on (More state) = inl refl
 fresh-goes_on Apart = inl refl
 
@@ -176,7 +188,10 @@ after_cut-goes_on : (what : Option Event) (b : ℕ) → KeepsPaste what → Goes
 after_cut-goes_on None b h = fresh-goes_on (first b false)
 after_cut-goes_on (Some event) b h =
     subst (λ (p : Bool). GoesOn (let told = fresh (first b false) p in ((read true event).0 ∷ told.0, told.1))) (sym h)
-    (elim (fresh-goes_on (first b false)) [ inl k ↦ inl k | inr k ↦ inr (later (read true event).0 (fresh (first b false) true).0 k) ])
+    (elim (fresh-goes_on (first b false)) [
+      | inl k ↦ inl k
+      | inr k ↦ inr (later (read true event).0 (fresh (first b false) true).0 k)
+    ])
 
 next-goes_on : (next : Next) (state : State) (b : ℕ) → GoesOn (fed_next next state b true)
 next-goes_on (Whole event) state b = fresh-goes_on (Whole event)
@@ -189,7 +204,8 @@ fed-goes_on state b = next-goes_on (stepped state b) state b
 
 -- ---- settling within a paste
 
-single-no_keys : (b : Bool) (d : Decoder) → AreNoKeys (let t : Told = if b then told_event (with_alt (typed_key 79) true) Ground true else ([], d) in t).0
+single-no_keys : (b : Bool) (d : Decoder)
+    → AreNoKeys (let t : Told = if b then told_event (with_alt (typed_key 79) true) Ground true else ([], d) in t).0
 single-no_keys true d = (read-no_key (with_alt (typed_key 79) true), tt)
 single-no_keys false d = tt
 

@@ -1,20 +1,26 @@
 -- What is read is pieces, each of which stands for the event that is told of it.
-use Rattle.std.proofs.Common.{◌≡◌, ◌≢◌, ℕ, ◌<◌, Bool, true, false, List, [], ◌∷◌, ◌++◌, Option, Some, None, refl, ap, sym, ◌∙◌, subst, append_assoc}
+use Rattle.std.proofs.Common.{◌≡◌, ◌≢◌, ℕ, ◌<◌, Bool, true, false, List, [], ◌∷◌, ◌++◌, Option, Some, None, refl, ap, sym, ◌∙◌}
+use Rattle.std.proofs.Common.{subst, append_assoc}
 use Rattle.std.proofs.lemmas.List.{append-nil}
 use Rattle.ratatui_events.specs.declared.event.Event.{Event}
-use Rattle.ratatui_events.specs.declared.event.Event.TheVariants.{FocusGained, FocusLost, Key, Mouse, PasteBegun, PasteEnded, Pasted, Size, Position, Unknown}
+use Rattle.ratatui_events.specs.declared.event.Event.TheVariants.{FocusGained, FocusLost, Key, Mouse, PasteBegun, PasteEnded}
+use Rattle.ratatui_events.specs.declared.event.Event.TheVariants.{Pasted, Size, Position, Unknown}
 use Rattle.ratatui_input.specs.declared.decoder.State.{State}
 use Rattle.ratatui_input.specs.declared.decoder.State.TheVariants.{Ground}
 use Rattle.ratatui_input.specs.declared.decoder.Next.{Next}
 use Rattle.ratatui_input.specs.declared.decoder.Next.TheVariants.{Whole, More, Apart}
 use Rattle.ratatui_input.specs.Encodings.{fresh_decoder}
-use Rattle.ratatui_input.specs.Decoding.{Told, told_event, stepped, first, cut, read, byte_told, fed_next, decoded, fresh, after_cut}
+use Rattle.ratatui_input.specs.Decoding.{Told, told_event, stepped, first, cut, read, byte_told, fed_next, decoded, fresh}
+use Rattle.ratatui_input.specs.Decoding.{after_cut}
 use Rattle.ratatui_input.specs.Pieces.{StandsFor, IsNothing, by_grammar, by_numbers, lone_escape, lone_bracket, lone_single}
-use Rattle.ratatui_input.specs.Pieces.{IsPiece, unknown_piece, nothing_piece, early_end_piece, event_piece, begun_piece, pasted_piece, ended_piece, no_piece, then_pieces, IsReadInPieces, AreBytes}
+use Rattle.ratatui_input.specs.Pieces.{IsPiece, unknown_piece, nothing_piece, early_end_piece, event_piece, begun_piece}
+use Rattle.ratatui_input.specs.Pieces.{pasted_piece, ended_piece, no_piece, then_pieces, IsReadInPieces, AreBytes}
 use Rattle.ratatui_input.proofs.StepLemmas.{at, Leads, leads-none, leads-one, leads-append, ends}
 use Rattle.ratatui_input.proofs.UnknownLemmas.{nothing-whole, nothing-cut}
-use Rattle.ratatui_input.proofs.StandLemmas.{Stands, grammar_stands, numbers_stand, escape_stands, bracket_stands, single_stands, not_known}
-use Rattle.ratatui_input.proofs.ComeLemmas.{HasCome, Follows, nothing, follows, first-follows, IsJoined, first-joined, IsCut, cut-stands}
+use Rattle.ratatui_input.proofs.StandLemmas.{Stands, grammar_stands, numbers_stand, escape_stands, bracket_stands, single_stands}
+use Rattle.ratatui_input.proofs.StandLemmas.{not_known}
+use Rattle.ratatui_input.proofs.ComeLemmas.{HasCome, Follows, nothing, follows, first-follows, IsJoined, first-joined, IsCut}
+use Rattle.ratatui_input.proofs.ComeLemmas.{cut-stands}
 
 -- ---- an event as it is read, within a paste and outside one
 
@@ -26,7 +32,8 @@ stands-for bracket_stands k = lone_bracket
 stands-for (single_stands h) k = lone_single h
 stands-for (not_known h) k = absurd (k refl)
 
-piece-of : (p : Bool) (bytes : List ℕ) (e : Event) → bytes ≢ [] → Stands bytes e → (e ≡ Unknown → IsNothing bytes) → IsPiece p bytes (read p e).0 (read p e).1
+piece-of : (p : Bool) (bytes : List ℕ) (e : Event) → bytes ≢ [] → Stands bytes e → (e ≡ Unknown → IsNothing bytes)
+    → IsPiece p bytes (read p e).0 (read p e).1
 unfolding read
 piece-of false bytes PasteBegun some h k = begun_piece (stands-for h (λ x. cc))
 piece-of false bytes PasteEnded some h k = early_end_piece (stands-for h (λ x. cc))
@@ -82,7 +89,8 @@ ended p s come h = record {
 }
 
 -- a first piece, and what follows it
-piece-then : (p q : Bool) (come bytes : List ℕ) (event : Event) (told : Told) → IsPiece p come event q → IsReadInPieces q bytes told
+piece-then : (p q : Bool) (come bytes : List ℕ) (event : Event) (told : Told) → IsPiece p come event q
+    → IsReadInPieces q bytes told
     → IsReadInPieces p (come ++ bytes) (event ∷ told.0, told.1)
 piece-then p q come bytes event told h k = record {
   pieces = come ++ k.pieces;
@@ -103,37 +111,48 @@ cut-told s come leads =
     ap (λ (bs : List ℕ). (decoded fresh_decoder bs).0) (sym (append-nil come)) ∙ ap (λ (t : Told). t.0) (leads.to false [])
 
 -- the byte goes on with what has come, or ends it
-goes-on : (next : Next) (p : Bool) (s : State) (come : List ℕ) (b : ℕ) (bs : List ℕ) → stepped s b ≡ next → IsJoined next → Follows next (come ++ (b ∷ [])) → Leads Ground come s
+goes-on : (next : Next) (p : Bool) (s : State) (come : List ℕ) (b : ℕ) (bs : List ℕ) → stepped s b ≡ next → IsJoined next
+    → Follows next (come ++ (b ∷ [])) → Leads Ground come s
     → ((q : Bool) (s' : State) (further : List ℕ) → Waits s' further → IsReadInPieces q (further ++ bs) (decoded (at q s') bs))
     → IsReadInPieces p (come ++ (b ∷ bs)) (let t = fresh next p in let u = decoded t.1 bs in (t.0 ++ u.0, u.1))
 goes-on (Whole e) p s come b bs eq j f leads ih =
-    subst (λ (all : List ℕ). IsReadInPieces p all (let u = decoded (at (read p e).1 Ground) bs in ((read p e).0 ∷ u.0, u.1))) (append_assoc come (b ∷ []) bs)
+    subst (λ (all : List ℕ). IsReadInPieces p all (let u = decoded (at (read p e).1 Ground) bs in ((read p e).0 ∷ u.0, u.1)))
+    (append_assoc come (b ∷ []) bs)
     (piece-then p (read p e).1 (come ++ (b ∷ [])) bs (read p e).0 (decoded (at (read p e).1 Ground) bs)
-    (piece-of p (come ++ (b ∷ [])) e (some-bytes come b) f (λ x. nothing-whole (come ++ (b ∷ [])) (some-bytes come b) (whole-told s come b leads (eq ∙ ap Whole x)))) (ih (read p e).1 Ground [] waits-none))
+    (piece-of p (come ++ (b ∷ [])) e (some-bytes come b) f (λ x. nothing-whole (come ++ (b ∷ [])) (some-bytes come b)
+    (whole-told s come b leads (eq ∙ ap Whole x)))) (ih (read p e).1 Ground [] waits-none))
 goes-on (More s') p s come b bs eq j f leads ih =
     subst (λ (all : List ℕ). IsReadInPieces p all (decoded (at p s') bs)) (append_assoc come (b ∷ []) bs)
-    (ih p s' (come ++ (b ∷ [])) (record { shape = f; leads = leads-append Ground s s' come (b ∷ []) leads (leads-one s s' b eq) }))
+    (ih p s' (come ++ (b ∷ [])) (record {
+      shape = f;
+      leads = leads-append Ground s s' come (b ∷ []) leads (leads-one s s' b eq);
+    }))
 goes-on Apart p s come b bs eq j f leads ih = absurd j
 
 -- the byte begins anew, and what had come is told
-begins-anew : (o : Option Event) (p : Bool) (s : State) (come : List ℕ) (b : ℕ) (bs : List ℕ) → b < 256 → stepped s b ≡ Apart → IsCut o s come → Leads Ground come s
+begins-anew : (o : Option Event) (p : Bool) (s : State) (come : List ℕ) (b : ℕ) (bs : List ℕ) → b < 256 → stepped s b ≡ Apart
+    → IsCut o s come → Leads Ground come s
     → ((q : Bool) (s' : State) (further : List ℕ) → Waits s' further → IsReadInPieces q (further ++ bs) (decoded (at q s') bs))
     → IsReadInPieces p (come ++ (b ∷ bs)) (let t = after_cut o b p in let u = decoded t.1 bs in (t.0 ++ u.0, u.1))
 unfolding stepped
-begins-anew None p s come b bs small eq c leads ih = absurd (subst IsJoined (ap (λ (x : State). stepped x b) (sym c) ∙ eq) (first-joined b))
+begins-anew None p s come b bs small eq c leads ih = absurd (subst IsJoined (ap (λ (x : State). stepped x b) (sym c) ∙ eq)
+    (first-joined b))
 begins-anew (Some e) p s come b bs small eq c leads ih =
-    piece-then p (read p e).1 come (b ∷ bs) (read p e).0 (let t = fresh (first b false) (read p e).1 in let u = decoded t.1 bs in (t.0 ++ u.0, u.1))
+    piece-then p (read p e).1 come (b ∷ bs) (read p e).0 (let t = fresh (first b false) (read p e).1 in let u = decoded t.1 bs in
+    (t.0 ++ u.0, u.1))
     (piece-of p come e c.1 c.0 (λ x. nothing-cut come c.1 (cut-told s come leads)))
     (goes-on (first b false) (read p e).1 Ground [] b bs refl (first-joined b) (first-follows b) (leads-none Ground) ih)
 
-one-byte : (next : Next) (p : Bool) (s : State) (come : List ℕ) (b : ℕ) (bs : List ℕ) → b < 256 → stepped s b ≡ next → Follows next (come ++ (b ∷ [])) → Waits s come
+one-byte : (next : Next) (p : Bool) (s : State) (come : List ℕ) (b : ℕ) (bs : List ℕ) → b < 256 → stepped s b ≡ next
+    → Follows next (come ++ (b ∷ [])) → Waits s come
     → ((q : Bool) (s' : State) (further : List ℕ) → Waits s' further → IsReadInPieces q (further ++ bs) (decoded (at q s') bs))
     → IsReadInPieces p (come ++ (b ∷ bs)) (joined next s b p bs)
 one-byte (Whole e) p s come b bs small eq f w ih = goes-on (Whole e) p s come b bs eq tt f w.leads ih
 one-byte (More s') p s come b bs small eq f w ih = goes-on (More s') p s come b bs eq tt f w.leads ih
 one-byte Apart p s come b bs small eq f w ih = begins-anew (cut s) p s come b bs small eq (cut-stands w.shape) w.leads ih
 
-from-here : (bs : List ℕ) (p : Bool) (s : State) (come : List ℕ) → AreBytes bs → Waits s come → IsReadInPieces p (come ++ bs) (decoded (at p s) bs)
+from-here : (bs : List ℕ) (p : Bool) (s : State) (come : List ℕ) → AreBytes bs → Waits s come
+    → IsReadInPieces p (come ++ bs) (decoded (at p s) bs)
 from-here [] p s come h w = ended p s come w
 from-here (b ∷ bs) p s come h w =
     subst (IsReadInPieces p (come ++ (b ∷ bs))) (sym (decoded-cons p s b bs))

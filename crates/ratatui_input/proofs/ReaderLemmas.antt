@@ -1,5 +1,7 @@
 -- What an event reader has read and not told yet.
-use Rattle.std.proofs.Common.{◌≡◌, ◌⊎◌, inl, inr, ℕ, ◌+◌, ◌<◌, ◌≤◌, List, [], ◌∷◌, ◌++◌, Option, None, Some, length, take, drop, get_or, refl, ap, sym, ◌∙◌, subst, add-one, arith, length-take, append-nil, append_assoc, MatchOption}
+use Rattle.std.proofs.Common.{◌≡◌, ◌⊎◌, inl, inr, ℕ, ◌+◌, ◌<◌, ◌≤◌, List, [], ◌∷◌, ◌++◌, Option, None, Some, length, take, drop}
+use Rattle.std.proofs.Common.{get_or, refl, ap, sym, ◌∙◌, subst, add-one, arith, length-take, append-nil, append_assoc}
+use Rattle.std.proofs.Common.{MatchOption}
 use Rattle.std.proofs.Math.Seq.{drop-cons}
 use Rattle.std.proofs.lemmas.List.{drop_all, get_or-take}
 use Rattle.std.specs.List.{slice_get}
@@ -23,7 +25,8 @@ unfolding kept_told decoded
 told-of_none d bytes next end h =
     ap (λ (bs : List ℕ). decoded d bs) (drop_all next (take end bytes) (omega (arith, length-take end bytes)))
 
-pub told-of_room : (d : Decoder) (bytes : List ℕ) (next end : ℕ) → length bytes ≤ next → kept_told (kept d None bytes next end) ≡ ([], d)
+pub told-of_room : (d : Decoder) (bytes : List ℕ) (next end : ℕ) → length bytes ≤ next
+    → kept_told (kept d None bytes next end) ≡ ([], d)
 unfolding kept_told decoded
 told-of_room d bytes next end h =
     ap (λ (bs : List ℕ). decoded d bs) (drop_all next (take end bytes) (omega (arith, length-take end bytes)))
@@ -35,7 +38,10 @@ told-of_bytes d bytes end = refl
 
 -- the second event of a byte is told next
 pub told-second : (d : Decoder) (event : Event) (bytes : List ℕ) (next end : ℕ)
-    → kept_told (kept d (Some event) bytes next end) ≡ (event ∷ (kept_told (kept d None bytes next end)).0, (kept_told (kept d None bytes next end)).1)
+    → kept_told (kept d (Some event) bytes next end) ≡ (
+      event ∷ (kept_told (kept d None bytes next end)).0,
+      (kept_told (kept d None bytes next end)).1,
+    )
 unfolding kept_told
 told-second d event bytes next end = refl
 
@@ -46,10 +52,14 @@ told-byte d bytes next end h k =
     rw add-one (drop-cons (take end bytes) next 0 (omega (arith, length-take end bytes)))
     ∙ ap (λ (b : ℕ). b ∷ drop (next + 1) (take end bytes)) (get_or-take end bytes next 0 h)
 
-pub told-fed : (d : Decoder) (bytes : List ℕ) (next end : ℕ) (cut event : Option Event) (d' : Decoder) → next < end → next < length bytes
+pub told-fed : (d : Decoder) (bytes : List ℕ) (next end : ℕ) (cut event : Option Event) (d' : Decoder) → next < end
+    → next < length bytes
     → (some_list cut ++ some_list event, d') ≡ byte_told d (get_or bytes next 0)
     → kept_told (kept d None bytes next end)
-    ≡ ((some_list cut ++ some_list event) ++ (kept_told (kept d' None bytes (next + 1) end)).0, (kept_told (kept d' None bytes (next + 1) end)).1)
+    ≡ (
+      (some_list cut ++ some_list event) ++ (kept_told (kept d' None bytes (next + 1) end)).0,
+      (kept_told (kept d' None bytes (next + 1) end)).1,
+    )
 unfolding kept_told decoded
 told-fed d bytes next end cut event d' h k f =
     ap (λ (bs : List ℕ). decoded d bs) (told-byte d bytes next end h k)
@@ -64,35 +74,43 @@ told-one d bytes next end None d' h = sym h
 told-one d bytes next end (Some e) d' h = h
 
 -- a byte with an event that what came before it has, and perhaps one of its own
-pub told-first : (d : Decoder) (second : Option Event) (bytes : List ℕ) (next end b : ℕ) (cut event : Option Event) (d' : Decoder) (first : Event)
-    → second ≡ None → next < end → slice_get bytes next ≡ Some b → cut ≡ Some first → (some_list cut ++ some_list event, d') ≡ byte_told d b
+pub told-first : (d : Decoder) (second : Option Event) (bytes : List ℕ) (next end b : ℕ) (cut event : Option Event) (d' : Decoder)
+    (first : Event)
+    → second ≡ None → next < end → slice_get bytes next ≡ Some b → cut ≡ Some first
+    → (some_list cut ++ some_list event, d') ≡ byte_told d b
     → TellsFirst (kept d second bytes next end) first (kept d' event bytes (next + 1) end)
 unfolding kept_told
 told-first d second bytes next end b cut event d' first none h k e f =
     subst (λ (s : Option Event). TellsFirst (kept d s bytes next end) first (kept d' event bytes (next + 1) end)) (sym none)
     (told-fed d bytes next end (Some first) event d' h (slice_get_within bytes next b k)
-    (ap (λ (c : Option Event). let t : Told = (some_list c ++ some_list event, d') in t) (sym e) ∙ f ∙ ap (byte_told d) (sym (get_or_from_slice_get bytes next b 0 k))))
+    (ap (λ (c : Option Event). let t : Told = (some_list c ++ some_list event, d') in t) (sym e) ∙ f ∙ ap (byte_told d)
+    (sym (get_or_from_slice_get bytes next b 0 k))))
 
 -- a byte with an event of its own alone, or with none
 pub told-only : (d : Decoder) (second : Option Event) (bytes : List ℕ) (next end b : ℕ) (cut event : Option Event) (d' : Decoder)
-    → second ≡ None → next < end → slice_get bytes next ≡ Some b → cut ≡ None → (some_list cut ++ some_list event, d') ≡ byte_told d b
+    → second ≡ None → next < end → slice_get bytes next ≡ Some b → cut ≡ None
+    → (some_list cut ++ some_list event, d') ≡ byte_told d b
     → MatchOption event (kept_told (kept d' second bytes (next + 1) end) ≡ kept_told (kept d second bytes next end))
     (λ e. TellsFirst (kept d second bytes next end) e (kept d' second bytes (next + 1) end))
 unfolding kept_told
 told-only d second bytes next end b cut event d' none h k e f =
-    subst (λ (s : Option Event). MatchOption event (kept_told (kept d' s bytes (next + 1) end) ≡ kept_told (kept d s bytes next end))
+    subst (λ (s : Option Event). MatchOption event (kept_told (kept d' s bytes (next + 1) end) ≡ kept_told
+    (kept d s bytes next end))
     (λ e. TellsFirst (kept d s bytes next end) e (kept d' s bytes (next + 1) end))) (sym none)
     (told-one d bytes next end event d' (told-fed d bytes next end None event d' h (slice_get_within bytes next b k)
-    (ap (λ (c : Option Event). let t : Told = (some_list c ++ some_list event, d') in t) (sym e) ∙ f ∙ ap (byte_told d) (sym (get_or_from_slice_get bytes next b 0 k)))))
+    (ap (λ (c : Option Event). let t : Told = (some_list c ++ some_list event, d') in t) (sym e) ∙ f ∙ ap (byte_told d)
+    (sym (get_or_from_slice_get bytes next b 0 k)))))
 
 -- the second event of a byte is told
 pub told-stored : (d : Decoder) (second : Option Event) (bytes : List ℕ) (next end : ℕ) (event : Event) → second ≡ Some event
     → TellsFirst (kept d second bytes next end) event (kept d None bytes next end)
 told-stored d second bytes next end event e =
-    subst (λ (s : Option Event). TellsFirst (kept d s bytes next end) event (kept d None bytes next end)) (sym e) (told-second d event bytes next end)
+    subst (λ (s : Option Event). TellsFirst (kept d s bytes next end) event (kept d None bytes next end)) (sym e)
+    (told-second d event bytes next end)
 
 -- nothing is left
-pub told-nothing : (k : Kept) (d : Decoder) (second : Option Event) (bytes : List ℕ) (next end : ℕ) → kept_told (kept d second bytes next end) ≡ kept_told k
+pub told-nothing : (k : Kept) (d : Decoder) (second : Option Event) (bytes : List ℕ) (next end : ℕ)
+    → kept_told (kept d second bytes next end) ≡ kept_told k
     → second ≡ None → (end ≤ next) ⊎ (length bytes ≤ next) → TellsNothing k (kept d second bytes next 0)
 told-nothing k d second bytes next end e none over = record {
   told = sym e ∙ ap (λ (s : Option Event). kept_told (kept d s bytes next end)) none
@@ -104,13 +122,15 @@ told-nothing k d second bytes next end e none over = record {
 -- what nothing is left of, whatever stands in the bytes
 emptied : (k : Kept) (bytes : List ℕ) → k.second ≡ None → k.end ≡ 0 → kept_told (record k { bytes = bytes }) ≡ ([], k.decoder)
 emptied k bytes none over =
-    ap (λ (s : Option Event). kept_told (kept k.decoder s bytes k.next k.end)) none ∙ told-of_none k.decoder bytes k.next k.end (omega arith)
+    ap (λ (s : Option Event). kept_told (kept k.decoder s bytes k.next k.end)) none
+    ∙ told-of_none k.decoder bytes k.next k.end (omega arith)
 
 -- bytes in two pieces, after what was told before
 next_told-append : (t : Told) (a b : List ℕ) → next_told t (a ++ b) ≡ next_told (next_told t a) b
 next_told-append t a b =
     ap (λ (u : Told). (t.0 ++ u.0, u.1)) (decoded-append t.1 a b)
-    ∙ ap (λ (es : List Event). (es, (decoded (decoded t.1 a).1 b).1)) (sym (append_assoc t.0 (decoded t.1 a).0 (decoded (decoded t.1 a).1 b).0))
+    ∙ ap (λ (es : List Event). (es, (decoded (decoded t.1 a).1 b).1))
+    (sym (append_assoc t.0 (decoded t.1 a).0 (decoded (decoded t.1 a).1 b).0))
 
 next_told-nil : (t : Told) → next_told t [] ≡ t
 unfolding decoded
@@ -119,11 +139,17 @@ next_told-nil t = ap (λ (es : List Event). let u : Told = (es, t.1) in u) (appe
 -- ---- a reader's loop, over what it kept
 module _ {R : Type 0} (remaining : R → Option (List ℕ)) where
   pub keeps-start : (old : EventReader R) → KeepsAll remaining old old
-  keeps-start old = record { bytes = []; consumed = Consumes-nil (remaining (source old)); kept = sym (next_told-nil (unread old)) }
+  keeps-start old = record {
+    bytes = [];
+    consumed = Consumes-nil (remaining (source old));
+    kept = sym (next_told-nil (unread old));
+  }
 
   -- a read that failed
-  pub keeps-failed : (old mid : EventReader R) (k : Kept) (bytes : List ℕ) (r : R) → KeepsAll remaining old mid → TellsNothing mid.kept k
-      → Keeps (remaining mid.reader) (remaining r) → KeepsAll remaining old (record { reader = r; kept = record k { bytes = bytes } })
+  pub keeps-failed : (old mid : EventReader R) (k : Kept) (bytes : List ℕ) (r : R) → KeepsAll remaining old mid
+      → TellsNothing mid.kept k
+      → Keeps (remaining mid.reader) (remaining r)
+      → KeepsAll remaining old (record { reader = r; kept = record k { bytes = bytes } })
   keeps-failed old mid k bytes r h t same = record {
     bytes = h.bytes;
     consumed = Consumes-kept (remaining (source old)) (remaining mid.reader) (remaining r) h.bytes h.consumed same;
@@ -131,7 +157,8 @@ module _ {R : Type 0} (remaining : R → Option (List ℕ)) where
   }
 
   -- bytes that were read
-  pub keeps-read : (old mid : EventReader R) (k new : Kept) (bytes : List ℕ) (r : R) (n : ℕ) → KeepsAll remaining old mid → TellsNothing mid.kept k
+  pub keeps-read : (old mid : EventReader R) (k new : Kept) (bytes : List ℕ) (r : R) (n : ℕ) → KeepsAll remaining old mid
+      → TellsNothing mid.kept k
       → Consumes (remaining mid.reader) (remaining r) (take n bytes) → new ≡ kept k.decoder None bytes 0 n
       → KeepsAll remaining old (record { reader = r; kept = new })
   keeps-read old mid k new bytes r n h t c e = record {
@@ -142,8 +169,10 @@ module _ {R : Type 0} (remaining : R → Option (List ℕ)) where
   }
 
   -- a read that found nothing
-  pub reads-settled : (old mid : EventReader R) (k new : Kept) (bytes : List ℕ) (r : R) (n : ℕ) (told : Option Event) (d : Decoder)
-      → KeepsAll remaining old mid → TellsNothing mid.kept k → Consumes (remaining mid.reader) (remaining r) (take n bytes) → n ≡ 0
+  pub reads-settled : (old mid : EventReader R) (k new : Kept) (bytes : List ℕ) (r : R) (n : ℕ) (told : Option Event)
+      (d : Decoder)
+      → KeepsAll remaining old mid → TellsNothing mid.kept k → Consumes (remaining mid.reader) (remaining r) (take n bytes)
+      → n ≡ 0
       → IsAtEnd (remaining r) → new ≡ kept k.decoder None bytes 0 n → (some_list told, d) ≡ settled new.decoder.state new.decoder
       → Reads remaining old told (record { reader = r; kept = record new { decoder = d } })
   reads-settled old mid k new bytes r n told d h t c zero end e s =

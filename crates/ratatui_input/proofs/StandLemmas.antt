@@ -20,7 +20,8 @@ pub data Stands : List ℕ → Event → Type 0 where
   single_stands : {ds : List ℕ} → WritesNumber ds 0 → Stands (27 ∷ 79 ∷ ds) (with_alt (typed_key 79) true)
   not_known : {bytes : List ℕ} → bytes ≢ [] → Stands bytes Unknown
 
-pub if-stands : {bytes : List ℕ} (t : Bool) (x y : Event) → (t ≡ true → Stands bytes x) → (t ≡ false → Stands bytes y) → Stands bytes (if t then x else y)
+pub if-stands : {bytes : List ℕ} (t : Bool) (x y : Event) → (t ≡ true → Stands bytes x) → (t ≡ false → Stands bytes y)
+    → Stands bytes (if t then x else y)
 if-stands true x y f g = f refl
 if-stands false x y f g = g refl
 

@@ -1,5 +1,6 @@
 -- Each key of the protocols' tables is told by its letter, its number or its code point.
-use Rattle.std.proofs.Common.{◌≡◌, ◌⊎◌, inl, ℕ, ◌≤◌, ◌<◌, ◌^◌, ◌+◌, ◌-◌, ◌*◌, ◌/◌, ◌≢◌, ◌==◌, ◌&&◌, ◌||◌, Bool, true, false, Option, Some, None, List, [], ◌∷◌, refl, ap, ◌∙◌, arith, lit<, lit≤}
+use Rattle.std.proofs.Common.{◌≡◌, ◌⊎◌, inl, ℕ, ◌≤◌, ◌<◌, ◌^◌, ◌+◌, ◌-◌, ◌*◌, ◌/◌, ◌≢◌, ◌==◌, ◌&&◌, ◌||◌, Bool, true, false}
+use Rattle.std.proofs.Common.{Option, Some, None, List, [], ◌∷◌, refl, ap, ◌∙◌, arith, lit<, lit≤}
 use Rattle.std.proofs.lemmas.Grind.{common_steps}
 use Rattle.std.proofs.lemmas.Bool.Decides.{nat_tests}
 use Rattle.std.specs.Prelude.{nat_le, nat_lt, find, if◌then◌else◌}
@@ -14,12 +15,34 @@ use Rattle.ratatui_input.specs.declared.sequence.Sequence.{Sequence}
 use Rattle.ratatui_input.specs.declared.sequence.Source.{Source}
 use Rattle.ratatui_input.specs.declared.sequence.Source.TheVariants.{Keys}
 use Rattle.ratatui_input.specs.Keys.{key_at, code_key, keypad_key, name_key, named_key, pad_key}
-use Rattle.ratatui_input.specs.Sequences.{sequence_event, keys_event, letter_event, tilde_event, single_event, letter_code_event, key_event, kind_of, with_shift}
+use Rattle.ratatui_input.specs.Sequences.{sequence_event, keys_event, letter_event, tilde_event, single_event, letter_code_event}
+use Rattle.ratatui_input.specs.Sequences.{key_event, kind_of, with_shift}
 use Rattle.ratatui_input.specs.Grammar.{key_told, letter_told}
 use Rattle.ratatui_input.specs.KeyTables.{IsLetter, IsTilde, IsCode}
-use Rattle.ratatui_input.specs.KeyTables.{letter_up, letter_down, letter_right, letter_left, letter_keypad_begin, letter_end, letter_home, letter_f1, letter_f2, letter_f3, letter_f4, letter_back_tab}
-use Rattle.ratatui_input.specs.KeyTables.{tilde_home, tilde_insert, tilde_delete, tilde_end, tilde_page_up, tilde_page_down, tilde7_home, tilde8_end, tilde_f1, tilde_f2, tilde_f3, tilde_f4, tilde_f5, tilde_f6, tilde_f7, tilde_f8, tilde_f9, tilde_f10, tilde_f11, tilde_f12, tilde_f13, tilde_f14, tilde_f15, tilde_f16, tilde_f17, tilde_f18, tilde_f19, tilde_f20}
-use Rattle.ratatui_input.specs.KeyTables.{code_esc, code_enter, code_tab, code_backspace, code_caps_lock, code_scroll_lock, code_num_lock, code_print_screen, code_pause, code_menu, code_media_play, code_media_pause, code_media_play_pause, code_media_reverse, code_media_stop, code_media_fast_forward, code_media_rewind, code_media_track_next, code_media_track_previous, code_media_record, code_media_lower_volume, code_media_raise_volume, code_media_mute_volume, code_modifier_left_shift, code_modifier_left_control, code_modifier_left_alt, code_modifier_left_super, code_modifier_left_hyper, code_modifier_left_meta, code_modifier_right_shift, code_modifier_right_control, code_modifier_right_alt, code_modifier_right_super, code_modifier_right_hyper, code_modifier_right_meta, code_modifier_iso_level3_shift, code_modifier_iso_level5_shift, code_f13, code_f14, code_f15, code_f16, code_f17, code_f18, code_f19, code_f20, code_f21, code_f22, code_f23, code_f24, code_f25, code_f26, code_f27, code_f28, code_f29, code_f30, code_f31, code_f32, code_f33, code_f34, code_f35, pad_char48, pad_char49, pad_char50, pad_char51, pad_char52, pad_char53, pad_char54, pad_char55, pad_char56, pad_char57, pad_char46, pad_char47, pad_char42, pad_char45, pad_char43, pad_enter, pad_char61, pad_char44, pad_left, pad_right, pad_up, pad_down, pad_page_up, pad_page_down, pad_home, pad_end, pad_insert, pad_delete, pad_keypad_begin, code_character}
+use Rattle.ratatui_input.specs.KeyTables.{letter_up, letter_down, letter_right, letter_left, letter_keypad_begin, letter_end}
+use Rattle.ratatui_input.specs.KeyTables.{letter_home, letter_f1, letter_f2, letter_f3, letter_f4, letter_back_tab}
+use Rattle.ratatui_input.specs.KeyTables.{tilde_home, tilde_insert, tilde_delete, tilde_end, tilde_page_up, tilde_page_down}
+use Rattle.ratatui_input.specs.KeyTables.{tilde7_home, tilde8_end, tilde_f1, tilde_f2, tilde_f3, tilde_f4, tilde_f5, tilde_f6}
+use Rattle.ratatui_input.specs.KeyTables.{tilde_f7, tilde_f8, tilde_f9, tilde_f10, tilde_f11, tilde_f12, tilde_f13, tilde_f14}
+use Rattle.ratatui_input.specs.KeyTables.{tilde_f15, tilde_f16, tilde_f17, tilde_f18, tilde_f19, tilde_f20}
+use Rattle.ratatui_input.specs.KeyTables.{code_esc, code_enter, code_tab, code_backspace, code_caps_lock, code_scroll_lock}
+use Rattle.ratatui_input.specs.KeyTables.{code_num_lock, code_print_screen, code_pause, code_menu, code_media_play}
+use Rattle.ratatui_input.specs.KeyTables.{code_media_pause, code_media_play_pause, code_media_reverse, code_media_stop}
+use Rattle.ratatui_input.specs.KeyTables.{code_media_fast_forward, code_media_rewind, code_media_track_next}
+use Rattle.ratatui_input.specs.KeyTables.{code_media_track_previous, code_media_record, code_media_lower_volume}
+use Rattle.ratatui_input.specs.KeyTables.{code_media_raise_volume, code_media_mute_volume, code_modifier_left_shift}
+use Rattle.ratatui_input.specs.KeyTables.{code_modifier_left_control, code_modifier_left_alt, code_modifier_left_super}
+use Rattle.ratatui_input.specs.KeyTables.{code_modifier_left_hyper, code_modifier_left_meta, code_modifier_right_shift}
+use Rattle.ratatui_input.specs.KeyTables.{code_modifier_right_control, code_modifier_right_alt, code_modifier_right_super}
+use Rattle.ratatui_input.specs.KeyTables.{code_modifier_right_hyper, code_modifier_right_meta, code_modifier_iso_level3_shift}
+use Rattle.ratatui_input.specs.KeyTables.{code_modifier_iso_level5_shift, code_f13, code_f14, code_f15, code_f16, code_f17}
+use Rattle.ratatui_input.specs.KeyTables.{code_f18, code_f19, code_f20, code_f21, code_f22, code_f23, code_f24, code_f25}
+use Rattle.ratatui_input.specs.KeyTables.{code_f26, code_f27, code_f28, code_f29, code_f30, code_f31, code_f32, code_f33}
+use Rattle.ratatui_input.specs.KeyTables.{code_f34, code_f35, pad_char48, pad_char49, pad_char50, pad_char51, pad_char52}
+use Rattle.ratatui_input.specs.KeyTables.{pad_char53, pad_char54, pad_char55, pad_char56, pad_char57, pad_char46, pad_char47}
+use Rattle.ratatui_input.specs.KeyTables.{pad_char42, pad_char45, pad_char43, pad_enter, pad_char61, pad_char44, pad_left}
+use Rattle.ratatui_input.specs.KeyTables.{pad_right, pad_up, pad_down, pad_page_up, pad_page_down, pad_home, pad_end, pad_insert}
+use Rattle.ratatui_input.specs.KeyTables.{pad_delete, pad_keypad_begin, code_character}
 
 -- a sequence's numbers
 abbrev pub seq : Source → ℕ → ℕ → ℕ → ℕ → ℕ → ℕ → Sequence
@@ -27,7 +50,8 @@ seq source numbers parts first second third kind =
     record { source = source; numbers = numbers; parts = parts; first = first; second = second; third = third; kind = kind }
 
 -- a letter after a lone number, and after 1 and what is held
-pub letter-alone : {b : ℕ} {code : KeyCode} → IsLetter b code → (n : ℕ) → sequence_event (seq Keys 0 0 n 0 0 0) b ≡ letter_code_event (Some code) 0 n
+pub letter-alone : {b : ℕ} {code : KeyCode} → IsLetter b code → (n : ℕ)
+    → sequence_event (seq Keys 0 0 n 0 0 0) b ≡ letter_code_event (Some code) 0 n
 unfolding sequence_event keys_event letter_event key_at
 letter-alone letter_up n = refl
 letter-alone letter_down n = refl
@@ -42,7 +66,8 @@ letter-alone letter_f3 n = refl
 letter-alone letter_f4 n = refl
 letter-alone letter_back_tab n = refl
 
-pub letter-held : {b : ℕ} {code : KeyCode} → IsLetter b code → (p m k : ℕ) → sequence_event (seq Keys 1 p 1 m 0 k) b ≡ letter_code_event (Some code) k m
+pub letter-held : {b : ℕ} {code : KeyCode} → IsLetter b code → (p m k : ℕ)
+    → sequence_event (seq Keys 1 p 1 m 0 k) b ≡ letter_code_event (Some code) k m
 unfolding sequence_event keys_event letter_event key_at
 letter-held letter_up p m k = refl
 letter-held letter_down p m k = refl
@@ -80,21 +105,82 @@ pub record EndsSequence (b : ℕ) : Type 0 where
   pub no_click : b ≡ 77 → ⊥
 
 pub letter-ends : {b : ℕ} {code : KeyCode} → IsLetter b code → EndsSequence b
-letter-ends letter_up = record { low = lit≤ tt; high = lit≤ tt; no_bracket = λ e. omega (arith, e); no_click = λ e. omega (arith, e) }
-letter-ends letter_down = record { low = lit≤ tt; high = lit≤ tt; no_bracket = λ e. omega (arith, e); no_click = λ e. omega (arith, e) }
-letter-ends letter_right = record { low = lit≤ tt; high = lit≤ tt; no_bracket = λ e. omega (arith, e); no_click = λ e. omega (arith, e) }
-letter-ends letter_left = record { low = lit≤ tt; high = lit≤ tt; no_bracket = λ e. omega (arith, e); no_click = λ e. omega (arith, e) }
-letter-ends letter_keypad_begin = record { low = lit≤ tt; high = lit≤ tt; no_bracket = λ e. omega (arith, e); no_click = λ e. omega (arith, e) }
-letter-ends letter_end = record { low = lit≤ tt; high = lit≤ tt; no_bracket = λ e. omega (arith, e); no_click = λ e. omega (arith, e) }
-letter-ends letter_home = record { low = lit≤ tt; high = lit≤ tt; no_bracket = λ e. omega (arith, e); no_click = λ e. omega (arith, e) }
-letter-ends letter_f1 = record { low = lit≤ tt; high = lit≤ tt; no_bracket = λ e. omega (arith, e); no_click = λ e. omega (arith, e) }
-letter-ends letter_f2 = record { low = lit≤ tt; high = lit≤ tt; no_bracket = λ e. omega (arith, e); no_click = λ e. omega (arith, e) }
-letter-ends letter_f3 = record { low = lit≤ tt; high = lit≤ tt; no_bracket = λ e. omega (arith, e); no_click = λ e. omega (arith, e) }
-letter-ends letter_f4 = record { low = lit≤ tt; high = lit≤ tt; no_bracket = λ e. omega (arith, e); no_click = λ e. omega (arith, e) }
-letter-ends letter_back_tab = record { low = lit≤ tt; high = lit≤ tt; no_bracket = λ e. omega (arith, e); no_click = λ e. omega (arith, e) }
+letter-ends letter_up = record {
+  low = lit≤ tt;
+  high = lit≤ tt;
+  no_bracket = λ e. omega (arith, e);
+  no_click = λ e. omega (arith, e);
+}
+letter-ends letter_down = record {
+  low = lit≤ tt;
+  high = lit≤ tt;
+  no_bracket = λ e. omega (arith, e);
+  no_click = λ e. omega (arith, e);
+}
+letter-ends letter_right = record {
+  low = lit≤ tt;
+  high = lit≤ tt;
+  no_bracket = λ e. omega (arith, e);
+  no_click = λ e. omega (arith, e);
+}
+letter-ends letter_left = record {
+  low = lit≤ tt;
+  high = lit≤ tt;
+  no_bracket = λ e. omega (arith, e);
+  no_click = λ e. omega (arith, e);
+}
+letter-ends letter_keypad_begin = record {
+  low = lit≤ tt;
+  high = lit≤ tt;
+  no_bracket = λ e. omega (arith, e);
+  no_click = λ e. omega (arith, e);
+}
+letter-ends letter_end = record {
+  low = lit≤ tt;
+  high = lit≤ tt;
+  no_bracket = λ e. omega (arith, e);
+  no_click = λ e. omega (arith, e);
+}
+letter-ends letter_home = record {
+  low = lit≤ tt;
+  high = lit≤ tt;
+  no_bracket = λ e. omega (arith, e);
+  no_click = λ e. omega (arith, e);
+}
+letter-ends letter_f1 = record {
+  low = lit≤ tt;
+  high = lit≤ tt;
+  no_bracket = λ e. omega (arith, e);
+  no_click = λ e. omega (arith, e);
+}
+letter-ends letter_f2 = record {
+  low = lit≤ tt;
+  high = lit≤ tt;
+  no_bracket = λ e. omega (arith, e);
+  no_click = λ e. omega (arith, e);
+}
+letter-ends letter_f3 = record {
+  low = lit≤ tt;
+  high = lit≤ tt;
+  no_bracket = λ e. omega (arith, e);
+  no_click = λ e. omega (arith, e);
+}
+letter-ends letter_f4 = record {
+  low = lit≤ tt;
+  high = lit≤ tt;
+  no_bracket = λ e. omega (arith, e);
+  no_click = λ e. omega (arith, e);
+}
+letter-ends letter_back_tab = record {
+  low = lit≤ tt;
+  high = lit≤ tt;
+  no_bracket = λ e. omega (arith, e);
+  no_click = λ e. omega (arith, e);
+}
 
 -- a number before a tilde
-pub tilde-told : {n : ℕ} {code : KeyCode} → IsTilde n code → (numbers p m t k : ℕ) → sequence_event (seq Keys numbers p n m t k) 126 ≡ key_event k code false m
+pub tilde-told : {n : ℕ} {code : KeyCode} → IsTilde n code → (numbers p m t k : ℕ)
+    → sequence_event (seq Keys numbers p n m t k) 126 ≡ key_event k code false m
 unfolding sequence_event keys_event tilde_event key_at
 tilde-told tilde_home numbers p m t k = refl
 tilde-told tilde_insert numbers p m t k = refl
@@ -179,7 +265,8 @@ none-at (e ∷ table) c plain where_it_is h =
 above : (m n : ℕ) → nat_lt m 35 ≡ true → 35 ≤ n → (m == n) ≡ false
 above m n h k = grind (arith, nat_tests)
 
-pub none-above : (table : List (ℕ × KeyCode)) (n : ℕ) → list_all (λ (e : ℕ × KeyCode). nat_lt e.0 35) table ≡ true → 35 ≤ n → key_at table n ≡ None
+pub none-above : (table : List (ℕ × KeyCode)) (n : ℕ) → list_all (λ (e : ℕ × KeyCode). nat_lt e.0 35) table ≡ true → 35 ≤ n
+    → key_at table n ≡ None
 unfolding key_at
 none-above [] n h k = refl
 none-above (e ∷ table) n h k =
@@ -199,7 +286,8 @@ pub name-none : (c : ℕ) → 32 ≤ c → c ≤ 126 → name_key c ≡ None
 unfolding name_key
 name-none c low high = none-at CODES c (printed-plain c low high) (inl (omega arith)) refl
 
-named-none : (c : ℕ) → (c < 55296) ⊎ ((57344 ≤ c) × (c < 1114112)) → is_control c ≡ false → (c < 57344) ⊎ (63744 ≤ c) → named_key None c ≡ Some (Char c, false)
+named-none : (c : ℕ) → (c < 55296) ⊎ ((57344 ≤ c) × (c < 1114112)) → is_control c ≡ false → (c < 57344) ⊎ (63744 ≤ c)
+    → named_key None c ≡ Some (Char c, false)
 named-none c scalar plain where_it_is = grind (arith, nat_tests)
 
 character-told : (c : ℕ) → IsScalar c → is_control c ≡ false → (c < 57344) ⊎ (63744 ≤ c) → code_key c ≡ Some (Char c, false)
@@ -397,14 +485,16 @@ code-small (code_character c scalar plain where_it_is) = scalar_fits c scalar
 
 -- ---- what is told of a key
 
-pub key-is : (k : ℕ) (code : KeyCode) (is_keypad : Bool) (m : ℕ) → m ≤ 256 → key_event k code is_keypad m ≡ key_told code is_keypad m (kind_of k)
+pub key-is : (k : ℕ) (code : KeyCode) (is_keypad : Bool) (m : ℕ) → m ≤ 256
+    → key_event k code is_keypad m ≡ key_told code is_keypad m (kind_of k)
 unfolding key_event
 key-is k code is_keypad m h = grind (arith, common_steps)
 
 shifted : (m : ℕ) → m ≤ 256 → with_shift m ≡ (m - 1) / 2 * 2 + 2
 shifted m h = grind (arith, nat_tests)
 
-pub letter-is : {b : ℕ} {code : KeyCode} → IsLetter b code → (k m : ℕ) → m ≤ 256 → letter_code_event (Some code) k m ≡ letter_told code m (kind_of k)
+pub letter-is : {b : ℕ} {code : KeyCode} → IsLetter b code → (k m : ℕ) → m ≤ 256
+    → letter_code_event (Some code) k m ≡ letter_told code m (kind_of k)
 letter-is letter_up k m h = key-is k Up false m h
 letter-is letter_down k m h = key-is k Down false m h
 letter-is letter_right k m h = key-is k Right false m h
@@ -416,4 +506,5 @@ letter-is letter_f1 k m h = key-is k (F 1) false m h
 letter-is letter_f2 k m h = key-is k (F 2) false m h
 letter-is letter_f3 k m h = key-is k (F 3) false m h
 letter-is letter_f4 k m h = key-is k (F 4) false m h
-letter-is letter_back_tab k m h = ap (key_event k BackTab false) (shifted m h) ∙ key-is k BackTab false ((m - 1) / 2 * 2 + 2) (omega arith)
+letter-is letter_back_tab k m h = ap (key_event k BackTab false) (shifted m h) ∙ key-is k BackTab false ((m - 1) / 2 * 2 + 2)
+    (omega arith)

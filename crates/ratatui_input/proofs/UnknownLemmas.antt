@@ -1,12 +1,17 @@
 -- Bytes that are told as unknown stand for nothing.
 use Rattle.std.proofs.Common.{◌≡◌, ◌≢◌, ℕ, Bool, true, false, List, [], ◌∷◌, refl, ap, sym, ◌∙◌}
 use Rattle.ratatui_events.specs.declared.event.Event.{Event}
-use Rattle.ratatui_events.specs.declared.event.Event.TheVariants.{FocusGained, FocusLost, Key, Mouse, PasteBegun, PasteEnded, Pasted, Size, Position, Unknown}
+use Rattle.ratatui_events.specs.declared.event.Event.TheVariants.{FocusGained, FocusLost, Key, Mouse, PasteBegun, PasteEnded}
+use Rattle.ratatui_events.specs.declared.event.Event.TheVariants.{Pasted, Size, Position, Unknown}
 use Rattle.ratatui_input.specs.declared.decoder.State.TheVariants.{Ground}
 use Rattle.ratatui_input.specs.Encodings.{fresh_decoder}
-use Rattle.ratatui_input.specs.Grammar.{Encodes, character, control, alt_character, alt_control, by_letter, by_letter_held, by_single, single_enter, by_console, by_tilde, by_tilde_held, by_code, by_code_held, by_codes, by_other, by_numbers_down, by_numbers_up, by_bytes, by_plain_numbers, focus_gained, focus_lost, size, position}
+use Rattle.ratatui_input.specs.Grammar.{Encodes, character, control, alt_character, alt_control, by_letter, by_letter_held}
+use Rattle.ratatui_input.specs.Grammar.{by_single, single_enter, by_console, by_tilde, by_tilde_held, by_code, by_code_held}
+use Rattle.ratatui_input.specs.Grammar.{by_codes, by_other, by_numbers_down, by_numbers_up, by_bytes, by_plain_numbers}
+use Rattle.ratatui_input.specs.Grammar.{focus_gained, focus_lost, size, position}
 use Rattle.ratatui_input.specs.Decoding.{Told, decoded, read, told_event}
-use Rattle.ratatui_input.specs.Pieces.{IsNothing, Tolerates, any_letter, any_tilde, any_code, any_other, any_begun, any_ended, any_size, any_position, any_plain_mouse, any_down, any_up, any_gained, any_lost}
+use Rattle.ratatui_input.specs.Pieces.{IsNothing, Tolerates, any_letter, any_tilde, any_code, any_other, any_begun, any_ended}
+use Rattle.ratatui_input.specs.Pieces.{any_size, any_position, any_plain_mouse, any_down, any_up, any_gained, any_lost}
 use Rattle.ratatui_input.proofs.StepLemmas.{at}
 use Rattle.ratatui_input.proofs.GrammarLemmas.{encodes-read}
 use Rattle.ratatui_input.proofs.ToleratedLemmas.{tolerated-read}
@@ -70,7 +75,8 @@ first_of [] = PasteEnded
 first_of (e ∷ es) = e
 
 -- bytes that are told as unknown when the last has come
-pub nothing-whole : (bytes : List ℕ) → bytes ≢ [] → ((q : Bool) → decoded (at q Ground) bytes ≡ told_event Unknown Ground q) → IsNothing bytes
+pub nothing-whole : (bytes : List ℕ) → bytes ≢ [] → ((q : Bool) → decoded (at q Ground) bytes ≡ told_event Unknown Ground q)
+    → IsNothing bytes
 unfolding read
 nothing-whole bytes some h = record {
   some = some;

@@ -110,7 +110,8 @@ pub data Encodes : List ℕ → Event → Type 0 where
       → IsCode n code is_keypad → WritesNumber ds n → Held tail m kind → m ≤ 256
       → Encodes (csi (ds ++ tail) 117) (code_told code is_keypad m kind)
   by_codes : {n m : ℕ} {code : KeyCode} {is_keypad : Bool} {ds tail : List ℕ} {kind : KeyEventKind}
-      (codes text : List ℕ) → IsCode n code is_keypad → WritesNumber ds n → AreCodes codes → Held tail m kind → m ≤ 256
+      (codes text : List ℕ) → IsCode n code is_keypad → WritesNumber ds n → AreCodes codes → Held tail m kind
+      → m ≤ 256
       → AreCodes text
       → Encodes (csi (ds ++ (58 ∷ (codes ++ (tail ++ (59 ∷ text))))) 117) (code_told code is_keypad m kind)
   by_other : {n m : ℕ} {code : KeyCode} {is_keypad : Bool} {ds es fs : List ℕ} → IsCode n code is_keypad

@@ -1,12 +1,15 @@
 -- Events of reads, one after the other.
-use Rattle.std.proofs.Common.{◌≡◌, ℕ, ◌+◌, ◌<◌, ◌≤◌, Bool, false, if◌then◌else◌, List, [], ◌∷◌, ◌++◌, length, drop, get_or, refl, ap, ap₂, sym, ◌∙◌, arith, add-one, append-nil, append_assoc, rules, Option, None, Result, Ok, Err, OnErr}
+use Rattle.std.proofs.Common.{◌≡◌, ℕ, ◌+◌, ◌<◌, ◌≤◌, Bool, false, if◌then◌else◌, List, [], ◌∷◌, ◌++◌, length, drop, get_or, refl}
+use Rattle.std.proofs.Common.{ap, ap₂, sym, ◌∙◌, arith, add-one, append-nil, append_assoc, rules, Option, None, Result, Ok, Err}
+use Rattle.std.proofs.Common.{OnErr}
 use Rattle.std.proofs.Math.Seq.{drop-cons}
 use Rattle.std.proofs.lemmas.List.{drop_all}
 use Rattle.ratatui_events.specs.declared.event.Event.{Event}
 use Rattle.ratatui_input.specs.declared.decoder.Decoder.{Decoder}
 use Rattle.ratatui_input.specs.Decoding.{Told, some_list, byte_told, decoded, next_told}
 use Rattle.ratatui_input.proofs.DecodingLemmas.{decoded-append}
-use Rattle.ratatui_reads.specs.Reads.{Between, told_by, all_updated, after_read, after_reads, after_bytes, all_bytes, IsNonEmpty, AreNonEmpty, size_in, later, last_size, RefusesAmong}
+use Rattle.ratatui_reads.specs.Reads.{Between, told_by, all_updated, after_read, after_reads, after_bytes, all_bytes, IsNonEmpty}
+use Rattle.ratatui_reads.specs.Reads.{AreNonEmpty, size_in, later, last_size, RefusesAmong}
 
 -- both lists are empty
 pub both-nil : {A : Type 0} (a b : List A) → a ≡ [] → b ≡ [] → a ++ b ≡ []

@@ -2,7 +2,8 @@
 
 ghost use Rattle.std.specs.Prelude.{◌≡◌, ℕ, ◌++◌, ◌∷◌, Bool, List};
 ghost use Rattle.ratatui_events.specs.declared.event.Event.{Event};
-ghost use Rattle.ratatui_reads.specs.Reads.{Between, after_read, after_reads, after_bytes, all_bytes, IsNonEmpty, AreNonEmpty};
+ghost use Rattle.ratatui_reads.specs.Reads.{Between, after_read, after_reads, after_bytes, all_bytes};
+ghost use Rattle.ratatui_reads.specs.Reads.{IsNonEmpty, AreNonEmpty};
 
 use crate::updates::Updates;
 

@@ -1,7 +1,8 @@
 ghost use Rattle.std.specs.Prelude.{◌≡◌, Bool, [], false, true, None, OnOk, OnErr, IfOk};
 ghost use Rattle.ratatui_input.specs.Decoding.{decoded, some_list};
 ghost use Rattle.ratatui_events.specs.declared.event.Event.{Event};
-ghost use Rattle.ratatui_reads.specs.Reads.{told_by, all_updated, RefusesAmong, size_if, size_in, last_size, size_told};
+ghost use Rattle.ratatui_reads.specs.Reads.{told_by, all_updated, RefusesAmong, size_if, size_in, last_size};
+ghost use Rattle.ratatui_reads.specs.Reads.{size_told};
 
 use ratatui_events::Event;
 use ratatui_input::{Decoder, Fed};

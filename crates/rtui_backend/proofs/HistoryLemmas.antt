@@ -13,7 +13,8 @@ abbrev pub symbols : List Cell → List (List ℕ)
 symbols cells = map (λ cell. (look_of cell).symbol) cells
 
 symbol-at : (cells : List Cell) (a : ℕ) → a < length cells → get_or (symbols cells) a blank ≡ symbol_in cells a
-symbol-at cells a a_in = get_or-map (λ (cell : Cell). (look_of cell).symbol) cells a empty_cell blank a_in ∙ sym (ap (λ l. l.symbol) (look_at-cell cells a))
+symbol-at cells a a_in = get_or-map (λ (cell : Cell). (look_of cell).symbol) cells a empty_cell blank a_in
+    ∙ sym (ap (λ l. l.symbol) (look_at-cell cells a))
 
 count : (cells : List Cell) → length (symbols cells) ≡ length cells
 count cells = length-map cells (λ (cell : Cell). (look_of cell).symbol)
@@ -22,14 +23,16 @@ module _ (w : ℕ) (ts : List (List ℕ)) (cells : List Cell) where
   abbrev shown : List Cell
   shown = line_row w (line_of (map plain ts))
 
-  pub row-shows : length cells ≡ w → HasLine (line_of (map plain ts)) w (symbol_in cells) → symbols cells ≡ symbols_of_line w (line_of (map plain ts))
+  pub row-shows : length cells ≡ w → HasLine (line_of (map plain ts)) w (symbol_in cells)
+      → symbols cells ≡ symbols_of_line w (line_of (map plain ts))
   row-shows wide told =
       let n = length-row w (line_of (map plain ts)) in
       ext_get_or blank (symbols cells) (symbols shown) (count cells ∙ wide ∙ sym (count shown ∙ n)) (λ a a_in.
       let inside : a < w = omega (arith, count cells) in
       symbol-at cells a (omega arith) ∙ told a inside ∙ sym (symbol-at shown a (omega arith)))
 
-  pub row-shown : symbols cells ≡ symbols_of_line w (line_of (map plain ts)) → (length cells ≡ w) × HasLine (line_of (map plain ts)) w (symbol_in cells)
+  pub row-shown : symbols cells ≡ symbols_of_line w (line_of (map plain ts))
+      → (length cells ≡ w) × HasLine (line_of (map plain ts)) w (symbol_in cells)
   row-shown same =
       let n = length-row w (line_of (map plain ts)) in
       let m : length cells ≡ w = sym (count cells) ∙ ap length same ∙ count shown ∙ n in
@@ -37,13 +40,18 @@ module _ (w : ℕ) (ts : List (List ℕ)) (cells : List Cell) where
 
 -- two lists mapped to the same, item by item
 module _ {X Y Z : Type 0} (f : X → Z) (g : Y → Z) (xs : List X) (ys : List Y) (d : X) (e : Y) where
-  pub same-more : (i : ℕ) → i < length xs → i < length ys → map f (take i xs) ≡ map g (take i ys) → f (get_or xs i d) ≡ g (get_or ys i e) → map f (take (i + 1) xs) ≡ map g (take (i + 1) ys)
-  same-more i in_xs in_ys before here = map_more f xs i d in_xs ∙ ap₂ (λ zs z. zs ++ z ∷ []) before here ∙ sym (map_more g ys i e in_ys)
+  pub same-more : (i : ℕ) → i < length xs → i < length ys → map f (take i xs) ≡ map g (take i ys)
+      → f (get_or xs i d) ≡ g (get_or ys i e) → map f (take (i + 1) xs) ≡ map g (take (i + 1) ys)
+  same-more i in_xs in_ys before here = map_more f xs i d in_xs ∙ ap₂ (λ zs z. zs ++ z ∷ []) before here
+      ∙ sym (map_more g ys i e in_ys)
 
   pub same-at : (i : ℕ) → i < length xs → i < length ys → map f xs ≡ map g ys → f (get_or xs i d) ≡ g (get_or ys i e)
-  same-at i in_xs in_ys same = sym (get_or-map f xs i d (f d) in_xs) ∙ ap (λ zs. get_or zs i (f d)) same ∙ get_or-map g ys i e (f d) in_ys
+  same-at i in_xs in_ys same = sym (get_or-map f xs i d (f d) in_xs) ∙ ap (λ zs. get_or zs i (f d)) same
+      ∙ get_or-map g ys i e (f d) in_ys
 
 -- the symbols of looks of cells
-pub history-symbols : {X : Type 0} (items : X → List Cell) (rows : List X) → map (map (λ look. look.symbol)) (map (λ row. map look_of (items row)) rows) ≡ map symbols (map items rows)
+pub history-symbols : {X : Type 0} (items : X → List Cell) (rows : List X)
+    → map (map (λ look. look.symbol)) (map (λ row. map look_of (items row)) rows) ≡ map symbols (map items rows)
 history-symbols items [] = refl
-history-symbols items (row ∷ rows) = ap₂ (λ x xs. x ∷ xs) (map-map (λ look. look.symbol) look_of (items row)) (history-symbols items rows)
+history-symbols items (row ∷ rows) = ap₂ (λ x xs. x ∷ xs) (map-map (λ look. look.symbol) look_of (items row))
+    (history-symbols items rows)

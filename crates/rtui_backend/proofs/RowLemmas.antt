@@ -1,5 +1,6 @@
 -- A row has the symbols of a line where the line's pieces stand in it, with blanks after them.
-use Rattle.std.proofs.Common.{◌≡◌, ◌↔◌, ℕ, suc, ◌+◌, ◌-◌, ◌<◌, ◌≤◌, List, [], ◌∷◌, ◌++◌, length, take, map, refl, sym, ap, subst, ◌∙◌, arith, inl, inr}
+use Rattle.std.proofs.Common.{◌≡◌, ◌↔◌, ℕ, suc, ◌+◌, ◌-◌, ◌<◌, ◌≤◌, List, [], ◌∷◌, ◌++◌, length, take, map, refl, sym, ap, subst}
+use Rattle.std.proofs.Common.{◌∙◌, arith, inl, inr}
 use Rattle.std.proofs.lemmas.{Bool.cases_lt, List.Sums.sum_by-cons}
 use Rattle.rtui_style.specs.Style.{new_style}
 use Rattle.rtui_cell.specs.{declared.cell.Cell.Cell, Cell.empty_cell, Look.look_of, Symbol.blank}
@@ -13,7 +14,8 @@ use Rattle.rtui_backend.specs.Inner.{symbol_in, AreBlank, Stand, HasLine}
 use Rattle.rtui_backend.proofs.LineLemmas.{look_at-cell}
 
 -- pieces and others after them
-pub stand-append : (row : ℕ → List ℕ) (ps qs : List Piece) (a : ℕ) → Stand row a (ps ++ qs) ↔ (Stand row a ps × Stand row (a + columns ps) qs)
+pub stand-append : (row : ℕ → List ℕ) (ps qs : List Piece) (a : ℕ)
+    → Stand row a (ps ++ qs) ↔ (Stand row a ps × Stand row (a + columns ps) qs)
 unfolding Stand
 stand-append row [] qs a = let e : a + columns [] ≡ a = omega arith in (λ h. (tt, rw e h), λ h. rw e at h.1)
 stand-append row (p ∷ ps) qs a =
@@ -22,7 +24,8 @@ stand-append row (p ∷ ps) qs a =
     (λ h. let both = rest.0 h.1 in ((h.0, both.0), rw e both.1), λ h. (h.0.0, rest.1 (h.0.1, rw e at h.1)))
 
 -- where pieces stand, they stand in a row exactly if it has the same symbols there
-stand-agree : (r t : ℕ → List ℕ) (ps : List Piece) (a : ℕ) → AreWide ps → Stand t a ps → Stand r a ps ↔ ((c : ℕ) → a ≤ c → c < a + columns ps → r c ≡ t c)
+stand-agree : (r t : ℕ → List ℕ) (ps : List Piece) (a : ℕ) → AreWide ps → Stand t a ps
+    → Stand r a ps ↔ ((c : ℕ) → a ≤ c → c < a + columns ps → r c ≡ t c)
 unfolding Stand
 stand-agree r t [] a wide g = (λ h c le lt. absurd (omega arith), λ same. tt)
 stand-agree r t (p ∷ ps) a wide g =
@@ -37,7 +40,11 @@ stand-agree r t (p ∷ ps) a wide g =
         | inr past ↦ rest.0 h.1 c past (omega arith)
       ],
       λ same. (
-        record { first = same a (omega arith) (omega arith) ∙ g.0.first; others = λ c le lt. same c (omega arith) (omega arith) ∙ g.0.others c le lt },
+        record {
+          first = same a (omega arith) (omega arith) ∙ g.0.first;
+          others = λ c le lt. same c (omega arith) (omega arith)
+              ∙ g.0.others c le lt;
+        },
         rest.1 (λ c le lt. same c (omega arith) (omega arith)),
       ),
     )
@@ -51,10 +58,12 @@ painted-stand row [] at wide starts others = tt
 painted-stand row (p ∷ ps) at wide starts others =
     let here : at + columns [] ≡ at = omega arith in
     let some : 0 < piece_width p = wide.0 in
-    let next : (k : ℕ) → at + piece_width p + columns (take k ps) ≡ at + columns (take (suc k) (p ∷ ps)) = λ k. omega (arith, sum_by-cons piece_width p (take k ps)) in (
+    let next : (k : ℕ) → at + piece_width p + columns (take k ps) ≡ at + columns (take (suc k) (p ∷ ps)) =
+    λ k. omega (arith, sum_by-cons piece_width p (take k ps)) in (
       record {
         first = ap row (sym here) ∙ starts 0 (omega arith);
-        others = λ c le lt. let e : at + columns [] + (c - at) ≡ c = omega arith in ap row (sym e) ∙ others 0 (c - at) (omega arith) (omega arith) (omega arith);
+        others = λ c le lt. let e : at + columns [] + (c - at) ≡ c = omega arith in
+            ap row (sym e) ∙ others 0 (c - at) (omega arith) (omega arith) (omega arith);
       },
       painted-stand row ps (at + piece_width p) wide.1
           (λ k lt. ap row (next k) ∙ starts (suc k) (omega arith))
@@ -90,7 +99,8 @@ module _ (w : ℕ) (ts : List (List ℕ)) where
   line-stands : Stand symbols 0 line
   line-stands =
       painted-stand symbols line 0 wide
-      (λ k lt. by-cells (place_of 0 line k) ∙ ap (λ c. (look_of c).symbol) (has.starts k lt) ∙ shown-symbol (piece_at line k) (cell (empty_cells w) (place_of 0 line k)))
+      (λ k lt. by-cells (place_of 0 line k) ∙ ap (λ c. (look_of c).symbol) (has.starts k lt) ∙ shown-symbol (piece_at line k)
+      (cell (empty_cells w) (place_of 0 line k)))
       (λ k j lt pos low. blank-at (place_of 0 line k + j) (has.behind k j lt pos low))
 
   line-blank : (c : ℕ) → columns line ≤ c → symbols c ≡ blank
@@ -104,5 +114,8 @@ module _ (w : ℕ) (ts : List (List ℕ)) where
 
   pub line-had : (row : ℕ → List ℕ) → HasLine (line_of (map plain ts)) w row → Stand row 0 line × AreBlank row (columns line) w
   line-had row same =
-      let le = columns-line w new_style (map plain ts) in
-      ((stand-agree row symbols line 0 wide line-stands).1 (λ c _ lt. same c (omega arith)), λ c past lt. same c lt ∙ line-blank c past)
+      let le = columns-line w new_style (map plain ts) in (
+        (stand-agree row symbols line 0 wide line-stands).1 (λ c _ lt. same c (omega arith)),
+        λ c past lt. same c lt
+            ∙ line-blank c past,
+      )

@@ -13,14 +13,16 @@ seen_after {r} {s} {k} p a b a_in = elim (cases_lt b r.height) [
 ]
 
 row_after : {r s : Screen} {k : ℕ} → Scrolls r k s → (b : ℕ) → row_of s b ≡ row_of r (b + k)
-row_after {r} {s} {k} p b = rw p.width (map_same (λ a. seen s a b) (λ a. seen r a (b + k)) 0 r.width (λ a _ a_in. seen_after p a b (omega arith)))
+row_after {r} {s} {k} p b = rw p.width (map_same (λ a. seen s a b) (λ a. seen r a (b + k)) 0 r.width
+    (λ a _ a_in. seen_after p a b (omega arith)))
 
 -- a scroll keeps the rows above what moves up with it
 pub above_kept : {r s : Screen} {k : ℕ} → Scrolls r k s → (e : ℕ) → rows_above s e ≡ rows_above r (k + e)
 above_kept {r} {s} {k} p e =
     ap (λ h. h ++ map (row_of s) (range_with_len 0 e)) p.history
     ∙ append_assoc r.history _ _
-    ∙ ap (λ rows. r.history ++ (map (row_of r) (range_with_len 0 k) ++ rows)) (map_same (row_of s) (λ b. row_of r (b + k)) 0 e (λ b _ _. row_after p b))
+    ∙ ap (λ rows. r.history ++ (map (row_of r) (range_with_len 0 k) ++ rows))
+    (map_same (row_of s) (λ b. row_of r (b + k)) 0 e (λ b _ _. row_after p b))
     ∙ ap (λ xs. r.history ++ xs) (sym (places_split (row_of r) k e))
 
 -- where the history and the rows before row e stay, the rows above row e do

@@ -1,6 +1,7 @@
 -- The grid that a row-major list of cells stands for.
 use Rattle.std.specs.Prelude.{ℕ, ◌+◌, ◌*◌, nat_lt, if◌then◌else◌, List, map, All, slice_index_or}
-use Rattle.rtui_cell.specs.{declared.cell.Cell.Cell, Cell.IsUnmarked, Look.Look, Look.look_of, Look.empty_look, Grid.Grid}
+use Rattle.rtui_cell.specs.{declared.cell.Cell.Cell, Cell.IsUnmarked, Look.Look, Look.look_of}
+use Rattle.rtui_cell.specs.{Look.empty_look, Grid.Grid}
 use Rattle.rtui_diff.specs.Cells.{cell}
 
 -- the look at a place, and the empty one past the end

@@ -1,7 +1,8 @@
 -- Which columns a clear empties.
 use Rattle.std.specs.Prelude.{ℕ, Bool, true, ◌&&◌, ◌||◌, nat_lt, nat_le, nat_eq, List, codes}
 use Rattle.rtui_backend.specs.declared.clear_type.ClearType.{ClearType}
-use Rattle.rtui_backend.specs.declared.clear_type.ClearType.TheVariants.{All, AfterCursor, BeforeCursor, CurrentLine, UntilNewLine}
+use Rattle.rtui_backend.specs.declared.clear_type.ClearType.TheVariants.{All, AfterCursor, BeforeCursor}
+use Rattle.rtui_backend.specs.declared.clear_type.ClearType.TheVariants.{CurrentLine, UntilNewLine}
 
 -- whether column a of row b is emptied, for a cursor in column x of row y
 abbrev pub is_cleared : ClearType → ℕ → ℕ → ℕ → ℕ → Bool

@@ -1,7 +1,9 @@
 -- What a screen is, and what each call of a backend does to it.
-use Rattle.std.specs.Prelude.{◌≡◌, ℕ, ◌+◌, ◌-◌, ◌^◌, ◌<◌, ◌≤◌, min, Bool, ◌++◌, ◌&&◌, ◌==◌, nat_le, map, nat_lt, if◌then◌else◌, true, false, List, [], length}
+use Rattle.std.specs.Prelude.{◌≡◌, ℕ, ◌+◌, ◌-◌, ◌^◌, ◌<◌, ◌≤◌, min, Bool, ◌++◌, ◌&&◌, ◌==◌, nat_le, map}
+use Rattle.std.specs.Prelude.{nat_lt, if◌then◌else◌, true, false, List, [], length}
 use Rattle.std.specs.List.{range_with_len}
-use Rattle.rtui_geometry.specs.{declared.position.Position.Position, declared.rect.Rect.Rect, declared.size.Size.Size, Rect.HasPosition}
+use Rattle.rtui_geometry.specs.{declared.position.Position.Position, declared.rect.Rect.Rect}
+use Rattle.rtui_geometry.specs.{declared.size.Size.Size, Rect.HasPosition}
 use Rattle.rtui_cell.specs.{Look.Look, Look.empty_look, Grid.Grid, Grid.Update, Grid.puts}
 use Rattle.rtui_backend.specs.{declared.clear_type.ClearType.ClearType, Clear.is_cleared}
 
@@ -51,7 +53,8 @@ pub record Draws (old : Screen) (us : List Update) (new : Screen) : Type 0 where
   pub written : old.written + length us < 2 ^ 64 - 1 → new.written ≡ old.written + length us
   pub full : 2 ^ 64 - 1 ≤ old.written + length us → 2 ^ 64 - 1 ≤ new.written
 
--- k rows left at the top for the history, in order, and as many blank rows came in below; the cursor may be anywhere
+-- k rows left at the top for the history, in order, and as many blank rows came in below; the cursor may be
+-- anywhere
 pub record Scrolls (old : Screen) (k : ℕ) (new : Screen) : Type 0 where
   pub history : new.history ≡ rows_above old k
   pub width : new.width ≡ old.width
@@ -74,7 +77,8 @@ pub record Appends (old : Screen) (n : ℕ) (new : Screen) : Type 0 where
 abbrev pub upper_part : ℕ → Screen → Screen
 upper_part b s = record s { height = min b s.height }
 
--- a motion: in a part of a screen each column has what it had in row `source y`, or nothing if row y has no source; all else stays
+-- a motion: in a part of a screen each column has what it had in row `source y`, or nothing if row y has no
+-- source; all else stays
 pub record Motion : Type 0 where
   pub part : ℕ → ℕ → Bool
   pub has_source : ℕ → Bool
@@ -82,7 +86,8 @@ pub record Motion : Type 0 where
 
 -- what stands in column x of row y after a motion
 abbrev pub moved_by : {A : Type 0} → Motion → A → (ℕ → ℕ → A) → ℕ → ℕ → A
-moved_by m nothing was x y = if m.part x y then (if m.has_source y then was x (m.source y) else nothing) else was x y
+moved_by m nothing was x y = if m.part x y then (if m.has_source y then was x (m.source y) else nothing)
+    else was x y
 
 -- a row lies in the region of rows from a up to b
 abbrev pub is_in_region : ℕ → ℕ → ℕ → Bool
@@ -90,31 +95,43 @@ is_in_region a b y = nat_le a y && nat_lt y b
 
 -- the rows of a region go up by n, and blank rows come in below
 abbrev pub scrolling_up : ℕ → ℕ → ℕ → Motion
-scrolling_up a b n = record { part = λ x y. is_in_region a b y; has_source = λ y. nat_lt (y + n) b; source = λ y. y + n }
+scrolling_up a b n = record {
+  part = λ x y. is_in_region a b y;
+  has_source = λ y. nat_lt (y + n) b;
+  source = λ y. y + n;
+}
 
 -- they go down by n, and blank rows come in above
 abbrev pub scrolling_down : ℕ → ℕ → ℕ → Motion
-scrolling_down a b n = record { part = λ x y. is_in_region a b y; has_source = λ y. nat_le (a + n) y; source = λ y. y - n }
+scrolling_down a b n = record {
+  part = λ x y. is_in_region a b y;
+  has_source = λ y. nat_le (a + n) y;
+  source = λ y. y - n;
+}
 
 -- a part becomes blank
 abbrev pub clearing : (ℕ → ℕ → Bool) → Motion
 clearing part = record { part = part; has_source = λ y. false; source = λ y. y }
 
--- the rows of the region from a up to b, cut at the screen's end, moved so by n, and this is the history now. All other rows stay, the cursor
--- may be anywhere, and if the region has no rows nothing changed
-pub record ScrollsRegion (motion : ℕ → ℕ → ℕ → Motion) (a b n : ℕ) (above : List (List Look)) (old new : Screen) : Type 0 where
+-- the rows of the region from a up to b, cut at the screen's end, moved so by n, and this is the history now.
+-- All other rows stay, the cursor may be anywhere, and if the region has no rows nothing changed
+pub record ScrollsRegion (motion : ℕ → ℕ → ℕ → Motion) (a b n : ℕ) (above : List (List Look))
+    (old new : Screen) : Type 0 where
   pub history : new.history ≡ above
   pub width : new.width ≡ old.width
   pub height : new.height ≡ old.height
-  pub grid : (x y : ℕ) → x < old.width → y < old.height → new.grid x y ≡ moved_by (motion a (min b old.height) n) empty_look old.grid x y
+  pub grid : (x y : ℕ) → x < old.width → y < old.height
+      → new.grid x y ≡ moved_by (motion a (min b old.height) n) empty_look old.grid x y
   pub visible : new.visible ≡ old.visible
   pub written : new.written ≡ old.written
   pub no_rows : min b old.height ≤ a → new ≡ old
 
--- they moved up; if the region begins with the first row, n rows went to the history, in order, blank ones after those that the region has
+-- they moved up; if the region begins with the first row, n rows went to the history, in order, blank ones
+-- after those that the region has
 abbrev pub ScrollsUp : ℕ → ℕ → ℕ → Screen → Screen → Type 0
 ScrollsUp a b n old new =
-    ScrollsRegion scrolling_up a b n (if a == 0 && nat_lt 0 (min b old.height) then rows_above (upper_part b old) n else old.history) old new
+    ScrollsRegion scrolling_up a b n (if a == 0 && nat_lt 0 (min b old.height) then rows_above
+    (upper_part b old) n else old.history) old new
 
 -- they moved down, and those that left are lost
 abbrev pub ScrollsDown : ℕ → ℕ → ℕ → Screen → Screen → Type 0
@@ -123,18 +140,24 @@ ScrollsDown a b n old new = ScrollsRegion scrolling_down a b n old.history old n
 -- what a clear empties for a cursor in column x of row y was emptied, and all else stays
 pub record Erases (kind : ClearType) (x y : ℕ) (old new : Screen) : Type 0 where
   pub rest : new ≡ record old { grid = new.grid }
-  pub grid : (a b : ℕ) → a < old.width → b < old.height → new.grid a b ≡ moved_by (clearing (is_cleared kind x y)) empty_look old.grid a b
+  pub grid : (a b : ℕ) → a < old.width → b < old.height
+      → new.grid a b ≡ moved_by (clearing (is_cleared kind x y)) empty_look old.grid a b
 
 -- a part of the screen was emptied, by where the cursor is
 abbrev pub Clears : Screen → ClearType → Screen → Type 0
 Clears old kind new = Erases kind old.cursor_x old.cursor_y old new
 
--- the screen took another size: rows and columns were cut, or empty ones came in at the right and below; the cursor is kept on the grid
+-- the screen took another size: rows and columns were cut, or empty ones came in at the right and below; the
+-- cursor is kept on the grid
 pub record TakesSize (old : Screen) (given : Size) (new : Screen) : Type 0 where
   pub history : new.history ≡ old.history
   pub size : size_of new ≡ given
-  pub grid : (a b : ℕ) → a < given.width → b < given.height → new.grid a b ≡ if nat_lt a old.width then seen old a b else empty_look
-  pub cursor : cursor_of new ≡ record { x = min old.cursor_x (given.width - 1); y = min old.cursor_y (given.height - 1) }
+  pub grid : (a b : ℕ) → a < given.width → b < given.height
+      → new.grid a b ≡ if nat_lt a old.width then seen old a b else empty_look
+  pub cursor : cursor_of new ≡ record {
+    x = min old.cursor_x (given.width - 1);
+    y = min old.cursor_y (given.height - 1);
+  }
   pub visible : new.visible ≡ old.visible
   pub written : new.written ≡ old.written
 

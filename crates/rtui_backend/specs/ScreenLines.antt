@@ -23,9 +23,11 @@ pub record ScreenHasLines (lines : List LineData) (s : Screen) : Type 0 where
 abbrev pub symbols_of_line : ℕ → LineData → List (List ℕ)
 symbols_of_line w line = map (λ cell. (look_of cell).symbol) (line_row w line)
 
--- the rows of the history have the symbols of these lines, in order, each in as many columns as the widest one takes
+-- the rows of the history have the symbols of these lines, in order, each in as many columns as the widest
+-- one takes
 abbrev pub HistoryHasLines : List LineData → Screen → Type 0
-HistoryHasLines lines s = map (map (λ look. look.symbol)) s.history ≡ map (symbols_of_line (widest lines)) lines
+HistoryHasLines lines s = map (map (λ look. look.symbol)) s.history ≡ map
+    (symbols_of_line (widest lines)) lines
 
 -- a new screen that shows lines and nothing else: no history, the cursor visible at the corner, nothing drawn
 pub record IsScreenOf (lines : List LineData) (s : Screen) : Type 0 where

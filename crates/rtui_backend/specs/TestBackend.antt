@@ -1,9 +1,11 @@
 -- What a `TestBackend` stands for.
-use Rattle.std.specs.Prelude.{◌≡◌, ◌↔◌, ℕ, ◌-◌, ◌==◌, if◌then◌else◌, map, Option, Some, None, Result, Err, MatchResult, OnErr, List}
+use Rattle.std.specs.Prelude.{◌≡◌, ◌↔◌, ℕ, ◌-◌, ◌==◌, if◌then◌else◌, map, Option, Some, None, Result, Err}
+use Rattle.std.specs.Prelude.{MatchResult, OnErr, List}
 use Rattle.std.specs.Iterator.{Yields}
 use Rattle.rtui_cell.specs.{Look.look_of, Grid.Update}
 use Rattle.rtui_buffer.specs.BufferData.{BufferData}
-use Rattle.rtui_backend.specs.{Screen.Screen, Screen.Draws, CellGrid.grid_of, declared.test.TestBackend.TestBackend, declared.test.TestError.TestError}
+use Rattle.rtui_backend.specs.{Screen.Screen, Screen.Draws, CellGrid.grid_of}
+use Rattle.rtui_backend.specs.{declared.test.TestBackend.TestBackend, declared.test.TestError.TestError}
 use Rattle.rtui_backend.specs.declared.test.TestError.TheVariants.{Told}
 
 -- its screen
@@ -36,7 +38,8 @@ abbrev pub one_call_less : Option ℕ → Option ℕ
 one_call_less None = None
 one_call_less (Some calls) = if calls == 0 then None else Some (calls - 1)
 
--- a call that takes no memory is refused exactly if its turn has come, the screen stays then, and one call less is left
+-- a call that takes no memory is refused exactly if its turn has come, the screen stays then, and one call
+-- less is left
 pub record TakesTurn {T : Type 0} (result : Result T TestError) (old new : TestBackend) : Type 0 where
   pub told : (result ≡ Err Told) ↔ (told_after old ≡ Some 0)
   pub only : MatchResult result (λ _. Unit {0}) (λ error. error ≡ Told)
@@ -49,7 +52,8 @@ pub record IsSameBackend (old new : TestBackend) : Type 0 where
   pub failures : failures_of new ≡ failures_of old
 
 -- the first items that an iterator gives, maybe none, were put in order and counted, and no others
-pub record DrawsFront {S A : Type 0} (steps : S → Option A → S → Type 0) (content : S) (update : A → Update) (old new : Screen) : Type 0 where
+pub record DrawsFront {S A : Type 0} (steps : S → Option A → S → Type 0) (content : S) (update : A → Update)
+    (old new : Screen) : Type 0 where
   pub front : List A
   pub rest : S
   pub gives : Yields steps content front rest

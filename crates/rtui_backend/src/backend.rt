@@ -2,7 +2,8 @@ ghost use Rattle.std.specs.Prelude.{◌≡◌, ℕ, Bool, List, map, true, false
 ghost use Rattle.std.specs.Iterator.{IsFinite, Drains};
 ghost use Rattle.rtui_cell.specs.declared.cell.Cell.{Cell};
 ghost use Rattle.rtui_cell.specs.Grid.{update_by};
-ghost use Rattle.rtui_backend.specs.Screen.{Screen, IsOnGrid, Draws, Appends, Clears, ScrollsUp, ScrollsDown, with_visible, with_cursor, cursor_of, size_of};
+ghost use Rattle.rtui_backend.specs.Screen.{Screen, IsOnGrid, Draws, Appends, Clears, ScrollsUp, ScrollsDown};
+ghost use Rattle.rtui_backend.specs.Screen.{with_visible, with_cursor, cursor_of, size_of};
 ghost use Rattle.rtui_backend.specs.declared.clear_type.ClearType.TheVariants.{All};
 ghost use Rattle.rtui_backend.specs.Failures.{Counts};
 

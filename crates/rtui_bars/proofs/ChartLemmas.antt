@@ -1,13 +1,16 @@
 -- The parts of a bar chart within their areas.
-use Rattle.std.proofs.Common.{◌≡◌, ℕ, zero, suc, ◌+◌, ◌-◌, ◌*◌, ◌<◌, ◌≤◌, ⊎_elim, min, List, [], ◌∷◌, length, take, drop, sym, ap, ◌∙◌, arith, Result, Ok, Err, OnOk, OnErr}
+use Rattle.std.proofs.Common.{◌≡◌, ℕ, zero, suc, ◌+◌, ◌-◌, ◌*◌, ◌<◌, ◌≤◌, ⊎_elim, min, List, [], ◌∷◌, length, take, drop, sym, ap}
+use Rattle.std.proofs.Common.{◌∙◌, arith, Result, Ok, Err, OnOk, OnErr}
 use Rattle.std.specs.declared.alloc.AllocError.{AllocError}
 use Rattle.std.proofs.Math.ListN.{get_or}
 use Rattle.std.proofs.lemmas.{Bool.cases_lt, List.drop_more, List.take_all}
 use Rattle.ratatui_core.specs.Layout.{Rect, Position, IsInside}
 use Rattle.ratatui_core.specs.{Style.Style, Text.LineData}
-use Rattle.ratatui_core.specs.Buffer.{BufferData, Cell, ChangesEach, IsStyled, pieces_at, text_columns, PaintsOrRefuses, position_of}
+use Rattle.ratatui_core.specs.Buffer.{BufferData, Cell, ChangesEach, IsStyled, pieces_at, text_columns, PaintsOrRefuses}
+use Rattle.ratatui_core.specs.Buffer.{position_of}
 use Rattle.ratatui_core.specs.Widgets.{ChangesWithin, RendersLine}
-use Rattle.ratatui_core.proofs.{BufferLemmas.Changes-within, BufferLemmas.within-wider, BufferLemmas.text-keeps, WidgetLemmas.within-then, WidgetLemmas.within-styled}
+use Rattle.ratatui_core.proofs.{BufferLemmas.Changes-within, BufferLemmas.within-wider, BufferLemmas.text-keeps}
+use Rattle.ratatui_core.proofs.{WidgetLemmas.within-then, WidgetLemmas.within-styled}
 use Rattle.rtui_boxes.specs.{Boxes.IsBoxArea, Titles.first_columns, Titles.without_first}
 use Rattle.rtui_boxes.proofs.PaintLemmas.{paints-within}
 use Rattle.rtui_bars.specs.{declared.group.Bar.Bar, declared.chart.BarChart.BarChart}
@@ -15,42 +18,54 @@ use Rattle.rtui_bars.specs.BarCharts.{rows_at, middle_columns, bar_step, after_b
 use Rattle.rtui_bars.specs.Inner.{HasRows, BarsFit}
 
 -- a change of a part, or memory is refused
-pub changed-in : {A : Type 0} (result : Result A AllocError) (part r : Rect) (f : Position → Cell → Cell) (old new : BufferData) → IsInside part r → OnOk result (ChangesEach part f old new) → OnErr result (ChangesWithin part old new)
+pub changed-in : {A : Type 0} (result : Result A AllocError) (part r : Rect) (f : Position → Cell → Cell) (old new : BufferData)
+    → IsInside part r → OnOk result (ChangesEach part f old new) → OnErr result (ChangesWithin part old new)
     → ChangesWithin r old new
 changed-in (Ok x) part r f old new inside ok err = Changes-within part r f old new inside ok
 changed-in (Err e) part r f old new inside ok err = within-wider part r old new inside err
 
 -- a style and a line over it, or memory is refused
-pub titled-in : {A : Type 0} (result : Result A AllocError) (r : Rect) (style : Style) (line : LineData) (old laid new : BufferData) → IsStyled r style old laid → OnOk result (RendersLine line r laid new) → OnErr result (ChangesWithin r laid new)
+pub titled-in : {A : Type 0} (result : Result A AllocError) (r : Rect) (style : Style) (line : LineData)
+    (old laid new : BufferData) → IsStyled r style old laid → OnOk result (RendersLine line r laid new)
+    → OnErr result (ChangesWithin r laid new)
     → ChangesWithin r old new
-titled-in (Ok x) r style line old laid new is ok err = within-then r old laid new (within-styled r r style old laid (λ p in_own h. h) is) ok.within
-titled-in (Err e) r style line old laid new is ok err = within-then r old laid new (within-styled r r style old laid (λ p in_own h. h) is) err
+titled-in (Ok x) r style line old laid new is ok err =
+    within-then r old laid new (within-styled r r style old laid (λ p in_own h. h) is) ok.within
+titled-in (Err e) r style line old laid new is ok err =
+    within-then r old laid new (within-styled r r style old laid (λ p in_own h. h) is) err
 
 pub rows-inside : (y n : ℕ) (r : Rect) → y + n ≤ r.height → IsInside (rows_at y n r) r
-rows-inside y n r le p h = let left = h.left in let right = h.right in let top = h.top in let bottom = h.bottom in record { left = left; right = right; top = omega arith; bottom = omega arith }
+rows-inside y n r le p h = let left = h.left in let right = h.right in let top = h.top in let bottom = h.bottom in
+    record { left = left; right = right; top = omega arith; bottom = omega arith }
 
 pub first-in : (n : ℕ) (r : Rect) → IsInside (first_columns n r) r
-first-in n r p h = let left = h.left in let right = h.right in let top = h.top in let bottom = h.bottom in record { left = left; right = omega arith; top = top; bottom = bottom }
+first-in n r p h = let left = h.left in let right = h.right in let top = h.top in let bottom = h.bottom in
+    record { left = left; right = omega arith; top = top; bottom = bottom }
 
 pub rest-in : (n : ℕ) (r : Rect) → IsInside (without_first n r) r
-rest-in n r p h = let left = h.left in let right = h.right in let top = h.top in let bottom = h.bottom in record { left = omega arith; right = omega arith; top = top; bottom = bottom }
+rest-in n r p h = let left = h.left in let right = h.right in let top = h.top in let bottom = h.bottom in
+    record { left = omega arith; right = omega arith; top = top; bottom = bottom }
 
 -- a text in the middle of a row, or memory is refused
-pub text-within : {A : Type 0} (result : Result A AllocError) (text : List ℕ) (style : Style) (r m : Rect) (old new : BufferData) → m ≡ middle_columns (text_columns text) r → IsBoxArea r → IsInside r old.area
-    → PaintsOrRefuses (position_of (m.x, m.y)) (pieces_at old.area m.x m.width style text) result old new → ChangesWithin r old new
+pub text-within : {A : Type 0} (result : Result A AllocError) (text : List ℕ) (style : Style) (r m : Rect) (old new : BufferData)
+    → m ≡ middle_columns (text_columns text) r → IsBoxArea r → IsInside r old.area
+    → PaintsOrRefuses (position_of (m.x, m.y)) (pieces_at old.area m.x m.width style text) result old new
+    → ChangesWithin r old new
 text-within result text style r m old new at box inside paints =
     let keeps = text-keeps old.area m.x m.width style text in let rows = box.rows in
     let x : m.x ≡ (middle_columns (text_columns text) r).x = ap (λ q. q.x) at in
     let y : m.y ≡ r.y = ap (λ q. q.y) at in
     let w : m.width ≡ (middle_columns (text_columns text) r).width = ap (λ q. q.width) at in
-    paints-within result r m.x m.y (pieces_at old.area m.x m.width style text) old new box inside (omega arith) (omega arith) (omega arith) (omega arith) paints
+    paints-within result r m.x m.y (pieces_at old.area m.x m.width style text) old new box inside (omega arith) (omega arith)
+    (omega arith) (omega arith) paints
 
 -- the columns after some
 pub rest-rows : (n : ℕ) (r : Rect) → HasRows r → HasRows (without_first n r)
 rest-rows n r is = let a = is.across in record { rows = is.rows; across = omega arith; down = is.down }
 
 -- as many bars as fit do
-pub bars-fit : (c : BarChart) (n width : ℕ) (bars : List Bar) → n * (c.bar_width + c.bar_gap) ≤ width + c.bar_gap → BarsFit c width (take n bars)
+pub bars-fit : (c : BarChart) (n width : ℕ) (bars : List Bar) → n * (c.bar_width + c.bar_gap) ≤ width + c.bar_gap
+    → BarsFit c width (take n bars)
 bars-fit c zero width bars le = tt
 bars-fit c (suc n) width [] le = tt
 bars-fit c (suc n) width (bar ∷ bars) le =
@@ -62,7 +77,8 @@ pub take-least : {A : Type 0} (n : ℕ) (xs : List A) → take (min n (length xs
 take-least n xs =
     ⊎_elim
     (λ (lt : n < length xs). let e : min n (length xs) ≡ n = omega arith in ap (λ m. take m xs) e)
-    (λ (ge : length xs ≤ n). let e : min n (length xs) ≡ length xs = omega arith in ap (λ m. take m xs) e ∙ take_all (length xs) xs (omega arith) ∙ sym (take_all n xs ge))
+    (λ (ge : length xs ≤ n). let e : min n (length xs) ≡ length xs = omega arith in
+    ap (λ m. take m xs) e ∙ take_all (length xs) xs (omega arith) ∙ sym (take_all n xs ge))
     (cases_lt n (length xs))
 
 -- the columns after bars
@@ -75,5 +91,6 @@ after-in c r [] p h = h
 after-in c r (bar ∷ bars) p h = rest-in (bar_step c) r p (after-in c (without_first (bar_step c) r) bars p h)
 
 -- the elements from one on
-pub element-next : {A : Type 0} (xs : List A) (k : ℕ) (x : A) → k < length xs → x ≡ get_or xs k x → drop k xs ≡ x ∷ drop (k + 1) xs
+pub element-next : {A : Type 0} (xs : List A) (k : ℕ) (x : A) → k < length xs → x ≡ get_or xs k x
+    → drop k xs ≡ x ∷ drop (k + 1) xs
 element-next xs k x lt is = drop_more xs k x lt ∙ ap (λ y. y ∷ drop (k + 1) xs) (sym is)

@@ -1,5 +1,7 @@
 -- A bar chart: of which parts it is made, and what it makes of a buffer.
-use Rattle.std.specs.Prelude.{◌≡◌, ℕ, Bool, true, false, ◌+◌, ◌-◌, ◌*◌, ◌/◌, ◌==◌, ◌&&◌, ◌||◌, nat_lt, nat_le, not, min, max, List, [], ◌∷◌, length, take, decimal, Option, Some, None, is_some, if◌then◌else◌, unwrap_or}
+use Rattle.std.specs.Prelude.{◌≡◌, ℕ, Bool, true, false, ◌+◌, ◌-◌, ◌*◌, ◌/◌, ◌==◌, ◌&&◌, ◌||◌, nat_lt, nat_le}
+use Rattle.std.specs.Prelude.{not, min, max, List, [], ◌∷◌, length, take, decimal, Option, Some, None}
+use Rattle.std.specs.Prelude.{is_some, if◌then◌else◌, unwrap_or}
 use Rattle.std.specs.{List.list_any, Borrow.Bor}
 use Rattle.ratatui_core.specs.Layout.{Rect, Position, corner}
 use Rattle.ratatui_core.specs.Style.{Style, new_style, patch}
@@ -7,10 +9,12 @@ use Rattle.ratatui_core.specs.Symbols.{bar_texts, bar_levels}
 use Rattle.ratatui_core.specs.Text.{LineData}
 use Rattle.ratatui_core.specs.declared.layout.HorizontalAlignment.{HorizontalAlignment}
 use Rattle.ratatui_core.specs.declared.layout.HorizontalAlignment.TheVariants.{Left, Center, Right}
-use Rattle.ratatui_core.specs.Buffer.{BufferData, Cell, styled, with_symbol, text_columns, pieces_at, ChangesEach, PaintsPieces}
+use Rattle.ratatui_core.specs.Buffer.{BufferData, Cell, styled, with_symbol, text_columns, pieces_at}
+use Rattle.ratatui_core.specs.Buffer.{ChangesEach, PaintsPieces}
 use Rattle.rtui_boxes.specs.Titles.{InTurn, RendersTitle, title_at, title_width, first_columns, without_first}
 use Rattle.rtui_boxes.specs.Framed.{RendersInFrame}
-use Rattle.rtui_bars.specs.{declared.group.Bar.Bar, declared.group.BarGroup.BarGroup, declared.chart.BarChart.BarChart}
+use Rattle.rtui_bars.specs.{declared.group.Bar.Bar, declared.group.BarGroup.BarGroup}
+use Rattle.rtui_bars.specs.{declared.chart.BarChart.BarChart}
 use Rattle.rtui_bars.specs.Levels.{eighths_of_value, left_at, level_text}
 use Rattle.rtui_bars.specs.Sparklines.{row_from_below}
 use Rattle.ratatui_core.specs.declared.symbols.bar.Set.{Set as BarSet}

@@ -1,11 +1,13 @@
 -- A sparkline: what each of its cells shows.
-use Rattle.std.specs.Prelude.{◌≡◌, ℕ, ◌+◌, ◌-◌, ◌≤◌, min, max, List, [], ◌∷◌, length, codes, Option, Some, None, unwrap_or, slice_get, All}
+use Rattle.std.specs.Prelude.{◌≡◌, ℕ, ◌+◌, ◌-◌, ◌≤◌, min, max, List, [], ◌∷◌, length, codes, Option, Some}
+use Rattle.std.specs.Prelude.{None, unwrap_or, slice_get, All}
 use Rattle.ratatui_core.specs.Layout.{Rect, Position}
 use Rattle.ratatui_core.specs.Style.{Style, new_style, patch}
 use Rattle.ratatui_core.specs.Symbols.{bar_texts, bar_levels}
 use Rattle.ratatui_core.specs.Buffer.{BufferData, Cell, styled, with_symbol, text_width, ChangesEach, IsShort}
 use Rattle.rtui_boxes.specs.Framed.{RendersInFrame, IsShortFrame}
-use Rattle.rtui_bars.specs.{declared.sparkline.Sparkline.Sparkline, declared.sparkline.SparklineBar.SparklineBar}
+use Rattle.rtui_bars.specs.{declared.sparkline.Sparkline.Sparkline}
+use Rattle.rtui_bars.specs.{declared.sparkline.SparklineBar.SparklineBar}
 use Rattle.rtui_bars.specs.declared.sparkline.RenderDirection.{RenderDirection}
 use Rattle.rtui_bars.specs.declared.sparkline.RenderDirection.TheVariants.{LeftToRight, RightToLeft}
 use Rattle.rtui_bars.specs.Levels.{eighths_of_value, left_at, level_text}
@@ -68,7 +70,8 @@ cell_of_bar s greatest r row (Some bar) c =
 
 abbrev pub bar_cell_of : Sparkline → ℕ → Rect → Position → Cell → Cell
 bar_cell_of s greatest r p =
-    cell_of_bar s greatest r (row_from_below r p.y) (slice_get s.bars.items (number_of_column s.direction r p.x))
+    cell_of_bar s greatest r (row_from_below r p.y)
+    (slice_get s.bars.items (number_of_column s.direction r p.x))
 
 -- the bars of a sparkline over an area, each in a column
 abbrev pub ShowsBars : Sparkline → Rect → BufferData → BufferData → Type 0

@@ -8,7 +8,13 @@ ghost use Rattle.ratatui_core.specs.Buffer.{ChangesEach, text_columns};
 ghost use Rattle.ratatui_core.specs.Style.{patch};
 ghost use Rattle.rtui_boxes.specs.Boxes.{IsBoxArea};
 ghost use Rattle.rtui_boxes.specs.Titles.{first_columns, without_first, title_width, title_at, RendersTitle};
-ghost use Rattle.rtui_bars.specs.BarCharts.{greatest_of_chart, has_label, has_labelled_bar, has_bar_labels, bar_label_rows, has_group_labels, group_label_rows, bar_rows, rows_at, middle_columns, WritesText, RendersBarLabel, is_written, text_of_bar, DoesIf, chart_cell, RendersBar, RendersBars, after_bars, fitting_count, shown_bars, bars_columns, label_indent, RendersGroupLabel, RendersGroup, RendersGroups, ShowsChart};
+ghost use Rattle.rtui_bars.specs.BarCharts.{greatest_of_chart, has_label, has_labelled_bar, has_bar_labels};
+ghost use Rattle.rtui_bars.specs.BarCharts.{bar_label_rows, has_group_labels, group_label_rows, bar_rows};
+ghost use Rattle.rtui_bars.specs.BarCharts.{rows_at, middle_columns, WritesText, RendersBarLabel, is_written};
+ghost use Rattle.rtui_bars.specs.BarCharts.{text_of_bar, DoesIf, chart_cell, RendersBar, RendersBars};
+ghost use Rattle.rtui_bars.specs.BarCharts.{after_bars, fitting_count, shown_bars, bars_columns};
+ghost use Rattle.rtui_bars.specs.BarCharts.{label_indent, RendersGroupLabel, RendersGroup, RendersGroups};
+ghost use Rattle.rtui_bars.specs.BarCharts.{ShowsChart};
 ghost use Rattle.rtui_bars.specs.Inner.{HasRows, BarsFit};
 
 use crate::chart::BarChart;

@@ -5,7 +5,9 @@ ghost use Rattle.ratatui_core.specs.Style.{new_style, patch};
 ghost use Rattle.ratatui_core.specs.Buffer.{IsShort};
 ghost use Rattle.ratatui_core.specs.Widgets.{ChangesWithin};
 ghost use Rattle.rtui_boxes.specs.Boxes.{IsBoxArea};
-ghost use Rattle.rtui_bars.specs.Sparklines.{IsNewSparkline, greatest_of, bars_part, ShowsBars, HasShortLevels, number_of_column, row_from_below, mark_of_value, style_of_bar};
+ghost use Rattle.rtui_bars.specs.Sparklines.{IsNewSparkline, greatest_of, bars_part, ShowsBars};
+ghost use Rattle.rtui_bars.specs.Sparklines.{HasShortLevels, number_of_column, row_from_below, mark_of_value};
+ghost use Rattle.rtui_bars.specs.Sparklines.{style_of_bar};
 
 use crate::level::{eighths_of, left_at, level_of};
 use ratatui_core::buffer::{Buffer, Cell, CellChange, change_area};

@@ -9,40 +9,65 @@ use Rattle.ratatui_core.proofs.BufferLemmas.{PaintsByColumns-paints, same-beside
 use Rattle.rtui_boxes.specs.Boxes.{IsBoxArea}
 
 -- a place of a part
-pub part-place : (part : Rect) (x y : ℕ) → IsBoxArea part → part.x ≤ x → x < part.x + part.width → part.y ≤ y → y < part.y + part.height → HasPosition part (position_of (x, y))
-part-place part x y box l r t b = let a = box.across in let d = box.down in record { left = l; right = omega arith; top = t; bottom = omega arith }
+pub part-place : (part : Rect) (x y : ℕ) → IsBoxArea part → part.x ≤ x → x < part.x + part.width → part.y ≤ y
+    → y < part.y + part.height → HasPosition part (position_of (x, y))
+part-place part x y box l r t b = let a = box.across in let d = box.down in record {
+  left = l;
+  right = omega arith;
+  top = t;
+  bottom = omega arith;
+}
 
-pub part-has_row : (part own : Rect) (y : ℕ) → IsBoxArea part → IsInside part own → part.y ≤ y → y < part.y + part.height → HasRow own y
+pub part-has_row : (part own : Rect) (y : ℕ) → IsBoxArea part → IsInside part own → part.y ≤ y → y < part.y + part.height
+    → HasRow own y
 part-has_row part own y box inside t b =
-    let c = box.columns in let h = inside (position_of (part.x, y)) (part-place part part.x y box (omega arith) (omega arith) t b) in
+    let c = box.columns in let h = inside (position_of (part.x, y)) (part-place part part.x y box (omega arith)
+    (omega arith) t b) in
     let ht = h.top in let hb = h.bottom in record { top = ht; bottom = omega arith }
 
 pub part-starts : (part own : Rect) (x : ℕ) → IsBoxArea part → IsInside part own → part.x ≤ x → own.x ≤ x
 part-starts part own x box inside le =
-    let c = box.columns in let r = box.rows in let h = inside (position_of (part.x, part.y)) (part-place part part.x part.y box (omega arith) (omega arith) (omega arith) (omega arith)) in
+    let c = box.columns in let r = box.rows in
+    let h = inside (position_of (part.x, part.y)) (part-place part part.x part.y box (omega arith) (omega arith) (omega arith)
+    (omega arith)) in
     let l = h.left in omega arith
 
-pub part-ends : (part own : Rect) (x n : ℕ) → IsBoxArea part → IsInside part own → part.x ≤ x → x + n ≤ part.x + part.width → n ≤ own.x + own.width - x
+pub part-ends : (part own : Rect) (x n : ℕ) → IsBoxArea part → IsInside part own → part.x ≤ x → x + n ≤ part.x + part.width
+    → n ≤ own.x + own.width - x
 part-ends part own x n box inside le fits =
     let c = box.columns in let rows = box.rows in let a = box.across in
-    let h = inside (position_of (part.x + (part.width - 1), part.y)) (part-place part (part.x + (part.width - 1)) part.y box (omega arith) (omega arith) (omega arith) (omega arith)) in
+    let h = inside (position_of (part.x + (part.width - 1), part.y))
+    (part-place part (part.x + (part.width - 1)) part.y box (omega arith) (omega arith) (omega arith) (omega arith)) in
     let r = h.right in omega arith
 
-pub part-right : (part own : Rect) (x n : ℕ) → IsBoxArea part → IsInside part own → x + n ≤ part.x + part.width → x + n ≤ own.x + own.width
+pub part-right : (part own : Rect) (x n : ℕ) → IsBoxArea part → IsInside part own → x + n ≤ part.x + part.width
+    → x + n ≤ own.x + own.width
 part-right part own x n box inside fits =
     let c = box.columns in let rows = box.rows in let a = box.across in
-    let h = inside (position_of (part.x + (part.width - 1), part.y)) (part-place part (part.x + (part.width - 1)) part.y box (omega arith) (omega arith) (omega arith) (omega arith)) in
+    let h = inside (position_of (part.x + (part.width - 1), part.y))
+    (part-place part (part.x + (part.width - 1)) part.y box (omega arith) (omega arith) (omega arith) (omega arith)) in
     let r = h.right in omega arith
 
-by-result : {A : Type 0} (r : Result A AllocError) (part : Rect) (p : Position) (ps : List Piece) (old new : BufferData) → HasRow old.area p.y → old.area.x ≤ p.x → columns ps ≤ old.area.x + old.area.width - p.x
-    → ((q : Position) → (HasPosition part q → ⊥) → IsBeside p (columns ps) q) → PaintsOrRefuses p ps r old new → ChangesWithin part old new
+by-result : {A : Type 0} (r : Result A AllocError) (part : Rect) (p : Position) (ps : List Piece) (old new : BufferData)
+    → HasRow old.area p.y → old.area.x ≤ p.x → columns ps ≤ old.area.x + old.area.width - p.x
+    → ((q : Position) → (HasPosition part q → ⊥) → IsBeside p (columns ps) q) → PaintsOrRefuses p ps r old new
+    → ChangesWithin part old new
 by-result (Ok x) part p ps old new row starts ends beside paints =
     let by = PaintsByColumns-paints p ps old new row starts ends paints.ok in
-    record { same_area = paints.ok.area; same_room = paints.ok.room; outside = λ q in_own off. by.outside q in_own (beside q off) }
+    record {
+      same_area = paints.ok.area;
+      same_room = paints.ok.room;
+      outside = λ q in_own off. by.outside q in_own (beside q off);
+    }
 by-result (Err e) part p ps old new row starts ends beside paints =
-    record { same_area = paints.err.area; same_room = paints.err.room; outside = λ q in_own off. same-beside p q ps old new row starts ends paints.err in_own (beside q off) }
+    record {
+      same_area = paints.err.area;
+      same_room = paints.err.room;
+      outside = λ q in_own off. same-beside p q ps old new row starts ends paints.err in_own (beside q off);
+    }
 
-pub paints-within : {A : Type 0} (r : Result A AllocError) (part : Rect) (x y : ℕ) (ps : List Piece) (old new : BufferData) → IsBoxArea part → IsInside part old.area → part.x ≤ x → x + columns ps ≤ part.x + part.width
+pub paints-within : {A : Type 0} (r : Result A AllocError) (part : Rect) (x y : ℕ) (ps : List Piece) (old new : BufferData)
+    → IsBoxArea part → IsInside part old.area → part.x ≤ x → x + columns ps ≤ part.x + part.width
     → part.y ≤ y → y < part.y + part.height → PaintsOrRefuses (position_of (x, y)) ps r old new → ChangesWithin part old new
 paints-within r part x y ps old new box inside le fits t b paints =
     let row = part-has_row part old.area y box inside t b in
@@ -53,7 +78,8 @@ paints-within r part x y ps old new box inside le fits t b paints =
     (λ (before : q.x < x). inl before)
     (λ (from : x ≤ q.x).
     ⊎_elim
-    (λ (there : q.x < x + columns ps). absurd (off (let a = box.across in let d = box.down in record { left = omega arith; right = omega arith; top = omega arith; bottom = omega arith })))
+    (λ (there : q.x < x + columns ps). absurd (off (let a = box.across in let d = box.down in
+    record { left = omega arith; right = omega arith; top = omega arith; bottom = omega arith })))
     (λ (past : x + columns ps ≤ q.x). inr past)
     (cases_lt q.x (x + columns ps)))
     (cases_lt q.x x) in

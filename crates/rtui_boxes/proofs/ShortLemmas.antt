@@ -4,17 +4,20 @@ use Rattle.ratatui_core.specs.Layout.{Rect, Position, intersected}
 use Rattle.ratatui_core.specs.Buffer.{BufferData, Cell, cell_in, symbol_text, styled, IsShort}
 use Rattle.ratatui_core.proofs.BufferLemmas.{joined-short}
 use Rattle.rtui_boxes.specs.declared.block.Block.{Block}
-use Rattle.rtui_boxes.specs.Boxes.{Stroke, strokes, strikes, drawn, is_in, IsShortUnder, IsShortBlock, HasShortSymbols, AreShortCells}
+use Rattle.rtui_boxes.specs.Boxes.{Stroke, strokes, strikes, drawn, is_in, IsShortUnder, IsShortBlock, HasShortSymbols}
+use Rattle.rtui_boxes.specs.Boxes.{AreShortCells}
 
 abbrev AreShortStrokes : List Stroke → Type 0
 AreShortStrokes [] = Unit {0}
 AreShortStrokes (s ∷ ss) = IsShort s.symbol × AreShortStrokes ss
 
-if-short : (t : Bool) (a c : Cell) → IsShort (symbol_text a.symbol) → IsShort (symbol_text c.symbol) → IsShort (symbol_text (if t then a else c).symbol)
+if-short : (t : Bool) (a c : Cell) → IsShort (symbol_text a.symbol) → IsShort (symbol_text c.symbol)
+    → IsShort (symbol_text (if t then a else c).symbol)
 if-short true a c pa pc = pa
 if-short false a c pa pc = pc
 
-short-under : (b : Block) (ss : List Stroke) (p : Position) (c : Cell) → AreShortStrokes ss → IsShort (symbol_text c.symbol) → IsShortUnder b ss p c
+short-under : (b : Block) (ss : List Stroke) (p : Position) (c : Cell) → AreShortStrokes ss → IsShort (symbol_text c.symbol)
+    → IsShortUnder b ss p c
 short-under b [] p c all short = tt
 short-under b (s ∷ ss) p c all short =
     let join = joined-short b.merge_borders c.symbol s.symbol short all.0 in (
@@ -24,13 +27,24 @@ short-under b (s ∷ ss) p c all short =
     )
 
 short-strokes : (b : Block) (r : Rect) → HasShortSymbols b → AreShortStrokes (strokes b r)
-short-strokes b r is = (is 4 [] (lit< tt), (is 6 [] (lit< tt), (is 5 [] (lit< tt), (is 7 [] (lit< tt), (is 3 [] (lit< tt), (is 1 [] (lit< tt), (is 2 [] (lit< tt), (is 0 [] (lit< tt), tt))))))))
+short-strokes b r is = (
+  is 4 [] (lit< tt),
+  (
+    is 6 [] (lit< tt),
+    (
+      is 5 [] (lit< tt),
+      (is 7 [] (lit< tt), (is 3 [] (lit< tt), (is 1 [] (lit< tt), (is 2 [] (lit< tt), (is 0 [] (lit< tt), tt))))),
+    ),
+  ),
+)
 
 -- a box of short symbols on cells with short ones
-pub short-box : (b : Block) (area : Rect) (s : BufferData) → b.titles.items ≡ [] → HasShortSymbols b → AreShortCells s → IsShortBlock b area s
+pub short-box : (b : Block) (area : Rect) (s : BufferData) → b.titles.items ≡ [] → HasShortSymbols b → AreShortCells s
+    → IsShortBlock b area s
 short-box b area s none symbols_ cells = record {
   untitled = none;
   short = λ p has.
-      short-under b (strokes b (intersected area s.area)) p (if is_in (intersected area s.area) p then styled b.style (cell_in s p) else cell_in s p) (short-strokes b (intersected area s.area) symbols_)
+      short-under b (strokes b (intersected area s.area)) p (if is_in (intersected area s.area) p then styled b.style
+      (cell_in s p) else cell_in s p) (short-strokes b (intersected area s.area) symbols_)
       (if-short (is_in (intersected area s.area) p) (styled b.style (cell_in s p)) (cell_in s p) (cells p has) (cells p has));
 }

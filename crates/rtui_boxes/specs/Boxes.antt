@@ -1,17 +1,25 @@
 -- A box: which symbols stand where, and what is inside.
-use Rattle.std.specs.Prelude.{◌≡◌, ℕ, Bool, true, false, ◌&&◌, ◌||◌, ◌==◌, ◌+◌, ◌-◌, ◌≤◌, ◌<◌, nat_le, nat_lt, min, Option, Some, None, List, [], ◌∷◌, ◌++◌, if◌then◌else◌, unwrap_or, map, filter, reverse, All, ⊤, Result, IsOk, OnOk}
+use Rattle.std.specs.Prelude.{◌≡◌, ℕ, Bool, true, false, ◌&&◌, ◌||◌, ◌==◌, ◌+◌, ◌-◌, ◌≤◌, ◌<◌, nat_le, nat_lt}
+use Rattle.std.specs.Prelude.{min, Option, Some, None, List, [], ◌∷◌, ◌++◌, if◌then◌else◌, unwrap_or, map}
+use Rattle.std.specs.Prelude.{filter, reverse, All, ⊤, Result, IsOk, OnOk}
 use Rattle.std.specs.{List.list_any, Int.RustNames.bit_and, declared.alloc.AllocError.AllocError}
 use Rattle.ratatui_core.specs.Layout.{Rect, Position, HasPosition, right_edge, bottom_edge, intersected}
 use Rattle.ratatui_core.specs.Symbols.{border_texts, plain_border}
-use Rattle.ratatui_core.specs.{Style.Style, Style.new_style, Text.LineData, declared.layout.HorizontalAlignment.HorizontalAlignment}
+use Rattle.ratatui_core.specs.{Style.Style, Style.new_style, Text.LineData}
+use Rattle.ratatui_core.specs.{declared.layout.HorizontalAlignment.HorizontalAlignment}
 use Rattle.ratatui_core.specs.declared.layout.HorizontalAlignment.TheVariants.{Left, Center, Right}
-use Rattle.ratatui_core.specs.{Widgets.ChangesWithin, Widgets.OnPart, declared.symbols.merge.MergeStrategy.MergeStrategy}
-use Rattle.ratatui_core.specs.Buffer.{BufferData, Cell, MakesEach, place_at, position_of, cell_in, styled, with_symbol, joined, symbol_text, text_width, IsShort, IsNarrowLine}
+use Rattle.ratatui_core.specs.{Widgets.ChangesWithin, Widgets.OnPart}
+use Rattle.ratatui_core.specs.{declared.symbols.merge.MergeStrategy.MergeStrategy}
+use Rattle.ratatui_core.specs.Buffer.{BufferData, Cell, MakesEach, place_at, position_of, cell_in, styled}
+use Rattle.ratatui_core.specs.Buffer.{with_symbol, joined, symbol_text, text_width, IsShort, IsNarrowLine}
 use Rattle.ratatui_core.specs.declared.symbols.merge.MergeStrategy.TheVariants.{Replace, Exact, Fuzzy}
-use Rattle.rtui_boxes.specs.{declared.borders.Borders.Borders, declared.block.Block.Block, declared.title.Title.Title}
+use Rattle.rtui_boxes.specs.{declared.borders.Borders.Borders, declared.block.Block.Block}
+use Rattle.rtui_boxes.specs.{declared.title.Title.Title}
 use Rattle.rtui_boxes.specs.declared.title.TitlePosition.{TitlePosition}
-use Rattle.rtui_boxes.specs.{declared.title.TitlePosition.TheVariants.Top, declared.title.TitlePosition.TheVariants.Bottom, Borders.sides_of}
-use Rattle.rtui_boxes.specs.Titles.{PlacedTitle, RendersTitles, is_same_alignment, from_left, from_centre, from_right}
+use Rattle.rtui_boxes.specs.{declared.title.TitlePosition.TheVariants.Top}
+use Rattle.rtui_boxes.specs.{declared.title.TitlePosition.TheVariants.Bottom, Borders.sides_of}
+use Rattle.rtui_boxes.specs.Titles.{PlacedTitle, RendersTitles, is_same_alignment, from_left, from_centre}
+use Rattle.rtui_boxes.specs.Titles.{from_right}
 
 -- a box with these sides and plain lines, without titles, styles and padding
 pub record IsNewBlock (sides : ℕ) (b : Block) : Type 0 where
@@ -81,7 +89,8 @@ inner_of b r =
 
 -- how many rows the box takes above and below what is inside
 abbrev pub rows_around : Block → ℕ
-rows_around b = one_if (has_row b top Top) + one_if (has_row b bottom Bottom) + min (b.padding.top + b.padding.bottom) 65535
+rows_around b = one_if (has_row b top Top) + one_if (has_row b bottom Bottom) + min
+    (b.padding.top + b.padding.bottom) 65535
 
 -- a cell with a symbol drawn over it by a strategy, in a style
 abbrev pub drawn : MergeStrategy → Style → List ℕ → Cell → Cell
@@ -113,13 +122,23 @@ last_row r = r.y + (r.height - 1)
 
 -- the sides
 abbrev pub left_side : Block → Rect → Rect
-left_side b r = record { x = r.x; y = r.y + inset b top; width = 1; height = r.height - inset b top - inset b bottom }
+left_side b r = record {
+  x = r.x;
+  y = r.y + inset b top;
+  width = 1;
+  height = r.height - inset b top - inset b bottom;
+}
 
 abbrev pub right_side : Block → Rect → Rect
 right_side b r = record (left_side b r) { x = last_column r }
 
 abbrev pub top_side : Block → Rect → Rect
-top_side b r = record { x = r.x + inset b left; y = r.y; width = r.width - inset b left - inset b right; height = 1 }
+top_side b r = record {
+  x = r.x + inset b left;
+  y = r.y;
+  width = r.width - inset b left - inset b right;
+  height = 1;
+}
 
 abbrev pub bottom_side : Block → Rect → Rect
 bottom_side b r = record (top_side b r) { y = last_row r }
@@ -135,15 +154,21 @@ stroke is_drawn part symbol = record { is_drawn = is_drawn; part = part; symbol 
 
 abbrev pub side_strokes : Block → Rect → List Stroke
 side_strokes b r =
-    stroke (has_side b left) (left_side b r) b.border_set.vertical_left.now ∷ (stroke (has_side b top) (top_side b r) b.border_set.horizontal_top.now
-    ∷ (stroke (has_side b right) (right_side b r) b.border_set.vertical_right.now ∷ (stroke (has_side b bottom) (bottom_side b r) b.border_set.horizontal_bottom.now ∷ [])))
+    stroke (has_side b left) (left_side b r) b.border_set.vertical_left.now ∷ (stroke (has_side b top)
+    (top_side b r) b.border_set.horizontal_top.now
+    ∷ (stroke (has_side b right) (right_side b r) b.border_set.vertical_right.now ∷
+    (stroke (has_side b bottom) (bottom_side b r) b.border_set.horizontal_bottom.now ∷ [])))
 
 abbrev pub corner_strokes : Block → Rect → List Stroke
 corner_strokes b r =
-    stroke (has_side b right && has_side b bottom) (place_at (position_of (last_column r, last_row r))) b.border_set.bottom_right.now
-    ∷ (stroke (has_side b right && has_side b top) (place_at (position_of (last_column r, r.y))) b.border_set.top_right.now
-    ∷ (stroke (has_side b left && has_side b bottom) (place_at (position_of (r.x, last_row r))) b.border_set.bottom_left.now
-    ∷ (stroke (has_side b left && has_side b top) (place_at (position_of (r.x, r.y))) b.border_set.top_left.now ∷ [])))
+    stroke (has_side b right && has_side b bottom)
+    (place_at (position_of (last_column r, last_row r))) b.border_set.bottom_right.now
+    ∷ (stroke (has_side b right && has_side b top)
+    (place_at (position_of (last_column r, r.y))) b.border_set.top_right.now
+    ∷ (stroke (has_side b left && has_side b bottom)
+    (place_at (position_of (r.x, last_row r))) b.border_set.bottom_left.now
+    ∷ (stroke (has_side b left && has_side b top)
+    (place_at (position_of (r.x, r.y))) b.border_set.top_left.now ∷ [])))
 
 -- the position lies in a rectangle
 abbrev pub is_in : Rect → Position → Bool
@@ -156,16 +181,19 @@ strikes s p = s.is_drawn && is_in s.part p
 -- a cell at a position, with the strokes drawn over it in order
 abbrev pub stroked : Block → List Stroke → Position → Cell → Cell
 stroked b [] p c = c
-stroked b (s ∷ ss) p c = stroked b ss p (if strikes s p then drawn b.merge_borders b.border_style s.symbol c else c)
+stroked b (s ∷ ss) p c = stroked b ss p
+    (if strikes s p then drawn b.merge_borders b.border_style s.symbol c else c)
 
 -- no symbol that comes of it takes memory
 abbrev pub IsShortUnder : Block → List Stroke → Position → Cell → Type 0
 IsShortUnder b [] p c = ⊤
 IsShortUnder b (s ∷ ss) p c =
-    (strikes s p ≡ true → IsShort (joined b.merge_borders c.symbol s.symbol)) × IsShortUnder b ss p (if strikes s p then drawn b.merge_borders b.border_style s.symbol c else c)
+    (strikes s p ≡ true → IsShort (joined b.merge_borders c.symbol s.symbol))
+    × IsShortUnder b ss p (if strikes s p then drawn b.merge_borders b.border_style s.symbol c else c)
 
 -- strokes within an area are drawn, or memory is refused; nothing outside the area changed
-pub record DrawsStrokes {A : Type 0} (b : Block) (area : Rect) (ss : List Stroke) (result : Result A AllocError) (old new : BufferData) : Type 0 where
+pub record DrawsStrokes {A : Type 0} (b : Block) (area : Rect) (ss : List Stroke)
+    (result : Result A AllocError) (old new : BufferData) : Type 0 where
   pub within : ChangesWithin area old new
   pub ok : OnOk result (MakesEach (stroked b ss) old new)
   pub short : ((p : Position) → HasPosition old.area p → IsShortUnder b ss p (cell_in old p)) → IsOk result
@@ -182,7 +210,12 @@ title_row r Bottom = last_row r
 -- where the titles of a row stand: between the borders
 abbrev pub titles_area : Block → Rect → TitlePosition → Rect
 titles_area b r position =
-    record { x = r.x + one_if (has_side b left); y = title_row r position; width = r.width - one_if (has_side b left) - one_if (has_side b right); height = 1 }
+    record {
+      x = r.x + one_if (has_side b left);
+      y = title_row r position;
+      width = r.width - one_if (has_side b left) - one_if (has_side b right);
+      height = 1;
+    }
 
 -- no title stands at the position
 pub record IsOffTitles (b : Block) (r : Rect) (p : Position) : Type 0 where
@@ -195,49 +228,57 @@ pub record KeepsOffTitles (b : Block) (r : Rect) (old new : BufferData) : Type 0
   pub room : new.room ≡ old.room
   pub at : (p : Position) → HasPosition old.area p → IsOffTitles b r p → cell_in new p ≡ cell_in old p
 
--- a cell at a position of a box over a rectangle: in the style of the box, and the strokes over it; beside the box as before
+-- a cell at a position of a box over a rectangle: in the style of the box, and the strokes over it; beside
+-- the box as before
 abbrev pub box_cell : Block → Rect → Position → Cell → Cell
 box_cell b r p c = if is_in r p then stroked b (strokes b r) p (styled b.style c) else c
 
 -- whether a title stands in a row and is aligned so; if it doesn't say so itself it is as the box says
 abbrev pub is_placed : Block → TitlePosition → HorizontalAlignment → Title → Bool
 is_placed b position alignment title =
-    is_in_row b.titles_position position title && is_same_alignment (unwrap_or title.line.alignment b.titles_alignment) alignment
+    is_in_row b.titles_position position title && is_same_alignment
+    (unwrap_or title.line.alignment b.titles_alignment) alignment
 
 -- the lines of those of some titles that stand in a row and are aligned so
 abbrev pub lines_placed : Block → TitlePosition → HorizontalAlignment → List Title → List LineData
-lines_placed b position alignment titles = map (λ title. title.line) (filter (is_placed b position alignment) titles)
+lines_placed b position alignment titles = map (λ title. title.line)
+    (filter (is_placed b position alignment) titles)
 
--- the titles of a row: those at the left, those in the centre over them, and over both those at the right, of which the last one stands
--- at the right end
+-- the titles of a row: those at the left, those in the centre over them, and over both those at the right, of
+-- which the last one stands at the right end
 abbrev pub row_titles : Block → Rect → TitlePosition → List PlacedTitle
 row_titles b row position =
     from_left row (lines_placed b position Left b.titles.items)
-    ++ (from_centre row (lines_placed b position Center b.titles.items) ++ from_right row (lines_placed b position Right (reverse b.titles.items)))
+    ++ (from_centre row (lines_placed b position Center b.titles.items) ++ from_right row
+    (lines_placed b position Right (reverse b.titles.items)))
 
 -- all titles of a box over a rectangle
 abbrev pub placed_titles : Block → Rect → List PlacedTitle
 placed_titles b r = row_titles b (titles_area b r Top) Top ++ row_titles b (titles_area b r Bottom) Bottom
 
--- a box with its titles over a rectangle: each cell with the style and the strokes over it, and then the titles
+-- a box with its titles over a rectangle: each cell with the style and the strokes over it, and then the
+-- titles
 pub record RendersTitled (b : Block) (r : Rect) (old new : BufferData) : Type 0 where
   pub framed : BufferData
   pub frame : MakesEach (box_cell b r) old framed
   pub titles : RendersTitles b.titles_style (placed_titles b r) framed new
 
--- A box over the part of an area that the buffer has, cell by cell, and its titles. Only cells in which titles stand may differ from the
--- box's own; a row without titles has none.
+-- A box over the part of an area that the buffer has, cell by cell, and its titles. Only cells in which
+-- titles stand may differ from the box's own; a row without titles has none.
 pub record RendersBlock (b : Block) (area : Rect) (old new : BufferData) : Type 0 where
   pub same_area : new.area ≡ old.area
   pub same_room : new.room ≡ old.room
-  pub at : (p : Position) → HasPosition old.area p → IsOffTitles b (intersected area old.area) p → cell_in new p ≡ box_cell b (intersected area old.area) p (cell_in old p)
+  pub at : (p : Position) → HasPosition old.area p → IsOffTitles b (intersected area old.area) p
+      → cell_in new p ≡ box_cell b (intersected area old.area) p (cell_in old p)
   pub within : ChangesWithin area old new
   pub titled : OnPart (RendersTitled b) area old new
 
 -- a box without titles takes no memory if no symbol does that comes of it
 pub record IsShortBlock (b : Block) (area : Rect) (s : BufferData) : Type 0 where
   pub untitled : b.titles.items ≡ []
-  pub short : (p : Position) → HasPosition s.area p → IsShortUnder b (strokes b (intersected area s.area)) p (if is_in (intersected area s.area) p then styled b.style (cell_in s p) else cell_in s p)
+  pub short : (p : Position) → HasPosition s.area p
+      → IsShortUnder b (strokes b (intersected area s.area)) p
+      (if is_in (intersected area s.area) p then styled b.style (cell_in s p) else cell_in s p)
 
 -- each symbol of the border takes no memory
 abbrev pub HasShortSymbols : Block → Type 0

@@ -1,8 +1,10 @@
 -- A style and a box over a part of a buffer, and what is left to a widget inside.
 use Rattle.std.specs.Prelude.{◌≡◌, ℕ, ◌⊎◌, ◌<◌, [], Option, Some, None, ⊤}
-use Rattle.ratatui_core.specs.{Layout.Rect, Layout.IsInside, Style.Style, Buffer.BufferData, Buffer.IsStyled, Widgets.ChangesWithin, Widgets.OnPart}
+use Rattle.ratatui_core.specs.{Layout.Rect, Layout.IsInside, Style.Style, Buffer.BufferData, Buffer.IsStyled}
+use Rattle.ratatui_core.specs.{Widgets.ChangesWithin, Widgets.OnPart}
 use Rattle.rtui_boxes.specs.declared.block.Block.{Block}
-use Rattle.rtui_boxes.specs.Boxes.{inner_of, rows_around, RendersBlock, IsBoxArea, HasShortSymbols, AreShortCells}
+use Rattle.rtui_boxes.specs.Boxes.{inner_of, rows_around, RendersBlock, IsBoxArea, HasShortSymbols}
+use Rattle.rtui_boxes.specs.Boxes.{AreShortCells}
 
 -- what is inside the box, if there is one
 abbrev pub inner_if : Option Block → Rect → Rect
@@ -36,14 +38,18 @@ pub record IsInner (block : Option Block) (part r : Rect) : Type 0 where
   pub inside : IsInside r part
 
 -- a style over a part, a box on it, and what f does inside, if there are cells
-pub record InFrame (style : Style) (block : Option Block) (f : Rect → BufferData → BufferData → Type 0) (part : Rect) (old new : BufferData) : Type 0 where
+pub record InFrame (style : Style) (block : Option Block) (f : Rect → BufferData → BufferData → Type 0)
+    (part : Rect) (old new : BufferData) : Type 0 where
   pub framed : BufferData
   pub frame : IsFramed style block part old framed
   pub none : IsBare (inner_if block part) → new ≡ framed
-  pub inside : 0 < (inner_if block part).width → 0 < (inner_if block part).height → f (inner_if block part) framed new
+  pub inside : 0 < (inner_if block part).width → 0 < (inner_if block part).height
+      → f (inner_if block part) framed new
 
--- A widget in a style and a box, over the part of an area that a buffer has; nothing outside the area changes.
-pub record RendersInFrame (style : Style) (block : Option Block) (f : Rect → BufferData → BufferData → Type 0) (area : Rect) (old new : BufferData) : Type 0 where
+-- A widget in a style and a box, over the part of an area that a buffer has; nothing outside the area
+-- changes.
+pub record RendersInFrame (style : Style) (block : Option Block) (f : Rect → BufferData → BufferData → Type 0)
+    (area : Rect) (old new : BufferData) : Type 0 where
   pub within : ChangesWithin area old new
   pub parts : OnPart (InFrame style block f) area old new
 
@@ -52,7 +58,8 @@ abbrev pub IsUntitledShort : Option Block → Type 0
 IsUntitledShort None = ⊤
 IsUntitledShort (Some b) = (b.titles.items ≡ []) × HasShortSymbols b
 
--- the box takes no memory, if there is one: it has no titles, its symbols are short, and so are those of the cells
+-- the box takes no memory, if there is one: it has no titles, its symbols are short, and so are those of the
+-- cells
 pub record IsShortFrame (block : Option Block) (s : BufferData) : Type 0 where
   pub box : IsUntitledShort block
   pub cells : AreShortCells s

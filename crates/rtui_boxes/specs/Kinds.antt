@@ -1,8 +1,10 @@
 -- The symbols of each kind of border.
 use Rattle.std.specs.Prelude.{ℕ, List}
 use Rattle.ratatui_core.specs.Symbols.{border_by, normal_lines, rounded_lines, double_lines, thick_lines}
-use Rattle.ratatui_core.specs.Symbols.{light_double_dashed_lines, heavy_double_dashed_lines, light_triple_dashed_lines}
-use Rattle.ratatui_core.specs.Symbols.{heavy_triple_dashed_lines, light_quadruple_dashed_lines, heavy_quadruple_dashed_lines}
+use Rattle.ratatui_core.specs.Symbols.{light_double_dashed_lines, heavy_double_dashed_lines}
+use Rattle.ratatui_core.specs.Symbols.{light_triple_dashed_lines}
+use Rattle.ratatui_core.specs.Symbols.{heavy_triple_dashed_lines, light_quadruple_dashed_lines}
+use Rattle.ratatui_core.specs.Symbols.{heavy_quadruple_dashed_lines}
 use Rattle.ratatui_core.specs.Symbols.{inside_border, outside_border}
 use Rattle.rtui_boxes.specs.declared.border_type.BorderType.{BorderType}
 use Rattle.rtui_boxes.specs.declared.border_type.BorderType.TheVariants as kind

@@ -1,8 +1,10 @@
 -- Titles in a row: where each stands, and what they make of a buffer.
-use Rattle.std.specs.Prelude.{◌≡◌, ℕ, Bool, true, false, ◌+◌, ◌-◌, ◌/◌, ◌==◌, nat_le, min, List, [], ◌∷◌, Some, if◌then◌else◌, sum_by}
+use Rattle.std.specs.Prelude.{◌≡◌, ℕ, Bool, true, false, ◌+◌, ◌-◌, ◌/◌, ◌==◌, nat_le, min, List, [], ◌∷◌}
+use Rattle.std.specs.Prelude.{Some, if◌then◌else◌, sum_by}
 use Rattle.ratatui_core.specs.{Layout.Rect, declared.layout.HorizontalAlignment.HorizontalAlignment}
 use Rattle.ratatui_core.specs.declared.layout.HorizontalAlignment.TheVariants.{Left, Center, Right}
-use Rattle.ratatui_core.specs.{Style.Style, Text.LineData, Text.line_width, Buffer.BufferData, Buffer.IsStyled, Widgets.RendersLine}
+use Rattle.ratatui_core.specs.{Style.Style, Text.LineData, Text.line_width, Buffer.BufferData}
+use Rattle.ratatui_core.specs.{Buffer.IsStyled, Widgets.RendersLine}
 
 -- whether both alignments are the same
 abbrev pub is_same_alignment : HorizontalAlignment → HorizontalAlignment → Bool
@@ -49,12 +51,14 @@ title_at l r = record { line = l; area = r }
 -- titles from the left on, with a column between each two, as far as the row has columns
 abbrev pub from_left : Rect → List LineData → List PlacedTitle
 from_left r [] = []
-from_left r (l ∷ ls) = if r.width == 0 then [] else title_at l (first_columns (title_width l) r) ∷ from_left (without_first (title_width l + 1) r) ls
+from_left r (l ∷ ls) = if r.width == 0 then [] else title_at l (first_columns (title_width l) r) ∷ from_left
+    (without_first (title_width l + 1) r) ls
 
 -- titles from the right on
 abbrev pub from_right : Rect → List LineData → List PlacedTitle
 from_right r [] = []
-from_right r (l ∷ ls) = if r.width == 0 then [] else title_at l (last_columns (title_width l) r) ∷ from_right (without_last (title_width l + 1) r) ls
+from_right r (l ∷ ls) = if r.width == 0 then [] else title_at l (last_columns (title_width l) r) ∷ from_right
+    (without_last (title_width l + 1) r) ls
 
 -- how many columns show of a title that begins n columns left of a row
 abbrev pub shown_width : ℕ → Rect → LineData → ℕ
@@ -68,7 +72,8 @@ side_of n = if n == 0 then Left else Right
 abbrev pub aligned : HorizontalAlignment → LineData → LineData
 aligned alignment l = record l { alignment = Some alignment }
 
--- titles that begin n columns left of a row: what begins left of it is cut at the left, and all else at the right
+-- titles that begin n columns left of a row: what begins left of it is cut at the left, and all else at the
+-- right
 abbrev pub from_outside : ℕ → Rect → List LineData → List PlacedTitle
 from_outside n r [] = []
 from_outside n r (l ∷ ls) =

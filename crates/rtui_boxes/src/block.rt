@@ -4,7 +4,8 @@ ghost use Rattle.std.specs.Prelude.{◌≡◌, ◌-◌, ◌≤◌, IfOk, None, S
 ghost use Rattle.rtui_boxes.specs.declared.title.TitlePosition.TheVariants.{Top, Bottom};
 ghost use Rattle.ratatui_core.specs.Symbols.{border_texts};
 ghost use Rattle.rtui_boxes.specs.Kinds.{border_of_kind};
-ghost use Rattle.rtui_boxes.specs.Boxes.{AddsTitle, IsNewBlock, has_side, has_row, has_title, is_in_row, one_if, inner_of, rows_around};
+ghost use Rattle.rtui_boxes.specs.Boxes.{AddsTitle, IsNewBlock, has_side, has_row, has_title, is_in_row};
+ghost use Rattle.rtui_boxes.specs.Boxes.{one_if, inner_of, rows_around};
 
 use crate::border_type::BorderType;
 use crate::borders::Borders;

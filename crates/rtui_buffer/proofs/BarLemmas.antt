@@ -1,7 +1,8 @@
 -- A bar in the first row of an empty buffer, pieces painted on it, and a screen that shows them.
 use Rattle.std.proofs.Common.{◌≡◌, ℕ, ◌+◌, ◌-◌, ◌<◌, ◌≤◌, inl, inr, true, false, List, take, refl, ap, subst, ◌∙◌, arith, nat_lt}
 use Rattle.std.proofs.lemmas.{Bool.cases_lt, Bool.cond_both, Bool.Decides.nat_tests}
-use Rattle.rtui_geometry.specs.{declared.position.Position.Position, declared.rect.Rect.Rect, Rect.HasPosition, Rect.EdgesFit, Rect.corner}
+use Rattle.rtui_geometry.specs.{declared.position.Position.Position, declared.rect.Rect.Rect, Rect.HasPosition, Rect.EdgesFit}
+use Rattle.rtui_geometry.specs.{Rect.corner}
 use Rattle.rtui_style.specs.declared.Style.{Style}
 use Rattle.rtui_cell.specs.{Look.look_of, Cell.empty_cell, Cell.styled, Cell.is_skipped, Grid.Grid}
 use Rattle.rtui_buffer.specs.BufferData.{BufferData, IsEmptied, HasRow, cell_in, cell_index, area_size, position_of}
@@ -11,8 +12,10 @@ use Rattle.rtui_buffer.specs.Bar.{PaintsOnBar, ShowsPieces, bar_of, bar_cell}
 use Rattle.rtui_buffer.proofs.{EmptyLemmas.cell-empty, ShownLemmas.look-painted, ShownLemmas.look-beside}
 
 -- the bar takes n columns
-module _ (r : Rect) (n : ℕ) (style : Style) (ps : List Piece) (old under new : BufferData) (g : Grid) (edges : EdgesFit r) (some : 0 < r.height) (emptied : IsEmptied r old)
-    (fits : columns ps ≤ r.width) (bar : IsStyled (bar_of n r) style old under) (painted : PaintsPieces (corner r) ps under new) (shows : ShowsBuffer new g) where
+module _ (r : Rect) (n : ℕ) (style : Style) (ps : List Piece) (old under new : BufferData) (g : Grid) (edges : EdgesFit r)
+    (some : 0 < r.height) (emptied : IsEmptied r old)
+    (fits : columns ps ≤ r.width) (bar : IsStyled (bar_of n r) style old under) (painted : PaintsPieces (corner r) ps under new)
+    (shows : ShowsBuffer new g) where
   area-is : under.area ≡ r
   area-is = bar.area ∙ emptied.area
 
@@ -56,20 +59,25 @@ module _ (r : Rect) (n : ℕ) (style : Style) (ps : List Piece) (old under new :
   shows-there = record {
     pieces = λ k k_in to.
         let a = r.x + columns (take k ps) in
-        look-painted (corner r) ps under new g row left ends painted shows k k_in (has-under a (omega arith) to) (plain a (omega arith) to)
+        look-painted (corner r) ps under new g row left ends painted shows k k_in (has-under a (omega arith) to)
+        (plain a (omega arith) to)
         ∙ ap (λ c. look_of (shown (piece_at ps k) c)) (known a (omega arith) to);
     beside = λ a behind to.
-        look-beside (corner r) ps under new g row left ends painted shows (position_of (a, r.y)) (has-under a (omega arith) to) (λ _. inr behind) (plain a (omega arith) to)
+        look-beside (corner r) ps under new g row left ends painted shows (position_of (a, r.y)) (has-under a (omega arith) to)
+        (λ _. inr behind) (plain a (omega arith) to)
         ∙ ap look_of (known a (omega arith) to);
   }
 
 -- on a screen that shows an empty buffer with a bar and pieces on it; if there is no column, nothing was painted
-pub ShowsPieces-bar : (r : Rect) (n : ℕ) (style : Style) (pieces : Rect → List Piece) (old new : BufferData) (g : Grid) → EdgesFit r → 0 < r.height → IsEmptied r old → columns (pieces r) ≤ r.width
-    → (0 < r.width → PaintsOnBar (bar_of n r) style (corner r) pieces old new) → ShowsBuffer new g → ShowsPieces (corner r) r.width (pieces r) (bar_cell style (r.x + n)) g
+pub ShowsPieces-bar : (r : Rect) (n : ℕ) (style : Style) (pieces : Rect → List Piece) (old new : BufferData) (g : Grid)
+    → EdgesFit r → 0 < r.height → IsEmptied r old → columns (pieces r) ≤ r.width
+    → (0 < r.width → PaintsOnBar (bar_of n r) style (corner r) pieces old new) → ShowsBuffer new g
+    → ShowsPieces (corner r) r.width (pieces r) (bar_cell style (r.x + n)) g
 ShowsPieces-bar r n style pieces old new g edges some emptied fits paints shows =
     let by : 0 < r.width → ShowsPieces (corner r) r.width (pieces r) (bar_cell style (r.x + n)) g = λ wide.
     let p = paints wide in
-    shows-there r n style (pieces r) old p.under new g edges some emptied fits p.laid (subst (λ q. PaintsPieces (corner r) (pieces q) p.under new) (p.laid.area ∙ emptied.area) p.painted) shows in
+    shows-there r n style (pieces r) old p.under new g edges some emptied fits p.laid
+    (subst (λ q. PaintsPieces (corner r) (pieces q) p.under new) (p.laid.area ∙ emptied.area) p.painted) shows in
     record {
       pieces = λ k k_in to. (by (omega arith)).pieces k k_in to;
       beside = λ a behind to. (by (omega arith)).beside a behind to;

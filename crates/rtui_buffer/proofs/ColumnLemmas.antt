@@ -33,7 +33,8 @@ place-right : (r : Rect) (p : Position) (n j : ℕ) → r.x ≤ p.x → cell_ind
 place-right r p n j le = omega arith
 
 -- a position beside these columns whose place isn't before the first one stands after the last one
-place-behind : (r : Rect) (p q : Position) (n : ℕ) → HasRow r p.y → r.x ≤ p.x → n ≤ r.x + r.width - p.x → HasPosition r q → IsBeside p n q
+place-behind : (r : Rect) (p q : Position) (n : ℕ) → HasRow r p.y → r.x ≤ p.x → n ≤ r.x + r.width - p.x → HasPosition r q
+    → IsBeside p n q
     → cell_index r p ≤ cell_index r q → cell_index r p + n ≤ cell_index r q
 place-behind r p q n row le fits h beside ge =
     let top = row.top in let above = h.top in let left = h.left in let right = h.right in
@@ -42,7 +43,8 @@ place-behind r p q n row le fits h beside ge =
     elim (beside (omega arith)) [ inl before ↦ absurd (omega arith) | inr behind ↦ omega arith ])
 
 -- such a position is beside the painted part
-beside-same : (r : Rect) (p q : Position) (n : ℕ) (old new : List Cell) → HasRow r p.y → r.x ≤ p.x → n ≤ r.x + r.width - p.x → HasPosition r q → IsBeside p n q
+beside-same : (r : Rect) (p q : Position) (n : ℕ) (old new : List Cell) → HasRow r p.y → r.x ≤ p.x → n ≤ r.x + r.width - p.x
+    → HasPosition r q → IsBeside p n q
     → IsSameOutside (cell_index r p) (cell_index r p + n) old new → cell new (cell_index r q) ≡ cell old (cell_index r q)
 beside-same r p q n old new row le fits h beside same = elim (cases_lt (cell_index r q) (cell_index r p)) [
   | inl lt ↦ same.before (cell_index r q) lt
@@ -50,14 +52,18 @@ beside-same r p q n old new row le fits h beside same = elim (cases_lt (cell_ind
 ]
 
 -- a refused painting changes nothing beside its columns
-pub same-beside : (p q : Position) (ps : List Piece) (old new : BufferData) → HasRow old.area p.y → old.area.x ≤ p.x → columns ps ≤ old.area.x + old.area.width - p.x
+pub same-beside : (p q : Position) (ps : List Piece) (old new : BufferData) → HasRow old.area p.y → old.area.x ≤ p.x
+    → columns ps ≤ old.area.x + old.area.width - p.x
     → IsSameBeside p ps old new → HasPosition old.area q → IsBeside p (columns ps) q → cell_in new q ≡ cell_in old q
-same-beside p q ps old new row le fits h q_in beside = rw h.area (beside-same old.area p q (columns ps) old.cells new.cells row le fits q_in beside h.cells)
+same-beside p q ps old new row le fits h q_in beside =
+    rw h.area (beside-same old.area p q (columns ps) old.cells new.cells row le fits q_in beside h.cells)
 
 pub PaintsByColumns-paints : (p : Position) (ps : List Piece) (old new : BufferData) → HasRow old.area p.y → old.area.x ≤ p.x
     → columns ps ≤ old.area.x + old.area.width - p.x → PaintsPieces p ps old new → PaintsByColumns p ps old new
 PaintsByColumns-paints p ps old new row le fits h = record {
   starts = λ k k_in. rw (h.area, place-at old.area p (columns (take k ps)) le) (h.cells.starts k k_in);
-  behind = λ k j k_in some j_in. rw (h.area, place-right old.area p (columns (take k ps)) j le) (h.cells.behind k j k_in some j_in);
-  outside = λ q q_in beside. rw h.area (beside-same old.area p q (columns ps) old.cells new.cells row le fits q_in beside h.cells.outside);
+  behind = λ k j k_in some j_in. rw (h.area, place-right old.area p (columns (take k ps)) j le)
+      (h.cells.behind k j k_in some j_in);
+  outside = λ q q_in beside. rw h.area (beside-same old.area p q (columns ps) old.cells new.cells row le fits q_in beside
+      h.cells.outside);
 }

@@ -14,8 +14,10 @@ cell-empty (suc n) zero = refl
 cell-empty (suc n) (suc i) = cell-empty n i
 
 -- cells that are all empty
-pub all-empty : (n : ℕ) (cells : List Cell) → length cells ≡ n → ((k : ℕ) → k < n → cell cells k ≡ empty_cell) → cells ≡ empty_cells n
-all-empty n cells count empty = ext_get_or empty_cell cells (empty_cells n) (count ∙ sym (length-replicate n empty_cell)) (λ k k_in. empty k (omega arith) ∙ sym (cell-empty n k))
+pub all-empty : (n : ℕ) (cells : List Cell) → length cells ≡ n → ((k : ℕ) → k < n → cell cells k ≡ empty_cell)
+    → cells ≡ empty_cells n
+all-empty n cells count empty = ext_get_or empty_cell cells (empty_cells n) (count ∙ sym (length-replicate n empty_cell))
+    (λ k k_in. empty k (omega arith) ∙ sym (cell-empty n k))
 
 module _ (r : Rect) (s : BufferData) (emptied : IsEmptied r s) where
   all_empty : (w a b : ℕ) → cell_at w s.cells a b ≡ empty_cell
@@ -37,10 +39,12 @@ module _ (r : Rect) (s : BufferData) (emptied : IsEmptied r s) where
   pub IsPaintable-empty : (p : Position) (n : ℕ) → IsPaintable p n s
   IsPaintable-empty p n = record {
     unmarked = λ a le lt. rw (cell_in-empty (position_of (a, p.y))) (record { option = refl; flag = refl });
-    uncovered = λ a le lt plain. let one : width_of (cell_in s (position_of (a, p.y))) ≡ 1 = ap width_of (cell_in-empty (position_of (a, p.y))) ∙ width-empty in omega arith;
+    uncovered = λ a le lt plain. let one : width_of (cell_in s (position_of (a, p.y))) ≡ 1 =
+        ap width_of (cell_in-empty (position_of (a, p.y))) ∙ width-empty in omega arith;
   }
 
-  pub ShowsBuffer-empty : (g : Grid) → ((a b : ℕ) → a < s.area.width → b < s.area.height → g (s.area.x + a) (s.area.y + b) ≡ empty_look) → ShowsBuffer s g
+  pub ShowsBuffer-empty : (g : Grid)
+      → ((a b : ℕ) → a < s.area.width → b < s.area.height → g (s.area.x + a) (s.area.y + b) ≡ empty_look) → ShowsBuffer s g
   ShowsBuffer-empty g blank = record {
     at = λ a b a_in b_in. record {
       look = λ plain. blank a b a_in b_in ∙ sym (ap look_of (all_empty s.area.width a b) ∙ look-empty);

@@ -12,18 +12,21 @@ module _ {A : Type 0} (E : A → A → Bool) (d : A) where
   pointwise-count (x ∷ xs) [] e = absurd (false≢true e)
   pointwise-count (x ∷ xs) (y ∷ ys) e = ap suc (pointwise-count xs ys (and_parts (E x y) (pointwise E xs ys) e).1)
 
-  pub pointwise-at : (xs ys : List A) → pointwise E xs ys ≡ true → (k : ℕ) → k < length xs → E (get_or xs k d) (get_or ys k d) ≡ true
+  pub pointwise-at : (xs ys : List A) → pointwise E xs ys ≡ true → (k : ℕ) → k < length xs
+      → E (get_or xs k d) (get_or ys k d) ≡ true
   pointwise-at [] [] e k lt = absurd (omega arith)
   pointwise-at [] (y ∷ ys) e k lt = absurd (false≢true e)
   pointwise-at (x ∷ xs) [] e k lt = absurd (false≢true e)
   pointwise-at (x ∷ xs) (y ∷ ys) e zero lt = (and_parts (E x y) (pointwise E xs ys) e).0
   pointwise-at (x ∷ xs) (y ∷ ys) e (suc k) lt = pointwise-at xs ys (and_parts (E x y) (pointwise E xs ys) e).1 k (omega arith)
 
-  pub pointwise-from : (xs ys : List A) → length xs ≡ length ys → ((k : ℕ) → k < length xs → E (get_or xs k d) (get_or ys k d) ≡ true) → pointwise E xs ys ≡ true
+  pub pointwise-from : (xs ys : List A) → length xs ≡ length ys
+      → ((k : ℕ) → k < length xs → E (get_or xs k d) (get_or ys k d) ≡ true) → pointwise E xs ys ≡ true
   pointwise-from [] [] e all = refl
   pointwise-from [] (y ∷ ys) e all = absurd (omega arith)
   pointwise-from (x ∷ xs) [] e all = absurd (omega arith)
-  pointwise-from (x ∷ xs) (y ∷ ys) e all = and_from (E x y) (pointwise E xs ys) (all 0 (omega arith)) (pointwise-from xs ys (omega arith) (λ k lt. all (suc k) (omega arith)))
+  pointwise-from (x ∷ xs) (y ∷ ys) e all = and_from (E x y) (pointwise E xs ys) (all 0 (omega arith))
+      (pointwise-from xs ys (omega arith) (λ k lt. all (suc k) (omega arith)))
 
 pub same_rect : (a b : Rect) → rect_equality.eq-value.it a b ≡ true → a ≡ b
 same_rect a b e =

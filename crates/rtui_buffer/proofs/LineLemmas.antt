@@ -21,18 +21,21 @@ AreWide-append [] qs h g = g
 AreWide-append (p ∷ ps) qs h g = (h.0, AreWide-append ps qs h.1 g)
 
 -- painting pieces and then others after them is painting them all
-pub painted-append : (at : ℕ) (ps qs : List Piece) (cells : List Cell) → painted at (ps ++ qs) cells ≡ painted (at + columns ps) qs (painted at ps cells)
+pub painted-append : (at : ℕ) (ps qs : List Piece) (cells : List Cell)
+    → painted at (ps ++ qs) cells ≡ painted (at + columns ps) qs (painted at ps cells)
 painted-append at [] qs cells = let here : at + columns [] ≡ at = omega arith in rw (here, painted-nil at cells)
 painted-append at (p ∷ ps) qs cells =
     let place : at + columns (p ∷ ps) ≡ at + piece_width p + columns ps = omega (arith, sum_by-append piece_width (p ∷ []) ps) in
-    rw (place, painted-cons at p ps cells) (painted-cons at p (ps ++ qs) cells ∙ painted-append (at + piece_width p) ps qs (with_piece at p cells))
+    rw (place, painted-cons at p ps cells) (painted-cons at p (ps ++ qs) cells
+    ∙ painted-append (at + piece_width p) ps qs (with_piece at p cells))
 
 pub line_pieces-nil : (room : ℕ) (base : Style) → line_pieces room base [] ≡ []
 unfolding line_pieces
 line_pieces-nil room base = refl
 
 pub line_pieces-cons : (room : ℕ) (base : Style) (s : SpanData) (ss : List SpanData)
-    → line_pieces room base (s ∷ ss) ≡ text_pieces room (patch base s.style) s.content ++ line_pieces (room - columns (text_pieces room (patch base s.style) s.content)) base ss
+    → line_pieces room base (s ∷ ss) ≡ text_pieces room (patch base s.style) s.content ++ line_pieces
+    (room - columns (text_pieces room (patch base s.style) s.content)) base ss
 unfolding line_pieces
 line_pieces-cons room base s ss = refl
 
@@ -40,34 +43,40 @@ pub line_pieces-none : (room : ℕ) (base : Style) (ss : List SpanData) → room
 line_pieces-none room base [] e = line_pieces-nil room base
 line_pieces-none room base (s ∷ ss) e =
     let none = text_pieces-none room (patch base s.style) s.content e in
-    line_pieces-cons room base s ss ∙ ap (λ ps. ps ++ line_pieces (room - columns ps) base ss) none ∙ line_pieces-none (room - 0) base ss (omega arith)
+    line_pieces-cons room base s ss ∙ ap (λ ps. ps ++ line_pieces (room - columns ps) base ss) none
+    ∙ line_pieces-none (room - 0) base ss (omega arith)
 
 pub columns-line : (room : ℕ) (base : Style) (ss : List SpanData) → columns (line_pieces room base ss) ≤ room
 columns-line room base [] = rw (line_pieces-nil room base) (omega arith)
 columns-line room base (s ∷ ss) =
     let ps : List Piece = text_pieces room (patch base s.style) s.content in
     let first : columns ps ≤ room = columns-kept (patch base s.style) room (graphemes true s.content) in
-    let others : columns (line_pieces (room - columns ps) base ss) ≤ room - columns ps = columns-line (room - columns ps) base ss in
+    let others : columns (line_pieces (room - columns ps) base ss) ≤ room - columns ps =
+    columns-line (room - columns ps) base ss in
     rw line_pieces-cons (omega (arith, columns-append ps (line_pieces (room - columns ps) base ss)))
 
 pub AreWide-line : (room : ℕ) (base : Style) (ss : List SpanData) → AreWide (line_pieces room base ss)
 AreWide-line room base [] = rw (line_pieces-nil room base) tt
 AreWide-line room base (s ∷ ss) =
     let ps : List Piece = text_pieces room (patch base s.style) s.content in
-    rw line_pieces-cons (AreWide-append ps (line_pieces (room - columns ps) base ss) (AreWide-kept (patch base s.style) room (graphemes true s.content)) (AreWide-line (room - columns ps) base ss))
+    rw line_pieces-cons (AreWide-append ps (line_pieces (room - columns ps) base ss)
+    (AreWide-kept (patch base s.style) room (graphemes true s.content)) (AreWide-line (room - columns ps) base ss))
 
-pub HasPieces-line : (at room : ℕ) (base : Style) (ss : List SpanData) (cells new : List Cell) → new ≡ painted at (line_pieces room base ss) cells → at + room ≤ length cells
+pub HasPieces-line : (at room : ℕ) (base : Style) (ss : List SpanData) (cells new : List Cell)
+    → new ≡ painted at (line_pieces room base ss) cells → at + room ≤ length cells
     → HasPieces at (line_pieces room base ss) cells new
 HasPieces-line at room base ss cells new e fits =
     let le = columns-line room base ss in
     rw e (HasPieces-painted at (line_pieces room base ss) cells (AreWide-line room base ss) (omega arith))
 
-pub line-fits : (r : Rect) (x max room : ℕ) (base : Style) (ss : List SpanData) → room ≡ room_at r x max → room ≢ 0 → x + columns (line_pieces room base ss) ≤ r.x + r.width
+pub line-fits : (r : Rect) (x max room : ℕ) (base : Style) (ss : List SpanData) → room ≡ room_at r x max → room ≢ 0
+    → x + columns (line_pieces room base ss) ≤ r.x + r.width
 line-fits r x max room base ss e some = let k = columns-line room base ss in omega arith
 
 -- the pieces that a turn of the loop paints, before those of the spans after
 pub span-pieces : (base : Style) (used room : ℕ) (left ss : List SpanData) (s : SpanData) → left ≡ s ∷ ss
-    → let ps = text_pieces (room - used) (patch base s.style) s.content in line_pieces (room - used) base left ≡ ps ++ line_pieces (room - (used + columns ps)) base ss
+    → let ps = text_pieces (room - used) (patch base s.style) s.content in
+    line_pieces (room - used) base left ≡ ps ++ line_pieces (room - (used + columns ps)) base ss
 span-pieces base used room left ss s is =
     let ps : List Piece = text_pieces (room - used) (patch base s.style) s.content in
     let rest : room - used - columns ps ≡ room - (used + columns ps) = omega arith in

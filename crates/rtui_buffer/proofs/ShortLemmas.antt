@@ -9,14 +9,16 @@ use Rattle.rtui_cell.specs.{Symbol.IsShort, Width.text_width}
 use Rattle.rtui_text.specs.Text.{SpanData}
 use Rattle.rtui_text.proofs.PrintableLemmas.{IsAsciiPiece, ascii-graphemes}
 use Rattle.rtui_buffer.specs.Painting.{has_painted_width, fitting, kept, Piece, piece_of, text_pieces, columns}
-use Rattle.rtui_buffer.specs.{PaintedText.AreShort, PaintedText.HasShortGraphemes, PaintedText.HaveShortGraphemes, Line.line_pieces}
+use Rattle.rtui_buffer.specs.{PaintedText.AreShort, PaintedText.HasShortGraphemes, PaintedText.HaveShortGraphemes}
+use Rattle.rtui_buffer.specs.{Line.line_pieces}
 
 -- what holds of each grapheme holds of those that fit
 pub All-fitting : (P : List ℕ → Type 0) (room : ℕ) (gs : List (List ℕ)) → All P gs → All P (fitting room gs)
 unfolding fitting
 All-fitting P room [] all = All-nil P
 All-fitting P room (g ∷ gs) all =
-    cond_both _ (g ∷ fitting (room - text_width g) gs) [] (All P) (λ _. All-cons P g _ (All-head P g gs all) (All-fitting P (room - text_width g) gs (All-tail P g gs all))) (λ _. All-nil P)
+    cond_both _ (g ∷ fitting (room - text_width g) gs) [] (All P) (λ _. All-cons P g _ (All-head P g gs all)
+    (All-fitting P (room - text_width g) gs (All-tail P g gs all))) (λ _. All-nil P)
 
 All-kept : (P : List ℕ → Type 0) (room : ℕ) (gs : List (List ℕ)) → All P gs → All P (kept room gs)
 unfolding kept
@@ -24,9 +26,11 @@ All-kept P room gs all = All-fitting P room _ (All-filter has_painted_width P gs
 
 pub text-short : (room : ℕ) (style : Style) (text : List ℕ) → HasShortGraphemes text → AreShort (text_pieces room style text)
 text-short room style text all =
-    All-map (λ (p : Piece). IsShort p.symbol) (piece_of style) (kept room (graphemes true text)) (All-kept IsShort room (graphemes true text) all)
+    All-map (λ (p : Piece). IsShort p.symbol) (piece_of style) (kept room (graphemes true text))
+    (All-kept IsShort room (graphemes true text) all)
 
-pub line-short : (room : ℕ) (base : Style) (spans : List SpanData) → HaveShortGraphemes spans → AreShort (line_pieces room base spans)
+pub line-short : (room : ℕ) (base : Style) (spans : List SpanData) → HaveShortGraphemes spans
+    → AreShort (line_pieces room base spans)
 unfolding line_pieces
 line-short room base [] all = All-nil (λ (p : Piece). IsShort p.symbol)
 line-short room base (s ∷ ss) all =

@@ -1,5 +1,6 @@
 -- Empty buffers with a style, and the looks of shown cells.
-use Rattle.std.proofs.Common.{◌≡◌, ℕ, ◌+◌, ◌-◌, ◌*◌, ◌<◌, ◌≤◌, ◌⊎◌, inl, inr, List, length, take, false, refl, sym, ap, ap₂, subst, ◌∙◌, arith}
+use Rattle.std.proofs.Common.{◌≡◌, ℕ, ◌+◌, ◌-◌, ◌*◌, ◌<◌, ◌≤◌, ◌⊎◌, inl, inr, List, length, take, false, refl, sym, ap, ap₂}
+use Rattle.std.proofs.Common.{subst, ◌∙◌, arith}
 use Rattle.rtui_geometry.specs.{declared.position.Position.Position, declared.rect.Rect.Rect}
 use Rattle.rtui_geometry.specs.Rect.{HasPosition, EdgesFit}
 use Rattle.rtui_style.specs.declared.Style.{Style}
@@ -35,7 +36,8 @@ index-at x y w a b =
     let column : x + a - x ≡ a = omega arith in
     rw (row, column) refl
 
-module _ (r area : Rect) (s : Style) (old new : BufferData) (edges : EdgesFit r) (emptied : IsEmptied r old) (is : IsStyled area s old new) where
+module _ (r area : Rect) (s : Style) (old new : BufferData) (edges : EdgesFit r) (emptied : IsEmptied r old)
+    (is : IsStyled area s old new) where
   own-edges : EdgesFit old.area
   own-edges = subst EdgesFit (sym emptied.area) edges
 
@@ -62,7 +64,8 @@ module _ (r area : Rect) (s : Style) (old new : BufferData) (edges : EdgesFit r)
     behind = λ a b k a_in b_in plain more less. let one = (plain-at a b a_in b_in).width in absurd (omega arith);
   })
 
-  pub IsPaintable-styled : (p : Position) (n : ℕ) → HasRow old.area p.y → old.area.x ≤ p.x → p.x + n ≤ old.area.x + old.area.width → IsPaintable p n new
+  pub IsPaintable-styled : (p : Position) (n : ℕ) → HasRow old.area p.y → old.area.x ≤ p.x → p.x + n ≤ old.area.x + old.area.width
+      → IsPaintable p n new
   IsPaintable-styled p n row le fits =
       let e = own-edges in
       let left : new.area.x ≡ old.area.x = ap (λ q. q.x) is.area in
@@ -72,7 +75,8 @@ module _ (r area : Rect) (s : Style) (old new : BufferData) (edges : EdgesFit r)
       }
 
 -- the look in a column of a shown buffer
-pub shown-look : (s : BufferData) (g : Grid) (p : Position) → ShowsBuffer s g → HasPosition s.area p → is_skipped (cell_in s p) ≡ false → g p.x p.y ≡ look_of (cell_in s p)
+pub shown-look : (s : BufferData) (g : Grid) (p : Position) → ShowsBuffer s g → HasPosition s.area p
+    → is_skipped (cell_in s p) ≡ false → g p.x p.y ≡ look_of (cell_in s p)
 shown-look s g p shows has plain =
     let l = has.left in let r = has.right in let t = has.top in let b = has.bottom in
     let x : s.area.x + (p.x - s.area.x) ≡ p.x = omega arith in
@@ -80,7 +84,8 @@ shown-look s g p shows has plain =
     ap₂ g (sym x) (sym y) ∙ (shows.at (p.x - s.area.x) (p.y - s.area.y) (omega arith) (omega arith)).look plain
 
 -- pieces painted in a row, on a screen that shows them
-module _ (p : Position) (ps : List Piece) (old new : BufferData) (g : Grid) (row : HasRow old.area p.y) (left : old.area.x ≤ p.x) (fits : columns ps ≤ old.area.x + old.area.width - p.x)
+module _ (p : Position) (ps : List Piece) (old new : BufferData) (g : Grid) (row : HasRow old.area p.y) (left : old.area.x ≤ p.x)
+    (fits : columns ps ≤ old.area.x + old.area.width - p.x)
     (painted : PaintsPieces p ps old new) (shows : ShowsBuffer new g) where
   by : PaintsByColumns p ps old new
   by = PaintsByColumns-paints p ps old new row left fits painted
@@ -89,11 +94,13 @@ module _ (p : Position) (ps : List Piece) (old new : BufferData) (g : Grid) (row
   look-at q c has e plain = shown-look new g q shows (rw painted.area has) (rw e plain) ∙ ap look_of e
 
   -- each piece has its look over the former cell, in the column where it begins
-  pub look-painted : (k : ℕ) → k < length ps → HasPosition old.area (right_by (columns (take k ps)) p) → is_skipped (cell_in old (right_by (columns (take k ps)) p)) ≡ false
+  pub look-painted : (k : ℕ) → k < length ps → HasPosition old.area (right_by (columns (take k ps)) p)
+      → is_skipped (cell_in old (right_by (columns (take k ps)) p)) ≡ false
       → g (p.x + columns (take k ps)) p.y ≡ look_of (shown (piece_at ps k) (cell_in old (right_by (columns (take k ps)) p)))
   unfolding is_skipped
   look-painted k k_in has plain = look-at (right_by (columns (take k ps)) p) _ has (by.starts k k_in) plain
 
   -- and each cell beside them its own
-  pub look-beside : (q : Position) → HasPosition old.area q → IsBeside p (columns ps) q → is_skipped (cell_in old q) ≡ false → g q.x q.y ≡ look_of (cell_in old q)
+  pub look-beside : (q : Position) → HasPosition old.area q → IsBeside p (columns ps) q → is_skipped (cell_in old q) ≡ false
+      → g q.x q.y ≡ look_of (cell_in old q)
   look-beside q has beside plain = look-at q _ has (by.outside q has beside) plain

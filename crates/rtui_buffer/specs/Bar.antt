@@ -11,13 +11,14 @@ abbrev pub bar_of : ℕ → Rect → Rect
 bar_of n area = record area { width = n; height = 1 }
 
 -- a style laid over a bar, and pieces, which may depend on the buffer's area, painted from a position on
-pub record PaintsOnBar (bar : Rect) (style : Style) (p : Position) (pieces : Rect → List Piece) (old new : BufferData) : Type 0 where
+pub record PaintsOnBar (bar : Rect) (style : Style) (p : Position) (pieces : Rect → List Piece)
+    (old new : BufferData) : Type 0 where
   pub under : BufferData
   pub laid : IsStyled bar style old under
   pub painted : PaintsPieces p (pieces under.area) under new
 
--- the grid shows pieces one after the other, in at most n columns from a position on: each has its look over the cell that lies under it,
--- and if no piece stands these cells show
+-- the grid shows pieces one after the other, in at most n columns from a position on: each has its look over
+-- the cell that lies under it, and if no piece stands these cells show
 pub record ShowsPieces (p : Position) (n : ℕ) (ps : List Piece) (under : ℕ → Cell) (g : Grid) : Type 0 where
   pub pieces : (k : ℕ) → k < length ps → let a = p.x + columns (take k ps) in
       a < p.x + n → g a p.y ≡ look_of (shown (piece_at ps k) (under a))

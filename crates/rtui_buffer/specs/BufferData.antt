@@ -1,5 +1,6 @@
 -- What a buffer is: an area, its cells row by row, and for how many cells there is room.
-use Rattle.std.specs.Prelude.{◌≡◌, ℕ, ◌<◌, ◌≤◌, ◌+◌, ◌-◌, ◌*◌, ◌/◌, ◌%◌, ◌++◌, List, take, drop, length, replicate, slice_index_or, slice_set}
+use Rattle.std.specs.Prelude.{◌≡◌, ℕ, ◌<◌, ◌≤◌, ◌+◌, ◌-◌, ◌*◌, ◌/◌, ◌%◌, ◌++◌, List, take, drop, length}
+use Rattle.std.specs.Prelude.{replicate, slice_index_or, slice_set}
 use Rattle.rtui_geometry.specs.{declared.position.Position.Position, declared.rect.Rect.Rect, Rect.EdgesFit}
 use Rattle.rtui_cell.specs.{declared.cell.Cell.Cell, Cell.empty_cell, Equality.IsEqual}
 
@@ -88,4 +89,5 @@ pub record IsSameBuffer (s t : BufferData) : Type 0 where
 pub record IsEqualBuffer (s t : BufferData) : Type 0 where
   pub area : s.area ≡ t.area
   pub count : length s.cells ≡ length t.cells
-  pub cells : (k : ℕ) → k < length s.cells → IsEqual (slice_index_or s.cells k empty_cell) (slice_index_or t.cells k empty_cell)
+  pub cells : (k : ℕ) → k < length s.cells → IsEqual (slice_index_or s.cells k empty_cell)
+      (slice_index_or t.cells k empty_cell)

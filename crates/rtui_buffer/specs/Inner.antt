@@ -1,6 +1,7 @@
 -- What private functions promise one another.
 use Rattle.std.specs.Prelude.{◌≡◌, ℕ, ◌+◌, ◌-◌, ◌<◌, ◌≤◌, ◌&&◌, nat_le, nat_lt, if◌then◌else◌, List, length}
-use Rattle.rtui_geometry.specs.{declared.position.Position.Position, declared.rect.Rect.Rect, Rect.HasPosition}
+use Rattle.rtui_geometry.specs.{declared.position.Position.Position, declared.rect.Rect.Rect}
+use Rattle.rtui_geometry.specs.{Rect.HasPosition}
 use Rattle.rtui_cell.specs.{declared.cell.Cell.Cell, Cell.empty_cell, Cell.styled}
 use Rattle.rtui_grid.specs.{declared.block.Block.Block, Blocks.HasBlock}
 use Rattle.rtui_buffer.specs.{BufferData.BufferData, BufferData.cell_in, Painting.IsSameOutside}
@@ -22,18 +23,27 @@ pub record IsExtended (area : Rect) (old new : BufferData) : Type 0 where
 
 -- where an inner area is in the rows and columns of one around it
 abbrev pub place_in : Rect → Rect → Block
-place_in outer inner = record { left = inner.x - outer.x; top = inner.y - outer.y; columns = inner.width; rows = inner.height }
+place_in outer inner = record {
+  left = inner.x - outer.x;
+  top = inner.y - outer.y;
+  columns = inner.width;
+  rows = inner.height;
+}
 
 -- in the list of an area: the cells of an inner area at their positions, all else as before
 abbrev pub HasInner : Rect → Rect → List Cell → List Cell → List Cell → Type 0
-HasInner outer inner block old new = HasBlock empty_cell outer.width (place_in outer inner) inner.width block old new
+HasInner outer inner block old new =
+    HasBlock empty_cell outer.width (place_in outer inner) inner.width block old new
 
 -- the cells of a part with a style laid over them
 pub record IsStyledPart (from to : ℕ) (s : Style) (old new : List Cell) : Type 0 where
   pub inside : (k : ℕ) → from ≤ k → k < to → cell new k ≡ styled s (cell old k)
   pub outside : IsSameOutside from to old new
 
--- in rows of w columns: the cells of some columns of some rows with a style laid over them, all else as before
+-- in rows of w columns: the cells of some columns of some rows with a style laid over them, all else as
+-- before
 pub record IsStyledRows (w left right top bottom : ℕ) (s : Style) (old new : List Cell) : Type 0 where
   pub count : length new ≡ length old
-  pub at : (a b : ℕ) → a < w → cell_at w new a b ≡ (if nat_le left a && nat_lt a right && nat_le top b && nat_lt b bottom then styled s (cell_at w old a b) else cell_at w old a b)
+  pub at : (a b : ℕ) → a < w → cell_at w new a b ≡
+      (if nat_le left a && nat_lt a right && nat_le top b && nat_lt b bottom then styled s
+      (cell_at w old a b) else cell_at w old a b)

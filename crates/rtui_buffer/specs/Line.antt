@@ -6,7 +6,8 @@ use Rattle.rtui_style.specs.{declared.Style.Style, Style.patch}
 use Rattle.rtui_cell.specs.declared.cell.Cell.{Cell}
 use Rattle.rtui_text.specs.Text.{SpanData, LineData, line_of, raw_line}
 pub use Rattle.rtui_text.specs.Widths.{widest}
-use Rattle.rtui_buffer.specs.{BufferData.BufferData, BufferData.empty_cells, BufferData.row_cells, PaintedText.room_at}
+use Rattle.rtui_buffer.specs.{BufferData.BufferData, BufferData.empty_cells, BufferData.row_cells}
+use Rattle.rtui_buffer.specs.{PaintedText.room_at}
 use Rattle.rtui_buffer.specs.Painting.{Piece, text_pieces, columns, painted, HasPieces}
 
 -- the pieces of spans one after the other, each span in the width that is left, its style over the base style
@@ -33,7 +34,8 @@ line_at ls k = slice_index_or ls k (line_of [])
 -- in rows of w cells: a row for each line, with its pieces painted on empty cells
 pub record ShowsLines (w : ℕ) (ls : List LineData) (cells : List Cell) : Type 0 where
   pub count : length cells ≡ w * length ls
-  pub row : (k : ℕ) → k < length ls → HasPieces 0 (line_pieces w (line_at ls k).style (line_at ls k).spans) (empty_cells w) (row_cells w cells k)
+  pub row : (k : ℕ) → k < length ls → HasPieces 0 (line_pieces w (line_at ls k).style (line_at ls k).spans)
+      (empty_cells w) (row_cells w cells k)
 
 -- the area of a buffer with these lines
 abbrev pub lines_area : List LineData → Rect

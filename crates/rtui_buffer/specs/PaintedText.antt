@@ -1,15 +1,18 @@
 -- Painting into a buffer, from a position on.
-use Rattle.std.specs.Prelude.{ℕ, ◌+◌, ◌-◌, ◌≡◌, ◌⊎◌, ◌≤◌, ◌<◌, min, true, false, List, [], ◌∷◌, ◌++◌, length, take, All, Result, IsOk, OnOk, OnErr}
+use Rattle.std.specs.Prelude.{ℕ, ◌+◌, ◌-◌, ◌≡◌, ◌⊎◌, ◌≤◌, ◌<◌, min, true, false, List, [], ◌∷◌, ◌++◌, length}
+use Rattle.std.specs.Prelude.{take, All, Result, IsOk, OnOk, OnErr}
 use Rattle.std.specs.declared.alloc.AllocError.{AllocError}
 use Rattle.unicode_segmentation.specs.Grapheme.{graphemes}
 use Rattle.rtui_text.specs.Text.{SpanData}
-use Rattle.rtui_geometry.specs.{declared.position.Position.Position, declared.rect.Rect.Rect, Rect.HasPosition}
+use Rattle.rtui_geometry.specs.{declared.position.Position.Position, declared.rect.Rect.Rect}
+use Rattle.rtui_geometry.specs.{Rect.HasPosition}
 use Rattle.rtui_style.specs.declared.Style.{Style}
 use Rattle.rtui_cell.specs.Symbol.{IsShort}
 use Rattle.rtui_cell.specs.Cell.{empty_cell, styled, width_of, is_skipped, IsUnmarked}
 use Rattle.rtui_buffer.specs.BufferData.{BufferData, cell_index, cell_in, position_of}
 use Rattle.rtui_buffer.specs.Shown.{IsSettledBuffer}
-use Rattle.rtui_buffer.specs.Painting.{Piece, text_pieces, piece_width, piece_at, columns, shown, IsSameOutside, HasPieces, KeepsUnmarked}
+use Rattle.rtui_buffer.specs.Painting.{Piece, text_pieces, piece_width, piece_at, columns, shown}
+use Rattle.rtui_buffer.specs.Painting.{IsSameOutside, HasPieces, KeepsUnmarked}
 
 -- the columns from x to the area's right edge, at most max and 65535
 abbrev pub room_at : Rect → ℕ → ℕ → ℕ
@@ -40,12 +43,17 @@ right_by n p = record { x = p.x + n; y = p.y }
 abbrev pub IsBeside : Position → ℕ → Position → Type 0
 IsBeside p n q = q.y ≡ p.y → (q.x < p.x) ⊎ (p.x + n ≤ q.x)
 
--- The same by columns: each piece stands in the column at the sum of the widths before it, its symbol and its style over the former
--- cell; the other columns that it takes are empty; each position beside them is as before.
+-- The same by columns: each piece stands in the column at the sum of the widths before it, its symbol and its
+-- style over the former cell; the other columns that it takes are empty; each position beside them is as
+-- before.
 pub record PaintsByColumns (p : Position) (ps : List Piece) (old new : BufferData) : Type 0 where
-  pub starts : (k : ℕ) → k < length ps → cell_in new (right_by (columns (take k ps)) p) ≡ shown (piece_at ps k) (cell_in old (right_by (columns (take k ps)) p))
-  pub behind : (k j : ℕ) → k < length ps → 0 < j → j < piece_width (piece_at ps k) → cell_in new (right_by (columns (take k ps) + j) p) ≡ empty_cell
-  pub outside : (q : Position) → HasPosition old.area q → IsBeside p (columns ps) q → cell_in new q ≡ cell_in old q
+  pub starts : (k : ℕ) → k < length ps
+      → cell_in new (right_by (columns (take k ps)) p) ≡ shown (piece_at ps k)
+      (cell_in old (right_by (columns (take k ps)) p))
+  pub behind : (k j : ℕ) → k < length ps → 0 < j → j < piece_width (piece_at ps k)
+      → cell_in new (right_by (columns (take k ps) + j) p) ≡ empty_cell
+  pub outside : (q : Position) → HasPosition old.area q → IsBeside p (columns ps) q
+      → cell_in new q ≡ cell_in old q
 
 -- the buffers differ at most where the pieces would have been painted
 pub record IsSameBeside (p : Position) (ps : List Piece) (old new : BufferData) : Type 0 where
@@ -57,16 +65,18 @@ pub record IsSameBeside (p : Position) (ps : List Piece) (old new : BufferData) 
 abbrev pub AreShort : List Piece → Type 0
 AreShort ps = All (λ p. IsShort p.symbol) ps
 
--- n columns from p on may be painted in a settled buffer: no cell of theirs has an option or the flag, and no unskipped cell before
--- them reaches into them
+-- n columns from p on may be painted in a settled buffer: no cell of theirs has an option or the flag, and no
+-- unskipped cell before them reaches into them
 pub record IsPaintable (p : Position) (n : ℕ) (s : BufferData) : Type 0 where
   pub unmarked : (a : ℕ) → p.x ≤ a → a < p.x + n → IsUnmarked (cell_in s (position_of (a, p.y)))
   pub uncovered : (a : ℕ) → s.area.x ≤ a → a < p.x → is_skipped (cell_in s (position_of (a, p.y))) ≡ false
       → a + width_of (cell_in s (position_of (a, p.y))) ≤ p.x
 
--- What a call does that paints pieces from a position on. Ok, they are painted, and a settled buffer is still settled if their
--- columns may be painted; if memory is refused, at most their columns differ. Short symbols are never refused.
-pub record PaintsOrRefuses {A : Type 0} (p : Position) (ps : List Piece) (result : Result A AllocError) (old new : BufferData) : Type 0 where
+-- What a call does that paints pieces from a position on. Ok, they are painted, and a settled buffer is still
+-- settled if their columns may be painted; if memory is refused, at most their columns differ. Short symbols
+-- are never refused.
+pub record PaintsOrRefuses {A : Type 0} (p : Position) (ps : List Piece) (result : Result A AllocError)
+    (old new : BufferData) : Type 0 where
   pub ok : OnOk result (PaintsPieces p ps old new)
   pub settled : IsSettledBuffer old → IsPaintable p (columns ps) old → OnOk result (IsSettledBuffer new)
   pub err : OnErr result (IsSameBeside p ps old new)
@@ -77,7 +87,8 @@ pub record PaintsOrRefuses {A : Type 0} (p : Position) (ps : List Piece) (result
 pub record IsStyled (r : Rect) (s : Style) (old new : BufferData) : Type 0 where
   pub area : new.area ≡ old.area
   pub room : new.room ≡ old.room
-  pub inside : (p : Position) → HasPosition old.area p → HasPosition r p → cell_in new p ≡ styled s (cell_in old p)
+  pub inside : (p : Position) → HasPosition old.area p → HasPosition r p
+      → cell_in new p ≡ styled s (cell_in old p)
   pub outside : (p : Position) → HasPosition old.area p → ¬ (HasPosition r p) → cell_in new p ≡ cell_in old p
 
 -- the text is one grapheme

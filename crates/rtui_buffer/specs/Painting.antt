@@ -1,8 +1,11 @@
 -- Painting pieces of text into a list of cells, one after the other.
-use Rattle.std.specs.Prelude.{ℕ, ⊤, Bool, true, ◌+◌, ◌-◌, ◌≡◌, ◌≤◌, ◌<◌, suc, zero, nat_le, nat_lt, List, [], ◌∷◌, ◌++◌, length, take, map, filter, sum_by, if◌then◌else◌, Some, slice_index_or, slice_set}
+use Rattle.std.specs.Prelude.{ℕ, ⊤, Bool, true, ◌+◌, ◌-◌, ◌≡◌, ◌≤◌, ◌<◌, suc, zero, nat_le, nat_lt, List, []}
+use Rattle.std.specs.Prelude.{◌∷◌, ◌++◌, length, take, map, filter, sum_by, if◌then◌else◌, Some}
+use Rattle.std.specs.Prelude.{slice_index_or, slice_set}
 use Rattle.unicode_segmentation.specs.Grapheme.{graphemes}
 use Rattle.rtui_style.specs.{declared.Style.Style, Style.new_style}
-use Rattle.rtui_cell.specs.{declared.cell.Cell.Cell, Cell.empty_cell, Cell.styled, Cell.IsUnmarked, Width.text_width}
+use Rattle.rtui_cell.specs.{declared.cell.Cell.Cell, Cell.empty_cell, Cell.styled, Cell.IsUnmarked}
+use Rattle.rtui_cell.specs.{Width.text_width}
 pub use Rattle.rtui_text.specs.Graphemes.{has_control}
 use Rattle.rtui_diff.specs.Cells.{cell}
 
@@ -92,11 +95,13 @@ piece_at ps k = slice_index_or ps k (piece_of new_style [])
 abbrev pub place_of : ℕ → List Piece → ℕ → ℕ
 place_of at ps k = at + columns (take k ps)
 
--- What painting means, column by column: each piece stands at the sum of the widths before it, its symbol and its style over the
--- former cell; the other columns that it takes are empty; all else is as before.
+-- What painting means, column by column: each piece stands at the sum of the widths before it, its symbol and
+-- its style over the former cell; the other columns that it takes are empty; all else is as before.
 pub record HasPieces (at : ℕ) (ps : List Piece) (old new : List Cell) : Type 0 where
-  pub starts : (k : ℕ) → k < length ps → cell new (place_of at ps k) ≡ shown (piece_at ps k) (cell old (place_of at ps k))
-  pub behind : (k j : ℕ) → k < length ps → 0 < j → j < piece_width (piece_at ps k) → cell new (place_of at ps k + j) ≡ empty_cell
+  pub starts : (k : ℕ) → k < length ps → cell new (place_of at ps k) ≡ shown (piece_at ps k)
+      (cell old (place_of at ps k))
+  pub behind : (k j : ℕ) → k < length ps → 0 < j → j < piece_width (piece_at ps k)
+      → cell new (place_of at ps k + j) ≡ empty_cell
   pub outside : IsSameOutside at (at + columns ps) old new
 
 -- a front of the pieces, and no more, is painted

@@ -29,11 +29,13 @@ common_rows prev next = min prev.area.height next.area.height
 
 -- the updates from one buffer to the next, over their common rows
 abbrev pub buffer_updates : BufferData → BufferData → List Update
-buffer_updates prev next = updates prev.area.x prev.area.y prev.area.width (common_rows prev next) prev.cells next.cells
+buffer_updates prev next = updates prev.area.x prev.area.y prev.area.width
+    (common_rows prev next) prev.cells next.cells
 
 -- the updates are a diff of the common rows of two buffers
 abbrev pub IsBufferDiff : BufferData → BufferData → List Update → Type 0
-IsBufferDiff prev next us = IsDiff prev.area.x prev.area.y prev.area.width (common_rows prev next) prev.cells next.cells us
+IsBufferDiff prev next us = IsDiff prev.area.x prev.area.y prev.area.width
+    (common_rows prev next) prev.cells next.cells us
 
 -- the common rows of two buffers are settled in both
 pub record HaveSettledRows (prev next : BufferData) : Type 0 where

@@ -1,10 +1,13 @@
-ghost use Rattle.std.specs.Prelude.{◌≡◌, ◌<◌, ◌≤◌, ◌↔◌, ◌⊎◌, MatchOption, length, IsTrue, IsOk, IsSome, IfSome, OnOk, OnErr, IfOk, replicate};
+ghost use Rattle.std.specs.Prelude.{◌≡◌, ◌<◌, ◌≤◌, ◌↔◌, ◌⊎◌, MatchOption, length, IsTrue, IsOk, IsSome};
+ghost use Rattle.std.specs.Prelude.{IfSome, OnOk, OnErr, IfOk, replicate};
 ghost use Rattle.std.specs.Borrow.{sem, Lends, LendsIf, Array};
 ghost use Rattle.rtui_geometry.specs.Rect.{HasPosition, EdgesFit, intersected};
 ghost use Rattle.rtui_buffer.specs.Clipped.{IsClipped};
 ghost use Rattle.rtui_cell.specs.contracts.cell.Cell.{the_row as cell_row};
 ghost use Rattle.rtui_buffer.specs.contracts.buffer.Buffer.{the_row};
-ghost use Rattle.rtui_buffer.specs.BufferData.{area_size, cell_index, place_position, position_of, cell_in, with_cell, with_cells, resized, moved_to, buffer_row, HasRow, IsEmptied, HasRoomFor, IsSameBuffer};
+ghost use Rattle.rtui_buffer.specs.BufferData.{area_size, cell_index, place_position, position_of, cell_in};
+ghost use Rattle.rtui_buffer.specs.BufferData.{with_cell, with_cells, resized, moved_to, buffer_row, HasRow};
+ghost use Rattle.rtui_buffer.specs.BufferData.{IsEmptied, HasRoomFor, IsSameBuffer};
 ghost use Rattle.rtui_buffer.specs.Shown.{IsSettledBuffer, IsShownByRepaint, IsAligned, IsBufferDiff, listed};
 
 use rtui_cell::Cell;

@@ -2,7 +2,8 @@
 //! `specs/` alone. Calling one of these functions costs nothing and tells the caller's proof its
 //! law.
 
-ghost use Rattle.std.specs.Prelude.{ℕ, true, false, ◌≡◌, ◌+◌, ◌-◌, ◌<◌, ◌≤◌, ◌++◌, ◌↔◌, IsTrue, List, [], ◌∷◌, filter, sum_by, All};
+ghost use Rattle.std.specs.Prelude.{ℕ, true, false, ◌≡◌, ◌+◌, ◌-◌, ◌<◌, ◌≤◌, ◌++◌, ◌↔◌, IsTrue, List, []};
+ghost use Rattle.std.specs.Prelude.{◌∷◌, filter, sum_by, All};
 ghost use Rattle.std.specs.Hash as fed;
 ghost use Rattle.std.specs.Str.{IsAscii};
 ghost use Rattle.unicode_segmentation.specs.Grapheme.{graphemes};
@@ -17,8 +18,11 @@ ghost use Rattle.rtui_geometry.specs.declared.rect.Rect.{Rect};
 ghost use Rattle.rtui_geometry.specs.Rect.{HasPosition, EdgesFit};
 ghost use Rattle.rtui_buffer.specs.BufferData.{HasRow, BufferData, IsEmptied, IsEqualBuffer, cell_in};
 ghost use Rattle.rtui_buffer.specs.Shown.{IsSettledBuffer, ShowsBuffer, IsAligned, HaveSettledRows};
-ghost use Rattle.rtui_buffer.specs.Painting.{Piece, piece_of, painted_width, has_painted_width, kept, text_pieces, columns, AreWide, IsLongestFront};
-ghost use Rattle.rtui_buffer.specs.PaintedText.{pieces_at, room_at, right_by, AreShort, IsOneGrapheme, HasShortGraphemes, HaveShortGraphemes, IsBeside, IsPaintable, IsSameBeside, IsStyled, PaintsPieces, PaintsByColumns};
+ghost use Rattle.rtui_buffer.specs.Painting.{Piece, piece_of, painted_width, has_painted_width, kept};
+ghost use Rattle.rtui_buffer.specs.Painting.{text_pieces, columns, AreWide, IsLongestFront};
+ghost use Rattle.rtui_buffer.specs.PaintedText.{pieces_at, room_at, right_by, AreShort, IsOneGrapheme};
+ghost use Rattle.rtui_buffer.specs.PaintedText.{HasShortGraphemes, HaveShortGraphemes, IsBeside, IsPaintable};
+ghost use Rattle.rtui_buffer.specs.PaintedText.{IsSameBeside, IsStyled, PaintsPieces, PaintsByColumns};
 ghost use Rattle.rtui_buffer.specs.Line.{line_pieces, line_pieces_at};
 
 use crate::buffer::Buffer;

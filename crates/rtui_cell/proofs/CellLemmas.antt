@@ -1,15 +1,18 @@
 -- What equal cells have in common, and what the empty cell is.
 use Rattle.std.proofs.Common.{◌≡◌, ℕ, Bool, true, false, ◌&&◌, ◌==◌, length, nat_eq, refl, sym, ap, ◌∙◌, if◌then◌else◌}
 use Rattle.std.proofs.lemmas.{Bool.false≢true, Bool.and_parts, Bool.and_from, Bool.Decides.Decides-eqb, Slice.Eq.bytes_eq-Decides}
-use Rattle.std.specs.{Int.NonZero.non_zero_u16_get, declared.num.NonZeroU16.NonZeroU16, Str.bytes_eq, Cmp.Lexicographic.pointwise, Cmp.Lexicographic.same_text}
+use Rattle.std.specs.{Int.NonZero.non_zero_u16_get, declared.num.NonZeroU16.NonZeroU16, Str.bytes_eq, Cmp.Lexicographic.pointwise}
+use Rattle.std.specs.{Cmp.Lexicographic.same_text}
 use Rattle.std.specs.contracts.num.NonZeroU16 as nonzero
 use Rattle.rtui_style.specs.{declared.color.Color.Color, contracts.color.ColorEq.TheImpl.Laws.laws-law as color_laws}
 use Rattle.rtui_style.specs.contracts.color.Color as color
 use Rattle.rtui_style.specs.contracts.color.ColorPartialEq.TheImpl as color_equality
-use Rattle.rtui_style.specs.{contracts.ModifierEq.TheImpl.Laws.laws-law as modifier_laws, Modifier.modifier_of, Modifier.bits_of, declared.Modifier.Modifier}
+use Rattle.rtui_style.specs.{contracts.ModifierEq.TheImpl.Laws.laws-law as modifier_laws, Modifier.modifier_of, Modifier.bits_of}
+use Rattle.rtui_style.specs.{declared.Modifier.Modifier}
 use Rattle.rtui_style.specs.contracts.ModifierPartialEq.TheImpl as modifier_equality
 use Rattle.std.specs.contracts.prelude.BoolPartialEq.TheImpl as flag_equality
-use Rattle.rtui_cell.specs.{declared.cell.Cell.Cell, declared.cell.CellDiffOption.CellDiffOption, Symbol.symbol_text, Width.text_width}
+use Rattle.rtui_cell.specs.{declared.cell.Cell.Cell, declared.cell.CellDiffOption.CellDiffOption, Symbol.symbol_text}
+use Rattle.rtui_cell.specs.{Width.text_width}
 use Rattle.rtui_cell.specs.declared.cell.CellDiffOption.TheVariants as DiffOption
 use Rattle.rtui_cell.specs.contracts.cell.CellDiffOption as option
 use Rattle.rtui_cell.specs.contracts.cell.CellDiffOptionPartialEq.TheImpl as option_equality
@@ -27,7 +30,8 @@ same_number a b e = (Decides-eqb a b).0 e
 same_index : (a b : ℕ × Unit {0}) → nat_eq a.0 b.0 ≡ true → a ≡ b
 same_index a b e = ap (λ n. (n, tt)) (same_number a.0 b.0 e)
 
-same_channels : (a b : ℕ × (ℕ × (ℕ × Unit {0}))) → (nat_eq a.0 b.0 && (nat_eq a.1.0 b.1.0 && nat_eq a.1.1.0 b.1.1.0)) ≡ true → a ≡ b
+same_channels : (a b : ℕ × (ℕ × (ℕ × Unit {0}))) → (nat_eq a.0 b.0 && (nat_eq a.1.0 b.1.0 && nat_eq a.1.1.0 b.1.1.0)) ≡ true
+    → a ≡ b
 same_channels a b e =
     let outer = and_parts (nat_eq a.0 b.0) (nat_eq a.1.0 b.1.0 && nat_eq a.1.1.0 b.1.1.0) e in
     let inner = and_parts (nat_eq a.1.0 b.1.0) (nat_eq a.1.1.0 b.1.1.0) outer.1 in
@@ -37,7 +41,8 @@ same_channels a b e =
     rw (first, second, third) refl
 
 same_width_given : (a b : NonZeroU16 × Unit {0}) → nat_eq (non_zero_u16_get a.0) (non_zero_u16_get b.0) ≡ true → a ≡ b
-same_width_given a b e = ap (λ n. (n, tt)) (nonzero.the_field.into_one a.0 b.0 (ap (λ n. (n, tt)) (same_number a.0.value b.0.value e)))
+same_width_given a b e = ap (λ n. (n, tt))
+    (nonzero.the_field.into_one a.0 b.0 (ap (λ n. (n, tt)) (same_number a.0.value b.0.value e)))
 
 pub same_color : (a b : Color) → color_equality.eq-value.it a b ≡ true → a ≡ b
 same_color =
@@ -117,8 +122,10 @@ unfolding is_same look_of
 equal_parts a b h =
     and_from _ _ (true_along color_equality.eq-value.it color_laws.refl a.fg b.fg (ap (λ l. l.fg) h.look))
     (and_from _ _ (true_along color_equality.eq-value.it color_laws.refl a.bg b.bg (ap (λ l. l.bg) h.look))
-    (and_from _ _ (true_along color_equality.eq-value.it color_laws.refl a.underline_color b.underline_color (ap (λ l. l.underline_color) h.look))
-    (and_from _ _ (true_along modifier_equality.eq-value.it modifier_laws.refl a.modifier b.modifier (ap (λ l. l.modifier) h.look))
+    (and_from _ _ (true_along color_equality.eq-value.it color_laws.refl a.underline_color b.underline_color
+    (ap (λ l. l.underline_color) h.look))
+    (and_from _ _ (true_along modifier_equality.eq-value.it modifier_laws.refl a.modifier b.modifier
+    (ap (λ l. l.modifier) h.look))
     (and_from _ _ (true_along option_equality.eq-value.it option_laws.refl a.diff_option b.diff_option h.option)
     (and_from _ _ (true_along flag_equality.eq-value.it same_as_itself a.skip b.skip h.flag)
     ((bytes_eq-Decides (symbol_text a.symbol) (symbol_text b.symbol)).1 (ap (λ l. l.symbol) h.look)))))))

@@ -1,17 +1,30 @@
 -- A half-width sound mark has a column of its own in the width of a text.
-use Rattle.std.proofs.Common.{◌≡◌, ◌≢◌, ℕ, suc, ◌+◌, ◌-◌, ◌<◌, ◌≤◌, ◌⊎◌, ⊎_elim, inl, inr, Bool, true, false, cond, not, ◌&&◌, ◌==◌, nat_le, List, [], ◌∷◌, length, min, Option, Some, None, count_by, refl, sym, subst, ◌∙◌, arith}
+use Rattle.std.proofs.Common.{◌≡◌, ◌≢◌, ℕ, suc, ◌+◌, ◌-◌, ◌<◌, ◌≤◌, ◌⊎◌, ⊎_elim, inl, inr, Bool, true, false, cond, not, ◌&&◌}
+use Rattle.std.proofs.Common.{◌==◌, nat_le, List, [], ◌∷◌, length, min, Option, Some, None, count_by, refl, sym, subst, ◌∙◌}
+use Rattle.std.proofs.Common.{arith}
 use Rattle.std.specs.{Int.is_in_range, Str.chars}
 use Rattle.std.proofs.lemmas.{Bool.cases_lt, Bool.Decides.nat_tests, List.Sums.sum_by-cons}
 use Rattle.ucd_emoji.specs.Binary.{is_emoji_variation_base, is_emoji_modifier_base}
 use Rattle.ucd_bidi.specs.{JoiningType.joining_type, JoiningType.joining_type_eq, declared.JoiningType.TheVariants.Transparent}
 use Rattle.unicode_width.proofs.Computing.{unicode_width}
-use Rattle.unicode_width.specs.{declared.kind.Kind.Kind, declared.state.After.After, declared.state.State.State, declared.state.Change.Change}
+use Rattle.unicode_width.specs.{declared.kind.Kind.Kind, declared.state.After.After, declared.state.State.State}
+use Rattle.unicode_width.specs.{declared.state.Change.Change}
 use Rattle.unicode_width.specs.declared.kind.Kind.TheVariants as kinds
-use Rattle.unicode_width.specs.declared.state.After.TheVariants.{Nothing, LineFeed, EmojiModifier, RegionalIndicator, RegionalIndicators, Emoji, ZwjEmoji, IndicatorZwj, EvenIndicatorsZwj, OddIndicatorsZwj, TagEnd, TagDigit1, TagDigit2, TagDigit3, TagLetter1, TagLetter2, TagLetter3, TagLetter4, TagLetter5, TagLetter6, KiratE, KiratAi, Alef, SolidusAlef, ZwjLamed, ZwjYa, VowelZwjYa, Tifinagh, ZwjTifinagh, JoinerTifinagh, LisuTone, ZwjOrkhonI, KhmerLetter}
+use Rattle.unicode_width.specs.declared.state.After.TheVariants.{Nothing, LineFeed, EmojiModifier, RegionalIndicator}
+use Rattle.unicode_width.specs.declared.state.After.TheVariants.{RegionalIndicators, Emoji, ZwjEmoji, IndicatorZwj}
+use Rattle.unicode_width.specs.declared.state.After.TheVariants.{EvenIndicatorsZwj, OddIndicatorsZwj, TagEnd, TagDigit1}
+use Rattle.unicode_width.specs.declared.state.After.TheVariants.{TagDigit2, TagDigit3, TagLetter1, TagLetter2, TagLetter3}
+use Rattle.unicode_width.specs.declared.state.After.TheVariants.{TagLetter4, TagLetter5, TagLetter6, KiratE, KiratAi, Alef}
+use Rattle.unicode_width.specs.declared.state.After.TheVariants.{SolidusAlef, ZwjLamed, ZwjYa, VowelZwjYa, Tifinagh, ZwjTifinagh}
+use Rattle.unicode_width.specs.declared.state.After.TheVariants.{JoinerTifinagh, LisuTone, ZwjOrkhonI, KhmerLetter}
 use Rattle.unicode_width.specs.declared.state.Change.TheVariants.{Less, Same, One, Three}
 use Rattle.unicode_width.specs.Kind.{kind, is_ligature_transparent, is_text_presentation_base}
 use Rattle.rtui_cell.specs.Width.{is_sound_mark, text_columns, text_width}
-use Rattle.unicode_width.specs.Width.{before, plain, single, of_kind, alone, before_alef, in_ligature, in_emoji, in_tags, first_of, is_emoji, joins, Reading, added, changed, joined_or, with_joiner, if_kept, is_joined_emoji, is_lam, skips_marks, is_kept, is_line_feed, is_quote, is_plain, is_tifinagh, is_indicator, is_tag_letter, is_tag_digit, past_selectors, in_context, past_emoji, step, read_before, str_width}
+use Rattle.unicode_width.specs.Width.{before, plain, single, of_kind, alone, before_alef, in_ligature, in_emoji, in_tags}
+use Rattle.unicode_width.specs.Width.{first_of, is_emoji, joins, Reading, added, changed, joined_or, with_joiner, if_kept}
+use Rattle.unicode_width.specs.Width.{is_joined_emoji, is_lam, skips_marks, is_kept, is_line_feed, is_quote, is_plain}
+use Rattle.unicode_width.specs.Width.{is_tifinagh, is_indicator, is_tag_letter, is_tag_digit, past_selectors, in_context}
+use Rattle.unicode_width.specs.Width.{past_emoji, step, read_before, str_width}
 
 -- the columns that what follows may still take away again
 slack : After → ℕ
@@ -29,7 +42,8 @@ is_fine a (Some (Same, b)) = nat_le (slack b) (slack a)
 is_fine a (Some (One, b)) = nat_le (slack b) (slack a + 1)
 is_fine a (Some (Three, b)) = nat_le (slack b) (slack a + 3)
 
-pick : (a : After) (b : Bool) (x y : Option (Change × After)) → is_fine a x ≡ true → is_fine a y ≡ true → is_fine a (cond b x y) ≡ true
+pick : (a : After) (b : Bool) (x y : Option (Change × After)) → is_fine a x ≡ true → is_fine a y ≡ true
+    → is_fine a (cond b x y) ≡ true
 pick a true x y h k = h
 pick a false x y h k = k
 
@@ -45,18 +59,22 @@ ligature-fine JoinerTifinagh c = pick JoinerTifinagh (is_tifinagh c) _ _ refl re
 ligature-fine LisuTone c = pick LisuTone (is_in_range 0xA4F8 0xA4FB c) _ _ refl refl
 ligature-fine ZwjOrkhonI c = pick ZwjOrkhonI (c == 0x10C32) _ _ refl refl
 ligature-fine KiratE c =
-    pick KiratE (c == 0x16D63) _ _ refl (pick KiratE (c == 0x16D67) _ _ refl (pick KiratE (c == 0x16D68) _ _ refl (pick KiratE (c == 0x16D69) _ _ refl refl)))
+    pick KiratE (c == 0x16D63) _ _ refl
+    (pick KiratE (c == 0x16D67) _ _ refl (pick KiratE (c == 0x16D68) _ _ refl (pick KiratE (c == 0x16D69) _ _ refl refl)))
 ligature-fine KiratAi c = pick KiratAi (c == 0x16D63) _ _ refl refl
 ligature-fine _ c = refl
 
 emoji-fine : (a : After) (c : ℕ) → is_fine a (in_emoji a c) ≡ true
 unfolding is_fine slack
 emoji-fine RegionalIndicator c = pick RegionalIndicator (is_indicator c) _ _ refl refl
-emoji-fine RegionalIndicators c = pick RegionalIndicators (is_indicator c) _ _ refl (pick RegionalIndicators (c == 0x200D) _ _ refl refl)
+emoji-fine RegionalIndicators c = pick RegionalIndicators (is_indicator c) _ _ refl
+    (pick RegionalIndicators (c == 0x200D) _ _ refl refl)
 emoji-fine Emoji c = pick Emoji (c == 0x200D) _ _ refl refl
 emoji-fine IndicatorZwj c = pick IndicatorZwj (is_indicator c) _ _ refl refl
-emoji-fine EvenIndicatorsZwj c = pick EvenIndicatorsZwj (c == 0x200D) _ _ refl (pick EvenIndicatorsZwj (is_indicator c) _ _ refl refl)
-emoji-fine OddIndicatorsZwj c = pick OddIndicatorsZwj (c == 0x200D) _ _ refl (pick OddIndicatorsZwj (is_indicator c) _ _ refl refl)
+emoji-fine EvenIndicatorsZwj c =
+    pick EvenIndicatorsZwj (c == 0x200D) _ _ refl (pick EvenIndicatorsZwj (is_indicator c) _ _ refl refl)
+emoji-fine OddIndicatorsZwj c =
+    pick OddIndicatorsZwj (c == 0x200D) _ _ refl (pick OddIndicatorsZwj (is_indicator c) _ _ refl refl)
 emoji-fine _ c = refl
 
 tags-fine : (a : After) (c : ℕ) → is_fine a (in_tags a c) ≡ true
@@ -64,8 +82,10 @@ unfolding is_fine slack
 tags-fine TagEnd c = pick TagEnd (is_tag_letter c) _ _ refl (pick TagEnd (is_tag_digit c) _ _ refl refl)
 tags-fine TagLetter1 c = pick TagLetter1 (is_tag_letter c) _ _ refl (pick TagLetter1 (is_tag_digit c) _ _ refl refl)
 tags-fine TagLetter2 c = pick TagLetter2 (is_tag_letter c) _ _ refl (pick TagLetter2 (is_tag_digit c) _ _ refl refl)
-tags-fine TagLetter3 c = pick TagLetter3 (is_tag_letter c) _ _ refl (pick TagLetter3 (is_tag_digit c) _ _ refl (pick TagLetter3 (c == 0x1F3F4) _ _ refl refl))
-tags-fine TagLetter4 c = pick TagLetter4 (is_tag_letter c) _ _ refl (pick TagLetter4 (is_tag_digit c) _ _ refl (pick TagLetter4 (c == 0x1F3F4) _ _ refl refl))
+tags-fine TagLetter3 c = pick TagLetter3 (is_tag_letter c) _ _ refl (pick TagLetter3 (is_tag_digit c) _ _ refl
+    (pick TagLetter3 (c == 0x1F3F4) _ _ refl refl))
+tags-fine TagLetter4 c = pick TagLetter4 (is_tag_letter c) _ _ refl (pick TagLetter4 (is_tag_digit c) _ _ refl
+    (pick TagLetter4 (c == 0x1F3F4) _ _ refl refl))
 tags-fine TagLetter5 c = pick TagLetter5 (is_tag_letter c) _ _ refl (pick TagLetter5 (c == 0x1F3F4) _ _ refl refl)
 tags-fine TagLetter6 c = pick TagLetter6 (c == 0x1F3F4) _ _ refl refl
 tags-fine TagDigit1 c = pick TagDigit1 (is_tag_digit c) _ _ refl refl
@@ -73,21 +93,26 @@ tags-fine TagDigit2 c = pick TagDigit2 (is_tag_digit c) _ _ refl refl
 tags-fine TagDigit3 c = pick TagDigit3 (c == 0x1F3F4) _ _ refl refl
 tags-fine _ c = refl
 
-first-fine : (a : After) (x y : Option (Change × After)) → is_fine a x ≡ true → is_fine a y ≡ true → is_fine a (first_of x y) ≡ true
+first-fine : (a : After) (x y : Option (Change × After)) → is_fine a x ≡ true → is_fine a y ≡ true
+    → is_fine a (first_of x y) ≡ true
 first-fine a None y h k = k
 first-fine a (Some j) y h k = h
 
 others-fine : (a : After) (c : ℕ) → is_fine a (first_of (in_ligature a c) (first_of (in_emoji a c) (in_tags a c))) ≡ true
 others-fine a c =
-    first-fine a (in_ligature a c) (first_of (in_emoji a c) (in_tags a c)) (ligature-fine a c) (first-fine a (in_emoji a c) (in_tags a c) (emoji-fine a c) (tags-fine a c))
+    first-fine a (in_ligature a c) (first_of (in_emoji a c) (in_tags a c)) (ligature-fine a c)
+    (first-fine a (in_emoji a c) (in_tags a c) (emoji-fine a c) (tags-fine a c))
 
 joins-fine : (a : After) (c : ℕ) → is_fine a (joins false a c) ≡ true
 unfolding is_fine slack joins before_alef
-joins-fine Alef c = pick Alef (is_lam c) _ _ refl (pick Alef (((alone false c).0 == 0) && joining_type_eq (joining_type c) Transparent) (Some (Same, Alef)) None refl refl)
+joins-fine Alef c = pick Alef (is_lam c) _ _ refl
+    (pick Alef (((alone false c).0 == 0) && joining_type_eq (joining_type c) Transparent) (Some (Same, Alef)) None refl refl)
 joins-fine SolidusAlef c = refl
-joins-fine EmojiModifier c = pick EmojiModifier (is_emoji_modifier_base c) _ _ refl (pick EmojiModifier (c == 0x200D) _ _ refl refl)
+joins-fine EmojiModifier c = pick EmojiModifier (is_emoji_modifier_base c) _ _ refl
+    (pick EmojiModifier (c == 0x200D) _ _ refl refl)
 joins-fine ZwjEmoji c =
-    pick ZwjEmoji (c == 0x20E3) _ _ refl (pick ZwjEmoji (is_indicator c) _ _ refl (pick ZwjEmoji (is_in_range 0x1F3FB 0x1F3FF c) _ _ refl
+    pick ZwjEmoji (c == 0x20E3) _ _ refl (pick ZwjEmoji (is_indicator c) _ _ refl
+    (pick ZwjEmoji (is_in_range 0x1F3FB 0x1F3FF c) _ _ refl
     (pick ZwjEmoji (c == 0xE007F) _ _ refl (pick ZwjEmoji (is_emoji (kind c)) _ _ refl refl))))
 joins-fine a c = others-fine a c
 
@@ -102,8 +127,11 @@ light false x y h k = k
 single-light : (c : ℕ) → is_light (single false c) ≡ true
 unfolding is_light slack
 single-light c =
-    light (c == 0x05DC) _ _ refl (light (c == 0xFB3C) _ _ refl (light (c == 0x17D8) _ _ refl (light (c == 0x1A10) _ _ refl (light (c == 0x10C03) _ _ refl
-    (light (c == 0x16D67) _ _ refl (light (c == 0x16D68) _ _ refl (light (c == 0xFE0F) _ _ refl (light (c == 0xFE01) _ _ refl (light (c == 0xFE0E) _ _ refl refl)))))))))
+    light (c == 0x05DC) _ _ refl (light (c == 0xFB3C) _ _ refl
+    (light (c == 0x17D8) _ _ refl (light (c == 0x1A10) _ _ refl (light (c == 0x10C03) _ _ refl
+    (light (c == 0x16D67) _ _ refl
+    (light (c == 0x16D68) _ _ refl
+    (light (c == 0xFE0F) _ _ refl (light (c == 0xFE01) _ _ refl (light (c == 0xFE0E) _ _ refl refl)))))))))
 
 kind-light : (c : ℕ) (k : Kind) → is_light (of_kind false c k) ≡ true
 unfolding is_light slack
@@ -126,7 +154,8 @@ keeps : (m total : ℕ) (s : State) → m + slack s.after ≤ total → Keeps m 
 unfolding Keeps
 keeps m total s le = le
 
-changed-keeps : (m total : ℕ) (a b : After) (ch : Change) → is_fine a (Some (ch, b)) ≡ true → m + slack a ≤ total → Keeps m (changed total ch, before b)
+changed-keeps : (m total : ℕ) (a b : After) (ch : Change) → is_fine a (Some (ch, b)) ≡ true → m + slack a ≤ total
+    → Keeps m (changed total ch, before b)
 unfolding Keeps is_fine
 changed-keeps m total a b Less h le = grind (arith, nat_tests, h, le)
 changed-keeps m total a b Same h le = grind (arith, nat_tests, h, le)
@@ -137,7 +166,8 @@ added-keeps : (m total : ℕ) (own : ℕ × State) → is_light own ≡ true →
 unfolding Keeps is_light
 added-keeps m total own h le = grind (arith, nat_tests, h, le)
 
-joined-keeps : (m total : ℕ) (a : After) (o : Option (Change × After)) (own : ℕ × State) → is_fine a o ≡ true → is_light own ≡ true → m + slack a ≤ total → Keeps m (joined_or total o own)
+joined-keeps : (m total : ℕ) (a : After) (o : Option (Change × After)) (own : ℕ × State) → is_fine a o ≡ true
+    → is_light own ≡ true → m + slack a ≤ total → Keeps m (joined_or total o own)
 joined-keeps m total a None own h l le = added-keeps m total own l (omega arith)
 joined-keeps m total a (Some j) own h l le = changed-keeps m total a j.1 j.0 h le
 
@@ -149,7 +179,8 @@ joiner-slack _ = refl
 selectors-keep : (m c total : ℕ) (a : After) → m + slack a ≤ total → Keeps m (past_selectors false c total a)
 unfolding past_selectors
 selectors-keep m c total a le =
-    keep m (skips_marks a && (c == 0x200D)) (total, before (with_joiner a)) _ (keeps m total (before (with_joiner a)) (grind (arith, nat_tests, joiner-slack a)))
+    keep m (skips_marks a && (c == 0x200D)) (total, before (with_joiner a)) _ (keeps m total (before (with_joiner a))
+    (grind (arith, nat_tests, joiner-slack a)))
     (keep m (skips_marks a && is_ligature_transparent c) (total, before a) _ (keeps m total (before a) le)
     (joined-keeps m total a (joins false a c) (alone false c) (joins-fine a c) (alone-light c) le))
 
@@ -170,10 +201,12 @@ unfolding in_context
 context-keeps m c total s le =
     let kept = kept-slack (is_kept s.after) s in
     let twice = twice-slack (is_joined_emoji s.after) (is_kept s.after) s in
-    keep m (c == 0xFE0F) (total, record (cond (is_joined_emoji s.after) s (if_kept s)) { emoji = true }) _ (keeps m total _ (omega arith))
+    keep m (c == 0xFE0F) (total, record (cond (is_joined_emoji s.after) s (if_kept s)) { emoji = true }) _
+    (keeps m total _ (omega arith))
     (keep m (c == 0xFE01) (total, record (if_kept s) { quote = true }) _ (keeps m total _ (omega arith))
     (keep m (c == 0xFE0E) (total, record (if_kept s) { text = true }) _ (keeps m total _ (omega arith))
-    (keep m (s.text && is_text_presentation_base c) (total + 1, plain) _ (keeps m (total + 1) plain (omega (arith, nothing-light)))
+    (keep m (s.text && is_text_presentation_base c)
+    (total + 1, plain) _ (keeps m (total + 1) plain (omega (arith, nothing-light)))
     (keep m (s.quote && is_quote c) (total + 2, plain) _ (keeps m (total + 2) plain (omega (arith, nothing-light)))
     (selectors-keep m c total s.after le)))))
 
@@ -199,7 +232,8 @@ unfolding step
 step-keeps m c total s le =
     let kept = kept-slack (is_kept s.after) s in
     keep m (not s.emoji) (past_emoji false c total s) _ (past_emoji-keeps m c total s le)
-    (keep m (is_emoji_variation_base c) (total + cond (is_joined_emoji s.after) 0 2, before Emoji) _ (keeps m (total + cond (is_joined_emoji s.after) 0 2) (before Emoji) (omega (arith, emoji-light)))
+    (keep m (is_emoji_variation_base c) (total + cond (is_joined_emoji s.after) 0 2, before Emoji) _
+    (keeps m (total + cond (is_joined_emoji s.after) 0 2) (before Emoji) (omega (arith, emoji-light)))
     (past_emoji-keeps m c total (record (if_kept s) { emoji = false }) (omega arith)))
 
 -- ---- a sound mark always takes its column
@@ -229,7 +263,8 @@ module _ (c : ℕ) (variation : is_emoji_variation_base c ≡ false) (own : alon
   unfolding step
   mark-step m total s le =
       rw variation
-      (keep (suc m) (not s.emoji) (past_emoji false c total s) _ (mark-past_emoji m total s le) (mark-past_emoji m total (record (if_kept s) { emoji = false }) le))
+      (keep (suc m) (not s.emoji) (past_emoji false c total s) _ (mark-past_emoji m total s le)
+      (mark-past_emoji m total (record (if_kept s) { emoji = false }) le))
 
 selectors-9e : (a : After) (total : ℕ) → past_selectors false 0xFF9E total a ≡ (total + 1, plain)
 unfolding unicode_width
@@ -250,13 +285,16 @@ unfolding unicode_width
 step-9f = mark-step 0xFF9F refl refl selectors-9f refl refl refl refl refl refl
 
 one_of : (c : ℕ) → is_sound_mark c ≡ true → (c ≡ 0xFF9E) ⊎ (c ≡ 0xFF9F)
-one_of c is = ⊎_elim (λ (h : c < 0xFF9F). inl (grind (arith, nat_tests, is))) (λ (h : 0xFF9F ≤ c). inr (grind (arith, nat_tests, is))) (cases_lt c 0xFF9F)
+one_of c is = ⊎_elim (λ (h : c < 0xFF9F). inl (grind (arith, nat_tests, is)))
+    (λ (h : 0xFF9F ≤ c). inr (grind (arith, nat_tests, is))) (cases_lt c 0xFF9F)
 
 turn : (c : ℕ) (b : Bool) (n : ℕ) (r : Reading) → is_sound_mark c ≡ b → Keeps n r → Keeps (cond b (suc n) n) (step false c r)
 unfolding Keeps
 turn c true n (total, s) is h =
-    ⊎_elim (λ (e : c ≡ 0xFF9E). subst (λ d. Keeps (suc n) (step false d (total, s))) (sym e) (step-9e n total s (omega (arith, h))))
-    (λ (e : c ≡ 0xFF9F). subst (λ d. Keeps (suc n) (step false d (total, s))) (sym e) (step-9f n total s (omega (arith, h)))) (one_of c is)
+    ⊎_elim (λ (e : c ≡ 0xFF9E). subst (λ d. Keeps (suc n) (step false d (total, s))) (sym e)
+    (step-9e n total s (omega (arith, h))))
+    (λ (e : c ≡ 0xFF9F). subst (λ d. Keeps (suc n) (step false d (total, s))) (sym e) (step-9f n total s (omega (arith, h))))
+    (one_of c is)
 turn c false n (total, s) is h = step-keeps n c total s h
 
 counted : (b : Bool) (n : ℕ) → cond b (suc n) n ≡ cond b 1 0 + n
@@ -275,10 +313,12 @@ unfolding str_width Keeps
 marks-within cs = let h = marks-kept cs in omega (arith, h)
 
 -- the width of a text of more than one byte
-pub width_of_columns : (text : List ℕ) → length text ≢ 1 → text_width text ≡ min (text_columns text + count_by is_sound_mark (chars text)) 65535
+pub width_of_columns : (text : List ℕ) → length text ≢ 1
+    → text_width text ≡ min (text_columns text + count_by is_sound_mark (chars text)) 65535
 unfolding text_width text_columns
 width_of_columns text more =
     let within = marks-within (chars text) in
-    let whole : str_width false (chars text) - count_by is_sound_mark (chars text) + count_by is_sound_mark (chars text) ≡ str_width false (chars text) = omega arith in
+    let whole : str_width false (chars text) - count_by is_sound_mark (chars text) + count_by is_sound_mark
+    (chars text) ≡ str_width false (chars text) = omega arith in
     let other : (length text == 1) ≡ false = grind (arith, nat_tests, more) in
     rw (other, whole) refl

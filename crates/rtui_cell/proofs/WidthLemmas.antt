@@ -1,5 +1,6 @@
 -- The width of a text of one byte, and of one character.
-use Rattle.std.proofs.Common.{◌≡◌, ℕ, ◌+◌, ◌<◌, Bool, true, false, ◌&&◌, ◌==◌, nat_lt, nat_le, List, [], ◌∷◌, refl, sym, ap, ◌∙◌, arith, Some, if◌then◌else◌, length, min, chars}
+use Rattle.std.proofs.Common.{◌≡◌, ℕ, ◌+◌, ◌<◌, Bool, true, false, ◌&&◌, ◌==◌, nat_lt, nat_le, List, [], ◌∷◌, refl, sym, ap, ◌∙◌}
+use Rattle.std.proofs.Common.{arith, Some, if◌then◌else◌, length, min, chars}
 use Rattle.std.proofs.lemmas.{Bool.false≢true, Bool.Decides.nat_tests}
 use Rattle.rtui_cell.specs.Width.{text_width}
 use Rattle.unicode_width.specs.Width.{str_width, char_width, alone, step, past_emoji, plain, added}
@@ -9,7 +10,8 @@ pub one_byte : (b : ℕ) → text_width (b ∷ []) ≡ 1
 unfolding text_width
 one_byte b = refl
 
-third : {A : Type 0} (f g h : Bool) (w x y z : A) → f ≡ false → g ≡ false → h ≡ false → (if f then w else if g then x else if h then y else z) ≡ z
+third : {A : Type 0} (f g h : Bool) (w x y z : A) → f ≡ false → g ≡ false → h ≡ false
+    → (if f then w else if g then x else if h then y else z) ≡ z
 third false false false w x y z e k l = refl
 third true g h w x y z e k l = absurd (false≢true (sym e))
 third false true h w x y z e k l = absurd (false≢true (sym k))
@@ -36,6 +38,7 @@ one_character c above =
     second (nat_lt c 0x7F) (nat_le 0xA0 c) _ _ _ small large ∙ ap (λ n. Some n) none ∙ ap (λ r. Some r.0) (sym (one_step c above))
 
 -- a text that is more than a byte, by its characters
-pub width_of_characters : (text cs : List ℕ) → (length text == 1) ≡ false → cs ≡ chars text → min (str_width false cs) 65535 ≡ text_width text
+pub width_of_characters : (text cs : List ℕ) → (length text == 1) ≡ false → cs ≡ chars text
+    → min (str_width false cs) 65535 ≡ text_width text
 unfolding text_width
 width_of_characters text cs longer spelled = ap (λ ds. min (str_width false ds) 65535) spelled ∙ rw longer refl

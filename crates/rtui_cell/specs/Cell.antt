@@ -1,8 +1,10 @@
 -- Cells: the empty one, a style laid over one, its width, and whether it is skipped.
 use Rattle.std.specs.Prelude.{◌≡◌, ℕ, Bool, true, false, ◌&&◌, ◌==◌, List, length, Some, None}
 use Rattle.std.specs.Int.NonZero.{non_zero_u16_get}
-use Rattle.rtui_style.specs.{declared.color.Color.TheVariants.Reset, declared.Style.Style, Modifier.no_modifier, Style.color_after, Style.modifier_after}
-use Rattle.rtui_cell.specs.{Symbol.symbol_text, Width.text_width, declared.cell.Cell.Cell, declared.cell.CellDiffOption.CellDiffOption}
+use Rattle.rtui_style.specs.{declared.color.Color.TheVariants.Reset, declared.Style.Style}
+use Rattle.rtui_style.specs.{Modifier.no_modifier, Style.color_after, Style.modifier_after}
+use Rattle.rtui_cell.specs.{Symbol.symbol_text, Width.text_width, declared.cell.Cell.Cell}
+use Rattle.rtui_cell.specs.{declared.cell.CellDiffOption.CellDiffOption}
 use Rattle.rtui_cell.specs.declared.cell.CellDiffOption.TheVariants as DiffOption
 
 -- an unset symbol, no colours, no modifiers, no option

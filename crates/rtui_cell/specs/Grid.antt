@@ -16,8 +16,8 @@ pub record Update : Type 0 where
 abbrev pub update_by : {C : Type 0} → (C → Cell) → ℕ × ℕ × C → Update
 update_by view item = record { x = item.0; y = item.1; cell = view item.2 }
 
--- a put on a grid of w columns and h rows: the cell's column gets its look, the columns of the row after it that the cell covers the
--- empty look, and off the grid nothing changes
+-- a put on a grid of w columns and h rows: the cell's column gets its look, the columns of the row after it
+-- that the cell covers the empty look, and off the grid nothing changes
 abbrev pub put : ℕ → ℕ → Update → Grid → Grid
 put w h u g a b =
     if nat_lt u.x w && nat_lt u.y h && nat_eq b u.y then

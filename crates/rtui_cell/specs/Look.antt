@@ -1,6 +1,7 @@
 -- What a column of a screen looks like.
 use Rattle.std.specs.Prelude.{ℕ, List}
-use Rattle.rtui_style.specs.{declared.color.Color.Color, declared.color.Color.TheVariants.Reset, declared.Modifier.Modifier, Modifier.no_modifier}
+use Rattle.rtui_style.specs.{declared.color.Color.Color, declared.color.Color.TheVariants.Reset}
+use Rattle.rtui_style.specs.{declared.Modifier.Modifier, Modifier.no_modifier}
 use Rattle.rtui_cell.specs.{Symbol.blank, Symbol.symbol_text, declared.cell.Cell.Cell}
 
 -- a text, three colours and a set of modifiers
@@ -13,7 +14,13 @@ pub record Look : Type 0 where
 
 -- a blank without colours or modifiers
 abbrev pub empty_look : Look
-empty_look = record { symbol = blank; fg = Reset; bg = Reset; underline_color = Reset; modifier = no_modifier }
+empty_look = record {
+  symbol = blank;
+  fg = Reset;
+  bg = Reset;
+  underline_color = Reset;
+  modifier = no_modifier;
+}
 
 -- what a cell shows
 unfoldable pub look_of : Cell → Look

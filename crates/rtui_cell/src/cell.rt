@@ -1,6 +1,7 @@
 ghost use Rattle.std.specs.Prelude.{◌≡◌, Some, IsTrue, IsOk, OnOk, OnErr, IfOk, encode_utf8};
 ghost use Rattle.rtui_cell.specs.Symbol.{symbol_text, appended, joined, IsShort};
-ghost use Rattle.rtui_cell.specs.Cell.{empty_cell, cell_of, with_symbol, styled, style_of, is_skipped, is_single_byte, width_of};
+ghost use Rattle.rtui_cell.specs.Cell.{empty_cell, cell_of, with_symbol, styled, style_of, is_skipped};
+ghost use Rattle.rtui_cell.specs.Cell.{is_single_byte, width_of};
 
 use crate::symbol::Symbol;
 use bitflags::Flags;

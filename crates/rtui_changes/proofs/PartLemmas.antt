@@ -10,8 +10,10 @@ pub Parts-none : (part : ℕ → Rect) (f : ℕ → BufferData → BufferData �
 Parts-none part f s = record { area = refl; room = refl; each = λ k lt. absurd (omega arith); rest = λ p in_own off. refl }
 
 -- one part more, apart from those before
-module _ (n : ℕ) (part : ℕ → Rect) (f : ℕ → BufferData → BufferData → Type 0) (old mid new : BufferData) (so_far : MakesParts n part f old mid)
-    (apart : (k : ℕ) → k < n → (p : Position) → HasPosition (part k) p → HasPosition (part n) p → ⊥) (made : f n mid new) (within : ChangesWithin (part n) mid new) where
+module _ (n : ℕ) (part : ℕ → Rect) (f : ℕ → BufferData → BufferData → Type 0) (old mid new : BufferData)
+    (so_far : MakesParts n part f old mid)
+    (apart : (k : ℕ) → k < n → (p : Position) → HasPosition (part k) p → HasPosition (part n) p → ⊥) (made : f n mid new)
+    (within : ChangesWithin (part n) mid new) where
   earlier : (k : ℕ) → k < n → MakesPart (part k) (f k) old new
   earlier k lt =
       let was = so_far.each k lt in
@@ -40,11 +42,13 @@ module _ (n : ℕ) (part : ℕ → Rect) (f : ℕ → BufferData → BufferData 
     room = within.same_room ∙ so_far.room;
     each = λ k lt. ⊎_elim (λ (less : k < n). earlier k less)
         (λ (more : n ≤ k). let e : n ≡ k = omega arith in subst (λ i. MakesPart (part i) (f i) old new) e last) (cases_lt k n);
-    rest = λ p in_own off. within.outside p (rw so_far.area in_own) (off n (omega arith)) ∙ so_far.rest p in_own (λ k lt. off k (omega arith));
+    rest = λ p in_own off. within.outside p (rw so_far.area in_own) (off n (omega arith))
+        ∙ so_far.rest p in_own (λ k lt. off k (omega arith));
   }
 
 -- parts of an area change nothing outside it
-pub Parts-within : (n : ℕ) (part : ℕ → Rect) (f : ℕ → BufferData → BufferData → Type 0) (area : Rect) (old new : BufferData) → MakesParts n part f old new
+pub Parts-within : (n : ℕ) (part : ℕ → Rect) (f : ℕ → BufferData → BufferData → Type 0) (area : Rect) (old new : BufferData)
+    → MakesParts n part f old new
     → ((k : ℕ) → k < n → (p : Position) → HasPosition (part k) p → HasPosition area p) → ChangesWithin area old new
 Parts-within n part f area old new is inside = record {
   same_area = is.area;

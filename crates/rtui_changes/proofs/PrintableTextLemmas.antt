@@ -1,5 +1,6 @@
 -- Texts of printable characters of ASCII are narrow.
-use Rattle.std.proofs.Common.{◌≡◌, ℕ, suc, ◌-◌, Bool, true, false, if◌then◌else◌, nat_le, ◌==◌, List, [], ◌∷◌, ◌++◌, length, take, drop, sum_by, All, refl, sym, ap, subst, ◌∙◌, arith}
+use Rattle.std.proofs.Common.{◌≡◌, ℕ, suc, ◌-◌, Bool, true, false, if◌then◌else◌, nat_le, ◌==◌, List, [], ◌∷◌, ◌++◌, length, take}
+use Rattle.std.proofs.Common.{drop, sum_by, All, refl, sym, ap, subst, ◌∙◌, arith}
 use Rattle.std.specs.List.{concat}
 use Rattle.std.proofs.lemmas.List.{take_all, drop_all}
 use Rattle.std.proofs.lemmas.List.Elements.{All-nil, All-cons, All-head, All-tail}
@@ -18,7 +19,11 @@ narrow-singles (b ∷ bs) = All-cons IsNarrowGrapheme (b ∷ []) (singles bs) (�
 -- each of them is a grapheme
 graphemes-singles : (text : List ℕ) → ArePrintable text → graphemes true text ≡ singles text
 graphemes-singles text all =
-    let front = graphemes-front text (length text) (record { within = omega arith; printable = all; followed = λ some lt. absurd (omega arith) }) in
+    let front = graphemes-front text (length text) (record {
+      within = omega arith;
+      printable = all;
+      followed = λ some lt. absurd (omega arith);
+    }) in
     let none : graphemes true (drop (length text) text) ≡ [] = rw (drop_all (length text) text (omega arith)) graphemes-empty in
     let whole : take (length text) text ≡ text = take_all (length text) text (omega arith) in
     front ∙ rw (none, whole) (no-more (singles text))
@@ -38,7 +43,8 @@ concat-singles : (bs : List ℕ) → concat (singles bs) ≡ bs
 concat-singles [] = refl
 concat-singles (b ∷ bs) = ap (λ cs. b ∷ cs) (concat-singles bs)
 
-either-text : (t : Bool) (gs us : List (List ℕ)) → ArePrintable (concat gs) → ArePrintable (concat us) → ArePrintable (concat (if t then gs else us))
+either-text : (t : Bool) (gs us : List (List ℕ)) → ArePrintable (concat gs) → ArePrintable (concat us)
+    → ArePrintable (concat (if t then gs else us))
 either-text true gs us a b = a
 either-text false gs us a b = b
 
@@ -46,23 +52,28 @@ last-printable : (room : ℕ) (bs : List ℕ) → ArePrintable bs → ArePrintab
 unfolding last_fitting
 last-printable room [] all = all
 last-printable room (b ∷ bs) all =
-    either-text (nat_le (sum_by text_columns (singles (b ∷ bs))) room) (singles (b ∷ bs)) (last_fitting room (singles bs)) (subst ArePrintable (sym (concat-singles (b ∷ bs))) all)
+    either-text (nat_le (sum_by text_columns (singles (b ∷ bs))) room) (singles (b ∷ bs)) (last_fitting room (singles bs))
+    (subst ArePrintable (sym (concat-singles (b ∷ bs))) all)
     (last-printable room bs (rest-printable b bs all))
 
-either-part : (t : Bool) (p q : Part) → ArePrintable p.content → ArePrintable q.content → ArePrintable (if t then p else q).content
+either-part : (t : Bool) (p q : Part) → ArePrintable p.content → ArePrintable q.content
+    → ArePrintable (if t then p else q).content
 either-part true p q a b = a
 either-part false p q a b = b
 
 part-printable : (skip : ℕ) (span : SpanData) → ArePrintable span.content → ArePrintable (part_of skip span).content
 part-printable skip span all =
     let room = span_width span - skip in
-    either-part (skip == 0) (record { indent = 0; width = span_width span; style = span.style; content = span.content }) (end_of room span) all
-    (subst (λ gs. ArePrintable (concat (last_fitting room gs))) (sym (graphemes-singles span.content all)) (last-printable room span.content all))
+    either-part (skip == 0) (record { indent = 0; width = span_width span; style = span.style; content = span.content })
+    (end_of room span) all
+    (subst (λ gs. ArePrintable (concat (last_fitting room gs))) (sym (graphemes-singles span.content all))
+    (last-printable room span.content all))
 
 abbrev IsNarrowPart : Part → Type 0
 IsNarrowPart part = HasNarrowGraphemes part.content
 
-either-parts : (t : Bool) (p : Part) (ps : List Part) → IsNarrowPart p → All IsNarrowPart ps → All IsNarrowPart (if t then ps else p ∷ ps)
+either-parts : (t : Bool) (p : Part) (ps : List Part) → IsNarrowPart p → All IsNarrowPart ps
+    → All IsNarrowPart (if t then ps else p ∷ ps)
 either-parts true p ps one all = all
 either-parts false p ps one all = All-cons IsNarrowPart p ps one all
 
@@ -74,5 +85,6 @@ unfolding parts
 spans-narrow [] all skip = All-nil IsNarrowPart
 spans-narrow (span ∷ spans) all skip =
     let part = part_of skip span in
-    either-parts (nat_le (span_width span) skip) part (parts (skip - span_width span) spans) (printable-narrow part.content (part-printable skip span (All-head IsPrintableSpan span spans all)))
+    either-parts (nat_le (span_width span) skip) part (parts (skip - span_width span) spans)
+    (printable-narrow part.content (part-printable skip span (All-head IsPrintableSpan span spans all)))
     (spans-narrow spans (All-tail IsPrintableSpan span spans all) (skip - span_width span))

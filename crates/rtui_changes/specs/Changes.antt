@@ -1,6 +1,7 @@
 -- A change of each cell of an area, by its position.
 use Rattle.std.specs.Prelude.{◌≡◌, ℕ, ◌≤◌, ◌<◌}
-use Rattle.rtui_geometry.specs.{declared.rect.Rect.Rect, declared.position.Position.Position, Rect.HasPosition, Rect.bottom_edge}
+use Rattle.rtui_geometry.specs.{declared.rect.Rect.Rect, declared.position.Position.Position}
+use Rattle.rtui_geometry.specs.{Rect.HasPosition, Rect.bottom_edge}
 use Rattle.rtui_cell.specs.declared.cell.Cell.{Cell}
 use Rattle.rtui_buffer.specs.BufferData.{BufferData, cell_in}
 

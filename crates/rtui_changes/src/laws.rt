@@ -9,7 +9,8 @@ ghost use Rattle.rtui_buffer.specs.BufferData.{BufferData, IsEmptied};
 ghost use Rattle.rtui_buffer.specs.Shown.{IsSettledBuffer};
 ghost use Rattle.rtui_widgets.specs.Rendering.{RendersSpan, RendersLine, RendersText};
 ghost use Rattle.rtui_changes.specs.Plain.{IsPlainFrom};
-ghost use Rattle.rtui_changes.specs.NarrowTexts.{HasNarrowGraphemes, AreNarrowSpans, IsNarrowLine, IsNarrowText};
+ghost use Rattle.rtui_changes.specs.NarrowTexts.{HasNarrowGraphemes, AreNarrowSpans, IsNarrowLine};
+ghost use Rattle.rtui_changes.specs.NarrowTexts.{IsNarrowText};
 
 /// A screen can show a buffer of plain cells.
 #[tactic(auto, using(crate::proofs::PlainLemmas::plain_steps))]

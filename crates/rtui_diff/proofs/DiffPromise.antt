@@ -2,7 +2,8 @@
 use Rattle.std.proofs.Common.{◌*◌, ℕ, List, map, refl, ap}
 use Rattle.rtui_cell.specs.declared.cell.Cell.{Cell}
 use Rattle.rtui_diff.specs.{Updates.update_at, Updates.updates, Diff.IsDiff}
-use Rattle.rtui_diff.proofs.{ReplayLemmas.updates_rises, ReplayLemmas.updates_own, ReplayLemmas.replays, GivenLemmas.given_narrow, GivenLemmas.gives_little}
+use Rattle.rtui_diff.proofs.{ReplayLemmas.updates_rises, ReplayLemmas.updates_own, ReplayLemmas.replays, GivenLemmas.given_narrow}
+use Rattle.rtui_diff.proofs.{GivenLemmas.gives_little}
 use Rattle.rtui_diff.proofs.EnoughLemmas.{gives_enough}
 
 pub is_diff : (x0 y0 w h : ℕ) (ps ns : List Cell) → IsDiff x0 y0 w h ps ns (updates x0 y0 w h ps ns)

@@ -1,5 +1,6 @@
 -- Places of a list by the rows of a frame.
-use Rattle.std.proofs.Common.{◌≡◌, ℕ, zero, suc, ◌+◌, ◌-◌, ◌*◌, ◌/◌, ◌%◌, ◌<◌, ◌≤◌, List, refl, ap, ◌∙◌, arith, inl, inr, mul_comm, add-one, length, get_or}
+use Rattle.std.proofs.Common.{◌≡◌, ℕ, zero, suc, ◌+◌, ◌-◌, ◌*◌, ◌/◌, ◌%◌, ◌<◌, ◌≤◌, List, refl, ap, ◌∙◌, arith, inl, inr}
+use Rattle.std.proofs.Common.{mul_comm, add-one, length, get_or}
 use Rattle.std.proofs.lemmas.Nat.{div_below, mod_below, div-add-mod', div-mul-add, mod-mul-add, row_fits}
 use Rattle.std.proofs.Math.Nat.{mul-le-mul_left, mul-le-mul_right}
 use Rattle.std.proofs.lemmas.{Bool.cases_lt, List.get_or_default}
@@ -12,7 +13,8 @@ module _ (w h : ℕ) where
   row_start i = div-add-mod' i w
 
   pub row_end : (b : ℕ) → b < h → b * w + w ≤ w * h
-  row_end b lt = let e : h * w ≡ w * h = mul_comm h w in let f : b * w + w ≤ h * w = row_fits b w h w lt (omega arith) in omega arith
+  row_end b lt = let e : h * w ≡ w * h = mul_comm h w in let f : b * w + w ≤ h * w = row_fits b w h w lt (omega arith) in
+      omega arith
 
   pub column_in : (i : ℕ) → i < w * h → i % w < w
   column_in i lt = mod_below i w (positive w lt)
@@ -22,7 +24,8 @@ module _ (w h : ℕ) where
       positive (suc v) a = omega arith
 
   pub row_in : (i : ℕ) → i < w * h → i / w < h
-  row_in i lt = let p : i % w < w = column_in i lt in let e : w * h ≡ h * w = mul_comm w h in div_below i w h (omega arith) (omega arith)
+  row_in i lt = let p : i % w < w = column_in i lt in let e : w * h ≡ h * w = mul_comm w h in
+      div_below i w h (omega arith) (omega arith)
 
 -- ---- rows that are counted as a walk comes to them
 
@@ -54,7 +57,8 @@ in_many_rows w h at le lt = let f : w * h ≤ w * 65536 = mul-le-mul_left w le i
 pub ruleset row_rules = (next_row, by_row, row_in_frame, in_many_rows)
 
 -- the update at a place, by its row
-pub update_by_row : (x0 y0 w start i at : ℕ) (ns : List Cell) (c d : Cell) → start ≡ i * w → start ≤ at → at < start + w → at < length ns → c ≡ get_or ns at d
+pub update_by_row : (x0 y0 w start i at : ℕ) (ns : List Cell) (c d : Cell) → start ≡ i * w → start ≤ at → at < start + w
+    → at < length ns → c ≡ get_or ns at d
     → record { x = x0 + (at - start); y = y0 + i; cell = c } ≡ update_at x0 y0 w ns at
 update_by_row x0 y0 w start i at ns c d e le lt inside is =
     let by = by_row start i w at e le lt in

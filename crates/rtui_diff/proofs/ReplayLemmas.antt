@@ -1,8 +1,10 @@
 -- The updates rise row by row, and putting them on a grid that shows prev gives one that shows next.
-use Rattle.std.proofs.Common.{◌≡◌, ℕ, zero, suc, ◌+◌, ◌*◌, ◌/◌, ◌%◌, ◌<◌, ◌≤◌, List, [], ◌∷◌, map, All, refl, sym, ap, arith, inl, inr}
+use Rattle.std.proofs.Common.{◌≡◌, ℕ, zero, suc, ◌+◌, ◌*◌, ◌/◌, ◌%◌, ◌<◌, ◌≤◌, List, [], ◌∷◌, map, All, refl, sym, ap, arith, inl}
+use Rattle.std.proofs.Common.{inr}
 use Rattle.std.proofs.lemmas.{Nat.row_fits, Bool.cases_order, List.Elements.All-weaker, List.Elements.All-map}
 use Rattle.rtui_cell.specs.{declared.cell.Cell.Cell}
-use Rattle.rtui_diff.specs.{Cells.cell, Settled.IsSettled, Shows.Replays, DiffRule.Walk, DiffRule.start, DiffRule.gives, DiffRule.step, DiffRule.given}
+use Rattle.rtui_diff.specs.{Cells.cell, Settled.IsSettled, Shows.Replays, DiffRule.Walk, DiffRule.start, DiffRule.gives}
+use Rattle.rtui_diff.specs.{DiffRule.step, DiffRule.given}
 use Rattle.rtui_diff.specs.Updates.{update_at, updates, IsBefore, Rises, IsCellOfNext}
 use Rattle.rtui_diff.proofs.{WalkLemmas.unskipped, WalkLemmas.places, ColumnLemmas.replay_column, SettledLemmas.settled_flat}
 use Rattle.rtui_diff.proofs.FrameLemmas.{row_start, column_in, row_in}
@@ -12,7 +14,8 @@ pub rises : (ps ns : List Cell) (n : ℕ) (s : Walk) (i hi : ℕ) → i + n ≡ 
 unfolding given
 rises ps ns zero s i hi e = tt
 rises ps ns (suc n) s i hi e =
-    rises_give ns (gives s (cell ps i) (cell ns i)) i hi _ (omega arith) (unskipped s.over s.left s.force (cell ps i) (cell ns i)) (rises ps ns n (step s (cell ps i) (cell ns i)) (i + 1) hi (omega arith))
+    rises_give ns (gives s (cell ps i) (cell ns i)) i hi _ (omega arith) (unskipped s.over s.left s.force (cell ps i) (cell ns i))
+    (rises ps ns n (step s (cell ps i) (cell ns i)) (i + 1) hi (omega arith))
 
 module _ (x0 y0 w h : ℕ) (ps ns : List Cell) where
   risen : RisesFrom ns 0 (w * h) (places w h ps ns)
@@ -32,7 +35,8 @@ module _ (x0 y0 w h : ℕ) (ps ns : List Cell) where
   rise lo [] r = tt
   rise lo (i ∷ is) r = (
     All-map (IsBefore (update_at x0 y0 w ns i)) (update_at x0 y0 w ns) is
-        (All-weaker (λ j. (i + 1 ≤ j) × (j < w * h) × Plain ns j) (λ j. IsBefore (update_at x0 y0 w ns i) (update_at x0 y0 w ns j))
+        (All-weaker (λ j. (i + 1 ≤ j) × (j < w * h) × Plain ns j) (λ j. IsBefore (update_at x0 y0 w ns i)
+        (update_at x0 y0 w ns j))
         (λ j q. let a = q.0 in before i j r.1 q.1 (omega arith)) is (rises_all ns (i + 1) (w * h) is r.3)),
     rise (i + 1) is r.3,
   )
@@ -56,14 +60,16 @@ module _ (x0 y0 w h : ℕ) (ps ns : List Cell) where
   pub updates_own : All (IsCellOfNext x0 y0 w h ns) (updates x0 y0 w h ps ns)
   updates_own =
       All-map (IsCellOfNext x0 y0 w h ns) (update_at x0 y0 w ns) (places w h ps ns)
-      (All-weaker (λ j. (0 ≤ j) × (j < w * h) × Plain ns j) (λ j. IsCellOfNext x0 y0 w h ns (update_at x0 y0 w ns j)) (λ j q. own j q.1 q.2)
+      (All-weaker (λ j. (0 ≤ j) × (j < w * h) × Plain ns j) (λ j. IsCellOfNext x0 y0 w h ns (update_at x0 y0 w ns j))
+      (λ j q. own j q.1 q.2)
       (places w h ps ns) (rises_all ns 0 (w * h) (places w h ps ns) risen))
 
   -- putting the updates on a grid that shows prev gives one that shows next, and no column outside the area changes
   pub replays : IsSettled w h ps → IsSettled w h ns → Replays x0 y0 w h ps ns (updates x0 y0 w h ps ns)
   replays sp st = record {
     shows = λ W H g x_fits y_fits shown. shows_after W H x0 y0 w h x_fits y_fits ns st (places w h ps ns) g risen
-        (λ a b a_in b_in lt. replay_column (w * h) ps ns (b * w + a) (g (x0 + a) (y0 + b)) (settled_flat w h ps sp) (settled_flat w h ns st) lt
+        (λ a b a_in b_in lt. replay_column (w * h) ps ns (b * w + a) (g (x0 + a) (y0 + b)) (settled_flat w h ps sp)
+        (settled_flat w h ns st) lt
         (place_shown w h ps a b (g (x0 + a) (y0 + b)) sp a_in b_in (shown.at a b a_in b_in)));
     outside = λ W H g x_fits y_fits a b out. puts_outside W H x0 y0 w h x_fits y_fits ns st 0 (places w h ps ns) a b g risen out;
   }

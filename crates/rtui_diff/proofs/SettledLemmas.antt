@@ -2,7 +2,8 @@
 use Rattle.std.proofs.Common.{◌≡◌, ℕ, ◌+◌, ◌-◌, ◌*◌, ◌/◌, ◌%◌, ◌<◌, ◌≤◌, false, List, subst, ap, arith}
 use Rattle.std.proofs.lemmas.Nat.{mod-mul-add, same_from_place}
 use Rattle.rtui_cell.specs.{declared.cell.Cell.Cell, Cell.width_of, Cell.is_skipped}
-use Rattle.rtui_diff.specs.{Cells.cell, Settled.IsBlankOrSkipped, Settled.IsSettled, Settled.IsSettledAt, Completeness.CoversColumn}
+use Rattle.rtui_diff.specs.{Cells.cell, Settled.IsBlankOrSkipped, Settled.IsSettled, Settled.IsSettledAt}
+use Rattle.rtui_diff.specs.{Completeness.CoversColumn}
 use Rattle.rtui_diff.proofs.ColumnLemmas.{Covers, Settled}
 use Rattle.rtui_diff.proofs.FrameLemmas.{row_start, row_end, column_in, row_in}
 
@@ -22,7 +23,8 @@ module _ (w h : ℕ) (cells : List Cell) where
   pub settled_from : ((i : ℕ) → i < w * h → IsSettledAt w cells i) → IsSettled w h cells
   settled_from all = record {
     skipped = λ a b a_in b_in e. (at a b a_in b_in).skipped e;
-    within = λ a b a_in b_in e. subst (λ x. x + width_of (cell cells (b * w + a)) ≤ w) (mod-mul-add b w a a_in) ((at a b a_in b_in).within e);
+    within = λ a b a_in b_in e. subst (λ x. x + width_of (cell cells (b * w + a)) ≤ w) (mod-mul-add b w a a_in)
+        ((at a b a_in b_in).within e);
     behind = λ a b k a_in b_in e more less. (at a b a_in b_in).behind e (b * w + k) (omega arith) (omega arith);
   }
     where
@@ -38,16 +40,19 @@ module _ (w h : ℕ) (cells : List Cell) where
   }
 
   -- what covers a column stands in its row
-  pub same_row : (a b k : ℕ) → IsSettled w h cells → a < w → b < h → Covers cells k (b * w + a) → (k ≡ b * w + k % w) × CoversColumn w cells (k % w) a b
+  pub same_row : (a b k : ℕ) → IsSettled w h cells → a < w → b < h → Covers cells k (b * w + a)
+      → (k ≡ b * w + k % w) × CoversColumn w cells (k % w) a b
   same_row a b k s a_in b_in x =
       let end : b * w + w ≤ w * h = row_end w h b b_in in
       let fits : k % w + width_of (cell cells k) ≤ w = (settled_at k (omega (arith, x.before)) s).within x.plain in
       let start : k / w * w + k % w ≡ k = row_start w h k in
-      let same = same_from_place (k / w) (k % w + (b * w + a - k)) b a w (omega (arith, x.reaches)) a_in (omega (arith, x.before)) in
+      let same = same_from_place (k / w) (k % w + (b * w + a - k)) b a w (omega (arith, x.reaches)) a_in
+      (omega (arith, x.before)) in
       let first : k / w * w ≡ b * w = ap (λ q. q * w) same.0 in
       let here : k ≡ b * w + k % w = omega arith in
       let plain : is_skipped (cell cells (b * w + k % w)) ≡ false = subst (λ y. is_skipped (cell cells y) ≡ false) here x.plain in
-      let reaches : a < k % w + width_of (cell cells (b * w + k % w)) = subst (λ y. a < k % w + width_of (cell cells y)) here (omega (arith, x.reaches)) in
+      let reaches : a < k % w + width_of (cell cells (b * w + k % w)) = subst (λ y. a < k % w + width_of (cell cells y)) here
+      (omega (arith, x.reaches)) in
       (here, record { before = omega (arith, x.before); plain = plain; reaches = reaches })
 
 -- the first rows of a settled frame are settled

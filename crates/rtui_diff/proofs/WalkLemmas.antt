@@ -1,5 +1,6 @@
 -- What one step of the walk does, by its cases.
-use Rattle.std.proofs.Common.{◌*◌, ◌≡◌, ℕ, zero, suc, ◌-◌, ◌&&◌, ◌||◌, Bool, true, false, not, List, ◌∷◌, cond, refl, if◌then◌else◌, nat_lt}
+use Rattle.std.proofs.Common.{◌*◌, ◌≡◌, ℕ, zero, suc, ◌-◌, ◌&&◌, ◌||◌, Bool, true, false, not, List, ◌∷◌, cond, refl}
+use Rattle.std.proofs.Common.{if◌then◌else◌, nat_lt}
 use Rattle.std.proofs.lemmas.Bool.{false≢true, and_parts, or_parts, not-true, not-false}
 use Rattle.rtui_cell.specs.{declared.cell.Cell.Cell, declared.cell.CellDiffOption.CellDiffOption, Equality.is_same}
 use Rattle.rtui_cell.specs.declared.cell.CellDiffOption.TheVariants as DiffOption
@@ -26,11 +27,15 @@ pick P s0 s1 s2 s3 false false true false fe false h0 h1 h2 h3 h4 = h4 refl refl
 pub step_cases : (P : Walk → Type 0) (p n : Cell) →
     (is_skipped n ≡ true → P start) →
     (is_skipped n ≡ false → P (record { over = width_of n - 1; left = 0; force = false })) →
-    (is_skipped n ≡ false → is_forced n ≡ false → gives_plain p n ≡ true → nat_lt 1 (width_of n) ≡ true → has_fe0f n ≡ true → P (record { over = 0; left = width_of n - 1; force = false })) →
-    (is_skipped n ≡ false → gives_plain p n ≡ true → nat_lt 1 (width_of n) ≡ false → (nat_lt (width_of n) (width_of p) && shows_on_blank p) ≡ true → P (record { over = 0; left = width_of p - 1; force = true })) →
+    (is_skipped n ≡ false → is_forced n ≡ false → gives_plain p n ≡ true → nat_lt 1 (width_of n) ≡ true → has_fe0f n ≡ true
+    → P (record { over = 0; left = width_of n - 1; force = false })) →
+    (is_skipped n ≡ false → gives_plain p n ≡ true → nat_lt 1 (width_of n) ≡ false
+    → (nat_lt (width_of n) (width_of p) && shows_on_blank p) ≡ true
+    → P (record { over = 0; left = width_of p - 1; force = true })) →
     (is_skipped n ≡ false → nat_lt 1 (width_of n) ≡ false → P start) →
     P (step_plain p n)
-step_cases P p n = pick P start _ _ _ (is_skipped n) (is_forced n) (gives_plain p n) (nat_lt 1 (width_of n)) (has_fe0f n) (nat_lt (width_of n) (width_of p) && shows_on_blank p)
+step_cases P p n = pick P start _ _ _ (is_skipped n) (is_forced n) (gives_plain p n) (nat_lt 1 (width_of n)) (has_fe0f n)
+    (nat_lt (width_of n) (width_of p) && shows_on_blank p)
 
 -- a place that is given or not, before the others
 pub give_cond : (g : Bool) (i : ℕ) (is : List ℕ) → give g i is ≡ cond g (i ∷ is) is
@@ -42,7 +47,8 @@ pub plain_same : (p n : Cell) → gives_plain p n ≡ false → is_skipped n ≡
 plain_same p n e f = not-false (is_same p n) (or_parts (is_always n) (not (is_same p n)) (rw f at e)).1
 
 -- what is given is not skipped
-pub unskipped : (over left : ℕ) (force : Bool) (p n : Cell) → gives (record { over = over; left = left; force = force }) p n ≡ true → is_skipped n ≡ false
+pub unskipped : (over left : ℕ) (force : Bool) (p n : Cell)
+    → gives (record { over = over; left = left; force = force }) p n ≡ true → is_skipped n ≡ false
 unskipped (suc over) left force p n e = absurd (false≢true e)
 unskipped zero (suc left) force p n e = not-true (is_skipped n) (and_parts (not (is_skipped n)) _ e).0
 unskipped zero zero force p n e = not-true (is_skipped n) (and_parts (not (is_skipped n)) _ e).0

@@ -2,7 +2,8 @@
 use Rattle.std.specs.Prelude.{ℕ, Bool, true, false, ◌+◌, ◌*◌, ◌==◌, ◌||◌, not, List, chars, slice_index_or}
 use Rattle.std.specs.{Int.RustNames.bit_and, List.list_any}
 use Rattle.rtui_style.specs.{declared.color.Color.Color, Modifier.bits_of}
-use Rattle.rtui_cell.specs.{declared.cell.Cell.Cell, declared.cell.CellDiffOption.CellDiffOption, Symbol.symbol_text, Cell.empty_cell}
+use Rattle.rtui_cell.specs.{declared.cell.Cell.Cell, declared.cell.CellDiffOption.CellDiffOption}
+use Rattle.rtui_cell.specs.{Symbol.symbol_text, Cell.empty_cell}
 use Rattle.rtui_cell.specs.declared.cell.CellDiffOption.TheVariants as DiffOption
 
 -- the cell at a place of a list, and past its end the empty cell
@@ -21,7 +22,8 @@ abbrev pub is_reset : Color → Bool
 is_reset Color.Reset = true
 is_reset _ = false
 
--- the modifiers that show on a blank: underlined 8, slow blink 16, rapid blink 32, reversed 64, crossed out 256
+-- the modifiers that show on a blank: underlined 8, slow blink 16, rapid blink 32, reversed 64, crossed out
+-- 256
 abbrev pub shown_on_blank : ℕ
 shown_on_blank = 376
 

@@ -1,12 +1,14 @@
 -- Which places are given, in words of columns.
 use Rattle.std.specs.Prelude.{◌≡◌, ℕ, ◌+◌, ◌<◌, ◌≤◌, true, false, ◌&&◌, not, List, filter, Contains}
 use Rattle.std.specs.List.{range_with_len}
-use Rattle.rtui_cell.specs.{declared.cell.Cell.Cell, Cell.empty_cell, Cell.width_of, Cell.is_skipped, Equality.is_same, Equality.is_same_symbol, Grid.Update}
+use Rattle.rtui_cell.specs.{declared.cell.Cell.Cell, Cell.empty_cell, Cell.width_of, Cell.is_skipped}
+use Rattle.rtui_cell.specs.{Equality.is_same, Equality.is_same_symbol, Grid.Update}
 use Rattle.rtui_diff.specs.Cells.{has_fe0f, is_forced, is_always, shows_on_blank, cell, cell_at}
 
 -- the unskipped places that differ, of len places
 abbrev pub differing : List Cell → List Cell → ℕ → List ℕ
-differing ps ns len = filter (λ i. not (is_skipped (cell ns i)) && not (is_same (cell ps i) (cell ns i))) (range_with_len 0 len)
+differing ps ns len = filter (λ i. not (is_skipped (cell ns i)) && not (is_same (cell ps i) (cell ns i)))
+    (range_with_len 0 len)
 
 -- no cell of both is wide, and none of next is always given
 pub record AreNarrow (len : ℕ) (ps ns : List Cell) : Type 0 where
@@ -56,8 +58,10 @@ pub record IsUnchanged (w : ℕ) (ps ns : List Cell) (a b : ℕ) : Type 0 where
 
 -- nothing is given that a screen has no need of
 pub record IsMinimal (x0 y0 w h : ℕ) (ps ns : List Cell) (us : List Update) : Type 0 where
-  pub behind : (a b j : ℕ) → IsInFrame w h a b → IsGiven x0 y0 us a b → CoversColumn w ns j a b → Repeats x0 y0 w ps ns us j a b
-  pub same : (a b : ℕ) → IsInFrame w h a b → IsGiven x0 y0 us a b → IsUnchanged w ps ns a b → Uncovers x0 y0 w ps ns us a b
+  pub behind : (a b j : ℕ) → IsInFrame w h a b → IsGiven x0 y0 us a b → CoversColumn w ns j a b
+      → Repeats x0 y0 w ps ns us j a b
+  pub same : (a b : ℕ) → IsInFrame w h a b → IsGiven x0 y0 us a b → IsUnchanged w ps ns a b
+      → Uncovers x0 y0 w ps ns us a b
 
 -- no unskipped wide cell covers column a from before
 pub record IsFree (w : ℕ) (cells : List Cell) (a b : ℕ) : Type 0 where
@@ -84,10 +88,11 @@ pub record Bares (x0 y0 w : ℕ) (ps ns : List Cell) (us : List Update) (j a b :
   pub narrow : width_of (cell_at w ns j b) ≤ 1
   pub free : IsFree w ns j b
 
--- what screens may leave there is given again: after a given wide cell with U+FE0F each unskipped column where something else stood,
--- and under a former wide cell with a visible style each unskipped column
+-- what screens may leave there is given again: after a given wide cell with U+FE0F each unskipped column
+-- where something else stood, and under a former wide cell with a visible style each unskipped column
 pub record IsComplete (x0 y0 w h : ℕ) (ps ns : List Cell) (us : List Update) : Type 0 where
   pub blanks : (a b j : ℕ) → IsInFrame w h a b → Varies x0 y0 w ps ns us j a b
-      → is_skipped (cell_at w ns a b) ≡ false → is_same_symbol (cell_at w ps a b) (cell_at w ns a b) ≡ false → IsGiven x0 y0 us a b
+      → is_skipped (cell_at w ns a b) ≡ false → is_same_symbol (cell_at w ps a b) (cell_at w ns a b) ≡ false
+      → IsGiven x0 y0 us a b
   pub refreshes : (a b j : ℕ) → IsInFrame w h a b → Bares x0 y0 w ps ns us j a b
       → is_skipped (cell_at w ns a b) ≡ false → IsFree w ns a b → IsGiven x0 y0 us a b

@@ -5,9 +5,10 @@ use Rattle.rtui_diff.specs.{Settled.IsSettled, Shows.Replays}
 use Rattle.rtui_diff.specs.Updates.{update_at, updates, Rises, IsCellOfNext}
 use Rattle.rtui_diff.specs.Completeness.{AreNarrow, differing, IsMinimal, IsComplete}
 
--- The updates from prev to next, over w columns and h rows with their corner at (x0, y0): those of the diff's rule, in order, each with
--- next's own cell, and in frames without wide cells just what differs. Those between two settled frames turn a screen which shows prev
--- into one that shows next, give nothing that it has no need of, and all that a screen may have left after.
+-- The updates from prev to next, over w columns and h rows with their corner at (x0, y0): those of the diff's
+-- rule, in order, each with next's own cell, and in frames without wide cells just what differs. Those
+-- between two settled frames turn a screen which shows prev into one that shows next, give nothing that it
+-- has no need of, and all that a screen may have left after.
 pub record IsDiff (x0 y0 w h : ℕ) (prev next : List Cell) (us : List Update) : Type 0 where
   pub walks : us ≡ updates x0 y0 w h prev next
   pub rises : Rises us

@@ -1,9 +1,12 @@
 -- Which places of two frames are given, column by column.
-use Rattle.std.specs.Prelude.{ℕ, zero, suc, ◌+◌, ◌-◌, Bool, true, false, ◌&&◌, ◌||◌, nat_lt, not, if◌then◌else◌, List, [], ◌∷◌}
-use Rattle.rtui_cell.specs.{declared.cell.Cell.Cell, Cell.width_of, Cell.is_skipped, Equality.is_same, Equality.is_same_symbol}
+use Rattle.std.specs.Prelude.{ℕ, zero, suc, ◌+◌, ◌-◌, Bool, true, false, ◌&&◌, ◌||◌, nat_lt, not}
+use Rattle.std.specs.Prelude.{if◌then◌else◌, List, [], ◌∷◌}
+use Rattle.rtui_cell.specs.{declared.cell.Cell.Cell, Cell.width_of, Cell.is_skipped, Equality.is_same}
+use Rattle.rtui_cell.specs.{Equality.is_same_symbol}
 use Rattle.rtui_diff.specs.Cells.{has_fe0f, is_forced, is_always, shows_on_blank, cell}
 
--- how many columns are stepped over, how many are visited after the present one is done with, and whether the visited ones are given at all events
+-- how many columns are stepped over, how many are visited after the present one is done with, and whether the
+-- visited ones are given at all events
 pub record Walk : Type 0 where
   pub over : ℕ
   pub left : ℕ
@@ -28,9 +31,14 @@ gives_at zero zero force p n = gives_plain p n
 abbrev pub step_plain : Cell → Cell → Walk
 step_plain p n =
     if is_skipped n then start
-    else (if is_forced n || not (gives_plain p n) || (nat_lt 1 (width_of n) && not (has_fe0f n)) then record { over = width_of n - 1; left = 0; force = false }
+    else (if is_forced n || not (gives_plain p n) || (nat_lt 1 (width_of n) && not (has_fe0f n))
+    then record { over = width_of n - 1; left = 0; force = false }
     else (if nat_lt 1 (width_of n) then record { over = 0; left = width_of n - 1; force = false }
-    else (if nat_lt (width_of n) (width_of p) && shows_on_blank p then record { over = 0; left = width_of p - 1; force = true }
+    else (if nat_lt (width_of n) (width_of p) && shows_on_blank p then record {
+      over = 0;
+      left = width_of p - 1;
+      force = true;
+    }
     else start)))
 
 abbrev pub step_at : ℕ → ℕ → Bool → Cell → Cell → Walk
@@ -51,4 +59,5 @@ give false i is = is
 -- the places that are given of the k places from i on
 unfoldable pub given : List Cell → List Cell → ℕ → Walk → ℕ → List ℕ
 given ps ns zero s i = []
-given ps ns (suc k) s i = give (gives s (cell ps i) (cell ns i)) i (given ps ns k (step s (cell ps i) (cell ns i)) (i + 1))
+given ps ns (suc k) s i = give (gives s (cell ps i) (cell ns i)) i
+    (given ps ns k (step s (cell ps i) (cell ns i)) (i + 1))

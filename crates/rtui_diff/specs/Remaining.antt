@@ -5,7 +5,11 @@ use Rattle.rtui_cell.specs.Grid.{Update}
 
 -- the places that a diff has left
 abbrev pub places_left : DiffWalk → List ℕ
-places_left d = given d.prev.now d.next.now (d.len - d.pos) (record { over = 0; left = d.end - d.pos; force = d.force }) d.pos
+places_left d = given d.prev.now d.next.now (d.len - d.pos) (record {
+  over = 0;
+  left = d.end - d.pos;
+  force = d.force;
+}) d.pos
 
 -- the updates that a diff has left
 abbrev pub updates_left : DiffWalk → List Update

@@ -4,8 +4,10 @@ use Rattle.std.specs.List.{range_with_len, All, Any, AllPairs, Contains}
 use Rattle.std.proofs.lemmas.List.Elements.{All-contains}
 use Rattle.rtui_geometry.specs.{declared.position.Position.Position, declared.rect.Rect.Rect}
 use Rattle.rtui_geometry.specs.Rect.{right_edge, bottom_edge, HasPosition, IsInside}
-use Rattle.rtui_geometry.specs.Rows.{row_at, column_at, rows_of, columns_of, positions_in, positions_of, ComesBefore, ListsPositions, ListsRows, ListsColumns}
-use Rattle.rtui_geometry.proofs.Lists.{All-map_range, Contains-map_range, AllPairs-map_range, All-flat_map_range, Contains-flat_map_range, AllPairs-flat_map_range}
+use Rattle.rtui_geometry.specs.Rows.{row_at, column_at, rows_of, columns_of, positions_in, positions_of, ComesBefore}
+use Rattle.rtui_geometry.specs.Rows.{ListsPositions, ListsRows, ListsColumns}
+use Rattle.rtui_geometry.proofs.Lists.{All-map_range, Contains-map_range, AllPairs-map_range, All-flat_map_range}
+use Rattle.rtui_geometry.proofs.Lists.{Contains-flat_map_range, AllPairs-flat_map_range}
 
 -- the position in a column of a row
 abbrev at : ℕ → ℕ → Position
@@ -43,7 +45,8 @@ any_map f P a n k low high h =
     (has.0, f k, has.1, has.2, h)
 
 -- a position of one of the parts
-of_any : (parts : List Rect) (p : Position) (r : Rect) → All (λ part. IsInside part r) parts → Any (λ part. HasPosition part p) parts → HasPosition r p
+of_any : (parts : List Rect) (p : Position) (r : Rect) → All (λ part. IsInside part r) parts
+    → Any (λ part. HasPosition part p) parts → HasPosition r p
 of_any parts p r inside any = subst (λ part. IsInside part r) any.3 (inside any.0 any.1 any.2) p any.4
 
 -- the row with the position, and what each row has

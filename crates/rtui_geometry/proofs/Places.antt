@@ -1,9 +1,11 @@
 -- The walk over the positions of a rectangle, row by row.
-use Rattle.std.proofs.Common.{◌≡◌, ℕ, ◌+◌, ◌-◌, ◌*◌, ◌<◌, ◌≤◌, ◌^◌, List, [], ◌∷◌, ◌++◌, length, refl, ap, sym, ◌∙◌, arith, length-append}
+use Rattle.std.proofs.Common.{◌≡◌, ℕ, ◌+◌, ◌-◌, ◌*◌, ◌<◌, ◌≤◌, ◌^◌, List, [], ◌∷◌, ◌++◌, length, refl, ap, sym, ◌∙◌, arith}
+use Rattle.std.proofs.Common.{length-append}
 use Rattle.std.specs.List.{flat_map}
 use Rattle.std.proofs.Math.Nat.{mul-le-mul}
 use Rattle.std.proofs.lemmas.List.FromFn.{length-map-range_with_len, length-range_with_len}
-use Rattle.rtui_geometry.specs.{declared.position.Position.Position, declared.rect.Rect.Rect, Rect.right_edge, Rect.bottom_edge, Rect.EdgesFit}
+use Rattle.rtui_geometry.specs.{declared.position.Position.Position, declared.rect.Rect.Rect, Rect.right_edge, Rect.bottom_edge}
+use Rattle.rtui_geometry.specs.{Rect.EdgesFit}
 use Rattle.rtui_geometry.specs.Rows.{numbers, positions_in, positions_from, positions_of}
 use Rattle.rtui_geometry.proofs.Numbers.{numbers_none, numbers_first, map_none, map_first}
 
@@ -35,11 +37,13 @@ left_narrow r x y narrow h = narrow_from (numbers y (bottom_edge r))
 
 -- a step within a row
 pub left_step : (r : Rect) (x y : ℕ) → x < right_edge r → y < bottom_edge r
-    → positions_from r x (numbers y (bottom_edge r)) ≡ record { x = x; y = y } ∷ positions_from r (x + 1) (numbers y (bottom_edge r))
+    → positions_from r x (numbers y (bottom_edge r)) ≡ record { x = x; y = y } ∷ positions_from r (x + 1)
+    (numbers y (bottom_edge r))
 left_step r x y in_row in_rect =
     let rows = numbers_first y (bottom_edge r) in_rect in
     ap (positions_from r x) rows
-    ∙ ap (λ l. l ++ flat_map (positions_in r r.x) (numbers (y + 1) (bottom_edge r))) (map_first (λ k. record { x = k; y = y }) x (right_edge r) in_row)
+    ∙ ap (λ l. l ++ flat_map (positions_in r r.x) (numbers (y + 1) (bottom_edge r)))
+    (map_first (λ k. record { x = k; y = y }) x (right_edge r) in_row)
     ∙ ap (λ l. record { x = x; y = y } ∷ positions_from r (x + 1) l) (sym rows)
 
 -- a step to the next row
@@ -47,7 +51,8 @@ pub left_wrap : (r : Rect) (x y : ℕ) → right_edge r ≤ x → y < bottom_edg
     → positions_from r x (numbers y (bottom_edge r)) ≡ positions_from r r.x (numbers (y + 1) (bottom_edge r))
 left_wrap r x y past in_rect =
     ap (positions_from r x) (numbers_first y (bottom_edge r) in_rect)
-    ∙ ap (λ l. l ++ flat_map (positions_in r r.x) (numbers (y + 1) (bottom_edge r))) (map_none (λ k. record { x = k; y = y }) x (right_edge r) past)
+    ∙ ap (λ l. l ++ flat_map (positions_in r r.x) (numbers (y + 1) (bottom_edge r)))
+    (map_none (λ k. record { x = k; y = y }) x (right_edge r) past)
     ∙ sym (positions_from-start r (numbers (y + 1) (bottom_edge r)))
 
 -- how many are in one row
@@ -63,7 +68,8 @@ length-rows r x (y ∷ ys) =
 
 -- how many are left
 pub length-left : (r : Rect) (x y : ℕ) → y < bottom_edge r
-    → length (positions_from r x (numbers y (bottom_edge r))) ≡ (bottom_edge r - y - 1) * (right_edge r - r.x) + (right_edge r - x)
+    → length (positions_from r x (numbers y (bottom_edge r))) ≡ (bottom_edge r - y - 1) * (right_edge r - r.x) +
+    (right_edge r - x)
 length-left r x y in_rect =
     let below = numbers (y + 1) (bottom_edge r) in
     let count : length below ≡ bottom_edge r - y - 1 = omega (arith, length-range_with_len (y + 1) (bottom_edge r - (y + 1))) in
@@ -75,7 +81,12 @@ pub ruleset walk = (left_below, left_narrow, left_step, left_wrap, length-left)
 
 -- how many there are in all
 pub length-positions : (r : Rect) → length (positions_of r) ≡ (bottom_edge r - r.y) * (right_edge r - r.x)
-length-positions r = omega (arith, length-rows r r.x (numbers r.y (bottom_edge r)), ap (λ n. n * (right_edge r - r.x)) (length-range_with_len r.y (bottom_edge r - r.y)))
+length-positions r = omega (
+  arith,
+  length-rows r r.x (numbers r.y (bottom_edge r)),
+  ap (λ n. n * (right_edge r - r.x))
+      (length-range_with_len r.y (bottom_edge r - r.y)),
+)
 
 pub positions_fit : (r : Rect) → length (positions_of r) < 2 ^ 32
 positions_fit r =

@@ -1,7 +1,8 @@
 -- The printed texts.
 use Rattle.std.specs.Prelude.{ℕ, List, ◌++◌, codes}
 use Rattle.std.specs.Fmt.{decimal}
-use Rattle.rtui_geometry.specs.{declared.margin.Margin.Margin, declared.position.Position.Position, declared.rect.Rect.Rect, declared.size.Size.Size}
+use Rattle.rtui_geometry.specs.{declared.margin.Margin.Margin, declared.position.Position.Position}
+use Rattle.rtui_geometry.specs.{declared.rect.Rect.Rect, declared.size.Size.Size}
 
 -- `(x, y)`
 abbrev pub position_text : Position → List ℕ

@@ -1,6 +1,7 @@
 -- Moves of a column or a row by a signed number.
 use Rattle.std.specs.Prelude.{ℕ, ℤ, pos, negsuc, ◌+◌, ◌-◌, min, neg_ℤ}
-use Rattle.rtui_geometry.specs.{declared.offset.Offset.Offset, declared.position.Position.Position, declared.rect.Rect.Rect}
+use Rattle.rtui_geometry.specs.{declared.offset.Offset.Offset, declared.position.Position.Position}
+use Rattle.rtui_geometry.specs.{declared.rect.Rect.Rect}
 
 -- a column or a row moved by a number, and kept from 0 up to a limit
 abbrev pub moved : ℕ → ℤ → ℕ → ℕ

@@ -1,6 +1,7 @@
 -- A rectangle is the set of its positions. Columns and rows go up to 65535, and edges are cut there.
 use Rattle.std.specs.Prelude.{ℕ, ◌+◌, ◌-◌, ◌*◌, ◌<◌, ◌≤◌, min, max}
-use Rattle.rtui_geometry.specs.{declared.margin.Margin.Margin, declared.position.Position.Position, declared.rect.Rect.Rect}
+use Rattle.rtui_geometry.specs.{declared.margin.Margin.Margin, declared.position.Position.Position}
+use Rattle.rtui_geometry.specs.{declared.rect.Rect.Rect}
 
 -- the column right after the rectangle
 abbrev pub right_edge : Rect → ℕ
@@ -40,10 +41,12 @@ spanning x y right bottom = record { x = x; y = y; width = right - x; height = b
 
 -- the smallest rectangle that spans both, and the one that both have
 abbrev pub united : Rect → Rect → Rect
-united a b = spanning (min a.x b.x) (min a.y b.y) (max (right_edge a) (right_edge b)) (max (bottom_edge a) (bottom_edge b))
+united a b = spanning (min a.x b.x) (min a.y b.y) (max (right_edge a) (right_edge b))
+    (max (bottom_edge a) (bottom_edge b))
 
 abbrev pub intersected : Rect → Rect → Rect
-intersected a b = spanning (max a.x b.x) (max a.y b.y) (min (right_edge a) (right_edge b)) (min (bottom_edge a) (bottom_edge b))
+intersected a b = spanning (max a.x b.x) (max a.y b.y) (min (right_edge a) (right_edge b))
+    (min (bottom_edge a) (bottom_edge b))
 
 -- each edge of the first lies after the corner of the second, and the other way round
 pub record Intersects (a b : Rect) : Type 0 where
@@ -67,11 +70,17 @@ pub record HasRoom (r : Rect) (m : Margin) : Type 0 where
 
 -- the rectangle less a margin for which it has room
 abbrev pub shrunk : Rect → Margin → Rect
-shrunk r m = record { x = min (r.x + m.horizontal) 65535; y = min (r.y + m.vertical) 65535; width = r.width - doubled m.horizontal; height = r.height - doubled m.vertical }
+shrunk r m = record {
+  x = min (r.x + m.horizontal) 65535;
+  y = min (r.y + m.vertical) 65535;
+  width = r.width - doubled m.horizontal;
+  height = r.height - doubled m.vertical;
+}
 
 -- the rectangle with each edge moved out by the margin, as far as the grid goes
 abbrev pub grown : Rect → Margin → Rect
-grown r m = spanning (r.x - m.horizontal) (r.y - m.vertical) (min (right_edge r + m.horizontal) 65535) (min (bottom_edge r + m.vertical) 65535)
+grown r m = spanning (r.x - m.horizontal) (r.y - m.vertical) (min (right_edge r + m.horizontal) 65535)
+    (min (bottom_edge r + m.vertical) 65535)
 
 -- the position keeps the margin from each edge
 pub record KeepsMargin (r : Rect) (m : Margin) (p : Position) : Type 0 where

@@ -1,7 +1,11 @@
-ghost use Rattle.std.specs.Prelude.{◌≡◌, ◌+◌, ◌-◌, ◌*◌, ◌≤◌, ◌<◌, ◌^◌, ◌↔◌, ◌⊎◌, min, max, length, IsTrue, Some};
-ghost use Rattle.rtui_geometry.specs.Rect.{right_edge, bottom_edge, HasPosition, corner, SharePosition, EdgesFit, IsInside, cut_rect, united, intersected, Intersects, HasRoom, shrunk, grown, KeepsMargin, between};
+ghost use Rattle.std.specs.Prelude.{◌≡◌, ◌+◌, ◌-◌, ◌*◌, ◌≤◌, ◌<◌, ◌^◌, ◌↔◌, ◌⊎◌, min, max, length, IsTrue};
+ghost use Rattle.std.specs.Prelude.{Some};
+ghost use Rattle.rtui_geometry.specs.Rect.{right_edge, bottom_edge, HasPosition, corner, SharePosition};
+ghost use Rattle.rtui_geometry.specs.Rect.{EdgesFit, IsInside, cut_rect, united, intersected, Intersects};
+ghost use Rattle.rtui_geometry.specs.Rect.{HasRoom, shrunk, grown, KeepsMargin, between};
 ghost use Rattle.rtui_geometry.specs.Offset.{moved_rect};
-ghost use Rattle.rtui_geometry.specs.Rows.{rows_of, columns_of, positions_of, ListsRows, ListsColumns, ListsPositions};
+ghost use Rattle.rtui_geometry.specs.Rows.{rows_of, columns_of, positions_of, ListsRows, ListsColumns};
+ghost use Rattle.rtui_geometry.specs.Rows.{ListsPositions};
 ghost use Rattle.rtui_geometry.specs.Display.{rect_text};
 
 use crate::margin::Margin;

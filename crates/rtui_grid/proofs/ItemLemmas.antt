@@ -1,7 +1,9 @@
 -- Elements that are written, or moved.
-use Rattle.std.proofs.Common.{◌≡◌, ℕ, ◌+◌, ◌-◌, ◌<◌, ◌≤◌, ◌++◌, nat_eq, if◌then◌else◌, List, length, take, drop, set, sym, ap, ◌∙◌, arith, inl, inr, length-drop, length-take, map, true, false}
+use Rattle.std.proofs.Common.{◌≡◌, ℕ, ◌+◌, ◌-◌, ◌<◌, ◌≤◌, ◌++◌, nat_eq, if◌then◌else◌, List, length, take, drop, set, sym, ap}
+use Rattle.std.proofs.Common.{◌∙◌, arith, inl, inr, length-drop, length-take, map, true, false}
 use Rattle.std.proofs.lemmas.{Bool.cases_lt, Grind.common_steps, Bool.Decides.nat_tests}
-use Rattle.std.proofs.lemmas.List.{get_or_append_left, get_or-append_right, get_or-take, get_or-drop, get_or_past, ext_get_or, length-map, get_or-map}
+use Rattle.std.proofs.lemmas.List.{get_or_append_left, get_or-append_right, get_or-take, get_or-drop, get_or_past, ext_get_or}
+use Rattle.std.proofs.lemmas.List.{length-map, get_or-map}
 use Rattle.rtui_grid.specs.Items.{item}
 
 module _ {T : Type 0} (d : T) where
@@ -14,7 +16,8 @@ module _ {T : Type 0} (d : T) where
   past_end xs k past = get_or_past xs k d past
 
   -- elements that were made blank and moved to the end
-  pub rotated : (xs : List T) (n : ℕ) → n ≤ length xs → ((j : ℕ) → j < n → item d xs j ≡ d) → (k : ℕ) → item d (drop n xs ++ take n xs) k ≡ item d xs (k + n)
+  pub rotated : (xs : List T) (n : ℕ) → n ≤ length xs → ((j : ℕ) → j < n → item d xs j ≡ d) → (k : ℕ)
+      → item d (drop n xs ++ take n xs) k ≡ item d xs (k + n)
   rotated xs n fits blanked k = elim (cases_lt k (length xs - n)) [
     | inl before ↦
         let len : k < length (drop n xs) = rw length-drop before in
@@ -32,12 +35,15 @@ module _ {T : Type 0} (d : T) where
       ]
 
   -- a list whose elements were changed one by one
-  pub mapped : (f : T → T) (old new : List T) → length new ≡ length old → ((k : ℕ) → k < length old → item d new k ≡ f (item d old k)) → new ≡ map f old
+  pub mapped : (f : T → T) (old new : List T) → length new ≡ length old
+      → ((k : ℕ) → k < length old → item d new k ≡ f (item d old k)) → new ≡ map f old
   mapped f old new count each =
-      ext_get_or d new (map f old) (count ∙ sym (length-map old f)) (λ k k_in. let inside : k < length old = omega arith in each k inside ∙ sym (get_or-map f old k d d inside))
+      ext_get_or d new (map f old) (count ∙ sym (length-map old f)) (λ k k_in. let inside : k < length old = omega arith in
+      each k inside ∙ sym (get_or-map f old k d d inside))
 
   -- what holds of the elements before a place, and of the one that is written there
-  pub set-below : (P : T → Type 0) (xs : List T) (i : ℕ) (x : T) → i < length xs → P x → ((j : ℕ) → j < i → P (item d xs j)) → (j : ℕ) → j < i + 1 → P (item d (set xs i x) j)
+  pub set-below : (P : T → Type 0) (xs : List T) (i : ℕ) (x : T) → i < length xs → P x → ((j : ℕ) → j < i → P (item d xs j))
+      → (j : ℕ) → j < i + 1 → P (item d (set xs i x) j)
   set-below P xs i x inside here before j low = rw (item-set xs i j x inside) (elim (cases_lt j i) [
     | inl lower ↦ let no : nat_eq j i ≡ false = grind (arith, nat_tests) in rw no (before j lower)
     | inr upper ↦ let yes : nat_eq j i ≡ true = grind (arith, nat_tests) in rw yes here

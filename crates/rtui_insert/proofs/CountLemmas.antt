@@ -1,5 +1,6 @@
 -- How many items a drawing of rows hands to a backend.
-use Rattle.std.proofs.Common.{◌≡◌, ℕ, zero, suc, ◌+◌, ◌-◌, ◌*◌, ◌≤◌, Bool, true, false, not, ◌&&◌, List, [], ◌∷◌, cond, length, map, take, drop, take-add, slice_index_or, refl, ap, ◌∙◌, arith, add-one}
+use Rattle.std.proofs.Common.{◌≡◌, ℕ, zero, suc, ◌+◌, ◌-◌, ◌*◌, ◌≤◌, Bool, true, false, not, ◌&&◌, List, [], ◌∷◌, cond, length}
+use Rattle.std.proofs.Common.{map, take, drop, take-add, slice_index_or, refl, ap, ◌∙◌, arith, add-one}
 use Rattle.std.specs.List.{range_with_len, count_by}
 use Rattle.std.proofs.lemmas.List.{length-map, drop-drop}
 use Rattle.std.proofs.lemmas.List.Sums.{length-filter, sum_by-cons, sum_by-append}
@@ -15,13 +16,15 @@ use Rattle.rtui_insert.specs.Rows.{DrawsRows, lowered_update, is_nonempty, nonem
 
 -- items of a list that pass a test, counted by places and by parts
 module _ {X : Type 0} (q : X → Bool) (d : X) (none : q d ≡ false) where
-  counted_one : (xs : List X) (k : ℕ) → count_by q (drop k xs) ≡ cond (q (slice_index_or xs k d)) 1 0 + count_by q (drop (suc k) xs)
+  counted_one : (xs : List X) (k : ℕ) → count_by q (drop k xs) ≡ cond (q (slice_index_or xs k d)) 1 0 + count_by q
+      (drop (suc k) xs)
   counted_one [] zero = rw none refl
   counted_one [] (suc k) = rw none refl
   counted_one (x ∷ xs) zero = sum_by-cons (λ y. cond (q y) 1 0) x xs
   counted_one (x ∷ xs) (suc k) = counted_one xs k
 
-  counted : (p : ℕ → Bool) (xs : List X) → ((i : ℕ) → p i ≡ q (slice_index_or xs i d)) → (m k : ℕ) → count_by p (range_with_len k m) ≤ count_by q (drop k xs)
+  counted : (p : ℕ → Bool) (xs : List X) → ((i : ℕ) → p i ≡ q (slice_index_or xs i d)) → (m k : ℕ)
+      → count_by p (range_with_len k m) ≤ count_by q (drop k xs)
   counted p xs same zero k = omega arith
   counted p xs same (suc m) k =
       let first = rw (same k) at (sum_by-cons (λ i. cond (p i) 1 0) k (range_with_len (k + 1) m)) in
@@ -36,8 +39,10 @@ given_count ps ns k s i = omega (arith, places (i + k) i _ (rises ps ns k s i (i
     places hi lo (j ∷ is) r = omega (arith, r.0, r.1, places hi (j + 1) is r.3)
 
 -- what is drawn in two steps
-pub writes_then : (a b c : ℕ) (old mid new : Screen) → a + b ≤ c → WritesAtMost a old mid → WritesAtMost b mid new → WritesAtMost c old new
-writes_then a b c old mid new all first next room = let so_far = first (omega (arith, all, room)) in omega (arith, all, so_far, next (omega (arith, all, so_far, room)))
+pub writes_then : (a b c : ℕ) (old mid new : Screen) → a + b ≤ c → WritesAtMost a old mid → WritesAtMost b mid new
+    → WritesAtMost c old new
+writes_then a b c old mid new all first next room = let so_far = first (omega (arith, all, room)) in
+    omega (arith, all, so_far, next (omega (arith, all, so_far, room)))
 
 -- a step that draws nothing, before it and after it
 pub writes_after : (n : ℕ) (old mid new : Screen) → mid.written ≡ old.written → WritesAtMost n mid new → WritesAtMost n old new
@@ -49,7 +54,8 @@ writes_before n old mid new same first room = omega (arith, same, first room)
 module _ {former s : BufferData} {i n y : ℕ} {old new : Screen} (draws : DrawsRows former s i n y old new) where
   by_updates : (m : ℕ) → length draws.updates ≤ m → WritesAtMost m old new
   by_updates m le room =
-      let count : length (map (lowered_update y) draws.updates) ≡ length draws.updates = length-map draws.updates (lowered_update y) in
+      let count : length (map (lowered_update y) draws.updates) ≡ length draws.updates =
+      length-map draws.updates (lowered_update y) in
       omega (arith, count, draws.drawn.written (omega (arith, count)))
 
   -- at most each cell of the rows
@@ -57,7 +63,8 @@ module _ {former s : BufferData} {i n y : ℕ} {old new : Screen} (draws : Draws
   writes_rows =
       let e : length draws.updates ≡ length (given (part_cells former 0 n) (part_cells s i n) (former.area.width * n) start 0) =
       ap length draws.diff.walks ∙ length-map _ (update_at 0 0 former.area.width (part_cells s i n)) in
-      by_updates (former.area.width * n) (omega (arith, e, given_count (part_cells former 0 n) (part_cells s i n) (former.area.width * n) start 0))
+      by_updates (former.area.width * n)
+      (omega (arith, e, given_count (part_cells former 0 n) (part_cells s i n) (former.area.width * n) start 0))
 
 -- the cells drawn of rows, one part after the other
 pub nonempty_parts : (s : BufferData) (i n m : ℕ) → nonempty_cells s i (n + m) ≡ nonempty_cells s i n + nonempty_cells s (i + n) m
@@ -65,14 +72,20 @@ nonempty_parts s i n m =
     let size : s.area.width * (n + m) ≡ s.area.width * n + s.area.width * m = grind arith in
     let place : i * s.area.width + s.area.width * n ≡ (i + n) * s.area.width = grind arith in
     rw (size, ← place, take-add, drop-drop)
-    (sum_by-append (λ c. cond (is_nonempty c) 1 0) (part_cells s i n) (take (s.area.width * m) (drop (i * s.area.width + s.area.width * n) s.cells)))
+    (sum_by-append (λ c. cond (is_nonempty c) 1 0) (part_cells s i n)
+    (take (s.area.width * m) (drop (i * s.area.width + s.area.width * n) s.cells)))
 
 plain_empty : is_nonempty empty_cell ≡ false
 unfolding is_skipped
-plain_empty = let same : is_same empty_cell empty_cell ≡ true = equal_parts empty_cell empty_cell (record { look = refl; option = refl; flag = refl }) in rw same refl
+plain_empty = let same : is_same empty_cell empty_cell ≡ true = equal_parts empty_cell empty_cell (record {
+  look = refl;
+  option = refl;
+  flag = refl;
+}) in rw same refl
 
 -- over empty rows, at most each unskipped cell that isn't blank
-module _ {former s : BufferData} {i n y : ℕ} {old new : Screen} (draws : DrawsRows former s i n y old new) (wide : s.area.width ≡ former.area.width) (emptied : IsEmptied former.area former) (narrow : IsNarrowBuffer s) where
+module _ {former s : BufferData} {i n y : ℕ} {old new : Screen} (draws : DrawsRows former s i n y old new)
+    (wide : s.area.width ≡ former.area.width) (emptied : IsEmptied former.area former) (narrow : IsNarrowBuffer s) where
   are_narrow : AreNarrow (former.area.width * n) (part_cells former 0 n) (part_cells s i n)
   are_narrow = record {
     former = λ k low. omega (arith, ap width_of (part_of_empty former.area former emptied 0 n k) ∙ width-empty);
@@ -84,7 +97,11 @@ module _ {former s : BufferData} {i n y : ℕ} {old new : Screen} (draws : Draws
   writes_nonempty =
       let ps = part_cells former 0 n in
       let ns = part_cells s i n in
-      let e : length draws.updates ≡ length (differing ps ns (former.area.width * n)) = ap length (draws.diff.narrow are_narrow) ∙ length-map (differing ps ns (former.area.width * n)) (update_at 0 0 former.area.width ns) in
-      let f = length-filter (λ k. not (is_skipped (cell ns k)) && not (is_same (cell ps k) (cell ns k))) (range_with_len 0 (former.area.width * n)) in
-      let g = counted is_nonempty empty_cell plain_empty _ ns (λ k. ap (λ p. not (is_skipped (cell ns k)) && not (is_same p (cell ns k))) (part_of_empty former.area former emptied 0 n k)) (former.area.width * n) 0 in
+      let e : length draws.updates ≡ length (differing ps ns (former.area.width * n)) = ap length (draws.diff.narrow are_narrow)
+      ∙ length-map (differing ps ns (former.area.width * n)) (update_at 0 0 former.area.width ns) in
+      let f = length-filter (λ k. not (is_skipped (cell ns k)) && not (is_same (cell ps k) (cell ns k)))
+      (range_with_len 0 (former.area.width * n)) in
+      let g = counted is_nonempty empty_cell plain_empty _ ns
+      (λ k. ap (λ p. not (is_skipped (cell ns k)) && not (is_same p (cell ns k)))
+      (part_of_empty former.area former emptied 0 n k)) (former.area.width * n) 0 in
       by_updates draws (nonempty_cells s i n) (omega (arith, e, f, g))

@@ -1,9 +1,11 @@
 -- An empty buffer whose first row is skipped for a while.
-use Rattle.std.proofs.Common.{◌≡◌, ℕ, ◌+◌, ◌*◌, ◌<◌, ◌≤◌, ◌&&◌, nat_lt, true, List, length, drop, if◌then◌else◌, refl, ◌∙◌, arith, inl, inr, nat_le}
+use Rattle.std.proofs.Common.{◌≡◌, ℕ, ◌+◌, ◌*◌, ◌<◌, ◌≤◌, ◌&&◌, nat_lt, true, List, length, drop, if◌then◌else◌, refl, ◌∙◌, arith}
+use Rattle.std.proofs.Common.{inl, inr, nat_le}
 use Rattle.std.proofs.lemmas.{Bool.cases_lt, Bool.Decides.nat_tests}
 use Rattle.std.proofs.lemmas.List.{get_or-take, get_or-drop, get_or_past, length-take, take_at}
 use Rattle.rtui_geometry.specs.declared.rect.Rect.{Rect}
-use Rattle.rtui_cell.specs.{declared.cell.Cell.Cell, declared.cell.CellDiffOption.TheVariants.Skip, Cell.empty_cell, Cell.width_of, Cell.is_skipped}
+use Rattle.rtui_cell.specs.{declared.cell.Cell.Cell, declared.cell.CellDiffOption.TheVariants.Skip, Cell.empty_cell}
+use Rattle.rtui_cell.specs.{Cell.width_of, Cell.is_skipped}
 use Rattle.rtui_cell.proofs.CellLemmas.{width-empty}
 use Rattle.rtui_diff.specs.Cells.{cell}
 use Rattle.rtui_buffer.specs.BufferData.{BufferData, with_cells, IsEmptied, area_size}
@@ -21,9 +23,11 @@ unfolding width_of
 narrow-option = width-empty
 
 -- the cells of a part are the buffer's
-pub part_at : (s : BufferData) (i n k : ℕ) → k < s.area.width * n → cell (part_cells s i n) k ≡ cell s.cells (i * s.area.width + k)
+pub part_at : (s : BufferData) (i n k : ℕ) → k < s.area.width * n
+    → cell (part_cells s i n) k ≡ cell s.cells (i * s.area.width + k)
 part_at s i n k low =
-    get_or-take (s.area.width * n) (drop (i * s.area.width) s.cells) k empty_cell low ∙ get_or-drop (i * s.area.width) s.cells k empty_cell
+    get_or-take (s.area.width * n) (drop (i * s.area.width) s.cells) k empty_cell low
+    ∙ get_or-drop (i * s.area.width) s.cells k empty_cell
 
 -- a part of empty cells has empty ones alone
 pub part_of_empty : (over : Rect) (s : BufferData) → IsEmptied over s → (i n k : ℕ) → cell (part_cells s i n) k ≡ empty_cell
@@ -38,7 +42,8 @@ cells_written s cells size = rw size (take_at cells (drop (length s.cells) s.cel
 
 -- the first row of a buffer whose first cells are skipped
 pub unknown_row : (over : Rect) (new : BufferData) (cells : List Cell) → 0 < over.height → new.area ≡ over → new.cells ≡ cells
-    → ((k : ℕ) → k < over.width → is_skipped (cell cells k) ≡ true) → ((k : ℕ) → k < over.width → width_of (cell cells k) ≡ 1) → IsUnknownRow new
+    → ((k : ℕ) → k < over.width → is_skipped (cell cells k) ≡ true) → ((k : ℕ) → k < over.width → width_of (cell cells k) ≡ 1)
+    → IsUnknownRow new
 unknown_row over new cells some area same skipped narrow = rw (area, same) (record {
   row = some;
   skipped = λ a low. let place : 0 * over.width + a ≡ a = omega arith in rw place (skipped a low);
@@ -46,12 +51,15 @@ unknown_row over new cells some area same skipped narrow = rw (area, same) (reco
 })
 
 -- and a buffer of which they were made blank is empty again
-pub emptied_again : (over : Rect) (old new : BufferData) (mid cells : List Cell) (w : ℕ) → IsEmptied over old → new.area ≡ over → new.cells ≡ cells → length cells ≡ area_size over
-    → ((k : ℕ) → w ≤ k → cell mid k ≡ cell old.cells k) → ((k : ℕ) → cell cells k ≡ (if nat_le 0 k && nat_lt k w then empty_cell else cell mid k)) → IsEmptied over new
+pub emptied_again : (over : Rect) (old new : BufferData) (mid cells : List Cell) (w : ℕ) → IsEmptied over old → new.area ≡ over
+    → new.cells ≡ cells → length cells ≡ area_size over
+    → ((k : ℕ) → w ≤ k → cell mid k ≡ cell old.cells k)
+    → ((k : ℕ) → cell cells k ≡ (if nat_le 0 k && nat_lt k w then empty_cell else cell mid k)) → IsEmptied over new
 emptied_again over old new mid cells w emptied area same size rest blanked = record {
   area = area;
   cells = same ∙ all-empty (area_size over) cells size (λ k _. blanked k ∙ elim (cases_lt k w) [
     | inl low ↦ grind (arith, nat_tests)
-    | inr past ↦ let e : cell mid k ≡ empty_cell = rest k past ∙ rw emptied.cells (cell-empty (area_size over) k) in grind (arith, nat_tests)
+    | inr past ↦ let e : cell mid k ≡ empty_cell = rest k past ∙ rw emptied.cells (cell-empty (area_size over) k) in
+        grind (arith, nat_tests)
   ]);
 }

@@ -4,9 +4,12 @@ use Rattle.rtui_geometry.specs.declared.rect.Rect.{Rect}
 use Rattle.rtui_cell.specs.Look.{Look}
 use Rattle.rtui_buffer.specs.{BufferData.BufferData, BufferData.IsEmptied, Shown.IsSettledBuffer}
 use Rattle.rtui_backend.specs.Screen.{Screen, rows_above, ScrollsUp, ScrollsDown}
-use Rattle.rtui_insert.specs.Rows.{IsBlankFor, IsBlankAt, DrawsRows, DrawsFirstRow, RowsFit, IsNarrowBuffer, nonempty_cells, WritesAtMost}
-use Rattle.rtui_insert.specs.{Insertion.KeepsSizeAndVisibility, Insertion.AppendsPart, Scrolling.HasPushed, Scrolling.HasRaised, Scrolling.HasLowered}
-use Rattle.rtui_backend.proofs.RegionLemmas.{above_scrolled, blank_scrolled, below_scrolled, above_lowered, blank_lowered, moved_lowered, below_lowered}
+use Rattle.rtui_insert.specs.Rows.{IsBlankFor, IsBlankAt, DrawsRows, DrawsFirstRow, RowsFit, IsNarrowBuffer, nonempty_cells}
+use Rattle.rtui_insert.specs.Rows.{WritesAtMost}
+use Rattle.rtui_insert.specs.{Insertion.KeepsSizeAndVisibility, Insertion.AppendsPart, Scrolling.HasPushed, Scrolling.HasRaised}
+use Rattle.rtui_insert.specs.{Scrolling.HasLowered}
+use Rattle.rtui_backend.proofs.RegionLemmas.{above_scrolled, blank_scrolled, below_scrolled, above_lowered, blank_lowered}
+use Rattle.rtui_backend.proofs.RegionLemmas.{moved_lowered, below_lowered}
 use Rattle.rtui_insert.proofs.ShownLemmas.{ShowsFirst, ShowsRows, above_grown, parts_join, rows_shown, blank_first, unknown_first}
 use Rattle.rtui_insert.proofs.CountLemmas.{writes_rows, writes_nonempty, writes_then, writes_after, writes_before, nonempty_parts}
 use Rattle.rtui_backend.proofs.ScrollLemmas.{above_same}
@@ -42,16 +45,25 @@ pushed_none s q = record {
 
 pub raised_none : (s : BufferData) (i n d : ℕ) (q : Screen) → n ≡ 0 → HasRaised s i n d q q
 raised_none s i n d q none =
-    rw none (record { shape = same_shape q; above = no_part s i (rows_above q d); below = λ a b a_in b_in low. refl; few = λ narrow room. omega arith; most = λ room. omega arith })
+    rw none (record {
+      shape = same_shape q;
+      above = no_part s i (rows_above q d);
+      below = λ a b a_in b_in low. refl;
+      few = λ narrow room. omega arith;
+      most = λ room. omega arith;
+    })
 
 -- one more row put on the first row of the screen, and scrolled off
-module _ (s : BufferData) (k : ℕ) (old cur mid new : Screen) (before : HasPushed s k old cur) (fit : RowsFit s 1 0 old) (settled : IsSettledBuffer s) (inside : k + 1 ≤ s.area.height) (up : ScrollsUp 0 1 1 mid new) where
+module _ (s : BufferData) (k : ℕ) (old cur mid new : Screen) (before : HasPushed s k old cur) (fit : RowsFit s 1 0 old)
+    (settled : IsSettledBuffer s) (inside : k + 1 ≤ s.area.height) (up : ScrollsUp 0 1 1 mid new) where
   fit_now : RowsFit s 1 0 cur
   fit_now = record { width = fit.width ∙ sym before.shape.width; bottom = omega (arith, fit.bottom, before.shape.height) }
 
   -- over what the screen shows there
-  pushed_over : (former : BufferData) → s.area.width ≡ former.area.width → ShowsFirst former 1 0 cur → DrawsRows former s k 1 0 cur mid
-      → (n : ℕ) → min k 1 * s.area.width + n ≤ min (k + 1) 1 * s.area.width + nonempty_cells s k 1 → (IsNarrowBuffer s → WritesAtMost n cur mid) → HasPushed s (k + 1) old new
+  pushed_over : (former : BufferData) → s.area.width ≡ former.area.width → ShowsFirst former 1 0 cur
+      → DrawsRows former s k 1 0 cur mid
+      → (n : ℕ) → min k 1 * s.area.width + n ≤ min (k + 1) 1 * s.area.width + nonempty_cells s k 1
+      → (IsNarrowBuffer s → WritesAtMost n cur mid) → HasPushed s (k + 1) old new
   pushed_over former wide first drew n le few =
       let shown : ShowsRows s k 1 0 cur mid = rows_shown former s wide k 1 0 (omega arith) drew (record {
         fit = fit_now;
@@ -67,15 +79,23 @@ module _ (s : BufferData) (k : ℕ) (old cur mid new : Screen) (before : HasPush
         };
         above =
             let gone : rows_above new 0 ≡ rows_above mid 1 = above_scrolled (omega arith) some up (omega arith) in
-            subst (AppendsPart s 0 (k + 1) (rows_above old 0)) (sym gone) (parts_join before.above (above_grown shown fit_now) (omega arith) refl);
-        blank = λ more. record { at = λ a b a_in b_in. blank_scrolled (omega arith) some up (omega arith) a b (omega (arith, up.width)) b_in };
+            subst (AppendsPart s 0 (k + 1) (rows_above old 0)) (sym gone) (parts_join before.above (above_grown shown fit_now)
+            (omega arith) refl);
+        blank = λ more. record {
+          at = λ a b a_in b_in. blank_scrolled (omega arith) some up (omega arith) a b
+              (omega (arith, up.width)) b_in;
+        };
         below = λ a b a_in b_in low.
-            below_scrolled (omega arith) some up a b (omega (arith, shown.width, before.shape.width)) (omega (arith, shown.height, before.shape.height)) (omega arith)
+            below_scrolled (omega arith) some up a b (omega (arith, shown.width, before.shape.width))
+            (omega (arith, shown.height, before.shape.height)) (omega arith)
             ∙ shown.outside a b (inr (omega arith)) ∙ before.below a b a_in b_in low;
         few = λ narrow.
-            let parts : nonempty_cells s 0 (k + 1) ≡ nonempty_cells s 0 k + nonempty_cells s k 1 = nonempty_parts s 0 k 1 ∙ ap (λ j. nonempty_cells s 0 k + nonempty_cells s j 1) (omega arith) in
-            writes_before _ old mid new up.written (writes_then _ _ _ old cur mid (omega (arith, parts, le)) (before.few narrow) (few narrow));
-        most = writes_before _ old mid new up.written (writes_then _ _ _ old cur mid (omega arith) before.most (subst (λ w. WritesAtMost (w * 1) cur mid) (sym wide) (writes_rows drew)));
+            let parts : nonempty_cells s 0 (k + 1) ≡ nonempty_cells s 0 k + nonempty_cells s k 1 = nonempty_parts s 0 k 1
+            ∙ ap (λ j. nonempty_cells s 0 k + nonempty_cells s j 1) (omega arith) in
+            writes_before _ old mid new up.written (writes_then _ _ _ old cur mid (omega (arith, parts, le)) (before.few narrow)
+            (few narrow));
+        most = writes_before _ old mid new up.written (writes_then _ _ _ old cur mid (omega arith) before.most
+            (subst (λ w. WritesAtMost (w * 1) cur mid) (sym wide) (writes_rows drew)));
       }
 
   -- the first one, whatever stood there
@@ -83,19 +103,23 @@ module _ (s : BufferData) (k : ℕ) (old cur mid new : Screen) (before : HasPush
   pushed_first first drew =
       let none : min k 1 * s.area.width ≡ 0 * s.area.width = ap (λ j. min j 1 * s.area.width) first in
       let whole : min (k + 1) 1 * s.area.width ≡ 1 * s.area.width = ap (λ j. min (j + 1) 1 * s.area.width) first in
-      pushed_over drew.former drew.width (unknown_first drew.former cur drew.unknown) (subst (λ j. DrawsRows drew.former s j 1 0 cur mid) (sym first) drew.drawn)
+      pushed_over drew.former drew.width (unknown_first drew.former cur drew.unknown)
+      (subst (λ j. DrawsRows drew.former s j 1 0 cur mid) (sym first) drew.drawn)
       _ (omega (arith, drew.width, none, whole)) (λ narrow. writes_rows drew.drawn)
 
   -- any further one, over the row that is blank then
-  pub pushed_next : {m : ℕ} (blank : BufferData) → IsBlankFor m s blank → 0 < k → DrawsRows blank s k 1 0 cur mid → HasPushed s (k + 1) old new
+  pub pushed_next : {m : ℕ} (blank : BufferData) → IsBlankFor m s blank → 0 < k → DrawsRows blank s k 1 0 cur mid
+      → HasPushed s (k + 1) old new
   pushed_next blank is more drew =
       let same : min (k + 1) 1 ≡ min k 1 = omega arith in
       pushed_over blank is.width (blank_first blank 1 0 cur is.empty (sym is.width ∙ fit_now.width) (before.blank more)) drew
       _ (omega (arith, ap (λ m. m * s.area.width) same)) (writes_nonempty drew is.width is.empty)
 
 -- rows drawn over blank ones
-blank_shown : (s : BufferData) (i n y : ℕ) (old new : Screen) → RowsFit s n y old → i + n ≤ s.area.height → IsSettledBuffer s → y + n ≤ 65535
-    → {m : ℕ} (blank : BufferData) → IsBlankFor m s blank → DrawsRows blank s i n y old new → IsBlankAt n y old → ShowsRows s i n y old new
+blank_shown : (s : BufferData) (i n y : ℕ) (old new : Screen) → RowsFit s n y old → i + n ≤ s.area.height → IsSettledBuffer s
+    → y + n ≤ 65535
+    → {m : ℕ} (blank : BufferData) → IsBlankFor m s blank → DrawsRows blank s i n y old new → IsBlankAt n y old
+    → ShowsRows s i n y old new
 blank_shown s i n y old new fit inside settled small blank is drew empty = rows_shown blank s is.width i n y small drew (record {
   fit = fit;
   inside = inside;
@@ -104,8 +128,10 @@ blank_shown s i n y old new fit inside settled small blank is drew empty = rows_
 })
 
 -- the rows above row d scrolled up by t, and t rows more drawn above it
-module _ (s : BufferData) (i n j d t : ℕ) (old cur mid new : Screen) (j_is : j ≡ i + n) (before : HasRaised s i n d old cur) (width : s.area.width ≡ old.width) (fits : d ≤ old.height) (settled : IsSettledBuffer s)
-    (inside : j + t ≤ s.area.height) (some : 0 < d) (le : t ≤ d) (up : ScrollsUp 0 d t cur mid) {m : ℕ} (blank : BufferData) (is : IsBlankFor m s blank) (small : d ≤ 65535) (drew : DrawsRows blank s j t (d - t) mid new) where
+module _ (s : BufferData) (i n j d t : ℕ) (old cur mid new : Screen) (j_is : j ≡ i + n) (before : HasRaised s i n d old cur)
+    (width : s.area.width ≡ old.width) (fits : d ≤ old.height) (settled : IsSettledBuffer s)
+    (inside : j + t ≤ s.area.height) (some : 0 < d) (le : t ≤ d) (up : ScrollsUp 0 d t cur mid) {m : ℕ} (blank : BufferData)
+    (is : IsBlankFor m s blank) (small : d ≤ 65535) (drew : DrawsRows blank s j t (d - t) mid new) where
   high : d ≤ cur.height
   high = omega (arith, fits, before.shape.height)
 
@@ -131,14 +157,19 @@ module _ (s : BufferData) (i n j d t : ℕ) (old cur mid new : Screen) (j_is : j
         ∙ below_scrolled some high up a b (omega (arith, before.shape.width)) (omega (arith, before.shape.height)) low
         ∙ before.below a b a_in b_in low;
     few = λ narrow.
-        let parts : nonempty_cells s i (n + t) ≡ nonempty_cells s i n + nonempty_cells s j t = nonempty_parts s i n t ∙ ap (λ e. nonempty_cells s i n + nonempty_cells s e t) (sym j_is) in
-        writes_then _ _ _ old cur new (omega (arith, parts)) (before.few narrow) (writes_after _ cur mid new up.written (writes_nonempty drew is.width is.empty narrow));
-    most = writes_then _ _ _ old cur new (omega arith) before.most (writes_after _ cur mid new up.written (subst (λ w. WritesAtMost (w * t) mid new) (sym is.width) (writes_rows drew)));
+        let parts : nonempty_cells s i (n + t) ≡ nonempty_cells s i n + nonempty_cells s j t = nonempty_parts s i n t
+        ∙ ap (λ e. nonempty_cells s i n + nonempty_cells s e t) (sym j_is) in
+        writes_then _ _ _ old cur new (omega (arith, parts)) (before.few narrow)
+        (writes_after _ cur mid new up.written (writes_nonempty drew is.width is.empty narrow));
+    most = writes_then _ _ _ old cur new (omega arith) before.most
+        (writes_after _ cur mid new up.written (subst (λ w. WritesAtMost (w * t) mid new) (sym is.width) (writes_rows drew)));
   })
 
 -- a viewport's rows moved down by n, and n rows drawn where it stood
-module _ (s : BufferData) (n : ℕ) (r : Rect) (old mid new : Screen) (width : s.area.width ≡ old.width) (fits : r.y + n + r.height ≤ old.height) (settled : IsSettledBuffer s)
-    (inside : n ≤ s.area.height) (down : ScrollsDown r.y (r.y + r.height + n) n old mid) {m : ℕ} (blank : BufferData) (is : IsBlankFor m s blank) (small : r.y + n ≤ 65535) (drew : DrawsRows blank s 0 n r.y mid new) where
+module _ (s : BufferData) (n : ℕ) (r : Rect) (old mid new : Screen) (width : s.area.width ≡ old.width)
+    (fits : r.y + n + r.height ≤ old.height) (settled : IsSettledBuffer s)
+    (inside : n ≤ s.area.height) (down : ScrollsDown r.y (r.y + r.height + n) n old mid) {m : ℕ} (blank : BufferData)
+    (is : IsBlankFor m s blank) (small : r.y + n ≤ 65535) (drew : DrawsRows blank s 0 n r.y mid new) where
   fit_mid : RowsFit s n r.y mid
   fit_mid = record { width = width ∙ sym down.width; bottom = omega (arith, down.height) }
 
@@ -148,9 +179,14 @@ module _ (s : BufferData) (n : ℕ) (r : Rect) (old mid new : Screen) (width : s
 
   pub lowered_rows : HasLowered s n r old new
   lowered_rows = record {
-    shape = record { width = drawn.width ∙ down.width; height = drawn.height ∙ down.height; visible = drawn.visible ∙ down.visible };
+    shape = record {
+      width = drawn.width ∙ down.width;
+      height = drawn.height ∙ down.height;
+      visible = drawn.visible ∙ down.visible;
+    };
     above = rw (above_same old mid r.y down.history down.width down.height (above_lowered down)) at (above_grown drawn fit_mid);
-    moved = λ a b a_in b_in. drawn.outside a (r.y + n + b) (inr (omega arith)) ∙ moved_lowered down (omega arith) a b a_in (omega arith);
+    moved = λ a b a_in b_in. drawn.outside a (r.y + n + b) (inr (omega arith))
+        ∙ moved_lowered down (omega arith) a b a_in (omega arith);
     below = λ a b a_in b_in low. drawn.outside a b (inr (omega arith)) ∙ below_lowered down a b a_in b_in (omega arith);
     few = λ narrow. writes_after _ old mid new down.written (writes_nonempty drew is.width is.empty narrow);
     most = writes_after _ old mid new down.written (subst (λ w. WritesAtMost (w * n) mid new) (sym is.width) (writes_rows drew));

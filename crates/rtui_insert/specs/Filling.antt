@@ -10,11 +10,14 @@ pub record IsNewBuffer (area : Rect) (sheet : BufferData) : Type 0 where
   pub room : HasRoomFor area sheet
 
 -- f may be called on any such buffer
-abbrev pub AcceptsRows : {F R : Type 0} → Once F (MutBor BufferData × Unit {0}) (R × (MutBor BufferData × Unit {0})) → F → Rect → Type 0
+abbrev pub AcceptsRows : {F R : Type 0}
+    → Once F (MutBor BufferData × Unit {0}) (R × (MutBor BufferData × Unit {0})) → F → Rect → Type 0
 AcceptsRows once f area = (buffer : MutBor BufferData) → IsNewBuffer area buffer.now → once.pre f (buffer, tt)
 
 -- a call of f on such a buffer gave an answer and left this buffer
-pub record FillsRows {F R : Type 0} (once : Once F (MutBor BufferData × Unit {0}) (R × (MutBor BufferData × Unit {0}))) (f : F) (area : Rect) (answer : R) (filled : BufferData) : Type 0 where
+pub record FillsRows {F R : Type 0} (once : Once F (MutBor BufferData × Unit {0})
+    (R × (MutBor BufferData × Unit {0}))) (f : F) (area : Rect) (answer : R)
+    (filled : BufferData) : Type 0 where
   pub before : BufferData
   pub new_buffer : IsNewBuffer area before
   pub ran : FnOnceReturnsAtMut once f before answer filled

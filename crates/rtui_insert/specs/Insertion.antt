@@ -20,12 +20,14 @@ pub record AppendsPart (s : BufferData) (i n : ℕ) (old new : List (List Look))
 -- one row for each row of a buffer, in order, that agrees with it
 pub record AreRowsOf (sheet : BufferData) (rows : List (List Look)) : Type 0 where
   pub count : length rows ≡ sheet.area.height
-  pub agree : (b : ℕ) → b < sheet.area.height → RowAgrees sheet.area.width sheet.cells b (slice_index_or rows b [])
+  pub agree : (b : ℕ) → b < sheet.area.height
+      → RowAgrees sheet.area.width sheet.cells b (slice_index_or rows b [])
 
 -- the rows of these buffers, one buffer after the other
 abbrev pub AreRowsOfAll : List BufferData → List (List Look) → Type 0
 AreRowsOfAll [] rows = rows ≡ []
-AreRowsOfAll (sheet ∷ sheets) rows = (first : List (List Look)) × (rest : List (List Look)) × (rows ≡ first ++ rest) × AreRowsOf sheet first × AreRowsOfAll sheets rest
+AreRowsOfAll (sheet ∷ sheets) rows = (first : List (List Look)) × (rest : List (List Look))
+    × (rows ≡ first ++ rest) × AreRowsOf sheet first × AreRowsOfAll sheets rest
 
 -- exactly the rows of these buffers were appended, in order
 pub record AppendsRows (sheets : List BufferData) (old new : List (List Look)) : Type 0 where

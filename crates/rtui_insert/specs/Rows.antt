@@ -1,15 +1,19 @@
 -- Rows of a buffer, and what a drawing of them does to a screen.
-use Rattle.std.specs.Prelude.{◌≡◌, ℕ, ◌+◌, ◌-◌, ◌^◌, ◌<◌, ◌≤◌, min, true, false, ◌&&◌, Bool, not, List, map, count_by}
-use Rattle.rtui_cell.specs.{declared.cell.Cell.Cell, Cell.empty_cell, Cell.width_of, Cell.is_skipped, Equality.is_same, Look.empty_look, Grid.Update}
+use Rattle.std.specs.Prelude.{◌≡◌, ℕ, ◌+◌, ◌-◌, ◌^◌, ◌<◌, ◌≤◌, min, true, false, ◌&&◌, Bool, not, List, map}
+use Rattle.std.specs.Prelude.{count_by}
+use Rattle.rtui_cell.specs.{declared.cell.Cell.Cell, Cell.empty_cell, Cell.width_of, Cell.is_skipped}
+use Rattle.rtui_cell.specs.{Equality.is_same, Look.empty_look, Grid.Update}
 use Rattle.rtui_diff.specs.Cells.{is_always, cell, cell_at}
-use Rattle.rtui_buffer.specs.{BufferData.BufferData, BufferData.IsEmptied, RowsDiff.part_cells, RowsDiff.IsRowsDiff}
+use Rattle.rtui_buffer.specs.{BufferData.BufferData, BufferData.IsEmptied, RowsDiff.part_cells}
+use Rattle.rtui_buffer.specs.{RowsDiff.IsRowsDiff}
 use Rattle.rtui_backend.specs.Screen.{Screen, Draws}
 
 -- an update so many rows further down, at most in the last row that there can be
 abbrev pub lowered_update : ℕ → Update → Update
 lowered_update by u = record u { y = min (u.y + by) 65535 }
 
--- what differs from the first n rows of a former buffer to n rows of the next one, from row i on, was drawn at row y
+-- what differs from the first n rows of a former buffer to n rows of the next one, from row i on, was drawn
+-- at row y
 pub record DrawsRows (former next : BufferData) (i n y : ℕ) (old new : Screen) : Type 0 where
   pub updates : List Update
   pub diff : IsRowsDiff former 0 next i n updates

@@ -6,8 +6,10 @@ use Rattle.rtui_backend.specs.Screen.{Screen, rows_above}
 use Rattle.rtui_insert.specs.Rows.{RowsFit, IsBlankAt, IsNarrowBuffer, nonempty_cells, WritesAtMost}
 use Rattle.rtui_insert.specs.Insertion.{KeepsSizeAndVisibility, HasPlaceAbove, AppendsPart}
 
--- the first k rows of a buffer were scrolled off from the screen's first row, which is blank after them, and all rows below it are as before;
--- at most the cells of the rows were written, and of a narrow buffer at most one whole row and else what isn't blank
+-- the first k rows of a buffer were scrolled off from the screen's first row, which is blank after them, and
+-- all rows below it are as before;
+-- at most the cells of the rows were written, and of a narrow buffer at most one whole row and else what
+-- isn't blank
 pub record HasPushed (s : BufferData) (k : ℕ) (old new : Screen) : Type 0 where
   pub shape : KeepsSizeAndVisibility old new
   pub above : AppendsPart s 0 k (rows_above old 0) (rows_above new 0)
@@ -16,8 +18,8 @@ pub record HasPushed (s : BufferData) (k : ℕ) (old new : Screen) : Type 0 wher
   pub few : IsNarrowBuffer s → WritesAtMost (min k 1 * s.area.width + nonempty_cells s 0 k) old new
   pub most : WritesAtMost (s.area.width * k) old new
 
--- n rows of a buffer, from row i on, came to those above row d, and the screen's rows from row d on are as before; at most the rows' cells were
--- written, and of a narrow buffer what isn't blank
+-- n rows of a buffer, from row i on, came to those above row d, and the screen's rows from row d on are as
+-- before; at most the rows' cells were written, and of a narrow buffer what isn't blank
 pub record HasRaised (s : BufferData) (i n d : ℕ) (old new : Screen) : Type 0 where
   pub shape : KeepsSizeAndVisibility old new
   pub above : AppendsPart s i n (rows_above old d) (rows_above new d)
@@ -25,13 +27,14 @@ pub record HasRaised (s : BufferData) (i n d : ℕ) (old new : Screen) : Type 0 
   pub few : IsNarrowBuffer s → WritesAtMost (nonempty_cells s i n) old new
   pub most : WritesAtMost (s.area.width * n) old new
 
--- the first n rows of a buffer came in at a viewport's top, and its rows moved down by n; the rows below those are as before; at most
--- the rows' cells were written, and of a narrow buffer what isn't blank
+-- the first n rows of a buffer came in at a viewport's top, and its rows moved down by n; the rows below
+-- those are as before; at most the rows' cells were written, and of a narrow buffer what isn't blank
 pub record HasLowered (s : BufferData) (n : ℕ) (r : Rect) (old new : Screen) : Type 0 where
   pub shape : KeepsSizeAndVisibility old new
   pub above : AppendsPart s 0 n (rows_above old r.y) (rows_above new (r.y + n))
   pub moved : (a b : ℕ) → a < old.width → b < r.height → new.grid a (r.y + n + b) ≡ old.grid a (r.y + b)
-  pub below : (a b : ℕ) → a < old.width → b < old.height → r.y + n + r.height ≤ b → new.grid a b ≡ old.grid a b
+  pub below : (a b : ℕ) → a < old.width → b < old.height → r.y + n + r.height ≤ b
+      → new.grid a b ≡ old.grid a b
   pub few : IsNarrowBuffer s → WritesAtMost (nonempty_cells s 0 n) old new
   pub most : WritesAtMost (s.area.width * n) old new
 
@@ -49,4 +52,5 @@ InsertsDown s r h old new n = HasPlaceAbove s r h old → IsSettledBuffer s → 
 
 -- the rows of a settled buffer from row i on came to those above row d
 abbrev pub InsertsUp : BufferData → ℕ → ℕ → Screen → Screen → Type 0
-InsertsUp s i d old new = s.area.width ≡ old.width → d ≤ old.height → IsSettledBuffer s → HasRaised s i (s.area.height - i) d old new
+InsertsUp s i d old new = s.area.width ≡ old.width → d ≤ old.height → IsSettledBuffer s
+    → HasRaised s i (s.area.height - i) d old new

@@ -2,7 +2,8 @@
 use Rattle.std.specs.Prelude.{ℕ, List, ◌++◌, codes, ⊤}
 use Rattle.std.specs.Fmt.{decimal}
 use Rattle.rtui_layout.specs.declared.constraint.Constraint.{Constraint}
-use Rattle.rtui_layout.specs.declared.constraint.Constraint.TheVariants.{Min, Max, Length, Percentage, Ratio, Fill}
+use Rattle.rtui_layout.specs.declared.constraint.Constraint.TheVariants.{Min, Max, Length, Percentage, Ratio}
+use Rattle.rtui_layout.specs.declared.constraint.Constraint.TheVariants.{Fill}
 
 abbrev pub IsMin : Constraint → Type 0
 IsMin (Min n) = ⊤

@@ -1,8 +1,10 @@
 -- What a layout is.
 use Rattle.std.specs.Prelude.{List, []}
 use Rattle.rtui_geometry.specs.declared.margin.Margin.{Margin}
-use Rattle.rtui_layout.specs.{declared.constraint.Constraint.Constraint, declared.direction.Direction.Direction}
-use Rattle.rtui_layout.specs.{declared.direction.Direction.TheVariants.Vertical, declared.flex.Flex.Flex, declared.layout.Spacing.Spacing}
+use Rattle.rtui_layout.specs.{declared.constraint.Constraint.Constraint}
+use Rattle.rtui_layout.specs.{declared.direction.Direction.Direction}
+use Rattle.rtui_layout.specs.{declared.direction.Direction.TheVariants.Vertical, declared.flex.Flex.Flex}
+use Rattle.rtui_layout.specs.{declared.layout.Spacing.Spacing}
 use Rattle.rtui_layout.specs.declared.flex.Flex.TheVariants as flex
 use Rattle.rtui_layout.specs.declared.layout.Spacing.TheVariants.{Space}
 

@@ -1,10 +1,12 @@
 -- Variants by their names.
 use Rattle.std.specs.Prelude.{◌≡◌, ◌≢◌, ℕ, List, Result, Ok, MatchResult, codes}
-use Rattle.rtui_layout.specs.{declared.alignment.HorizontalAlignment.HorizontalAlignment, declared.alignment.VerticalAlignment.VerticalAlignment}
+use Rattle.rtui_layout.specs.{declared.alignment.HorizontalAlignment.HorizontalAlignment}
+use Rattle.rtui_layout.specs.{declared.alignment.VerticalAlignment.VerticalAlignment}
 use Rattle.rtui_layout.specs.declared.alignment.HorizontalAlignment.TheVariants as horizontal
 use Rattle.rtui_layout.specs.declared.alignment.VerticalAlignment.TheVariants as vertical
 use Rattle.rtui_layout.specs.declared.direction.Direction.{Direction}
-use Rattle.rtui_layout.specs.{declared.direction.Direction.TheVariants.Horizontal, declared.direction.Direction.TheVariants.Vertical, declared.flex.Flex.Flex}
+use Rattle.rtui_layout.specs.{declared.direction.Direction.TheVariants.Horizontal}
+use Rattle.rtui_layout.specs.{declared.direction.Direction.TheVariants.Vertical, declared.flex.Flex.Flex}
 use Rattle.rtui_layout.specs.declared.flex.Flex.TheVariants as flex
 use Rattle.rtui_layout.specs.declared.parse_error.ParseError.{ParseError}
 

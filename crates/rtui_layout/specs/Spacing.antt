@@ -1,6 +1,7 @@
 -- Signed numbers as space or overlap.
 use Rattle.std.specs.Prelude.{ℤ, pos, negsuc, ◌+◌, min}
-use Rattle.rtui_layout.specs.{declared.layout.Spacing.Spacing, declared.layout.Spacing.TheVariants.Space, declared.layout.Spacing.TheVariants.Overlap}
+use Rattle.rtui_layout.specs.{declared.layout.Spacing.Spacing, declared.layout.Spacing.TheVariants.Space}
+use Rattle.rtui_layout.specs.{declared.layout.Spacing.TheVariants.Overlap}
 
 -- space, or below 0 an overlap of as much
 abbrev pub spacing_from : ℤ → Spacing

@@ -1,5 +1,6 @@
 ghost use Rattle.std.specs.Prelude.{◌≡◌, ◌↔◌, [], map, IsTrue, IfOk, IsOk, Some};
-ghost use Rattle.rtui_layout.specs.Constraint.{IsMin, IsMax, IsLength, IsPercentage, IsRatio, IsFill, constraint_text};
+ghost use Rattle.rtui_layout.specs.Constraint.{IsMin, IsMax, IsLength, IsPercentage, IsRatio, IsFill};
+ghost use Rattle.rtui_layout.specs.Constraint.{constraint_text};
 
 use std::alloc::{AllocError, Global};
 use std::convert::AsRef;

@@ -1,6 +1,7 @@
 //! Facts about the definitions that no single call states.
 ghost use Rattle.std.specs.Prelude.{◌≡◌};
-ghost use Rattle.rtui_layout.specs.Names.{ReadsBack, direction_name, horizontal_name, vertical_name, flex_name};
+ghost use Rattle.rtui_layout.specs.Names.{ReadsBack, direction_name, horizontal_name, vertical_name};
+ghost use Rattle.rtui_layout.specs.Names.{flex_name};
 
 use crate::alignment::{HorizontalAlignment, VerticalAlignment};
 use crate::direction::Direction;

@@ -6,7 +6,8 @@ use Rattle.ratatui_core.proofs.WidgetLemmas.{OnPart-clipped}
 use Rattle.rtui_boxes.specs.Boxes.{IsBoxArea}
 use Rattle.rtui_boxes.specs.Framed.{inner_if, IsFramed, IsBare, IsInner}
 use Rattle.rtui_boxes.proofs.FrameLemmas.{frame-within, inner-within}
-use Rattle.rtui_list.specs.{declared.list.List.List as ListData, declared.state.ListState.ListState, Items.ShowsList, Items.ListInFrame, Items.RendersList}
+use Rattle.rtui_list.specs.{declared.list.List.List as ListData, declared.state.ListState.ListState, Items.ShowsList}
+use Rattle.rtui_list.specs.{Items.ListInFrame, Items.RendersList}
 
 clip-some : (area own part : Rect) → IsClipped area own part → IsBare (intersected area own) → ⊥
 clip-some area own part clip bare =
@@ -16,7 +17,8 @@ clip-some area own part clip bare =
     ⊎_elim (λ (e : (intersected area own).width ≡ 0). omega arith) (λ (e : (intersected area own).height ≡ 0). omega arith) bare
 
 -- a list over the part of an area, with its style and its box
-module _ (l : ListData) (s : ListState) (area part : Rect) (old framed : BufferData) (clip : IsClipped area old.area part) (within : ChangesWithin part old framed) (frame : IsFramed l.style l.block part old framed) where
+module _ (l : ListData) (s : ListState) (area part : Rect) (old framed : BufferData) (clip : IsClipped area old.area part)
+    (within : ChangesWithin part old framed) (frame : IsFramed l.style l.block part old framed) where
   pub list-bare : IsBare (inner_if l.block part) → RendersList l s s area old framed
   list-bare bare = record {
     within = frame-within l.style l.block (λ r a b. b ≡ a) area part old framed clip within;
@@ -25,20 +27,25 @@ module _ (l : ListData) (s : ListState) (area part : Rect) (old framed : BufferD
       framed = framed;
       frame = frame;
       none = λ _. (refl, refl);
-      inside = λ wide high. ⊎_elim (λ (e : (inner_if l.block part).width ≡ 0). absurd (omega arith)) (λ (e : (inner_if l.block part).height ≡ 0). absurd (omega arith)) bare;
+      inside = λ wide high. ⊎_elim (λ (e : (inner_if l.block part).width ≡ 0). absurd (omega arith))
+          (λ (e : (inner_if l.block part).height ≡ 0). absurd (omega arith)) bare;
     });
   }
 
-  pub list-within : (inner : Rect) (new : BufferData) → IsInner l.block part inner → ChangesWithin inner framed new → ChangesWithin area old new
+  pub list-within : (inner : Rect) (new : BufferData) → IsInner l.block part inner → ChangesWithin inner framed new
+      → ChangesWithin area old new
   list-within inner new is done = inner-within l.style l.block (λ r a b. b ≡ a) area part old framed clip within inner new is done
 
   some-inside : (inner : Rect) → IsInner l.block part inner → IsBare (inner_if l.block part) → ⊥
   some-inside inner is bare =
       let some : IsBoxArea (inner_if l.block part) = subst IsBoxArea is.value is.some in
       let wide = some.columns in let high = some.rows in
-      ⊎_elim (λ (e : (inner_if l.block part).width ≡ 0). omega arith) (λ (e : (inner_if l.block part).height ≡ 0). omega arith) bare
+      ⊎_elim (λ (e : (inner_if l.block part).width ≡ 0). omega arith)
+      (λ (e : (inner_if l.block part).height ≡ 0). omega arith) bare
 
-  pub list-some : {A : Type 0} (r : Result A AllocError) (t : ListState) (inner : Rect) (new : BufferData) → IsInner l.block part inner → ChangesWithin inner framed new → OnOk r (ShowsList l s t inner framed new) → OnOk r (RendersList l s t area old new)
+  pub list-some : {A : Type 0} (r : Result A AllocError) (t : ListState) (inner : Rect) (new : BufferData)
+      → IsInner l.block part inner → ChangesWithin inner framed new → OnOk r (ShowsList l s t inner framed new)
+      → OnOk r (RendersList l s t area old new)
   list-some (Ok x) t inner new is done shown = record {
     within = list-within inner new is done;
     no_part = λ none. absurd (clip-some area old.area part clip none);

@@ -1,13 +1,19 @@
 -- A list of narrow texts keeps cells plain.
-use Rattle.std.proofs.Common.{◌≡◌, ℕ, zero, suc, ◌+◌, ◌<◌, ◌≤◌, ◌⊎◌, ⊎_elim, inl, inr, Bool, true, false, if◌then◌else◌, List, [], ◌∷◌, length, slice_index_or, All, refl, ap, ◌∙◌, arith, codes, is_some}
+use Rattle.std.proofs.Common.{◌≡◌, ℕ, zero, suc, ◌+◌, ◌<◌, ◌≤◌, ◌⊎◌, ⊎_elim, inl, inr, Bool, true, false, if◌then◌else◌, List, []}
+use Rattle.std.proofs.Common.{◌∷◌, length, slice_index_or, All, refl, ap, ◌∙◌, arith, codes, is_some}
 use Rattle.std.proofs.lemmas.{Bool.cases_lt, List.Elements.All-nil, List.Elements.All-head, List.Elements.All-tail}
 use Rattle.ratatui_core.specs.{Layout.Rect, Layout.intersected, Layout.corner, Style.Style, Style.patch}
-use Rattle.ratatui_core.specs.Buffer.{BufferData, Cell, with_symbol, width_of, text_width, pieces_at, IsStyled, IsPlain, IsPlainOver, IsPlainFrom, IsNarrowLine, IsNarrowText, HasNarrowGraphemes}
-use Rattle.ratatui_core.proofs.BufferLemmas.{width-empty, plain-styled, text-plain, pieces-narrow, pieces-plain, changed-plain, styled-plain, parts-plain, over-all, from-over}
+use Rattle.ratatui_core.specs.Buffer.{BufferData, Cell, with_symbol, width_of, text_width, pieces_at, IsStyled, IsPlain}
+use Rattle.ratatui_core.specs.Buffer.{IsPlainOver, IsPlainFrom, IsNarrowLine, IsNarrowText, HasNarrowGraphemes}
+use Rattle.ratatui_core.proofs.BufferLemmas.{width-empty, plain-styled, text-plain, pieces-narrow, pieces-plain, changed-plain}
+use Rattle.ratatui_core.proofs.BufferLemmas.{styled-plain, parts-plain, over-all, from-over}
 use Rattle.rtui_boxes.specs.{Boxes.IsPlainIfBox, Framed.inner_if, Framed.IsBare}
 use Rattle.rtui_boxes.proofs.InnerLemmas.{plain-framed}
-use Rattle.rtui_list.specs.{declared.list.List.List as ListData, declared.item.ListItem.ListItem, declared.state.ListState.ListState}
-use Rattle.rtui_list.specs.Items.{mark_width, without_columns, part_row, with_blank, MarksRow, MarksRows, is_marked, If, RendersItem, nth_item, part_of_item, shown_as, is_selected_at, has_mark_columns, HasNarrowItems, ShowsList, RendersList}
+use Rattle.rtui_list.specs.{declared.list.List.List as ListData, declared.item.ListItem.ListItem}
+use Rattle.rtui_list.specs.{declared.state.ListState.ListState}
+use Rattle.rtui_list.specs.Items.{mark_width, without_columns, part_row, with_blank, MarksRow, MarksRows, is_marked, If}
+use Rattle.rtui_list.specs.Items.{RendersItem, nth_item, part_of_item, shown_as, is_selected_at, has_mark_columns, HasNarrowItems}
+use Rattle.rtui_list.specs.Items.{ShowsList, RendersList}
 
 blank-one : text_width (codes " ") ≡ 1
 unfolding width_of
@@ -17,72 +23,96 @@ plain-blank : (style : Style) (c : Cell) → IsPlain c → IsPlain (with_blank s
 unfolding width_of
 plain-blank style c is =
     let e = is.unmarked.option in
-    plain-styled style (with_symbol (codes " ") c) (record { narrow = rw (e, blank-one) (omega arith); unmarked = record { option = is.unmarked.option; flag = is.unmarked.flag } })
+    plain-styled style (with_symbol (codes " ") c) (record {
+      narrow = rw (e, blank-one) (omega arith);
+      unmarked = record { option = is.unmarked.option; flag = is.unmarked.flag };
+    })
 
 -- what keeps an area plain
 abbrev StaysPlain : Rect → BufferData → BufferData → Type 0
 StaysPlain r old new = (new.area ≡ old.area) × IsPlainOver r new
 
-mark-plain : (symbol : List ℕ) (style : Style) (t : Bool) (row r : Rect) (old new : BufferData) → HasNarrowGraphemes symbol → IsPlainOver r old → MarksRow symbol style t row old new → StaysPlain r old new
-mark-plain symbol style true row r old new narrow plain is =
-    (is.area, pieces-plain (corner row) (pieces_at old.area row.x row.width style symbol) r old new (pieces-narrow old.area row.x row.width style symbol narrow) plain is)
-mark-plain symbol style false row r old new narrow plain is =
-    (is.area, changed-plain (record row { width = mark_width symbol row }) r (λ _. with_blank style) old new (λ p c cell. plain-blank style c cell) plain is)
+mark-plain : (symbol : List ℕ) (style : Style) (t : Bool) (row r : Rect) (old new : BufferData) → HasNarrowGraphemes symbol
+    → IsPlainOver r old → MarksRow symbol style t row old new → StaysPlain r old new
+mark-plain symbol style true row r old new narrow plain is = (
+  is.area,
+  pieces-plain (corner row) (pieces_at old.area row.x row.width style symbol) r old new
+      (pieces-narrow old.area row.x row.width style symbol narrow) plain is,
+)
+mark-plain symbol style false row r old new narrow plain is = (
+  is.area,
+  changed-plain (record row { width = mark_width symbol row }) r (λ _. with_blank style) old new
+      (λ p c cell. plain-blank style c cell) plain is,
+)
 
 module _ (l : ListData) (narrow : HasNarrowItems l) (r : Rect) where
-  marks-plain : (is_selected : Bool) (style : Style) (old new : BufferData) → IsPlainOver r old → MarksRows l is_selected style r old new → StaysPlain r old new
+  marks-plain : (is_selected : Bool) (style : Style) (old new : BufferData) → IsPlainOver r old
+      → MarksRows l is_selected style r old new → StaysPlain r old new
   marks-plain is_selected style old new plain is = (
     is.area,
-    parts-plain r.height (part_row r) (λ j. MarksRow l.highlight_symbol.now style (is_marked l is_selected j) (part_row r j)) r old new is
-        (λ k lt p in_own h. let left = h.left in let right = h.right in let top = h.top in let bottom = h.bottom in record { left = left; right = right; top = omega arith; bottom = omega arith })
-        (λ k lt before after same made was. mark-plain l.highlight_symbol.now style (is_marked l is_selected k) (part_row r k) (part_row r k) before after narrow.symbol was made) plain,
+    parts-plain r.height (part_row r) (λ j. MarksRow l.highlight_symbol.now style (is_marked l is_selected j)
+        (part_row r j)) r old new is
+        (λ k lt p in_own h. let left = h.left in let right = h.right in let top = h.top in let bottom = h.bottom in
+        record { left = left; right = right; top = omega arith; bottom = omega arith })
+        (λ k lt before after same made was. mark-plain l.highlight_symbol.now style (is_marked l is_selected k) (part_row r k)
+        (part_row r k) before after narrow.symbol was made) plain,
   )
 
-  marks-if : (t is_selected : Bool) (style : Style) (old new : BufferData) → IsPlainOver r old → If t (MarksRows l is_selected style r) old new → StaysPlain r old new
+  marks-if : (t is_selected : Bool) (style : Style) (old new : BufferData) → IsPlainOver r old
+      → If t (MarksRows l is_selected style r) old new → StaysPlain r old new
   marks-if true is_selected style old new plain is = marks-plain is_selected style old new plain is
   marks-if false is_selected style old new plain same = (ap (λ s. s.area) same, rw same plain)
 
-  styled-if : (t : Bool) (style : Style) (old new : BufferData) → IsPlainOver r old → If t (IsStyled r style) old new → StaysPlain r old new
+  styled-if : (t : Bool) (style : Style) (old new : BufferData) → IsPlainOver r old → If t (IsStyled r style) old new
+      → StaysPlain r old new
   styled-if true style old new plain is = (is.area, styled-plain r r style old new plain is)
   styled-if false style old new plain same = (ap (λ s. s.area) same, rw same plain)
 
-  item-plain : (i : ListItem) (is_selected has_columns : Bool) (old new : BufferData) → IsNarrowText i.content → IsPlainOver r old → RendersItem l i is_selected has_columns r old new → StaysPlain r old new
+  item-plain : (i : ListItem) (is_selected has_columns : Bool) (old new : BufferData) → IsNarrowText i.content → IsPlainOver r old
+      → RendersItem l i is_selected has_columns r old new → StaysPlain r old new
   item-plain i is_selected has_columns old new texts plain is =
       let n = if has_columns then mark_width l.highlight_symbol.now r else 0 in
       let laid = styled-plain r r (patch l.style i.style) old is.laid plain is.style in
       let text = text-plain (without_columns n r) r is.laid is.texted
-      (λ p in_own h. let left = h.left in let right = h.right in let top = h.top in let bottom = h.bottom in record { left = omega arith; right = omega arith; top = top; bottom = bottom })
+      (λ p in_own h. let left = h.left in let right = h.right in let top = h.top in let bottom = h.bottom in
+      record { left = omega arith; right = omega arith; top = top; bottom = bottom })
       laid i.content texts is.text in
       let marks = marks-if has_columns is_selected (patch l.style i.style) is.texted is.marked text is.marks in
       let last = styled-if is_selected l.highlight_style is.marked new marks.1 is.highlight in
       (last.0 ∙ marks.0 ∙ is.text.within.same_area ∙ is.style.area, last.1)
 
 -- each item is narrow, and so is one that isn't there
-nth-narrow : (items : List ListItem) (k : ℕ) (d : ListItem) → IsNarrowText d.content → All (λ (item : ListItem). IsNarrowText item.content) items → IsNarrowText (slice_index_or items k d).content
+nth-narrow : (items : List ListItem) (k : ℕ) (d : ListItem) → IsNarrowText d.content
+    → All (λ (item : ListItem). IsNarrowText item.content) items → IsNarrowText (slice_index_or items k d).content
 nth-narrow [] k d none all = none
 nth-narrow (item ∷ items) zero d none all = All-head (λ (item : ListItem). IsNarrowText item.content) item items all
-nth-narrow (item ∷ items) (suc k) d none all = nth-narrow items k d none (All-tail (λ (item : ListItem). IsNarrowText item.content) item items all)
+nth-narrow (item ∷ items) (suc k) d none all =
+    nth-narrow items k d none (All-tail (λ (item : ListItem). IsNarrowText item.content) item items all)
 
 empty-list : (items : List ListItem) → length items ≤ 0 → items ≡ []
 empty-list [] le = refl
 empty-list (item ∷ items) le = absurd (omega arith)
 
 -- the items of a list
-shown-plain : (l : ListData) (s t : ListState) (r : Rect) (old new : BufferData) → HasNarrowItems l → IsPlainFrom 0 old → ShowsList l s t r old new → IsPlainFrom 0 new
+shown-plain : (l : ListData) (s t : ListState) (r : Rect) (old new : BufferData) → HasNarrowItems l → IsPlainFrom 0 old
+    → ShowsList l s t r old new → IsPlainFrom 0 new
 shown-plain l s t r old new narrow plain is =
     ⊎_elim
     (λ (some : 0 < length l.items.items).
     let shown = is.shown some in
     from-over old new shown.area
-    (parts-plain is.count (part_of_item l r t.offset) (shown_as l t.selected t.offset r) old.area old new shown (λ k lt p in_own h. in_own)
+    (parts-plain is.count (part_of_item l r t.offset) (shown_as l t.selected t.offset r) old.area old new shown
+    (λ k lt p in_own h. in_own)
     (λ k lt before after same made was.
-    item-plain l narrow (part_of_item l r t.offset k) (nth_item l (t.offset + k)) (is_selected_at t.selected (t.offset + k)) (has_mark_columns l.highlight_spacing (is_some t.selected)) before after
+    item-plain l narrow (part_of_item l r t.offset k) (nth_item l (t.offset + k)) (is_selected_at t.selected (t.offset + k))
+    (has_mark_columns l.highlight_spacing (is_some t.selected)) before after
     (nth-narrow l.items.items (t.offset + k) _ (All-nil IsNarrowLine) narrow.items) was made)
     (over-all old plain)))
     (λ (le : length l.items.items ≤ 0). rw (is.no_items (empty-list l.items.items le)).0 plain)
     (cases_lt 0 (length l.items.items))
 
-pub list-plain : (l : ListData) (s t : ListState) (area : Rect) (old new : BufferData) → IsPlainIfBox l.block → HasNarrowItems l → IsPlainFrom 0 old → RendersList l s t area old new → IsPlainFrom 0 new
+pub list-plain : (l : ListData) (s t : ListState) (area : Rect) (old new : BufferData) → IsPlainIfBox l.block → HasNarrowItems l
+    → IsPlainFrom 0 old → RendersList l s t area old new → IsPlainFrom 0 new
 list-plain l s t area old new box narrow plain is =
     let part = intersected area old.area in
     let nothing : (part.width ≡ 0) ⊎ (part.height ≡ 0) → IsPlainFrom 0 new = λ none. rw (is.parts.nothing none) plain in
@@ -92,11 +122,13 @@ list-plain l s t area old new box narrow plain is =
     let bare : IsBare (inner_if l.block part) → IsPlainFrom 0 new = λ none. rw (there.none none).0 framed in
     ⊎_elim
     (λ (wide : 0 < (inner_if l.block part).width).
-    ⊎_elim (λ (high : 0 < (inner_if l.block part).height). shown-plain l s t (inner_if l.block part) there.framed new narrow framed (there.inside wide high)) (λ (le : (inner_if l.block part).height ≤ 0). bare (inr (omega arith)))
+    ⊎_elim (λ (high : 0 < (inner_if l.block part).height). shown-plain l s t (inner_if l.block part) there.framed new narrow
+    framed (there.inside wide high)) (λ (le : (inner_if l.block part).height ≤ 0). bare (inr (omega arith)))
     (cases_lt 0 (inner_if l.block part).height))
     (λ (le : (inner_if l.block part).width ≤ 0). bare (inl (omega arith)))
     (cases_lt 0 (inner_if l.block part).width) in
     ⊎_elim
-    (λ (w : 0 < part.width). ⊎_elim (λ (h : 0 < part.height). some w h) (λ (le : part.height ≤ 0). nothing (inr (omega arith))) (cases_lt 0 part.height))
+    (λ (w : 0 < part.width). ⊎_elim (λ (h : 0 < part.height). some w h) (λ (le : part.height ≤ 0). nothing (inr (omega arith)))
+    (cases_lt 0 part.height))
     (λ (le : part.width ≤ 0). nothing (inl (omega arith)))
     (cases_lt 0 part.width)

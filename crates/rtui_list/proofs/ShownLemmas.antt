@@ -1,9 +1,12 @@
 -- The selected item is one of those that are shown.
-use Rattle.std.proofs.Common.{◌≡◌, ℕ, zero, suc, ◌+◌, ◌-◌, ◌<◌, ◌≤◌, ⊎_elim, inl, inr, min, List, [], ◌∷◌, length, Option, Some, None, refl, sym, ap, ◌∙◌, arith}
+use Rattle.std.proofs.Common.{◌≡◌, ℕ, zero, suc, ◌+◌, ◌-◌, ◌<◌, ◌≤◌, ⊎_elim, inl, inr, min, List, [], ◌∷◌, length, Option, Some}
+use Rattle.std.proofs.Common.{None, refl, sym, ap, ◌∙◌, arith}
 use Rattle.std.proofs.lemmas.Bool.{cases_lt}
 use Rattle.ratatui_core.specs.{Layout.Rect, Buffer.BufferData}
-use Rattle.rtui_list.specs.{declared.item.ListItem.ListItem, declared.list.List.List as ListData, declared.state.ListState.ListState}
-use Rattle.rtui_list.specs.Windows.{rows_before, Fit, IsCount, IsPadding, IsScrolled, KeepsInView, first_kept, last_kept, last_item}
+use Rattle.rtui_list.specs.{declared.item.ListItem.ListItem, declared.list.List.List as ListData}
+use Rattle.rtui_list.specs.{declared.state.ListState.ListState}
+use Rattle.rtui_list.specs.Windows.{rows_before, Fit, IsCount, IsPadding, IsScrolled, KeepsInView, first_kept, last_kept}
+use Rattle.rtui_list.specs.Windows.{last_item}
 use Rattle.rtui_list.specs.Items.{ShowsList, at_most}
 use Rattle.rtui_list.proofs.WindowLemmas.{rows-grow}
 
@@ -28,11 +31,13 @@ module _ (items : List ListItem) (height selected first last was begins : ℕ) (
       (λ (late : selected < begins).
       ⊎_elim
       (λ (here : selected < was). let le = rows-grow items first was (omega arith) in omega arith)
-      (λ (there : was ≤ selected). let no = is.nearest selected there late in let le = rows-grow items first selected before in omega arith)
+      (λ (there : was ≤ selected). let no = is.nearest selected there late in let le = rows-grow items first selected before in
+      omega arith)
       (cases_lt selected was))
       (λ (least : begins ≤ selected). least)
       (cases_lt selected begins))
-      (λ (is_fit : rows_before items (last + 1) ≤ rows_before items was + height). let e = scrolled.up (inr is_fit) in omega arith)
+      (λ (is_fit : rows_before items (last + 1) ≤ rows_before items was + height). let e = scrolled.up (inr is_fit) in
+      omega arith)
       (cases_lt (rows_before items was + height) (rows_before items (last + 1))))
       (cases_lt last was)
 
@@ -62,13 +67,16 @@ module _ (items : List ListItem) (height selected first last was begins : ℕ) (
         least,
         ⊎_elim (λ (shown : selected < begins + count). shown)
             (λ (no : begins + count ≤ selected).
-            let more = is.longest (omega arith) in let le = rows-grow items (begins + count + 1) (last + 1) (omega arith) in omega arith)
+            let more = is.longest (omega arith) in let le = rows-grow items (begins + count + 1) (last + 1) (omega arith) in
+            omega arith)
             (cases_lt selected (begins + count)),
       )
 
 -- the items that are kept in view around the selected one, if that fits by itself
-kept-around : (items : List ListItem) (height asked selected padding : ℕ) → selected < length items → Fit items height selected (selected + 1)
-    → IsPadding items height asked selected padding → IsAround items height selected (first_kept selected padding) (last_kept items selected padding)
+kept-around : (items : List ListItem) (height asked selected padding : ℕ) → selected < length items
+    → Fit items height selected (selected + 1)
+    → IsPadding items height asked selected padding → IsAround items height selected (first_kept selected padding)
+    (last_kept items selected padding)
 kept-around items height asked selected zero inside fit is =
     let last : min (selected + 0) (length items - 1) ≡ selected = omega arith in
     let first : selected - 0 ≡ selected = omega arith in
@@ -81,8 +89,10 @@ cut-least : (last : ℕ) (o : Option ℕ) (n : ℕ) → at_most last o ≡ Some 
 cut-least last None n e = absurd (cc)
 cut-least last (Some m) n e = let same : min m last ≡ n = cc in omega arith
 
-shows-selected : (items : List ListItem) (l : ListData) (s t : ListState) (r : Rect) (old new : BufferData) (selected : ℕ) → l.items.items ≡ items
-    → t.selected ≡ Some selected → 0 < length l.items.items → Fit l.items.items r.height selected (selected + 1) → (shows : ShowsList l s t r old new)
+shows-selected : (items : List ListItem) (l : ListData) (s t : ListState) (r : Rect) (old new : BufferData) (selected : ℕ)
+    → l.items.items ≡ items
+    → t.selected ≡ Some selected → 0 < length l.items.items → Fit l.items.items r.height selected (selected + 1)
+    → (shows : ShowsList l s t r old new)
     → (t.offset ≤ selected) × (selected < t.offset + shows.count)
 shows-selected items l s t r old new selected same chosen some fit shows =
     let least = cut-least (last_item l.items.items) s.selected selected (sym (shows.selected some) ∙ chosen) in
@@ -91,7 +101,8 @@ shows-selected items l s t r old new selected same chosen some fit shows =
     shown-from l.items.items r.height selected _ _ _ t.offset around keeps.scrolled shows.count (shows.is_count some)
 
 -- the selected item is shown, if it fits
-pub selected-shown : (l : ListData) (s t : ListState) (r : Rect) (old new : BufferData) (selected : ℕ) → t.selected ≡ Some selected
+pub selected-shown : (l : ListData) (s t : ListState) (r : Rect) (old new : BufferData) (selected : ℕ)
+    → t.selected ≡ Some selected
     → Fit l.items.items r.height selected (selected + 1) → (shows : ShowsList l s t r old new)
     → (t.offset ≤ selected) × (selected < t.offset + shows.count)
 selected-shown l s t r old new selected chosen fit shows = by-items l.items.items refl

@@ -1,7 +1,11 @@
 -- What a list makes of a buffer and of its state.
-use Rattle.std.specs.Prelude.{◌≡◌, ℕ, Bool, true, false, ◌+◌, ◌-◌, ◌<◌, ◌==◌, ◌&&◌, ◌||◌, min, List, [], length, codes, Option, Some, None, is_some, if◌then◌else◌, slice_index_or, All}
-use Rattle.ratatui_core.specs.{Layout.Rect, Layout.corner, Layout.intersected, Style.Style, Style.new_style, Style.patch, Text.text_of}
-use Rattle.ratatui_core.specs.Buffer.{BufferData, Cell, styled, with_symbol, pieces_at, text_columns, IsStyled, PaintsPieces, ChangesEach, MakesParts, HasShortGraphemes, HasNarrowGraphemes, IsNarrowText}
+use Rattle.std.specs.Prelude.{◌≡◌, ℕ, Bool, true, false, ◌+◌, ◌-◌, ◌<◌, ◌==◌, ◌&&◌, ◌||◌, min, List, []}
+use Rattle.std.specs.Prelude.{length, codes, Option, Some, None, is_some, if◌then◌else◌, slice_index_or, All}
+use Rattle.ratatui_core.specs.{Layout.Rect, Layout.corner, Layout.intersected, Style.Style, Style.new_style}
+use Rattle.ratatui_core.specs.{Style.patch, Text.text_of}
+use Rattle.ratatui_core.specs.Buffer.{BufferData, Cell, styled, with_symbol, pieces_at, text_columns}
+use Rattle.ratatui_core.specs.Buffer.{IsStyled, PaintsPieces, ChangesEach, MakesParts, HasShortGraphemes}
+use Rattle.ratatui_core.specs.Buffer.{HasNarrowGraphemes, IsNarrowText}
 use Rattle.ratatui_core.specs.Widgets.{RendersText, RendersShortText, ChangesWithin, OnPart}
 use Rattle.rtui_boxes.specs.Framed.{IsFramed, IsBare, IsShortFrame, inner_if}
 use Rattle.rtui_list.specs.{declared.list.List.List as ListData, declared.list.ListDirection.ListDirection}
@@ -52,8 +56,10 @@ with_blank style c = styled style (with_symbol (codes " ") c)
 
 -- in a row the symbol from its start on, or blanks in the symbol's columns
 abbrev pub MarksRow : List ℕ → Style → Bool → Rect → BufferData → BufferData → Type 0
-MarksRow symbol style true r old new = PaintsPieces (corner r) (pieces_at old.area r.x r.width style symbol) old new
-MarksRow symbol style false r old new = ChangesEach (record r { width = mark_width symbol r }) (λ _. with_blank style) old new
+MarksRow symbol style true r old new = PaintsPieces (corner r)
+    (pieces_at old.area r.x r.width style symbol) old new
+MarksRow symbol style false r old new = ChangesEach (record r { width = mark_width symbol r })
+    (λ _. with_blank style) old new
 
 -- the symbol stands in a row of an item: in the first one of the selected one, or in each
 abbrev pub is_marked : ListData → Bool → ℕ → Bool
@@ -61,20 +67,24 @@ is_marked l is_selected j = is_selected && ((j == 0) || l.repeat_highlight_symbo
 
 -- the symbol or blanks in each row of an item
 abbrev pub MarksRows : ListData → Bool → Style → Rect → BufferData → BufferData → Type 0
-MarksRows l is_selected style r = MakesParts r.height (part_row r) (λ j. MarksRow l.highlight_symbol.now style (is_marked l is_selected j) (part_row r j))
+MarksRows l is_selected style r = MakesParts r.height (part_row r)
+    (λ j. MarksRow l.highlight_symbol.now style (is_marked l is_selected j) (part_row r j))
 
 -- an effect, or none
 abbrev pub If : Bool → (BufferData → BufferData → Type 0) → BufferData → BufferData → Type 0
 If true f old new = f old new
 If false f old new = new ≡ old
 
--- An item over its part: its style over the list's, its text beside the symbol's columns, the symbol, and the highlight if it is selected.
-pub record RendersItem (l : ListData) (i : ListItem) (is_selected has_columns : Bool) (r : Rect) (old new : BufferData) : Type 0 where
+-- An item over its part: its style over the list's, its text beside the symbol's columns, the symbol, and the
+-- highlight if it is selected.
+pub record RendersItem (l : ListData) (i : ListItem) (is_selected has_columns : Bool) (r : Rect)
+    (old new : BufferData) : Type 0 where
   pub laid : BufferData
   pub texted : BufferData
   pub marked : BufferData
   pub style : IsStyled r (patch l.style i.style) old laid
-  pub text : RendersText i.content (without_columns (if has_columns then mark_width l.highlight_symbol.now r else 0) r) laid texted
+  pub text : RendersText i.content
+      (without_columns (if has_columns then mark_width l.highlight_symbol.now r else 0) r) laid texted
   pub marks : If has_columns (MarksRows l is_selected (patch l.style i.style) r) texted marked
   pub highlight : If is_selected (IsStyled r l.highlight_style) marked new
 
@@ -89,16 +99,19 @@ nth_item l k = slice_index_or l.items.items k (record { content = text_of []; st
 -- where an item stands in a list that begins with another one
 abbrev pub part_of_item : ListData → Rect → ℕ → ℕ → Rect
 part_of_item l r offset k =
-    item_part l.direction r (rows_before l.items.items (offset + k) - rows_before l.items.items offset) (item_rows (nth_item l (offset + k)))
+    item_part l.direction r (rows_before l.items.items (offset + k) - rows_before l.items.items offset)
+    (item_rows (nth_item l (offset + k)))
 
 -- how an item of it is shown, counted from there
 abbrev pub shown_as : ListData → Option ℕ → ℕ → Rect → ℕ → BufferData → BufferData → Type 0
 shown_as l selected offset r k =
-    RendersItem l (nth_item l (offset + k)) (is_selected_at selected (offset + k)) (has_mark_columns l.highlight_spacing (is_some selected)) (part_of_item l r offset k)
+    RendersItem l (nth_item l (offset + k)) (is_selected_at selected (offset + k))
+    (has_mark_columns l.highlight_spacing (is_some selected)) (part_of_item l r offset k)
 
 -- so many items from one on, each over its part, apart from each other; all else is as before
 abbrev pub ShowsItems : ListData → Option ℕ → ℕ → ℕ → Rect → BufferData → BufferData → Type 0
-ShowsItems l selected offset count r = MakesParts count (part_of_item l r offset) (shown_as l selected offset r)
+ShowsItems l selected offset count r = MakesParts count (part_of_item l r offset)
+    (shown_as l selected offset r)
 
 -- a number, but at most another one
 abbrev pub at_most : ℕ → Option ℕ → Option ℕ
@@ -124,12 +137,14 @@ pub record HasNarrowItems (l : ListData) : Type 0 where
   pub symbol : HasNarrowGraphemes l.highlight_symbol.now
   pub items : All (λ item. IsNarrowText item.content) l.items.items
 
--- The items of a list over an area, from the state's first one on, as many as fit whole. The selection is at most the last item, and the first
--- item is such that the selected one is in view. Without items nothing is shown or selected.
+-- The items of a list over an area, from the state's first one on, as many as fit whole. The selection is at
+-- most the last item, and the first item is such that the selected one is in view. Without items nothing is
+-- shown or selected.
 pub record ShowsList (l : ListData) (s t : ListState) (r : Rect) (old new : BufferData) : Type 0 where
   pub no_items : l.items.items ≡ [] → (new ≡ old) × (t ≡ record { offset = 0; selected = None })
   pub selected : 0 < length l.items.items → t.selected ≡ at_most (last_item l.items.items) s.selected
-  pub offset : 0 < length l.items.items → IsOffset l.items.items r.height l.scroll_padding t.selected s.offset t.offset
+  pub offset : 0 < length l.items.items
+      → IsOffset l.items.items r.height l.scroll_padding t.selected s.offset t.offset
   pub count : ℕ
   pub is_count : 0 < length l.items.items → IsCount l.items.items r.height t.offset count
   pub shown : 0 < length l.items.items → ShowsItems l t.selected t.offset count r old new
@@ -139,7 +154,8 @@ pub record ListInFrame (l : ListData) (s t : ListState) (part : Rect) (old new :
   pub framed : BufferData
   pub frame : IsFramed l.style l.block part old framed
   pub none : IsBare (inner_if l.block part) → (new ≡ framed) × (t ≡ s)
-  pub inside : 0 < (inner_if l.block part).width → 0 < (inner_if l.block part).height → ShowsList l s t (inner_if l.block part) framed new
+  pub inside : 0 < (inner_if l.block part).width → 0 < (inner_if l.block part).height
+      → ShowsList l s t (inner_if l.block part) framed new
 
 -- A list over the part of an area that a buffer has. Nothing outside the area changes.
 pub record RendersList (l : ListData) (s t : ListState) (area : Rect) (old new : BufferData) : Type 0 where
@@ -149,4 +165,5 @@ pub record RendersList (l : ListData) (s t : ListState) (area : Rect) (old new :
 
 -- a list without a state of its own: from the first item on, none selected
 abbrev pub RendersListFresh : ListData → Rect → BufferData → BufferData → Type 0
-RendersListFresh l area old new = (last : ListState) × RendersList l (record { offset = 0; selected = None }) last area old new
+RendersListFresh l area old new = (last : ListState)
+    × RendersList l (record { offset = 0; selected = None }) last area old new

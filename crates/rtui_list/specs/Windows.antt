@@ -1,5 +1,6 @@
 -- Which items of a list are shown.
-use Rattle.std.specs.Prelude.{◌≡◌, ℕ, ◌+◌, ◌-◌, ◌<◌, ◌≤◌, ◌⊎◌, min, List, length, take, sum_by, Option, Some, None}
+use Rattle.std.specs.Prelude.{◌≡◌, ℕ, ◌+◌, ◌-◌, ◌<◌, ◌≤◌, ◌⊎◌, min, List, length, take, sum_by, Option, Some}
+use Rattle.std.specs.Prelude.{None}
 use Rattle.rtui_list.specs.declared.item.ListItem.{ListItem}
 
 -- how many rows an item takes: one for each line
@@ -40,7 +41,8 @@ last_kept items selected padding = min (selected + padding) (last_item items)
 
 -- the items that are kept in view fit
 abbrev pub FitAround : List ListItem → ℕ → ℕ → ℕ → Type 0
-FitAround items height selected padding = Fit items height (first_kept selected padding) (last_kept items selected padding + 1)
+FitAround items height selected padding = Fit items height (first_kept selected padding)
+    (last_kept items selected padding + 1)
 
 -- how many items are kept in view on each side of the selected one: as many as are asked for and fit
 pub record IsPadding (items : List ListItem) (height asked selected padding : ℕ) : Type 0 where
@@ -48,19 +50,22 @@ pub record IsPadding (items : List ListItem) (height asked selected padding : �
   pub fits : 0 < padding → FitAround items height selected padding
   pub largest : (k : ℕ) → k ≤ min asked (length items) → FitAround items height selected k → k ≤ padding
 
--- where a list begins that began with an item, so that the items from the first to the last one kept are in view: where it did, or as
--- little before or after as it takes
+-- where a list begins that began with an item, so that the items from the first to the last one kept are in
+-- view: where it did, or as little before or after as it takes
 pub record IsScrolled (items : List ListItem) (height first last was begins : ℕ) : Type 0 where
   pub up : (last < was) ⊎ Fit items height was (last + 1) → begins ≡ min first was
-  pub down : was ≤ last → rows_before items was + height < rows_before items (last + 1) → IsFirst items height was last begins
+  pub down : was ≤ last → rows_before items was + height < rows_before items (last + 1)
+      → IsFirst items height was last begins
 
 -- where a list begins that began with an item, if another one is selected
 pub record KeepsInView (items : List ListItem) (height asked selected was begins : ℕ) : Type 0 where
   pub padding : ℕ
   pub is_padding : IsPadding items height asked selected padding
-  pub scrolled : IsScrolled items height (first_kept selected padding) (last_kept items selected padding) was begins
+  pub scrolled : IsScrolled items height (first_kept selected padding)
+      (last_kept items selected padding) was begins
 
 -- where it begins: without a selection where it did
 abbrev pub IsOffset : List ListItem → ℕ → ℕ → Option ℕ → ℕ → ℕ → Type 0
 IsOffset items height asked None was begins = begins ≡ min was (last_item items)
-IsOffset items height asked (Some selected) was begins = KeepsInView items height asked selected (min was (last_item items)) begins
+IsOffset items height asked (Some selected) was begins =
+    KeepsInView items height asked selected (min was (last_item items)) begins

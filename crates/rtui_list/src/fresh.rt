@@ -1,7 +1,7 @@
 //! A list without a state of its own.
 
-use crate::state::ListState;
 use crate::list::List;
+use crate::state::ListState;
 use ratatui_core::buffer::Buffer;
 use ratatui_core::layout::Rect;
 use ratatui_core::widgets::{StatefulWidget, Widget};

@@ -1,12 +1,15 @@
 //! A list of items.
 
-ghost use Rattle.std.specs.Prelude.{◌≡◌, ◌==◌, ◌≤◌, ◌<◌, ◌+◌, if◌then◌else◌, Some, OnOk, OnErr, IsOk, IfSome, length};
+ghost use Rattle.std.specs.Prelude.{◌≡◌, ◌==◌, ◌≤◌, ◌<◌, ◌+◌, if◌then◌else◌, Some, OnOk, OnErr, IsOk, IfSome};
+ghost use Rattle.std.specs.Prelude.{length};
 ghost use Rattle.ratatui_core.specs.Layout.{IsInside};
 ghost use Rattle.ratatui_core.specs.Widgets.{ChangesWithin};
 ghost use Rattle.ratatui_core.specs.Buffer.{IsStyled, HasShortGraphemes};
 ghost use Rattle.rtui_boxes.specs.Boxes.{IsBoxArea};
 ghost use Rattle.rtui_list.specs.Windows.{Fit};
-ghost use Rattle.rtui_list.specs.Items.{If, is_marked, has_mark_columns, mark_width, item_part, MarksRows, MarksRow, RendersItem, ShowsItems, ShowsList, is_selected_at, at_most, IsNewList, IsShortItem, HasShortItems};
+ghost use Rattle.rtui_list.specs.Items.{If, is_marked, has_mark_columns, mark_width, item_part, MarksRows};
+ghost use Rattle.rtui_list.specs.Items.{MarksRow, RendersItem, ShowsItems, ShowsList, is_selected_at};
+ghost use Rattle.rtui_list.specs.Items.{at_most, IsNewList, IsShortItem, HasShortItems};
 
 use crate::item::ListItem;
 use crate::state::ListState;

@@ -1,7 +1,8 @@
 //! Which items of a list are shown. Only these are looked at.
 
 ghost use Rattle.std.specs.Prelude.{◌≡◌, ◌≤◌, ◌<◌, ◌+◌, length, IfSome};
-ghost use Rattle.rtui_list.specs.Windows.{rows_before, Fit, IsCount, IsFirst, first_kept, last_kept, IsPadding, IsScrolled, IsOffset};
+ghost use Rattle.rtui_list.specs.Windows.{rows_before, Fit, IsCount, IsFirst, first_kept, last_kept};
+ghost use Rattle.rtui_list.specs.Windows.{IsPadding, IsScrolled, IsOffset};
 
 use crate::item::ListItem;
 

@@ -1,6 +1,8 @@
 -- The symbol of four arms, as the tables by arms give it.
-use Rattle.std.proofs.Common.{◌≡◌, ℕ, ◌&&◌, ◌||◌, not, List, [], ◌∷◌, Option, Some, None, map, refl, get_or, ap, ◌∙◌, sym, Bor, Bool, true, false, if◌then◌else◌}
-use Rattle.std.specs.{List.list_all, Option.option_map, Option.option_copied, Char.encode_utf8, Str.bytes_eq, Cmp.Lexicographic.same_text}
+use Rattle.std.proofs.Common.{◌≡◌, ℕ, ◌&&◌, ◌||◌, not, List, [], ◌∷◌, Option, Some, None, map, refl, get_or, ap, ◌∙◌, sym, Bor}
+use Rattle.std.proofs.Common.{Bool, true, false, if◌then◌else◌}
+use Rattle.std.specs.{List.list_all, Option.option_map, Option.option_copied, Char.encode_utf8, Str.bytes_eq}
+use Rattle.std.specs.{Cmp.Lexicographic.same_text}
 use Rattle.std.proofs.lemmas.Bool.{both_ways, and_from, not_from_false, cond_both}
 use Rattle.std.proofs.Math.ListN.{get_or-map}
 use Rattle.rtui_merge.specs.{declared.border_symbol.LineStyle.LineStyle, declared.border_symbol.LineStyle.TheVariants.Nothing}
@@ -32,17 +34,21 @@ across_all : all_arms (λ s. not (is_straight s && same_style s.up Nothing) || s
 unfolding is_straight same_style
 across_all = refl
 
-pub is_straight_across : (s : BorderSymbol) → is_straight s ≡ true → same_style s.up Nothing ≡ true → symbol_of (across s.right) ≡ symbol_of s
+pub is_straight_across : (s : BorderSymbol) → is_straight s ≡ true → same_style s.up Nothing ≡ true
+    → symbol_of (across s.right) ≡ symbol_of s
 is_straight_across s e n =
-    ap symbol_of (same_arms-true _ _ (all_arms-if (λ s. is_straight s && same_style s.up Nothing) (λ s. same_arms (across s.right) s) across_all s (and_from _ _ e n)))
+    ap symbol_of (same_arms-true _ _ (all_arms-if (λ s. is_straight s && same_style s.up Nothing)
+    (λ s. same_arms (across s.right) s) across_all s (and_from _ _ e n)))
 
 upright_all : all_arms (λ s. not (is_straight s && not (same_style s.up Nothing)) || same_arms (upright s.up) s) ≡ true
 unfolding is_straight same_style
 upright_all = refl
 
-pub is_straight_upright : (s : BorderSymbol) → is_straight s ≡ true → same_style s.up Nothing ≡ false → symbol_of (upright s.up) ≡ symbol_of s
+pub is_straight_upright : (s : BorderSymbol) → is_straight s ≡ true → same_style s.up Nothing ≡ false
+    → symbol_of (upright s.up) ≡ symbol_of s
 is_straight_upright s e n =
-    ap symbol_of (same_arms-true _ _ (all_arms-if (λ s. is_straight s && not (same_style s.up Nothing)) (λ s. same_arms (upright s.up) s) upright_all s (and_from _ _ e (not_from_false _ n))))
+    ap symbol_of (same_arms-true _ _ (all_arms-if (λ s. is_straight s && not (same_style s.up Nothing))
+    (λ s. same_arms (upright s.up) s) upright_all s (and_from _ _ e (not_from_false _ n))))
 
 -- the two texts are one, or there are none
 abbrev pub same_symbol : Option (List ℕ) → Option (List ℕ) → Bool
@@ -64,7 +70,8 @@ crossings = map (map (map (map (option_map (λ text. text.now))))) CROSSINGS
 -- its entry for four arms
 abbrev pub crossing_of : BorderSymbol → Option (List ℕ)
 crossing_of s =
-    get_or (get_or (get_or (get_or crossings (style_number s.right) []) (style_number s.up) []) (style_number s.left) []) (style_number s.down) None
+    get_or (get_or (get_or (get_or crossings (style_number s.right) []) (style_number s.up) []) (style_number s.left) [])
+    (style_number s.down) None
 
 crossing_all : all_arms (λ s. not (is_mixed s) || same_symbol (crossing_of s) (symbol_of s)) ≡ true
 unfolding symbol_of symbols encode_utf8 is_mixed same_style
@@ -76,7 +83,9 @@ symbol_of_crossing s e =
     (all_arms-if is_mixed (λ s. same_symbol (crossing_of s) (symbol_of s)) crossing_all s e)
 
 -- what a table of lent texts gives
-pub copied_crossing : (table : List (List (List (List (Option (Bor (List ℕ))))))) (r u l d : ℕ) → option_copied (get_or (get_or (get_or (get_or table r []) u []) l []) d None) ≡ get_or (get_or (get_or (get_or (map (map (map (map option_copied))) table) r []) u []) l []) d None
+pub copied_crossing : (table : List (List (List (List (Option (Bor (List ℕ))))))) (r u l d : ℕ)
+    → option_copied (get_or (get_or (get_or (get_or table r []) u []) l []) d None) ≡ get_or
+    (get_or (get_or (get_or (map (map (map (map option_copied))) table) r []) u []) l []) d None
 copied_crossing table r u l d =
     sym (get_or-map option_copied _ d None)
     ∙ ap (λ (xs : List (Option (List ℕ))). get_or xs d None)
@@ -127,7 +136,8 @@ abbrev pub looked_up : BorderSymbol → Option (List ℕ)
 looked_up s =
     if is_mixed s then crossing_of s
     else (if is_straight s
-    then (if same_style s.up Nothing then get_or horizontals (style_number s.right) None else get_or verticals (style_number s.up) None)
+    then (if same_style s.up Nothing then get_or horizontals (style_number s.right) None else get_or verticals
+    (style_number s.up) None)
     else (if is_rounded s then rounded_of s else None))
 
 pub looked_up-is : (s : BorderSymbol) → looked_up s ≡ symbol_of s

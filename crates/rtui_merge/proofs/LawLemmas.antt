@@ -2,7 +2,8 @@
 use Rattle.std.proofs.Common.{◌≡◌, Option, Some, None, IfSome, IsSome, refl}
 use Rattle.std.specs.Char.{encode_utf8}
 use Rattle.rtui_merge.specs.declared.MergeStrategy.TheVariants.{Replace, Exact, Fuzzy}
-use Rattle.rtui_merge.specs.{declared.border_symbol.BorderSymbol.BorderSymbol, Symbols.symbols, Symbols.arms_of, Symbols.symbol_of}
+use Rattle.rtui_merge.specs.{declared.border_symbol.BorderSymbol.BorderSymbol, Symbols.symbols, Symbols.arms_of}
+use Rattle.rtui_merge.specs.{Symbols.symbol_of}
 use Rattle.rtui_merge.specs.Merge.{exact, fuzzy, by_arms, merged}
 use Rattle.rtui_merge.specs.Laws.{AreBoxDrawings, DifferInArms, FoundByArms, FuzzyKeepsExact, MergesWithItself}
 use Rattle.rtui_merge.proofs.TableLemmas.{symbol_of-arms_of, arms_of-symbol_of}
@@ -26,7 +27,9 @@ pub fuzzy_keeps_exact : FuzzyKeepsExact
 unfolding merged
 fuzzy_keeps_exact prev next = cases (arms_of prev) (arms_of next)
   where
-    cases : (o o' : Option BorderSymbol) → IfSome o (λ a. IfSome o' (λ b. IsSome (symbol_of (exact a b)) → by_arms (λ a b. fuzzy (exact a b) b) o o' prev next ≡ by_arms exact o o' prev next))
+    cases : (o o' : Option BorderSymbol)
+        → IfSome o (λ a. IfSome o' (λ b. IsSome (symbol_of (exact a b))
+        → by_arms (λ a b. fuzzy (exact a b) b) o o' prev next ≡ by_arms exact o o' prev next))
     cases None o' = tt
     cases (Some a) None = tt
     cases (Some a) (Some b) = λ some. rw (fuzzy_symbol (exact a b) b some) refl

@@ -1,12 +1,14 @@
 -- What merging gives, computed for every pair of border symbols.
-use Rattle.std.proofs.Common.{◌≡◌, ℕ, ◌&&◌, ◌||◌, not, List, Option, Some, None, is_some, refl, ap, ◌∙◌, sym, Bool, true, false, if◌then◌else◌}
+use Rattle.std.proofs.Common.{◌≡◌, ℕ, ◌&&◌, ◌||◌, not, List, Option, Some, None, is_some, refl, ap, ◌∙◌, sym, Bool, true, false}
+use Rattle.std.proofs.Common.{if◌then◌else◌}
 use Rattle.std.specs.{List.list_all, Bool.beq, Cmp.booleans_Decides}
 use Rattle.std.proofs.lemmas.Bool.{and_parts, not-true, both_ways}
 use Rattle.rtui_merge.specs.declared.border_symbol.LineStyle.TheVariants.{Plain, Double, Thick}
 use Rattle.rtui_merge.specs.{declared.border_symbol.BorderSymbol.BorderSymbol, Shapes.is_mixed, Shapes.is_rounded}
 use Rattle.rtui_merge.specs.Arms.{same_style, same_arms, is_straight, is_corner, bends, contains, replace}
 use Rattle.rtui_merge.specs.Symbols.{symbols, arms_of, symbol_of}
-use Rattle.rtui_merge.specs.Merge.{exact, fuzzy, solid_unless_straight, square_unless_corner, double_or_thick, double_or_plain, right, up, left, down, has_arm, HasArmsOfBoth, Unites}
+use Rattle.rtui_merge.specs.Merge.{exact, fuzzy, solid_unless_straight, square_unless_corner, double_or_thick, double_or_plain}
+use Rattle.rtui_merge.specs.Merge.{right, up, left, down, has_arm, HasArmsOfBoth, Unites}
 use Rattle.rtui_merge.proofs.{StyleLemmas.same_arms-true, ArmsLemmas.looked_up, ArmsLemmas.looked_up-is}
 use Rattle.rtui_merge.proofs.TableLemmas.{arms_of-row, symbol_of-row, symbol_of-arms_of, arms_of-symbol_of}
 
@@ -47,7 +49,8 @@ quick_plain s next =
 quick_plain-is : (s next : BorderSymbol) → quick_plain s next ≡ double_or_plain s next
 unfolding double_or_plain
 quick_plain-is s next =
-    ap (λ (o : Option (List ℕ)). if is_some o then s else (if contains next Double then replace s Plain Double else replace s Double Plain)) (looked_up-is s)
+    ap (λ (o : Option (List ℕ)). if is_some o then s else
+    (if contains next Double then replace s Plain Double else replace s Double Plain)) (looked_up-is s)
 
 -- Fuzzy with that rule
 abbrev quick_fuzzy : BorderSymbol → BorderSymbol → BorderSymbol
@@ -56,7 +59,8 @@ quick_fuzzy prev next =
 
 quick_fuzzy-is : (prev next : BorderSymbol) → quick_fuzzy prev next ≡ fuzzy (exact prev next) next
 unfolding fuzzy
-quick_fuzzy-is prev next = quick_plain-is (double_or_thick (square_unless_corner (solid_unless_straight (exact prev next))) next) next
+quick_fuzzy-is prev next = quick_plain-is (double_or_thick (square_unless_corner (solid_unless_straight (exact prev next))) next)
+    next
 
 -- s is a symbol, with an arm exactly where a or b has one
 abbrev unites : BorderSymbol → BorderSymbol → BorderSymbol → Bool
@@ -67,15 +71,19 @@ unites a b s =
     && (beq (has_arm s left) (has_arm a left || has_arm b left)
     && beq (has_arm s down) (has_arm a down || has_arm b down))))
 
-unites_all : list_all (λ prev. list_all (λ next. unites prev.arms next.arms (quick_fuzzy prev.arms next.arms)) symbols) symbols ≡ true
-unfolding symbols exact solid_unless_straight square_unless_corner double_or_thick is_mixed is_straight is_rounded is_corner bends contains replace same_style
+unites_all : list_all (λ prev. list_all (λ next. unites prev.arms next.arms (quick_fuzzy prev.arms next.arms)) symbols)
+    symbols ≡ true
+unfolding symbols exact solid_unless_straight square_unless_corner double_or_thick is_mixed is_straight is_rounded is_corner bends
+    contains replace same_style
 unites_all = refl
 
-unites_at : (prev next : List ℕ) (a b : BorderSymbol) → arms_of prev ≡ Some a → arms_of next ≡ Some b → unites a b (fuzzy (exact a b) b) ≡ true
+unites_at : (prev next : List ℕ) (a b : BorderSymbol) → arms_of prev ≡ Some a → arms_of next ≡ Some b
+    → unites a b (fuzzy (exact a b) b) ≡ true
 unites_at prev next a b p n =
     ap (unites a b) (sym (quick_fuzzy-is a b))
     ∙ arms_of-row (λ symbol. unites a symbol.arms (quick_fuzzy a symbol.arms))
-    (arms_of-row (λ symbol. list_all (λ next. unites symbol.arms next.arms (quick_fuzzy symbol.arms next.arms)) symbols) unites_all prev a p) next b n
+    (arms_of-row (λ symbol. list_all (λ next. unites symbol.arms next.arms (quick_fuzzy symbol.arms next.arms)) symbols)
+    unites_all prev a p) next b n
 
 unites-sides : (a b s : BorderSymbol) → unites a b s ≡ true → HasArmsOfBoth a b s
 unites-sides a b s e side =
@@ -94,22 +102,26 @@ pub unites_without_prev : (prev next result : List ℕ) → arms_of prev ≡ Non
 unfolding Unites
 unites_without_prev prev next result p = rw p tt
 
-pub unites_without_next : (prev next result : List ℕ) (a : BorderSymbol) → arms_of prev ≡ Some a → arms_of next ≡ None → Unites prev next result
+pub unites_without_next : (prev next result : List ℕ) (a : BorderSymbol) → arms_of prev ≡ Some a → arms_of next ≡ None
+    → Unites prev next result
 unfolding Unites
 unites_without_next prev next result a p n = rw (p, n) tt
 
-pub unites_symbols : (prev next result : List ℕ) (a b : BorderSymbol) → arms_of prev ≡ Some a → arms_of next ≡ Some b → symbol_of (fuzzy (exact a b) b) ≡ Some result → Unites prev next result
+pub unites_symbols : (prev next result : List ℕ) (a b : BorderSymbol) → arms_of prev ≡ Some a → arms_of next ≡ Some b
+    → symbol_of (fuzzy (exact a b) b) ≡ Some result → Unites prev next result
 unfolding Unites
 unites_symbols prev next result a b p n e =
     rw (p, n, arms_of-symbol_of result (fuzzy (exact a b) b) e)
     (unites-sides a b (fuzzy (exact a b) b) (unites_at prev next a b p n))
 
-pub unites_exact : (prev next result : List ℕ) (a b : BorderSymbol) → arms_of prev ≡ Some a → arms_of next ≡ Some b → symbol_of (exact a b) ≡ Some result → Unites prev next result
+pub unites_exact : (prev next result : List ℕ) (a b : BorderSymbol) → arms_of prev ≡ Some a → arms_of next ≡ Some b
+    → symbol_of (exact a b) ≡ Some result → Unites prev next result
 unites_exact prev next result a b p n e =
     unites_symbols prev next result a b p n (rw (fuzzy_symbol (exact a b) b (ap is_some e)) e)
 
 -- Fuzzy always finds a symbol
-pub fuzzy_found : (prev next : List ℕ) (a b : BorderSymbol) → arms_of prev ≡ Some a → arms_of next ≡ Some b → is_some (symbol_of (fuzzy (exact a b) b)) ≡ true
+pub fuzzy_found : (prev next : List ℕ) (a b : BorderSymbol) → arms_of prev ≡ Some a → arms_of next ≡ Some b
+    → is_some (symbol_of (fuzzy (exact a b) b)) ≡ true
 fuzzy_found prev next a b p n =
     ap is_some (sym (looked_up-is (fuzzy (exact a b) b)))
     ∙ (and_parts (is_some (looked_up (fuzzy (exact a b) b))) _ (unites_at prev next a b p n)).0

@@ -3,7 +3,9 @@ use Rattle.std.proofs.Common.{◌≡◌, ℕ, zero, suc, ◌||◌, not, List, []
 use Rattle.std.specs.List.{list_all}
 use Rattle.std.proofs.lemmas.Bool.{and_parts, eqb-true, or_cases, both_ways, not-true}
 use Rattle.rtui_merge.specs.{declared.border_symbol.LineStyle.LineStyle, declared.border_symbol.BorderSymbol.BorderSymbol}
-use Rattle.rtui_merge.specs.declared.border_symbol.LineStyle.TheVariants.{Nothing, Plain, Double, Thick, Rounded, DoubleDash, DoubleDashThick, TripleDash, TripleDashThick, QuadrupleDash, QuadrupleDashThick}
+use Rattle.rtui_merge.specs.declared.border_symbol.LineStyle.TheVariants.{Nothing, Plain, Double, Thick, Rounded, DoubleDash}
+use Rattle.rtui_merge.specs.declared.border_symbol.LineStyle.TheVariants.{DoubleDashThick, TripleDash, TripleDashThick}
+use Rattle.rtui_merge.specs.declared.border_symbol.LineStyle.TheVariants.{QuadrupleDash, QuadrupleDashThick}
 use Rattle.rtui_merge.specs.Arms.{style_number, same_style, same_arms}
 
 -- the styles by their numbers
@@ -12,7 +14,8 @@ styles =
     Nothing ∷ Plain ∷ Double ∷ Thick ∷ Rounded ∷ DoubleDash ∷ DoubleDashThick ∷ TripleDash ∷ TripleDashThick
     ∷ QuadrupleDash ∷ QuadrupleDashThick ∷ []
 
-pub get_or-map-styles : {X : Type 0} (f : LineStyle → X) (style : LineStyle) (d : X) → get_or (map f styles) (style_number style) d ≡ f style
+pub get_or-map-styles : {X : Type 0} (f : LineStyle → X) (style : LineStyle) (d : X)
+    → get_or (map f styles) (style_number style) d ≡ f style
 get_or-map-styles f Nothing d = refl
 get_or-map-styles f Plain d = refl
 get_or-map-styles f Double d = refl
@@ -44,7 +47,8 @@ same_arms-true a b e =
       down = same_style-true a.down b.down left.1 i;
     }
 
-get_or-map-list_all : {X : Type 0} (test : X → Bool) (xs : List X) (n : ℕ) → list_all test xs ≡ true → get_or (map test xs) n true ≡ true
+get_or-map-list_all : {X : Type 0} (test : X → Bool) (xs : List X) (n : ℕ) → list_all test xs ≡ true
+    → get_or (map test xs) n true ≡ true
 get_or-map-list_all test [] n e = refl
 get_or-map-list_all test (x ∷ xs) zero e = (and_parts _ _ e).0
 get_or-map-list_all test (x ∷ xs) (suc n) e = get_or-map-list_all test xs n (and_parts _ _ e).1
@@ -63,11 +67,15 @@ pub all_arms-at : (test : BorderSymbol → Bool) → all_arms test ≡ true → 
 all_arms-at test e s =
     list_all-styles (λ down. test (record s { down = down }))
     (list_all-styles (λ left. list_all (λ down. test (record s { left = left; down = down })) styles)
-    (list_all-styles (λ up. list_all (λ left. list_all (λ down. test (record s { up = up; left = left; down = down })) styles) styles)
-    (list_all-styles (λ right. list_all (λ up. list_all (λ left. list_all (λ down. test (record s { right = right; up = up; left = left; down = down })) styles) styles) styles) e s.right) s.up) s.left) s.down
+    (list_all-styles (λ up. list_all (λ left. list_all (λ down. test (record s { up = up; left = left; down = down })) styles)
+    styles)
+    (list_all-styles (λ right. list_all
+    (λ up. list_all (λ left. list_all (λ down. test (record s { right = right; up = up; left = left; down = down })) styles)
+    styles) styles) e s.right) s.up) s.left) s.down
 
 -- the arms that pass one test pass the other
-pub all_arms-if : (test then : BorderSymbol → Bool) → all_arms (λ s. not (test s) || then s) ≡ true → (s : BorderSymbol) → test s ≡ true → then s ≡ true
+pub all_arms-if : (test then : BorderSymbol → Bool) → all_arms (λ s. not (test s) || then s) ≡ true → (s : BorderSymbol)
+    → test s ≡ true → then s ≡ true
 all_arms-if test then all s e =
     elim (or_cases (not (test s)) (then s) (all_arms-at (λ s. not (test s) || then s) all s)) [
       | inl fails ↦ absurd (both_ways (test s) (not-true _ fails) e)

@@ -1,6 +1,8 @@
 -- The arms of a text, by its bytes.
-use Rattle.std.proofs.Common.{◌≡◌, ℕ, ◌+◌, ◌-◌, ◌*◌, ◌/◌, ◌%◌, ◌<◌, ◌≤◌, ◌≢◌, ◌==◌, ◌&&◌, nat_lt, nat_le, List, [], ◌∷◌, Option, None, map, length, refl, get_or, ap, arith, ◌∙◌, sym, Bool, true}
-use Rattle.std.specs.{List.range_with_len, List.list_all, Option.option_map, Char.encode_utf8, Str.bytes_eq, Cmp.Lexicographic.same_text}
+use Rattle.std.proofs.Common.{◌≡◌, ℕ, ◌+◌, ◌-◌, ◌*◌, ◌/◌, ◌%◌, ◌<◌, ◌≤◌, ◌≢◌, ◌==◌, ◌&&◌, nat_lt, nat_le, List, [], ◌∷◌, Option}
+use Rattle.std.proofs.Common.{None, map, length, refl, get_or, ap, arith, ◌∙◌, sym, Bool, true}
+use Rattle.std.specs.{List.range_with_len, List.list_all, Option.option_map, Char.encode_utf8, Str.bytes_eq}
+use Rattle.std.specs.{Cmp.Lexicographic.same_text}
 use Rattle.std.proofs.lemmas.Bool.{and_parts, false_from_ne_true, eqb-true, leb-true, ltb-true}
 use Rattle.std.proofs.lemmas.{List.FromFn.get_or-map-range_with_len, Slice.Eq.text_from_reads}
 use Rattle.rtui_merge.specs.{declared.tables.TheConstants.ARMS, declared.border_symbol.BorderSymbol.BorderSymbol}
@@ -87,10 +89,20 @@ text-is : (text : List ℕ) → IsInBlock text → text ≡ text_at ((get_or tex
 text-is text h = text_from_reads text _ h.len (h.first, (omega arith, (omega arith, tt)))
 
 -- the table's entry for a character of the block
-pub arms_of-in_block : (text : List ℕ) → length text ≡ 3 → get_or text 0 0 ≡ 226 → 148 ≤ get_or text 1 0 → get_or text 1 0 < 150 → 128 ≤ get_or text 2 0 → get_or text 2 0 < 192 → arms_of text ≡ get_or ARMS ((get_or text 1 0 - 148) * 64 + (get_or text 2 0 - 128)) None
+pub arms_of-in_block : (text : List ℕ) → length text ≡ 3 → get_or text 0 0 ≡ 226 → 148 ≤ get_or text 1 0 → get_or text 1 0 < 150
+    → 128 ≤ get_or text 2 0 → get_or text 2 0 < 192
+    → arms_of text ≡ get_or ARMS ((get_or text 1 0 - 148) * 64 + (get_or text 2 0 - 128)) None
 arms_of-in_block text l f s s' t t' =
     ap arms_of (text-is text (record { len = l; first = f; second_from = s; second_to = s'; third_from = t; third_to = t' }))
     ∙ sym (get_or-ARMS _ (omega arith))
 
 -- the arms of a text by its bytes
-pub ruleset arms_by_bytes = (arms_of-len, arms_of-first, arms_of-second_below, arms_of-second_above, arms_of-third_below, arms_of-third_above, arms_of-in_block)
+pub ruleset arms_by_bytes = (
+  arms_of-len,
+  arms_of-first,
+  arms_of-second_below,
+  arms_of-second_above,
+  arms_of-third_below,
+  arms_of-third_above,
+  arms_of-in_block,
+)

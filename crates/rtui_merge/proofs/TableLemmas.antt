@@ -4,17 +4,20 @@ use Rattle.std.specs.{List.list_all, Char.encode_utf8, Str.bytes_eq, Cmp.Lexicog
 use Rattle.std.proofs.lemmas.Bool.{both_ways}
 use Rattle.rtui_merge.specs.{declared.border_symbol.BorderSymbol.BorderSymbol, Arms.same_arms, Arms.same_style}
 use Rattle.rtui_merge.specs.Symbols.{Symbol, symbols, arms_of, symbol_of}
-use Rattle.rtui_merge.proofs.{FindLemmas.find-part, StyleLemmas.same_arms-true, ArmsLemmas.same_symbol, ArmsLemmas.same_symbol-true}
+use Rattle.rtui_merge.proofs.{FindLemmas.find-part, StyleLemmas.same_arms-true, ArmsLemmas.same_symbol}
+use Rattle.rtui_merge.proofs.{ArmsLemmas.same_symbol-true}
 
 -- a text with its arms is a row
-pub arms_of-row : (test : Symbol → Bool) → list_all test symbols ≡ true → (text : List ℕ) (arms : BorderSymbol) → arms_of text ≡ Some arms → test (record { text = text; arms = arms }) ≡ true
+pub arms_of-row : (test : Symbol → Bool) → list_all test symbols ≡ true → (text : List ℕ) (arms : BorderSymbol)
+    → arms_of text ≡ Some arms → test (record { text = text; arms = arms }) ≡ true
 unfolding arms_of
 arms_of-row test all text arms e =
     let row = find-part (λ symbol. symbol.arms) test (λ symbol. bytes_eq symbol.text text) symbols arms all e in
     ap test (sym (λ i. record { text = same_text row.0.text text (sym row.2) i; arms = row.3 i })) ∙ row.1
 
 -- four arms with their symbol are a row
-pub symbol_of-row : (test : Symbol → Bool) → list_all test symbols ≡ true → (text : List ℕ) (arms : BorderSymbol) → symbol_of arms ≡ Some text → test (record { text = text; arms = arms }) ≡ true
+pub symbol_of-row : (test : Symbol → Bool) → list_all test symbols ≡ true → (text : List ℕ) (arms : BorderSymbol)
+    → symbol_of arms ≡ Some text → test (record { text = text; arms = arms }) ≡ true
 unfolding symbol_of
 symbol_of-row test all text arms e =
     let row = find-part (λ symbol. symbol.text) test (λ symbol. same_arms symbol.arms arms) symbols text all e in

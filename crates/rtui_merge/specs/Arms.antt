@@ -1,7 +1,12 @@
 -- The arms of a border symbol. `Nothing` is the style of an arm that is not there.
 use Rattle.std.specs.Prelude.{ℕ, Bool, ◌==◌, ◌&&◌, ◌||◌, if◌then◌else◌}
-use Rattle.rtui_merge.specs.{declared.border_symbol.LineStyle.LineStyle, declared.border_symbol.BorderSymbol.BorderSymbol}
-use Rattle.rtui_merge.specs.declared.border_symbol.LineStyle.TheVariants.{Nothing, Plain, Double, Thick, Rounded, DoubleDash, DoubleDashThick, TripleDash, TripleDashThick, QuadrupleDash, QuadrupleDashThick}
+use Rattle.rtui_merge.specs.{declared.border_symbol.LineStyle.LineStyle}
+use Rattle.rtui_merge.specs.{declared.border_symbol.BorderSymbol.BorderSymbol}
+use Rattle.rtui_merge.specs.declared.border_symbol.LineStyle.TheVariants.{Nothing, Plain, Double, Thick}
+use Rattle.rtui_merge.specs.declared.border_symbol.LineStyle.TheVariants.{Rounded, DoubleDash}
+use Rattle.rtui_merge.specs.declared.border_symbol.LineStyle.TheVariants.{DoubleDashThick, TripleDash}
+use Rattle.rtui_merge.specs.declared.border_symbol.LineStyle.TheVariants.{TripleDashThick, QuadrupleDash}
+use Rattle.rtui_merge.specs.declared.border_symbol.LineStyle.TheVariants.{QuadrupleDashThick}
 
 -- a number for each style, to tell them apart
 abbrev pub style_number : LineStyle → ℕ
@@ -28,12 +33,14 @@ is_nothing style = same_style style Nothing
 -- the two symbols have the same arms
 abbrev pub same_arms : BorderSymbol → BorderSymbol → Bool
 same_arms a b =
-    same_style a.right b.right && (same_style a.up b.up && (same_style a.left b.left && same_style a.down b.down))
+    same_style a.right b.right && (same_style a.up b.up &&
+    (same_style a.left b.left && same_style a.down b.down))
 
 -- some arm has this style
 unfoldable pub contains : BorderSymbol → LineStyle → Bool
 contains s style =
-    same_style s.right style || (same_style s.up style || (same_style s.left style || same_style s.down style))
+    same_style s.right style || (same_style s.up style ||
+    (same_style s.left style || same_style s.down style))
 
 -- opposite arms are equal, and one of the two pairs is not there
 unfoldable pub is_straight : BorderSymbol → Bool

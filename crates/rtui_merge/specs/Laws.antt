@@ -1,8 +1,10 @@
 -- The laws of merging, over the definitions alone.
 use Rattle.std.specs.Prelude.{◌≡◌, ◌↔◌, ℕ, List, ◌++◌, map, Some, IfSome, IsSome, encode_utf8}
 use Rattle.std.specs.List.{range_with_len}
-use Rattle.rtui_merge.specs.{declared.MergeStrategy.MergeStrategy, declared.MergeStrategy.TheVariants.Exact, declared.MergeStrategy.TheVariants.Fuzzy}
-use Rattle.rtui_merge.specs.{declared.border_symbol.BorderSymbol.BorderSymbol, Symbols.symbols, Symbols.arms_of, Symbols.symbol_of, Merge.exact, Merge.merged}
+use Rattle.rtui_merge.specs.{declared.MergeStrategy.MergeStrategy, declared.MergeStrategy.TheVariants.Exact}
+use Rattle.rtui_merge.specs.{declared.MergeStrategy.TheVariants.Fuzzy}
+use Rattle.rtui_merge.specs.{declared.border_symbol.BorderSymbol.BorderSymbol, Symbols.symbols}
+use Rattle.rtui_merge.specs.{Symbols.arms_of, Symbols.symbol_of, Merge.exact, Merge.merged}
 
 -- a text merged with itself is that text
 abbrev pub MergesWithItself : Type 0
@@ -16,7 +18,8 @@ FuzzyKeepsExact =
 
 -- a text has these arms exactly if it is the symbol that is found by them
 abbrev pub FoundByArms : Type 0
-FoundByArms = (text : List ℕ) (arms : BorderSymbol) → (arms_of text ≡ Some arms) ↔ (symbol_of arms ≡ Some text)
+FoundByArms = (text : List ℕ) (arms : BorderSymbol)
+    → (arms_of text ≡ Some arms) ↔ (symbol_of arms ≡ Some text)
 
 -- no two symbols have the same arms
 abbrev pub DifferInArms : Type 0
@@ -26,4 +29,5 @@ DifferInArms =
 -- the symbols are the 113 characters from U+2500 on and the 12 from U+2574 on
 abbrev pub AreBoxDrawings : Type 0
 AreBoxDrawings =
-    map (λ symbol. symbol.text) symbols ≡ map encode_utf8 (range_with_len 0x2500 113 ++ range_with_len 0x2574 12)
+    map (λ symbol. symbol.text) symbols ≡ map encode_utf8
+    (range_with_len 0x2500 113 ++ range_with_len 0x2574 12)

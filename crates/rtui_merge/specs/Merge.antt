@@ -1,8 +1,11 @@
 -- What two texts give that come into one cell.
-use Rattle.std.specs.Prelude.{◌≡◌, ℕ, List, Bool, not, ◌&&◌, ◌||◌, Option, Some, None, is_some, IfSome, IsSomeAnd, unwrap_or, if◌then◌else◌}
+use Rattle.std.specs.Prelude.{◌≡◌, ℕ, List, Bool, not, ◌&&◌, ◌||◌, Option, Some, None, is_some, IfSome}
+use Rattle.std.specs.Prelude.{IsSomeAnd, unwrap_or, if◌then◌else◌}
 use Rattle.rtui_merge.specs.declared.MergeStrategy.{MergeStrategy}
 use Rattle.rtui_merge.specs.declared.MergeStrategy.TheVariants.{Replace, Exact, Fuzzy}
-use Rattle.rtui_merge.specs.{declared.border_symbol.LineStyle.LineStyle, declared.border_symbol.BorderSymbol.BorderSymbol, Symbols.arms_of, Symbols.symbol_of}
+use Rattle.rtui_merge.specs.{declared.border_symbol.LineStyle.LineStyle}
+use Rattle.rtui_merge.specs.{declared.border_symbol.BorderSymbol.BorderSymbol, Symbols.arms_of}
+use Rattle.rtui_merge.specs.{Symbols.symbol_of}
 use Rattle.rtui_merge.specs.declared.border_symbol.LineStyle.TheVariants.{Plain, Double, Thick, Rounded}
 use Rattle.rtui_merge.specs.Arms.{is_nothing, contains, is_straight, is_corner, each_arm, replace, solid}
 
@@ -34,7 +37,8 @@ double_or_thick s next =
     then (if contains next Double then replace s Thick Double else replace s Double Thick)
     else s
 
--- the fourth: if there is no such symbol, all plain and double arms become double if next has a double arm, else plain
+-- the fourth: if there is no such symbol, all plain and double arms become double if next has a double arm,
+-- else plain
 unfoldable pub double_or_plain : BorderSymbol → BorderSymbol → BorderSymbol
 double_or_plain s next =
     if is_some (symbol_of s)
@@ -46,7 +50,8 @@ unfoldable pub fuzzy : BorderSymbol → BorderSymbol → BorderSymbol
 fuzzy s next = double_or_plain (double_or_thick (square_unless_corner (solid_unless_straight s)) next) next
 
 -- two texts merged by their arms: what isn't a border symbol stays or comes as it is
-abbrev pub by_arms : (BorderSymbol → BorderSymbol → BorderSymbol) → Option BorderSymbol → Option BorderSymbol → List ℕ → List ℕ → List ℕ
+abbrev pub by_arms : (BorderSymbol → BorderSymbol → BorderSymbol) → Option BorderSymbol → Option BorderSymbol
+    → List ℕ → List ℕ → List ℕ
 by_arms joined (Some a) (Some b) prev next = unwrap_or (symbol_of (joined a b)) next
 by_arms joined None (Some b) prev next = prev
 by_arms joined _ None prev next = next

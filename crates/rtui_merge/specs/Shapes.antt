@@ -2,7 +2,8 @@
 use Rattle.std.specs.Prelude.{nat_lt, Bool, ◌&&◌}
 use Rattle.rtui_merge.specs.declared.border_symbol.LineStyle.{LineStyle}
 use Rattle.rtui_merge.specs.declared.border_symbol.LineStyle.TheVariants.{Nothing, Rounded}
-use Rattle.rtui_merge.specs.{declared.border_symbol.BorderSymbol.BorderSymbol, Arms.style_number, Arms.is_corner, Arms.contains}
+use Rattle.rtui_merge.specs.{declared.border_symbol.BorderSymbol.BorderSymbol, Arms.style_number}
+use Rattle.rtui_merge.specs.{Arms.is_corner, Arms.contains}
 
 -- a horizontal symbol of one style
 abbrev pub across : LineStyle → BorderSymbol

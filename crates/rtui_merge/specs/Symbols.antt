@@ -2,9 +2,15 @@
 use Prim.Native.String.{String}
 use Rattle.std.specs.Prelude.{◌≡◌, ℕ, List, [], ◌∷◌, Option, ok_or, Result, codes, encode_utf8_all}
 use Rattle.std.specs.{List.find, Option.option_map, Str.bytes_eq}
-use Rattle.rtui_merge.specs.{declared.border_symbol.LineStyle.LineStyle, declared.border_symbol.BorderSymbol.BorderSymbol}
-use Rattle.rtui_merge.specs.declared.border_symbol.LineStyle.TheVariants.{Nothing, Plain, Double, Thick, Rounded, DoubleDash, DoubleDashThick, TripleDash, TripleDashThick, QuadrupleDash, QuadrupleDashThick}
-use Rattle.rtui_merge.specs.{declared.error.BorderSymbolError.BorderSymbolError, declared.error.BorderSymbolError.TheVariants.CannotParse, Arms.same_arms}
+use Rattle.rtui_merge.specs.{declared.border_symbol.LineStyle.LineStyle}
+use Rattle.rtui_merge.specs.{declared.border_symbol.BorderSymbol.BorderSymbol}
+use Rattle.rtui_merge.specs.declared.border_symbol.LineStyle.TheVariants.{Nothing, Plain, Double, Thick}
+use Rattle.rtui_merge.specs.declared.border_symbol.LineStyle.TheVariants.{Rounded, DoubleDash}
+use Rattle.rtui_merge.specs.declared.border_symbol.LineStyle.TheVariants.{DoubleDashThick, TripleDash}
+use Rattle.rtui_merge.specs.declared.border_symbol.LineStyle.TheVariants.{TripleDashThick, QuadrupleDash}
+use Rattle.rtui_merge.specs.declared.border_symbol.LineStyle.TheVariants.{QuadrupleDashThick}
+use Rattle.rtui_merge.specs.{declared.error.BorderSymbolError.BorderSymbolError}
+use Rattle.rtui_merge.specs.{declared.error.BorderSymbolError.TheVariants.CannotParse, Arms.same_arms}
 
 -- a symbol's text and its arms
 pub record Symbol : Type 0 where

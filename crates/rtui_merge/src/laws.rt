@@ -1,6 +1,7 @@
 //! Laws of merging that are no single call's clause, over the definitions of `specs/` alone.
 ghost use Rattle.std.specs.Prelude.{◌≡◌};
-ghost use Rattle.rtui_merge.specs.Laws.{AreBoxDrawings, DifferInArms, FoundByArms, FuzzyKeepsExact, MergesWithItself};
+ghost use Rattle.rtui_merge.specs.Laws.{AreBoxDrawings, DifferInArms, FoundByArms, FuzzyKeepsExact};
+ghost use Rattle.rtui_merge.specs.Laws.{MergesWithItself};
 
 use crate::MergeStrategy;
 

@@ -1,18 +1,24 @@
 -- Shares of a number, and bars over a part of a buffer.
-use Rattle.std.proofs.Common.{lit<, sym, subst, ◌≡◌, ℕ, ◌+◌, ◌-◌, ◌*◌, ◌/◌, ◌<◌, ◌≤◌, ⊎_elim, Bool, true, false, if◌then◌else◌, nat_lt, List, min, Option, Some, None, refl, arith, Result, Ok, Err, OnOk, OnErr}
+use Rattle.std.proofs.Common.{lit<, sym, subst, ◌≡◌, ℕ, ◌+◌, ◌-◌, ◌*◌, ◌/◌, ◌<◌, ◌≤◌, ⊎_elim, Bool, true, false, if◌then◌else◌}
+use Rattle.std.proofs.Common.{nat_lt, List, min, Option, Some, None, refl, arith, Result, Ok, Err, OnOk, OnErr}
 use Rattle.std.proofs.Math.Nat.{div-lt_iff_lt-mul}
 use Rattle.std.specs.{declared.alloc.AllocError.AllocError, Borrow.Bor}
 use Rattle.ratatui_core.specs.Layout.{Rect, Position, IsInside, corner}
-use Rattle.ratatui_core.specs.Buffer.{BufferData, Cell, ChangesEach, Piece, columns, PaintsPieces, PaintsOrRefuses, HasRow, pieces_at, position_of}
+use Rattle.ratatui_core.specs.Buffer.{BufferData, Cell, ChangesEach, Piece, columns, PaintsPieces, PaintsOrRefuses, HasRow}
+use Rattle.ratatui_core.specs.Buffer.{pieces_at, position_of}
 use Rattle.ratatui_core.specs.{Widgets.ChangesWithin, Widgets.IsClipped, Style.Style, Style.new_style, Text.LineData}
 use Rattle.ratatui_core.proofs.BufferLemmas.{Changes-within, within-wider, line-keeps, text-keeps}
 use Rattle.ratatui_core.proofs.WidgetLemmas.{OnPart-clipped}
 use Rattle.rtui_boxes.specs.Boxes.{IsBoxArea}
 use Rattle.rtui_boxes.proofs.{PaintLemmas.paints-within, PaintLemmas.part-has_row, PaintLemmas.part-starts, BoxLemmas.box-area}
-use Rattle.rtui_meters.specs.{declared.line_gauge.LineGauge.LineGauge, declared.scrollbar.Scrollbar.Scrollbar, declared.scrollbar.Marks.Marks}
-use Rattle.rtui_meters.specs.{declared.scrollbar.state.ScrollbarState.ScrollbarState, declared.scrollbar.ScrollbarOrientation.ScrollbarOrientation}
-use Rattle.rtui_meters.specs.declared.scrollbar.ScrollbarOrientation.TheVariants.{VerticalRight, VerticalLeft, HorizontalBottom, HorizontalTop}
-use Rattle.rtui_meters.specs.Scrollbars.{bar_area, bar_length, track_length, mark_of, marks_of, marked_cell, MarksBar, RendersScrollbar, IsLightMark, IsShortIf, HasShortMarks}
+use Rattle.rtui_meters.specs.{declared.line_gauge.LineGauge.LineGauge, declared.scrollbar.Scrollbar.Scrollbar}
+use Rattle.rtui_meters.specs.{declared.scrollbar.Marks.Marks}
+use Rattle.rtui_meters.specs.{declared.scrollbar.state.ScrollbarState.ScrollbarState}
+use Rattle.rtui_meters.specs.{declared.scrollbar.ScrollbarOrientation.ScrollbarOrientation}
+use Rattle.rtui_meters.specs.declared.scrollbar.ScrollbarOrientation.TheVariants.{VerticalRight, VerticalLeft, HorizontalBottom}
+use Rattle.rtui_meters.specs.declared.scrollbar.ScrollbarOrientation.TheVariants.{HorizontalTop}
+use Rattle.rtui_meters.specs.Scrollbars.{bar_area, bar_length, track_length, mark_of, marks_of, marked_cell, MarksBar}
+use Rattle.rtui_meters.specs.Scrollbars.{RendersScrollbar, IsLightMark, IsShortIf, HasShortMarks}
 use Rattle.rtui_meters.specs.{Shares.filled_part, Shares.percent_text, Gauges.label_part}
 use Rattle.rtui_meters.specs.LineGauges.{pieces_of_label, line_label_pieces, line_start, line_cell, FillsLine}
 
@@ -24,18 +30,21 @@ rounded-below n p w le some =
 
 pub rounded-le : (n p w : ℕ) → p ≤ w → 0 < w → (2 * n * p + w) / (2 * w) ≤ n
 rounded-le n p w le some =
-    let lt : (2 * n * p + w) / (2 * w) < n + 1 = (div-lt_iff_lt-mul {k = 2 * w} {x = 2 * n * p + w} {y = n + 1} (omega arith)).1 (rounded-below n p w le some) in
+    let lt : (2 * n * p + w) / (2 * w) < n + 1 = (div-lt_iff_lt-mul {k = 2 * w} {x = 2 * n * p + w} {y = n + 1} (omega arith)).1
+    (rounded-below n p w le some) in
     omega arith
 
 -- pieces painted from the corner of a part on, in at most its columns
-pub corner-within : {A : Type 0} (r : Result A AllocError) (part : Rect) (ps : List Piece) (old new : BufferData) → IsBoxArea part → IsInside part old.area → columns ps ≤ part.width → PaintsOrRefuses (corner part) ps r old new
+pub corner-within : {A : Type 0} (r : Result A AllocError) (part : Rect) (ps : List Piece) (old new : BufferData) → IsBoxArea part
+    → IsInside part old.area → columns ps ≤ part.width → PaintsOrRefuses (corner part) ps r old new
     → ChangesWithin part old new
 corner-within r part ps old new box inside le paints =
     let wide = box.columns in let high = box.rows in
     paints-within r part part.x part.y ps old new box inside (omega arith) (omega arith) (omega arith) (omega arith) paints
 
 -- a change within a part, made or refused
-pub changed-within : {A : Type 0} (r : Result A AllocError) (part area : Rect) (f : Position → Cell → Cell) (old new : BufferData) → IsInside part area → OnOk r (ChangesEach part f old new) → OnErr r (ChangesWithin part old new)
+pub changed-within : {A : Type 0} (r : Result A AllocError) (part area : Rect) (f : Position → Cell → Cell) (old new : BufferData)
+    → IsInside part area → OnOk r (ChangesEach part f old new) → OnErr r (ChangesWithin part old new)
     → ChangesWithin area old new
 changed-within (Ok x) part area f old new inside ok err = Changes-within part area f old new inside ok
 changed-within (Err e) part area f old new inside ok err = within-wider part area old new inside err
@@ -45,23 +54,38 @@ pub pieces-keep : (g : LineGauge) (o : Option LineData) (r own : Rect) → colum
 pieces-keep g None r own = text-keeps own r.x r.width new_style (percent_text g.share)
 pieces-keep g (Some label) r own = line-keeps own r.x r.width label
 
-pub label-within : {A : Type 0} (res : Result A AllocError) (g : LineGauge) (r : Rect) (old new : BufferData) → IsBoxArea r → IsInside r old.area → PaintsOrRefuses (corner r) (line_label_pieces g r old.area) res old new → ChangesWithin r old new
-label-within res g r old new box inside paints = corner-within res r (line_label_pieces g r old.area) old new box inside (pieces-keep g g.label r old.area) paints
+pub label-within : {A : Type 0} (res : Result A AllocError) (g : LineGauge) (r : Rect) (old new : BufferData) → IsBoxArea r
+    → IsInside r old.area → PaintsOrRefuses (corner r) (line_label_pieces g r old.area) res old new → ChangesWithin r old new
+label-within res g r old new box inside paints = corner-within res r (line_label_pieces g r old.area) old new box inside
+    (pieces-keep g g.label r old.area) paints
 
 -- what is right of a column in a part's first row
-pub right-inside : (r : Rect) (x width : ℕ) → IsBoxArea r → r.x ≤ x → width ≡ r.x + r.width - x → IsInside (record { x = x; y = r.y; width = width; height = 1 }) r
+pub right-inside : (r : Rect) (x width : ℕ) → IsBoxArea r → r.x ≤ x → width ≡ r.x + r.width - x
+    → IsInside (record { x = x; y = r.y; width = width; height = 1 }) r
 right-inside r x width box le e p h =
     let a = box.across in let d = box.down in let wide = box.columns in let high = box.rows in
     let left = h.left in let right = h.right in let top = h.top in let bottom = h.bottom in
     record { left = omega arith; right = omega arith; top = omega arith; bottom = omega arith }
 
 -- the label, and the line after it
-pub fills-line : {A : Type 0} (res : Result A AllocError) (g : LineGauge) (r : Rect) (start width end : ℕ) (old labelled new : BufferData) → PaintsPieces (corner r) (line_label_pieces g r old.area) old labelled → start ≡ line_start g r old.area
+pub fills-line : {A : Type 0} (res : Result A AllocError) (g : LineGauge) (r : Rect) (start width end : ℕ)
+    (old labelled new : BufferData) → PaintsPieces (corner r) (line_label_pieces g r old.area) old labelled
+    → start ≡ line_start g r old.area
     → width ≡ r.x + r.width - start → end ≡ min (start + filled_part g.share width) 65535
     → OnOk res (ChangesEach (record { x = start; y = r.y; width = width; height = 1 })
-    (line_cell (record { end = end; filled_symbol = g.filled_symbol; unfilled_symbol = g.unfilled_symbol; filled_style = g.filled_style; unfilled_style = g.unfilled_style })) labelled new)
+    (line_cell (record {
+      end = end;
+      filled_symbol = g.filled_symbol;
+      unfilled_symbol = g.unfilled_symbol;
+      filled_style = g.filled_style;
+      unfilled_style = g.unfilled_style;
+    })) labelled new)
     → OnOk res (FillsLine g r old new)
-fills-line (Ok v) g r start width end old labelled new label e1 e2 e3 line = record { labelled = labelled; label = label; line = rw (e3, e2, e1) at line }
+fills-line (Ok v) g r start width end old labelled new label e1 e2 e3 line = record {
+  labelled = labelled;
+  label = label;
+  line = rw (e3, e2, e1) at line;
+}
 fills-line (Err e) g r start width end old labelled new label e1 e2 e3 line = tt
 
 -- where a label stands in a part
@@ -82,43 +106,55 @@ label-row text r own l box inside e = let is = label-in text r l box e in part-h
 pub label-column : (text : List ℕ) (r own l : Rect) → IsBoxArea r → IsInside r own → l ≡ label_part text r → own.x ≤ l.x
 label-column text r own l box inside e = let is = label-in text r l box e in part-starts r own l.x box inside is.left
 
-pub label-paints : {A : Type 0} (res : Result A AllocError) (text : List ℕ) (style : Style) (r l : Rect) (old new : BufferData) → IsBoxArea r → IsInside r old.area → l ≡ label_part text r
+pub label-paints : {A : Type 0} (res : Result A AllocError) (text : List ℕ) (style : Style) (r l : Rect) (old new : BufferData)
+    → IsBoxArea r → IsInside r old.area → l ≡ label_part text r
     → PaintsOrRefuses (position_of (l.x, l.y)) (pieces_at old.area l.x l.width style text) res old new → ChangesWithin r old new
 label-paints res text style r l old new box inside e paints =
     let is = label-in text r l box e in
     let keeps = text-keeps old.area l.x l.width style text in
     let right = is.right in
-    paints-within res r l.x l.y (pieces_at old.area l.x l.width style text) old new box inside is.left (omega arith) is.top is.bottom paints
+    paints-within res r l.x l.y (pieces_at old.area l.x l.width style text) old new box inside is.left
+    (omega arith) is.top is.bottom paints
 
 -- a bar lies at its side of a part
 pub bar-inside : (o : ScrollbarOrientation) (r : Rect) → IsBoxArea r → IsInside (bar_area o r) r
 bar-inside VerticalRight r box p h =
-    let a = box.across in let d = box.down in let wide = box.columns in let high = box.rows in let left = h.left in let right = h.right in let top = h.top in let bottom = h.bottom in
+    let a = box.across in let d = box.down in let wide = box.columns in let high = box.rows in let left = h.left in
+    let right = h.right in let top = h.top in let bottom = h.bottom in
     record { left = omega arith; right = omega arith; top = omega arith; bottom = omega arith }
 bar-inside VerticalLeft r box p h =
-    let a = box.across in let d = box.down in let wide = box.columns in let high = box.rows in let left = h.left in let right = h.right in let top = h.top in let bottom = h.bottom in
+    let a = box.across in let d = box.down in let wide = box.columns in let high = box.rows in let left = h.left in
+    let right = h.right in let top = h.top in let bottom = h.bottom in
     record { left = omega arith; right = omega arith; top = omega arith; bottom = omega arith }
 bar-inside HorizontalBottom r box p h =
-    let a = box.across in let d = box.down in let wide = box.columns in let high = box.rows in let left = h.left in let right = h.right in let top = h.top in let bottom = h.bottom in
+    let a = box.across in let d = box.down in let wide = box.columns in let high = box.rows in let left = h.left in
+    let right = h.right in let top = h.top in let bottom = h.bottom in
     record { left = omega arith; right = omega arith; top = omega arith; bottom = omega arith }
 bar-inside HorizontalTop r box p h =
-    let a = box.across in let d = box.down in let wide = box.columns in let high = box.rows in let left = h.left in let right = h.right in let top = h.top in let bottom = h.bottom in
+    let a = box.across in let d = box.down in let wide = box.columns in let high = box.rows in let left = h.left in
+    let right = h.right in let top = h.top in let bottom = h.bottom in
     record { left = omega arith; right = omega arith; top = omega arith; bottom = omega arith }
 
-pub bar-within : {A : Type 0} (res : Result A AllocError) (b : Scrollbar) (f : Position → Cell → Cell) (area part : Rect) (old new : BufferData) → IsClipped area old.area part → OnOk res (ChangesEach (bar_area b.orientation part) f old new)
+pub bar-within : {A : Type 0} (res : Result A AllocError) (b : Scrollbar) (f : Position → Cell → Cell) (area part : Rect)
+    (old new : BufferData) → IsClipped area old.area part → OnOk res (ChangesEach (bar_area b.orientation part) f old new)
     → OnErr res (ChangesWithin (bar_area b.orientation part) old new) → ChangesWithin area old new
 bar-within res b f area part old new clip ok err =
     let box = box-area area old.area part clip in
-    changed-within res (bar_area b.orientation part) area f old new (λ p h. clip.of_area p (bar-inside b.orientation part box p h)) ok err
+    changed-within res (bar_area b.orientation part) area f old new
+    (λ p h. clip.of_area p (bar-inside b.orientation part box p h)) ok err
 
-pub bar-renders : {A : Type 0} (res : Result A AllocError) (b : Scrollbar) (s : ScrollbarState) (area part : Rect) (old new : BufferData) → IsClipped area old.area part → 0 < s.content_length
-    → 0 < track_length b (bar_length b.orientation part) → OnOk res (ChangesEach (bar_area b.orientation part) (marked_cell (marks_of b s part)) old new) → OnErr res (ChangesWithin (bar_area b.orientation part) old new)
+pub bar-renders : {A : Type 0} (res : Result A AllocError) (b : Scrollbar) (s : ScrollbarState) (area part : Rect)
+    (old new : BufferData) → IsClipped area old.area part → 0 < s.content_length
+    → 0 < track_length b (bar_length b.orientation part)
+    → OnOk res (ChangesEach (bar_area b.orientation part) (marked_cell (marks_of b s part)) old new)
+    → OnErr res (ChangesWithin (bar_area b.orientation part) old new)
     → OnOk res (RendersScrollbar b s s area old new)
 bar-renders (Ok v) b s area part old new clip some track ok err = record {
   state = refl;
   within = bar-within (Ok v) b (marked_cell (marks_of b s part)) area part old new clip ok tt;
   bar = OnPart-clipped (MarksBar b s) area part old new clip (record {
-    none = λ none. ⊎_elim (λ (e : s.content_length ≡ 0). absurd (omega arith)) (λ (e : track_length b (bar_length b.orientation part) ≡ 0). absurd (omega arith)) none;
+    none = λ none. ⊎_elim (λ (e : s.content_length ≡ 0). absurd (omega arith))
+        (λ (e : track_length b (bar_length b.orientation part) ≡ 0). absurd (omega arith)) none;
     some = λ _ _. ok;
   });
 }

@@ -1,27 +1,40 @@
 -- Gauges and scroll bars of narrow symbols keep a buffer settled.
-use Rattle.std.proofs.Common.{lit<, ◌≡◌, ℕ, zero, suc, ◌+◌, ◌<◌, ◌≤◌, Bool, true, false, ◌&&◌, if◌then◌else◌, nat_lt, ◌==◌, List, [], ◌∷◌, ◌⊎◌, ⊎_elim, inl, inr, Option, Some, None, refl, subst, arith, codes, slice_index_or, map, drop}
+use Rattle.std.proofs.Common.{lit<, ◌≡◌, ℕ, zero, suc, ◌+◌, ◌<◌, ◌≤◌, Bool, true, false, ◌&&◌, if◌then◌else◌, nat_lt, ◌==◌, List}
+use Rattle.std.proofs.Common.{[], ◌∷◌, ◌⊎◌, ⊎_elim, inl, inr, Option, Some, None, refl, subst, arith, codes, slice_index_or, map}
+use Rattle.std.proofs.Common.{drop}
 use Rattle.std.specs.{Borrow.Bor, List.list_all}
 use Rattle.std.proofs.lemmas.Bool.{cases_lt, and_parts, and_from}
 use Rattle.std.proofs.Math.ListN.{get_or-map}
 use Rattle.ratatui_core.specs.Layout.{Rect, Position, EdgesFit, IsInside, intersected, corner}
 use Rattle.ratatui_core.specs.{Style.Style, declared.style.Color.Color, Symbols.is_narrow, Symbols.block_levels}
-use Rattle.ratatui_core.specs.Buffer.{BufferData, Cell, with_symbol, width_of, text_width, columns, IsPlain, IsPlainFrom, IsSettledBuffer}
-use Rattle.ratatui_core.proofs.BufferLemmas.{narrow-test, blocks-narrow, plain-styled, plain-with_symbol, plain-if, plain-changed, painted-settled, text-keeps, PaintsByColumns-paints, ready-row, ready-plain, ready-next, changed-settled}
+use Rattle.ratatui_core.specs.Buffer.{BufferData, Cell, with_symbol, width_of, text_width, columns, IsPlain, IsPlainFrom}
+use Rattle.ratatui_core.specs.Buffer.{IsSettledBuffer}
+use Rattle.ratatui_core.proofs.BufferLemmas.{narrow-test, blocks-narrow, plain-styled, plain-with_symbol, plain-if, plain-changed}
+use Rattle.ratatui_core.proofs.BufferLemmas.{painted-settled, text-keeps, PaintsByColumns-paints, ready-row, ready-plain}
+use Rattle.ratatui_core.proofs.BufferLemmas.{ready-next, changed-settled}
 use Rattle.rtui_boxes.specs.Boxes.{IsBoxArea, IsPlainIfBox}
-use Rattle.rtui_boxes.proofs.{PaintLemmas.part-right, PaintLemmas.part-has_row, PaintLemmas.part-starts, InnerLemmas.settled-frame}
-use Rattle.rtui_meters.specs.{declared.gauge.Gauge.Gauge, declared.gauge.Fill.Fill, declared.gauge.TheConstants.FULL_BLOCK, declared.gauge.TheConstants.TIPS}
-use Rattle.rtui_meters.specs.{declared.line_gauge.LineGauge.LineGauge, declared.line_gauge.LineFill.LineFill, declared.scrollbar.Scrollbar.Scrollbar}
-use Rattle.rtui_meters.specs.LineGauges.{line_label_pieces, line_part, line_fill, line_cell, FillsLine, RendersLineGauge, HasNarrowLine}
-use Rattle.rtui_meters.specs.{declared.scrollbar.Marks.Marks, declared.scrollbar.state.ScrollbarState.ScrollbarState, Shares.eighths_of}
-use Rattle.rtui_meters.specs.Scrollbars.{bar_area, bar_length, track_length, mark_of, marks_of, marked, marked_cell, place_on_bar, MarksBar, RendersScrollbar, IsNarrowIf, HasNarrowMarks}
-use Rattle.rtui_meters.specs.Gauges.{label_part, pieces_on_bar, filled_cell, in_colors, is_under_label, text_of_label, style_of_label, FillsArea, FillsGauge, RendersAreaGauge}
+use Rattle.rtui_boxes.proofs.{PaintLemmas.part-right, PaintLemmas.part-has_row, PaintLemmas.part-starts}
+use Rattle.rtui_boxes.proofs.{InnerLemmas.settled-frame}
+use Rattle.rtui_meters.specs.{declared.gauge.Gauge.Gauge, declared.gauge.Fill.Fill, declared.gauge.TheConstants.FULL_BLOCK}
+use Rattle.rtui_meters.specs.{declared.gauge.TheConstants.TIPS}
+use Rattle.rtui_meters.specs.{declared.line_gauge.LineGauge.LineGauge, declared.line_gauge.LineFill.LineFill}
+use Rattle.rtui_meters.specs.{declared.scrollbar.Scrollbar.Scrollbar}
+use Rattle.rtui_meters.specs.LineGauges.{line_label_pieces, line_part, line_fill, line_cell, FillsLine, RendersLineGauge}
+use Rattle.rtui_meters.specs.LineGauges.{HasNarrowLine}
+use Rattle.rtui_meters.specs.{declared.scrollbar.Marks.Marks, declared.scrollbar.state.ScrollbarState.ScrollbarState}
+use Rattle.rtui_meters.specs.{Shares.eighths_of}
+use Rattle.rtui_meters.specs.Scrollbars.{bar_area, bar_length, track_length, mark_of, marks_of, marked, marked_cell, place_on_bar}
+use Rattle.rtui_meters.specs.Scrollbars.{MarksBar, RendersScrollbar, IsNarrowIf, HasNarrowMarks}
+use Rattle.rtui_meters.specs.Gauges.{label_part, pieces_on_bar, filled_cell, in_colors, is_under_label, text_of_label}
+use Rattle.rtui_meters.specs.Gauges.{style_of_label, FillsArea, FillsGauge, RendersAreaGauge}
 use Rattle.rtui_meters.proofs.MeterLemmas.{label-in, label-row, label-column, pieces-keep}
 
 pub full-narrow : is_narrow FULL_BLOCK.now ≡ true
 full-narrow = (and_parts (is_narrow FULL_BLOCK.now) (list_all is_narrow (drop 1 block_levels)) blocks-narrow).0
 
 -- each text of a list, and another one after all
-nth-narrow : (ts : List (List ℕ)) (n : ℕ) (d : List ℕ) → list_all is_narrow ts ≡ true → is_narrow d ≡ true → is_narrow (slice_index_or ts n d) ≡ true
+nth-narrow : (ts : List (List ℕ)) (n : ℕ) (d : List ℕ) → list_all is_narrow ts ≡ true → is_narrow d ≡ true
+    → is_narrow (slice_index_or ts n d) ≡ true
 nth-narrow [] n d all e = e
 nth-narrow (t ∷ ts) zero d all e = (and_parts (is_narrow t) (list_all is_narrow ts) all).0
 nth-narrow (t ∷ ts) (suc n) d all e = nth-narrow ts n d (and_parts (is_narrow t) (list_all is_narrow ts) all).1 e
@@ -32,10 +45,14 @@ level n = nth-narrow block_levels n FULL_BLOCK.now blocks-narrow full-narrow
 -- from none to all
 tips-narrow : list_all is_narrow (map (λ t. t.now) TIPS) ≡ true
 tips-narrow =
-    and_from _ _ (level 8) (and_from _ _ (level 7) (and_from _ _ (level 6) (and_from _ _ (level 5) (and_from _ _ (level 4) (and_from _ _ (level 3) (and_from _ _ (level 2) (and_from _ _ (level 1) (and_from _ _ (level 0) refl))))))))
+    and_from _ _ (level 8) (and_from _ _ (level 7)
+    (and_from _ _ (level 6) (and_from _ _ (level 5)
+    (and_from _ _ (level 4) (and_from _ _ (level 3)
+    (and_from _ _ (level 2) (and_from _ _ (level 1) (and_from _ _ (level 0) refl))))))))
 
 pub tip-narrow : (n : ℕ) → is_narrow (slice_index_or TIPS n FULL_BLOCK).now ≡ true
-tip-narrow n = subst (λ t. is_narrow t ≡ true) (get_or-map (λ t. t.now) TIPS n FULL_BLOCK) (nth-narrow (map (λ t. t.now) TIPS) n FULL_BLOCK.now tips-narrow full-narrow)
+tip-narrow n = subst (λ t. is_narrow t ≡ true) (get_or-map (λ t. t.now) TIPS n FULL_BLOCK)
+    (nth-narrow (map (λ t. t.now) TIPS) n FULL_BLOCK.now tips-narrow full-narrow)
 
 -- a cell with a narrow symbol, in a style, in colours
 plain-narrow : (symbol : List ℕ) (c : Cell) → IsPlain c → is_narrow symbol ≡ true → IsPlain (with_symbol symbol c)
@@ -43,7 +60,13 @@ plain-narrow symbol c is narrow = plain-with_symbol symbol c is (narrow-test sym
 
 plain-colors : (front back : Color) (c : Cell) → IsPlain c → IsPlain (in_colors front back c)
 unfolding width_of
-plain-colors front back c is = record { narrow = is.narrow; unmarked = record { option = is.unmarked.option; flag = is.unmarked.flag } }
+plain-colors front back c is = record {
+  narrow = is.narrow;
+  unmarked = record {
+    option = is.unmarked.option;
+    flag = is.unmarked.flag;
+  };
+}
 
 blank-narrow : is_narrow (codes " ") ≡ true
 blank-narrow = level 8
@@ -51,11 +74,14 @@ blank-narrow = level 8
 plain-filled : (f : Fill) → is_narrow f.tip.now ≡ true → (p : Position) (c : Cell) → IsPlain c → IsPlain (filled_cell f p c)
 plain-filled f tip p c is =
     plain-if (nat_lt p.x f.end) _ _
-    (plain-if (is_under_label f p) _ _ (plain-colors _ _ _ (plain-styled f.style _ (plain-narrow (codes " ") c is blank-narrow))) (plain-colors _ _ _ (plain-styled f.style _ (plain-narrow FULL_BLOCK.now c is full-narrow))))
-    (plain-if (f.has_tip && (p.x == f.end)) _ _ (plain-styled f.style _ (plain-narrow f.tip.now c is tip)) (plain-styled f.style c is))
+    (plain-if (is_under_label f p) _ _ (plain-colors _ _ _ (plain-styled f.style _ (plain-narrow (codes " ") c is blank-narrow)))
+    (plain-colors _ _ _ (plain-styled f.style _ (plain-narrow FULL_BLOCK.now c is full-narrow))))
+    (plain-if (f.has_tip && (p.x == f.end)) _ _ (plain-styled f.style _ (plain-narrow f.tip.now c is tip))
+    (plain-styled f.style c is))
 
 -- a bar with its label on plain cells
-pub settled-area : (g : Gauge) (text : List ℕ) (style : Style) (r : Rect) (old new : BufferData) → IsBoxArea r → IsInside r old.area → EdgesFit old.area → IsPlainFrom 0 old → FillsArea g text style r old new → IsSettledBuffer new
+pub settled-area : (g : Gauge) (text : List ℕ) (style : Style) (r : Rect) (old new : BufferData) → IsBoxArea r
+    → IsInside r old.area → EdgesFit old.area → IsPlainFrom 0 old → FillsArea g text style r old new → IsSettledBuffer new
 settled-area g text style r old new box inside edges plain is =
     let filled = is.filled in
     let tip : is_narrow is.fill.tip.now ≡ true = rw is.is_fill.tip (tip-narrow (eighths_of g.share r.width)) in
@@ -65,21 +91,28 @@ settled-area g text style r old new box inside edges plain is =
     let place = label-in text r (label_part text r) box refl in
     let keeps = text-keeps filled.area (label_part text r).x (label_part text r).width style text in
     let right = place.right in
-    painted-settled (label_part text r).x (label_part text r).y (pieces_on_bar text style r filled.area) filled new edges_ plain_ (label-row text r filled.area (label_part text r) box inside_ refl)
+    painted-settled (label_part text r).x (label_part text r).y (pieces_on_bar text style r filled.area) filled new edges_ plain_
+    (label-row text r filled.area (label_part text r) box inside_ refl)
     (label-column text r filled.area (label_part text r) box inside_ refl)
-    (part-right r filled.area (label_part text r).x (columns (pieces_on_bar text style r filled.area)) box inside_ (omega arith)) is.label
+    (part-right r filled.area (label_part text r).x (columns (pieces_on_bar text style r filled.area)) box inside_ (omega arith))
+    is.label
 
-pub settled-gauge : (g : Gauge) (area : Rect) (old new : BufferData) → EdgesFit old.area → IsPlainFrom 0 old → IsPlainIfBox g.block → RendersAreaGauge g area old new → IsSettledBuffer new
+pub settled-gauge : (g : Gauge) (area : Rect) (old new : BufferData) → EdgesFit old.area → IsPlainFrom 0 old
+    → IsPlainIfBox g.block → RendersAreaGauge g area old new → IsSettledBuffer new
 settled-gauge g area old new edges plain box is =
     settled-frame g.style g.block (FillsGauge g) area old new edges plain box
-    (λ r s t some inside fit cells fills. settled-area g (text_of_label g g.label) (style_of_label g.label) r s t some inside fit cells fills) is
+    (λ r s t some inside fit cells fills. settled-area g (text_of_label g g.label)
+    (style_of_label g.label) r s t some inside fit cells fills) is
 
 -- a label, and after it a line of narrow symbols
-plain-line : (f : LineFill) → text_width f.filled_symbol.now ≤ 1 → text_width f.unfilled_symbol.now ≤ 1 → (p : Position) (c : Cell) → IsPlain c → IsPlain (line_cell f p c)
+plain-line : (f : LineFill) → text_width f.filled_symbol.now ≤ 1 → text_width f.unfilled_symbol.now ≤ 1
+    → (p : Position) (c : Cell) → IsPlain c → IsPlain (line_cell f p c)
 plain-line f filled unfilled p c is =
-    plain-if (nat_lt p.x f.end) _ _ (plain-styled f.filled_style _ (plain-with_symbol f.filled_symbol.now c is filled)) (plain-styled f.unfilled_style _ (plain-with_symbol f.unfilled_symbol.now c is unfilled))
+    plain-if (nat_lt p.x f.end) _ _ (plain-styled f.filled_style _ (plain-with_symbol f.filled_symbol.now c is filled))
+    (plain-styled f.unfilled_style _ (plain-with_symbol f.unfilled_symbol.now c is unfilled))
 
-settled-line : (g : LineGauge) (r : Rect) (old new : BufferData) → HasNarrowLine g → IsBoxArea r → IsInside r old.area → EdgesFit old.area → IsPlainFrom 0 old → FillsLine g r old new → IsSettledBuffer new
+settled-line : (g : LineGauge) (r : Rect) (old new : BufferData) → HasNarrowLine g → IsBoxArea r → IsInside r old.area
+    → EdgesFit old.area → IsPlainFrom 0 old → FillsLine g r old new → IsSettledBuffer new
 settled-line g r old new narrow box inside edges plain is =
     let ps = line_label_pieces g r old.area in
     let keeps = pieces-keep g g.label r old.area in
@@ -92,18 +125,23 @@ settled-line g r old new narrow box inside edges plain is =
     let from = ready-row r.x r.y old (ready-plain r.y old edges plain) row (omega arith) in
     let ready = ready-next r.x r.y old from row starts (columns ps) ps is.labelled right (omega arith) is.label.area by settled in
     changed-settled (r.x + columns ps) r.y (line_part g r old.area) (line_cell (line_fill g r old.area)) is.labelled new ready
-    (λ p here. let l = here.left in let e = here.right in let t = here.top in let b = here.bottom in inr (omega arith, omega arith))
+    (λ p here. let l = here.left in let e = here.right in let t = here.top in let b = here.bottom in
+    inr (omega arith, omega arith))
     (plain-line (line_fill g r old.area) narrow.filled narrow.unfilled) is.line
 
-pub settled-line_gauge : (g : LineGauge) (area : Rect) (old new : BufferData) → EdgesFit old.area → IsPlainFrom 0 old → IsPlainIfBox g.block → HasNarrowLine g → RendersLineGauge g area old new → IsSettledBuffer new
+pub settled-line_gauge : (g : LineGauge) (area : Rect) (old new : BufferData) → EdgesFit old.area → IsPlainFrom 0 old
+    → IsPlainIfBox g.block → HasNarrowLine g → RendersLineGauge g area old new → IsSettledBuffer new
 settled-line_gauge g area old new edges plain box narrow is =
-    settled-frame g.style g.block (FillsLine g) area old new edges plain box (λ r s t some inside fit cells fills. settled-line g r s t narrow some inside fit cells fills) is
+    settled-frame g.style g.block (FillsLine g) area old new edges plain box (λ r s t some inside fit cells fills.
+    settled-line g r s t narrow some inside fit cells fills) is
 
 plain-marked : (o : Option (Bor (List ℕ))) (style : Style) (c : Cell) → IsNarrowIf o → IsPlain c → IsPlain (marked (o, style) c)
 plain-marked None style c narrow is = is
-plain-marked (Some symbol) style c narrow is = plain-styled style (with_symbol symbol.now c) (plain-with_symbol symbol.now c is narrow)
+plain-marked (Some symbol) style c narrow is = plain-styled style (with_symbol symbol.now c)
+    (plain-with_symbol symbol.now c is narrow)
 
-plain-choice : (t : Bool) (a b : Option (Bor (List ℕ)) × Style) (c : Cell) → IsPlain (marked a c) → IsPlain (marked b c) → IsPlain (marked (if t then a else b) c)
+plain-choice : (t : Bool) (a b : Option (Bor (List ℕ)) × Style) (c : Cell) → IsPlain (marked a c) → IsPlain (marked b c)
+    → IsPlain (marked (if t then a else b) c)
 plain-choice true a b c pa pb = pa
 plain-choice false a b c pa pb = pb
 
@@ -112,29 +150,36 @@ plain-mark m k c narrow is =
     let track = plain-marked m.bar.track_symbol m.bar.track_style c (narrow 1 None (lit< tt)) is in
     plain-choice (nat_lt k m.track) _ _ c (plain-marked m.bar.begin_symbol m.bar.begin_style c (narrow 2 None (lit< tt)) is)
     (plain-choice (nat_lt k m.thumb) _ _ c track
-    (plain-choice (nat_lt k m.after_thumb) _ _ c (plain-marked (Some m.bar.thumb_symbol) m.bar.thumb_style c (narrow 0 None (lit< tt)) is)
-    (plain-choice (nat_lt k m.after_track) _ _ c track (plain-marked m.bar.end_symbol m.bar.end_style c (narrow 3 None (lit< tt)) is))))
+    (plain-choice (nat_lt k m.after_thumb) _ _ c (plain-marked (Some m.bar.thumb_symbol) m.bar.thumb_style c
+    (narrow 0 None (lit< tt)) is)
+    (plain-choice (nat_lt k m.after_track) _ _ c track (plain-marked m.bar.end_symbol m.bar.end_style c
+    (narrow 3 None (lit< tt)) is))))
 
-plain-bar : (b : Scrollbar) (s : ScrollbarState) (r : Rect) (old new : BufferData) → HasNarrowMarks b → IsPlainFrom 0 old → MarksBar b s r old new → IsPlainFrom 0 new
+plain-bar : (b : Scrollbar) (s : ScrollbarState) (r : Rect) (old new : BufferData) → HasNarrowMarks b → IsPlainFrom 0 old
+    → MarksBar b s r old new → IsPlainFrom 0 new
 plain-bar b s r old new narrow plain is =
-    let same : (s.content_length ≡ 0) ⊎ (track_length b (bar_length b.orientation r) ≡ 0) → IsPlainFrom 0 new = λ none. rw (is.none none) plain in
+    let same : (s.content_length ≡ 0) ⊎ (track_length b (bar_length b.orientation r) ≡ 0)
+    → IsPlainFrom 0 new = λ none. rw (is.none none) plain in
     ⊎_elim
     (λ (some : 0 < s.content_length).
     ⊎_elim
     (λ (room : 0 < track_length b (bar_length b.orientation r)).
-    plain-changed (bar_area b.orientation r) (marked_cell (marks_of b s r)) old new (λ p c cell. plain-mark (marks_of b s r) (place_on_bar (marks_of b s r) p) c narrow cell) (is.some some room) plain)
+    plain-changed (bar_area b.orientation r) (marked_cell (marks_of b s r)) old new (λ p c cell. plain-mark (marks_of b s r)
+    (place_on_bar (marks_of b s r) p) c narrow cell) (is.some some room) plain)
     (λ (le : track_length b (bar_length b.orientation r) ≤ 0). same (inr (omega arith)))
     (cases_lt 0 (track_length b (bar_length b.orientation r))))
     (λ (le : s.content_length ≤ 0). same (inl (omega arith)))
     (cases_lt 0 s.content_length)
 
 -- a scroll bar of narrow symbols keeps cells plain
-pub plain-scrollbar : (b : Scrollbar) (s t : ScrollbarState) (area : Rect) (old new : BufferData) → HasNarrowMarks b → IsPlainFrom 0 old → RendersScrollbar b s t area old new → IsPlainFrom 0 new
+pub plain-scrollbar : (b : Scrollbar) (s t : ScrollbarState) (area : Rect) (old new : BufferData) → HasNarrowMarks b
+    → IsPlainFrom 0 old → RendersScrollbar b s t area old new → IsPlainFrom 0 new
 plain-scrollbar b s t area old new narrow plain is =
     let part = intersected area old.area in
     let nothing : (part.width ≡ 0) ⊎ (part.height ≡ 0) → IsPlainFrom 0 new = λ none. rw (is.bar.nothing none) plain in
     ⊎_elim
     (λ (w : 0 < part.width).
-    ⊎_elim (λ (h : 0 < part.height). plain-bar b s part old new narrow plain (is.bar.part w h)) (λ (le : part.height ≤ 0). nothing (inr (omega arith))) (cases_lt 0 part.height))
+    ⊎_elim (λ (h : 0 < part.height). plain-bar b s part old new narrow plain (is.bar.part w h))
+    (λ (le : part.height ≤ 0). nothing (inr (omega arith))) (cases_lt 0 part.height))
     (λ (le : part.width ≤ 0). nothing (inl (omega arith)))
     (cases_lt 0 part.width)

@@ -1,5 +1,6 @@
 -- All of a whole: a full gauge, and a thumb at an end of its track.
-use Rattle.std.proofs.Common.{◌≡◌, ℕ, ◌+◌, ◌-◌, ◌*◌, ◌/◌, ◌<◌, ◌≤◌, Bool, true, false, ◌&&◌, ◌==◌, if◌then◌else◌, min, max, nat_le, nat_lt, List, refl, sym, ap, subst, ◌∙◌, arith}
+use Rattle.std.proofs.Common.{◌≡◌, ℕ, ◌+◌, ◌-◌, ◌*◌, ◌/◌, ◌<◌, ◌≤◌, Bool, true, false, ◌&&◌, ◌==◌, if◌then◌else◌, min, max}
+use Rattle.std.proofs.Common.{nat_le, nat_lt, List, refl, sym, ap, subst, ◌∙◌, arith}
 use Rattle.std.proofs.lemmas.{Nat.div-mul-add, Bool.Decides.nat_tests, Bool.cases_lt}
 use Rattle.std.proofs.Math.Nat.{mul-div_cancel}
 use Rattle.ratatui_core.specs.{Layout.Rect, Layout.Position, Layout.HasPosition, Buffer.Cell, Style.Style}
@@ -33,7 +34,8 @@ full-columns g width full =
     let all = all-parts g.share full in
     let some : 0 < whole_of g.share = omega arith in
     let floor : filled_part g.share width ≡ width = ap (λ k. width * k / whole_of g.share) all ∙ mul-div_cancel width some in
-    let near : 2 * width * parts_of g.share + whole_of g.share ≡ 2 * (whole_of g.share * width) + whole_of g.share = rw all (omega arith) in
+    let near : 2 * width * parts_of g.share + whole_of g.share ≡ 2 * (whole_of g.share * width) + whole_of g.share =
+    rw all (omega arith) in
     if-same g.use_unicode (filled_part g.share width) (rounded_part g.share width) width floor
     (ap (λ k. k / (2 * whole_of g.share)) near ∙ whole-rounded width (whole_of g.share) some)
 
@@ -41,7 +43,8 @@ if-first : {A : Type 0} (b : Bool) (x y : A) → b ≡ true → (if b then x els
 if-first true x y e = refl
 if-first false x y e = absurd (cc)
 
-pub full-cells : (g : Gauge) (text : List ℕ) (r : Rect) (f : Fill) (p : Position) (c : Cell) → is_full g.share ≡ true → IsFillOf g text r f
+pub full-cells : (g : Gauge) (text : List ℕ) (r : Rect) (f : Fill) (p : Position) (c : Cell) → is_full g.share ≡ true
+    → IsFillOf g text r f
     → HasPosition r p → filled_cell f p c ≡ full_cell f p c
 full-cells g text r f p c full fill has =
     let right = has.right in
@@ -67,19 +70,23 @@ thumb-first s track length some at =
     none-rounded (first_seen s * track) (whole_length s length) (omega arith) none in
     ap (λ n. min n (track - 1)) start ∙ omega arith
 
-pub thumb-last : (s : ScrollbarState) (track length : ℕ) → 0 < length → 0 < track → 0 < s.content_length → s.content_length ≤ s.position + 1
+pub thumb-last : (s : ScrollbarState) (track length : ℕ) → 0 < length → 0 < track → 0 < s.content_length
+    → s.content_length ≤ s.position + 1
     → thumb_start s track length + thumb_length s track length ≡ track
 thumb-last s track length some room content at =
     let seen = seen-some s length some in
     let whole : first_seen s + seen_rows s length ≡ whole_length s length = omega arith in
     let end : rounded_quotient ((first_seen s + seen_rows s length) * track) (whole_length s length) ≡ track =
-    ap (λ n. (2 * (n * track) + whole_length s length) / (2 * whole_length s length)) whole ∙ whole-rounded track (whole_length s length) (omega arith) in
+    ap (λ n. (2 * (n * track) + whole_length s length) / (2 * whole_length s length)) whole
+    ∙ whole-rounded track (whole_length s length) (omega arith) in
     ends-there (rounded_quotient (first_seen s * track) (whole_length s length)) _ track room end
   where
-    ends-there : (start end track : ℕ) → 0 < track → end ≡ track → min start (track - 1) + max (min end track - min start (track - 1)) 1 ≡ track
+    ends-there : (start end track : ℕ) → 0 < track → end ≡ track
+        → min start (track - 1) + max (min end track - min start (track - 1)) 1 ≡ track
     ends-there start end track room e = omega arith
 
-pub thumb-within : (s : ScrollbarState) (track length : ℕ) → 0 < track → thumb_start s track length + thumb_length s track length ≤ track
+pub thumb-within : (s : ScrollbarState) (track length : ℕ) → 0 < track
+    → thumb_start s track length + thumb_length s track length ≤ track
 thumb-within s track length room =
     within (rounded_quotient (first_seen s * track) (whole_length s length))
     (rounded_quotient ((first_seen s + seen_rows s length) * track) (whole_length s length)) track room

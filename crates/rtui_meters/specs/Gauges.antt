@@ -1,10 +1,14 @@
 -- A gauge: which cell gets which symbol and style.
-use Rattle.std.specs.Prelude.{◌≡◌, ℕ, Bool, ◌+◌, ◌-◌, ◌/◌, ◌==◌, ◌&&◌, not, nat_le, nat_lt, min, List, [], ◌∷◌, codes, Option, Some, None, if◌then◌else◌, unwrap_or, slice_index_or, false}
+use Rattle.std.specs.Prelude.{◌≡◌, ℕ, Bool, ◌+◌, ◌-◌, ◌/◌, ◌==◌, ◌&&◌, not, nat_le, nat_lt, min, List, []}
+use Rattle.std.specs.Prelude.{◌∷◌, codes, Option, Some, None, if◌then◌else◌, unwrap_or, slice_index_or, false}
 use Rattle.ratatui_core.specs.Layout.{Rect, Position, corner, intersected}
-use Rattle.ratatui_core.specs.{Style.Style, Style.new_style, declared.style.Color.Color, declared.style.Color.TheVariants.Reset, Text.SpanData}
-use Rattle.ratatui_core.specs.Buffer.{BufferData, Cell, Piece, styled, with_symbol, pieces_at, text_columns, PaintsPieces, ChangesEach, AreShort}
+use Rattle.ratatui_core.specs.{Style.Style, Style.new_style, declared.style.Color.Color}
+use Rattle.ratatui_core.specs.{declared.style.Color.TheVariants.Reset, Text.SpanData}
+use Rattle.ratatui_core.specs.Buffer.{BufferData, Cell, Piece, styled, with_symbol, pieces_at, text_columns}
+use Rattle.ratatui_core.specs.Buffer.{PaintsPieces, ChangesEach, AreShort}
 use Rattle.rtui_boxes.specs.Framed.{RendersInFrame, IsShortFrame, inner_if}
-use Rattle.rtui_meters.specs.{declared.gauge.Gauge.Gauge, declared.gauge.Fill.Fill, declared.gauge.TheConstants.FULL_BLOCK, declared.gauge.TheConstants.TIPS}
+use Rattle.rtui_meters.specs.{declared.gauge.Gauge.Gauge, declared.gauge.Fill.Fill}
+use Rattle.rtui_meters.specs.{declared.gauge.TheConstants.FULL_BLOCK, declared.gauge.TheConstants.TIPS}
 use Rattle.rtui_meters.specs.Shares.{share_of, filled_part, rounded_part, eighths_of, percent_text, is_full}
 
 -- an empty gauge, without box, label and styles
@@ -26,12 +30,18 @@ label_width text r = min (text_columns text) r.width
 
 -- where a label stands: in the middle of an area
 abbrev pub label_part : List ℕ → Rect → Rect
-label_part text r = record { x = r.x + (r.width - label_width text r) / 2; y = r.y + r.height / 2; width = label_width text r; height = 1 }
+label_part text r = record {
+  x = r.x + (r.width - label_width text r) / 2;
+  y = r.y + r.height / 2;
+  width = label_width text r;
+  height = 1;
+}
 
 -- the characters of a column that is filled by eighths, from none to all
 abbrev pub tip_codes : List (List ℕ)
 tip_codes =
-    codes " " ∷ codes "▏" ∷ codes "▎" ∷ codes "▍" ∷ codes "▌" ∷ codes "▋" ∷ codes "▊" ∷ codes "▉" ∷ codes "█" ∷ []
+    codes " " ∷ codes "▏" ∷ codes "▎" ∷ codes "▍" ∷ codes "▌" ∷ codes "▋" ∷ codes "▊" ∷ codes "▉" ∷ codes
+    "█" ∷ []
 
 -- the symbol of the column after the whole ones
 abbrev pub tip_text : Gauge → Rect → List ℕ
@@ -56,8 +66,10 @@ in_colors front back c = record c { fg = front; bg = back }
 -- a filled cell: a block in the bar's colours, and under the label a blank in the other ones
 abbrev pub full_cell : Fill → Position → Cell → Cell
 full_cell f p c =
-    if is_under_label f p then in_colors (unwrap_or f.style.bg Reset) (unwrap_or f.style.fg Reset) (styled f.style (with_symbol (codes " ") c))
-    else in_colors (unwrap_or f.style.fg Reset) (unwrap_or f.style.bg Reset) (styled f.style (with_symbol FULL_BLOCK.now c))
+    if is_under_label f p then in_colors (unwrap_or f.style.bg Reset) (unwrap_or f.style.fg Reset)
+    (styled f.style (with_symbol (codes " ") c))
+    else in_colors (unwrap_or f.style.fg Reset) (unwrap_or f.style.bg Reset)
+    (styled f.style (with_symbol FULL_BLOCK.now c))
 
 -- a cell of a bar: filled before its end, the tip in the next column, and otherwise in the bar's style
 abbrev pub filled_cell : Fill → Position → Cell → Cell
@@ -70,7 +82,8 @@ abbrev pub pieces_on_bar : List ℕ → Style → Rect → Rect → List Piece
 pieces_on_bar text style r own = pieces_at own (label_part text r).x (label_width text r) style text
 
 -- the bar over an area, and a label on it
-pub record FillsArea (g : Gauge) (text : List ℕ) (style : Style) (r : Rect) (old new : BufferData) : Type 0 where
+pub record FillsArea (g : Gauge) (text : List ℕ) (style : Style) (r : Rect)
+    (old new : BufferData) : Type 0 where
   pub fill : Fill
   pub is_fill : IsFillOf g text r fill
   pub filled : BufferData
@@ -93,7 +106,8 @@ FillsGauge g r = FillsArea g (text_of_label g g.label) (style_of_label g.label) 
 abbrev pub gauge_pieces : Gauge → Rect → Rect → List Piece
 gauge_pieces g r own = pieces_on_bar (text_of_label g g.label) (style_of_label g.label) r own
 
--- A gauge over the part of an area that a buffer has: its style, its box, and inside the bar with its label. Nothing outside the area changes.
+-- A gauge over the part of an area that a buffer has: its style, its box, and inside the bar with its label.
+-- Nothing outside the area changes.
 abbrev pub RendersAreaGauge : Gauge → Rect → BufferData → BufferData → Type 0
 RendersAreaGauge g = RendersInFrame g.style g.block (FillsGauge g)
 

@@ -2,9 +2,11 @@
 use Rattle.std.specs.Prelude.{◌≡◌, ℕ, ◌+◌, ◌-◌, ◌≤◌, nat_lt, min, List, Option, Some, None, if◌then◌else◌}
 use Rattle.ratatui_core.specs.Layout.{Rect, Position, corner, intersected}
 use Rattle.ratatui_core.specs.{Style.new_style, Text.LineData}
-use Rattle.ratatui_core.specs.Buffer.{BufferData, Cell, Piece, styled, with_symbol, pieces_at, line_pieces_at, columns, PaintsPieces, ChangesEach, AreShort, IsShort, text_width}
+use Rattle.ratatui_core.specs.Buffer.{BufferData, Cell, Piece, styled, with_symbol, pieces_at, line_pieces_at}
+use Rattle.ratatui_core.specs.Buffer.{columns, PaintsPieces, ChangesEach, AreShort, IsShort, text_width}
 use Rattle.rtui_boxes.specs.Framed.{RendersInFrame, IsShortFrame, inner_if}
-use Rattle.rtui_meters.specs.{declared.line_gauge.LineGauge.LineGauge, declared.line_gauge.LineFill.LineFill, declared.line_gauge.TheConstants.PLAIN_LINE}
+use Rattle.rtui_meters.specs.{declared.line_gauge.LineGauge.LineGauge, declared.line_gauge.LineFill.LineFill}
+use Rattle.rtui_meters.specs.{declared.line_gauge.TheConstants.PLAIN_LINE}
 use Rattle.rtui_meters.specs.Shares.{share_of, filled_part, percent_text}
 
 -- an empty gauge of plain lines, without box, label and styles
@@ -32,7 +34,12 @@ line_start g r own = min (r.x + columns (line_label_pieces g r own) + 1) 65535
 
 -- where the line stands: from there to the area's right edge
 abbrev pub line_part : LineGauge → Rect → Rect → Rect
-line_part g r own = record { x = line_start g r own; y = r.y; width = r.x + r.width - line_start g r own; height = 1 }
+line_part g r own = record {
+  x = line_start g r own;
+  y = r.y;
+  width = r.x + r.width - line_start g r own;
+  height = 1;
+}
 
 -- how the line is filled
 abbrev pub line_fill : LineGauge → Rect → Rect → LineFill
@@ -47,7 +54,8 @@ line_fill g r own = record {
 -- a cell of the line: the one symbol before its end, and the other one from there on, each in its style
 abbrev pub line_cell : LineFill → Position → Cell → Cell
 line_cell f p c =
-    if nat_lt p.x f.end then styled f.filled_style (with_symbol f.filled_symbol.now c) else styled f.unfilled_style (with_symbol f.unfilled_symbol.now c)
+    if nat_lt p.x f.end then styled f.filled_style (with_symbol f.filled_symbol.now c) else styled
+    f.unfilled_style (with_symbol f.unfilled_symbol.now c)
 
 -- the label from an area's corner on, and the line after it
 pub record FillsLine (g : LineGauge) (r : Rect) (old new : BufferData) : Type 0 where
@@ -55,7 +63,8 @@ pub record FillsLine (g : LineGauge) (r : Rect) (old new : BufferData) : Type 0 
   pub label : PaintsPieces (corner r) (line_label_pieces g r old.area) old labelled
   pub line : ChangesEach (line_part g r old.area) (line_cell (line_fill g r old.area)) labelled new
 
--- A line gauge over the part of an area that a buffer has: its style, its box, and inside the label and the line. Nothing outside the area changes.
+-- A line gauge over the part of an area that a buffer has: its style, its box, and inside the label and the
+-- line. Nothing outside the area changes.
 abbrev pub RendersLineGauge : LineGauge → Rect → BufferData → BufferData → Type 0
 RendersLineGauge g = RendersInFrame g.style g.block (FillsLine g)
 

@@ -1,15 +1,21 @@
 -- A scroll bar: where it stands, and where its thumb is.
-use Rattle.std.specs.Prelude.{◌≡◌, ℕ, Bool, true, false, ◌+◌, ◌-◌, ◌*◌, ◌<◌, ◌≤◌, ◌⊎◌, nat_lt, min, max, List, [], ◌∷◌, codes, encode_utf8_all, Option, Some, None, if◌then◌else◌, All, ⊤}
+use Rattle.std.specs.Prelude.{◌≡◌, ℕ, Bool, true, false, ◌+◌, ◌-◌, ◌*◌, ◌<◌, ◌≤◌, ◌⊎◌, nat_lt, min, max, List}
+use Rattle.std.specs.Prelude.{[], ◌∷◌, codes, encode_utf8_all, Option, Some, None, if◌then◌else◌, All, ⊤}
 use Rattle.std.specs.Borrow.{Bor}
-use Rattle.ratatui_core.specs.{Layout.Rect, Layout.Position, Symbols.scrollbar_texts, Style.Style, Style.new_style, declared.symbols.scrollbar.Set.Set}
+use Rattle.ratatui_core.specs.{Layout.Rect, Layout.Position, Symbols.scrollbar_texts, Style.Style}
+use Rattle.ratatui_core.specs.{Style.new_style, declared.symbols.scrollbar.Set.Set}
 use Rattle.ratatui_core.specs.Buffer.{BufferData, Cell, styled, with_symbol, ChangesEach, IsShort, text_width}
 use Rattle.ratatui_core.specs.Widgets.{ChangesWithin, OnPart}
 use Rattle.rtui_boxes.specs.Boxes.{last_column, last_row}
-use Rattle.rtui_meters.specs.{declared.scrollbar.Scrollbar.Scrollbar, declared.scrollbar.Marks.Marks, declared.scrollbar.state.ScrollbarState.ScrollbarState}
+use Rattle.rtui_meters.specs.{declared.scrollbar.Scrollbar.Scrollbar, declared.scrollbar.Marks.Marks}
+use Rattle.rtui_meters.specs.{declared.scrollbar.state.ScrollbarState.ScrollbarState}
 use Rattle.rtui_meters.specs.declared.scrollbar.state.ScrollDirection.{ScrollDirection}
 use Rattle.rtui_meters.specs.declared.scrollbar.state.ScrollDirection.TheVariants.{Forward, Backward}
-use Rattle.rtui_meters.specs.{declared.scrollbar.ScrollbarOrientation.ScrollbarOrientation, Shares.rounded_quotient}
-use Rattle.rtui_meters.specs.declared.scrollbar.ScrollbarOrientation.TheVariants.{VerticalRight, VerticalLeft, HorizontalBottom, HorizontalTop}
+use Rattle.rtui_meters.specs.{declared.scrollbar.ScrollbarOrientation.ScrollbarOrientation}
+use Rattle.rtui_meters.specs.{Shares.rounded_quotient}
+use Rattle.rtui_meters.specs.declared.scrollbar.ScrollbarOrientation.TheVariants.{VerticalRight, VerticalLeft}
+use Rattle.rtui_meters.specs.declared.scrollbar.ScrollbarOrientation.TheVariants.{HorizontalBottom}
+use Rattle.rtui_meters.specs.declared.scrollbar.ScrollbarOrientation.TheVariants.{HorizontalTop}
 
 -- the position is one further, as far as the content goes
 abbrev pub moved_on : ScrollbarState → ScrollbarState
@@ -27,11 +33,14 @@ is_upright VerticalLeft = true
 is_upright HorizontalBottom = false
 is_upright HorizontalTop = false
 
--- the texts of a set of double lines for a side: the track, the thumb, and what stands at the start and the end
+-- the texts of a set of double lines for a side: the track, the thumb, and what stands at the start and the
+-- end
 abbrev pub texts_for : ScrollbarOrientation → List (List ℕ)
 texts_for o =
-    if is_upright o then encode_utf8_all (codes "║") ∷ encode_utf8_all (codes "█") ∷ encode_utf8_all (codes "▲") ∷ encode_utf8_all (codes "▼") ∷ []
-    else encode_utf8_all (codes "═") ∷ encode_utf8_all (codes "█") ∷ encode_utf8_all (codes "◄") ∷ encode_utf8_all (codes "►") ∷ []
+    if is_upright o then encode_utf8_all (codes "║") ∷ encode_utf8_all (codes "█") ∷ encode_utf8_all
+    (codes "▲") ∷ encode_utf8_all (codes "▼") ∷ []
+    else encode_utf8_all (codes "═") ∷ encode_utf8_all (codes "█") ∷ encode_utf8_all
+    (codes "◄") ∷ encode_utf8_all (codes "►") ∷ []
 
 -- the set is one of double lines for a side
 abbrev pub IsSetFor : ScrollbarOrientation → Set → Type 0
@@ -103,7 +112,8 @@ seen_rows s length = if nat_lt 0 s.viewport_content_length then s.viewport_conte
 abbrev pub first_seen : ScrollbarState → ℕ
 first_seen s = min s.position (s.content_length - 1)
 
--- how far one can see: from the first row to the last one that is seen if the content's last one is seen first
+-- how far one can see: from the first row to the last one that is seen if the content's last one is seen
+-- first
 abbrev pub whole_length : ScrollbarState → ℕ → ℕ
 whole_length s length = s.content_length - 1 + seen_rows s length
 
@@ -113,7 +123,8 @@ thumb_start s track length = min (rounded_quotient (first_seen s * track) (whole
 
 -- where it ends, in proportion
 abbrev pub thumb_end : ScrollbarState → ℕ → ℕ → ℕ
-thumb_end s track length = min (rounded_quotient ((first_seen s + seen_rows s length) * track) (whole_length s length)) track
+thumb_end s track length = min (rounded_quotient ((first_seen s + seen_rows s length) * track)
+    (whole_length s length)) track
 
 -- how long it is: at least one cell
 abbrev pub thumb_length : ScrollbarState → ℕ → ℕ → ℕ
@@ -125,7 +136,10 @@ mark_of m k =
     if nat_lt k m.track then (m.bar.begin_symbol, m.bar.begin_style)
     else if nat_lt k m.thumb then (m.bar.track_symbol, m.bar.track_style)
     else if nat_lt k m.after_thumb then (Some m.bar.thumb_symbol, m.bar.thumb_style)
-    else if nat_lt k m.after_track then (m.bar.track_symbol, m.bar.track_style) else (m.bar.end_symbol, m.bar.end_style)
+    else if nat_lt k m.after_track then (m.bar.track_symbol, m.bar.track_style) else (
+      m.bar.end_symbol,
+      m.bar.end_style,
+    )
 
 -- the place of a position on a bar
 abbrev pub place_on_bar : Marks → Position → ℕ
@@ -163,10 +177,13 @@ marks_of b s r =
 -- a bar over an area: without a content or without room for a track nothing changes
 pub record MarksBar (b : Scrollbar) (s : ScrollbarState) (r : Rect) (old new : BufferData) : Type 0 where
   pub none : (s.content_length ≡ 0) ⊎ (track_length b (bar_length b.orientation r) ≡ 0) → new ≡ old
-  pub some : 0 < s.content_length → 0 < track_length b (bar_length b.orientation r) → ChangesEach (bar_area b.orientation r) (marked_cell (marks_of b s r)) old new
+  pub some : 0 < s.content_length → 0 < track_length b (bar_length b.orientation r)
+      → ChangesEach (bar_area b.orientation r) (marked_cell (marks_of b s r)) old new
 
--- A scroll bar over the part of an area that a buffer has. Nothing outside the area changes, and the state stays as it is.
-pub record RendersScrollbar (b : Scrollbar) (s t : ScrollbarState) (area : Rect) (old new : BufferData) : Type 0 where
+-- A scroll bar over the part of an area that a buffer has. Nothing outside the area changes, and the state
+-- stays as it is.
+pub record RendersScrollbar (b : Scrollbar) (s t : ScrollbarState) (area : Rect)
+    (old new : BufferData) : Type 0 where
   pub state : t ≡ s
   pub within : ChangesWithin area old new
   pub bar : OnPart (MarksBar b s) area old new

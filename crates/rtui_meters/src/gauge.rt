@@ -6,7 +6,8 @@ ghost use Rattle.ratatui_core.specs.Buffer.{AreShort, IsShort};
 ghost use Rattle.ratatui_core.specs.Widgets.{ChangesWithin};
 ghost use Rattle.rtui_boxes.specs.Boxes.{IsBoxArea};
 ghost use Rattle.rtui_meters.specs.Shares.{share_of};
-ghost use Rattle.rtui_meters.specs.Gauges.{IsNewGauge, IsFillOf, is_under_label, full_cell, FillsArea, FillsGauge, pieces_on_bar, gauge_pieces};
+ghost use Rattle.rtui_meters.specs.Gauges.{IsNewGauge, IsFillOf, is_under_label, full_cell, FillsArea};
+ghost use Rattle.rtui_meters.specs.Gauges.{FillsGauge, pieces_on_bar, gauge_pieces};
 
 use crate::share::Share;
 use ratatui_core::buffer::{Buffer, Cell, CellChange, change_area};

@@ -3,7 +3,9 @@
 ghost use Rattle.std.specs.Prelude.{◌≡◌, ◌≤◌, ◌<◌, ◌-◌, ◌^◌};
 ghost use Rattle.ratatui_core.specs.Layout.{IsInside};
 ghost use Rattle.rtui_boxes.specs.Boxes.{IsBoxArea};
-ghost use Rattle.rtui_meters.specs.Scrollbars.{IsNewScrollbar, HasSymbols, IsSetFor, with_bar_symbols, is_upright, bar_area, bar_start, bar_length, arrow_count, track_length, marks_of, mark_of};
+ghost use Rattle.rtui_meters.specs.Scrollbars.{IsNewScrollbar, HasSymbols, IsSetFor, with_bar_symbols};
+ghost use Rattle.rtui_meters.specs.Scrollbars.{is_upright, bar_area, bar_start, bar_length, arrow_count};
+ghost use Rattle.rtui_meters.specs.Scrollbars.{track_length, marks_of, mark_of};
 
 mod state;
 

@@ -1,5 +1,6 @@
 -- Each symbol that borders can be joined of is narrow, and so is what is joined of narrow ones.
-use Rattle.std.proofs.Common.{◌≡◌, ℕ, ◌≤◌, Bool, true, false, if◌then◌else◌, List, [], ◌∷◌, length, Option, Some, None, unwrap_or, refl, subst, arith, nat_le}
+use Rattle.std.proofs.Common.{◌≡◌, ℕ, ◌≤◌, Bool, true, false, if◌then◌else◌, List, [], ◌∷◌, length, Option, Some, None, unwrap_or}
+use Rattle.std.proofs.Common.{refl, subst, arith, nat_le}
 use Rattle.std.specs.{List.find, List.list_all, Option.option_map, Char.encode_utf8}
 use Rattle.std.proofs.lemmas.{Bool.and_parts, Bool.Decides.nat_tests}
 use Rattle.unicode_width.proofs.Computing.{unicode_width}
@@ -21,12 +22,14 @@ pub all-narrow : list_all (λ s. is_narrow s.text) symbols ≡ true
 unfolding symbols encode_utf8 text_width unicode_width
 all-narrow = refl
 
-found-here : (b : Bool) (s : Symbol) (rest : Option Symbol) (t : List ℕ) → option_map (λ x. x.text) (if b then Some s else rest) ≡ Some t → is_narrow s.text ≡ true
+found-here : (b : Bool) (s : Symbol) (rest : Option Symbol) (t : List ℕ)
+    → option_map (λ x. x.text) (if b then Some s else rest) ≡ Some t → is_narrow s.text ≡ true
     → (option_map (λ x. x.text) rest ≡ Some t → is_narrow t ≡ true) → is_narrow t ≡ true
 found-here true s rest t e here more = let same : s.text ≡ t = cc in subst (λ u. is_narrow u ≡ true) same here
 found-here false s rest t e here more = more e
 
-found-narrow : (test : Symbol → Bool) (ss : List Symbol) → list_all (λ s. is_narrow s.text) ss ≡ true → (t : List ℕ) → option_map (λ s. s.text) (find test ss) ≡ Some t → is_narrow t ≡ true
+found-narrow : (test : Symbol → Bool) (ss : List Symbol) → list_all (λ s. is_narrow s.text) ss ≡ true → (t : List ℕ)
+    → option_map (λ s. s.text) (find test ss) ≡ Some t → is_narrow t ≡ true
 found-narrow test [] all t e = absurd (cc)
 found-narrow test (s ∷ ss) all t e =
     let parts = and_parts (is_narrow s.text) (list_all (λ x. is_narrow x.text) ss) all in
@@ -62,11 +65,13 @@ pub merged-narrow : (m : MergeStrategy) (prev next : List ℕ) → IsNarrow prev
 merged-narrow m prev next p n = merged-keeps IsNarrow (λ t is. is) m prev next p n
 
 -- as far as columns go, and as far as memory goes
-pub joined-columns : (m : MergeStrategy) (o : Option (List ℕ)) (next : List ℕ) → text_width (symbol_text o) ≤ 1 → text_width next ≤ 1 → text_width (joined m o next) ≤ 1
+pub joined-columns : (m : MergeStrategy) (o : Option (List ℕ)) (next : List ℕ) → text_width (symbol_text o) ≤ 1
+    → text_width next ≤ 1 → text_width (joined m o next) ≤ 1
 joined-columns m o next p n = joined-keeps (λ t. text_width t ≤ 1) (λ t is. is.columns) m o next p n
 
 pub merged-short : (m : MergeStrategy) (prev next : List ℕ) → IsShort prev → IsShort next → IsShort (merged m prev next)
 merged-short m prev next p n = merged-keeps IsShort (λ t is. is.memory) m prev next p n
 
-pub joined-short : (m : MergeStrategy) (o : Option (List ℕ)) (next : List ℕ) → IsShort (symbol_text o) → IsShort next → IsShort (joined m o next)
+pub joined-short : (m : MergeStrategy) (o : Option (List ℕ)) (next : List ℕ) → IsShort (symbol_text o) → IsShort next
+    → IsShort (joined m o next)
 joined-short m o next p n = joined-keeps IsShort (λ t is. is.memory) m o next p n

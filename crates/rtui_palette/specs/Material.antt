@@ -1,8 +1,12 @@
 -- The palettes of Material Design, and the numbers that make them.
 use Rattle.std.specs.Prelude.{ℕ, List, [], ◌∷◌, slice_index}
 use Rattle.rtui_style.specs.Color.{color_of_number}
-use Rattle.rtui_palette.specs.{declared.material.AccentedPalette.AccentedPalette, declared.material.NonAccentedPalette.NonAccentedPalette}
-use Rattle.rtui_palette.specs.declared.material.TheConstants.{RED, PINK, PURPLE, DEEP_PURPLE, INDIGO, BLUE, LIGHT_BLUE, CYAN, TEAL, GREEN, LIGHT_GREEN, LIME, YELLOW, AMBER, ORANGE, DEEP_ORANGE, BROWN, GRAY, BLUE_GRAY}
+use Rattle.rtui_palette.specs.{declared.material.AccentedPalette.AccentedPalette}
+use Rattle.rtui_palette.specs.{declared.material.NonAccentedPalette.NonAccentedPalette}
+use Rattle.rtui_palette.specs.declared.material.TheConstants.{RED, PINK, PURPLE, DEEP_PURPLE, INDIGO, BLUE}
+use Rattle.rtui_palette.specs.declared.material.TheConstants.{LIGHT_BLUE, CYAN, TEAL, GREEN, LIGHT_GREEN}
+use Rattle.rtui_palette.specs.declared.material.TheConstants.{LIME, YELLOW, AMBER, ORANGE, DEEP_ORANGE, BROWN}
+use Rattle.rtui_palette.specs.declared.material.TheConstants.{GRAY, BLUE_GRAY}
 
 -- the palette of fourteen numbers
 abbrev pub accented_of : List ℕ → AccentedPalette

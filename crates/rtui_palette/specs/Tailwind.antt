@@ -2,7 +2,10 @@
 use Rattle.std.specs.Prelude.{ℕ, List, [], ◌∷◌}
 use Rattle.rtui_style.specs.declared.color.Color.{Color}
 use Rattle.rtui_palette.specs.declared.tailwind.Palette.{Palette}
-use Rattle.rtui_palette.specs.declared.tailwind.TheConstants.{SLATE, GRAY, ZINC, NEUTRAL, STONE, RED, ORANGE, AMBER, YELLOW, LIME, GREEN, EMERALD, TEAL, CYAN, SKY, BLUE, INDIGO, VIOLET, PURPLE, FUCHSIA, PINK, ROSE}
+use Rattle.rtui_palette.specs.declared.tailwind.TheConstants.{SLATE, GRAY, ZINC, NEUTRAL, STONE, RED, ORANGE}
+use Rattle.rtui_palette.specs.declared.tailwind.TheConstants.{AMBER, YELLOW, LIME, GREEN, EMERALD, TEAL, CYAN}
+use Rattle.rtui_palette.specs.declared.tailwind.TheConstants.{SKY, BLUE, INDIGO, VIOLET, PURPLE, FUCHSIA}
+use Rattle.rtui_palette.specs.declared.tailwind.TheConstants.{PINK, ROSE}
 
 -- the shades of a palette, the lightest first
 abbrev pub shades : Palette → List Color

@@ -2,7 +2,8 @@
 
 ghost use Rattle.std.specs.Prelude.{◌≡◌, map};
 ghost use Rattle.rtui_style.specs.Color.{color_of_number};
-ghost use Rattle.rtui_palette.specs.Material.{accented_of, accented_numbers, accented_palettes, non_accented_of, non_accented_numbers, non_accented_palettes};
+ghost use Rattle.rtui_palette.specs.Material.{accented_of, accented_numbers, accented_palettes};
+ghost use Rattle.rtui_palette.specs.Material.{non_accented_of, non_accented_numbers, non_accented_palettes};
 ghost use Rattle.rtui_palette.specs.Tailwind as tailwind;
 ghost use Rattle.rtui_palette.specs.declared.material.TheConstants as material_constant;
 ghost use Rattle.rtui_palette.specs.declared.tailwind.TheConstants as tailwind_constant;

@@ -1,28 +1,38 @@
 -- A line of which as many graphemes are held as the next row needs.
-use Rattle.std.proofs.Common.{◌≡◌, ℕ, suc, ◌+◌, ◌-◌, ◌*◌, ◌<◌, ◌≤◌, ◌++◌, ◌⊎◌, ⊎_elim, Bool, true, false, nat_lt, if◌then◌else◌, List, [], ◌∷◌, filter, take, drop, length, refl, sym, ap, ◌∙◌, inl, inr, arith, append_assoc, append-nil}
+use Rattle.std.proofs.Common.{◌≡◌, ℕ, suc, ◌+◌, ◌-◌, ◌*◌, ◌<◌, ◌≤◌, ◌++◌, ◌⊎◌, ⊎_elim, Bool, true, false, nat_lt, if◌then◌else◌}
+use Rattle.std.proofs.Common.{List, [], ◌∷◌, filter, take, drop, length, refl, sym, ap, ◌∙◌, inl, inr, arith, append_assoc}
+use Rattle.std.proofs.Common.{append-nil}
 use Rattle.std.specs.List.{prefix_len, list_all}
 use Rattle.std.proofs.lemmas.Bool.{cases_lt, cases_Bool, and_parts}
 use Rattle.std.proofs.lemmas.{Bool.Decides.nat_tests, List.Sums.sum_by-append, List.Folds.list_all-append}
 use Rattle.std.proofs.Math.Seq.{take-append_seam}
-use Rattle.std.proofs.lemmas.List.{take-append-drop, take-append-le, drop-append-le, length-drop, length-take, drop-drop, map-append}
+use Rattle.std.proofs.lemmas.List.{take-append-drop, take-append-le, drop-append-le, length-drop, length-take, drop-drop}
+use Rattle.std.proofs.lemmas.List.{map-append}
 use Rattle.ratatui_core.specs.{Text.GraphemeData, Text.grapheme_data, declared.text.StyledGrapheme.StyledGrapheme}
-use Rattle.rtui_paragraph.specs.Reflow.{data_of, is_break, grapheme_columns, columns_taken, fits_row, AllFit, count_fitting, last_end, leading_word, break_at_blank, break_in_word, break_before, row_break, trimmed_start, split_row}
+use Rattle.rtui_paragraph.specs.Reflow.{data_of, is_break, grapheme_columns, columns_taken, fits_row, AllFit, count_fitting}
+use Rattle.rtui_paragraph.specs.Reflow.{last_end, leading_word, break_at_blank, break_in_word, break_before, row_break}
+use Rattle.rtui_paragraph.specs.Reflow.{trimmed_start, split_row}
 use Rattle.rtui_paragraph.specs.Ahead.{columns_ahead, IsEnough, HasLeft, left_of}
 use Rattle.rtui_paragraph.specs.declared.ahead.Ahead.{Ahead}
-use Rattle.rtui_paragraph.proofs.ReflowLemmas.{columns-next, count-next, count-full, count-fits, word-next, wide-next, wide-full, last_end-le, front-fits, fit-past, row_break-is, data-count, data-drop, tail-is}
+use Rattle.rtui_paragraph.proofs.ReflowLemmas.{columns-next, count-next, count-full, count-fits, word-next, wide-next, wide-full}
+use Rattle.rtui_paragraph.proofs.ReflowLemmas.{last_end-le, front-fits, fit-past, row_break-is, data-count, data-drop, tail-is}
 
 -- ---- what comes after enough graphemes changes nothing of the next row
 
-prefix-step : (b : Bool) (n m l : ℕ) → (n < l → m ≡ n) → (if b then 1 + n else 0) < suc l → (if b then 1 + m else 0) ≡ (if b then 1 + n else 0)
+prefix-step : (b : Bool) (n m l : ℕ) → (n < l → m ≡ n) → (if b then 1 + n else 0) < suc l
+    → (if b then 1 + m else 0) ≡ (if b then 1 + n else 0)
 prefix-step true n m l same lt = ap (λ k. 1 + k) (same (omega arith))
 prefix-step false n m l same lt = refl
 
 -- the blanks at the front, if something stands after them
-prefix-append : (gs more : List GraphemeData) → prefix_len is_break gs < length gs → prefix_len is_break (gs ++ more) ≡ prefix_len is_break gs
+prefix-append : (gs more : List GraphemeData) → prefix_len is_break gs < length gs
+    → prefix_len is_break (gs ++ more) ≡ prefix_len is_break gs
 prefix-append [] more lt = absurd (omega arith)
-prefix-append (g ∷ gs) more lt = prefix-step (is_break g) (prefix_len is_break gs) (prefix_len is_break (gs ++ more)) (length gs) (prefix-append gs more) lt
+prefix-append (g ∷ gs) more lt = prefix-step (is_break g) (prefix_len is_break gs) (prefix_len is_break (gs ++ more)) (length gs)
+    (prefix-append gs more) lt
 
-trimmed-append : (trim : Bool) (gs more : List GraphemeData) → trimmed_start trim gs < length gs → trimmed_start trim (gs ++ more) ≡ trimmed_start trim gs
+trimmed-append : (trim : Bool) (gs more : List GraphemeData) → trimmed_start trim gs < length gs
+    → trimmed_start trim (gs ++ more) ≡ trimmed_start trim gs
 trimmed-append true gs more lt = prefix-append gs more lt
 trimmed-append false gs more lt = refl
 
@@ -33,13 +43,15 @@ some-columns n (g ∷ gs) lt = omega arith
 columns-parts : (n : ℕ) (gs : List GraphemeData) → columns_taken gs ≡ columns_taken (take n gs) + columns_taken (drop n gs)
 columns-parts n gs = ap columns_taken (sym (take-append-drop n gs)) ∙ sum_by-append grapheme_columns (take n gs) (drop n gs)
 
-count-append : (room : ℕ) (gs more : List GraphemeData) → room < columns_taken gs → count_fitting room (gs ++ more) ≡ count_fitting room gs
+count-append : (room : ℕ) (gs more : List GraphemeData) → room < columns_taken gs
+    → count_fitting room (gs ++ more) ≡ count_fitting room gs
 count-append room [] more lt = absurd (omega arith)
 count-append room (g ∷ gs) more lt = ⊎_elim
     (λ (full : room < grapheme_columns g). count-full room g (gs ++ more) full ∙ sym (count-full room g gs full))
     (λ (le : grapheme_columns g ≤ room).
     let fewer : room - grapheme_columns g < columns_taken gs = omega (arith, columns-next g gs) in
-    count-next room g (gs ++ more) le ∙ (ap suc (count-append (room - grapheme_columns g) gs more fewer) ∙ sym (count-next room g gs le)))
+    count-next room g (gs ++ more) le ∙ (ap suc (count-append (room - grapheme_columns g) gs more fewer)
+    ∙ sym (count-next room g gs le)))
     (cases_lt room (grapheme_columns g))
 
 count-short : (room : ℕ) (gs : List GraphemeData) → room < columns_taken gs → count_fitting room gs < length gs
@@ -61,7 +73,8 @@ leading-append m (g ∷ gs) more lt = ⊎_elim
     let here = leading_word gs in
     let there = leading_word (gs ++ more) in
     ap (nat_lt m) (word-next g (gs ++ more) word) ∙ (⊎_elim
-    (λ (wide : m < grapheme_columns g). wide-full m (grapheme_columns g) (columns_taken there) wide ∙ sym (wide-full m (grapheme_columns g) (columns_taken here) wide))
+    (λ (wide : m < grapheme_columns g). wide-full m (grapheme_columns g) (columns_taken there) wide
+    ∙ sym (wide-full m (grapheme_columns g) (columns_taken here) wide))
     (λ (le : grapheme_columns g ≤ m).
     let fewer : m - grapheme_columns g < columns_taken gs = omega (arith, columns-next g gs) in
     sym (wide-next m (grapheme_columns g) (columns_taken there) le)
@@ -91,13 +104,16 @@ module _ (width : ℕ) (gs more : List GraphemeData) (lt : 2 * width < columns_t
       let le : word ≤ fitting = omega (arith, last_end-le is_break (take fitting gs), length-take fitting gs) in
       let before : take word (gs ++ more) ≡ take word gs = take-append-le word gs more (omega (arith, short)) in
       let after : drop word (gs ++ more) ≡ drop word gs ++ more = drop-append-le word gs more (omega (arith, short)) in
-      let wide : width < columns_taken (drop word gs) = omega (arith, columns-parts word gs, front-fits word fitting width gs le fits) in
+      let wide : width < columns_taken (drop word gs) =
+      omega (arith, columns-parts word gs, front-fits word fitting width gs le fits) in
       rw (front, before, after, leading-append width (drop word gs) more wide) refl
 
   break-append : row_break width (gs ++ more) ≡ row_break width gs
-  break-append = rw (count-append width gs more (omega arith), drop-append-le fitting gs more (omega (arith, short))) (cases (drop fitting gs) refl)
+  break-append = rw (count-append width gs more (omega arith), drop-append-le fitting gs more (omega (arith, short)))
+      (cases (drop fitting gs) refl)
     where
-      cases : (after : List GraphemeData) → drop fitting gs ≡ after → break_before width (gs ++ more) fitting (after ++ more) ≡ break_before width gs fitting after
+      cases : (after : List GraphemeData) → drop fitting gs ≡ after
+          → break_before width (gs ++ more) fitting (after ++ more) ≡ break_before width gs fitting after
       cases [] is = absurd (omega (arith, short, length-drop fitting gs, ap length is))
       cases (g ∷ after) is = by (is_break g)
         where
@@ -122,12 +138,15 @@ split-append width trim gs more lt fit =
 
 -- the graphemes at the front fit, if all do
 pub fit-front : (width : ℕ) (gs more : List GraphemeData) → AllFit width (gs ++ more) → AllFit width gs
-fit-front width gs more fit = (and_parts (list_all (fits_row width) gs) (list_all (fits_row width) more) (sym (list_all-append (fits_row width) gs more) ∙ fit)).0
+fit-front width gs more fit = (and_parts (list_all (fits_row width) gs) (list_all (fits_row width) more)
+    (sym (list_all-append (fits_row width) gs more) ∙ fit)).0
 
 -- ---- one grapheme more is held
 
-append-columns : (gs : List GraphemeData) (g : GraphemeData) → columns_taken (gs ++ g ∷ []) ≡ columns_taken gs + grapheme_columns g
-append-columns gs g = sum_by-append grapheme_columns gs (g ∷ []) ∙ ap (λ n. columns_taken gs + n) (columns-next g [] ∙ omega arith)
+append-columns : (gs : List GraphemeData) (g : GraphemeData)
+    → columns_taken (gs ++ g ∷ []) ≡ columns_taken gs + grapheme_columns g
+append-columns gs g = sum_by-append grapheme_columns gs (g ∷ []) ∙ ap (λ n. columns_taken gs + n)
+    (columns-next g [] ∙ omega arith)
 
 -- columns after the blanks at the front, one grapheme further
 abbrev after_blanks : List GraphemeData → ℕ
@@ -150,11 +169,23 @@ blanks-grown [] g (inr word) = omega (arith, blanks-end g [] word, columns-next 
 blanks-grown (h ∷ gs) g counts = ⊎_elim
     (λ (blank : is_break h ≡ true).
     let same = blanks-next h gs blank in
-    omega (arith, same, blanks-next h (gs ++ g ∷ []) blank, blanks-grown gs g (⊎_elim (λ (some : 0 < after_blanks (h ∷ gs)). inl (omega (arith, same))) (λ (word : is_break g ≡ false). inr word) counts)))
-    (λ (word : is_break h ≡ false). omega (arith, blanks-end h gs word, blanks-end h (gs ++ g ∷ []) word, append-columns (h ∷ gs) g))
+    omega (
+      arith,
+      same,
+      blanks-next h (gs ++ g ∷ []) blank,
+      blanks-grown gs g (⊎_elim (λ (some : 0 < after_blanks (h ∷ gs)). inl (omega (arith, same)))
+          (λ (word : is_break g ≡ false). inr word) counts),
+    ))
+    (λ (word : is_break h ≡ false). omega (
+      arith,
+      blanks-end h gs word,
+      blanks-end h (gs ++ g ∷ []) word,
+      append-columns (h ∷ gs) g,
+    ))
     (cases_Bool (is_break h))
 
-pub ahead-grown : (trim : Bool) (gs : List GraphemeData) (g : GraphemeData) → (trim ≡ true → (0 < columns_ahead trim gs) ⊎ (is_break g ≡ false))
+pub ahead-grown : (trim : Bool) (gs : List GraphemeData) (g : GraphemeData)
+    → (trim ≡ true → (0 < columns_ahead trim gs) ⊎ (is_break g ≡ false))
     → columns_ahead trim gs + grapheme_columns g ≤ columns_ahead trim (gs ++ g ∷ [])
 ahead-grown true gs g counts = blanks-grown gs g (counts refl)
 ahead-grown false gs g counts = omega (arith, append-columns gs g)
@@ -168,10 +199,12 @@ left-passed passed count gs more le =
     let rest = drop passed gs in
     let long : count ≤ length (data_of rest) = omega (arith, data-count rest, length-drop passed gs) in
     let further : drop count rest ≡ drop (passed + count) gs = drop-drop count passed gs ∙ ap (λ n. drop n gs) (omega arith) in
-    ap (λ xs. data_of xs ++ more) (sym further) ∙ (ap (λ xs. xs ++ more) (data-drop count rest) ∙ sym (drop-append-le count (data_of rest) more long))
+    ap (λ xs. data_of xs ++ more) (sym further) ∙ (ap (λ xs. xs ++ more) (data-drop count rest)
+    ∙ sym (drop-append-le count (data_of rest) more long))
 
 -- those that were passed are no longer held
-pub left-moved : (passed : ℕ) (gs moved : List StyledGrapheme) (n : ℕ) → passed ≤ length gs → n + passed ≡ length gs → moved ≡ take n (drop passed gs ++ take passed gs)
+pub left-moved : (passed : ℕ) (gs moved : List StyledGrapheme) (n : ℕ) → passed ≤ length gs → n + passed ≡ length gs
+    → moved ≡ take n (drop passed gs ++ take passed gs)
     → moved ≡ drop passed gs
 left-moved passed gs moved n le long is =
     let count : n ≡ length (drop passed gs) = omega (arith, length-drop passed gs) in
@@ -180,7 +213,8 @@ left-moved passed gs moved n le long is =
 -- the row of what is held is the row of all that is left
 pub row-of-left : (width passed : ℕ) (trim : Bool) (gs : List StyledGrapheme) (more : List GraphemeData)
     → IsEnough width trim (data_of (drop passed gs)) ⊎ (more ≡ []) → AllFit width (data_of (drop passed gs) ++ more)
-    → split_row width trim (data_of (take (length gs - passed) (drop passed gs))) ≡ split_row width trim (data_of (drop passed gs) ++ more)
+    → split_row width trim (data_of (take (length gs - passed) (drop passed gs))) ≡ split_row width trim
+    (data_of (drop passed gs) ++ more)
 row-of-left width passed trim gs more enough fit =
     let here = data_of (drop passed gs) in
     ap (λ xs. split_row width trim (data_of xs)) (tail-is passed gs) ∙ ⊎_elim
@@ -189,11 +223,17 @@ row-of-left width passed trim gs more enough fit =
     enough
 
 -- nothing that fits is left of a line of which nothing is left
-pub none-left : {Enough : Type 0} (width : ℕ) (rest : List GraphemeData) → Enough ⊎ (rest ≡ []) → Enough ⊎ (filter (fits_row width) rest ≡ [])
+pub none-left : {Enough : Type 0} (width : ℕ) (rest : List GraphemeData) → Enough ⊎ (rest ≡ [])
+    → Enough ⊎ (filter (fits_row width) rest ≡ [])
 none-left width rest (inl enough) = inl enough
 none-left width rest (inr none) = inr (ap (filter (fits_row width)) none)
 
 -- a row was passed, and the next one is held
-pub line-step : (count : ℕ) (old passed filled : Ahead) → HasLeft (drop count (left_of old)) old passed → HasLeft (left_of passed) passed filled
+pub line-step : (count : ℕ) (old passed filled : Ahead) → HasLeft (drop count (left_of old)) old passed
+    → HasLeft (left_of passed) passed filled
     → HasLeft (drop count (left_of old)) old filled
-line-step count old passed filled step fill = record { left = fill.left ∙ step.left; width = fill.width ∙ step.width; trim = fill.trim ∙ step.trim }
+line-step count old passed filled step fill = record {
+  left = fill.left ∙ step.left;
+  width = fill.width ∙ step.width;
+  trim = fill.trim ∙ step.trim;
+}

@@ -2,15 +2,18 @@
 use Rattle.std.proofs.Common.{◌≡◌, ℕ, ◌+◌, ◌≤◌, Option, subst, ◌∙◌, arith, Result, Ok, Err, OnOk}
 use Rattle.std.specs.declared.alloc.AllocError.{AllocError}
 use Rattle.ratatui_core.specs.{Layout.Rect, Layout.EdgesFit, Style.Style, Text.GraphemeData}
-use Rattle.ratatui_core.specs.Buffer.{BufferData, IsPlainFrom, IsReadyFrom, IsSettledBuffer, PaintsPieces, pieces_at, room_at, text_pieces, position_of}
-use Rattle.ratatui_core.proofs.{BufferLemmas.settled-plain, BufferLemmas.ready-plain, BufferLemmas.within-same, WidgetLemmas.within-then}
+use Rattle.ratatui_core.specs.Buffer.{BufferData, IsPlainFrom, IsReadyFrom, IsSettledBuffer, PaintsPieces, pieces_at, room_at}
+use Rattle.ratatui_core.specs.Buffer.{text_pieces, position_of}
+use Rattle.ratatui_core.proofs.{BufferLemmas.settled-plain, BufferLemmas.ready-plain, BufferLemmas.within-same}
+use Rattle.ratatui_core.proofs.{WidgetLemmas.within-then}
 use Rattle.rtui_boxes.specs.{declared.block.Block.Block, Boxes.IsPlainIfBox, Framed.IsFramed, Framed.RendersInFrame}
 use Rattle.rtui_boxes.proofs.InnerLemmas.{plain-framed, framed-area}
 use Rattle.rtui_paragraph.specs.{declared.paragraph.Paragraph.Paragraph, Reflow.grapheme_columns}
 use Rattle.rtui_paragraph.specs.Paragraphs.{PaintsGrapheme, FillsText, RendersParagraph}
 
 -- a style and a box over plain cells
-module _ (style : Style) (o : Option Block) (part : Rect) (old framed : BufferData) (frame : IsFramed style o part old framed) (edges : EdgesFit old.area) (plain : IsPlainFrom 0 old) (box : IsPlainIfBox o) where
+module _ (style : Style) (o : Option Block) (part : Rect) (old framed : BufferData) (frame : IsFramed style o part old framed)
+    (edges : EdgesFit old.area) (plain : IsPlainFrom 0 old) (box : IsPlainIfBox o) where
   framed-edges : EdgesFit framed.area
   framed-edges = rw (framed-area style o part old framed frame) edges
 
@@ -20,8 +23,10 @@ module _ (style : Style) (o : Option Block) (part : Rect) (old framed : BufferDa
   pub framed-ready : (y : ℕ) → IsReadyFrom y framed
   framed-ready y = ready-plain y framed framed-edges (plain-framed style o part old framed box plain frame)
 
-pub paragraph-ok : {A : Type 0} (r : Result A AllocError) (p : Paragraph) (area : Rect) (old new : BufferData) → OnOk r (RendersInFrame p.style p.block (FillsText p) area old new)
-    → (EdgesFit old.area → IsPlainFrom 0 old → IsPlainIfBox p.block → OnOk r (IsSettledBuffer new)) → OnOk r (RendersParagraph p area old new)
+pub paragraph-ok : {A : Type 0} (r : Result A AllocError) (p : Paragraph) (area : Rect) (old new : BufferData)
+    → OnOk r (RendersInFrame p.style p.block (FillsText p) area old new)
+    → (EdgesFit old.area → IsPlainFrom 0 old → IsPlainIfBox p.block → OnOk r (IsSettledBuffer new))
+    → OnOk r (RendersParagraph p area old new)
 paragraph-ok (Ok x) p area old new frame settled = record { frame = frame; settled = settled }
 paragraph-ok (Err e) p area old new frame settled = tt
 
@@ -29,9 +34,12 @@ room-is : (r : Rect) (x n : ℕ) → x + n ≤ r.x + r.width → n ≤ 65535 →
 room-is r x n fits small = omega arith
 
 -- a grapheme painted in the columns that it takes
-pub grapheme-painted : (x y n : ℕ) (g : GraphemeData) (old new : BufferData) → n ≡ grapheme_columns g → x + n ≤ old.area.x + old.area.width → n ≤ 65535 → PaintsPieces (position_of (x, y)) (pieces_at old.area x n g.style g.symbol) old new
+pub grapheme-painted : (x y n : ℕ) (g : GraphemeData) (old new : BufferData) → n ≡ grapheme_columns g
+    → x + n ≤ old.area.x + old.area.width → n ≤ 65535
+    → PaintsPieces (position_of (x, y)) (pieces_at old.area x n g.style g.symbol) old new
     → PaintsGrapheme x y g old new
 grapheme-painted x y n g old new is fits small paints =
-    subst (λ k. PaintsPieces (position_of (x, y)) (text_pieces k g.style g.symbol) old new) (room-is old.area x n fits small ∙ is) paints
+    subst (λ k. PaintsPieces (position_of (x, y)) (text_pieces k g.style g.symbol) old new) (room-is old.area x n fits small
+    ∙ is) paints
 
 pub ruleset within_steps = (within-same, within-then)

@@ -1,16 +1,23 @@
 -- A row at the front of a line: where it ends, and what it keeps.
-use Rattle.std.proofs.Common.{◌≡◌, ℕ, suc, ◌+◌, ◌-◌, ◌<◌, ◌≤◌, ◌++◌, ◌&&◌, ◌||◌, ◌==◌, ⊎_elim, Bool, true, false, nat_lt, nat_le, if◌then◌else◌, List, [], ◌∷◌, filter, take, drop, length, refl, sym, ap, ap₂, subst, ◌∙◌, arith, slice_index_or}
+use Rattle.std.proofs.Common.{◌≡◌, ℕ, suc, ◌+◌, ◌-◌, ◌<◌, ◌≤◌, ◌++◌, ◌&&◌, ◌||◌, ◌==◌, ⊎_elim, Bool, true, false, nat_lt, nat_le}
+use Rattle.std.proofs.Common.{if◌then◌else◌, List, [], ◌∷◌, filter, take, drop, length, refl, sym, ap, ap₂, subst, ◌∙◌, arith}
+use Rattle.std.proofs.Common.{slice_index_or}
 use Rattle.std.specs.List.{list_all, prefix_len}
 use Rattle.std.proofs.lemmas.Bool.{cases_lt, and_parts, and_right, or_right, cases_Bool}
-use Rattle.std.proofs.lemmas.{Bool.Decides.nat_tests, List.Elements.filter-append, List.Folds.list_all-append, List.Sums.sum_by-cons, List.Sums.sum_by-take-le}
-use Rattle.std.proofs.lemmas.List.{take-append-drop, take-take, drop-take, take_all, length-drop, length-take, length-map, take-map, drop-map, drop_more, drop_all, append_assoc, append-nil}
+use Rattle.std.proofs.lemmas.{Bool.Decides.nat_tests, List.Elements.filter-append, List.Folds.list_all-append}
+use Rattle.std.proofs.lemmas.{List.Sums.sum_by-cons, List.Sums.sum_by-take-le}
+use Rattle.std.proofs.lemmas.List.{take-append-drop, take-take, drop-take, take_all, length-drop, length-take, length-map}
+use Rattle.std.proofs.lemmas.List.{take-map, drop-map, drop_more, drop_all, append_assoc, append-nil}
 use Rattle.ratatui_core.specs.{Text.GraphemeData, Text.grapheme_data, declared.text.StyledGrapheme.StyledGrapheme}
-use Rattle.rtui_paragraph.specs.Reflow.{data_of, is_break, is_of_word, grapheme_columns, columns_taken, words_of, fits_row, AllFit, count_fitting, fitting_front, after_columns, last_end, leading_word, break_at_blank, break_in_word, break_before, row_break, trimmed_start, split_row}
+use Rattle.rtui_paragraph.specs.Reflow.{data_of, is_break, is_of_word, grapheme_columns, columns_taken, words_of, fits_row}
+use Rattle.rtui_paragraph.specs.Reflow.{AllFit, count_fitting, fitting_front, after_columns, last_end, leading_word}
+use Rattle.rtui_paragraph.specs.Reflow.{break_at_blank, break_in_word, break_before, row_break, trimmed_start, split_row}
 
 -- ---- graphemes one by one
 
 -- the next grapheme, and those after it
-pub next-data : (gs : List StyledGrapheme) (i : ℕ) (d : StyledGrapheme) → i < length gs → data_of (drop i gs) ≡ grapheme_data (slice_index_or gs i d) ∷ data_of (drop (i + 1) gs)
+pub next-data : (gs : List StyledGrapheme) (i : ℕ) (d : StyledGrapheme) → i < length gs
+    → data_of (drop i gs) ≡ grapheme_data (slice_index_or gs i d) ∷ data_of (drop (i + 1) gs)
 next-data gs i d lt = ap data_of (drop_more gs i d lt)
 
 pub none-left : (gs : List StyledGrapheme) (i : ℕ) → length gs ≤ i → data_of (drop i gs) ≡ []
@@ -19,10 +26,12 @@ none-left gs i le = ap data_of (drop_all i gs le)
 pub columns-next : (g : GraphemeData) (gs : List GraphemeData) → columns_taken (g ∷ gs) ≡ grapheme_columns g + columns_taken gs
 columns-next g gs = sum_by-cons grapheme_columns g gs
 
-pub count-next : (room : ℕ) (g : GraphemeData) (gs : List GraphemeData) → grapheme_columns g ≤ room → count_fitting room (g ∷ gs) ≡ suc (count_fitting (room - grapheme_columns g) gs)
+pub count-next : (room : ℕ) (g : GraphemeData) (gs : List GraphemeData) → grapheme_columns g ≤ room
+    → count_fitting room (g ∷ gs) ≡ suc (count_fitting (room - grapheme_columns g) gs)
 count-next room g gs le = let fits : fits_row room g ≡ true = grind (arith, nat_tests) in rw fits refl
 
-pub count-full : (room : ℕ) (g : GraphemeData) (gs : List GraphemeData) → room < grapheme_columns g → count_fitting room (g ∷ gs) ≡ 0
+pub count-full : (room : ℕ) (g : GraphemeData) (gs : List GraphemeData) → room < grapheme_columns g
+    → count_fitting room (g ∷ gs) ≡ 0
 count-full room g gs lt = let full : fits_row room g ≡ false = grind (arith, nat_tests) in rw full refl
 
 -- the place of the last grapheme of a kind, with what was found so far
@@ -30,7 +39,8 @@ abbrev pub found_end : (GraphemeData → Bool) → ℕ → ℕ → List Grapheme
 found_end p count so_far left = if nat_lt 0 (last_end p left) then count + last_end p left else so_far
 
 -- the columns of the first word
-pub word-next : (g : GraphemeData) (gs : List GraphemeData) → is_break g ≡ false → columns_taken (leading_word (g ∷ gs)) ≡ grapheme_columns g + columns_taken (leading_word gs)
+pub word-next : (g : GraphemeData) (gs : List GraphemeData) → is_break g ≡ false
+    → columns_taken (leading_word (g ∷ gs)) ≡ grapheme_columns g + columns_taken (leading_word gs)
 word-next g gs is = rw is (columns-next g (leading_word gs))
 
 pub wide-next : (left w c : ℕ) → w ≤ left → nat_lt (left - w) c ≡ nat_lt left (w + c)
@@ -62,7 +72,8 @@ last_end-le p (g ∷ gs) = end_after-le (last_end p gs) (length gs) (p g) (last_
 abbrev words_with : Bool → GraphemeData → List GraphemeData → List GraphemeData
 words_with here g ws = if here then g ∷ ws else ws
 
-none-step : (n : ℕ) (here : Bool) (g : GraphemeData) (ws : List GraphemeData) → (n ≡ 0 → ws ≡ []) → end_after n here ≡ 0 → words_with here g ws ≡ []
+none-step : (n : ℕ) (here : Bool) (g : GraphemeData) (ws : List GraphemeData) → (n ≡ 0 → ws ≡ []) → end_after n here ≡ 0
+    → words_with here g ws ≡ []
 none-step n true g ws more none = let no : ⊥ = grind (arith, nat_tests, none) in absurd no
 none-step n false g ws more none = more (grind (arith, nat_tests, none))
 
@@ -70,7 +81,8 @@ none-after : (gs : List GraphemeData) → last_end is_of_word gs ≡ 0 → words
 none-after [] none = refl
 none-after (g ∷ gs) none = none-step (last_end is_of_word gs) (is_of_word g) g (words_of gs) (none-after gs) none
 
-keeps-step : (g : GraphemeData) (gs : List GraphemeData) (n : ℕ) → words_of (take n gs) ≡ words_of gs → (n ≡ 0 → words_of gs ≡ []) → words_of (take (end_after n (is_of_word g)) (g ∷ gs)) ≡ words_of (g ∷ gs)
+keeps-step : (g : GraphemeData) (gs : List GraphemeData) (n : ℕ) → words_of (take n gs) ≡ words_of gs → (n ≡ 0 → words_of gs ≡ [])
+    → words_of (take (end_after n (is_of_word g)) (g ∷ gs)) ≡ words_of (g ∷ gs)
 keeps-step g gs n more none = ⊎_elim
     (λ (some : 0 < n). rw (end_after-some n (is_of_word g) some) (ap (words_with (is_of_word g) g) more))
     (λ (le : n ≤ 0).
@@ -93,7 +105,8 @@ pub count-le : (gs : List GraphemeData) (room : ℕ) → count_fitting room gs �
 count-le [] room = omega arith
 count-le (g ∷ gs) room = ⊎_elim
     (λ (full : room < grapheme_columns g). let e = count-full room g gs full in omega arith)
-    (λ (le : grapheme_columns g ≤ room). let e = count-next room g gs le in let more = count-le gs (room - grapheme_columns g) in omega arith)
+    (λ (le : grapheme_columns g ≤ room). let e = count-next room g gs le in let more = count-le gs (room - grapheme_columns g) in
+    omega arith)
     (cases_lt room (grapheme_columns g))
 
 pub count-fits : (gs : List GraphemeData) (room : ℕ) → columns_taken (take (count_fitting room gs) gs) ≤ room
@@ -107,15 +120,18 @@ count-fits (g ∷ gs) room = ⊎_elim
     (cases_lt room (grapheme_columns g))
 
 -- a shorter front has no more columns
-pub front-fits : (n m width : ℕ) (gs : List GraphemeData) → n ≤ m → columns_taken (take m gs) ≤ width → columns_taken (take n gs) ≤ width
+pub front-fits : (n m width : ℕ) (gs : List GraphemeData) → n ≤ m → columns_taken (take m gs) ≤ width
+    → columns_taken (take n gs) ≤ width
 front-fits n m width gs le fits =
     let h = sum_by-take-le grapheme_columns (take m gs) n in
-    let k : columns_taken (take n gs) ≤ columns_taken (take m gs) = subst (λ ys. columns_taken ys ≤ columns_taken (take m gs)) (take-take n m gs le) h in
+    let k : columns_taken (take n gs) ≤ columns_taken (take m gs) = subst (λ ys. columns_taken ys ≤ columns_taken (take m gs))
+    (take-take n m gs le) h in
     omega arith
 
 count-some : (gs : List GraphemeData) (width : ℕ) → AllFit width gs → 0 < length gs → 0 < count_fitting width gs
 count-some [] width fit some = absurd (omega arith)
-count-some (g ∷ gs) width fit some = let here = (and_parts (fits_row width g) (list_all (fits_row width) gs) fit).0 in rw here (omega arith)
+count-some (g ∷ gs) width fit some = let here = (and_parts (fits_row width g) (list_all (fits_row width) gs) fit).0 in
+    rw here (omega arith)
 
 -- the graphemes after the blanks at the front, if rows are trimmed, have all words
 blanks-step : (b : Bool) (n k : ℕ) → n ≤ k → (if b then 1 + n else 0) ≤ suc k
@@ -126,13 +142,15 @@ pub blanks-le : (gs : List GraphemeData) → prefix_len is_break gs ≤ length g
 blanks-le [] = omega arith
 blanks-le (g ∷ gs) = blanks-step (is_break g) (prefix_len is_break gs) (length gs) (blanks-le gs)
 
-blank-words : (g : GraphemeData) (gs : List GraphemeData) (n : ℕ) → words_of (take n gs) ≡ [] → words_of (take (if is_break g then 1 + n else 0) (g ∷ gs)) ≡ []
+blank-words : (g : GraphemeData) (gs : List GraphemeData) (n : ℕ) → words_of (take n gs) ≡ []
+    → words_of (take (if is_break g then 1 + n else 0) (g ∷ gs)) ≡ []
 blank-words g gs n none = ⊎_elim
     (λ (blank : is_break g ≡ true).
     let more : (if is_break g then 1 + n else 0) ≡ suc n = rw blank (omega arith) in
     let gone : is_of_word g ≡ false = rw blank refl in
     ap (λ k. words_of (take k (g ∷ gs))) more ∙ rw gone none)
-    (λ (word : is_break g ≡ false). let first : (if is_break g then 1 + n else 0) ≡ 0 = rw word refl in ap (λ k. words_of (take k (g ∷ gs))) first)
+    (λ (word : is_break g ≡ false). let first : (if is_break g then 1 + n else 0) ≡ 0 = rw word refl in
+    ap (λ k. words_of (take k (g ∷ gs))) first)
     (cases_Bool (is_break g))
 
 blanks-none : (gs : List GraphemeData) → words_of (take (prefix_len is_break gs) gs) ≡ []
@@ -148,18 +166,22 @@ trimmed-none true gs = blanks-none gs
 trimmed-none false gs = refl
 
 -- after blanks a front has the words of what stands there
-words-past : (start n : ℕ) (gs : List GraphemeData) → words_of (take start gs) ≡ [] → words_of (take (start + n) gs) ≡ words_of (take n (drop start gs))
+words-past : (start n : ℕ) (gs : List GraphemeData) → words_of (take start gs) ≡ []
+    → words_of (take (start + n) gs) ≡ words_of (take n (drop start gs))
 words-past start n gs none =
     let parts : take (start + n) gs ≡ take start gs ++ take n (drop start gs) =
-    sym (take-append-drop start (take (start + n) gs)) ∙ (ap (λ xs. xs ++ drop start (take (start + n) gs)) (take-take start (start + n) gs (omega arith))
+    sym (take-append-drop start (take (start + n) gs))
+    ∙ (ap (λ xs. xs ++ drop start (take (start + n) gs)) (take-take start (start + n) gs (omega arith))
     ∙ ap (λ ys. take start gs ++ ys) (drop-take start n gs)) in
-    ap words_of parts ∙ (filter-append is_of_word (take start gs) (take n (drop start gs)) ∙ ap (λ xs. xs ++ words_of (take n (drop start gs))) none)
+    ap words_of parts ∙ (filter-append is_of_word (take start gs) (take n (drop start gs))
+    ∙ ap (λ xs. xs ++ words_of (take n (drop start gs))) none)
 
 -- what is left fits, too
 pub fit-past : (width n : ℕ) (gs : List GraphemeData) → AllFit width gs → AllFit width (drop n gs)
 fit-past width n gs fit =
     (and_parts (list_all (fits_row width) (take n gs)) (list_all (fits_row width) (drop n gs))
-    (sym (list_all-append (fits_row width) (take n gs) (drop n gs)) ∙ (ap (list_all (fits_row width)) (take-append-drop n gs) ∙ fit))).1
+    (sym (list_all-append (fits_row width) (take n gs) (drop n gs)) ∙ (ap (list_all (fits_row width)) (take-append-drop n gs)
+    ∙ fit))).1
 
 -- where a row ends, and where the next one begins
 pub record IsBreak (width : ℕ) (gs : List GraphemeData) (b : ℕ × ℕ) : Type 0 where
@@ -169,7 +191,8 @@ pub record IsBreak (width : ℕ) (gs : List GraphemeData) (b : ℕ × ℕ) : Typ
   pub fits : columns_taken (take b.0 gs) ≤ width
   pub keeps : words_of (take b.1 gs) ≡ words_of (take b.0 gs)
 
-same-break : (width n : ℕ) (gs : List GraphemeData) → n ≤ length gs → (0 < length gs → 0 < n) → columns_taken (take n gs) ≤ width → IsBreak width gs (n, n)
+same-break : (width n : ℕ) (gs : List GraphemeData) → n ≤ length gs → (0 < length gs → 0 < n) → columns_taken (take n gs) ≤ width
+    → IsBreak width gs (n, n)
 same-break width n gs inside some fits = record { ends = omega arith; inside = inside; some = some; fits = fits; keeps = refl }
 
 -- the words of a front that ends with its last word
@@ -179,18 +202,23 @@ front-keeps n gs =
     let short : last_end is_of_word (take n gs) ≤ n = omega (arith, le, length-take n gs) in
     sym (last_word-keeps (take n gs)) ∙ ap words_of (take-take (last_end is_of_word (take n gs)) n gs short)
 
-at-blank : (width n : ℕ) (gs after : List GraphemeData) (g : GraphemeData) → n ≤ length gs → columns_taken (take n gs) ≤ width → drop n gs ≡ g ∷ after → is_break g ≡ true → IsBreak width gs (break_at_blank gs n)
+at-blank : (width n : ℕ) (gs after : List GraphemeData) (g : GraphemeData) → n ≤ length gs → columns_taken (take n gs) ≤ width
+    → drop n gs ≡ g ∷ after → is_break g ≡ true → IsBreak width gs (break_at_blank gs n)
 at-blank width n gs after g inside fits is blank =
     let end = last_end is_of_word (take n gs) in
     let le : end ≤ n = omega (arith, last_end-le is_of_word (take n gs), length-take n gs) in
     let room : length gs ≡ n + suc (length after) = (let d = length-drop n gs in let l = ap length is in omega arith) in
     let more : take (n + 1) gs ≡ take n gs ++ g ∷ [] =
-    sym (take-append-drop n (take (n + 1) gs)) ∙ (ap (λ xs. xs ++ drop n (take (n + 1) gs)) (take-take n (n + 1) gs (omega arith)) ∙ ap (λ ys. take n gs ++ ys) (drop-take n 1 gs ∙ ap (take 1) is)) in
+    sym (take-append-drop n (take (n + 1) gs)) ∙ (ap (λ xs. xs ++ drop n (take (n + 1) gs)) (take-take n (n + 1) gs (omega arith))
+    ∙ ap (λ ys. take n gs ++ ys) (drop-take n 1 gs ∙ ap (take 1) is)) in
     let gone : words_of (g ∷ []) ≡ [] = (let none : is_of_word g ≡ false = rw blank refl in rw none refl) in
-    let words : words_of (take (n + 1) gs) ≡ words_of (take n gs) = ap words_of more ∙ (filter-append is_of_word (take n gs) (g ∷ []) ∙ (ap (λ ws. words_of (take n gs) ++ ws) gone ∙ append-nil (words_of (take n gs)))) in
+    let words : words_of (take (n + 1) gs) ≡ words_of (take n gs) = ap words_of more
+    ∙ (filter-append is_of_word (take n gs) (g ∷ []) ∙ (ap (λ ws. words_of (take n gs) ++ ws) gone
+    ∙ append-nil (words_of (take n gs)))) in
     cases (nat_lt 0 end) refl le room words
   where
-    cases : (t : Bool) → nat_lt 0 (last_end is_of_word (take n gs)) ≡ t → last_end is_of_word (take n gs) ≤ n → length gs ≡ n + suc (length after) → words_of (take (n + 1) gs) ≡ words_of (take n gs)
+    cases : (t : Bool) → nat_lt 0 (last_end is_of_word (take n gs)) ≡ t → last_end is_of_word (take n gs) ≤ n
+        → length gs ≡ n + suc (length after) → words_of (take (n + 1) gs) ≡ words_of (take n gs)
         → IsBreak width gs (if t then last_end is_of_word (take n gs) else n, n + 1)
     cases true e le room words = record {
       ends = omega arith;
@@ -199,9 +227,16 @@ at-blank width n gs after g inside fits is blank =
       fits = front-fits (last_end is_of_word (take n gs)) n width gs le fits;
       keeps = words ∙ front-keeps n gs;
     }
-    cases false e le room words = record { ends = omega arith; inside = omega arith; some = λ _. omega arith; fits = fits; keeps = words }
+    cases false e le room words = record {
+      ends = omega arith;
+      inside = omega arith;
+      some = λ _. omega arith;
+      fits = fits;
+      keeps = words;
+    }
 
-in-word : (width n : ℕ) (gs : List GraphemeData) → n ≤ length gs → 0 < n → columns_taken (take n gs) ≤ width → IsBreak width gs (break_in_word width gs n)
+in-word : (width n : ℕ) (gs : List GraphemeData) → n ≤ length gs → 0 < n → columns_taken (take n gs) ≤ width
+    → IsBreak width gs (break_in_word width gs n)
 in-word width n gs inside some fits =
     let word = last_end is_break (take n gs) in
     let end = last_end is_of_word (take word gs) in
@@ -209,7 +244,8 @@ in-word width n gs inside some fits =
     let less : end ≤ word = omega (arith, last_end-le is_of_word (take word gs), length-take word gs) in
     cases word end le less (nat_lt 0 end) refl (word == 0) refl (nat_lt width (columns_taken (leading_word (drop word gs)))) refl
   where
-    cases : (word end : ℕ) → word ≤ n → end ≤ word → (t : Bool) → nat_lt 0 end ≡ t → (u : Bool) → (word == 0) ≡ u → (v : Bool) → end ≡ last_end is_of_word (take word gs)
+    cases : (word end : ℕ) → word ≤ n → end ≤ word → (t : Bool) → nat_lt 0 end ≡ t → (u : Bool) → (word == 0) ≡ u → (v : Bool)
+        → end ≡ last_end is_of_word (take word gs)
         → IsBreak width gs (if t then (end, word) else if u || v then (n, n) else (word, word))
     cases word end le less true e u f v is = record {
       ends = less;
@@ -248,7 +284,8 @@ pub record IsSplit (width : ℕ) (gs : List GraphemeData) (split : List Grapheme
   pub some : 0 < length gs → 0 < split.1
   pub inside : split.1 ≤ length gs
 
-pub split_row-is : (width : ℕ) (trim : Bool) (gs : List GraphemeData) → AllFit width gs → IsSplit width gs (split_row width trim gs)
+pub split_row-is : (width : ℕ) (trim : Bool) (gs : List GraphemeData) → AllFit width gs
+    → IsSplit width gs (split_row width trim gs)
 split_row-is width trim gs fit =
     let start = trimmed_start trim gs in
     let rest = drop start gs in
@@ -277,7 +314,8 @@ pub data-count : (gs : List StyledGrapheme) → length (data_of gs) ≡ length g
 data-count gs = length-map gs grapheme_data
 
 pub tail-is : (n : ℕ) (gs : List StyledGrapheme) → take (length gs - n) (drop n gs) ≡ drop n gs
-tail-is n gs = subst (λ k. take k (drop n gs) ≡ drop n gs) (length-drop n gs) (take_all (length (drop n gs)) (drop n gs) (omega arith))
+tail-is n gs = subst (λ k. take k (drop n gs) ≡ drop n gs) (length-drop n gs) (take_all (length (drop n gs)) (drop n gs)
+    (omega arith))
 
 pub data-tail : (n : ℕ) (gs : List StyledGrapheme) → data_of (take (length gs - n) (drop n gs)) ≡ drop n (data_of gs)
 data-tail n gs = ap data_of (tail-is n gs) ∙ data-drop n gs
@@ -292,13 +330,15 @@ module _ (gs : List StyledGrapheme) (n end : ℕ) (is : end ≡ last_end is_of_w
   pub blank-whole : end ≤ 0 → (n, n + 1) ≡ break_at_blank (data_of gs) n
   blank-whole none = let t : nat_lt 0 end ≡ false = grind (arith, nat_tests) in rw (last-in, t) refl
 
-pub last-inside : (p : GraphemeData → Bool) (gs : List StyledGrapheme) (n word : ℕ) → word ≡ last_end p (data_of (take n gs)) → word ≤ n
+pub last-inside : (p : GraphemeData → Bool) (gs : List StyledGrapheme) (n word : ℕ) → word ≡ last_end p (data_of (take n gs))
+    → word ≤ n
 last-inside p gs n word is =
     let le = last_end-le p (data_of (take n gs)) in
     let count : length (data_of (take n gs)) ≤ n = omega (arith, data-count (take n gs), length-take n gs) in
     omega arith
 
-module _ (gs : List StyledGrapheme) (width n word end : ℕ) (at : word ≡ last_end is_break (data_of (take n gs))) (is : end ≡ last_end is_of_word (data_of (take word gs))) where
+module _ (gs : List StyledGrapheme) (width n word end : ℕ) (at : word ≡ last_end is_break (data_of (take n gs)))
+    (is : end ≡ last_end is_of_word (data_of (take word gs))) where
   word-at : last_end is_break (take n (data_of gs)) ≡ word
   word-at = ap (last_end is_break) (sym (data-take n gs)) ∙ sym at
 
@@ -308,11 +348,13 @@ module _ (gs : List StyledGrapheme) (width n word end : ℕ) (at : word ≡ last
   pub word-ends-at : 0 < end → (end, word) ≡ break_in_word width (data_of gs) n
   word-ends-at some = let t : nat_lt 0 end ≡ true = grind (arith, nat_tests) in rw (word-at, end-at, t) refl
 
-  wide-at : (wide : Bool) → wide ≡ nat_lt width (columns_taken (leading_word (data_of (take (length gs - word) (drop word gs))))) → nat_lt width (columns_taken (leading_word (drop word (data_of gs)))) ≡ wide
+  wide-at : (wide : Bool) → wide ≡ nat_lt width (columns_taken (leading_word (data_of (take (length gs - word) (drop word gs)))))
+      → nat_lt width (columns_taken (leading_word (drop word (data_of gs)))) ≡ wide
   wide-at wide e = ap (λ rest. nat_lt width (columns_taken (leading_word rest))) (sym (data-tail word gs)) ∙ sym e
 
   pub word-broken : end ≤ 0 → word ≡ 0 → (n, n) ≡ break_in_word width (data_of gs) n
-  word-broken none first = let t : nat_lt 0 end ≡ false = grind (arith, nat_tests) in let z : (word == 0) ≡ true = grind (arith, nat_tests) in rw (word-at, end-at, t, z) refl
+  word-broken none first = let t : nat_lt 0 end ≡ false = grind (arith, nat_tests) in let z : (word == 0) ≡ true =
+      grind (arith, nat_tests) in rw (word-at, end-at, t, z) refl
 
   abbrev whole : ℕ × ℕ
   whole = (n, n)
@@ -320,13 +362,17 @@ module _ (gs : List StyledGrapheme) (width n word end : ℕ) (at : word ≡ last
   abbrev moved : ℕ × ℕ
   moved = (word, word)
 
-  pub word-wide : end ≤ 0 → (wide : Bool) → wide ≡ nat_lt width (columns_taken (leading_word (data_of (take (length gs - word) (drop word gs))))) → wide ≡ true → (n, n) ≡ break_in_word width (data_of gs) n
+  pub word-wide : end ≤ 0 → (wide : Bool)
+      → wide ≡ nat_lt width (columns_taken (leading_word (data_of (take (length gs - word) (drop word gs))))) → wide ≡ true
+      → (n, n) ≡ break_in_word width (data_of gs) n
   word-wide none wide e is_wide =
       let t : nat_lt 0 end ≡ false = grind (arith, nat_tests) in
       let w : nat_lt width (columns_taken (leading_word (drop word (data_of gs)))) ≡ true = wide-at wide e ∙ is_wide in
       rw (word-at, end-at, t, w) (ap (λ b. if b then whole else moved) (sym (or_right (word == 0) true refl)))
 
-  pub word-moved : end ≤ 0 → 0 < word → (wide : Bool) → wide ≡ nat_lt width (columns_taken (leading_word (data_of (take (length gs - word) (drop word gs))))) → wide ≡ false → (word, word) ≡ break_in_word width (data_of gs) n
+  pub word-moved : end ≤ 0 → 0 < word → (wide : Bool)
+      → wide ≡ nat_lt width (columns_taken (leading_word (data_of (take (length gs - word) (drop word gs))))) → wide ≡ false
+      → (word, word) ≡ break_in_word width (data_of gs) n
   word-moved none some wide e is_not =
       let t : nat_lt 0 end ≡ false = grind (arith, nat_tests) in
       let z : (word == 0) ≡ false = grind (arith, nat_tests) in
@@ -344,29 +390,41 @@ module _ (gs : List StyledGrapheme) (width count : ℕ) (is : count ≡ count_fi
     next-is : drop count (data_of gs) ≡ grapheme_data (slice_index_or gs count d) ∷ data_of (drop (count + 1) gs)
     next-is = sym (data-drop count gs) ∙ next-data gs count d lt
 
-    pub break-blank : (b : ℕ × ℕ) → b ≡ break_at_blank (data_of gs) count → is_break (grapheme_data (slice_index_or gs count d)) ≡ true → b ≡ row_break width (data_of gs)
+    pub break-blank : (b : ℕ × ℕ) → b ≡ break_at_blank (data_of gs) count
+        → is_break (grapheme_data (slice_index_or gs count d)) ≡ true → b ≡ row_break width (data_of gs)
     break-blank b e blank = e ∙ rw (count-at, next-is, blank) refl
 
-    pub break-word : (b : ℕ × ℕ) → b ≡ break_in_word width (data_of gs) count → is_break (grapheme_data (slice_index_or gs count d)) ≡ false → b ≡ row_break width (data_of gs)
+    pub break-word : (b : ℕ × ℕ) → b ≡ break_in_word width (data_of gs) count
+        → is_break (grapheme_data (slice_index_or gs count d)) ≡ false → b ≡ row_break width (data_of gs)
     break-word b e word = e ∙ rw (count-at, next-is, word) refl
 
 -- a turn of the loop over a word
-module _ (gs : List StyledGrapheme) (i left width w : ℕ) (d : StyledGrapheme) (lt : i < length gs) (is : w ≡ grapheme_columns (grapheme_data (slice_index_or gs i d))) (word : is_break (grapheme_data (slice_index_or gs i d)) ≡ false)
-    (so_far : nat_lt left (columns_taken (leading_word (data_of (drop i gs)))) ≡ nat_lt width (columns_taken (leading_word (data_of gs)))) where
+module _ (gs : List StyledGrapheme) (i left width w : ℕ) (d : StyledGrapheme) (lt : i < length gs)
+    (is : w ≡ grapheme_columns (grapheme_data (slice_index_or gs i d)))
+    (word : is_break (grapheme_data (slice_index_or gs i d)) ≡ false)
+    (so_far : nat_lt left (columns_taken (leading_word (data_of (drop i gs)))) ≡ nat_lt width
+    (columns_taken (leading_word (data_of gs)))) where
   word-columns : columns_taken (leading_word (data_of (drop i gs))) ≡ w + columns_taken (leading_word (data_of (drop (i + 1) gs)))
-  word-columns = ap (λ xs. columns_taken (leading_word xs)) (next-data gs i d lt) ∙ (word-next (grapheme_data (slice_index_or gs i d)) (data_of (drop (i + 1) gs)) word ∙ ap (λ n. n + columns_taken (leading_word (data_of (drop (i + 1) gs)))) (sym is))
+  word-columns = ap (λ xs. columns_taken (leading_word xs)) (next-data gs i d lt)
+      ∙ (word-next (grapheme_data (slice_index_or gs i d)) (data_of (drop (i + 1) gs)) word
+      ∙ ap (λ n. n + columns_taken (leading_word (data_of (drop (i + 1) gs)))) (sym is))
 
-  pub wide-turn : w ≤ left → nat_lt (left - w) (columns_taken (leading_word (data_of (drop (i + 1) gs)))) ≡ nat_lt width (columns_taken (leading_word (data_of gs)))
-  wide-turn le = wide-next left w (columns_taken (leading_word (data_of (drop (i + 1) gs)))) le ∙ (ap (nat_lt left) (sym word-columns) ∙ so_far)
+  pub wide-turn : w ≤ left → nat_lt (left - w) (columns_taken (leading_word (data_of (drop (i + 1) gs)))) ≡ nat_lt width
+      (columns_taken (leading_word (data_of gs)))
+  wide-turn le = wide-next left w (columns_taken (leading_word (data_of (drop (i + 1) gs)))) le
+      ∙ (ap (nat_lt left) (sym word-columns) ∙ so_far)
 
   pub wide-found : left < w → true ≡ nat_lt width (columns_taken (leading_word (data_of gs)))
-  wide-found more = sym (wide-full left w (columns_taken (leading_word (data_of (drop (i + 1) gs)))) more) ∙ (ap (nat_lt left) (sym word-columns) ∙ so_far)
+  wide-found more = sym (wide-full left w (columns_taken (leading_word (data_of (drop (i + 1) gs)))) more)
+      ∙ (ap (nat_lt left) (sym word-columns) ∙ so_far)
 
 -- a row and where the next one begins, in a slice
-pub start-inside : (gs : List StyledGrapheme) (trim : Bool) (start : ℕ) → start ≡ trimmed_start trim (data_of gs) → start ≤ length gs
+pub start-inside : (gs : List StyledGrapheme) (trim : Bool) (start : ℕ) → start ≡ trimmed_start trim (data_of gs)
+    → start ≤ length gs
 start-inside gs trim start at = let le = trimmed-le trim (data_of gs) in omega (arith, at, data-count gs)
 
-module _ (gs : List StyledGrapheme) (width : ℕ) (trim : Bool) (start : ℕ) (b : ℕ × ℕ) (fit : AllFit width (data_of gs)) (at : start ≡ trimmed_start trim (data_of gs))
+module _ (gs : List StyledGrapheme) (width : ℕ) (trim : Bool) (start : ℕ) (b : ℕ × ℕ) (fit : AllFit width (data_of gs))
+    (at : start ≡ trimmed_start trim (data_of gs))
     (is : b ≡ row_break width (data_of (take (length gs - start) (drop start gs)))) where
   abbrev rest : List GraphemeData
   rest = drop (trimmed_start trim (data_of gs)) (data_of gs)
@@ -377,8 +435,11 @@ module _ (gs : List StyledGrapheme) (width : ℕ) (trim : Bool) (start : ℕ) (b
   break-at : b ≡ row_break width rest
   break-at = is ∙ ap (row_break width) rest-at
 
-  pub split-value : (data_of (take b.0 (take (length gs - start) (drop start gs))), start + b.1) ≡ split_row width trim (data_of gs)
-  split-value = ap₂ (λ xs n. (xs, n)) (data-take b.0 (take (length gs - start) (drop start gs)) ∙ (ap (take b.0) rest-at ∙ ap (λ c. take c.0 rest) break-at)) (ap (λ s. s + b.1) at ∙ ap (λ c. trimmed_start trim (data_of gs) + c.1) break-at)
+  pub split-value : (data_of (take b.0 (take (length gs - start) (drop start gs))), start + b.1) ≡ split_row width trim
+      (data_of gs)
+  split-value = ap₂ (λ xs n. (xs, n)) (data-take b.0 (take (length gs - start) (drop start gs))
+      ∙ (ap (take b.0) rest-at ∙ ap (λ c. take c.0 rest) break-at))
+      (ap (λ s. s + b.1) at ∙ ap (λ c. trimmed_start trim (data_of gs) + c.1) break-at)
 
   pub split-is : IsSplit width (data_of gs) (data_of (take b.0 (take (length gs - start) (drop start gs))), start + b.1)
   split-is = subst (IsSplit width (data_of gs)) (sym split-value) (split_row-is width trim (data_of gs) fit)
@@ -387,37 +448,52 @@ module _ (gs : List StyledGrapheme) (width : ℕ) (trim : Bool) (start : ℕ) (b
   next-inside = let le = split-is.inside in omega (arith, data-count gs)
 
   broken : IsBreak width rest b
-  broken = subst (IsBreak width rest) (sym break-at) (row_break-is width rest (fit-past width (trimmed_start trim (data_of gs)) (data_of gs) fit))
+  broken = subst (IsBreak width rest) (sym break-at)
+      (row_break-is width rest (fit-past width (trimmed_start trim (data_of gs)) (data_of gs) fit))
 
   pub end-inside : b.0 ≡ length (take b.0 (take (length gs - start) (drop start gs)))
   end-inside =
       let le = broken.ends in let more = broken.inside in
-      let count : length rest ≡ length gs - start = ap length (sym (data-tail start gs ∙ ap (λ s. drop s (data_of gs)) at)) ∙ (data-count (take (length gs - start) (drop start gs)) ∙ (ap length (tail-is start gs) ∙ length-drop start gs)) in
-      omega (arith, length-take b.0 (take (length gs - start) (drop start gs)), ap length (tail-is start gs), length-drop start gs)
+      let count : length rest ≡ length gs - start = ap length (sym (data-tail start gs ∙ ap (λ s. drop s (data_of gs)) at))
+      ∙ (data-count (take (length gs - start) (drop start gs)) ∙ (ap length (tail-is start gs) ∙ length-drop start gs)) in
+      omega (
+        arith,
+        length-take b.0 (take (length gs - start) (drop start gs)),
+        ap length (tail-is start gs),
+        length-drop start gs,
+      )
 
 after-none : (gs : List GraphemeData) → after_columns 0 gs ≡ gs
 after-none [] = refl
 after-none (g ∷ gs) = refl
 
 -- one grapheme more of a line that is cut
-pub cut-turn : (width used offset w : ℕ) (d : GraphemeData) (left others_left row more_row all : List GraphemeData) → left ≡ d ∷ others_left → more_row ≡ row ++ d ∷ [] → w ≡ grapheme_columns d → w ≤ width → w ≤ width - used → (0 < offset → offset < w)
+pub cut-turn : (width used offset w : ℕ) (d : GraphemeData) (left others_left row more_row all : List GraphemeData)
+    → left ≡ d ∷ others_left → more_row ≡ row ++ d ∷ [] → w ≡ grapheme_columns d → w ≤ width → w ≤ width - used
+    → (0 < offset → offset < w)
     → row ++ fitting_front (width - used) (after_columns offset (filter (fits_row width) left)) ≡ all
     → more_row ++ fitting_front (width - (used + w)) (after_columns 0 (filter (fits_row width) others_left)) ≡ all
 cut-turn width used offset w d left others_left row more_row all is pushed columns fits room stops so_far =
     let others = filter (fits_row width) others_left in
-    let kept : filter (fits_row width) left ≡ d ∷ others = ap (filter (fits_row width)) is ∙ (let yes_fits : fits_row width d ≡ true = grind (arith, nat_tests) in rw yes_fits refl) in
-    let here : after_columns offset (d ∷ others) ≡ d ∷ others = (let off : (nat_lt 0 offset && nat_le (grapheme_columns d) offset) ≡ false = skip-not offset (grapheme_columns d) (λ some. (let lt = stops some in omega arith)) in rw off refl) in
+    let kept : filter (fits_row width) left ≡ d ∷ others = ap (filter (fits_row width)) is
+    ∙ (let yes_fits : fits_row width d ≡ true = grind (arith, nat_tests) in rw yes_fits refl) in
+    let here : after_columns offset (d ∷ others) ≡ d ∷ others =
+    (let off : (nat_lt 0 offset && nat_le (grapheme_columns d) offset) ≡ false = skip-not offset (grapheme_columns d)
+    (λ some. (let lt = stops some in omega arith)) in rw off refl) in
     let more : fitting_front (width - used) (d ∷ others) ≡ d ∷ fitting_front (width - used - w) others =
-    ap (λ n. take n (d ∷ others)) (count-next (width - used) d others (omega arith)) ∙ ap (λ k. d ∷ fitting_front (width - used - k) others) (sym columns) in
+    ap (λ n. take n (d ∷ others)) (count-next (width - used) d others (omega arith))
+    ∙ ap (λ k. d ∷ fitting_front (width - used - k) others) (sym columns) in
     let room_left : width - used - w ≡ width - (used + w) = omega arith in
     ap (λ gs. gs ++ fitting_front (width - (used + w)) (after_columns 0 others)) pushed
     ∙ (append_assoc row (d ∷ []) (fitting_front (width - (used + w)) (after_columns 0 others))
     ∙ (ap (λ gs. row ++ d ∷ fitting_front (width - (used + w)) gs) (after-none others)
     ∙ (ap (λ n. row ++ d ∷ fitting_front n others) (sym room_left)
-    ∙ (ap (λ gs. row ++ gs) (sym (ap (λ gs. fitting_front (width - used) gs) (ap (after_columns offset) kept ∙ here) ∙ more)) ∙ so_far))))
+    ∙ (ap (λ gs. row ++ gs) (sym (ap (λ gs. fitting_front (width - used) gs) (ap (after_columns offset) kept ∙ here) ∙ more))
+    ∙ so_far))))
   where
     skip-not : (n m : ℕ) → (0 < n → n < m) → (nat_lt 0 n && nat_le m n) ≡ false
     skip-not n m lt = ⊎_elim
-        (λ (some : 0 < n). let less = lt some in let f : nat_le m n ≡ false = grind (arith, nat_tests) in and_right (nat_lt 0 n) (nat_le m n) f)
+        (λ (some : 0 < n). let less = lt some in let f : nat_le m n ≡ false = grind (arith, nat_tests) in
+        and_right (nat_lt 0 n) (nat_le m n) f)
         (λ (le : n ≤ 0). let f : nat_lt 0 n ≡ false = grind (arith, nat_tests) in rw f refl)
         (cases_lt 0 n)

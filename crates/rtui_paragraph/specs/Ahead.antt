@@ -8,7 +8,8 @@ use Rattle.rtui_paragraph.specs.Reflow.{data_of, columns_taken, fits_row, trimme
 abbrev pub columns_ahead : Bool → List GraphemeData → ℕ
 columns_ahead trim gs = columns_taken (drop (trimmed_start trim gs) gs)
 
--- the graphemes that are held for the rows to come, and those that are left of the line: of these the ones that fit a row
+-- the graphemes that are held for the rows to come, and those that are left of the line: of these the ones
+-- that fit a row
 abbrev pub held_of : Ahead → List GraphemeData
 held_of a = data_of (drop a.passed a.held.items)
 
@@ -20,7 +21,8 @@ pub record IsAhead (a : Ahead) : Type 0 where
   pub within : a.passed ≤ length a.held.items
   pub read : a.is_read ≡ true → line_graphemes_left a.rest ≡ []
 
--- what is held decides where the next row ends, whatever comes after it: the row, and a word at its end that is wider than a row
+-- what is held decides where the next row ends, whatever comes after it: the row, and a word at its end that
+-- is wider than a row
 abbrev pub IsEnough : ℕ → Bool → List GraphemeData → Type 0
 IsEnough width trim gs = 2 * width < columns_ahead trim gs
 

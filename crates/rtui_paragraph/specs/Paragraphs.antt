@@ -1,10 +1,13 @@
 -- A paragraph: its rows, and what it changes.
-use Rattle.std.specs.Prelude.{◌≡◌, ℕ, ◌+◌, ◌-◌, ◌/◌, ◌==◌, min, length, if◌then◌else◌, nat_lt, false, List, [], ◌∷◌, ◌++◌, map, filter, take, drop, Option, Some, None, unwrap_or}
+use Rattle.std.specs.Prelude.{◌≡◌, ℕ, ◌+◌, ◌-◌, ◌/◌, ◌==◌, min, length, if◌then◌else◌, nat_lt, false, List}
+use Rattle.std.specs.Prelude.{[], ◌∷◌, ◌++◌, map, filter, take, drop, Option, Some, None, unwrap_or}
 use Rattle.std.specs.List.{flat_map}
-use Rattle.ratatui_core.specs.{Layout.Rect, Layout.EdgesFit, Style.new_style, Style.patch, declared.layout.HorizontalAlignment.HorizontalAlignment}
+use Rattle.ratatui_core.specs.{Layout.Rect, Layout.EdgesFit, Style.new_style, Style.patch}
+use Rattle.ratatui_core.specs.{declared.layout.HorizontalAlignment.HorizontalAlignment}
 use Rattle.ratatui_core.specs.Text.{GraphemeData, LineData, TextData, line_graphemes, has_control}
 use Rattle.ratatui_core.specs.declared.layout.HorizontalAlignment.TheVariants.{Left, Center, Right}
-use Rattle.ratatui_core.specs.Buffer.{BufferData, IsPlainFrom, IsSettledBuffer, IsOneGrapheme, Piece, piece_of, PaintsPieces, text_pieces, position_of}
+use Rattle.ratatui_core.specs.Buffer.{BufferData, IsPlainFrom, IsSettledBuffer, IsOneGrapheme, Piece}
+use Rattle.ratatui_core.specs.Buffer.{piece_of, PaintsPieces, text_pieces, position_of}
 use Rattle.rtui_paragraph.specs.{declared.paragraph.Paragraph.Paragraph, declared.paragraph.Wrap.Wrap}
 use Rattle.rtui_boxes.specs.{Boxes.IsPlainIfBox, Titles.InTurn, Framed.RendersInFrame, Framed.rows_around_if}
 use Rattle.rtui_paragraph.specs.Reflow.{grapheme_columns, columns_taken, fits_row, cut_row, broken_rows}
@@ -53,7 +56,8 @@ cut_line p width line =
 -- the rows of a line that is broken in a width; what is wider than a row is left out
 abbrev pub broken_line : Paragraph → ℕ → Wrap → LineData → List TextRow
 broken_line p width wrap line =
-    aligned_rows (alignment_of p line) (broken_rows width wrap.trim (filter (fits_row width) (graphemes_of p line)))
+    aligned_rows (alignment_of p line)
+    (broken_rows width wrap.trim (filter (fits_row width) (graphemes_of p line)))
 
 -- the rows of lines, in a width
 abbrev pub rows_of_lines : Option Wrap → Paragraph → ℕ → List LineData → List TextRow
@@ -66,7 +70,8 @@ paragraph_rows p width = rows_of_lines p.wrap p width p.text.lines
 
 -- how many rows a paragraph takes in a width, with those of its box
 abbrev pub rows_taken : Paragraph → ℕ → ℕ
-rows_taken p width = if width == 0 then 0 else min (length (paragraph_rows p width) + rows_around_if p.block) 18446744073709551615
+rows_taken p width = if width == 0 then 0 else min (length (paragraph_rows p width) + rows_around_if p.block)
+    18446744073709551615
 
 -- in which column of the room a row of this width begins
 abbrev pub indent_of : HorizontalAlignment → ℕ → ℕ → ℕ
@@ -76,12 +81,14 @@ indent_of Right width room = room - width
 
 -- a grapheme painted in the columns that it takes
 abbrev pub PaintsGrapheme : ℕ → ℕ → GraphemeData → BufferData → BufferData → Type 0
-PaintsGrapheme x y g old new = PaintsPieces (position_of (x, y)) (text_pieces (grapheme_columns g) g.style g.symbol) old new
+PaintsGrapheme x y g old new = PaintsPieces (position_of (x, y))
+    (text_pieces (grapheme_columns g) g.style g.symbol) old new
 
 -- graphemes painted from a column of a row on, one after the other
 abbrev pub PaintsGraphemes : ℕ → ℕ → List GraphemeData → BufferData → BufferData → Type 0
 PaintsGraphemes x y [] old new = new ≡ old
-PaintsGraphemes x y (g ∷ gs) old new = InTurn (PaintsGrapheme x y g) (PaintsGraphemes (x + grapheme_columns g) y gs) old new
+PaintsGraphemes x y (g ∷ gs) old new = InTurn (PaintsGrapheme x y g)
+    (PaintsGraphemes (x + grapheme_columns g) y gs) old new
 
 -- the grapheme is one by itself, and has no control character
 pub record IsSingleGrapheme (g : GraphemeData) : Type 0 where
@@ -94,7 +101,8 @@ row_pieces gs = map (λ g. piece_of g.style g.symbol) (filter (λ g. nat_lt 0 (g
 
 -- a row painted in a row of an area
 abbrev pub PaintsRow : Rect → ℕ → TextRow → BufferData → BufferData → Type 0
-PaintsRow r y row old new = PaintsGraphemes (r.x + indent_of row.alignment (columns_taken row.graphemes) r.width) y row.graphemes old new
+PaintsRow r y row old new = PaintsGraphemes
+    (r.x + indent_of row.alignment (columns_taken row.graphemes) r.width) y row.graphemes old new
 
 -- rows painted from a row of an area on, one below the other
 abbrev pub PaintsRows : Rect → ℕ → List TextRow → BufferData → BufferData → Type 0
@@ -105,19 +113,20 @@ PaintsRows r y (row ∷ rows) old new = InTurn (PaintsRow r y row) (PaintsRows r
 abbrev pub rows_shown : ℕ → ℕ → List TextRow → List TextRow
 rows_shown height skip rows = take height (drop skip rows)
 
--- A call paints the next rows from row k of an area on, up to row n, and has as many fewer to skip: whatever rows come after these, to go on
--- with those is to paint all.
+-- A call paints the next rows from row k of an area on, up to row n, and has as many fewer to skip: whatever
+-- rows come after these, to go on with those is to paint all.
 abbrev pub PaintsOn : Rect → ℕ → ℕ → ℕ → ℕ → List TextRow → BufferData → BufferData → Type 0
 PaintsOn r k n skip skip_then rows old now =
-    (more : List TextRow) (new : BufferData) → PaintsRows r (r.y + n) (rows_shown (r.height - n) skip_then more) now new
+    (more : List TextRow) (new : BufferData)
+    → PaintsRows r (r.y + n) (rows_shown (r.height - n) skip_then more) now new
     → PaintsRows r (r.y + k) (rows_shown (r.height - k) skip (rows ++ more)) old new
 
 -- a paragraph's text in an area: the rows that it shows
 abbrev pub FillsText : Paragraph → Rect → BufferData → BufferData → Type 0
 FillsText p r old new = PaintsRows r r.y (rows_shown r.height p.scroll.y (paragraph_rows p r.width)) old new
 
--- A paragraph over the part of an area that a buffer has: its style, its box, and its text inside. Nothing outside the area changes; and of
--- a buffer of plain cells comes a settled one, if the box is plain.
+-- A paragraph over the part of an area that a buffer has: its style, its box, and its text inside. Nothing
+-- outside the area changes; and of a buffer of plain cells comes a settled one, if the box is plain.
 pub record RendersParagraph (paragraph : Paragraph) (area : Rect) (old new : BufferData) : Type 0 where
   pub frame : RendersInFrame paragraph.style paragraph.block (FillsText paragraph) area old new
   pub settled : EdgesFit old.area → IsPlainFrom 0 old → IsPlainIfBox paragraph.block → IsSettledBuffer new

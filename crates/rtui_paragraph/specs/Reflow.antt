@@ -1,7 +1,9 @@
 -- A line of graphemes cut, or broken into rows.
-use Rattle.std.specs.Prelude.{◌≡◌, ℕ, zero, suc, ◌+◌, ◌-◌, Bool, true, not, ◌&&◌, ◌||◌, ◌==◌, nat_le, nat_lt, List, [], ◌∷◌, length, map, take, drop, filter, if◌then◌else◌}
+use Rattle.std.specs.Prelude.{◌≡◌, ℕ, zero, suc, ◌+◌, ◌-◌, Bool, true, not, ◌&&◌, ◌||◌, ◌==◌, nat_le, nat_lt}
+use Rattle.std.specs.Prelude.{List, [], ◌∷◌, length, map, take, drop, filter, if◌then◌else◌}
 use Rattle.std.specs.List.{sum_by, list_all, prefix_len}
-use Rattle.ratatui_core.specs.{Text.GraphemeData, Text.grapheme_data, Text.is_whitespace_symbol, Buffer.text_width, declared.text.StyledGrapheme.StyledGrapheme}
+use Rattle.ratatui_core.specs.{Text.GraphemeData, Text.grapheme_data, Text.is_whitespace_symbol}
+use Rattle.ratatui_core.specs.{Buffer.text_width, declared.text.StyledGrapheme.StyledGrapheme}
 
 abbrev pub data_of : List StyledGrapheme → List GraphemeData
 data_of gs = map grapheme_data gs
@@ -37,7 +39,8 @@ AllFit width gs = list_all (fits_row width) gs ≡ true
 -- how many graphemes fit the room, from the first one on
 abbrev pub count_fitting : ℕ → List GraphemeData → ℕ
 count_fitting room [] = 0
-count_fitting room (g ∷ gs) = if fits_row room g then suc (count_fitting (room - grapheme_columns g) gs) else 0
+count_fitting room (g ∷ gs) = if fits_row room g then suc (count_fitting (room - grapheme_columns g) gs)
+    else 0
 
 -- the graphemes that fit the room, from the first one on
 abbrev pub fitting_front : ℕ → List GraphemeData → List GraphemeData
@@ -46,7 +49,8 @@ fitting_front room gs = take (count_fitting room gs) gs
 -- the graphemes after the first n columns: those that end within them are left out
 abbrev pub after_columns : ℕ → List GraphemeData → List GraphemeData
 after_columns n [] = []
-after_columns n (g ∷ gs) = if nat_lt 0 n && nat_le (grapheme_columns g) n then after_columns (n - grapheme_columns g) gs else g ∷ gs
+after_columns n (g ∷ gs) = if nat_lt 0 n && nat_le (grapheme_columns g) n then after_columns
+    (n - grapheme_columns g) gs else g ∷ gs
 
 -- a line cut: without its first columns, and as much of it as fits the width
 abbrev pub cut_row : ℕ → ℕ → List GraphemeData → List GraphemeData
@@ -66,15 +70,15 @@ leading_word (g ∷ gs) = if is_break g then [] else g ∷ leading_word gs
 abbrev pub word_around : List GraphemeData → ℕ → List GraphemeData
 word_around gs k = leading_word (drop (last_end is_break (take k gs)) gs)
 
--- Where a row ends, and where the next one begins. A blank comes after the n graphemes that fit: the row ends with its last word, if it
--- has one, and the next one begins after the blank.
+-- Where a row ends, and where the next one begins. A blank comes after the n graphemes that fit: the row ends
+-- with its last word, if it has one, and the next one begins after the blank.
 abbrev pub break_at_blank : List GraphemeData → ℕ → ℕ × ℕ
 break_at_blank gs n =
     let end = last_end is_of_word (take n gs) in
     (if nat_lt 0 end then end else n, n + 1)
 
--- A word crosses the end of the n graphemes that fit: it goes to the next row, but for one that stands first, or is wider than a row and
--- has no word before it.
+-- A word crosses the end of the n graphemes that fit: it goes to the next row, but for one that stands first,
+-- or is wider than a row and has no word before it.
 abbrev pub break_in_word : ℕ → List GraphemeData → ℕ → ℕ × ℕ
 break_in_word width gs n =
     let word = last_end is_break (take n gs) in
@@ -88,7 +92,8 @@ abbrev pub break_before : ℕ → List GraphemeData → ℕ → List GraphemeDat
 break_before width gs n [] = (n, n)
 break_before width gs n (g ∷ after) = if is_break g then break_at_blank gs n else break_in_word width gs n
 
--- where the row at the front of graphemes ends, and where the next one begins: it has as many words as fit the width
+-- where the row at the front of graphemes ends, and where the next one begins: it has as many words as fit
+-- the width
 abbrev pub row_break : ℕ → List GraphemeData → ℕ × ℕ
 row_break width gs = let n = count_fitting width gs in break_before width gs n (drop n gs)
 

@@ -5,7 +5,8 @@ ghost use Rattle.std.specs.List.{flat_map};
 ghost use Rattle.ratatui_core.specs.Buffer.{BufferData, PaintsPieces, position_of};
 ghost use Rattle.ratatui_core.specs.Text.{GraphemeData};
 ghost use Rattle.rtui_paragraph.specs.Paragraphs.{IsSingleGrapheme, row_pieces, PaintsGraphemes};
-ghost use Rattle.rtui_paragraph.specs.Reflow.{is_break, columns_taken, words_of, AllFit, word_around, row_break, broken_rows};
+ghost use Rattle.rtui_paragraph.specs.Reflow.{is_break, columns_taken, words_of, AllFit, word_around};
+ghost use Rattle.rtui_paragraph.specs.Reflow.{row_break, broken_rows};
 
 /// Of a line that is broken into rows nothing is lost but blanks: no row is wider than the width,
 /// and the rows have the graphemes of all words, in order.

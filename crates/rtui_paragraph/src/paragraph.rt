@@ -8,7 +8,10 @@ ghost use Rattle.ratatui_core.specs.Widgets.{ChangesWithin};
 ghost use Rattle.ratatui_core.specs.declared.layout.HorizontalAlignment.TheVariants.{Left, Center, Right};
 ghost use Rattle.rtui_boxes.specs.Boxes.{IsBoxArea};
 ghost use Rattle.rtui_boxes.specs.Framed.{rows_around_if};
-ghost use Rattle.rtui_paragraph.specs.Paragraphs.{IsNewParagraph, aligned_row, aligned_rows, columns_scrolled, cut_line, broken_line, rows_of_lines, paragraph_rows, rows_taken, rows_shown, indent_of, PaintsGrapheme, PaintsRow, PaintsRows, PaintsOn, FillsText};
+ghost use Rattle.rtui_paragraph.specs.Paragraphs.{IsNewParagraph, aligned_row, aligned_rows};
+ghost use Rattle.rtui_paragraph.specs.Paragraphs.{columns_scrolled, cut_line, broken_line, rows_of_lines};
+ghost use Rattle.rtui_paragraph.specs.Paragraphs.{paragraph_rows, rows_taken, rows_shown, indent_of};
+ghost use Rattle.rtui_paragraph.specs.Paragraphs.{PaintsGrapheme, PaintsRow, PaintsRows, PaintsOn, FillsText};
 ghost use Rattle.rtui_paragraph.specs.Ahead.{left_of, IsAhead};
 ghost use Rattle.rtui_paragraph.specs.Reflow.{data_of, grapheme_columns, columns_taken, AllFit, broken_rows};
 

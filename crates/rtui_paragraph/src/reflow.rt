@@ -1,9 +1,13 @@
 //! Lines of graphemes cut, or broken into rows.
 
-ghost use Rattle.std.specs.Prelude.{◌≡◌, ◌+◌, ◌≤◌, ◌<◌, [], ◌∷◌, min, nat_lt, length, filter, take, drop, IfOk};
+ghost use Rattle.std.specs.Prelude.{◌≡◌, ◌+◌, ◌≤◌, ◌<◌, [], ◌∷◌, min, nat_lt, length, filter, take, drop};
+ghost use Rattle.std.specs.Prelude.{IfOk};
 ghost use Rattle.std.specs.List.{prefix_len};
 ghost use Rattle.ratatui_core.specs.Text.{line_graphemes_left};
-ghost use Rattle.rtui_paragraph.specs.Reflow.{data_of, is_break, is_of_word, columns_taken, words_of, fits_row, AllFit, count_fitting, cut_row, last_end, leading_word, break_at_blank, break_in_word, row_break, trimmed_start, split_row};
+ghost use Rattle.rtui_paragraph.specs.Reflow.{data_of, is_break, is_of_word, columns_taken, words_of};
+ghost use Rattle.rtui_paragraph.specs.Reflow.{fits_row, AllFit, count_fitting, cut_row, last_end};
+ghost use Rattle.rtui_paragraph.specs.Reflow.{leading_word, break_at_blank, break_in_word, row_break};
+ghost use Rattle.rtui_paragraph.specs.Reflow.{trimmed_start, split_row};
 
 use ratatui_core::buffer::CellWidth;
 use ratatui_core::text::{LineGraphemes, StyledGrapheme};

@@ -18,7 +18,8 @@ use Rattle.rtui_split.specs.Shares.{part_in, wanted_before, if_before, sized, Ta
 use Rattle.rtui_split.specs.Spaces.{least_spaces, KeepsWishes, FitsBefore, HasRoomForSpaces, IsCutTo, IsArranged}
 use Rattle.rtui_split.specs.Split.{IsCutFrom, LeavesNothing}
 use Rattle.rtui_split.specs.declared.flex.Room.{Room}
-use Rattle.rtui_split.specs.Split.{gap_units, FitWishes, IsLane, HasWish, WithinWish, IsGivenBefore, IsWithinWish, IsSplit, size_at}
+use Rattle.rtui_split.specs.Split.{gap_units, FitWishes, IsLane, HasWish, WithinWish, IsGivenBefore, IsWithinWish, IsSplit}
+use Rattle.rtui_split.specs.Split.{size_at}
 use Rattle.rtui_split.specs.Split.{IsCutAt, HasTaker, SharesRest}
 use Rattle.std.proofs.lemmas.List.Elements.{All-head, All-tail}
 use Rattle.std.proofs.lemmas.List.{length-map}

@@ -13,7 +13,8 @@ use Rattle.rtui_layout.specs.declared.constraint.Constraint.TheVariants.{Fill}
 use Rattle.rtui_layout.specs.Layout.{default_layout}
 use Rattle.rtui_layout.specs.declared.flex.Flex.TheVariants as flex
 use Rattle.rtui_split.specs.declared.{place.Lane.Lane, lane.Rule.Rule}
-use Rattle.rtui_split.specs.{Cut.first_cell, Cut.area_end, Cut.length_of, Cut.IsPartAlong, Cut.InOrder, Cut.IsSpace}
+use Rattle.rtui_split.specs.{Cut.first_cell, Cut.area_end, Cut.length_of, Cut.IsPartAlong, Cut.InOrder}
+use Rattle.rtui_split.specs.{Cut.IsSpace}
 use Rattle.rtui_split.specs.{Cut.AtMostCells, Cut.AtLeastCells, Wishes.turn, Wishes.wish}
 use Rattle.rtui_split.specs.{Wishes.wished_before}
 use Rattle.rtui_split.specs.Spaces.{least_spaces, KeepsWishes}
@@ -118,13 +119,15 @@ IsWithinWish cells d c p = WithinWish cells c (length_of d p)
 -- comes too short nothing is left over, and if all fit, what is left is shared by weight
 pub record IsSplit (l : LayoutData) (area : Rect) (parts : List Rect) : Type 0 where
   pub count : length parts ≡ length l.constraints
-  pub inside : All (IsPartAlong l.direction area (first_cell l.direction area) (area_end l.direction area)) parts
+  pub inside : All (IsPartAlong l.direction area (first_cell l.direction area)
+      (area_end l.direction area)) parts
   pub in_order : IsSpace l.spacing → InOrder l.direction (first_cell l.direction area)
       (area_end l.direction area) parts
   pub within : IsSpace l.spacing → KeepsWishes l.flex (length l.constraints)
       → AllZip (IsWithinWish (cells_of l.direction area) l.direction) l.constraints parts
   pub given : IsSpace l.spacing → KeepsWishes l.flex (length l.constraints) → (t : ℕ) → t ≤ 5
-      → FitWishes t l (cells_of l.direction area) → AllZip (IsGivenBefore t (cells_of l.direction area) l.direction)
+      → FitWishes t l (cells_of l.direction area)
+      → AllZip (IsGivenBefore t (cells_of l.direction area) l.direction)
       l.constraints parts
   pub short : IsSpace l.spacing → KeepsWishes l.flex (length l.constraints) → (t : ℕ) → t ≤ 5
       → FitWishes 0 l (cells_of l.direction area) → (FitWishes t l (cells_of l.direction area) → ⊥)

@@ -1,7 +1,8 @@
 //! Cuts an area at the edges of the parts.
 ghost use Rattle.std.specs.Prelude.{◌≡◌, ◌<◌, ◌≤◌, ◌+◌, ◌*◌, ◌-◌, ◌/◌, length, min, max, All, sum_by};
 ghost use Rattle.std.specs.List.{AllZip};
-ghost use Rattle.rtui_split.specs.Cut.{first_cell, after_of, length_of, Alternate, InOrder, SpansAcross, IsPartAlong};
+ghost use Rattle.rtui_split.specs.Cut.{first_cell, after_of, length_of, Alternate, InOrder, SpansAcross};
+ghost use Rattle.rtui_split.specs.Cut.{IsPartAlong};
 ghost use Rattle.rtui_split.specs.Cut.{AtMostCells, AtLeastCells};
 ghost use Rattle.rtui_split.specs.Spaces.{HasRoomForSpaces, IsCutTo};
 

@@ -1,5 +1,6 @@
 -- The names of colours: a text is compared with a name character by character.
-use Rattle.std.proofs.Common.{◌≡◌, ℕ, ◌+◌, ◌<◌, ◌≤◌, Bool, true, false, ◌&&◌, cond, nat_eq, List, [], ◌∷◌, length, drop, get_or, map, filter, ap, ap₂, eqb, sym, ◌∙◌, arith}
+use Rattle.std.proofs.Common.{◌≡◌, ℕ, ◌+◌, ◌<◌, ◌≤◌, Bool, true, false, ◌&&◌, cond, nat_eq, List, [], ◌∷◌, length, drop, get_or}
+use Rattle.std.proofs.Common.{map, filter, ap, ap₂, eqb, sym, ◌∙◌, arith}
 use Rattle.std.specs.Cmp.Lexicographic.{pointwise}
 use Rattle.std.proofs.lemmas.{List.at_drop_more, List.at_drop_all, List.nil_from_length, Bool.eq-eqb, Bool.ne_eqb}
 use Rattle.rtui_style.specs.Color.{is_kept, lowered}
@@ -8,7 +9,8 @@ use Rattle.rtui_style.specs.Color.{is_kept, lowered}
 abbrev pub counting : List ℕ → List ℕ
 counting cs = map lowered (filter is_kept cs)
 
-counting-cons : (c : ℕ) (cs : List ℕ) (b : Bool) → is_kept c ≡ b → counting (c ∷ cs) ≡ cond b (lowered c ∷ counting cs) (counting cs)
+counting-cons : (c : ℕ) (cs : List ℕ) (b : Bool) → is_kept c ≡ b → counting (c ∷ cs) ≡ cond b (lowered c ∷ counting cs)
+    (counting cs)
 counting-cons c cs true e = ap (λ k. map lowered (cond k (c ∷ filter is_kept cs) (filter is_kept cs))) e
 counting-cons c cs false e = ap (λ k. map lowered (cond k (c ∷ filter is_kept cs) (filter is_kept cs))) e
 
@@ -16,7 +18,8 @@ counting-cons c cs false e = ap (λ k. map lowered (cond k (c ∷ filter is_kept
 pub counting-drop : (cs : List ℕ) (n c : ℕ) (b : Bool) → (n < length cs) × (c ≡ get_or cs n c) → is_kept c ≡ b
     → counting (drop n cs) ≡ cond b (lowered c ∷ counting (drop (n + 1) cs)) (counting (drop (n + 1) cs))
 counting-drop cs n c b here e =
-    at_drop_more counting cs n c here.0 ∙ ap (λ x. counting (x ∷ drop (n + 1) cs)) (sym here.1) ∙ counting-cons c (drop (n + 1) cs) b e
+    at_drop_more counting cs n c here.0 ∙ ap (λ x. counting (x ∷ drop (n + 1) cs)) (sym here.1)
+    ∙ counting-cons c (drop (n + 1) cs) b e
 
 pub counting-end : (cs : List ℕ) (n : ℕ) → length cs ≤ n → counting (drop n cs) ≡ []
 counting-end cs n h = at_drop_all counting cs n h

@@ -3,11 +3,14 @@ use Rattle.std.proofs.Common.{◌≡◌, ℕ, ◌/◌, ◌%◌, ◌<◌, Bool, t
 use Rattle.std.specs.{Fmt.decimal, Fmt.digit_glyph, Fmt.digits, Str.chars}
 use Rattle.std.proofs.lemmas.Bool.{agree_below, agree_below_at, eqb-true}
 use Rattle.rtui_style.specs.declared.color.Color.{Color}
-use Rattle.rtui_style.specs.declared.color.Color.TheVariants.{Reset, Black, Red, Green, Yellow, Blue, Magenta, Cyan, Gray, DarkGray, LightRed, LightGreen, LightYellow, LightBlue, LightMagenta, LightCyan, White, Rgb, Indexed}
+use Rattle.rtui_style.specs.declared.color.Color.TheVariants.{Reset, Black, Red, Green, Yellow, Blue, Magenta, Cyan, Gray}
+use Rattle.rtui_style.specs.declared.color.Color.TheVariants.{DarkGray, LightRed, LightGreen, LightYellow, LightBlue}
+use Rattle.rtui_style.specs.declared.color.Color.TheVariants.{LightMagenta, LightCyan, White, Rgb, Indexed}
 use Rattle.rtui_style.specs.Color.{color_of, color_text, pair_value, rgb_of}
 
 -- the seventeen names
-pub name_is_read : (color : Color) → ((r g b : ℕ) → color ≡ Rgb r g b → ⊥) → ((i : ℕ) → color ≡ Indexed i → ⊥) → color_of (color_text color) ≡ Some color
+pub name_is_read : (color : Color) → ((r g b : ℕ) → color ≡ Rgb r g b → ⊥) → ((i : ℕ) → color ≡ Indexed i → ⊥)
+    → color_of (color_text color) ≡ Some color
 unfolding chars
 name_is_read Reset rgb indexed = refl
 name_is_read Black rgb indexed = refl

@@ -1,9 +1,11 @@
 -- Reading a colour: a name, an index, or three bytes.
-use Rattle.std.proofs.Common.{◌≡◌, ℕ, ◌<◌, ◌^◌, Bool, true, false, ◌&&◌, nat_lt, List, [], ◌∷◌, length, Option, Some, None, option_map, Result, Ok, refl, ap, sym, ◌∙◌, arith, if◌then◌else◌}
+use Rattle.std.proofs.Common.{◌≡◌, ℕ, ◌<◌, ◌^◌, Bool, true, false, ◌&&◌, nat_lt, List, [], ◌∷◌, length, Option, Some, None}
+use Rattle.std.proofs.Common.{option_map, Result, Ok, refl, ap, sym, ◌∙◌, arith, if◌then◌else◌}
 use Rattle.std.specs.{Char.digit_value, List.list_all}
 use Rattle.std.specs.Str.Parse.{AllDigits, IsNumeral, digits_value, without_leading_plus}
 use Rattle.std.proofs.lemmas.{Bool.Decides.nat_tests, Bool.and_parts, Bool.and_from}
-use Rattle.rtui_style.specs.{declared.color.Color.Color, declared.color.Color.TheVariants.Indexed, declared.color.ParseColorError.ParseColorError}
+use Rattle.rtui_style.specs.{declared.color.Color.Color, declared.color.Color.TheVariants.Indexed}
+use Rattle.rtui_style.specs.{declared.color.ParseColorError.ParseColorError}
 use Rattle.rtui_style.specs.Color.{named_color, color_index, hex_color, color_of, color_or_error, first_of}
 
 abbrev is_digit : ℕ → Bool
@@ -22,7 +24,8 @@ all_pass (d ∷ ds) h = and_from (is_digit d) (list_all is_digit ds) (true_from_
 all_digits : (ds : List ℕ) → list_all is_digit ds ≡ true → AllDigits 10 ds
 all_digits [] h = tt
 all_digits (d ∷ ds) h =
-    let parts = and_parts (is_digit d) (list_all is_digit ds) h in (lt_from_true (digit_value d) 10 parts.0, all_digits ds parts.1)
+    let parts = and_parts (is_digit d) (list_all is_digit ds) h in
+    (lt_from_true (digit_value d) 10 parts.0, all_digits ds parts.1)
 
 -- whether these digits are a number of at most 255
 abbrev is_small : List ℕ → Bool
@@ -49,14 +52,16 @@ none_unless n true h = absurd (h refl)
 none_unless n false h = refl
 
 -- a decimal number of at most 255 is the index
-pub index_is_parsed : (text : List ℕ) (n : ℕ) → (IsNumeral 10 (without_leading_plus text) × (digits_value 10 (without_leading_plus text) < 2 ^ 8))
+pub index_is_parsed : (text : List ℕ) (n : ℕ)
+    → (IsNumeral 10 (without_leading_plus text) × (digits_value 10 (without_leading_plus text) < 2 ^ 8))
     × (n ≡ digits_value 10 (without_leading_plus text)) → color_index text ≡ Some n
 unfolding some_if
 index_is_parsed text n h =
     let ds = without_leading_plus text in
     ap (some_if (digits_value 10 ds)) (small ds h.0.0 h.0.1) ∙ ap Some (sym h.1)
 
-pub no_index : (text : List ℕ) → ¬ (IsNumeral 10 (without_leading_plus text) × (digits_value 10 (without_leading_plus text) < 2 ^ 8))
+pub no_index : (text : List ℕ)
+    → ¬ (IsNumeral 10 (without_leading_plus text) × (digits_value 10 (without_leading_plus text) < 2 ^ 8))
     → color_index text ≡ None
 unfolding some_if
 no_index text h =
@@ -66,7 +71,8 @@ no_index text h =
 abbrev answer_of : Option Color → Option ℕ → Option Color → Result Color ParseColorError
 answer_of named index hex = color_or_error (first_of named (first_of (option_map Indexed index) hex))
 
-pub read_index : (text : List ℕ) (n : ℕ) → named_color text ≡ None → color_index text ≡ Some n → Ok (Indexed n) ≡ color_or_error (color_of text)
+pub read_index : (text : List ℕ) (n : ℕ) → named_color text ≡ None → color_index text ≡ Some n
+    → Ok (Indexed n) ≡ color_or_error (color_of text)
 read_index text n named index =
     sym (ap (λ x. answer_of x (color_index text) (hex_color text)) named ∙ ap (λ y. answer_of None y (hex_color text)) index)
 

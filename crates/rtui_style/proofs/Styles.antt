@@ -1,6 +1,7 @@
 -- The laws of styles, over the definitions.
 use Rattle.std.proofs.Common.{◌≡◌, ℕ, ◌<◌, ◌^◌, Option, Some, None, refl, ap, ◌∙◌}
-use Rattle.rtui_style.specs.{declared.color.Color.Color, declared.Modifier.Modifier, declared.Style.Style, Modifier.bits_of, Modifier.modifier_of}
+use Rattle.rtui_style.specs.{declared.color.Color.Color, declared.Modifier.Modifier, declared.Style.Style, Modifier.bits_of}
+use Rattle.rtui_style.specs.{Modifier.modifier_of}
 use Rattle.rtui_style.specs.Style.{new_style, patch, color_or, color_after, modifier_after}
 use Rattle.rtui_style.proofs.Bits as bits
 
@@ -30,7 +31,8 @@ same_style p q f b u a s =
     ∙ ap (λ x. style_of q.fg q.bg q.underline_color (bits_of q.add_modifier) x) s
 
 pub patch_associates : (p q r : Style) → bits_of p.add_modifier < 2 ^ 16 → bits_of p.sub_modifier < 2 ^ 16
-    → bits_of q.add_modifier < 2 ^ 16 → bits_of q.sub_modifier < 2 ^ 16 → bits_of r.add_modifier < 2 ^ 16 → bits_of r.sub_modifier < 2 ^ 16
+    → bits_of q.add_modifier < 2 ^ 16 → bits_of q.sub_modifier < 2 ^ 16 → bits_of r.add_modifier < 2 ^ 16
+    → bits_of r.sub_modifier < 2 ^ 16
     → patch (patch p q) r ≡ patch p (patch q r)
 patch_associates p q r pa ps qa qs ra rs = same_style (patch (patch p q) r) (patch p (patch q r))
     (color_or-associates p.fg q.fg r.fg) (color_or-associates p.bg q.bg r.bg)
@@ -46,9 +48,13 @@ new_style_above p pa ps = same_style (patch p new_style) p refl refl refl
 
 pub new_style_below : (p : Style) → patch new_style p ≡ p
 new_style_below p = same_style (patch new_style p) p (color_or-none p.fg) (color_or-none p.bg) (color_or-none p.underline_color)
-    (bits.less-nothing (bits_of p.sub_modifier) (bits_of p.add_modifier)) (bits.less-nothing (bits_of p.add_modifier) (bits_of p.sub_modifier))
+    (bits.less-nothing (bits_of p.sub_modifier) (bits_of p.add_modifier)) (bits.less-nothing (bits_of p.add_modifier)
+    (bits_of p.sub_modifier))
 
-pub modifier_after-patch : (p q : Style) (m : Modifier) → bits_of m < 2 ^ 16 → bits_of p.add_modifier < 2 ^ 16 → bits_of p.sub_modifier < 2 ^ 16
-    → bits_of q.add_modifier < 2 ^ 16 → bits_of q.sub_modifier < 2 ^ 16 → modifier_after q (modifier_after p m) ≡ modifier_after (patch p q) m
+pub modifier_after-patch : (p q : Style) (m : Modifier) → bits_of m < 2 ^ 16 → bits_of p.add_modifier < 2 ^ 16
+    → bits_of p.sub_modifier < 2 ^ 16
+    → bits_of q.add_modifier < 2 ^ 16 → bits_of q.sub_modifier < 2 ^ 16
+    → modifier_after q (modifier_after p m) ≡ modifier_after (patch p q) m
 modifier_after-patch p q m h pa ps qa qs = ap modifier_of
-    (bits.painted_twice (bits_of m) (bits_of p.add_modifier) (bits_of p.sub_modifier) (bits_of q.add_modifier) (bits_of q.sub_modifier) h pa ps qa qs)
+    (bits.painted_twice (bits_of m) (bits_of p.add_modifier) (bits_of p.sub_modifier) (bits_of q.add_modifier)
+    (bits_of q.sub_modifier) h pa ps qa qs)

@@ -1,9 +1,15 @@
 -- The text of a colour, as it is printed and as it is read.
-use Rattle.std.specs.Prelude.{ℕ, ◌+◌, ◌*◌, ◌/◌, ◌%◌, ◌^◌, Bool, true, ◌&&◌, ◌||◌, not, nat_eq, nat_lt, ◌==◌, if◌then◌else◌, List, [], ◌∷◌, ◌++◌, codes, map, filter, find, length, Option, Some, None, option_map, Result, Ok, Err}
-use Rattle.std.specs.{Char.digit_value, Char.to_ascii_lowercase, Cmp.Lexicographic.pointwise, Fmt.decimal, Fmt.digit_glyph, List.list_all, Str.chars}
+use Rattle.std.specs.Prelude.{ℕ, ◌+◌, ◌*◌, ◌/◌, ◌%◌, ◌^◌, Bool, true, ◌&&◌, ◌||◌, not, nat_eq, nat_lt, ◌==◌}
+use Rattle.std.specs.Prelude.{if◌then◌else◌, List, [], ◌∷◌, ◌++◌, codes, map, filter, find, length, Option}
+use Rattle.std.specs.Prelude.{Some, None, option_map, Result, Ok, Err}
+use Rattle.std.specs.{Char.digit_value, Char.to_ascii_lowercase, Cmp.Lexicographic.pointwise, Fmt.decimal}
+use Rattle.std.specs.{Fmt.digit_glyph, List.list_all, Str.chars}
 use Rattle.std.specs.Str.Parse.{digits_value, without_leading_plus}
 use Rattle.rtui_style.specs.{declared.color.Color.Color, declared.color.ParseColorError.ParseColorError}
-use Rattle.rtui_style.specs.declared.color.Color.TheVariants.{Reset, Black, Red, Green, Yellow, Blue, Magenta, Cyan, Gray, DarkGray, LightRed, LightGreen, LightYellow, LightBlue, LightMagenta, LightCyan, White, Rgb, Indexed}
+use Rattle.rtui_style.specs.declared.color.Color.TheVariants.{Reset, Black, Red, Green, Yellow, Blue, Magenta}
+use Rattle.rtui_style.specs.declared.color.Color.TheVariants.{Cyan, Gray, DarkGray, LightRed, LightGreen}
+use Rattle.rtui_style.specs.declared.color.Color.TheVariants.{LightYellow, LightBlue, LightMagenta, LightCyan}
+use Rattle.rtui_style.specs.declared.color.Color.TheVariants.{White, Rgb, Indexed}
 
 -- a byte as two hexadecimal digits in upper case
 abbrev pub hex_byte : ℕ → List ℕ
@@ -97,7 +103,8 @@ named_color text = color_among color_names text
 abbrev pub color_index : List ℕ → Option ℕ
 color_index text =
     let digits = without_leading_plus text in
-    if nat_lt 0 (length digits) && list_all (λ c. nat_lt (digit_value c) 10) digits && nat_lt (digits_value 10 digits) 256
+    if nat_lt 0 (length digits) && list_all (λ c. nat_lt (digit_value c) 10) digits && nat_lt
+    (digits_value 10 digits) 256
     then Some (digits_value 10 digits) else None
 
 -- the byte that two characters write: two hexadecimal digits, or a plus and one
@@ -124,7 +131,8 @@ first_of None other = other
 
 -- the colour that a text is read as: its name, its index, or its three bytes
 abbrev pub color_of : List ℕ → Option Color
-color_of text = first_of (named_color text) (first_of (option_map Indexed (color_index text)) (hex_color text))
+color_of text = first_of (named_color text) (first_of (option_map Indexed (color_index text))
+    (hex_color text))
 
 -- a colour, or the error if there is none
 abbrev pub color_or_error : Option Color → Result Color ParseColorError

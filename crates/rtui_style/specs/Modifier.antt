@@ -6,8 +6,14 @@ use Rattle.rtui_style.specs.declared.Modifier.{Modifier}
 -- the nine modifiers by name, each with its bit
 abbrev pub modifier_table : List (List ℕ × ℕ)
 modifier_table =
-    (codes "BOLD", 1) ∷ (codes "DIM", 2) ∷ (codes "ITALIC", 4) ∷ (codes "UNDERLINED", 8) ∷ (codes "SLOW_BLINK", 16)
-    ∷ (codes "RAPID_BLINK", 32) ∷ (codes "REVERSED", 64) ∷ (codes "HIDDEN", 128) ∷ (codes "CROSSED_OUT", 256) ∷ []
+    (codes "BOLD", 1) ∷ (codes "DIM", 2) ∷ (codes "ITALIC", 4) ∷ (
+      codes "UNDERLINED",
+      8,
+    ) ∷ (codes "SLOW_BLINK", 16)
+    ∷ (codes "RAPID_BLINK", 32) ∷ (codes "REVERSED", 64) ∷ (codes "HIDDEN", 128) ∷ (
+      codes "CROSSED_OUT",
+      256,
+    ) ∷ []
 
 -- the bits of a set, as a number
 abbrev pub bits_of : Modifier → ℕ

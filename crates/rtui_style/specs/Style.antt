@@ -1,11 +1,18 @@
 -- Styles as data, what one laid over another comes to, and what a style makes of colours and modifiers.
 use Rattle.std.specs.Prelude.{Bool, ◌&&◌, not, Option, Some, None}
 use Rattle.rtui_style.specs.Modifier.{no_modifier, all_modifiers, modifier_with, modifier_without, has_all}
-use Rattle.rtui_style.specs.{declared.color.Color.Color, declared.color.Color.TheVariants.Reset, declared.Modifier.Modifier, declared.Style.Style}
+use Rattle.rtui_style.specs.{declared.color.Color.Color, declared.color.Color.TheVariants.Reset}
+use Rattle.rtui_style.specs.{declared.Modifier.Modifier, declared.Style.Style}
 
 -- the style that changes nothing
 abbrev pub new_style : Style
-new_style = record { fg = None; bg = None; underline_color = None; add_modifier = no_modifier; sub_modifier = no_modifier }
+new_style = record {
+  fg = None;
+  bg = None;
+  underline_color = None;
+  add_modifier = no_modifier;
+  sub_modifier = no_modifier;
+}
 
 -- the style that sets every colour to the terminal's own and takes every modifier away
 abbrev pub reset_style : Style
@@ -28,11 +35,17 @@ with_underline_color color s = record s { underline_color = Some color }
 
 -- the style s that also adds m, and takes nothing of it away
 abbrev pub with_modifier : Modifier → Style → Style
-with_modifier m s = record s { add_modifier = modifier_with s.add_modifier m; sub_modifier = modifier_without s.sub_modifier m }
+with_modifier m s = record s {
+  add_modifier = modifier_with s.add_modifier m;
+  sub_modifier = modifier_without s.sub_modifier m;
+}
 
 -- the style s that also takes m away, and adds nothing of it
 abbrev pub without_modifier : Modifier → Style → Style
-without_modifier m s = record s { add_modifier = modifier_without s.add_modifier m; sub_modifier = modifier_with s.sub_modifier m }
+without_modifier m s = record s {
+  add_modifier = modifier_without s.add_modifier m;
+  sub_modifier = modifier_with s.sub_modifier m;
+}
 
 -- m is added whole, and not taken away whole
 abbrev pub has_modifier : Modifier → Style → Bool

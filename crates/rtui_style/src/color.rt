@@ -3,7 +3,8 @@
 ghost use Rattle.std.specs.Prelude.{◌≡◌, Some, codes, map, nat_eq, slice_index};
 ghost use Rattle.std.specs.Cmp.Lexicographic.{pointwise};
 ghost use Rattle.std.specs.Str.{chars};
-ghost use Rattle.rtui_style.specs.Color.{is_kept, lowered, cleaned, color_among, named_color, pair_value, hex_color, color_of, color_or_error, color_of_number, color_text};
+ghost use Rattle.rtui_style.specs.Color.{is_kept, lowered, cleaned, color_among, named_color, pair_value};
+ghost use Rattle.rtui_style.specs.Color.{hex_color, color_of, color_or_error, color_of_number, color_text};
 ghost use Rattle.rtui_style.specs.declared.color.Color.TheVariants.{Rgb};
 
 use std::error::Error;

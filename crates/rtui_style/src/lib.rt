@@ -12,7 +12,8 @@
 
 ghost use Rattle.std.specs.Prelude.{⊤, ◌≡◌};
 ghost use Rattle.rtui_style.specs.Modifier.{modifier_table, bits_of};
-ghost use Rattle.rtui_style.specs.Style.{patch, new_style, reset_style, with_fg, with_bg, with_underline_color, with_modifier, without_modifier, has_modifier};
+ghost use Rattle.rtui_style.specs.Style.{patch, new_style, reset_style, with_fg, with_bg};
+ghost use Rattle.rtui_style.specs.Style.{with_underline_color, with_modifier, without_modifier, has_modifier};
 
 mod color;
 pub mod laws;

@@ -51,7 +51,8 @@ double_lines =
 
 -- lines with these corners in place of their own
 abbrev pub with_corners : List ℕ → List ℕ → List ℕ → List ℕ → List (List ℕ) → List (List ℕ)
-with_corners a b c d (vertical ∷ horizontal ∷ _ ∷ _ ∷ _ ∷ _ ∷ joints) = vertical ∷ horizontal ∷ a ∷ b ∷ c ∷ d ∷ joints
+with_corners a b c d (vertical ∷ horizontal ∷ _ ∷ _ ∷ _ ∷ _ ∷ joints) =
+    vertical ∷ horizontal ∷ a ∷ b ∷ c ∷ d ∷ joints
 with_corners a b c d lines = lines
 
 -- lines with this upright and this level one in place of their own
@@ -62,9 +63,11 @@ with_dashes vertical horizontal lines = lines
 -- plain lines with rounded corners
 abbrev pub rounded_lines : List (List ℕ)
 rounded_lines =
-    with_corners line_symbol.ROUNDED_TOP_RIGHT.now line_symbol.ROUNDED_TOP_LEFT.now line_symbol.ROUNDED_BOTTOM_RIGHT.now line_symbol.ROUNDED_BOTTOM_LEFT.now normal_lines
+    with_corners line_symbol.ROUNDED_TOP_RIGHT.now line_symbol.ROUNDED_TOP_LEFT.now
+    line_symbol.ROUNDED_BOTTOM_RIGHT.now line_symbol.ROUNDED_BOTTOM_LEFT.now normal_lines
 
--- the border of a box that is drawn with a set of lines: both upright sides are its upright line, both level ones its level line
+-- the border of a box that is drawn with a set of lines: both upright sides are its upright line, both level
+-- ones its level line
 abbrev pub border_of : line.Set → List (List ℕ)
 border_of l =
     l.top_left.now ∷ l.top_right.now ∷ l.bottom_left.now ∷ l.bottom_right.now ∷ l.vertical.now ∷ l.vertical.now ∷ l.horizontal.now ∷ l.horizontal.now ∷ []
@@ -74,7 +77,8 @@ abbrev pub plain_border : List (List ℕ)
 plain_border =
     line_symbol.TOP_LEFT.now ∷ line_symbol.TOP_RIGHT.now ∷ line_symbol.BOTTOM_LEFT.now ∷ line_symbol.BOTTOM_RIGHT.now ∷ line_symbol.VERTICAL.now ∷ line_symbol.VERTICAL.now ∷ line_symbol.HORIZONTAL.now ∷ line_symbol.HORIZONTAL.now ∷ []
 
--- the border that lines make: their corners, the upright line on both sides, the level one at the top and at the bottom
+-- the border that lines make: their corners, the upright line on both sides, the level one at the top and at
+-- the bottom
 abbrev pub border_by : List (List ℕ) → List (List ℕ)
 border_by (upright ∷ level ∷ top_right ∷ top_left ∷ bottom_right ∷ bottom_left ∷ joints) =
     top_left ∷ top_right ∷ bottom_left ∷ bottom_right ∷ upright ∷ upright ∷ level ∷ level ∷ []
@@ -83,27 +87,33 @@ border_by lines = []
 -- dashed lines, of two, three and four dashes
 abbrev pub light_double_dashed_lines : List (List ℕ)
 light_double_dashed_lines =
-    with_dashes line_symbol.LIGHT_DOUBLE_DASH_VERTICAL.now line_symbol.LIGHT_DOUBLE_DASH_HORIZONTAL.now normal_lines
+    with_dashes line_symbol.LIGHT_DOUBLE_DASH_VERTICAL.now line_symbol.LIGHT_DOUBLE_DASH_HORIZONTAL.now
+    normal_lines
 
 abbrev pub heavy_double_dashed_lines : List (List ℕ)
 heavy_double_dashed_lines =
-    with_dashes line_symbol.HEAVY_DOUBLE_DASH_VERTICAL.now line_symbol.HEAVY_DOUBLE_DASH_HORIZONTAL.now thick_lines
+    with_dashes line_symbol.HEAVY_DOUBLE_DASH_VERTICAL.now line_symbol.HEAVY_DOUBLE_DASH_HORIZONTAL.now
+    thick_lines
 
 abbrev pub light_triple_dashed_lines : List (List ℕ)
 light_triple_dashed_lines =
-    with_dashes line_symbol.LIGHT_TRIPLE_DASH_VERTICAL.now line_symbol.LIGHT_TRIPLE_DASH_HORIZONTAL.now normal_lines
+    with_dashes line_symbol.LIGHT_TRIPLE_DASH_VERTICAL.now line_symbol.LIGHT_TRIPLE_DASH_HORIZONTAL.now
+    normal_lines
 
 abbrev pub heavy_triple_dashed_lines : List (List ℕ)
 heavy_triple_dashed_lines =
-    with_dashes line_symbol.HEAVY_TRIPLE_DASH_VERTICAL.now line_symbol.HEAVY_TRIPLE_DASH_HORIZONTAL.now thick_lines
+    with_dashes line_symbol.HEAVY_TRIPLE_DASH_VERTICAL.now line_symbol.HEAVY_TRIPLE_DASH_HORIZONTAL.now
+    thick_lines
 
 abbrev pub light_quadruple_dashed_lines : List (List ℕ)
 light_quadruple_dashed_lines =
-    with_dashes line_symbol.LIGHT_QUADRUPLE_DASH_VERTICAL.now line_symbol.LIGHT_QUADRUPLE_DASH_HORIZONTAL.now normal_lines
+    with_dashes line_symbol.LIGHT_QUADRUPLE_DASH_VERTICAL.now line_symbol.LIGHT_QUADRUPLE_DASH_HORIZONTAL.now
+    normal_lines
 
 abbrev pub heavy_quadruple_dashed_lines : List (List ℕ)
 heavy_quadruple_dashed_lines =
-    with_dashes line_symbol.HEAVY_QUADRUPLE_DASH_VERTICAL.now line_symbol.HEAVY_QUADRUPLE_DASH_HORIZONTAL.now thick_lines
+    with_dashes line_symbol.HEAVY_QUADRUPLE_DASH_VERTICAL.now line_symbol.HEAVY_QUADRUPLE_DASH_HORIZONTAL.now
+    thick_lines
 
 -- half blocks towards the outside, and towards the inside, with the corners that join them
 abbrev pub outside_border : List (List ℕ)
@@ -158,7 +168,8 @@ border_sets =
     ∷ border_by light_triple_dashed_lines ∷ border_by heavy_triple_dashed_lines
     ∷ border_by light_quadruple_dashed_lines ∷ border_by heavy_quadruple_dashed_lines
     ∷ outside_border ∷ inside_border ∷ one_eighth_wide_border ∷ one_eighth_tall_border
-    ∷ proportional_wide_border ∷ proportional_tall_border ∷ border_all block_symbol.FULL.now ∷ border_all (codes " ") ∷ []
+    ∷ proportional_wide_border ∷ proportional_tall_border ∷ border_all block_symbol.FULL.now ∷ border_all
+    (codes " ") ∷ []
 
 -- all sets of lines, in the order in which `line` has them
 abbrev pub line_sets : List (List (List ℕ))
@@ -168,7 +179,8 @@ line_sets =
 
 -- a scroll bar: its line, a whole block for its thumb, and an arrow at each end
 abbrev pub scrollbar_by : List ℕ → List ℕ → List ℕ → List (List ℕ)
-scrollbar_by track begin end = track ∷ block_symbol.FULL.now ∷ encode_utf8_all begin ∷ encode_utf8_all end ∷ []
+scrollbar_by track begin end =
+    track ∷ block_symbol.FULL.now ∷ encode_utf8_all begin ∷ encode_utf8_all end ∷ []
 
 -- all sets of scroll bars, in the order in which `scrollbar` has them
 abbrev pub scrollbar_sets : List (List (List ℕ))

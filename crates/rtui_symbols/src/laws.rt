@@ -3,7 +3,8 @@
 ghost use Rattle.std.specs.Prelude.{◌≡◌, [], ◌∷◌, map};
 ghost use Rattle.std.specs.List.{range_with_len};
 ghost use Rattle.rtui_symbols.specs.Pixels.{braille_of, filled, older_octants, older_sextants};
-ghost use Rattle.rtui_symbols.specs.Sets.{border_of, border_texts, double_lines, line_texts, normal_lines, rounded_lines, scrollbar_texts, thick_lines, with_dashes};
+ghost use Rattle.rtui_symbols.specs.Sets.{border_of, border_texts, double_lines, line_texts, normal_lines};
+ghost use Rattle.rtui_symbols.specs.Sets.{rounded_lines, scrollbar_texts, thick_lines, with_dashes};
 ghost use Rattle.rtui_symbols.specs.declared.line.TheConstants as line_symbol;
 ghost use Rattle.rtui_symbols.specs.declared.braille.TheConstants.{BRAILLE};
 ghost use Rattle.rtui_symbols.specs.declared.pixel.TheConstants.{OCTANTS, SEXTANTS};

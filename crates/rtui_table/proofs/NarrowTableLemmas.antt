@@ -1,6 +1,8 @@
 -- A table of narrow texts keeps cells plain.
-use Rattle.std.proofs.Common.{◌≡◌, ℕ, ◌+◌, ◌<◌, ◌≤◌, ◌==◌, ◌⊎◌, ⊎_elim, inl, inr, Bool, true, false, if◌then◌else◌, List, [], ◌∷◌, ◌++◌, drop, All, Option, Some, None, is_some, sym, subst, arith}
-use Rattle.std.proofs.lemmas.{Bool.cases_lt, List.Elements.All-head, List.Elements.All-tail, List.Elements.All-drop, List.Concat.flat_map-cons}
+use Rattle.std.proofs.Common.{◌≡◌, ℕ, ◌+◌, ◌<◌, ◌≤◌, ◌==◌, ◌⊎◌, ⊎_elim, inl, inr, Bool, true, false, if◌then◌else◌, List, [], ◌∷◌}
+use Rattle.std.proofs.Common.{◌++◌, drop, All, Option, Some, None, is_some, sym, subst, arith}
+use Rattle.std.proofs.lemmas.{Bool.cases_lt, List.Elements.All-head, List.Elements.All-tail, List.Elements.All-drop}
+use Rattle.std.proofs.lemmas.{List.Concat.flat_map-cons}
 use Rattle.ratatui_core.specs.Layout.{Rect, intersected}
 use Rattle.ratatui_core.specs.{Style.Style, Text.TextData}
 use Rattle.ratatui_core.specs.Buffer.{BufferData, IsStyled, IsPlainFrom, IsNarrowText}
@@ -8,24 +10,32 @@ use Rattle.ratatui_core.proofs.BufferLemmas.{text-plain, styled-plain, over-all,
 use Rattle.rtui_boxes.specs.{Boxes.IsPlainIfBox, Framed.inner_if, Framed.IsBare}
 use Rattle.rtui_boxes.proofs.InnerLemmas.{plain-framed}
 use Rattle.rtui_list.specs.Items.{is_selected_at}
-use Rattle.rtui_table.specs.{declared.table.Table.Table as TableData, declared.cell.Cell.Cell, declared.row.Row.Row, declared.state.TableState.TableState}
+use Rattle.rtui_table.specs.{declared.table.Table.Table as TableData, declared.cell.Cell.Cell, declared.row.Row.Row}
+use Rattle.rtui_table.specs.{declared.state.TableState.TableState}
 use Rattle.rtui_table.specs.Rows.{stacked_rows, rows_area, footer_area, cells_area, below, full_height}
-use Rattle.rtui_table.specs.Tables.{TablePart, RendersIfText, RendersTableParts, cell_parts, symbol_parts, symbol_if, row_parts, placed_row_parts, rows_parts, outer_parts, highlight_parts, selected_row_area, selected_column_area}
-use Rattle.rtui_table.specs.Tables.{placed_rows, body_parts, table_parts, symbol_columns, ShowsTable, RendersTable, HasNarrowRows, HasNarrowCells, HasNarrowCellsIf, IsNarrowSymbol}
+use Rattle.rtui_table.specs.Tables.{TablePart, RendersIfText, RendersTableParts, cell_parts, symbol_parts, symbol_if, row_parts}
+use Rattle.rtui_table.specs.Tables.{placed_row_parts, rows_parts, outer_parts, highlight_parts, selected_row_area}
+use Rattle.rtui_table.specs.Tables.{selected_column_area}
+use Rattle.rtui_table.specs.Tables.{placed_rows, body_parts, table_parts, symbol_columns, ShowsTable, RendersTable, HasNarrowRows}
+use Rattle.rtui_table.specs.Tables.{HasNarrowCells, HasNarrowCellsIf, IsNarrowSymbol}
 
-styled-stays : (r : Rect) (style : Style) (old new : BufferData) → IsPlainFrom 0 old → IsStyled r style old new → IsPlainFrom 0 new
+styled-stays : (r : Rect) (style : Style) (old new : BufferData) → IsPlainFrom 0 old → IsStyled r style old new
+    → IsPlainFrom 0 new
 styled-stays r style old new plain is = from-over old new is.area (styled-plain r old.area style old new (over-all old plain) is)
 
-text-if : (o : Option TextData) (r : Rect) (old new : BufferData) → IsNarrowSymbol o → IsPlainFrom 0 old → RendersIfText o r old new → IsPlainFrom 0 new
+text-if : (o : Option TextData) (r : Rect) (old new : BufferData) → IsNarrowSymbol o → IsPlainFrom 0 old
+    → RendersIfText o r old new → IsPlainFrom 0 new
 text-if None r old new narrow plain same = rw same plain
-text-if (Some text) r old new narrow plain is = from-over old new is.within.same_area (text-plain r old.area old new (λ p has here. has) (over-all old plain) text narrow is)
+text-if (Some text) r old new narrow plain is =
+    from-over old new is.within.same_area (text-plain r old.area old new (λ p has here. has) (over-all old plain) text narrow is)
 
 -- each part has a narrow text, or none
 abbrev AreNarrowParts : List TablePart → Type 0
 AreNarrowParts [] = Unit {0}
 AreNarrowParts (p ∷ ps) = IsNarrowSymbol p.content × AreNarrowParts ps
 
-parts-stay : (ps : List TablePart) (old new : BufferData) → AreNarrowParts ps → IsPlainFrom 0 old → RendersTableParts ps old new → IsPlainFrom 0 new
+parts-stay : (ps : List TablePart) (old new : BufferData) → AreNarrowParts ps → IsPlainFrom 0 old → RendersTableParts ps old new
+    → IsPlainFrom 0 new
 parts-stay [] old new narrow plain same = rw same plain
 parts-stay (p ∷ ps) old new narrow plain is =
     let first = is.first in
@@ -37,23 +47,35 @@ narrow-then : (ps qs : List TablePart) → AreNarrowParts ps → AreNarrowParts 
 narrow-then [] qs first second = second
 narrow-then (p ∷ ps) qs first second = (first.0, narrow-then ps qs first.1 second)
 
-cells-narrow : (r : Rect) (columns : List Rect) (cells : List Cell) → All (λ (cell : Cell). IsNarrowText cell.content) cells → AreNarrowParts (cell_parts r columns cells)
+cells-narrow : (r : Rect) (columns : List Rect) (cells : List Cell) → All (λ (cell : Cell). IsNarrowText cell.content) cells
+    → AreNarrowParts (cell_parts r columns cells)
 cells-narrow r [] cells all = tt
 cells-narrow r (column ∷ columns) [] all = tt
-cells-narrow r (column ∷ columns) (cell ∷ cells) all =
-    (All-head (λ (cell : Cell). IsNarrowText cell.content) cell cells all, cells-narrow r columns cells (All-tail (λ (cell : Cell). IsNarrowText cell.content) cell cells all))
+cells-narrow r (column ∷ columns) (cell ∷ cells) all = (
+  All-head (λ (cell : Cell). IsNarrowText cell.content) cell cells all,
+  cells-narrow r columns cells (All-tail (λ (cell : Cell). IsNarrowText cell.content) cell cells all),
+)
 
-symbol-narrow : (o : Option TextData) (n : ℕ) (style : Style) (r : Rect) → IsNarrowSymbol o → AreNarrowParts (symbol_parts o n style r)
+symbol-narrow : (o : Option TextData) (n : ℕ) (style : Style) (r : Rect) → IsNarrowSymbol o
+    → AreNarrowParts (symbol_parts o n style r)
 symbol-narrow None n style r narrow = tt
 symbol-narrow (Some text) n style r narrow = by-test (n == 0)
   where
-    by-test : (none : Bool) → AreNarrowParts (if none then [] else record { area = record r { width = n }; style = style; content = Some text } ∷ [])
+    by-test : (none : Bool) → AreNarrowParts (if none then [] else record {
+      area = record r { width = n };
+      style = style;
+      content = Some text;
+    } ∷ [])
     by-test true = tt
     by-test false = (narrow, tt)
 
-row-narrow : (o : Option TextData) (n : ℕ) (columns : List Rect) (row : Row) (r : Rect) → IsNarrowSymbol o → HasNarrowCells row → AreNarrowParts (row_parts o n columns row r)
-row-narrow o n columns row r symbol cells =
-    (tt, narrow-then (symbol_parts o n row.style r) (cell_parts r columns row.cells.items) (symbol-narrow o n row.style r symbol) (cells-narrow r columns row.cells.items cells))
+row-narrow : (o : Option TextData) (n : ℕ) (columns : List Rect) (row : Row) (r : Rect) → IsNarrowSymbol o → HasNarrowCells row
+    → AreNarrowParts (row_parts o n columns row r)
+row-narrow o n columns row r symbol cells = (
+  tt,
+  narrow-then (symbol_parts o n row.style r) (cell_parts r columns row.cells.items) (symbol-narrow o n row.style r symbol)
+      (cells-narrow r columns row.cells.items cells),
+)
 
 outer-narrow : (columns : List Rect) (o : Option Row) (r : Rect) → HasNarrowCellsIf o → AreNarrowParts (outer_parts columns o r)
 outer-narrow columns None r narrow = tt
@@ -70,30 +92,44 @@ symbol-if true o narrow = narrow
 symbol-if false o narrow = tt
 
 module _ (t : TableData) (symbol : IsNarrowSymbol t.highlight_symbol) (selected : Option ℕ) (n : ℕ) (columns : List Rect) where
-  rows-narrow : (k : ℕ) (r : Rect) (rows : List Row) → All HasNarrowCells rows → AreNarrowParts (rows_parts t selected n columns (stacked_rows k r rows))
+  rows-narrow : (k : ℕ) (r : Rect) (rows : List Row) → All HasNarrowCells rows
+      → AreNarrowParts (rows_parts t selected n columns (stacked_rows k r rows))
   rows-narrow k r [] all = tt
-  rows-narrow k r (row ∷ rows) all = by-test (r.height == 0) (rows-narrow (k + 1) (below (full_height row) r) rows (All-tail HasNarrowCells row rows all))
+  rows-narrow k r (row ∷ rows) all = by-test (r.height == 0)
+      (rows-narrow (k + 1) (below (full_height row) r) rows (All-tail HasNarrowCells row rows all))
     where
-      by-test : (stop : Bool) → AreNarrowParts (rows_parts t selected n columns (stacked_rows (k + 1) (below (full_height row) r) rows))
-          → AreNarrowParts (rows_parts t selected n columns (if stop then [] else record { row = row; number = k; area = cells_area row r } ∷ stacked_rows (k + 1) (below (full_height row) r) rows))
+      by-test : (stop : Bool) → AreNarrowParts (rows_parts t selected n columns (stacked_rows (k + 1)
+          (below (full_height row) r) rows))
+          → AreNarrowParts (rows_parts t selected n columns (if stop then [] else record {
+            row = row;
+            number = k;
+            area = cells_area row r;
+          } ∷ stacked_rows (k + 1) (below (full_height row) r) rows))
       by-test true rest = tt
       by-test false rest =
-          subst AreNarrowParts (sym (flat_map-cons (placed_row_parts t selected n columns) (record { row = row; number = k; area = cells_area row r }) (stacked_rows (k + 1) (below (full_height row) r) rows)))
+          subst AreNarrowParts (sym (flat_map-cons (placed_row_parts t selected n columns)
+          (record { row = row; number = k; area = cells_area row r })
+          (stacked_rows (k + 1) (below (full_height row) r) rows)))
           (narrow-then (placed_row_parts t selected n columns (record { row = row; number = k; area = cells_area row r })) _
-          (row-narrow (symbol_if (is_selected_at selected k) t.highlight_symbol) n columns row (cells_area row r) (symbol-if (is_selected_at selected k) t.highlight_symbol symbol) (All-head HasNarrowCells row rows all)) rest)
+          (row-narrow (symbol_if (is_selected_at selected k) t.highlight_symbol) n columns row (cells_area row r)
+          (symbol-if (is_selected_at selected k) t.highlight_symbol symbol) (All-head HasNarrowCells row rows all)) rest)
 
-table-narrow : (t : TableData) (u : TableState) (columns : List Rect) (r : Rect) → HasNarrowRows t → AreNarrowParts (table_parts t u columns r)
+table-narrow : (t : TableData) (u : TableState) (columns : List Rect) (r : Rect) → HasNarrowRows t
+    → AreNarrowParts (table_parts t u columns r)
 table-narrow t u columns r narrow =
     let body = rows_area t.header t.footer r in
     let n = symbol_columns t (is_some u.selected) r in
     narrow-then (outer_parts columns t.header r) _ (outer-narrow columns t.header r narrow.header)
     (narrow-then (body_parts t u n columns body) (outer_parts columns t.footer (footer_area t.header t.footer r))
     (narrow-then (rows_parts t u.selected n columns (placed_rows t u body)) _
-    (rows-narrow t narrow.symbol u.selected n columns u.offset body (drop u.offset t.rows.items) (All-drop HasNarrowCells u.offset t.rows.items narrow.rows))
-    (highlight-narrow t (selected_row_area u.selected (placed_rows t u body)) (selected_column_area u.selected_column columns body)))
+    (rows-narrow t narrow.symbol u.selected n columns u.offset body (drop u.offset t.rows.items)
+    (All-drop HasNarrowCells u.offset t.rows.items narrow.rows))
+    (highlight-narrow t (selected_row_area u.selected (placed_rows t u body))
+    (selected_column_area u.selected_column columns body)))
     (outer-narrow columns t.footer (footer_area t.header t.footer r) narrow.footer))
 
-pub table-keeps : (t : TableData) (s u : TableState) (area : Rect) (old new : BufferData) → IsPlainIfBox t.block → HasNarrowRows t → IsPlainFrom 0 old → RendersTable t s u area old new → IsPlainFrom 0 new
+pub table-keeps : (t : TableData) (s u : TableState) (area : Rect) (old new : BufferData) → IsPlainIfBox t.block → HasNarrowRows t
+    → IsPlainFrom 0 old → RendersTable t s u area old new → IsPlainFrom 0 new
 table-keeps t s u area old new box narrow plain is =
     let part = intersected area old.area in
     let nothing : (part.width ≡ 0) ⊎ (part.height ≡ 0) → IsPlainFrom 0 new = λ none. rw (is.parts.nothing none) plain in
@@ -102,14 +138,17 @@ table-keeps t s u area old new box narrow plain is =
     let framed = plain-framed t.style t.block part old there.framed box plain there.frame in
     let bare : IsBare (inner_if t.block part) → IsPlainFrom 0 new = λ none. rw (there.none none).0 framed in
     let full : ShowsTable t s u (inner_if t.block part) there.framed new → IsPlainFrom 0 new = λ shows.
-    parts-stay (table_parts t u shows.columns (inner_if t.block part)) there.framed new (table-narrow t u shows.columns (inner_if t.block part) narrow) framed shows.parts in
+    parts-stay (table_parts t u shows.columns (inner_if t.block part)) there.framed new
+    (table-narrow t u shows.columns (inner_if t.block part) narrow) framed shows.parts in
     ⊎_elim
     (λ (wide : 0 < (inner_if t.block part).width).
-    ⊎_elim (λ (high : 0 < (inner_if t.block part).height). full (there.inside wide high)) (λ (le : (inner_if t.block part).height ≤ 0). bare (inr (omega arith)))
+    ⊎_elim (λ (high : 0 < (inner_if t.block part).height). full (there.inside wide high))
+    (λ (le : (inner_if t.block part).height ≤ 0). bare (inr (omega arith)))
     (cases_lt 0 (inner_if t.block part).height))
     (λ (le : (inner_if t.block part).width ≤ 0). bare (inl (omega arith)))
     (cases_lt 0 (inner_if t.block part).width) in
     ⊎_elim
-    (λ (w : 0 < part.width). ⊎_elim (λ (h : 0 < part.height). some w h) (λ (le : part.height ≤ 0). nothing (inr (omega arith))) (cases_lt 0 part.height))
+    (λ (w : 0 < part.width). ⊎_elim (λ (h : 0 < part.height). some w h) (λ (le : part.height ≤ 0). nothing (inr (omega arith)))
+    (cases_lt 0 part.height))
     (λ (le : part.width ≤ 0). nothing (inl (omega arith)))
     (cases_lt 0 part.width)

@@ -6,7 +6,8 @@ use Rattle.ratatui_core.proofs.WidgetLemmas.{OnPart-clipped}
 use Rattle.rtui_boxes.specs.Boxes.{IsBoxArea}
 use Rattle.rtui_boxes.specs.Framed.{inner_if, IsFramed, IsBare, IsInner}
 use Rattle.rtui_boxes.proofs.FrameLemmas.{frame-within, inner-within}
-use Rattle.rtui_table.specs.{declared.table.Table.Table as TableData, declared.state.TableState.TableState, Tables.ShowsTable, Tables.TableInFrame, Tables.RendersTable}
+use Rattle.rtui_table.specs.{declared.table.Table.Table as TableData, declared.state.TableState.TableState, Tables.ShowsTable}
+use Rattle.rtui_table.specs.{Tables.TableInFrame, Tables.RendersTable}
 
 clip-some : (area own part : Rect) → IsClipped area own part → IsBare (intersected area own) → ⊥
 clip-some area own part clip bare =
@@ -16,7 +17,8 @@ clip-some area own part clip bare =
     ⊎_elim (λ (e : (intersected area own).width ≡ 0). omega arith) (λ (e : (intersected area own).height ≡ 0). omega arith) bare
 
 -- a table over the part of an area, with its style and its box
-module _ (t : TableData) (s : TableState) (area part : Rect) (old framed : BufferData) (clip : IsClipped area old.area part) (within : ChangesWithin part old framed) (frame : IsFramed t.style t.block part old framed) where
+module _ (t : TableData) (s : TableState) (area part : Rect) (old framed : BufferData) (clip : IsClipped area old.area part)
+    (within : ChangesWithin part old framed) (frame : IsFramed t.style t.block part old framed) where
   pub table-bare : IsBare (inner_if t.block part) → RendersTable t s s area old framed
   table-bare bare = record {
     within = frame-within t.style t.block (λ r a b. b ≡ a) area part old framed clip within;
@@ -25,20 +27,26 @@ module _ (t : TableData) (s : TableState) (area part : Rect) (old framed : Buffe
       framed = framed;
       frame = frame;
       none = λ _. (refl, refl);
-      inside = λ wide high. ⊎_elim (λ (e : (inner_if t.block part).width ≡ 0). absurd (omega arith)) (λ (e : (inner_if t.block part).height ≡ 0). absurd (omega arith)) bare;
+      inside = λ wide high. ⊎_elim (λ (e : (inner_if t.block part).width ≡ 0). absurd (omega arith))
+          (λ (e : (inner_if t.block part).height ≡ 0). absurd (omega arith)) bare;
     });
   }
 
-  pub table-within : (inner : Rect) (new : BufferData) → IsInner t.block part inner → ChangesWithin inner framed new → ChangesWithin area old new
-  table-within inner new is done = inner-within t.style t.block (λ r a b. b ≡ a) area part old framed clip within inner new is done
+  pub table-within : (inner : Rect) (new : BufferData) → IsInner t.block part inner → ChangesWithin inner framed new
+      → ChangesWithin area old new
+  table-within inner new is done = inner-within t.style t.block (λ r a b. b ≡ a) area part old framed clip within inner new is
+      done
 
   some-inside : (inner : Rect) → IsInner t.block part inner → IsBare (inner_if t.block part) → ⊥
   some-inside inner is bare =
       let some : IsBoxArea (inner_if t.block part) = subst IsBoxArea is.value is.some in
       let wide = some.columns in let high = some.rows in
-      ⊎_elim (λ (e : (inner_if t.block part).width ≡ 0). omega arith) (λ (e : (inner_if t.block part).height ≡ 0). omega arith) bare
+      ⊎_elim (λ (e : (inner_if t.block part).width ≡ 0). omega arith)
+      (λ (e : (inner_if t.block part).height ≡ 0). omega arith) bare
 
-  pub table-some : {A : Type 0} (r : Result A AllocError) (u : TableState) (inner : Rect) (new : BufferData) → IsInner t.block part inner → ChangesWithin inner framed new → OnOk r (ShowsTable t s u inner framed new) → OnOk r (RendersTable t s u area old new)
+  pub table-some : {A : Type 0} (r : Result A AllocError) (u : TableState) (inner : Rect) (new : BufferData)
+      → IsInner t.block part inner → ChangesWithin inner framed new → OnOk r (ShowsTable t s u inner framed new)
+      → OnOk r (RendersTable t s u area old new)
   table-some (Ok x) u inner new is done shown = record {
     within = table-within inner new is done;
     no_part = λ none. absurd (clip-some area old.area part clip none);

@@ -1,5 +1,6 @@
 -- Which rows of a table are shown, and where each stands.
-use Rattle.std.specs.Prelude.{◌≡◌, ℕ, ◌+◌, ◌-◌, ◌<◌, ◌≤◌, ◌==◌, min, List, [], ◌∷◌, length, take, sum_by, Option, Some, None, if◌then◌else◌, slice_index_or, map}
+use Rattle.std.specs.Prelude.{◌≡◌, ℕ, ◌+◌, ◌-◌, ◌<◌, ◌≤◌, ◌==◌, min, List, [], ◌∷◌, length, take, sum_by}
+use Rattle.std.specs.Prelude.{Option, Some, None, if◌then◌else◌, slice_index_or, map}
 use Rattle.ratatui_core.specs.{Layout.Rect}
 use Rattle.rtui_table.specs.declared.row.Row.{Row}
 

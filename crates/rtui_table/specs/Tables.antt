@@ -1,5 +1,7 @@
 -- Of which parts a table is made, and what it makes of a buffer and of its state.
-use Rattle.std.specs.Prelude.{◌≡◌, ℕ, Bool, true, false, ◌/◌, ◌<◌, ◌==◌, zero, suc, min, max, List, [], ◌∷◌, ◌++◌, length, drop, replicate, Option, Some, None, is_some, option_map, if◌then◌else◌, slice_get, All, ⊤}
+use Rattle.std.specs.Prelude.{◌≡◌, ℕ, Bool, true, false, ◌/◌, ◌<◌, ◌==◌, zero, suc, min, max, List, [], ◌∷◌}
+use Rattle.std.specs.Prelude.{◌++◌, length, drop, replicate, Option, Some, None, is_some, option_map}
+use Rattle.std.specs.Prelude.{if◌then◌else◌, slice_get, All, ⊤}
 use Rattle.std.specs.{List.flat_map, Option.option_or}
 use Rattle.ratatui_core.specs.Layout.{Rect, intersected, LayoutData, default_layout, inner, IsSplit}
 use Rattle.ratatui_core.specs.declared.layout.Constraint.{Constraint}
@@ -13,8 +15,10 @@ use Rattle.ratatui_core.specs.Widgets.{ChangesWithin, OnPart, RendersText}
 use Rattle.rtui_boxes.specs.{Titles.InTurn, Framed.IsFramed, Framed.IsBare, Framed.inner_if}
 use Rattle.rtui_list.specs.Items.{has_mark_columns, without_columns, is_selected_at}
 use Rattle.rtui_list.specs.declared.list.HighlightSpacing.TheVariants.{WhenSelected}
-use Rattle.rtui_table.specs.{declared.table.Table.Table as TableData, declared.cell.Cell.Cell, declared.row.Row.Row, declared.state.TableState.TableState}
-use Rattle.rtui_table.specs.Rows.{PlacedRow, stacked_rows, rows_area, footer_area, cells_area, cells_at, IsRowOffset}
+use Rattle.rtui_table.specs.{declared.table.Table.Table as TableData, declared.cell.Cell.Cell}
+use Rattle.rtui_table.specs.{declared.row.Row.Row, declared.state.TableState.TableState}
+use Rattle.rtui_table.specs.Rows.{PlacedRow, stacked_rows, rows_area, footer_area, cells_area, cells_at}
+use Rattle.rtui_table.specs.Rows.{IsRowOffset}
 
 -- a table of these rows in columns of these widths, a column apart, without header, footer, box, styles and
 -- highlight symbol
@@ -99,7 +103,8 @@ symbol_width (Some text) = widest text.lines
 
 abbrev pub symbol_columns : TableData → Bool → Rect → ℕ
 symbol_columns t is_selected r =
-    if has_mark_columns t.highlight_spacing is_selected then min (symbol_width t.highlight_symbol) r.width else 0
+    if has_mark_columns t.highlight_spacing is_selected then min (symbol_width t.highlight_symbol) r.width
+    else 0
 
 -- the columns of a table over an area: they share what so many columns of the symbol leave
 abbrev pub AreColumns : TableData → ℕ → Rect → List Rect → Type 0
@@ -198,8 +203,8 @@ within_count zero number = None
 within_count (suc last) None = None
 within_count (suc last) (Some n) = Some (min n last)
 
--- The state after a table was shown with so many rows of the screen for its rows: the selection is at most the
--- last row and the last column, and the first row is such that the selected one is in view.
+-- The state after a table was shown with so many rows of the screen for its rows: the selection is at most
+-- the last row and the last column, and the first row is such that the selected one is in view.
 pub record IsNextState (t : TableData) (height : ℕ) (s u : TableState) : Type 0 where
   pub selected : u.selected ≡ within_count (length t.rows.items) s.selected
   pub selected_column : u.selected_column ≡ within_count (column_count t) s.selected_column
@@ -247,4 +252,8 @@ pub record HasNarrowRows (t : TableData) : Type 0 where
 -- a table without a state of its own: from the first row on, nothing selected
 abbrev pub RendersTableFresh : TableData → Rect → BufferData → BufferData → Type 0
 RendersTableFresh t area old new =
-    (last : TableState) × RendersTable t (record { offset = 0; selected = None; selected_column = None }) last area old new
+    (last : TableState) × RendersTable t (record {
+      offset = 0;
+      selected = None;
+      selected_column = None;
+    }) last area old new

@@ -5,7 +5,8 @@ ghost use Rattle.ratatui_core.specs.Layout.{inner, IsSplit};
 ghost use Rattle.ratatui_core.specs.Widgets.{ChangesWithin};
 ghost use Rattle.rtui_boxes.specs.Boxes.{IsBoxArea};
 ghost use Rattle.rtui_table.specs.Rows.{height_if, IsTableArea};
-ghost use Rattle.rtui_table.specs.Tables.{IsNewTable, column_count, same_widths, layout_of, symbol_columns, AreColumns, IsNextState, ShowsTable, cells_if, within_count};
+ghost use Rattle.rtui_table.specs.Tables.{IsNewTable, column_count, same_widths, layout_of, symbol_columns};
+ghost use Rattle.rtui_table.specs.Tables.{AreColumns, IsNextState, ShowsTable, cells_if, within_count};
 
 use crate::row::{Row, above, below};
 use crate::state::TableState;

@@ -1,15 +1,19 @@
 -- Tabs of narrow texts keep cells plain.
-use Rattle.std.proofs.Common.{◌≡◌, ℕ, zero, suc, ◌+◌, ◌-◌, ◌<◌, ◌≤◌, ◌==◌, ◌⊎◌, ⊎_elim, inl, inr, Bool, true, false, if◌then◌else◌, List, [], ◌∷◌, ◌++◌, All, Option, Some, None, refl, subst, arith, codes}
-use Rattle.std.proofs.lemmas.{Bool.cases_lt, List.Elements.All-nil, List.Elements.All-append, List.Elements.All-head, List.Elements.All-tail}
+use Rattle.std.proofs.Common.{◌≡◌, ℕ, zero, suc, ◌+◌, ◌-◌, ◌<◌, ◌≤◌, ◌==◌, ◌⊎◌, ⊎_elim, inl, inr, Bool, true, false}
+use Rattle.std.proofs.Common.{if◌then◌else◌, List, [], ◌∷◌, ◌++◌, All, Option, Some, None, refl, subst, arith, codes}
+use Rattle.std.proofs.lemmas.{Bool.cases_lt, List.Elements.All-nil, List.Elements.All-append, List.Elements.All-head}
+use Rattle.std.proofs.lemmas.{List.Elements.All-tail}
 use Rattle.ratatui_core.specs.Layout.{Rect, Position, intersected, corner}
 use Rattle.ratatui_core.specs.{Style.Style, Style.patch, Text.SpanData, Text.LineData, Text.ArePrintable}
-use Rattle.ratatui_core.specs.Buffer.{BufferData, Piece, text_pieces, line_pieces, columns, room_at, IsPlainFrom, HasNarrowGraphemes, PaintsPieces, text_width}
+use Rattle.ratatui_core.specs.Buffer.{BufferData, Piece, text_pieces, line_pieces, columns, room_at, IsPlainFrom}
+use Rattle.ratatui_core.specs.Buffer.{HasNarrowGraphemes, PaintsPieces, text_width}
 use Rattle.ratatui_core.specs.Widgets.{first_row}
 use Rattle.ratatui_core.proofs.BufferLemmas.{pieces-narrow, pieces-plain, styled-plain, over-all, from-over}
 use Rattle.rtui_boxes.specs.{declared.block.Block.Block, Boxes.IsPlainIfBox, Framed.inner_if, Framed.IsBare, Titles.InTurn}
 use Rattle.rtui_boxes.proofs.InnerLemmas.{plain-framed}
 use Rattle.rtui_tabs.specs.declared.tabs.Tabs.{Tabs as TabsData}
-use Rattle.rtui_tabs.specs.Tabs.{TabPart, PlacedPart, placed_parts, after_parts, after_part, tab_parts, title_parts, tabs_from, part_of_span, part_of_padding}
+use Rattle.rtui_tabs.specs.Tabs.{TabPart, PlacedPart, placed_parts, after_parts, after_part, tab_parts, title_parts, tabs_from}
+use Rattle.rtui_tabs.specs.Tabs.{part_of_span, part_of_padding}
 use Rattle.rtui_tabs.specs.Tabs.{IsStyledIf, RendersParts, RendersTabs, HasNarrowTabs, HasNarrowSpans, HasNarrowPadding}
 
 -- a blank is printable
@@ -21,13 +25,15 @@ abbrev AreNarrow : List Piece → Type 0
 AreNarrow ps = All (λ p. text_width p.symbol ≤ 1) ps
 
 -- the pieces of a narrow text and of a narrow line, in as many columns as a buffer has
-text-narrow : (room : ℕ) (style : Style) (text : List ℕ) → room ≤ 65535 → HasNarrowGraphemes text → AreNarrow (text_pieces room style text)
+text-narrow : (room : ℕ) (style : Style) (text : List ℕ) → room ≤ 65535 → HasNarrowGraphemes text
+    → AreNarrow (text_pieces room style text)
 text-narrow room style text le narrow =
     let own : Rect = record { x = 0; y = 0; width = room; height = 1 } in
     let is : room_at own 0 room ≡ room = omega arith in
     subst (λ n. AreNarrow (text_pieces n style text)) is (pieces-narrow own 0 room style text narrow)
 
-line-narrow : (room : ℕ) (base : Style) (spans : List SpanData) → room ≤ 65535 → All (λ (span : SpanData). HasNarrowGraphemes span.content) spans → AreNarrow (line_pieces room base spans)
+line-narrow : (room : ℕ) (base : Style) (spans : List SpanData) → room ≤ 65535
+    → All (λ (span : SpanData). HasNarrowGraphemes span.content) spans → AreNarrow (line_pieces room base spans)
 unfolding line_pieces
 line-narrow room base [] le all = All-nil (λ (p : Piece). text_width p.symbol ≤ 1)
 line-narrow room base (s ∷ ss) le all =
@@ -37,11 +43,15 @@ line-narrow room base (s ∷ ss) le all =
     (line-narrow (room - columns ps) base ss (omega arith) (All-tail (λ (s : SpanData). HasNarrowGraphemes s.content) s ss all))
 
 -- what painting and styling leave of plain cells
-paints-plain : (from : Position) (ps : List Piece) (old new : BufferData) → AreNarrow ps → IsPlainFrom 0 old → PaintsPieces from ps old new → IsPlainFrom 0 new
-paints-plain from ps old new narrow plain is = from-over old new is.area (pieces-plain from ps old.area old new narrow (over-all old plain) is)
+paints-plain : (from : Position) (ps : List Piece) (old new : BufferData) → AreNarrow ps → IsPlainFrom 0 old
+    → PaintsPieces from ps old new → IsPlainFrom 0 new
+paints-plain from ps old new narrow plain is =
+    from-over old new is.area (pieces-plain from ps old.area old new narrow (over-all old plain) is)
 
-lit-plain : (t : Bool) (r : Rect) (style : Style) (old new : BufferData) → IsPlainFrom 0 old → IsStyledIf t r style old new → IsPlainFrom 0 new
-lit-plain true r style old new plain is = from-over old new is.area (styled-plain r old.area style old new (over-all old plain) is)
+lit-plain : (t : Bool) (r : Rect) (style : Style) (old new : BufferData) → IsPlainFrom 0 old → IsStyledIf t r style old new
+    → IsPlainFrom 0 new
+lit-plain true r style old new plain is =
+    from-over old new is.area (styled-plain r old.area style old new (over-all old plain) is)
 lit-plain false r style old new plain same = rw same plain
 
 -- the part is narrow in as many columns as a buffer has
@@ -52,7 +62,8 @@ abbrev AreNarrowParts : List TabPart → Type 0
 AreNarrowParts [] = Unit {0}
 AreNarrowParts (p ∷ ps) = IsNarrowPart p × AreNarrowParts ps
 
-parts-plain : (style : Style) (r : Rect) (ps : List TabPart) (old new : BufferData) → r.width ≤ 65535 → AreNarrowParts ps → IsPlainFrom 0 old → RendersParts style (placed_parts r ps) old new → IsPlainFrom 0 new
+parts-plain : (style : Style) (r : Rect) (ps : List TabPart) (old new : BufferData) → r.width ≤ 65535 → AreNarrowParts ps
+    → IsPlainFrom 0 old → RendersParts style (placed_parts r ps) old new → IsPlainFrom 0 new
 parts-plain style r [] old new le narrow plain same = rw same plain
 parts-plain style r (p ∷ ps) old new le narrow plain is =
     let first = is.first in
@@ -64,11 +75,16 @@ after-small : (r : Rect) (ps : List TabPart) → r.width ≤ 65535 → (after_pa
 after-small r [] le = le
 after-small r (p ∷ ps) le = after-small (after_part r p) ps (omega arith)
 
-parts-split : (style : Style) (ps qs : List PlacedPart) (old new : BufferData) → RendersParts style (ps ++ qs) old new → InTurn (RendersParts style ps) (RendersParts style qs) old new
+parts-split : (style : Style) (ps qs : List PlacedPart) (old new : BufferData) → RendersParts style (ps ++ qs) old new
+    → InTurn (RendersParts style ps) (RendersParts style qs) old new
 parts-split style [] qs old new is = record { between = old; first = refl; second = is }
 parts-split style (p ∷ ps) qs old new is =
     let rest = parts-split style ps qs is.between new is.second in
-    record { between = rest.between; first = record { between = is.between; first = is.first; second = rest.first }; second = rest.second }
+    record {
+      between = rest.between;
+      first = record { between = is.between; first = is.first; second = rest.first };
+      second = rest.second;
+    }
 
 module _ (t : TabsData) (blank : HasNarrowGraphemes (codes " ")) (narrow : HasNarrowTabs t) where
   padding-narrow : (o : Option LineData) → HasNarrowPadding o → IsNarrowPart (part_of_padding o)
@@ -76,30 +92,46 @@ module _ (t : TabsData) (blank : HasNarrowGraphemes (codes " ")) (narrow : HasNa
   padding-narrow (Some line) is = λ room le. line-narrow room line.style line.spans le is
 
   title-narrow : (k : ℕ) (line : LineData) → HasNarrowSpans line → AreNarrowParts (title_parts t k line)
-  title-narrow k line is = (padding-narrow t.padding_left narrow.left, ((λ room le. line-narrow room line.style line.spans le is), (padding-narrow t.padding_right narrow.right, tt)))
+  title-narrow k line is = (
+    padding-narrow t.padding_left narrow.left,
+    (
+      (λ room le. line-narrow room line.style line.spans le is),
+      (padding-narrow t.padding_right narrow.right, tt),
+    ),
+  )
 
-  divider-narrow : (first : Bool) (ps : List TabPart) → AreNarrowParts ps → AreNarrowParts ((if first then [] else part_of_span t.divider ∷ []) ++ ps)
+  divider-narrow : (first : Bool) (ps : List TabPart) → AreNarrowParts ps
+      → AreNarrowParts ((if first then [] else part_of_span t.divider ∷ []) ++ ps)
   divider-narrow true ps is = is
   divider-narrow false ps is = ((λ room le. text-narrow room t.divider.style t.divider.content le narrow.divider), is)
 
-  tabs-plain : (r : Rect) (k : ℕ) (lines : List LineData) (old new : BufferData) → r.width ≤ 65535 → All HasNarrowSpans lines → IsPlainFrom 0 old → RendersParts t.highlight_style (tabs_from t r k lines) old new → IsPlainFrom 0 new
+  tabs-plain : (r : Rect) (k : ℕ) (lines : List LineData) (old new : BufferData) → r.width ≤ 65535 → All HasNarrowSpans lines
+      → IsPlainFrom 0 old → RendersParts t.highlight_style (tabs_from t r k lines) old new → IsPlainFrom 0 new
   tabs-plain r k [] old new le all plain same = rw same plain
   tabs-plain r k (line ∷ lines) old new le all plain is = by-test (r.width == 0) is
-      (λ s one shows. tabs-plain (after_parts r (tab_parts t k line)) (k + 1) lines s new (after-small r (tab_parts t k line) le) (All-tail HasNarrowSpans line lines all) one shows)
+      (λ s one shows. tabs-plain (after_parts r (tab_parts t k line)) (k + 1) lines s new (after-small r (tab_parts t k line) le)
+      (All-tail HasNarrowSpans line lines all) one shows)
     where
-      by-test : (stop : Bool) → RendersParts t.highlight_style (if stop then [] else placed_parts r (tab_parts t k line) ++ tabs_from t (after_parts r (tab_parts t k line)) (k + 1) lines) old new
-          → ((s : BufferData) → IsPlainFrom 0 s → RendersParts t.highlight_style (tabs_from t (after_parts r (tab_parts t k line)) (k + 1) lines) s new → IsPlainFrom 0 new) → IsPlainFrom 0 new
+      by-test : (stop : Bool) → RendersParts t.highlight_style
+          (if stop then [] else placed_parts r (tab_parts t k line) ++ tabs_from t (after_parts r (tab_parts t k line))
+          (k + 1) lines) old new
+          → ((s : BufferData) → IsPlainFrom 0 s → RendersParts t.highlight_style (tabs_from t (after_parts r (tab_parts t k line))
+          (k + 1) lines) s new → IsPlainFrom 0 new) → IsPlainFrom 0 new
       by-test true same keeps = rw same plain
       by-test false shows keeps =
-          let both = parts-split t.highlight_style (placed_parts r (tab_parts t k line)) (tabs_from t (after_parts r (tab_parts t k line)) (k + 1) lines) old new shows in
-          let here = divider-narrow (k == 0) (title_parts t k line) (title-narrow k line (All-head HasNarrowSpans line lines all)) in
-          keeps both.between (parts-plain t.highlight_style r (tab_parts t k line) old both.between le here plain both.first) both.second
+          let both = parts-split t.highlight_style (placed_parts r (tab_parts t k line))
+          (tabs_from t (after_parts r (tab_parts t k line)) (k + 1) lines) old new shows in
+          let here = divider-narrow (k == 0) (title_parts t k line)
+          (title-narrow k line (All-head HasNarrowSpans line lines all)) in
+          keeps both.between (parts-plain t.highlight_style r (tab_parts t k line) old both.between le here plain both.first)
+          both.second
 
 inner-small : (o : Option Block) (area own : Rect) → (inner_if o (intersected area own)).width ≤ 65535
 inner-small None area own = omega arith
 inner-small (Some b) area own = omega arith
 
-pub tabs-keep : HasNarrowGraphemes (codes " ") → (t : TabsData) (area : Rect) (old new : BufferData) → IsPlainIfBox t.block → HasNarrowTabs t → IsPlainFrom 0 old → RendersTabs t area old new → IsPlainFrom 0 new
+pub tabs-keep : HasNarrowGraphemes (codes " ") → (t : TabsData) (area : Rect) (old new : BufferData) → IsPlainIfBox t.block
+    → HasNarrowTabs t → IsPlainFrom 0 old → RendersTabs t area old new → IsPlainFrom 0 new
 tabs-keep blank t area old new box narrow plain is =
     let part = intersected area old.area in
     let nothing : (part.width ≡ 0) ⊎ (part.height ≡ 0) → IsPlainFrom 0 new = λ none. rw (is.parts.nothing none) plain in
@@ -111,12 +143,14 @@ tabs-keep blank t area old new box narrow plain is =
     (λ (wide : 0 < (inner_if t.block part).width).
     ⊎_elim
     (λ (high : 0 < (inner_if t.block part).height).
-    tabs-plain t blank narrow (first_row (inner_if t.block part)) 0 t.titles.items there.framed new (inner-small t.block area old.area) narrow.titles framed (there.inside wide high))
+    tabs-plain t blank narrow (first_row (inner_if t.block part)) 0 t.titles.items there.framed new
+    (inner-small t.block area old.area) narrow.titles framed (there.inside wide high))
     (λ (le : (inner_if t.block part).height ≤ 0). bare (inr (omega arith)))
     (cases_lt 0 (inner_if t.block part).height))
     (λ (le : (inner_if t.block part).width ≤ 0). bare (inl (omega arith)))
     (cases_lt 0 (inner_if t.block part).width) in
     ⊎_elim
-    (λ (w : 0 < part.width). ⊎_elim (λ (h : 0 < part.height). some w h) (λ (le : part.height ≤ 0). nothing (inr (omega arith))) (cases_lt 0 part.height))
+    (λ (w : 0 < part.width). ⊎_elim (λ (h : 0 < part.height). some w h) (λ (le : part.height ≤ 0). nothing (inr (omega arith)))
+    (cases_lt 0 part.height))
     (λ (le : part.width ≤ 0). nothing (inl (omega arith)))
     (cases_lt 0 part.width)

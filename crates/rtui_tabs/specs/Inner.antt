@@ -1,7 +1,8 @@
 -- What the functions of tabs promise one another.
 use Rattle.std.specs.Prelude.{◌≡◌, ◌+◌, ◌≤◌, List, Result, IsOk, IfOk, OnOk}
 use Rattle.std.specs.declared.alloc.AllocError.{AllocError}
-use Rattle.ratatui_core.specs.{Layout.Rect, Style.Style, Buffer.BufferData, Buffer.HasRow, Widgets.ChangesWithin}
+use Rattle.ratatui_core.specs.{Layout.Rect, Style.Style, Buffer.BufferData, Buffer.HasRow}
+use Rattle.ratatui_core.specs.{Widgets.ChangesWithin}
 use Rattle.rtui_tabs.specs.Tabs.{TabPart, placed_parts, after_parts, RendersParts, AreShortTabParts}
 
 -- a row, or a part of one, of a buffer's area

@@ -1,9 +1,12 @@
 -- Tabs: where each part of their row stands, and what they make of a buffer.
-use Rattle.std.specs.Prelude.{◌≡◌, ℕ, Bool, true, false, ◌+◌, ◌==◌, zero, suc, min, List, [], ◌∷◌, ◌++◌, length, codes, encode_utf8_all, Option, Some, None, if◌then◌else◌, unwrap_or, All, ⊤}
+use Rattle.std.specs.Prelude.{◌≡◌, ℕ, Bool, true, false, ◌+◌, ◌==◌, zero, suc, min, List, [], ◌∷◌, ◌++◌}
+use Rattle.std.specs.Prelude.{length, codes, encode_utf8_all, Option, Some, None, if◌then◌else◌, unwrap_or}
+use Rattle.std.specs.Prelude.{All, ⊤}
 use Rattle.ratatui_core.specs.Layout.{Rect, corner, intersected}
 use Rattle.ratatui_core.specs.Style.{Style, new_style, with_modifier, modifier_of}
 use Rattle.ratatui_core.specs.Text.{SpanData, LineData, plain}
-use Rattle.ratatui_core.specs.Buffer.{BufferData, Piece, text_pieces, line_pieces, columns, AreShort, PaintsPieces, IsStyled, HasNarrowGraphemes}
+use Rattle.ratatui_core.specs.Buffer.{BufferData, Piece, text_pieces, line_pieces, columns, AreShort}
+use Rattle.ratatui_core.specs.Buffer.{PaintsPieces, IsStyled, HasNarrowGraphemes}
 use Rattle.ratatui_core.specs.Widgets.{first_row}
 use Rattle.rtui_boxes.specs.{Titles.without_first, Titles.first_columns, Titles.InTurn}
 use Rattle.rtui_boxes.specs.Framed.{RendersInFrame, IsShortFrame, inner_if}
@@ -74,7 +77,11 @@ pub record PlacedPart : Type 0 where
 -- a part at the left of a row, and the row after it
 abbrev pub placed_part : Rect → TabPart → PlacedPart
 placed_part r p =
-    let ps = p.pieces r.width in record { area = first_columns (columns ps) r; pieces = ps; is_lit = p.is_lit }
+    let ps = p.pieces r.width in record {
+      area = first_columns (columns ps) r;
+      pieces = ps;
+      is_lit = p.is_lit;
+    }
 
 abbrev pub after_part : Rect → TabPart → Rect
 after_part r p = without_first (columns (p.pieces r.width)) r

@@ -5,7 +5,9 @@ ghost use Rattle.ratatui_core.specs.Layout.{IsInside};
 ghost use Rattle.ratatui_core.specs.Widgets.{ChangesWithin};
 ghost use Rattle.rtui_boxes.specs.Boxes.{IsBoxArea};
 ghost use Rattle.rtui_boxes.specs.Titles.{without_first};
-ghost use Rattle.rtui_tabs.specs.Tabs.{IsNewTabs, selected_of, is_tab_selected, IsStyledIf, part_of_span, part_of_line, part_of_padding, divider_parts, tab_parts, placed_tabs, ShowsTabs, AreShortTabParts};
+ghost use Rattle.rtui_tabs.specs.Tabs.{IsNewTabs, selected_of, is_tab_selected, IsStyledIf, part_of_span};
+ghost use Rattle.rtui_tabs.specs.Tabs.{part_of_line, part_of_padding, divider_parts, tab_parts, placed_tabs};
+ghost use Rattle.rtui_tabs.specs.Tabs.{ShowsTabs, AreShortTabParts};
 ghost use Rattle.rtui_tabs.specs.Inner.{IsRowInBuffer, PutsParts};
 
 use ratatui_core::buffer::Buffer;

@@ -1,7 +1,9 @@
 -- Lines of a text: none of them has a line break, and a text without one is its only line.
-use Rattle.std.proofs.Common.{◌≡◌, ℕ, zero, suc, ◌<◌, ◌-◌, true, false, ◌==◌, List, [], ◌∷◌, length, take, get_or, refl, arith, slice_index}
+use Rattle.std.proofs.Common.{◌≡◌, ℕ, zero, suc, ◌<◌, ◌-◌, true, false, ◌==◌, List, [], ◌∷◌, length, take, get_or, refl, arith}
+use Rattle.std.proofs.Common.{slice_index}
 use Rattle.std.proofs.lemmas.{Bool.or_parts, Bool.cond_both, Bool.Decides.nat_tests}
-use Rattle.std.specs.{List.list_any, List.slice_split, List.onto_first, Str.Lines.lines, Str.Lines.lines_of_parts, Str.Lines.strip_carriage_return}
+use Rattle.std.specs.{List.list_any, List.slice_split, List.onto_first, Str.Lines.lines, Str.Lines.lines_of_parts}
+use Rattle.std.specs.{Str.Lines.strip_carriage_return}
 use Rattle.rtui_text.specs.Text.{IsUnbroken, raw_line, line_of, plain}
 
 unbroken-one : (x : List ℕ) → IsUnbroken x → slice_split (λ b. b == 10) x ≡ x ∷ []
@@ -26,7 +28,8 @@ onto-unbroken b (x ∷ xs) e all = (rw e all.0, all.1)
 
 parts-unbroken : (bs : List ℕ) → AreUnbroken (slice_split (λ b. b == 10) bs)
 parts-unbroken [] = (refl, tt)
-parts-unbroken (b ∷ bs) = cond_both (b == 10) ([] ∷ slice_split (λ c. c == 10) bs) _ AreUnbroken (λ e. (refl, parts-unbroken bs)) (λ e. onto-unbroken b (slice_split (λ c. c == 10) bs) e (parts-unbroken bs))
+parts-unbroken (b ∷ bs) = cond_both (b == 10) ([] ∷ slice_split (λ c. c == 10) bs) _ AreUnbroken (λ e. (refl, parts-unbroken bs))
+    (λ e. onto-unbroken b (slice_split (λ c. c == 10) bs) e (parts-unbroken bs))
 
 take-unbroken : (n : ℕ) (x : List ℕ) → IsUnbroken x → IsUnbroken (take n x)
 take-unbroken zero x e = refl
@@ -34,7 +37,8 @@ take-unbroken (suc n) [] e = refl
 take-unbroken (suc n) (b ∷ bs) e = let h = or_parts (b == 10) (list_any (λ c. c == 10) bs) e in rw h.0 (take-unbroken n bs h.1)
 
 strip-unbroken : (x : List ℕ) → IsUnbroken x → IsUnbroken (strip_carriage_return x)
-strip-unbroken x e = cond_both (slice_index x (length x - 1) == 13) (take (length x - 1) x) x IsUnbroken (λ _. take-unbroken (length x - 1) x e) (λ _. e)
+strip-unbroken x e = cond_both (slice_index x (length x - 1) == 13) (take (length x - 1) x) x IsUnbroken
+    (λ _. take-unbroken (length x - 1) x e) (λ _. e)
 
 lines_of_parts-unbroken : (ps : List (List ℕ)) → AreUnbroken ps → AreUnbroken (lines_of_parts ps)
 lines_of_parts-unbroken [] all = tt
@@ -48,4 +52,5 @@ at-unbroken (y ∷ ys) (suc i) x all lt = at-unbroken ys i x all.1 (omega arith)
 
 -- no line of a text has a line break
 pub line-unbroken : (bs : List ℕ) (i : ℕ) (x : List ℕ) → i < length (lines bs) → x ≡ get_or (lines bs) i x → IsUnbroken x
-line-unbroken bs i x lt is = rw is (at-unbroken (lines bs) i x (lines_of_parts-unbroken (slice_split (λ b. b == 10) bs) (parts-unbroken bs)) lt)
+line-unbroken bs i x lt is = rw is (at-unbroken (lines bs) i x (lines_of_parts-unbroken (slice_split (λ b. b == 10) bs)
+    (parts-unbroken bs)) lt)

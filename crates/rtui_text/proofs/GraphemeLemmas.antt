@@ -15,10 +15,12 @@ pub front-taken : (style : Style) (front symbol rest : List ℕ) (gs : List (Lis
     → symbol ≡ take 1 front → rest ≡ drop 1 front
     → in_style style (singles front ++ gs) ≡ record { symbol = symbol; style = style } ∷ in_style style (singles rest ++ gs)
 front-taken style [] symbol rest gs printable some is others = absurd (omega arith)
-front-taken style (b ∷ bs) symbol rest gs printable some is others = rw (is, others, printable-plain b (printable 0 (omega arith))) refl
+front-taken style (b ∷ bs) symbol rest gs printable some is others =
+    rw (is, others, printable-plain b (printable 0 (omega arith))) refl
 
 -- the graphemes after a front that was taken whole
-pub front-gone : (style : Style) (front : List ℕ) (gs : List (List ℕ)) → front ≡ [] → in_style style (singles front ++ gs) ≡ in_style style gs
+pub front-gone : (style : Style) (front : List ℕ) (gs : List (List ℕ)) → front ≡ []
+    → in_style style (singles front ++ gs) ≡ in_style style gs
 front-gone style front gs none = rw none refl
 
 -- the next grapheme, if it has no control character

@@ -1,6 +1,10 @@
 -- A printable character of ASCII before another character of ASCII is a grapheme of its own.
-use Rattle.std.proofs.Common.{◌≡◌, ℕ, zero, suc, ◌-◌, ◌<◌, ◌≤◌, Bool, true, false, cond, not, ◌&&◌, ◌||◌, ◌==◌, nat_le, nat_lt, List, [], ◌∷◌, ◌++◌, map, length, unwrap_or, refl, sym, ap, ◌∙◌, arith, append-nil, eqb-true, ◌⊎◌, ⊎_elim, inl, inr, take, drop, slice_index, subst, add-one, count_by, encode_utf8, encode_utf8_all, length-take, get_or-take}
-use Rattle.std.proofs.lemmas.{Bool.false≢true, Bool.cases_lt, Bool.cases_order, Bool.or_parts, Bool.Decides.nat_tests, List.Elements.All-nil, List.Elements.All-cons}
+use Rattle.std.proofs.Common.{◌≡◌, ℕ, zero, suc, ◌-◌, ◌<◌, ◌≤◌, Bool, true, false, cond, not, ◌&&◌, ◌||◌, ◌==◌, nat_le, nat_lt}
+use Rattle.std.proofs.Common.{List, [], ◌∷◌, ◌++◌, map, length, unwrap_or, refl, sym, ap, ◌∙◌, arith, append-nil, eqb-true, ◌⊎◌}
+use Rattle.std.proofs.Common.{⊎_elim, inl, inr, take, drop, slice_index, subst, add-one, count_by, encode_utf8, encode_utf8_all}
+use Rattle.std.proofs.Common.{length-take, get_or-take}
+use Rattle.std.proofs.lemmas.{Bool.false≢true, Bool.cases_lt, Bool.cases_order, Bool.or_parts, Bool.Decides.nat_tests}
+use Rattle.std.proofs.lemmas.{List.Elements.All-nil, List.Elements.All-cons}
 use Rattle.std.proofs.lemmas.Str.{encode_ascii, chars-nil, chars-IsAscii, IsCharBoundary-start}
 use Rattle.std.specs.{Char.is_control, List.All, List.list_any}
 use Rattle.std.specs.Str.{chars, IsAscii, IsUtf8, IsCharBoundary}
@@ -19,7 +23,9 @@ use Rattle.ucd_emoji.specs.Binary.{is_extended_pictographic}
 use Rattle.ucd_emoji.proofs.{Computing.ucd_emoji, BinaryLemmas.is_extended_pictographic_stepped}
 use Rattle.unicode_segmentation.specs.Segments.{prepend, cut, segments}
 use Rattle.unicode_segmentation.proofs.SegmentsLemmas.{AllPieces}
-use Rattle.unicode_segmentation.specs.Grapheme.{break_by_pair, ends_in_linker, joins_conjunct, is_extend, is_zwj, is_regional, ends_in_pictograph, joins_emoji, ends_in_half_flag, joins_flag, is_grapheme_break, graphemes}
+use Rattle.unicode_segmentation.specs.Grapheme.{break_by_pair, ends_in_linker, joins_conjunct, is_extend, is_zwj, is_regional}
+use Rattle.unicode_segmentation.specs.Grapheme.{ends_in_pictograph, joins_emoji, ends_in_half_flag, joins_flag, is_grapheme_break}
+use Rattle.unicode_segmentation.specs.Grapheme.{graphemes}
 use Rattle.unicode_width.specs.declared.state.State.{State}
 use Rattle.unicode_width.specs.Width.{str_width, read_before, step, past_emoji, plain}
 use Rattle.rtui_cell.specs.Width.{is_sound_mark, text_columns, text_width}
@@ -34,33 +40,39 @@ unfolding ucd_breaks
 is_other b p =
     let low : nat_le 0x20 b ≡ true = grind (arith, nat_tests, p.low) in
     let below : b < 0x7F = p.high in
-    let test = Stepped-below grapheme_cluster_break grapheme_cluster_break_stepped (λ x v. not (nat_le 0x20 x) || (grapheme_cluster_break_number v == 12)) 0x7F refl b below in
+    let test = Stepped-below grapheme_cluster_break grapheme_cluster_break_stepped
+    (λ x v. not (nat_le 0x20 x) || (grapheme_cluster_break_number v == 12)) 0x7F refl b below in
     grapheme_cluster_break_number_injective _ _ (eqb-true _ _ (rw low at test))
 
 is_no_conjunct : (b : ℕ) → b < 0x80 → indic_conjunct_break b ≡ InCb.None
 unfolding ucd_derived
 is_no_conjunct b below =
     indic_conjunct_break_number_injective _ _
-    (eqb-true _ _ (Stepped-below indic_conjunct_break indic_conjunct_break_stepped (λ x v. indic_conjunct_break_number v == 3) 0x80 refl b below))
+    (eqb-true _ _ (Stepped-below indic_conjunct_break indic_conjunct_break_stepped (λ x v. indic_conjunct_break_number v == 3)
+    0x80 refl b below))
 
 is_no_pictograph : (b : ℕ) → b < 0x80 → not (is_extended_pictographic b) ≡ true
 unfolding ucd_emoji
-is_no_pictograph b below = Stepped-below is_extended_pictographic is_extended_pictographic_stepped (λ x v. not v) 0x80 refl b below
+is_no_pictograph b below = Stepped-below is_extended_pictographic is_extended_pictographic_stepped
+    (λ x v. not v) 0x80 refl b below
 
 -- ---- the rule looks no further back than a character of ASCII
 
-same_end : (v : IndicConjunctBreak) (us vs : List IndicConjunctBreak) → ends_in_linker us ≡ ends_in_linker vs → ends_in_linker (v ∷ us) ≡ ends_in_linker (v ∷ vs)
+same_end : (v : IndicConjunctBreak) (us vs : List IndicConjunctBreak) → ends_in_linker us ≡ ends_in_linker vs
+    → ends_in_linker (v ∷ us) ≡ ends_in_linker (v ∷ vs)
 unfolding ends_in_linker
 same_end InCb.Linker us vs e = refl
 same_end InCb.Extend us vs e = e
 same_end InCb.Consonant us vs e = refl
 same_end InCb.None us vs e = refl
 
-ends_in_linker-past : (b : ℕ) → b < 0x80 → (cs : List ℕ) → ends_in_linker (map indic_conjunct_break (cs ++ b ∷ [])) ≡ ends_in_linker (map indic_conjunct_break cs)
+ends_in_linker-past : (b : ℕ) → b < 0x80 → (cs : List ℕ)
+    → ends_in_linker (map indic_conjunct_break (cs ++ b ∷ [])) ≡ ends_in_linker (map indic_conjunct_break cs)
 unfolding ends_in_linker
 ends_in_linker-past b below [] = rw (is_no_conjunct b below) refl
 ends_in_linker-past b below (c ∷ cs) =
-    same_end (indic_conjunct_break c) (map indic_conjunct_break (cs ++ b ∷ [])) (map indic_conjunct_break cs) (ends_in_linker-past b below cs)
+    same_end (indic_conjunct_break c) (map indic_conjunct_break (cs ++ b ∷ [])) (map indic_conjunct_break cs)
+    (ends_in_linker-past b below cs)
 
 no_pictograph : (p e : Bool) → not p ≡ true → e ≡ false → (p || (e && false)) ≡ false
 no_pictograph true e h k = absurd (false≢true h)
@@ -76,10 +88,12 @@ is_ascii_kind _ = false
 
 is_ascii_kind-of : (b : ℕ) → b < 0x80 → is_ascii_kind (grapheme_cluster_break b) ≡ true
 unfolding ucd_breaks
-is_ascii_kind-of b below = Stepped-below grapheme_cluster_break grapheme_cluster_break_stepped (λ x v. is_ascii_kind v) 0x80 refl b below
+is_ascii_kind-of b below = Stepped-below grapheme_cluster_break grapheme_cluster_break_stepped
+    (λ x v. is_ascii_kind v) 0x80 refl b below
 
 -- so what holds of the four kinds holds of its kind
-of_ascii : (P : GraphemeClusterBreak → Type 0) → P Control → P Cr → P Lf → P Other → (b : ℕ) → b < 0x80 → P (grapheme_cluster_break b)
+of_ascii : (P : GraphemeClusterBreak → Type 0) → P Control → P Cr → P Lf → P Other → (b : ℕ) → b < 0x80
+    → P (grapheme_cluster_break b)
 of_ascii P control cr lf other b below = each (grapheme_cluster_break b) (is_ascii_kind-of b below)
   where
     each : (v : GraphemeClusterBreak) → is_ascii_kind v ≡ true → P v
@@ -101,15 +115,19 @@ no_joiner = of_ascii (λ v. is_zwj v ≡ false) refl refl refl refl
 ends_in_pictograph-past : (b : ℕ) → b < 0x80 → (cs : List ℕ) → ends_in_pictograph (cs ++ b ∷ []) ≡ ends_in_pictograph cs
 unfolding ends_in_pictograph
 ends_in_pictograph-past b below [] =
-    no_pictograph (is_extended_pictographic b) (is_extend (grapheme_cluster_break b)) (is_no_pictograph b below) (no_extend b below)
-ends_in_pictograph-past b below (c ∷ cs) = ap (λ t. is_extended_pictographic c || (is_extend (grapheme_cluster_break c) && t)) (ends_in_pictograph-past b below cs)
+    no_pictograph (is_extended_pictographic b) (is_extend (grapheme_cluster_break b)) (is_no_pictograph b below)
+    (no_extend b below)
+ends_in_pictograph-past b below (c ∷ cs) = ap (λ t. is_extended_pictographic c || (is_extend (grapheme_cluster_break c) && t))
+    (ends_in_pictograph-past b below cs)
 
 ends_in_half_flag-past : (b : ℕ) → b < 0x80 → (cs : List ℕ) → ends_in_half_flag (cs ++ b ∷ []) ≡ ends_in_half_flag cs
 unfolding ends_in_half_flag
 ends_in_half_flag-past b below [] = rw (no_regional b below) refl
-ends_in_half_flag-past b below (c ∷ cs) = ap (λ t. is_regional (grapheme_cluster_break c) && not t) (ends_in_half_flag-past b below cs)
+ends_in_half_flag-past b below (c ∷ cs) = ap (λ t. is_regional (grapheme_cluster_break c) && not t)
+    (ends_in_half_flag-past b below cs)
 
-is_break-past : (b : ℕ) → b < 0x80 → (c : ℕ) (cs after : List ℕ) → is_grapheme_break true (c ∷ (cs ++ b ∷ [])) after ≡ is_grapheme_break true (c ∷ cs) after
+is_break-past : (b : ℕ) → b < 0x80 → (c : ℕ) (cs after : List ℕ)
+    → is_grapheme_break true (c ∷ (cs ++ b ∷ [])) after ≡ is_grapheme_break true (c ∷ cs) after
 unfolding is_grapheme_break
 is_break-past b below c cs [] = refl
 is_break-past b below c cs (next ∷ after) =
@@ -118,10 +136,14 @@ is_break-past b below c cs (next ∷ after) =
     let flag = ends_in_half_flag-past b below (c ∷ cs) in
     rw (linker, pictograph, flag) refl
 
-cut-past : (b : ℕ) → b < 0x80 → (before cs after : List ℕ) → cut (is_grapheme_break true) (before ++ b ∷ []) cs after ≡ cut (is_grapheme_break true) before cs after
+cut-past : (b : ℕ) → b < 0x80 → (before cs after : List ℕ)
+    → cut (is_grapheme_break true) (before ++ b ∷ []) cs after ≡ cut (is_grapheme_break true) before cs after
 unfolding cut
 cut-past b below before [] after = refl
-cut-past b below before (c ∷ cs) after = rw (is_break-past b below c before (cs ++ after), cut-past b below (c ∷ before) cs after) refl
+cut-past b below before (c ∷ cs) after = rw (
+  is_break-past b below c before (cs ++ after),
+  cut-past b below (c ∷ before) cs after,
+) refl
 
 -- ---- the place after it is a break
 
@@ -133,11 +155,13 @@ unjoined-ascii : (b next : ℕ) → b < 0x80 → next < 0x80 → unjoined b next
 unfolding ends_in_linker
 unjoined-ascii b next below lower = rw (is_no_conjunct b below, no_joiner b below, no_regional next lower, and-false) refl
 
-breaks_behind : (b : ℕ) → IsPrintable b → (next : ℕ) (after : List ℕ) → next < 0x80 → is_grapheme_break true (b ∷ []) (next ∷ after) ≡ true
+breaks_behind : (b : ℕ) → IsPrintable b → (next : ℕ) (after : List ℕ) → next < 0x80
+    → is_grapheme_break true (b ∷ []) (next ∷ after) ≡ true
 unfolding is_grapheme_break
 breaks_behind b p next after lower =
     ap (λ v. unwrap_or (break_by_pair true v (grapheme_cluster_break next)) (unjoined b next)) (is_other b p)
-    ∙ of_ascii (λ v. unwrap_or (break_by_pair true Other v) (unjoined b next) ≡ true) refl refl refl (unjoined-ascii b next (omega (arith, p.high)) lower) next lower
+    ∙ of_ascii (λ v. unwrap_or (break_by_pair true Other v) (unjoined b next) ≡ true) refl refl refl
+    (unjoined-ascii b next (omega (arith, p.high)) lower) next lower
 
 -- ---- such a character is a grapheme of its own
 
@@ -151,7 +175,8 @@ abbrev pub BeginsWithAscii : List ℕ → Type 0
 BeginsWithAscii [] = Unit {0}
 BeginsWithAscii (b ∷ bs) = b < 0x80
 
-cut-broken : (b : ℕ) (cs : List ℕ) → b < 0x80 → is_grapheme_break true (b ∷ []) cs ≡ true → cut (is_grapheme_break true) [] (b ∷ cs) [] ≡ (b ∷ []) ∷ cut (is_grapheme_break true) [] cs []
+cut-broken : (b : ℕ) (cs : List ℕ) → b < 0x80 → is_grapheme_break true (b ∷ []) cs ≡ true
+    → cut (is_grapheme_break true) [] (b ∷ cs) [] ≡ (b ∷ []) ∷ cut (is_grapheme_break true) [] cs []
 unfolding cut
 cut-broken b cs below broken = rw (append-nil cs, broken) (ap (λ t. (b ∷ []) ∷ t) (cut-past b below [] cs []))
 
@@ -163,7 +188,8 @@ unfolding is_grapheme_break chars
 is_broken b p [] ascii = refl
 is_broken b p (c ∷ rest) ascii = rw (chars-ascii c ascii rest) (breaks_behind b p c (chars rest) ascii)
 
-pub graphemes-printable : (b : ℕ) (rest : List ℕ) → IsPrintable b → BeginsWithAscii rest → graphemes true (b ∷ rest) ≡ (b ∷ []) ∷ graphemes true rest
+pub graphemes-printable : (b : ℕ) (rest : List ℕ) → IsPrintable b → BeginsWithAscii rest
+    → graphemes true (b ∷ rest) ≡ (b ∷ []) ∷ graphemes true rest
 unfolding segments
 graphemes-printable b rest p ascii =
     let below : b < 0x80 = omega (arith, p.high) in
@@ -173,22 +199,26 @@ graphemes-printable b rest p ascii =
 
 -- ---- and so is each of a front of such characters
 
-front-graphemes : (text : List ℕ) (n : ℕ) → n ≤ length text → ((k : ℕ) → k < n → IsPrintable (slice_index text k)) → BeginsWithAscii (drop n text) ⊎ (n ≡ 0)
+front-graphemes : (text : List ℕ) (n : ℕ) → n ≤ length text → ((k : ℕ) → k < n → IsPrintable (slice_index text k))
+    → BeginsWithAscii (drop n text) ⊎ (n ≡ 0)
     → graphemes true text ≡ singles (take n text) ++ graphemes true (drop n text)
 front-graphemes text zero le all behind = refl
 front-graphemes [] (suc n) le all behind = absurd (omega arith)
 front-graphemes (b ∷ rest) (suc n) le all behind =
     let p : IsPrintable b = all 0 (omega arith) in
-    let follows : BeginsWithAscii (drop n rest) = ⊎_elim (λ (a : BeginsWithAscii (drop n rest)). a) (λ (z : suc n ≡ 0). absurd (omega arith)) behind in
+    let follows : BeginsWithAscii (drop n rest) = ⊎_elim (λ (a : BeginsWithAscii (drop n rest)). a)
+    (λ (z : suc n ≡ 0). absurd (omega arith)) behind in
     graphemes-printable b rest p (begins n rest (omega arith) (λ k lt. all (suc k) (omega arith)) follows)
     ∙ ap (λ t. (b ∷ []) ∷ t) (front-graphemes rest n (omega arith) (λ k lt. all (suc k) (omega arith)) (inl follows))
   where
-    begins : (n : ℕ) (rest : List ℕ) → n ≤ length rest → ((k : ℕ) → k < n → IsPrintable (slice_index rest k)) → BeginsWithAscii (drop n rest) → BeginsWithAscii rest
+    begins : (n : ℕ) (rest : List ℕ) → n ≤ length rest → ((k : ℕ) → k < n → IsPrintable (slice_index rest k))
+        → BeginsWithAscii (drop n rest) → BeginsWithAscii rest
     begins zero rest le all h = h
     begins (suc n) [] le all h = tt
     begins (suc n) (c ∷ rest) le all h = omega (arith, (all 0 (omega arith)).high)
 
-begins_at : (text : List ℕ) (n : ℕ) → n ≤ length text → (n < length text → slice_index text n < 0x80) → BeginsWithAscii (drop n text)
+begins_at : (text : List ℕ) (n : ℕ) → n ≤ length text → (n < length text → slice_index text n < 0x80)
+    → BeginsWithAscii (drop n text)
 begins_at [] zero le h = tt
 begins_at (b ∷ text) zero le h = h (omega arith)
 begins_at [] (suc n) le h = absurd (omega arith)
@@ -199,22 +229,27 @@ pub front-boundary : (text : List ℕ) (n : ℕ) → IsUtf8 text → IsPrintable
 front-boundary text zero u h = IsCharBoundary-start text u
 front-boundary text (suc n) u h = (h.within, λ lt high. absurd (let low = h.followed (omega arith) lt in omega arith))
 
-pub graphemes-front : (text : List ℕ) (n : ℕ) → IsPrintableFront text n → graphemes true text ≡ singles (take n text) ++ graphemes true (drop n text)
+pub graphemes-front : (text : List ℕ) (n : ℕ) → IsPrintableFront text n
+    → graphemes true text ≡ singles (take n text) ++ graphemes true (drop n text)
 graphemes-front text zero h = front-graphemes text 0 h.within h.printable (inr refl)
-graphemes-front text (suc n) h = front-graphemes text (suc n) h.within h.printable (inl (begins_at text (suc n) h.within (λ lt. h.followed (omega arith) lt)))
+graphemes-front text (suc n) h = front-graphemes text (suc n) h.within h.printable
+    (inl (begins_at text (suc n) h.within (λ lt. h.followed (omega arith) lt)))
 
 -- the longest one, of what was read of the bytes
-pub longest-front : (text : List ℕ) (n len max : ℕ) → IsPrintableFront text n → n ≤ max → (len < max → len < length text → ¬ (IsPrintable (slice_index text len)))
+pub longest-front : (text : List ℕ) (n len max : ℕ) → IsPrintableFront text n → n ≤ max
+    → (len < max → len < length text → ¬ (IsPrintable (slice_index text len)))
     → (0 < len → len < length text → slice_index text len < 0x80) → n ≤ len
 longest-front text n len max h le stops follows = elim (cases_lt len n) [
   | inl past ↦ absurd (stops (omega arith) (omega (arith, h.within)) (h.printable len past))
   | inr within ↦ within
 ]
 
-pub longest-front_cut : (text : List ℕ) (n len max : ℕ) → IsPrintableFront text n → n ≤ max → (len < max → len < length text → ¬ (IsPrintable (slice_index text len)))
+pub longest-front_cut : (text : List ℕ) (n len max : ℕ) → IsPrintableFront text n → n ≤ max
+    → (len < max → len < length text → ¬ (IsPrintable (slice_index text len)))
     → 0 < len → len < length text → 0x80 ≤ slice_index text len → n ≤ len - 1
 longest-front_cut text n len max h le stops some more high = elim (cases_order n len) [
-  | inl is ↦ let low = subst (λ m. 0 < m → m < length text → slice_index text m < 0x80) is h.followed some more in absurd (omega arith)
+  | inl is ↦ let low = subst (λ m. 0 < m → m < length text → slice_index text m < 0x80) is h.followed some more in
+      absurd (omega arith)
   | inr (inl below) ↦ omega arith
   | inr (inr past) ↦ absurd (stops (omega arith) more (h.printable len past))
 ]
@@ -235,7 +270,8 @@ read-printable (c ∷ cs) all =
 chars-printable : (text : List ℕ) → ArePrintable text → chars text ≡ text
 chars-printable [] all = chars-nil
 chars-printable (b ∷ text) all =
-    chars-ascii b (omega (arith, (all 0 (omega arith)).high)) text ∙ ap (λ t. b ∷ t) (chars-printable text (λ k lt. all (suc k) (omega arith)))
+    chars-ascii b (omega (arith, (all 0 (omega arith)).high)) text ∙ ap (λ t. b ∷ t)
+    (chars-printable text (λ k lt. all (suc k) (omega arith)))
 
 pub width-printable : (text : List ℕ) → ArePrintable text → str_width false (chars text) ≡ length text
 unfolding str_width
@@ -266,7 +302,8 @@ pub ruleset columns_rules = (columns-printable)
 
 -- the bytes of a front
 pub front-bytes : (text : List ℕ) (n : ℕ) → IsPrintableFront text n → ArePrintable (take n text)
-front-bytes text n h k lt = let low : k < n = omega (arith, length-take n text) in subst IsPrintable (sym (get_or-take n text k 0 low)) (h.printable k low)
+front-bytes text n h k lt = let low : k < n = omega (arith, length-take n text) in
+    subst IsPrintable (sym (get_or-take n text k 0 low)) (h.printable k low)
 
 -- such a character is no control character
 pub printable-plain : (b : ℕ) → IsPrintable b → has_control (b ∷ []) ≡ false
@@ -283,21 +320,28 @@ AreAsciiChars [] = Unit {0}
 AreAsciiChars (c ∷ cs) = (c < 0x80) × AreAsciiChars cs
 
 -- two characters of ASCII break, but for a carriage return before a line feed
-ascii-pair : (b next : ℕ) (after : List ℕ) → b < 0x80 → next < 0x80 → (is_grapheme_break true (b ∷ []) (next ∷ after) ≡ true) ⊎ (grapheme_cluster_break next ≡ Lf)
+ascii-pair : (b next : ℕ) (after : List ℕ) → b < 0x80 → next < 0x80 → (is_grapheme_break true (b ∷ []) (next ∷ after) ≡ true)
+    ⊎ (grapheme_cluster_break next ≡ Lf)
 unfolding is_grapheme_break
 ascii-pair b next after below lower =
-    of_ascii (λ l. (unwrap_or (break_by_pair true l (grapheme_cluster_break next)) (unjoined b next) ≡ true) ⊎ (grapheme_cluster_break next ≡ Lf))
-    (of_ascii (λ r. (unwrap_or (break_by_pair true Control r) (unjoined b next) ≡ true) ⊎ (r ≡ Lf)) (inl refl) (inl refl) (inr refl) (inl refl) next lower)
-    (of_ascii (λ r. (unwrap_or (break_by_pair true Cr r) (unjoined b next) ≡ true) ⊎ (r ≡ Lf)) (inl refl) (inl refl) (inr refl) (inl refl) next lower)
-    (of_ascii (λ r. (unwrap_or (break_by_pair true Lf r) (unjoined b next) ≡ true) ⊎ (r ≡ Lf)) (inl refl) (inl refl) (inr refl) (inl refl) next lower)
-    (of_ascii (λ r. (unwrap_or (break_by_pair true Other r) (unjoined b next) ≡ true) ⊎ (r ≡ Lf)) (inl refl) (inl refl) (inr refl) (inl (unjoined-ascii b next below lower)) next lower)
+    of_ascii (λ l. (unwrap_or (break_by_pair true l (grapheme_cluster_break next)) (unjoined b next) ≡ true)
+    ⊎ (grapheme_cluster_break next ≡ Lf))
+    (of_ascii (λ r. (unwrap_or (break_by_pair true Control r) (unjoined b next) ≡ true) ⊎ (r ≡ Lf)) (inl refl) (inl refl)
+    (inr refl) (inl refl) next lower)
+    (of_ascii (λ r. (unwrap_or (break_by_pair true Cr r) (unjoined b next) ≡ true) ⊎ (r ≡ Lf)) (inl refl) (inl refl) (inr refl)
+    (inl refl) next lower)
+    (of_ascii (λ r. (unwrap_or (break_by_pair true Lf r) (unjoined b next) ≡ true) ⊎ (r ≡ Lf)) (inl refl) (inl refl) (inr refl)
+    (inl refl) next lower)
+    (of_ascii (λ r. (unwrap_or (break_by_pair true Other r) (unjoined b next) ≡ true) ⊎ (r ≡ Lf)) (inl refl) (inl refl) (inr refl)
+    (inl (unjoined-ascii b next below lower)) next lower)
     b below
 
 behind-feed : (b : ℕ) (cs : List ℕ) → grapheme_cluster_break b ≡ Lf → AreAsciiChars cs → is_grapheme_break true (b ∷ []) cs ≡ true
 unfolding is_grapheme_break
 behind-feed b [] feed low = refl
 behind-feed b (c ∷ cs) feed low =
-    ap (λ v. unwrap_or (break_by_pair true v (grapheme_cluster_break c)) (unjoined b c)) feed ∙ of_ascii (λ r. unwrap_or (break_by_pair true Lf r) (unjoined b c) ≡ true) refl refl refl refl c low.0
+    ap (λ v. unwrap_or (break_by_pair true v (grapheme_cluster_break c)) (unjoined b c)) feed
+    ∙ of_ascii (λ r. unwrap_or (break_by_pair true Lf r) (unjoined b c) ≡ true) refl refl refl refl c low.0
 
 cut-none : cut (is_grapheme_break true) [] [] [] ≡ []
 unfolding cut
@@ -316,7 +360,8 @@ two_piece : (b c : ℕ) → b < 0x80 → c < 0x80 → IsAsciiPiece (b ∷ c ∷ 
 two_piece b c low lower = record { some = omega arith; few = omega arith; ascii = (low, (lower, tt)) }
 
 cut-either : (b : ℕ) (cs : List ℕ) (broken : Bool) → b < 0x80 → is_grapheme_break true (b ∷ []) (cs ++ []) ≡ broken
-    → cut (is_grapheme_break true) [] (b ∷ cs) [] ≡ cond broken ((b ∷ []) ∷ cut (is_grapheme_break true) [] cs []) (prepend (b ∷ []) (cut (is_grapheme_break true) [] cs []))
+    → cut (is_grapheme_break true) [] (b ∷ cs) [] ≡ cond broken ((b ∷ []) ∷ cut (is_grapheme_break true) [] cs [])
+    (prepend (b ∷ []) (cut (is_grapheme_break true) [] cs []))
 unfolding cut
 cut-either b cs broken below e = rw (e, cut-past b below [] cs []) refl
 
@@ -338,10 +383,13 @@ pieces-short (b ∷ (c ∷ cs)) low =
     let rest = pieces-short (c ∷ cs) low.1 in
     let behind = pieces-short cs low.1.1 in
     ⊎_elim
-    (λ (broken : is_grapheme_break true (b ∷ []) (c ∷ cs) ≡ true). subst (AllPieces IsAsciiPiece) (sym (cut-broken b (c ∷ cs) low.0 broken)) (one_piece b low.0, rest))
+    (λ (broken : is_grapheme_break true (b ∷ []) (c ∷ cs) ≡ true). subst (AllPieces IsAsciiPiece)
+    (sym (cut-broken b (c ∷ cs) low.0 broken)) (one_piece b low.0, rest))
     (λ (feed : grapheme_cluster_break c ≡ Lf).
     let v : Bool = is_grapheme_break true (b ∷ []) ((c ∷ cs) ++ []) in
-    subst (AllPieces IsAsciiPiece) (sym (cut-either b (c ∷ cs) v low.0 refl ∙ ap (λ ps. cond v ((b ∷ []) ∷ ps) (prepend (b ∷ []) ps)) (cut-broken c cs low.1.0 (behind-feed c cs feed low.1.1))))
+    subst (AllPieces IsAsciiPiece)
+    (sym (cut-either b (c ∷ cs) v low.0 refl ∙ ap (λ ps. cond v ((b ∷ []) ∷ ps) (prepend (b ∷ []) ps))
+    (cut-broken c cs low.1.0 (behind-feed c cs feed low.1.1))))
     (either-short v b c (cut (is_grapheme_break true) [] cs []) low.0 low.1.0 behind))
     (ascii-pair b c cs low.0 low.1.0)
 
@@ -352,7 +400,8 @@ ascii-bytes (c ∷ cs) low = rw (encode_ascii c low.0) (ap (λ t. c ∷ t) (asci
 pieces-texts : (ps : List (List ℕ)) → AllPieces IsAsciiPiece ps → All IsAsciiPiece (map encode_utf8_all ps)
 pieces-texts [] all = All-nil IsAsciiPiece
 pieces-texts (p ∷ ps) all =
-    All-cons IsAsciiPiece (encode_utf8_all p) (map encode_utf8_all ps) (subst IsAsciiPiece (sym (ascii-bytes p all.0.ascii)) all.0) (pieces-texts ps all.1)
+    All-cons IsAsciiPiece (encode_utf8_all p) (map encode_utf8_all ps)
+    (subst IsAsciiPiece (sym (ascii-bytes p all.0.ascii)) all.0) (pieces-texts ps all.1)
 
 pub are_ascii : (text : List ℕ) → IsAscii text → AreAsciiChars text
 are_ascii [] ascii = tt
@@ -368,10 +417,12 @@ ascii-graphemes text ascii =
 printable-byte : (b : ℕ) → b < 0x80 → is_control b ≡ false → IsPrintable b
 printable-byte b low plain = record { low = grind (arith, nat_tests, plain); high = grind (arith, nat_tests, plain) }
 
-plain-printable : (cs : List ℕ) → AreAsciiChars cs → list_any is_control cs ≡ false → (k : ℕ) → k < length cs → IsPrintable (slice_index cs k)
+plain-printable : (cs : List ℕ) → AreAsciiChars cs → list_any is_control cs ≡ false → (k : ℕ) → k < length cs
+    → IsPrintable (slice_index cs k)
 plain-printable [] low plain k lt = absurd (omega arith)
 plain-printable (c ∷ cs) low plain zero lt = printable-byte c low.0 (or_parts (is_control c) (list_any is_control cs) plain).0
-plain-printable (c ∷ cs) low plain (suc k) lt = plain-printable cs low.1 (or_parts (is_control c) (list_any is_control cs) plain).1 k (omega arith)
+plain-printable (c ∷ cs) low plain (suc k) lt =
+    plain-printable cs low.1 (or_parts (is_control c) (list_any is_control cs) plain).1 k (omega arith)
 
 ascii-chars : (cs : List ℕ) → AreAsciiChars cs → chars cs ≡ cs
 ascii-chars [] low = chars-nil

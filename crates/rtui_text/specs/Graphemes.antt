@@ -1,9 +1,11 @@
 -- The graphemes of styled texts.
 use Rattle.std.specs.Prelude.{ℕ, Bool, true, not, ◌&&◌, ◌||◌, List, [], ◌∷◌, ◌++◌, map, filter, chars}
-use Rattle.std.specs.{Char.is_control, Char.is_whitespace, List.list_any, List.list_all, List.flat_map, Str.bytes_eq, Slice.Iter.iter_rest}
+use Rattle.std.specs.{Char.is_control, Char.is_whitespace, List.list_any, List.list_all, List.flat_map}
+use Rattle.std.specs.{Str.bytes_eq, Slice.Iter.iter_rest}
 use Rattle.unicode_segmentation.specs.{Grapheme.graphemes, Iter.graphemes_left}
 use Rattle.rtui_style.specs.{declared.Style.Style, Style.patch}
-use Rattle.rtui_text.specs.{declared.grapheme.StyledGrapheme.StyledGrapheme, declared.span_graphemes.SpanGraphemes.SpanGraphemes}
+use Rattle.rtui_text.specs.{declared.grapheme.StyledGrapheme.StyledGrapheme}
+use Rattle.rtui_text.specs.{declared.span_graphemes.SpanGraphemes.SpanGraphemes}
 use Rattle.rtui_text.specs.{declared.grapheme.LineGraphemes.LineGraphemes, Text.SpanData, Printable.singles}
 
 -- a grapheme in a style
@@ -49,4 +51,5 @@ no_break_space = 0xC2 ∷ 0xA0 ∷ []
 -- the zero-width space, and what has white space alone but for the no-break space
 abbrev pub is_whitespace_symbol : List ℕ → Bool
 is_whitespace_symbol symbol =
-    bytes_eq symbol zero_width_space || (list_all is_whitespace (chars symbol) && not (bytes_eq symbol no_break_space))
+    bytes_eq symbol zero_width_space || (list_all is_whitespace (chars symbol) && not
+    (bytes_eq symbol no_break_space))

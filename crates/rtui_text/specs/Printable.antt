@@ -10,7 +10,8 @@ pub record IsPrintable (b : ℕ) : Type 0 where
 abbrev pub ArePrintable : List ℕ → Type 0
 ArePrintable bytes = (k : ℕ) → k < length bytes → IsPrintable (slice_index bytes k)
 
--- the first n bytes of a text are printable characters of ASCII, and a character of ASCII, or none, stands after them
+-- the first n bytes of a text are printable characters of ASCII, and a character of ASCII, or none, stands
+-- after them
 pub record IsPrintableFront (text : List ℕ) (n : ℕ) : Type 0 where
   pub within : n ≤ length text
   pub printable : (k : ℕ) → k < n → IsPrintable (slice_index text k)

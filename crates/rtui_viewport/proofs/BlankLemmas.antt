@@ -1,5 +1,6 @@
 -- What empty cells leave that are drawn over an area.
-use Rattle.std.proofs.Common.{◌≡◌, ◌⊎◌, ℕ, zero, suc, true, false, ◌<◌, List, [], ◌∷◌, map, refl, ◌∙◌, arith, inl, inr, if◌then◌else◌}
+use Rattle.std.proofs.Common.{◌≡◌, ◌⊎◌, ℕ, zero, suc, true, false, ◌<◌, List, [], ◌∷◌, map, refl, ◌∙◌, arith, inl, inr}
+use Rattle.std.proofs.Common.{if◌then◌else◌}
 use Rattle.std.specs.List.{Contains}
 use Rattle.std.proofs.lemmas.{Bool.cases_Bool, Bool.Decides.nat_tests}
 use Rattle.rtui_geometry.specs.{declared.position.Position.Position, declared.rect.Rect.Rect, Rect.EdgesFit, Rows.ListsPositions}
@@ -31,10 +32,15 @@ module _ (w h : ℕ) where
   puts_empty [] g a b was = was
   puts_empty (p ∷ ps) g a b was = puts_empty ps (put w h (blank_at p) g) a b (put_empty p g a b was)
 
-  puts_here : (ps : List Position) (g : Grid) (a b : ℕ) → a < w → b < h → Contains ps (at a b) → puts w h (map blank_at ps) g a b ≡ empty_look
+  puts_here : (ps : List Position) (g : Grid) (a b : ℕ) → a < w → b < h → Contains ps (at a b)
+      → puts w h (map blank_at ps) g a b ≡ empty_look
   puts_here [] g a b a_in b_in (k, low, e) = absurd (omega (arith, low))
   puts_here (p ∷ ps) g a b a_in b_in (zero, low, e) = puts_empty ps (put w h (blank_at p) g) a b (rw e (put_here g a b a_in b_in))
-  puts_here (p ∷ ps) g a b a_in b_in (suc k, low, e) = puts_here ps (put w h (blank_at p) g) a b a_in b_in (k, omega (arith, low), e)
+  puts_here (p ∷ ps) g a b a_in b_in (suc k, low, e) = puts_here ps (put w h (blank_at p) g) a b a_in b_in (
+    k,
+    omega (arith, low),
+    e,
+  )
 
   puts_away : (ps : List Position) (g : Grid) (a b : ℕ) → (Contains ps (at a b) → ⊥) → puts w h (map blank_at ps) g a b ≡ g a b
   puts_away [] g a b other = refl
@@ -43,9 +49,18 @@ module _ (w h : ℕ) where
       ∙ put_away p g a b (λ e. other (zero, omega arith, e))
 
 -- a column is in a rectangle, or not
-pub decide_within : (r : Rect) (a b : ℕ) → (IsWithin r a b × (is_within r a b ≡ true)) ⊎ ((IsWithin r a b → ⊥) × (is_within r a b ≡ false))
+pub decide_within : (r : Rect) (a b : ℕ) → (IsWithin r a b × (is_within r a b ≡ true))
+    ⊎ ((IsWithin r a b → ⊥) × (is_within r a b ≡ false))
 decide_within r a b = elim (cases_Bool (is_within r a b)) [
-  | inl on ↦ inl (record { left = grind (arith, nat_tests); right = grind (arith, nat_tests); top = grind (arith, nat_tests); bottom = grind (arith, nat_tests) }, on)
+  | inl on ↦ inl (
+    record {
+      left = grind (arith, nat_tests);
+      right = grind (arith, nat_tests);
+      top = grind (arith, nat_tests);
+      bottom = grind (arith, nat_tests);
+    },
+    on,
+  )
   | inr off ↦ inr (λ w. absurd (grind (arith, nat_tests, w.left, w.right, w.top, w.bottom)), off)
 ]
 

@@ -18,7 +18,11 @@ frame_same s = record { size = record { width = refl; height = refl; history = r
 
 pub frame_more : {r s t : Screen} → KeepsAllButLooks r s → KeepsAllButLooks s t → KeepsAllButLooks r t
 frame_more p q = record {
-  size = record { width = q.size.width ∙ p.size.width; height = q.size.height ∙ p.size.height; history = q.size.history ∙ p.size.history };
+  size = record {
+    width = q.size.width ∙ p.size.width;
+    height = q.size.height ∙ p.size.height;
+    history = q.size.history ∙ p.size.history;
+  };
   visible = q.visible ∙ p.visible;
 }
 
@@ -35,14 +39,16 @@ none_needed r s (inl none) = rw none (grind (arith, nat_tests))
 none_needed r s (inr none) = rw none (grind (arith, nat_tests))
 
 -- empty cells drawn over an area
-pub empties_drawn : (r : Rect) {s t : Screen} (ps : List Position) → EdgesFit r → ListsPositions r ps → Draws s (map blank_at ps) t → Empties (is_within r) s t
+pub empties_drawn : (r : Rect) {s t : Screen} (ps : List Position) → EdgesFit r → ListsPositions r ps
+    → Draws s (map blank_at ps) t → Empties (is_within r) s t
 empties_drawn r {s} {t} ps fits lists d = record {
   frame = record { size = record { width = d.width; height = d.height; history = d.history }; visible = d.visible };
   grid = λ a b a_in b_in. d.grid a b ∙ blanks_over r s.width s.height ps fits lists s.grid a b a_in b_in;
 }
 
 -- a clear of all after the left end of a row
-pub clears_inline : (n : ℕ) (area : Rect) {s t : Screen} → Clears (with_cursor area.x area.y s) AfterCursor t → ClearsArea (Inline n) area s t
+pub clears_inline : (n : ℕ) (area : Rect) {s t : Screen} → Clears (with_cursor area.x area.y s) AfterCursor t
+    → ClearsArea (Inline n) area s t
 clears_inline n area {s} p left = record {
   frame = frame_more (frame_moved area.x area.y s) (frame_cleared AfterCursor p);
   grid = λ a b a_in b_in. p.grid a b a_in b_in ∙ grind (arith, nat_tests);
@@ -58,10 +64,15 @@ empties_more {p} {q} {r} {s} {t} first next = record {
 }
 
 -- if a viewport has its place and lies on the screen, it is blank then
-pub blank_over : (v : Viewport) (r : Rect) {s t : Screen} → IsOnScreen r s → Empties (is_emptied v r s.height) s t → IsBlankOver r t
-blank_over Fullscreen r on p = record { at = λ a b w. p.grid a b (omega (arith, w.right, on.right)) (omega (arith, w.bottom, on.bottom)) }
+pub blank_over : (v : Viewport) (r : Rect) {s t : Screen} → IsOnScreen r s → Empties (is_emptied v r s.height) s t
+    → IsBlankOver r t
+blank_over Fullscreen r on p = record {
+  at = λ a b w. p.grid a b (omega (arith, w.right, on.right))
+      (omega (arith, w.bottom, on.bottom));
+}
 blank_over (Inline n) r {s} on p = record {
-  at = λ a b w. p.grid a b (omega (arith, w.right, on.right)) (omega (arith, w.bottom, on.bottom)) ∙ grind (arith, nat_tests, w.top);
+  at = λ a b w. p.grid a b (omega (arith, w.right, on.right)) (omega (arith, w.bottom, on.bottom))
+      ∙ grind (arith, nat_tests, w.top);
 }
 blank_over (Fixed f) r on p = record {
   at = λ a b w.
@@ -79,12 +90,14 @@ keeps_outside r p = record {
 }
 
 -- the rows above an inline viewport with a row stay, and those below it are blank
-pub keeps_above : (n : ℕ) (r : Rect) {s t : Screen} → IsOnScreen r s → 0 < r.height → Empties (is_emptied (Inline n) r s.height) s t → rows_above t r.y ≡ rows_above s r.y
+pub keeps_above : (n : ℕ) (r : Rect) {s t : Screen} → IsOnScreen r s → 0 < r.height
+    → Empties (is_emptied (Inline n) r s.height) s t → rows_above t r.y ≡ rows_above s r.y
 keeps_above n r {s} {t} on some p = above_same s t r.y p.frame.size.history p.frame.size.width p.frame.size.height
     (λ a b a_in b_in low. p.grid a b a_in b_in ∙ grind (arith, nat_tests, on.bottom))
 
 -- what holds with the cursor where it is and elsewhere, holds where it was set back
-by_cursor : (found : Option Position) {s t : Screen} → t ≡ cursor_restored found s → (P : Screen → Type 0) → P s → ((x y : ℕ) → P (with_cursor x y s)) → P t
+by_cursor : (found : Option Position) {s t : Screen} → t ≡ cursor_restored found s → (P : Screen → Type 0) → P s
+    → ((x y : ℕ) → P (with_cursor x y s)) → P t
 by_cursor None restored P here moved = subst P (sym restored) here
 by_cursor (Some at) restored P here moved = subst P (sym restored) (moved at.x at.y)
 
@@ -94,13 +107,16 @@ module _ (found : Option Position) {r s t : Screen} (restored : t ≡ cursor_res
   frame_restored p = by_cursor found restored (KeepsAllButLooks r) p (λ x y. frame_more p (frame_moved x y s))
 
   pub empties_restored : {which : ℕ → ℕ → Bool} → Empties which r s → Empties which r t
-  empties_restored {which} p = by_cursor found restored (Empties which r) p (λ x y. record { frame = frame_more p.frame (frame_moved x y s); grid = p.grid })
+  empties_restored {which} p = by_cursor found restored (Empties which r) p
+      (λ x y. record { frame = frame_more p.frame (frame_moved x y s); grid = p.grid })
 
-pub clears_restored : (v : Viewport) (area : Rect) (found : Option Position) {r s t : Screen} → t ≡ cursor_restored found s → ClearsArea v area r s → ClearsArea v area r t
+pub clears_restored : (v : Viewport) (area : Rect) (found : Option Position) {r s t : Screen} → t ≡ cursor_restored found s
+    → ClearsArea v area r s → ClearsArea v area r t
 clears_restored v area found restored p place = empties_restored found restored (p place)
 
 -- the blanks that it drew, from a screen of the same width where as many items were counted
-pub written_restored : (v : Viewport) (area : Rect) (found : Option Position) (q r s t : Screen) → r.written ≡ q.written → r.width ≡ q.width → t ≡ cursor_restored found s → WritesBlanks v area r s → WritesBlanks v area q t
+pub written_restored : (v : Viewport) (area : Rect) (found : Option Position) (q r s t : Screen) → r.written ≡ q.written
+    → r.width ≡ q.width → t ≡ cursor_restored found s → WritesBlanks v area r s → WritesBlanks v area q t
 written_restored v area found q r s t same wide restored = either v
   where
     whole : t.written ≡ s.written

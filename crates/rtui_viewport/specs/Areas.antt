@@ -24,7 +24,8 @@ pub record KeepsAllButLooks (old new : Screen) : Type 0 where
 -- the columns that `which` names were emptied, and the others stay
 pub record Empties (which : ℕ → ℕ → Bool) (old new : Screen) : Type 0 where
   pub frame : KeepsAllButLooks old new
-  pub grid : (a b : ℕ) → a < old.width → b < old.height → new.grid a b ≡ if which a b then empty_look else old.grid a b
+  pub grid : (a b : ℕ) → a < old.width → b < old.height
+      → new.grid a b ≡ if which a b then empty_look else old.grid a b
 
 -- the rows from y up to another
 abbrev pub is_between : ℕ → ℕ → ℕ → ℕ → Bool

@@ -1,12 +1,14 @@
 -- What a clear of a viewport does to a screen.
-use Rattle.std.specs.Prelude.{◌≡◌, ℕ, ◌+◌, ◌-◌, ◌*◌, ◌^◌, ◌<◌, ◌==◌, ◌&&◌, Bool, true, min, nat_le, if◌then◌else◌}
+use Rattle.std.specs.Prelude.{◌≡◌, ℕ, ◌+◌, ◌-◌, ◌*◌, ◌^◌, ◌<◌, ◌==◌, ◌&&◌, Bool, true, min, nat_le}
+use Rattle.std.specs.Prelude.{if◌then◌else◌}
 use Rattle.rtui_geometry.specs.declared.rect.Rect.{Rect}
 use Rattle.rtui_backend.specs.Screen.{Screen, IsOnScreen}
 use Rattle.rtui_viewport.specs.declared.viewport.Viewport.{Viewport}
 use Rattle.rtui_viewport.specs.declared.viewport.Viewport.TheVariants.{Fullscreen, Inline, Fixed}
 use Rattle.rtui_viewport.specs.Areas.{Empties, is_within}
 
--- the columns that a clear empties on a screen of h rows: all; those of the rows from the top on, the last row at least; the viewport's own
+-- the columns that a clear empties on a screen of h rows: all; those of the rows from the top on, the last
+-- row at least; the viewport's own
 abbrev pub is_emptied : Viewport → Rect → ℕ → ℕ → ℕ → Bool
 is_emptied Fullscreen r h a b = true
 is_emptied (Inline n) r h a b = nat_le (min r.y (h - 1)) b
@@ -26,7 +28,8 @@ ClearsArea v r old new = HasPlace v r old → Empties (is_emptied v r old.height
 abbrev pub WritesItems : ℕ → Screen → Screen → Type 0
 WritesItems n old new = old.written + n < 2 ^ 64 - 1 → new.written ≡ old.written + n
 
--- how many blanks a clear of a rectangle draws: none if it is as wide as the screen, else one for each position
+-- how many blanks a clear of a rectangle draws: none if it is as wide as the screen, else one for each
+-- position
 abbrev pub blanks_needed : Rect → Screen → ℕ
 blanks_needed r s = if r.x == 0 && r.width == s.width then 0 else r.width * r.height
 

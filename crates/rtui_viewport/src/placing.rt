@@ -3,7 +3,8 @@ ghost use Rattle.rtui_geometry.specs.Rect.{EdgesFit};
 ghost use Rattle.rtui_backend.specs.Failures.{Counts};
 ghost use Rattle.rtui_backend.specs.Screen.{Appends, IsOnGrid, IsOnScreen, cursor_of, size_of, screen_area};
 ghost use Rattle.rtui_viewport.specs.Viewports.{IsInline};
-ghost use Rattle.rtui_viewport.specs.Placing.{lines_below, inline_area, PlacesInline, Places, EmptiesAllIf, area_in, raised, cursor_found};
+ghost use Rattle.rtui_viewport.specs.Placing.{lines_below, inline_area, PlacesInline, Places, EmptiesAllIf};
+ghost use Rattle.rtui_viewport.specs.Placing.{area_in, raised, cursor_found};
 
 use crate::viewport::Viewport;
 use rtui_backend::{Backend, ClearType};

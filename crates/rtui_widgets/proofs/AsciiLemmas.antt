@@ -1,7 +1,9 @@
 -- Texts of ASCII put one short grapheme into a column.
-use Rattle.std.proofs.Common.{◌≡◌, ℕ, zero, suc, ◌+◌, ◌-◌, ◌<◌, ◌≤◌, inl, inr, true, false, List, [], ◌∷◌, length, All, refl, arith, append-nil, ◌==◌, nat_le, not, filter, Option}
+use Rattle.std.proofs.Common.{◌≡◌, ℕ, zero, suc, ◌+◌, ◌-◌, ◌<◌, ◌≤◌, inl, inr, true, false, List, [], ◌∷◌, length, All, refl}
+use Rattle.std.proofs.Common.{arith, append-nil, ◌==◌, nat_le, not, filter, Option}
 use Rattle.std.specs.{List.concat, Str.IsAscii}
-use Rattle.std.proofs.lemmas.{Str.IsAscii-append, Bool.cases_lt, Bool.cases_eq, Bool.cond_both, Bool.Decides.nat_tests, List.get_or_past}
+use Rattle.std.proofs.lemmas.{Str.IsAscii-append, Bool.cases_lt, Bool.cases_eq, Bool.cond_both, Bool.Decides.nat_tests}
+use Rattle.std.proofs.lemmas.{List.get_or_past}
 use Rattle.std.proofs.lemmas.List.Elements.{All-nil, All-head, All-tail, All-filter, filter_passes}
 use Rattle.unicode_segmentation.specs.Grapheme.{graphemes}
 use Rattle.rtui_layout.specs.declared.alignment.HorizontalAlignment.{HorizontalAlignment}
@@ -62,13 +64,15 @@ span-ascii columns text ascii k k_in =
     let plain = λ (g : List ℕ). not (has_control g) in
     let all = All-filter plain IsAsciiPiece (graphemes true text) (ascii-graphemes text ascii) in
     one-short k 0 (fitting columns (filter plain (graphemes true text)))
-    (All-fitting IsOwnColumn columns (filter plain (graphemes true text)) (λ i d lt. own_column _ (all i d lt) (filter_passes plain (graphemes true text) i d lt)))
+    (All-fitting IsOwnColumn columns (filter plain (graphemes true text))
+    (λ i d lt. own_column _ (all i d lt) (filter_passes plain (graphemes true text) i d lt)))
 
 -- ---- the end of a text of ASCII is one
 
 ascii-joined : (gs : List (List ℕ)) → All IsAsciiPiece gs → IsAscii (concat gs)
 ascii-joined [] all = λ i. omega arith
-ascii-joined (g ∷ gs) all = IsAscii-append g (concat gs) (from_each g (All-head IsAsciiPiece g gs all).ascii) (ascii-joined gs (All-tail IsAsciiPiece g gs all))
+ascii-joined (g ∷ gs) all = IsAscii-append g (concat gs) (from_each g (All-head IsAsciiPiece g gs all).ascii)
+    (ascii-joined gs (All-tail IsAsciiPiece g gs all))
   where
     from_each : (cs : List ℕ) → AreAsciiChars cs → IsAscii cs
     from_each [] low i = omega arith
@@ -78,12 +82,14 @@ ascii-joined (g ∷ gs) all = IsAscii-append g (concat gs) (from_each g (All-hea
 last-ascii : (room : ℕ) (gs : List (List ℕ)) → All IsAsciiPiece gs → All IsAsciiPiece (last_fitting room gs)
 unfolding last_fitting
 last-ascii room [] all = all
-last-ascii room (g ∷ gs) all = cond_both _ (g ∷ gs) _ (All IsAsciiPiece) (λ _. all) (λ _. last-ascii room gs (All-tail IsAsciiPiece g gs all))
+last-ascii room (g ∷ gs) all = cond_both _ (g ∷ gs) _ (All IsAsciiPiece) (λ _. all)
+    (λ _. last-ascii room gs (All-tail IsAsciiPiece g gs all))
 
 part-ascii : (skip : ℕ) (span : SpanData) → IsAscii span.content → IsAscii (part_of skip span).content
 part-ascii skip span ascii =
     cond_both (skip == 0) _ _ (λ (p : Part). IsAscii p.content) (λ _. ascii)
-    (λ _. ascii-joined (last_fitting (span_width span - skip) (graphemes true span.content)) (last-ascii (span_width span - skip) (graphemes true span.content) (ascii-graphemes span.content ascii)))
+    (λ _. ascii-joined (last_fitting (span_width span - skip) (graphemes true span.content))
+    (last-ascii (span_width span - skip) (graphemes true span.content) (ascii-graphemes span.content ascii)))
 
 parts-ascii : (columns skip : ℕ) (spans : List SpanData) → AreAscii spans → AreShortParts columns (parts skip spans)
 unfolding parts AreShortParts
@@ -92,13 +98,16 @@ parts-ascii columns skip (span ∷ spans) all =
     let ascii = All-head (λ (span : SpanData). IsAscii span.content) span spans all in
     let rest = All-tail (λ (span : SpanData). IsAscii span.content) span spans all in
     let others = λ (n : ℕ). parts-ascii n (skip - span_width span) spans rest in
-    cond_both (nat_le (span_width span) skip) _ (part_of skip span ∷ parts (skip - span_width span) spans) (AreShortParts columns) (λ _. others columns)
+    cond_both (nat_le (span_width span) skip) _ (part_of skip span ∷ parts (skip - span_width span) spans) (AreShortParts columns)
+    (λ _. others columns)
     (λ _. (span-ascii _ (part_of skip span).content (part-ascii skip span ascii), others _))
 
-pub line-ascii : (alignment : Option HorizontalAlignment) (line : LineData) (columns : ℕ) → AreAscii line.spans → IsShortLine alignment line columns
+pub line-ascii : (alignment : Option HorizontalAlignment) (line : LineData) (columns : ℕ) → AreAscii line.spans
+    → IsShortLine alignment line columns
 line-ascii alignment line columns all = parts-ascii _ _ line.spans all
 
-pub text-ascii : (text : TextData) (area : Rect) (s : BufferData) → All (λ line. AreAscii line.spans) text.lines → RendersShortText text area s
+pub text-ascii : (text : TextData) (area : Rect) (s : BufferData) → All (λ line. AreAscii line.spans) text.lines
+    → RendersShortText text area s
 text-ascii text area s all = λ k k_in. line-ascii _ (text_line text k) _ (elim (cases_lt k (length text.lines)) [
   | inl inside ↦ all k (line_of []) inside
   | inr past ↦ rw (get_or_past text.lines k (line_of []) past) (All-nil (λ (span : SpanData). IsAscii span.content))

@@ -1,7 +1,9 @@
 -- What the columns of a row hold after one more grapheme.
-use Rattle.std.proofs.Common.{◌≡◌, ◌≢◌, ℕ, ◌+◌, ◌-◌, ◌<◌, ◌≤◌, ◌⊎◌, inl, inr, Bool, true, false, cond, List, [], ◌∷◌, ◌++◌, length, length-append, refl, sym, ap, ◌∙◌, arith, ◌^◌, ◌==◌, ◌||◌, ◌&&◌, nat_lt, Some, None, Option}
+use Rattle.std.proofs.Common.{◌≡◌, ◌≢◌, ℕ, ◌+◌, ◌-◌, ◌<◌, ◌≤◌, ◌⊎◌, inl, inr, Bool, true, false, cond, List, [], ◌∷◌, ◌++◌}
+use Rattle.std.proofs.Common.{length, length-append, refl, sym, ap, ◌∙◌, arith, ◌^◌, ◌==◌, ◌||◌, ◌&&◌, nat_lt, Some, None, Option}
 use Rattle.std.specs.{List.concat, Int.RustNames.bit_and, Int.RustNames.bit_or}
-use Rattle.std.proofs.lemmas.{Bool.cases_lt, Bool.cond_both, Bool.or_parts, Bool.or_right, List.Folds.concat-append, Bool.Decides.nat_tests, List.append-nil}
+use Rattle.std.proofs.lemmas.{Bool.cases_lt, Bool.cond_both, Bool.or_parts, Bool.or_right, List.Folds.concat-append}
+use Rattle.std.proofs.lemmas.{Bool.Decides.nat_tests, List.append-nil}
 use Rattle.std.proofs.lemmas.Nat.Bits.{same_from_bits, bit_at_and, bit_at_or}
 use Rattle.std.proofs.Math.Bool.{or_assoc}
 use Rattle.rtui_cell.specs.{declared.cell.Cell.Cell, Cell.empty_cell, Cell.styled, Width.text_width}
@@ -35,33 +37,41 @@ here k x g = cond (goes_to x g == k) (g ∷ []) []
 abbrev pub hides : ℕ → ℕ → List ℕ → Bool
 hides k x g = nat_lt x k && nat_lt k (x + text_width g)
 
-cond-cons-append : (b : Bool) (h : List ℕ) (us vs ts : List (List ℕ)) → us ≡ vs ++ ts → cond b (h ∷ us) us ≡ cond b (h ∷ vs) vs ++ ts
+cond-cons-append : (b : Bool) (h : List ℕ) (us vs ts : List (List ℕ)) → us ≡ vs ++ ts
+    → cond b (h ∷ us) us ≡ cond b (h ∷ vs) vs ++ ts
 cond-cons-append true h us vs ts e = ap (λ w. h ∷ w) e
 cond-cons-append false h us vs ts e = e
 
 -- what goes to a column, of a front of the graphemes and of the others
-pub those_at-both : (k x : ℕ) (gs hs : List (List ℕ)) → those_at k x (gs ++ hs) ≡ those_at k x gs ++ those_at k (end_of_those x gs) hs
+pub those_at-both : (k x : ℕ) (gs hs : List (List ℕ))
+    → those_at k x (gs ++ hs) ≡ those_at k x gs ++ those_at k (end_of_those x gs) hs
 unfolding those_at end_of_those
 those_at-both k x [] hs = refl
 those_at-both k x (g ∷ gs) hs = cond-cons-append (goes_to x g == k) g _ _ _ (those_at-both k (x + text_width g) gs hs)
 
-pub those_at-append : (k x : ℕ) (gs : List (List ℕ)) (g : List ℕ) → those_at k x (gs ++ g ∷ []) ≡ those_at k x gs ++ here k (end_of_those x gs) g
+pub those_at-append : (k x : ℕ) (gs : List (List ℕ)) (g : List ℕ)
+    → those_at k x (gs ++ g ∷ []) ≡ those_at k x gs ++ here k (end_of_those x gs) g
 unfolding those_at
 those_at-append k x gs g = those_at-both k x gs (g ∷ [])
 
 -- a front puts no longer text into a column than all of them
-pub front-no_longer : (k : ℕ) (gs hs whole : List (List ℕ)) → gs ++ hs ≡ whole → length (concat (those_at k 0 gs)) ≤ length (concat (those_at k 0 whole))
+pub front-no_longer : (k : ℕ) (gs hs whole : List (List ℕ)) → gs ++ hs ≡ whole
+    → length (concat (those_at k 0 gs)) ≤ length (concat (those_at k 0 whole))
 front-no_longer k gs hs whole e =
-    let both : length (concat (those_at k 0 whole)) ≡ length (concat (those_at k 0 gs)) + length (concat (those_at k (end_of_those 0 gs) hs)) =
+    let both : length (concat (those_at k 0 whole)) ≡ length (concat (those_at k 0 gs)) + length
+    (concat (those_at k (end_of_those 0 gs) hs)) =
     ap (λ w. length (concat (those_at k 0 w))) (sym e) ∙ ap (λ w. length (concat w)) (those_at-both k 0 gs hs)
-    ∙ ap length (concat-append (those_at k 0 gs) (those_at k (end_of_those 0 gs) hs)) ∙ length-append (concat (those_at k 0 gs)) (concat (those_at k (end_of_those 0 gs) hs)) in
+    ∙ ap length (concat-append (those_at k 0 gs) (those_at k (end_of_those 0 gs) hs)) ∙ length-append (concat (those_at k 0 gs))
+    (concat (those_at k (end_of_those 0 gs) hs)) in
     omega arith
 
-pub is_behind-append : (k x : ℕ) (gs : List (List ℕ)) (g : List ℕ) → is_behind k x (gs ++ g ∷ []) ≡ (is_behind k x gs || hides k (end_of_those x gs) g)
+pub is_behind-append : (k x : ℕ) (gs : List (List ℕ)) (g : List ℕ)
+    → is_behind k x (gs ++ g ∷ []) ≡ (is_behind k x gs || hides k (end_of_those x gs) g)
 unfolding is_behind end_of_those
 is_behind-append k x [] g = grind (arith, nat_tests)
 is_behind-append k x (h ∷ gs) g =
-    ap (λ b. hides k x h || b) (is_behind-append k (x + text_width h) gs g) ∙ sym (or_assoc (hides k x h) (is_behind k (x + text_width h) gs) (hides k (end_of_those (x + text_width h) gs) g))
+    ap (λ b. hides k x h || b) (is_behind-append k (x + text_width h) gs g)
+    ∙ sym (or_assoc (hides k x h) (is_behind k (x + text_width h) gs) (hides k (end_of_those (x + text_width h) gs) g))
 
 -- ---- what the graphemes before reach
 
@@ -94,7 +104,8 @@ reached k x (g ∷ gs) le lt h =
     let parts = or_parts (hides k x g) (is_behind k (x + text_width g) gs) h in
     elim (cases_lt k (x + text_width g)) [
       | inl in_it ↦ rw (goes-here k x g le in_it parts.0) (λ e. cc)
-      | inr past ↦ cond_both (goes_to x g == k) (g ∷ those_at k (x + text_width g) gs) _ (λ us. us ≢ []) (λ _ e. cc) (λ _. reached k (x + text_width g) gs past lt parts.1)
+      | inr past ↦ cond_both (goes_to x g == k) (g ∷ those_at k (x + text_width g) gs) _ (λ us. us ≢ []) (λ _ e. cc)
+          (λ _. reached k (x + text_width g) gs past lt parts.1)
     ]
 
 goes-first : (g : List ℕ) → (goes_to 0 g == 0) ≡ true
@@ -115,24 +126,33 @@ colour-twice (Some d) c = refl
 bits-twice : (m a n : ℕ) → bit_and (bit_or (bit_and (bit_or m a) n) a) n ≡ bit_and (bit_or m a) n
 bits-twice m a n = same_from_bits _ _ (λ i. simp (bit_at_and, bit_at_or) (omega arith))
 
-pub styled-twice : (s : Style) (c : Cell) (t : Option (List ℕ)) → styled s (record (styled s c) { symbol = t }) ≡ styled s (record c { symbol = t })
-styled-twice s c t = rw (colour-twice s.fg c.fg, colour-twice s.bg c.bg, colour-twice s.underline_color c.underline_color, bits-twice c.modifier.0 s.add_modifier.0 (2 ^ 16 - 1 - s.sub_modifier.0))
+pub styled-twice : (s : Style) (c : Cell) (t : Option (List ℕ))
+    → styled s (record (styled s c) { symbol = t }) ≡ styled s (record c { symbol = t })
+styled-twice s c t = rw (
+  colour-twice s.fg c.fg,
+  colour-twice s.bg c.bg,
+  colour-twice s.underline_color c.underline_color,
+  bits-twice c.modifier.0 s.add_modifier.0 (2 ^ 16 - 1 - s.sub_modifier.0),
+)
 
 -- ---- the column that gets it
 
-pub with_graphemes-more : (s : Style) (ts : List (List ℕ)) (g : List ℕ) (c : Cell) → (ts ≡ [] → c ≡ empty_cell) → with_graphemes s (ts ++ g ∷ []) c ≡ with_appended s g (with_graphemes s ts c)
+pub with_graphemes-more : (s : Style) (ts : List (List ℕ)) (g : List ℕ) (c : Cell) → (ts ≡ [] → c ≡ empty_cell)
+    → with_graphemes s (ts ++ g ∷ []) c ≡ with_appended s g (with_graphemes s ts c)
 with_graphemes-more s [] g c e =
     let none : c.symbol ≡ None = ap (λ d. d.symbol) (e refl) in
     rw (append-nil, none)
 with_graphemes-more s (t ∷ ts) g c e =
-    ap (λ w. styled s (record c { symbol = Some w })) (concat-append (t ∷ ts) (g ∷ []) ∙ ap (λ w. concat (t ∷ ts) ++ w) (append-nil g))
+    ap (λ w. styled s (record c { symbol = Some w })) (concat-append (t ∷ ts) (g ∷ []) ∙ ap (λ w. concat (t ∷ ts) ++ w)
+    (append-nil g))
     ∙ sym (styled-twice s (record c { symbol = Some (concat (t ∷ ts)) }) (Some (concat (t ∷ ts) ++ g)))
 
 or-none : (a b : Bool) → b ≡ false → (a || b) ≡ a
 or-none true b h = refl
 or-none false b h = h
 
-symbol-joined : (s : Style) (ts : List (List ℕ)) (g : List ℕ) (c : Cell) → (with_graphemes s (ts ++ g ∷ []) c).symbol ≡ Some (concat (ts ++ g ∷ []))
+symbol-joined : (s : Style) (ts : List (List ℕ)) (g : List ℕ) (c : Cell)
+    → (with_graphemes s (ts ++ g ∷ []) c).symbol ≡ Some (concat (ts ++ g ∷ []))
 symbol-joined s [] g c = refl
 symbol-joined s (t ∷ ts) g c = refl
 
@@ -145,7 +165,8 @@ module _ (s : Style) (gs : List (List ℕ)) (g : List ℕ) (x k : ℕ) (c : Cell
       let far = those_at-far k 0 gs (omega arith) (omega arith) in
       let no : (goes_to (end_of_those 0 gs) g == k) ≡ false = grind (arith, nat_tests, ends, lt, lt2) in
       let yes : hides k (end_of_those 0 gs) g ≡ true = grind (arith, nat_tests, ends, lt, lt2) in
-      let hidden : (is_behind k 0 gs || hides k (end_of_those 0 gs) g) ≡ true = or_right (is_behind k 0 gs) (hides k (end_of_those 0 gs) g) yes in
+      let hidden : (is_behind k 0 gs || hides k (end_of_those 0 gs) g) ≡ true = or_right (is_behind k 0 gs)
+      (hides k (end_of_those 0 gs) g) yes in
       rw (those_at-append, is_behind-append, far, no, hidden)
 
   -- neither its own nor after it
@@ -153,16 +174,19 @@ module _ (s : Style) (gs : List (List ℕ)) (g : List ℕ) (x k : ℕ) (c : Cell
   column-other ne h =
       let no : (goes_to (end_of_those 0 gs) g == k) ≡ false = grind (arith, nat_tests, ends, ne) in
       let open_ : hides k (end_of_those 0 gs) g ≡ false = rw (← ends) (hides-none k x g h) in
-      let same : (is_behind k 0 gs || hides k (end_of_those 0 gs) g) ≡ is_behind k 0 gs = or-none (is_behind k 0 gs) (hides k (end_of_those 0 gs) g) open_ in
+      let same : (is_behind k 0 gs || hides k (end_of_those 0 gs) g) ≡ is_behind k 0 gs = or-none (is_behind k 0 gs)
+      (hides k (end_of_those 0 gs) g) open_ in
       rw (those_at-append, is_behind-append, no, same, append-nil)
 
   -- its own
-  column-here : k ≡ goes_to x g → column_with s (gs ++ g ∷ []) k c ≡ with_graphemes s (those_at k 0 gs ++ g ∷ []) (cond (is_behind k 0 gs) empty_cell c)
+  column-here : k ≡ goes_to x g → column_with s (gs ++ g ∷ []) k c ≡ with_graphemes s (those_at k 0 gs ++ g ∷ [])
+      (cond (is_behind k 0 gs) empty_cell c)
   column-here is =
       let yes : (goes_to (end_of_those 0 gs) g == k) ≡ true = grind (arith, nat_tests, ends, is) in
       let le : k ≤ x = grind (arith, nat_tests, is) in
       let open_ : hides k (end_of_those 0 gs) g ≡ false = rw (← ends) (hides-none k x g (inl le)) in
-      let same : (is_behind k 0 gs || hides k (end_of_those 0 gs) g) ≡ is_behind k 0 gs = or-none (is_behind k 0 gs) (hides k (end_of_those 0 gs) g) open_ in
+      let same : (is_behind k 0 gs || hides k (end_of_those 0 gs) g) ≡ is_behind k 0 gs = or-none (is_behind k 0 gs)
+      (hides k (end_of_those 0 gs) g) open_ in
       rw (those_at-append, is_behind-append, yes, same)
 
   -- the symbol of its own
@@ -173,12 +197,14 @@ module _ (s : Style) (gs : List (List ℕ)) (g : List ℕ) (x k : ℕ) (c : Cell
       rw more (symbol-joined s (those_at k 0 gs) g _)
 
   -- its own, where the graphemes before don't reach
-  pub column-set : k ≡ goes_to x g → those_at k 0 gs ≡ [] → is_behind k 0 gs ≡ false → column_with s (gs ++ g ∷ []) k c ≡ with_grapheme s g (column_with s gs k c)
+  pub column-set : k ≡ goes_to x g → those_at k 0 gs ≡ [] → is_behind k 0 gs ≡ false
+      → column_with s (gs ++ g ∷ []) k c ≡ with_grapheme s g (column_with s gs k c)
   column-set is none open_ =
       column-here is ∙ rw (none, open_, append-nil) refl
 
   -- its own, where they do
-  pub column-append : k ≡ goes_to x g → (is_behind k 0 gs ≡ false → those_at k 0 gs ≢ []) → column_with s (gs ++ g ∷ []) k c ≡ with_appended s g (column_with s gs k c)
+  pub column-append : k ≡ goes_to x g → (is_behind k 0 gs ≡ false → those_at k 0 gs ≢ [])
+      → column_with s (gs ++ g ∷ []) k c ≡ with_appended s g (column_with s gs k c)
   column-append is reach =
       column-here is ∙ with_graphemes-more s (those_at k 0 gs) g (cond (is_behind k 0 gs) empty_cell c)
       (λ none. cond_both (is_behind k 0 gs) empty_cell c (λ d. d ≡ empty_cell) (λ _. refl) (λ open_. absurd (reach open_ none)))

@@ -30,10 +30,12 @@ part-around area own part is =
     record { left = omega arith; right = omega arith; top = omega arith; bottom = omega arith }
 
 pub part-row : (area own part : Rect) → IsClipped area own part → HasRow own part.y
-part-row area own part is = let around = part-around area own part is in let rows = is.rows in record { top = omega arith; bottom = omega arith }
+part-row area own part is = let around = part-around area own part is in let rows = is.rows in
+    record { top = omega arith; bottom = omega arith }
 
 -- one change after another
-pub within-then : (area : Rect) (old between new : BufferData) → ChangesWithin area old between → ChangesWithin area between new → ChangesWithin area old new
+pub within-then : (area : Rect) (old between new : BufferData) → ChangesWithin area old between → ChangesWithin area between new
+    → ChangesWithin area old new
 within-then area old between new first second = record {
   same_area = second.same_area ∙ first.same_area;
   same_room = second.same_room ∙ first.same_room;
@@ -41,7 +43,9 @@ within-then area old between new first second = record {
 }
 
 -- a style over a smaller area
-pub within-styled : (area r : Rect) (style : Style) (old new : BufferData) → ((p : Position) → HasPosition old.area p → HasPosition r p → HasPosition area p) → IsStyled r style old new → ChangesWithin area old new
+pub within-styled : (area r : Rect) (style : Style) (old new : BufferData)
+    → ((p : Position) → HasPosition old.area p → HasPosition r p → HasPosition area p) → IsStyled r style old new
+    → ChangesWithin area old new
 within-styled area r style old new inside is = record {
   same_area = is.area;
   same_room = is.room;
@@ -49,10 +53,13 @@ within-styled area r style old new inside is = record {
 }
 
 -- a refused painting in a row, in columns of an area
-pub within-beside : (area : Rect) (p : Position) (ps : List Piece) (old new : BufferData) → HasRow old.area p.y → old.area.x ≤ p.x → columns ps ≤ old.area.x + old.area.width - p.x
-    → ((q : Position) → HasPosition old.area q → p.x ≤ q.x → q.x < p.x + columns ps → q.y ≡ p.y → HasPosition area q) → IsSameBeside p ps old new → ChangesWithin area old new
+pub within-beside : (area : Rect) (p : Position) (ps : List Piece) (old new : BufferData) → HasRow old.area p.y → old.area.x ≤ p.x
+    → columns ps ≤ old.area.x + old.area.width - p.x
+    → ((q : Position) → HasPosition old.area q → p.x ≤ q.x → q.x < p.x + columns ps → q.y ≡ p.y → HasPosition area q)
+    → IsSameBeside p ps old new → ChangesWithin area old new
 within-beside area p ps old new row left ends inside refused = record {
   same_area = refused.area;
   same_room = refused.room;
-  outside = λ q in_own off. same-beside p q ps old new row left ends refused in_own (λ same. apart q.x p.x (columns ps) (λ from to. off (inside q in_own from to same)));
+  outside = λ q in_own off. same-beside p q ps old new row left ends refused in_own (λ same. apart q.x p.x (columns ps)
+      (λ from to. off (inside q in_own from to same)));
 }

@@ -1,14 +1,16 @@
 -- What private functions promise one another.
-use Rattle.std.specs.Prelude.{ℕ, ◌+◌, ◌*◌, ◌<◌, ◌≤◌, ◌≡◌, ◌⊎◌, List, length, take, drop, Bool, ◌-◌, ◌||◌, ◌&&◌, nat_lt, Some, if◌then◌else◌, slice_index_or, slice_set}
-use Rattle.rtui_cell.specs.{declared.cell.Cell.Cell, Cell.empty_cell, Cell.styled, Symbol.appended, Width.text_width}
+use Rattle.std.specs.Prelude.{ℕ, ◌+◌, ◌*◌, ◌<◌, ◌≤◌, ◌≡◌, ◌⊎◌, List, length, take, drop, Bool, ◌-◌, ◌||◌}
+use Rattle.std.specs.Prelude.{◌&&◌, nat_lt, Some, if◌then◌else◌, slice_index_or, slice_set}
+use Rattle.rtui_cell.specs.{declared.cell.Cell.Cell, Cell.empty_cell, Cell.styled, Symbol.appended}
+use Rattle.rtui_cell.specs.{Width.text_width}
 use Rattle.rtui_diff.specs.Cells.{cell}
 use Rattle.rtui_style.specs.declared.Style.{Style}
 use Rattle.rtui_buffer.specs.Painting.{emptied}
 use Rattle.rtui_widgets.specs.{Span.goes_to, declared.line.Part.Part}
 use Rattle.rtui_widgets.specs.Line as line
 
--- where the rows stand: the place of the first one's first cell, how many cells each row has, how far it is from one row to the next, and
--- how many rows there are
+-- where the rows stand: the place of the first one's first cell, how many cells each row has, how far it is
+-- from one row to the next, and how many rows there are
 pub record Rows : Type 0 where
   pub start : ℕ
   pub width : ℕ
@@ -41,7 +43,8 @@ pub record MakesRows (r : Rows) (f : ℕ → List Cell → List Cell) (old new :
   pub rows : (k : ℕ) → k < r.count → cells_of_row r k new ≡ f k (cells_of_row r k old)
 
 -- the rows before one are what f makes of them, that one is as g says, and those after it stay
-pub record LeavesRows (r : Rows) (f : ℕ → List Cell → List Cell) (g : ℕ → List Cell → List Cell → Type 0) (old new : List Cell) : Type 0 where
+pub record LeavesRows (r : Rows) (f : ℕ → List Cell → List Cell) (g : ℕ → List Cell → List Cell → Type 0)
+    (old new : List Cell) : Type 0 where
   pub at : ℕ
   pub there : at < r.count
   pub above : (k : ℕ) → k < at → cells_of_row r k new ≡ f k (cells_of_row r k old)
@@ -59,15 +62,17 @@ with_appended style g c = styled style (record c { symbol = Some (appended c.sym
 -- the symbol that the next grapheme at column x makes of its column's: itself, or it after what stands there
 abbrev pub next_symbol : Bool → ℕ → List ℕ → List Cell → List ℕ
 next_symbol is_first x g row =
-    if is_first || (nat_lt 0 x && nat_lt 0 (text_width g)) then g else appended (slice_index_or row (goes_to x g) empty_cell).symbol g
+    if is_first || (nat_lt 0 x && nat_lt 0 (text_width g)) then g else appended
+    (slice_index_or row (goes_to x g) empty_cell).symbol g
 
--- the next grapheme at column x: set, or appended if only graphemes of no width came before or it has no width itself; and empty
--- cells in the other columns that it takes
+-- the next grapheme at column x: set, or appended if only graphemes of no width came before or it has no
+-- width itself; and empty cells in the other columns that it takes
 unfoldable pub with_next : Bool → ℕ → Style → List ℕ → List Cell → List Cell
 with_next is_first x style g row =
     let at = goes_to x g in
     let c = slice_index_or row at empty_cell in
-    let new = if is_first || (nat_lt 0 x && nat_lt 0 (text_width g)) then with_grapheme style g c else with_appended style g c in
+    let new = if is_first || (nat_lt 0 x && nat_lt 0 (text_width g)) then with_grapheme style g c
+    else with_appended style g c in
     emptied (x + 1) (text_width g - 1) (slice_set row at new)
 
 -- a part of a span as the code has it

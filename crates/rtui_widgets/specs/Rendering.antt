@@ -1,7 +1,9 @@
 -- What rendering spans, lines and texts makes of a buffer.
-use Rattle.std.specs.Prelude.{ℕ, ◌+◌, ◌<◌, ◌≤◌, ◌≡◌, ◌==◌, List, [], Option, Some, None, map, take, drop, if◌then◌else◌, slice_index_or, All}
+use Rattle.std.specs.Prelude.{ℕ, ◌+◌, ◌<◌, ◌≤◌, ◌≡◌, ◌==◌, List, [], Option, Some, None, map, take, drop}
+use Rattle.std.specs.Prelude.{if◌then◌else◌, slice_index_or, All}
 use Rattle.std.specs.Str.{IsAscii}
-use Rattle.rtui_geometry.specs.{declared.position.Position.Position, declared.rect.Rect.Rect, Rect.HasPosition, Rect.intersected}
+use Rattle.rtui_geometry.specs.{declared.position.Position.Position, declared.rect.Rect.Rect}
+use Rattle.rtui_geometry.specs.{Rect.HasPosition, Rect.intersected}
 use Rattle.rtui_layout.specs.declared.alignment.HorizontalAlignment.{HorizontalAlignment}
 use Rattle.rtui_cell.specs.{declared.cell.Cell.Cell, Cell.styled}
 use Rattle.rtui_text.specs.Text.{SpanData, LineData, TextData, line_of}
@@ -19,12 +21,15 @@ area_row r k s = take r.width (drop (cell_index s.area (record { x = r.x; y = r.
 pub record ChangesWithin (area : Rect) (old new : BufferData) : Type 0 where
   pub same_area : new.area ≡ old.area
   pub same_room : new.room ≡ old.room
-  pub outside : (p : Position) → HasPosition old.area p → ¬ (HasPosition area p) → cell_in new p ≡ cell_in old p
+  pub outside : (p : Position) → HasPosition old.area p → ¬ (HasPosition area p)
+      → cell_in new p ≡ cell_in old p
 
--- each row of an area, as far as the buffer has it, is what f makes of it, no cell got an option or a flag, and nothing else changed
+-- each row of an area, as far as the buffer has it, is what f makes of it, no cell got an option or a flag,
+-- and nothing else changed
 pub record RendersRows (area : Rect) (f : ℕ → List Cell → List Cell) (old new : BufferData) : Type 0 where
   pub within : ChangesWithin area old new
-  pub rows : (k : ℕ) → k < (intersected area old.area).height → area_row (intersected area old.area) k new ≡ f k (area_row (intersected area old.area) k old)
+  pub rows : (k : ℕ) → k < (intersected area old.area).height
+      → area_row (intersected area old.area) k new ≡ f k (area_row (intersected area old.area) k old)
   pub marks : KeepsUnmarked old.cells new.cells
 
 -- f in the first row, and nothing in the others
@@ -66,11 +71,13 @@ pub record HasFirstRow (area : Rect) (s : BufferData) : Type 0 where
 
 -- a text painted from the corner of an area on, in at most the area's columns
 abbrev pub RendersStr : List ℕ → Rect → BufferData → BufferData → Type 0
-RendersStr text area old = PaintsPieces (record { x = area.x; y = area.y }) (pieces_at old.area area.x area.width new_style text) old
+RendersStr text area old = PaintsPieces (record { x = area.x; y = area.y })
+    (pieces_at old.area area.x area.width new_style text) old
 
 -- such a painting that was refused memory: a front of the text's graphemes is painted
 abbrev pub LeavesStr : List ℕ → Rect → BufferData → BufferData → Type 0
-LeavesStr text area old = PaintsFront (record { x = area.x; y = area.y }) (pieces_at old.area area.x area.width new_style text) old
+LeavesStr text area old = PaintsFront (record { x = area.x; y = area.y })
+    (pieces_at old.area area.x area.width new_style text) old
 
 -- row k of a text takes no memory in these many columns
 abbrev pub IsShortRow : TextData → ℕ → ℕ → Type 0
@@ -78,8 +85,8 @@ IsShortRow text columns k =
     let line = text_line text k in
     IsShortLine (alignment_or line.alignment text.alignment) line columns
 
--- What is rendered takes no memory if no symbol does that it puts into a column: of a span, a line or a text in each row of the area,
--- as far as the buffer has it; of a text that is painted in each piece.
+-- What is rendered takes no memory if no symbol does that it puts into a column: of a span, a line or a text
+-- in each row of the area, as far as the buffer has it; of a text that is painted in each piece.
 abbrev pub RendersShortSpan : SpanData → Rect → BufferData → Type 0
 RendersShortSpan span area s = IsShortSpan (intersected area s.area).width span.content
 
@@ -87,7 +94,8 @@ abbrev pub RendersShortLine : LineData → Rect → BufferData → Type 0
 RendersShortLine line area s = IsShortLine line.alignment line (intersected area s.area).width
 
 abbrev pub RendersShortText : TextData → Rect → BufferData → Type 0
-RendersShortText text area s = let r = intersected area s.area in (k : ℕ) → k < r.height → IsShortRow text r.width k
+RendersShortText text area s = let r = intersected area s.area in (k : ℕ) → k < r.height
+    → IsShortRow text r.width k
 
 abbrev pub RendersShortStr : List ℕ → Rect → BufferData → Type 0
 RendersShortStr text area s = AreShort (pieces_at s.area area.x area.width new_style text)

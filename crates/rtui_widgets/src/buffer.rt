@@ -1,7 +1,8 @@
 //! Spans, lines and texts in a buffer.
 
 ghost use Rattle.std.specs.Prelude.{IsOk, OnOk, OnErr};
-ghost use Rattle.rtui_widgets.specs.Rendering.{RendersSpan, RendersLine, RendersText, RendersShortSpan, RendersShortLine, RendersShortText, ChangesWithin};
+ghost use Rattle.rtui_widgets.specs.Rendering.{RendersSpan, RendersLine, RendersText, RendersShortSpan};
+ghost use Rattle.rtui_widgets.specs.Rendering.{RendersShortLine, RendersShortText, ChangesWithin};
 ghost use Rattle.rtui_widgets.specs.Refused.{LeavesSpan, LeavesLine, LeavesText};
 
 use crate::line::render_line;

@@ -10,7 +10,8 @@ ghost use Rattle.rtui_buffer.specs.BufferData.{BufferData, IsEmptied};
 ghost use Rattle.rtui_buffer.specs.Shown.{IsSettledBuffer};
 ghost use Rattle.rtui_widgets.specs.Span.{IsShortSpan};
 ghost use Rattle.rtui_widgets.specs.Line.{IsShortLine};
-ghost use Rattle.rtui_widgets.specs.Rendering.{AreAscii, HasFirstRow, RendersStr, RendersShortText, RendersShortStr};
+ghost use Rattle.rtui_widgets.specs.Rendering.{AreAscii, HasFirstRow, RendersStr, RendersShortText};
+ghost use Rattle.rtui_widgets.specs.Rendering.{RendersShortStr};
 
 /// A text of at most 22 bytes takes no memory, in however many columns it is rendered.
 pub fn short_texts_take_no_memory()

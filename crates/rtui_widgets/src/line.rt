@@ -9,7 +9,8 @@ ghost use Rattle.rtui_text.specs.Widths.{span_width};
 ghost use Rattle.rtui_widgets.specs.Inner.{IsPart};
 ghost use Rattle.rtui_buffer.specs.Painting.{KeepsUnmarked};
 ghost use Rattle.rtui_widgets.specs.Refused.{HasFrontOfParts, HasFrontOfLine};
-ghost use Rattle.rtui_widgets.specs.Line.{parts, parts_rendered, part_of, columns_before, line_rendered, last_fitting, AreShortParts, IsShortLine};
+ghost use Rattle.rtui_widgets.specs.Line.{parts, parts_rendered, part_of, columns_before, line_rendered};
+ghost use Rattle.rtui_widgets.specs.Line.{last_fitting, AreShortParts, IsShortLine};
 
 use crate::span::render_span;
 use rtui_cell::Cell;

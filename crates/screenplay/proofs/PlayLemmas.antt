@@ -1,31 +1,39 @@
 -- A terminal in the middle of a play: its start, its sizes, its frames and its clears.
-use Rattle.std.proofs.Common.{◌≡◌, ℕ, ◌+◌, ◌-◌, ◌<◌, min, nat_lt, List, [], ◌++◌, map, Option, Some, None, refl, sym, ap, ap₂, subst, ◌∙◌, inl, inr, arith, ◌||◌}
+use Rattle.std.proofs.Common.{◌≡◌, ℕ, ◌+◌, ◌-◌, ◌<◌, min, nat_lt, List, [], ◌++◌, map, Option, Some, None, refl, sym, ap, ap₂}
+use Rattle.std.proofs.Common.{subst, ◌∙◌, inl, inr, arith, ◌||◌}
 use Rattle.std.specs.List.{range_with_len}
 use Rattle.std.proofs.lemmas.{Bool.cases_lt, Bool.Decides.nat_tests}
 use Rattle.rtui_geometry.specs.{declared.rect.Rect.Rect, declared.size.Size.Size}
 use Rattle.rtui_text.specs.Text.{TextData}
 use Rattle.rtui_buffer.specs.{BufferData.BufferData, Shown.IsSettledBuffer, Shown.ShowsBuffer}
 use Rattle.rtui_backend.proofs.ScrollLemmas.{above_kept, above_same}
-use Rattle.rtui_backend.specs.Screen.{Screen, IsBlankScreen, TakesSize, IsOnScreen, IsWithin, row_of, rows_above, screen_area, size_of}
+use Rattle.rtui_backend.specs.Screen.{Screen, IsBlankScreen, TakesSize, IsOnScreen, IsWithin, row_of, rows_above, screen_area}
+use Rattle.rtui_backend.specs.Screen.{size_of}
 use Rattle.rtui_backend.specs.{CellGrid.AreUnmarked, TestBackend.screen_of, declared.test.TestBackend.TestBackend}
 use Rattle.rtui_viewport.specs.declared.viewport.Viewport.{Viewport}
 use Rattle.rtui_viewport.specs.declared.viewport.Viewport.TheVariants.{Fullscreen, Inline, Fixed}
 use Rattle.rtui_viewport.specs.{Viewports.IsFixed, Viewports.IsInline, Areas.KeepsOutside, Areas.IsBlankOver, Areas.Empties}
 use Rattle.rtui_viewport.specs.Placing.{area_in, raised, inline_area, rows_scrolled}
-use Rattle.rtui_viewport.specs.{Clearing.HasPlace, Clearing.ClearsArea, Clearing.is_emptied, Lying.FitsSize, Lying.MayLie, Lying.at_corner}
+use Rattle.rtui_viewport.specs.{Clearing.HasPlace, Clearing.ClearsArea, Clearing.is_emptied, Lying.FitsSize, Lying.MayLie}
+use Rattle.rtui_viewport.specs.{Lying.at_corner}
 use Rattle.rtui_viewport.proofs.ClearLemmas.{blank_over}
 use Rattle.rtui_terminal.specs.{TerminalData.TerminalData, TerminalData.cursor_offset, InStep.IsInStep, Starting.Starts}
-use Rattle.rtui_terminal.proofs.RestLemmas.{same_size, inline_left, inline_width, raised_by, raised_same, has_place, rests-started, rests-applied, rests-resized, rests-cleared, keeps-cleared, rests-known, rests-takes, rests-inserted}
+use Rattle.rtui_terminal.proofs.RestLemmas.{same_size, inline_left, inline_width, raised_by, raised_same, has_place}
+use Rattle.rtui_terminal.proofs.RestLemmas.{rests-started, rests-applied, rests-resized, rests-cleared, keeps-cleared}
+use Rattle.rtui_terminal.proofs.RestLemmas.{rests-known, rests-takes, rests-inserted}
 use Rattle.rtui_terminal.specs.{Insertion.inserted_area, Writing.Applies, Clearing.ClearsViewport, Resizing.Resizes}
-use Rattle.screenplay.specs.Run.{stage_size, GoesOn, plain_screen, rows_above_view, IsGoodStage, IsFrame, IsStart, KeepsSurroundings, size_after, IsCauseOfStep, View, row_count, text_area}
+use Rattle.screenplay.specs.Run.{stage_size, GoesOn, plain_screen, rows_above_view, IsGoodStage, IsFrame, IsStart}
+use Rattle.screenplay.specs.Run.{KeepsSurroundings, size_after, IsCauseOfStep, View, row_count, text_area}
 use Rattle.screenplay.proofs.FrameLemmas.{AreUnmarked-emptied, AreUnmarked-frame, shown_again}
 use Rattle.screenplay.specs.Playing.{IsPlaying, view_in, TakesNewSize, IsSizedFor, InsertsBuffer, Plays}
-use Rattle.screenplay.specs.{declared.scene.PlayCause.PlayCause, declared.scene.PlayCause.TheVariants.Memory, declared.scene.PlayCause.TheVariants.Unsettled}
+use Rattle.screenplay.specs.{declared.scene.PlayCause.PlayCause, declared.scene.PlayCause.TheVariants.Memory}
+use Rattle.screenplay.specs.{declared.scene.PlayCause.TheVariants.Unsettled}
 use Rattle.screenplay.specs.declared.scene.Stage.{Stage}
 use Rattle.screenplay.specs.declared.scene.Step.TheVariants as steps
 
 -- the start
-pub IsPlaying-started : (stage : Stage) (b : TestBackend) (t : TerminalData TestBackend) → IsGoodStage stage → IsBlankScreen stage.width stage.height (screen_of b) → Starts screen_of stage.viewport b t
+pub IsPlaying-started : (stage : Stage) (b : TestBackend) (t : TerminalData TestBackend) → IsGoodStage stage
+    → IsBlankScreen stage.width stage.height (screen_of b) → Starts screen_of stage.viewport b t
     → IsPlaying stage t × IsStart stage (view_in t)
 IsPlaying-started stage b t good blank starts =
     let s : Screen = screen_of b in
@@ -33,29 +41,45 @@ IsPlaying-started stage b t good blank starts =
     let scrolls = starts.scrolls in
     let own : size_of s ≡ stage_size stage = rw (blank.width, blank.height) refl in (
       record {
-        rest = rests-started screen_of kind b t (subst (FitsSize kind) (sym own) good.viewport) (record { at = λ a c a_in c_in. blank.grid a c }) starts;
+        rest = rests-started screen_of kind b t (subst (FitsSize kind) (sym own) good.viewport)
+            (record { at = λ a c a_in c_in. blank.grid a c }) starts;
         plain = AreUnmarked-emptied t.viewport_area t.previous starts.previous;
       },
       record {
         blank = s;
         is_blank = blank;
         viewport = starts.viewport_area ∙ ap (λ r. area_in kind r 0 s.cursor_y) starts.last_known_area;
-        scrolls = record { history = scrolls.history; width = scrolls.width; height = scrolls.height; grid = scrolls.grid; visible = sym blank.visible; written = sym blank.written };
+        scrolls = record {
+          history = scrolls.history;
+          width = scrolls.width;
+          height = scrolls.height;
+          grid = scrolls.grid;
+          visible = sym blank.visible;
+          written = sym blank.written;
+        };
       },
     )
 
 -- a settled frame painted on the empty buffer and drawn
-pub Plays-frame : (stage : Stage) (text : TextData) (puts : List (ℕ × ℕ × ℕ)) (frame : BufferData) (s t : TerminalData TestBackend) → IsPlaying stage s → IsFrame s.viewport_area text puts frame → IsSettledBuffer frame
+pub Plays-frame : (stage : Stage) (text : TextData) (puts : List (ℕ × ℕ × ℕ)) (frame : BufferData)
+    (s t : TerminalData TestBackend) → IsPlaying stage s → IsFrame s.viewport_area text puts frame → IsSettledBuffer frame
     → Applies screen_of None (record s { current = frame }) t → Plays stage (steps.Draw None text puts) s t
 Plays-frame stage text puts frame s t playing made settled applied =
     let at = playing.rest.in_step in
-    let here : IsInStep screen_of (record s { current = frame }) = record { on_screen = at.on_screen; area = at.area; settled = at.settled; shown = at.shown } in
+    let here : IsInStep screen_of (record s { current = frame }) = record {
+      on_screen = at.on_screen;
+      area = at.area;
+      settled = at.settled;
+      shown = at.shown;
+    } in
     let keeps = applied.keeps here settled in
-    let size : size_of (screen_of t.backend) ≡ size_of (screen_of s.backend) = same_size (screen_of t.backend) (screen_of s.backend) keeps.size.width keeps.size.height in
+    let size : size_of (screen_of t.backend) ≡ size_of (screen_of s.backend) = same_size (screen_of t.backend)
+    (screen_of s.backend) keeps.size.width keeps.size.height in
     record {
       playing = record {
         rest = rests-applied screen_of stage.viewport None frame s t playing.rest settled applied;
-        plain = subst (λ (f : BufferData). AreUnmarked f.cells) (sym applied.painted) (AreUnmarked-frame s.viewport_area text puts frame made);
+        plain = subst (λ (f : BufferData). AreUnmarked f.cells) (sym applied.painted)
+            (AreUnmarked-frame s.viewport_area text puts frame made);
       };
       after = record {
         size = size;
@@ -65,7 +89,15 @@ Plays-frame stage text puts frame s t playing made settled applied =
           settled = settled;
           shown = subst (λ f. ShowsBuffer f (screen_of t.backend).grid) applied.painted (applied.in_step here settled).shown;
         };
-        same = λ _. record { viewport = keeps.viewport_area; size = record { width = keeps.size.width; height = keeps.size.height; history = keeps.size.history }; outside = record { at = keeps.outside.at } };
+        same = λ _. record {
+          viewport = keeps.viewport_area;
+          size = record {
+            width = keeps.size.width;
+            height = keeps.size.height;
+            history = keeps.size.history;
+          };
+          outside = record { at = keeps.outside.at };
+        };
         other = λ out. absurd (out size);
       };
     }
@@ -77,8 +109,10 @@ size_after_free (Inline n) given own free = refl
 size_after_free (Fixed f) given own free = absurd (free tt)
 
 -- above a viewport that was placed on a screen and cleared all stays; one that became narrower has no rows above
-above_emptied : (kind : Viewport) (size : Size) (former o : ℕ) (b scrolled u : Screen) (r : Rect) → (IsFixed kind → ⊥) → FitsSize kind size → scrolled.width ≡ b.width → scrolled.height ≡ b.height
-    → r ≡ raised former (area_in kind (screen_area b) o b.cursor_y) → (IsInline kind → r.x ≡ 0) → IsOnScreen r u → u.height ≡ scrolled.height
+above_emptied : (kind : Viewport) (size : Size) (former o : ℕ) (b scrolled u : Screen) (r : Rect) → (IsFixed kind → ⊥)
+    → FitsSize kind size → scrolled.width ≡ b.width → scrolled.height ≡ b.height
+    → r ≡ raised former (area_in kind (screen_area b) o b.cursor_y) → (IsInline kind → r.x ≡ 0) → IsOnScreen r u
+    → u.height ≡ scrolled.height
     → (HasPlace kind r scrolled → Empties (λ x y. is_emptied kind r scrolled.height x y || nat_lt b.width former) scrolled u)
     → (x y : ℕ) → x < scrolled.width → y < scrolled.height → y < r.y → u.grid x y ≡ scrolled.grid x y
 above_emptied Fullscreen size former o b scrolled u r free good width height is left on tall empties x y x_in y_in above =
@@ -86,14 +120,17 @@ above_emptied Fullscreen size former o b scrolled u r free good width height is 
     absurd (omega (arith, top, above))
 above_emptied (Inline n) size former o b scrolled u r free good width height is left on tall empties x y x_in y_in above =
     let top = ap (λ (q : Rect). q.y) is in
-    let rows = ap (λ (q : Rect). q.height) is ∙ (raised_by (inline_area n b.width b.height o b.cursor_y) (nat_lt b.width former)).2 in
+    let rows = ap (λ (q : Rect). q.height) is ∙ (raised_by (inline_area n b.width b.height o b.cursor_y)
+    (nat_lt b.width former)).2 in
     let bottom = on.bottom in
     let now = (empties (left tt)).grid x y x_in y_in in
     grind (arith, nat_tests, top, rows, bottom, now)
-above_emptied (Fixed f) size former o b scrolled u r free good width height is left on tall empties x y x_in y_in above = absurd (free tt)
+above_emptied (Fixed f) size former o b scrolled u r free good width height is left on tall empties x y x_in y_in above =
+    absurd (free tt)
 
 -- a screen took another size, and the terminal was resized to it
-module _ (stage : Stage) (given : Size) (s t : TerminalData TestBackend) (free : IsFixed stage.viewport → ⊥) (playing : IsPlaying stage s)
+module _ (stage : Stage) (given : Size) (s t : TerminalData TestBackend) (free : IsFixed stage.viewport → ⊥)
+    (playing : IsPlaying stage s)
     (other : size_of (screen_of s.backend) ≡ given → ⊥) (taken : TakesNewSize given s t) where
   abbrev between : Screen
   between = screen_of taken.backend
@@ -102,10 +139,12 @@ module _ (stage : Stage) (given : Size) (s t : TerminalData TestBackend) (free :
   new = screen_of t.backend
 
   resized : Resizes screen_of (screen_area between) (record s { backend = taken.backend }) t
-  resized = subst (λ z. Resizes screen_of (at_corner z) (record s { backend = taken.backend }) t) (sym taken.takes.size) taken.resizes
+  resized = subst (λ z. Resizes screen_of (at_corner z) (record s { backend = taken.backend }) t)
+      (sym taken.takes.size) taken.resizes
 
   resized_size : size_of new ≡ given
-  resized_size = same_size new between (resized.frame.size.width ∙ resized.scrolls.width) (resized.frame.size.height ∙ resized.scrolls.height) ∙ taken.takes.size
+  resized_size = same_size new between (resized.frame.size.width ∙ resized.scrolls.width) (resized.frame.size.height
+      ∙ resized.scrolls.height) ∙ taken.takes.size
 
   pub IsPlaying-resized : IsPlaying stage t
   IsPlaying-resized = record {
@@ -122,17 +161,31 @@ module _ (stage : Stage) (given : Size) (s t : TerminalData TestBackend) (free :
         between = plain_screen between;
         takes =
             subst (λ z. TakesSize (plain_screen (screen_of s.backend)) z (plain_screen between)) (sym resized_size)
-            (record { history = taken.takes.history; size = taken.takes.size; grid = taken.takes.grid; cursor = ap₂ (λ x y. record { x = x; y = y }) (corner given.width) (corner given.height); visible = refl; written = refl });
+            (record {
+              history = taken.takes.history;
+              size = taken.takes.size;
+              grid = taken.takes.grid;
+              cursor = ap₂ (λ x y. record { x = x; y = y }) (corner given.width) (corner given.height);
+              visible = refl;
+              written = refl;
+            });
         count = rows + t.viewport_area.y;
         above =
-            above_same resized.scrolled new t.viewport_area.y resized.frame.size.history resized.frame.size.width resized.frame.size.height
-            (above_emptied stage.viewport (stage_size stage) s.viewport_area.width (cursor_offset s) between resized.scrolled new t.viewport_area free good.viewport resized.scrolls.width resized.scrolls.height
-            (subst (λ k. t.viewport_area ≡ raised s.viewport_area.width (area_in k (screen_area between) (cursor_offset s) between.cursor_y)) playing.rest.kind_is resized.viewport_area)
-            (λ inline. inline_left stage.viewport (size_of new) t.viewport_area inline IsPlaying-resized.rest.lies) (resized.on_screen refl) resized.frame.size.height
-            (subst (λ k. HasPlace k t.viewport_area resized.scrolled → Empties (λ a b. is_emptied k t.viewport_area resized.scrolled.height a b || nat_lt between.width s.viewport_area.width) resized.scrolled new) playing.rest.kind_is resized.empties))
+            above_same resized.scrolled new t.viewport_area.y resized.frame.size.history resized.frame.size.width
+            resized.frame.size.height
+            (above_emptied stage.viewport (stage_size stage) s.viewport_area.width (cursor_offset s) between resized.scrolled new
+            t.viewport_area free good.viewport resized.scrolls.width resized.scrolls.height
+            (subst (λ k. t.viewport_area ≡ raised s.viewport_area.width (area_in k (screen_area between)
+            (cursor_offset s) between.cursor_y)) playing.rest.kind_is resized.viewport_area)
+            (λ inline. inline_left stage.viewport (size_of new) t.viewport_area inline IsPlaying-resized.rest.lies)
+            (resized.on_screen refl) resized.frame.size.height
+            (subst (λ k. HasPlace k t.viewport_area resized.scrolled
+            → Empties (λ a b. is_emptied k t.viewport_area resized.scrolled.height a b || nat_lt between.width
+            s.viewport_area.width) resized.scrolled new) playing.rest.kind_is resized.empties))
             ∙ above_kept resized.scrolls t.viewport_area.y;
         left = map (row_of between) (range_with_len 0 rows);
-        history = resized.frame.size.history ∙ resized.scrolls.history ∙ ap (λ h. h ++ map (row_of between) (range_with_len 0 rows)) taken.takes.history;
+        history = resized.frame.size.history ∙ resized.scrolls.history
+            ∙ ap (λ h. h ++ map (row_of between) (range_with_len 0 rows)) taken.takes.history;
       }
 
   pub IsSizedFor-resized : IsSizedFor stage (Some given) s t
@@ -147,7 +200,8 @@ is_free Fullscreen not fixed = fixed
 is_free (Inline n) not fixed = fixed
 is_free (Fixed r) not fixed = not r refl
 
-pub Plays-cleared : (stage : Stage) (s t : TerminalData TestBackend) → IsGoodStage stage → IsPlaying stage s → ClearsViewport screen_of s t → Plays stage steps.Clear s t
+pub Plays-cleared : (stage : Stage) (s t : TerminalData TestBackend) → IsGoodStage stage → IsPlaying stage s
+    → ClearsViewport screen_of s t → Plays stage steps.Clear s t
 Plays-cleared stage s t good playing clears =
     let old : Screen = screen_of s.backend in
     let new : Screen = screen_of t.backend in
@@ -155,13 +209,26 @@ Plays-cleared stage s t good playing clears =
     let r = s.viewport_area in
     let on = playing.rest.in_step.on_screen in
     let view : t.viewport_area ≡ r = ap (λ t. t.viewport_area) clears.rest in
-    let empties = subst (λ k. ClearsArea k r old new) playing.rest.kind_is clears.clears (has_place kind (size_of old) r old playing.rest.lies on) in
-    let outside : KeepsOutside r old new = keeps-cleared screen_of kind (stage_size stage) s t good.viewport playing.rest clears in
+    let empties = subst (λ k. ClearsArea k r old new) playing.rest.kind_is clears.clears
+    (has_place kind (size_of old) r old playing.rest.lies on) in
+    let outside : KeepsOutside r old new =
+    keeps-cleared screen_of kind (stage_size stage) s t good.viewport playing.rest clears in
     let blank : IsBlankOver r new = blank_over kind r on empties in
     record {
-      playing = record { rest = rests-cleared screen_of kind s t playing.rest clears; plain = AreUnmarked-emptied s.previous.area t.previous clears.previous };
+      playing = record {
+        rest = rests-cleared screen_of kind s t playing.rest clears;
+        plain = AreUnmarked-emptied s.previous.area t.previous clears.previous;
+      };
       after = record {
-        rest = record { viewport = view; size = record { width = clears.frame.size.width; height = clears.frame.size.height; history = clears.frame.size.history }; outside = record { at = outside.at } };
+        rest = record {
+          viewport = view;
+          size = record {
+            width = clears.frame.size.width;
+            height = clears.frame.size.height;
+            history = clears.frame.size.history;
+          };
+          outside = record { at = outside.at };
+        };
         blank = record { at = λ a b within. blank.at a b (subst (λ r. IsWithin r a b) view within) };
       };
     }
@@ -174,7 +241,9 @@ kept_rows old new k =
     (λ a b a_in b_in above. k.outside.at a b a_in b_in (λ within. omega (arith, within.top, above))))
 
 -- a frame drawn after its size
-pub Plays-drawn : (stage : Stage) (given : Option Size) (text : TextData) (puts : List (ℕ × ℕ × ℕ)) (s m t : TerminalData TestBackend) → IsGoodStage stage → IsSizedFor stage given s m → Plays stage (steps.Draw None text puts) m t
+pub Plays-drawn : (stage : Stage) (given : Option Size) (text : TextData) (puts : List (ℕ × ℕ × ℕ))
+    (s m t : TerminalData TestBackend) → IsGoodStage stage → IsSizedFor stage given s m
+    → Plays stage (steps.Draw None text puts) m t
     → Plays stage (steps.Draw given text puts) s t
 Plays-drawn stage given text puts s m t good sized drawn =
     let size = drawn.after.size in
@@ -199,7 +268,9 @@ Plays-drawn stage given text puts s m t good sized drawn =
     }
 
 -- a frame that isn't settled, after its size
-pub IsCauseOfStep-drawn : (stage : Stage) (given : Option Size) (text : TextData) (puts : List (ℕ × ℕ × ℕ)) (s m : TerminalData TestBackend) (cause : PlayCause) → IsSizedFor stage given s m → IsCauseOfStep stage (steps.Draw None text puts) (view_in m) cause
+pub IsCauseOfStep-drawn : (stage : Stage) (given : Option Size) (text : TextData) (puts : List (ℕ × ℕ × ℕ))
+    (s m : TerminalData TestBackend) (cause : PlayCause) → IsSizedFor stage given s m
+    → IsCauseOfStep stage (steps.Draw None text puts) (view_in m) cause
     → IsCauseOfStep stage (steps.Draw given text puts) (view_in s) cause
 IsCauseOfStep-drawn stage given text puts s m Memory sized why = tt
 IsCauseOfStep-drawn stage given text puts s m (Unsettled area) sized why = (
@@ -214,19 +285,23 @@ IsCauseOfStep-drawn stage given text puts s m (Unsettled area) sized why = (
 pub frame_area : (area : Rect) (text : TextData) (rows : BufferData) → IsFrame area text [] rows → rows.area ≡ area
 frame_area area text rows made = ap (λ (x : BufferData). x.area) made.painted ∙ made.renders.within.same_area ∙ made.emptied.area
 
-pub rows_area : (s : TerminalData TestBackend) (text : TextData) (rows : BufferData) → IsFrame (text_area s.viewport_area.width text) text [] rows → rows.area ≡ inserted_area s rows.area.height
+pub rows_area : (s : TerminalData TestBackend) (text : TextData) (rows : BufferData)
+    → IsFrame (text_area s.viewport_area.width text) text [] rows → rows.area ≡ inserted_area s rows.area.height
 rows_area s text rows made =
     let is = frame_area (text_area s.viewport_area.width text) text rows made in
     is ∙ ap (λ h. record { x = 0; y = 0; width = s.viewport_area.width; height = h }) (sym (ap (λ (r : Rect). r.height) is))
 
 -- rows of a text that were inserted
-module _ (stage : Stage) (text : TextData) (rows : BufferData) (s t : TerminalData TestBackend) (inline : IsInline stage.viewport) (playing : IsPlaying stage s)
-    (made : IsFrame (text_area s.viewport_area.width text) text [] rows) (good : IsGoodStage stage) (settled : IsSettledBuffer rows) (has : InsertsBuffer rows s t) where
+module _ (stage : Stage) (text : TextData) (rows : BufferData) (s t : TerminalData TestBackend) (inline : IsInline stage.viewport)
+    (playing : IsPlaying stage s)
+    (made : IsFrame (text_area s.viewport_area.width text) text [] rows) (good : IsGoodStage stage)
+    (settled : IsSettledBuffer rows) (has : InsertsBuffer rows s t) where
   abbrev old : Screen
   old = screen_of s.backend
 
   made_wide : IsFrame (text_area old.width text) text [] rows
-  made_wide = subst (λ w. IsFrame (text_area w text) text [] rows) (inline_width stage.viewport (size_of old) s.viewport_area inline playing.rest.lies) made
+  made_wide = subst (λ w. IsFrame (text_area w text) text [] rows)
+      (inline_width stage.viewport (size_of old) s.viewport_area inline playing.rest.lies) made
 
   known_height : old.height ≡ s.last_known_area.height
   known_height = ap (λ (r : Rect). r.height) (rests-known screen_of stage.viewport s inline playing.rest)
@@ -257,8 +332,10 @@ module _ (stage : Stage) (text : TextData) (rows : BufferData) (s t : TerminalDa
       let at = playing.rest.in_step in
       let inserts = has.inserts (omega (arith, some, known_height)) in
       let takes = rests-takes screen_of stage.viewport (stage_size stage) s inline good.viewport some playing.rest in
-      let view : t.viewport_area ≡ record s.viewport_area { y = t.viewport_area.y } = ap (λ (x : TerminalData TestBackend). x.viewport_area) inserts.rest in
-      let count : rows.area.height ≡ row_count text = ap (λ (r : Rect). r.height) (frame_area (text_area s.viewport_area.width text) text rows made) in
+      let view : t.viewport_area ≡ record s.viewport_area { y = t.viewport_area.y } =
+      ap (λ (x : TerminalData TestBackend). x.viewport_area) inserts.rest in
+      let count : rows.area.height ≡ row_count text = ap (λ (r : Rect). r.height)
+      (frame_area (text_area s.viewport_area.width text) text rows made) in
       let shown = inserts.in_step takes at settled in
       record {
         playing = record {
@@ -268,7 +345,8 @@ module _ (stage : Stage) (text : TextData) (rows : BufferData) (s t : TerminalDa
         after = (
           λ _. record {
             size = same_size new old inserts.shape.width inserts.shape.height;
-            viewport = view ∙ ap (λ y. record s.viewport_area { y = y }) (omega (arith, inserts.top, count, known_height, at.on_screen.bottom));
+            viewport = view ∙ ap (λ y. record s.viewport_area { y = y })
+                (omega (arith, inserts.top, count, known_height, at.on_screen.bottom));
             frame = rows;
             made = made_wide;
             settled = settled;
@@ -276,7 +354,8 @@ module _ (stage : Stage) (text : TextData) (rows : BufferData) (s t : TerminalDa
             shown =
                 shown_again s.viewport_area t.viewport_area.y s.previous.cells old.grid new.grid playing.plain
                 (subst (λ (r : Rect). ShowsBuffer (record s.previous { area = r }) old.grid) at.area at.shown)
-                (subst (λ (r : Rect). ShowsBuffer (record s.previous { area = r }) new.grid) view (subst (λ f. ShowsBuffer f new.grid) (inserts.left takes at) shown.shown));
+                (subst (λ (r : Rect). ShowsBuffer (record s.previous { area = r }) new.grid) view
+                (subst (λ f. ShowsBuffer f new.grid) (inserts.left takes at) shown.shown));
             none = λ flat. absurd (omega (arith, flat, some));
           },
           λ not. absurd (not inline),

@@ -17,7 +17,8 @@ scene_in t = record { history = t.backend.scrollback; screen = buffer_of t.backe
 pub IsSceneOf-in : (t : TerminalData TestBackend) → IsSceneOf t (scene_in t)
 IsSceneOf-in t = record {
   plain = record {
-    corner = ap₂ (λ x y. record { x = x; y = y; width = t.backend.buffer.area.width; height = t.backend.buffer.area.height }) t.backend.corner_x t.backend.corner_y;
+    corner = ap₂ (λ x y. record { x = x; y = y; width = t.backend.buffer.area.width; height = t.backend.buffer.area.height })
+        t.backend.corner_x t.backend.corner_y;
     screen = t.backend.plain;
     history = t.backend.plain_history;
   };
@@ -28,8 +29,10 @@ IsSceneOf-in t = record {
 abbrev cells_of : List (Vec Cell Global) → List (List Cell)
 cells_of rows = map (λ (row : Vec Cell Global). row.items) rows
 
-pub IsSceneOf-made : (t : TerminalData TestBackend) (history : Vec (Vec Cell Global) Global) (rows : List (Vec Cell Global)) (buffer copy : BufferData) → AreUnmarked buffer.cells → AreUnmarkedRows (cells_of rows) → IsSameBuffer buffer copy
-    → buffer.area ≡ screen_area (screen_of t.backend) → buffer ≡ buffer_of t.backend → cells_of history.items ≡ cells_of rows → map (λ (row : Vec Cell Global). map look_of row.items) rows ≡ (screen_of t.backend).history
+pub IsSceneOf-made : (t : TerminalData TestBackend) (history : Vec (Vec Cell Global) Global) (rows : List (Vec Cell Global))
+    (buffer copy : BufferData) → AreUnmarked buffer.cells → AreUnmarkedRows (cells_of rows) → IsSameBuffer buffer copy
+    → buffer.area ≡ screen_area (screen_of t.backend) → buffer ≡ buffer_of t.backend → cells_of history.items ≡ cells_of rows
+    → map (λ (row : Vec Cell Global). map look_of row.items) rows ≡ (screen_of t.backend).history
     → IsSceneOf t (record { history = history; screen = copy; viewport = t.viewport_area })
 IsSceneOf-made t history rows buffer copy unmarked unmarked_rows same corner value copied left =
     let area : copy.area ≡ (buffer_of t.backend).area = same.area ∙ ap (λ (s : BufferData). s.area) value in

@@ -1,11 +1,15 @@
 -- From the bytes of a script to what is printed, or to a fault.
 use Rattle.std.specs.Prelude.{◌≡◌, ℕ, List, [], ◌∷◌, ◌++◌, Option, Some, codes, MatchOption}
 use Rattle.std.specs.{Fmt.decimal, Str.IsUtf8, Str.Lines.lines, Io.KnownBytes.Appends}
-use Rattle.screenplay.specs.{Script.IsFirstBadLine, Script.script_of, Run.IsRun, Run.EndsEarly, Run.view_of_scene, Print.printed_from, Print.steps_of}
-use Rattle.screenplay.specs.{declared.act.Act.Act, declared.script.Script.Script, declared.scene.Scene.Scene, declared.scene.Stage.Stage}
-use Rattle.screenplay.specs.{declared.scene.StepError.StepError, declared.scene.PlayCause.PlayCause, declared.fault.RunFault.RunFault}
+use Rattle.screenplay.specs.{Script.IsFirstBadLine, Script.script_of, Run.IsRun, Run.EndsEarly}
+use Rattle.screenplay.specs.{Run.view_of_scene, Print.printed_from, Print.steps_of}
+use Rattle.screenplay.specs.{declared.act.Act.Act, declared.script.Script.Script, declared.scene.Scene.Scene}
+use Rattle.screenplay.specs.{declared.scene.Stage.Stage}
+use Rattle.screenplay.specs.{declared.scene.StepError.StepError, declared.scene.PlayCause.PlayCause}
+use Rattle.screenplay.specs.{declared.fault.RunFault.RunFault}
 use Rattle.screenplay.specs.declared.scene.PlayCause.TheVariants as cause
-use Rattle.screenplay.specs.declared.fault.RunFault.TheVariants.{Line, Step as AtStep, NotText, Read, Memory, Write}
+use Rattle.screenplay.specs.declared.fault.RunFault.TheVariants.{Line, Step as AtStep, NotText, Read, Memory}
+use Rattle.screenplay.specs.declared.fault.RunFault.TheVariants.{Write}
 
 -- the bytes are this script
 pub record IsScript (bytes : List ℕ) (script : Script) : Type 0 where
@@ -15,7 +19,8 @@ pub record IsScript (bytes : List ℕ) (script : Script) : Type 0 where
 -- a run of the acts prints this text
 abbrev pub PrintsActs : Stage → List Act → List ℕ → Type 0
 PrintsActs stage acts text =
-    (first : Scene) × (later : List Scene) × IsRun stage (steps_of acts) (first ∷ later) × (text ≡ printed_from (view_of_scene first) acts later)
+    (first : Scene) × (later : List Scene) × IsRun stage (steps_of acts) (first ∷ later)
+    × (text ≡ printed_from (view_of_scene first) acts later)
 
 -- the bytes are a script, and a run of it prints this text; without a stage there is nothing to print
 pub record PrintsText (bytes text : List ℕ) : Type 0 where
@@ -49,7 +54,8 @@ IsRunFault bytes Write = (text : List ℕ) × PrintsText bytes text
 
 -- a step of the acts can't be played, or memory was refused
 abbrev pub StopsAtStep : Stage → List Act → RunFault → Type 0
-StopsAtStep stage acts (AtStep error) = (scenes : List Scene) × EndsEarly stage (steps_of acts) scenes error.step error.cause
+StopsAtStep stage acts (AtStep error) = (scenes : List Scene)
+    × EndsEarly stage (steps_of acts) scenes error.step error.cause
 StopsAtStep stage acts Memory = Unit {0}
 StopsAtStep stage acts other = ⊥
 

@@ -7,7 +7,8 @@ use Rattle.rtui_viewport.specs.Areas.{is_within}
 abbrev pub with_put : ℕ × ℕ × ℕ → BufferData → BufferData
 with_put put s =
     if is_within s.area put.0 put.1
-    then with_cell s (position_of (put.0, put.1)) (record (cell_in s (position_of (put.0, put.1))) { symbol = Some (encode_utf8 put.2) })
+    then with_cell s (position_of (put.0, put.1))
+    (record (cell_in s (position_of (put.0, put.1))) { symbol = Some (encode_utf8 put.2) })
     else s
 
 abbrev pub with_puts : List (ℕ × ℕ × ℕ) → BufferData → BufferData

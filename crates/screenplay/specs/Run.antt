@@ -1,18 +1,23 @@
 -- Runs: a scene at the start and one after each step.
-use Rattle.std.specs.Prelude.{◌≡◌, ℕ, ◌+◌, ◌-◌, ◌<◌, min, true, List, [], ◌∷◌, ◌++◌, map, length, Option, None, Some}
+use Rattle.std.specs.Prelude.{◌≡◌, ℕ, ◌+◌, ◌-◌, ◌<◌, min, true, List, [], ◌∷◌, ◌++◌, map, length, Option}
+use Rattle.std.specs.Prelude.{None, Some}
 use Rattle.rtui_geometry.specs.{declared.rect.Rect.Rect, declared.size.Size.Size, Rect.EdgesFit}
 use Rattle.rtui_cell.specs.Look.{Look, look_of}
 use Rattle.rtui_text.specs.Text.{TextData}
-use Rattle.rtui_buffer.specs.{BufferData.BufferData, BufferData.IsEmptied, Shown.IsSettledBuffer, Shown.ShowsBuffer}
+use Rattle.rtui_buffer.specs.{BufferData.BufferData, BufferData.IsEmptied, Shown.IsSettledBuffer}
+use Rattle.rtui_buffer.specs.{Shown.ShowsBuffer}
 use Rattle.rtui_widgets.specs.Rendering.{RendersText}
-use Rattle.rtui_backend.specs.Screen.{Screen, IsBlankScreen, KeepsSizeAndHistory, IsOnScreen, Scrolls, TakesSize, size_of, screen_area, rows_above}
+use Rattle.rtui_backend.specs.Screen.{Screen, IsBlankScreen, KeepsSizeAndHistory, IsOnScreen, Scrolls}
+use Rattle.rtui_backend.specs.Screen.{TakesSize, size_of, screen_area, rows_above}
 use Rattle.rtui_backend.specs.CellGrid.{grid_of, AreUnmarked, AreUnmarkedRows}
 use Rattle.rtui_viewport.specs.declared.viewport.Viewport.{Viewport}
 use Rattle.rtui_viewport.specs.declared.viewport.Viewport.TheVariants.{Fixed}
-use Rattle.rtui_viewport.specs.{Viewports.IsInline, Lying.FitsSize, Lying.MayLie, Areas.KeepsOutside, Areas.IsBlankOver, Areas.IsBlankBelow}
+use Rattle.rtui_viewport.specs.{Viewports.IsInline, Lying.FitsSize, Lying.MayLie, Areas.KeepsOutside}
+use Rattle.rtui_viewport.specs.{Areas.IsBlankOver, Areas.IsBlankBelow}
 use Rattle.rtui_viewport.specs.{Sizing.first_area, Placing.area_in, Placing.rows_scrolled}
 use Rattle.rtui_insert.specs.Insertion.{AppendsRows}
-use Rattle.screenplay.specs.{Puts.with_puts, declared.scene.Stage.Stage, declared.scene.Scene.Scene, declared.scene.Step.Step}
+use Rattle.screenplay.specs.{Puts.with_puts, declared.scene.Stage.Stage, declared.scene.Scene.Scene}
+use Rattle.screenplay.specs.{declared.scene.Step.Step}
 use Rattle.screenplay.specs.declared.scene.Step.TheVariants.{Draw, Insert, Clear}
 use Rattle.screenplay.specs.declared.scene.PlayCause.{PlayCause}
 use Rattle.screenplay.specs.declared.scene.PlayCause.TheVariants.{Memory, Unsettled}
@@ -64,8 +69,10 @@ pub record IsStaged (stage : Stage) (s : View) : Type 0 where
   pub on_screen : IsOnScreen s.viewport s.screen
   pub below : IsInline stage.viewport → IsBlankBelow s.viewport s.screen
 
--- the frame of a text and puts over an area: an empty buffer, the text rendered over it, and then the puts set in order
-pub record IsFrame (area : Rect) (text : TextData) (puts : List (ℕ × ℕ × ℕ)) (frame : BufferData) : Type 0 where
+-- the frame of a text and puts over an area: an empty buffer, the text rendered over it, and then the puts
+-- set in order
+pub record IsFrame (area : Rect) (text : TextData) (puts : List (ℕ × ℕ × ℕ))
+    (frame : BufferData) : Type 0 where
   pub edges : EdgesFit area
   pub blank : BufferData
   pub emptied : IsEmptied area blank
@@ -73,7 +80,8 @@ pub record IsFrame (area : Rect) (text : TextData) (puts : List (ℕ × ℕ × �
   pub renders : RendersText text area blank rendered
   pub painted : frame ≡ with_puts puts rendered
 
--- at the start: the viewport was placed on a new screen of the stage's size, off which the rows scrolled that an inline one has no room for
+-- at the start: the viewport was placed on a new screen of the stage's size, off which the rows scrolled that
+-- an inline one has no room for
 pub record IsStart (stage : Stage) (s : View) : Type 0 where
   pub blank : Screen
   pub is_blank : IsBlankScreen stage.width stage.height blank
@@ -92,7 +100,8 @@ size_after kind None own = own
 size_after (Fixed r) (Some given) own = own
 size_after kind (Some given) own = given
 
--- the screen took the size that it has, and the rows above the viewport are then the topmost of it, from its history on
+-- the screen took the size that it has, and the rows above the viewport are then the topmost of it, from its
+-- history on
 pub record GoesOn (old new : View) : Type 0 where
   pub between : Screen
   pub takes : TakesSize old.screen (view_size new) between
@@ -108,9 +117,10 @@ pub record ShowsFrame (text : TextData) (puts : List (ℕ × ℕ × ℕ)) (s : V
   pub settled : IsSettledBuffer frame
   pub shown : ShowsBuffer frame s.screen.grid
 
--- a draw: the screen has its size and shows the settled frame over the viewport; all else stays if the size does, and at another size
--- the history and the rows above the viewport go on
-pub record IsDrawn (stage : Stage) (given : Option Size) (text : TextData) (puts : List (ℕ × ℕ × ℕ)) (old new : View) : Type 0 where
+-- a draw: the screen has its size and shows the settled frame over the viewport; all else stays if the size
+-- does, and at another size the history and the rows above the viewport go on
+pub record IsDrawn (stage : Stage) (given : Option Size) (text : TextData) (puts : List (ℕ × ℕ × ℕ))
+    (old new : View) : Type 0 where
   pub size : view_size new ≡ size_after stage.viewport given (view_size old)
   pub shows : ShowsFrame text puts new
   pub same : view_size new ≡ view_size old → KeepsSurroundings old new
@@ -129,26 +139,34 @@ row_count text = min (length text.lines) 65535
 abbrev pub text_area : ℕ → TextData → Rect
 text_area width text = record { x = 0; y = 0; width = width; height = row_count text }
 
--- an insertion: exactly the rows of the settled frame of the text came to those above the viewport, which moved down as far as there was
--- room, and each column of which shows what it did; on a screen without rows nothing changes
+-- an insertion: exactly the rows of the settled frame of the text came to those above the viewport, which
+-- moved down as far as there was room, and each column of which shows what it did; on a screen without rows
+-- nothing changes
 pub record IsInserted (text : TextData) (old new : View) : Type 0 where
   pub size : view_size new ≡ view_size old
-  pub viewport : new.viewport ≡ record old.viewport { y = min (old.viewport.y + row_count text) (old.screen.height - old.viewport.height) }
+  pub viewport : new.viewport ≡ record old.viewport {
+    y = min (old.viewport.y + row_count text)
+        (old.screen.height - old.viewport.height);
+  }
   pub frame : BufferData
   pub made : IsFrame (text_area old.screen.width text) text [] frame
   pub settled : IsSettledBuffer frame
   pub above : 0 < old.screen.height → AppendsRows (frame ∷ []) (rows_above_view old) (rows_above_view new)
   pub shown : (a b : ℕ) → a < old.viewport.width → b < old.viewport.height
-      → new.screen.grid (old.viewport.x + a) (new.viewport.y + b) ≡ old.screen.grid (old.viewport.x + a) (old.viewport.y + b)
+      → new.screen.grid (old.viewport.x + a) (new.viewport.y + b) ≡ old.screen.grid (old.viewport.x + a)
+      (old.viewport.y + b)
   pub none : old.screen.height ≡ 0 → new ≡ old
 
--- what stands after a step; an insertion changes nothing if the viewport isn't inline, for it has no rows above
+-- what stands after a step; an insertion changes nothing if the viewport isn't inline, for it has no rows
+-- above
 abbrev pub IsAfter : Stage → Step → View → View → Type 0
 IsAfter stage (Draw given text puts) old new = IsDrawn stage given text puts old new
-IsAfter stage (Insert text) old new = (IsInline stage.viewport → IsInserted text old new) × ((IsInline stage.viewport → ⊥) → new ≡ old)
+IsAfter stage (Insert text) old new = (IsInline stage.viewport → IsInserted text old new)
+    × ((IsInline stage.viewport → ⊥) → new ≡ old)
 IsAfter stage Clear old new = IsEmptiedView old new
 
--- a scene of looks alone: its screen has its corner at (0, 0), and no cell of it or of the history has an option or a flag
+-- a scene of looks alone: its screen has its corner at (0, 0), and no cell of it or of the history has an
+-- option or a flag
 pub record IsPlainScene (scene : Scene) : Type 0 where
   pub corner : scene.screen.area ≡ screen_area (view_of_scene scene).screen
   pub screen : AreUnmarked scene.screen.cells
@@ -169,7 +187,8 @@ pub record MayCover (stage : Stage) (size : Size) (s : View) (area : Rect) : Typ
   pub lies : MayLie stage.viewport size area
   pub stays : size ≡ view_size s → area ≡ s.viewport
 
--- why a step can't be played: want of memory, or its frame over this viewport can't be shown, or what it is to insert above it
+-- why a step can't be played: want of memory, or its frame over this viewport can't be shown, or what it is
+-- to insert above it
 abbrev pub IsCauseOfStep : Stage → Step → View → PlayCause → Type 0
 IsCauseOfStep stage step s Memory = Unit {0}
 IsCauseOfStep stage (Draw given text puts) s (Unsettled area) =
@@ -178,19 +197,24 @@ IsCauseOfStep stage (Insert text) s (Unsettled area) =
     IsInline stage.viewport × (area ≡ s.viewport) × HasUnsettled (text_area s.screen.width text) text []
 IsCauseOfStep stage Clear s (Unsettled area) = ⊥
 
--- the scenes after each step from a view on, up to the end: all steps were played, or the next one can't be for this cause
+-- the scenes after each step from a view on, up to the end: all steps were played, or the next one can't be
+-- for this cause
 abbrev pub AreScenesFrom : Stage → Option PlayCause → View → List Step → List Scene → Type 0
 AreScenesFrom stage end old [] [] = end ≡ None
 AreScenesFrom stage end old [] (scene ∷ scenes) = ⊥
-AreScenesFrom stage end old (step ∷ steps) [] = (cause : PlayCause) × (end ≡ Some cause) × IsCauseOfStep stage step old cause
+AreScenesFrom stage end old (step ∷ steps) [] = (cause : PlayCause) × (end ≡ Some cause)
+    × IsCauseOfStep stage step old cause
 AreScenesFrom stage end old (step ∷ steps) (scene ∷ scenes) =
-    IsScene stage scene × IsAfter stage step old (view_of_scene scene) × AreScenesFrom stage end (view_of_scene scene) steps scenes
+    IsScene stage scene × IsAfter stage step old (view_of_scene scene)
+    × AreScenesFrom stage end (view_of_scene scene) steps scenes
 
--- the scenes of a play up to its end: none if there was no memory to start, else that at the start and those that follow
+-- the scenes of a play up to its end: none if there was no memory to start, else that at the start and those
+-- that follow
 abbrev pub IsPlay : Stage → Option PlayCause → List Step → List Scene → Type 0
 IsPlay stage end steps [] = end ≡ Some Memory
 IsPlay stage end steps (scene ∷ scenes) =
-    IsScene stage scene × IsStart stage (view_of_scene scene) × AreScenesFrom stage end (view_of_scene scene) steps scenes
+    IsScene stage scene × IsStart stage (view_of_scene scene)
+    × AreScenesFrom stage end (view_of_scene scene) steps scenes
 
 -- a play of all steps
 abbrev pub IsRun : Stage → List Step → List Scene → Type 0

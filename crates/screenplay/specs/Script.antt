@@ -1,5 +1,7 @@
 -- The script grammar: what a line commands, what stands after it, and which line is the first bad one.
-use Rattle.std.specs.Prelude.{◌≡◌, ℕ, ◌+◌, Bool, true, false, ◌&&◌, ◌==◌, not, nat_lt, nat_le, if◌then◌else◌, List, [], ◌∷◌, ◌++◌, length, codes, chars, Option, Some, None, option_map, option_and_then, slice_get, encode_utf8}
+use Rattle.std.specs.Prelude.{◌≡◌, ℕ, ◌+◌, Bool, true, false, ◌&&◌, ◌==◌, not, nat_lt, nat_le, if◌then◌else◌}
+use Rattle.std.specs.Prelude.{List, [], ◌∷◌, ◌++◌, length, codes, chars, Option, Some, None, option_map}
+use Rattle.std.specs.Prelude.{option_and_then, slice_get, encode_utf8}
 use Rattle.std.specs.{Char.is_control, List.fold, Str.bytes_eq}
 use Rattle.rtui_geometry.specs.{declared.rect.Rect.Rect, declared.size.Size.Size}
 use Rattle.rtui_cell.specs.Width.{text_width}
@@ -7,22 +9,27 @@ use Rattle.rtui_text.specs.Text.{raw_line, text_of}
 use Rattle.rtui_viewport.specs.declared.viewport.Viewport.{Viewport}
 use Rattle.rtui_viewport.specs.declared.viewport.Viewport.TheVariants.{Fullscreen, Inline, Fixed}
 use Rattle.script_words.specs.Words.{first_word, after_word, parsed_number, parsed_size, size_by}
-use Rattle.screenplay.specs.{Run.IsGoodStage, declared.act.Act.Act, declared.script.Command.Command, declared.script.Script.Script}
+use Rattle.screenplay.specs.{Run.IsGoodStage, declared.act.Act.Act, declared.script.Command.Command}
+use Rattle.screenplay.specs.{declared.script.Script.Script}
 use Rattle.screenplay.specs.declared.act.Act.TheVariants as acts
-use Rattle.screenplay.specs.declared.script.Command.TheVariants.{SetStage, TakeSize, Put, AddText, Draw, Insert, Clear, Show}
+use Rattle.screenplay.specs.declared.script.Command.TheVariants.{SetStage, TakeSize, Put, AddText, Draw}
+use Rattle.screenplay.specs.declared.script.Command.TheVariants.{Insert, Clear, Show}
 use Rattle.screenplay.specs.declared.script.ScriptError.{ScriptError}
-use Rattle.screenplay.specs.{declared.script.ScriptError.TheVariants.Line, declared.script.ScriptError.TheVariants.Memory, declared.scene.Stage.Stage}
+use Rattle.screenplay.specs.{declared.script.ScriptError.TheVariants.Line}
+use Rattle.screenplay.specs.{declared.script.ScriptError.TheVariants.Memory, declared.scene.Stage.Stage}
 use Rattle.screenplay.specs.declared.scene.Step.{Step}
 use Rattle.screenplay.specs.declared.scene.Step.TheVariants as steps
 
 -- the first character of a text, if it is all of it, takes one column and isn't a control character
 unfoldable pub char_of : List ℕ → Option ℕ
 char_of text =
-    option_and_then (λ c. if (length text == length (encode_utf8 c)) && (text_width text == 1) && not (is_control c) then Some c else None) (slice_get (chars text) 0)
+    option_and_then (λ c. if (length text == length (encode_utf8 c)) && (text_width text == 1) && not
+    (is_control c) then Some c else None) (slice_get (chars text) 0)
 
 -- four numbers as a rectangle
 abbrev pub rect_by : Option ℕ → Option ℕ → Option ℕ → Option ℕ → Option Rect
-rect_by (Some x) (Some y) (Some width) (Some height) = Some (record { x = x; y = y; width = width; height = height })
+rect_by (Some x) (Some y) (Some width) (Some height) =
+    Some (record { x = x; y = y; width = width; height = height })
 rect_by a b c d = None
 
 -- a place and a character as a put
@@ -40,35 +47,42 @@ screen_command size = SetStage (stage_with size Fullscreen)
 
 -- at least one row
 abbrev pub inline_by : Option Size → Option ℕ → Option Command
-inline_by (Some size) (Some rows) = if nat_lt 0 rows then Some (SetStage (stage_with size (Inline rows))) else None
+inline_by (Some size) (Some rows) =
+    if nat_lt 0 rows then Some (SetStage (stage_with size (Inline rows))) else None
 inline_by a b = None
 
 -- a rectangle on the screen
 abbrev pub fixed_by : Option Size → Option Rect → Option Command
 fixed_by (Some size) (Some r) =
-    if nat_le (r.x + r.width) size.width && nat_le (r.y + r.height) size.height then Some (SetStage (stage_with size (Fixed r))) else None
+    if nat_le (r.x + r.width) size.width && nat_le (r.y + r.height) size.height then Some
+    (SetStage (stage_with size (Fixed r))) else None
 fixed_by a b = None
 
 -- `W H N`
 unfoldable pub inline_of : List ℕ → Option Command
 inline_of arguments =
-    inline_by (size_by (parsed_number (first_word arguments)) (parsed_number (first_word (after_word arguments)))) (parsed_number (after_word (after_word arguments)))
+    inline_by (size_by (parsed_number (first_word arguments))
+    (parsed_number (first_word (after_word arguments))))
+    (parsed_number (after_word (after_word arguments)))
 
 -- `x y w h`
 unfoldable pub rect_of : List ℕ → Option Rect
 rect_of arguments =
     let rest = after_word (after_word arguments) in
-    rect_by (parsed_number (first_word arguments)) (parsed_number (first_word (after_word arguments))) (parsed_number (first_word rest)) (parsed_number (after_word rest))
+    rect_by (parsed_number (first_word arguments)) (parsed_number (first_word (after_word arguments)))
+    (parsed_number (first_word rest)) (parsed_number (after_word rest))
 
 -- `W H x y w h`
 unfoldable pub fixed_of : List ℕ → Option Command
 fixed_of arguments =
-    fixed_by (size_by (parsed_number (first_word arguments)) (parsed_number (first_word (after_word arguments)))) (rect_of (after_word (after_word arguments)))
+    fixed_by (size_by (parsed_number (first_word arguments))
+    (parsed_number (first_word (after_word arguments)))) (rect_of (after_word (after_word arguments)))
 
 -- `X Y C`, where C is the rest of the line
 unfoldable pub put_of : List ℕ → Option Command
 put_of arguments =
-    put_by (parsed_number (first_word arguments)) (parsed_number (first_word (after_word arguments))) (char_of (after_word (after_word arguments)))
+    put_by (parsed_number (first_word arguments)) (parsed_number (first_word (after_word arguments)))
+    (char_of (after_word (after_word arguments)))
 
 -- the command of a line with arguments
 unfoldable pub command_with : List ℕ → List ℕ → Option Command
@@ -115,23 +129,28 @@ abbrev pub is_fixed : Viewport → Bool
 is_fixed (Fixed r) = true
 is_fixed other = false
 
--- the script after a command, if the command may stand on its stage: one that sets it on none, and any other on one, but a size only if the
--- viewport isn't fixed, and an insertion of at most 65535 lines
+-- the script after a command, if the command may stand on its stage: one that sets it on none, and any other
+-- on one, but a size only if the viewport isn't fixed, and an insertion of at most 65535 lines
 abbrev pub after_on : Option Stage → Command → Script → Option Script
 after_on None (SetStage stage) s = Some (record s { stage = Some stage })
 after_on None other s = None
 after_on (Some stage) (SetStage other) s = None
-after_on (Some stage) (TakeSize size) s = if is_fixed stage.viewport then None else Some (record s { size = Some size })
+after_on (Some stage) (TakeSize size) s = if is_fixed stage.viewport then None else Some
+    (record s { size = Some size })
 after_on (Some stage) (Put x y c) s = Some (record s { puts = s.puts ++ (x, y, c) ∷ [] })
-after_on (Some stage) (AddText line) s = Some (record s { text = record s.text { lines = s.text.lines ++ raw_line line ∷ [] } })
-after_on (Some stage) Draw s = Some (with_act (acts.Play (draw_of s)) (record (without_text s) { size = None; puts = [] }))
-after_on (Some stage) Insert s = if nat_le (length s.text.lines) 65535 then Some (with_act (acts.Play (steps.Insert s.text)) (without_text s)) else None
+after_on (Some stage) (AddText line) s =
+    Some (record s { text = record s.text { lines = s.text.lines ++ raw_line line ∷ [] } })
+after_on (Some stage) Draw s =
+    Some (with_act (acts.Play (draw_of s)) (record (without_text s) { size = None; puts = [] }))
+after_on (Some stage) Insert s = if nat_le (length s.text.lines) 65535 then Some
+    (with_act (acts.Play (steps.Insert s.text)) (without_text s)) else None
 after_on (Some stage) Clear s = Some (with_act (acts.Play steps.Clear) s)
 after_on (Some stage) Show s = Some (with_act acts.Show s)
 
 -- the script after a line, if that is good: it is empty, or a command that may stand there
 abbrev pub after_line : List ℕ → Script → Option Script
-after_line line s = if length line == 0 then Some s else option_and_then (λ c. after_on s.stage c s) (command_of line)
+after_line line s = if length line == 0 then Some s else option_and_then (λ c. after_on s.stage c s)
+    (command_of line)
 
 -- the script that some lines are, if all of them are good
 abbrev pub script_of : List (List ℕ) → Option Script

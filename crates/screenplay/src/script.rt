@@ -1,13 +1,16 @@
 //! Reading a script.
 
-ghost use Rattle.std.specs.Prelude.{◌≡◌, ◌+◌, ◌&&◌, nat_le, [], None, Some, IfOk, IfErr, IfSome, option_map, if◌then◌else◌};
+ghost use Rattle.std.specs.Prelude.{◌≡◌, ◌+◌, ◌&&◌, nat_le, [], None, Some, IfOk, IfErr, IfSome, option_map};
+ghost use Rattle.std.specs.Prelude.{if◌then◌else◌};
 ghost use Rattle.screenplay.specs.declared.script.Command.TheVariants.{TakeSize};
 ghost use Rattle.std.specs.Str.Lines.{lines};
 ghost use Rattle.script_words.specs.Words.{parsed_size};
 ghost use Rattle.rtui_text.specs.Text.{raw_line};
 ghost use Rattle.screenplay.specs.Run.{IsGoodStage};
-ghost use Rattle.screenplay.specs.Script.{char_of, rect_of, screen_command, inline_of, fixed_of, put_of, command_with, command_of, IsGoodCommand};
-ghost use Rattle.screenplay.specs.Script.{nothing, draw_of, without_text, after_on, after_line, script_of, IsRefusedScript};
+ghost use Rattle.screenplay.specs.Script.{char_of, rect_of, screen_command, inline_of, fixed_of, put_of};
+ghost use Rattle.screenplay.specs.Script.{command_with, command_of, IsGoodCommand};
+ghost use Rattle.screenplay.specs.Script.{nothing, draw_of, without_text, after_on, after_line, script_of};
+ghost use Rattle.screenplay.specs.Script.{IsRefusedScript};
 
 use crate::act::{Act, Acts};
 use crate::scene::{Puts, Stage, Step};

@@ -1,6 +1,7 @@
 //! Rows that leave the screen, and parts of it that are emptied.
 
-ghost use Rattle.std.specs.Prelude.{◌≡◌, ◌+◌, ◌-◌, ◌*◌, ◌^◌, ◌<◌, ◌≤◌, ◌&&◌, min, ℕ, nat_lt, nat_le, ◌==◌, if◌then◌else◌, [], map, IsOk, OnOk, OnErr, IfOk};
+ghost use Rattle.std.specs.Prelude.{◌≡◌, ◌+◌, ◌-◌, ◌*◌, ◌^◌, ◌<◌, ◌≤◌, ◌&&◌, min, ℕ, nat_lt, nat_le, ◌==◌};
+ghost use Rattle.std.specs.Prelude.{if◌then◌else◌, [], map, IsOk, OnOk, OnErr, IfOk};
 ghost use Rattle.std.specs.List.{range_with_len};
 ghost use Rattle.rtui_cell.specs.Look.{look_of};
 ghost use Rattle.rtui_backend.specs.Clear.{is_cleared};
@@ -106,7 +107,8 @@ fn cleared_places(size: Size, cursor: Position, clear_type: ClearType) -> (usize
 }
 
 impl TestBackend {
-    ghost use Rattle.rtui_backend.specs.Screen.{Appends, Clears, ScrollsUp, ScrollsDown, TakesSize, cursor_of};
+    ghost use Rattle.rtui_backend.specs.Screen.{Appends, Clears, ScrollsUp, ScrollsDown, TakesSize};
+    ghost use Rattle.rtui_backend.specs.Screen.{cursor_of};
     ghost use Rattle.rtui_backend.specs.TestBackend.{screen_of, failures_of, told_after};
 
     /// Moves the cursor's row down by `n`, and scrolls what goes past the last row, as

@@ -3,7 +3,9 @@
 ghost use Rattle.std.specs.Prelude.{◌≡◌, ◌≤◌, ◌&&◌, [], ◌∷◌, ◌++◌};
 ghost use Rattle.ratatui_core.specs.Layout.{IsInside};
 ghost use Rattle.ratatui_core.specs.Buffer.{joined, IsShort, place_at, position_of};
-ghost use Rattle.rtui_boxes.specs.Boxes.{drawn, joins, has_side, inset, IsBoxArea, left_side, right_side, top_side, bottom_side, stroke, side_strokes, corner_strokes, DrawsStrokes};
+ghost use Rattle.rtui_boxes.specs.Boxes.{drawn, joins, has_side, inset, IsBoxArea, left_side, right_side};
+ghost use Rattle.rtui_boxes.specs.Boxes.{top_side, bottom_side, stroke, side_strokes, corner_strokes};
+ghost use Rattle.rtui_boxes.specs.Boxes.{DrawsStrokes};
 
 use crate::block::{Block, one_if};
 use crate::borders::Borders;

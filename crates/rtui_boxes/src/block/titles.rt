@@ -3,8 +3,11 @@
 ghost use Rattle.std.specs.Prelude.{◌≡◌, ◌+◌, ◌≤◌, ◌<◌, false, OnOk, reverse};
 ghost use Rattle.ratatui_core.specs.Widgets.{ChangesWithin};
 ghost use Rattle.ratatui_core.specs.declared.layout.HorizontalAlignment.TheVariants.{Left, Center, Right};
-ghost use Rattle.rtui_boxes.specs.Titles.{side_of, title_width, titles_width, title_at, without_first, from_left, from_right, from_outside, from_centre, RendersTitle, RendersTitles};
-ghost use Rattle.rtui_boxes.specs.Boxes.{has_title, titles_area, is_placed, lines_placed, row_titles, placed_titles, IsBoxArea, KeepsOffTitles};
+ghost use Rattle.rtui_boxes.specs.Titles.{side_of, title_width, titles_width, title_at, without_first};
+ghost use Rattle.rtui_boxes.specs.Titles.{from_left, from_right, from_outside, from_centre, RendersTitle};
+ghost use Rattle.rtui_boxes.specs.Titles.{RendersTitles};
+ghost use Rattle.rtui_boxes.specs.Boxes.{has_title, titles_area, is_placed, lines_placed, row_titles};
+ghost use Rattle.rtui_boxes.specs.Boxes.{placed_titles, IsBoxArea, KeepsOffTitles};
 
 use crate::block::{Block, is_in_row, one_if};
 use crate::borders::Borders;

@@ -7,9 +7,11 @@ ghost use Rattle.rtui_text.specs.Text.{raw_line};
 ghost use Rattle.rtui_text.specs.Widths.{line_width};
 ghost use Rattle.rtui_buffer.specs.BufferData.{HasRow, position_of, empty_cells, HasRoomFor};
 ghost use Rattle.rtui_buffer.specs.Shown.{IsSettledBuffer};
-ghost use Rattle.rtui_buffer.specs.Painting.{columns, painted, IsSameOutside, HasPieces, HasFront, KeepsUnmarked};
+ghost use Rattle.rtui_buffer.specs.Painting.{columns, painted, IsSameOutside, HasPieces, HasFront};
+ghost use Rattle.rtui_buffer.specs.Painting.{KeepsUnmarked};
 ghost use Rattle.rtui_buffer.specs.PaintedText.{room_at, pieces_at, AreShort, PaintsFront, PaintsOrRefuses};
-ghost use Rattle.rtui_buffer.specs.Line.{line_pieces, line_pieces_at, widest, lines_area, line_rows, IsOfLines, raw_lines};
+ghost use Rattle.rtui_buffer.specs.Line.{line_pieces, line_pieces_at, widest, lines_area, line_rows};
+ghost use Rattle.rtui_buffer.specs.Line.{IsOfLines, raw_lines};
 
 use super::painting::{paint_text, room_at};
 use super::sized::cut_or_fill;

@@ -1,6 +1,7 @@
 //! Painting texts and styles.
 
-ghost use Rattle.std.specs.Prelude.{true, ◌≡◌, ◌+◌, ◌-◌, ◌*◌, ◌<◌, ◌≤◌, [], ◌∷◌, length, IsOk, OnOk, OnErr, IfOk};
+ghost use Rattle.std.specs.Prelude.{true, ◌≡◌, ◌+◌, ◌-◌, ◌*◌, ◌<◌, ◌≤◌, [], ◌∷◌, length, IsOk, OnOk, OnErr};
+ghost use Rattle.std.specs.Prelude.{IfOk};
 ghost use Rattle.unicode_segmentation.specs.Grapheme.{graphemes};
 ghost use Rattle.rtui_geometry.specs.Rect.{EdgesFit};
 ghost use Rattle.rtui_cell.specs.Symbol.{IsShort};
@@ -8,8 +9,11 @@ ghost use Rattle.rtui_cell.specs.Cell.{styled};
 ghost use Rattle.rtui_cell.specs.Width.{text_width};
 ghost use Rattle.rtui_text.specs.Printable.{ArePrintable, singles};
 ghost use Rattle.rtui_buffer.specs.BufferData.{HasRow, position_of};
-ghost use Rattle.rtui_buffer.specs.Painting.{KeepsUnmarked, painted_width, piece_of, pieces, text_pieces, columns, shown, emptied, with_piece, painted, IsSameOutside, HasPieces, HasFront};
-ghost use Rattle.rtui_buffer.specs.PaintedText.{room_at, pieces_at, AreShort, PaintsFront, PaintsOrRefuses, IsStyled};
+ghost use Rattle.rtui_buffer.specs.Painting.{KeepsUnmarked, painted_width, piece_of, pieces, text_pieces};
+ghost use Rattle.rtui_buffer.specs.Painting.{columns, shown, emptied, with_piece, painted, IsSameOutside};
+ghost use Rattle.rtui_buffer.specs.Painting.{HasPieces, HasFront};
+ghost use Rattle.rtui_buffer.specs.PaintedText.{room_at, pieces_at, AreShort, PaintsFront, PaintsOrRefuses};
+ghost use Rattle.rtui_buffer.specs.PaintedText.{IsStyled};
 ghost use Rattle.rtui_buffer.specs.Inner.{IsStyledPart, IsStyledRows};
 
 use crate::buffer::Buffer;

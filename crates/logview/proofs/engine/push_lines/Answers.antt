@@ -13,13 +13,15 @@ loop-line-preserved c = record {
   count = grind (arith, common_steps);
   view = λ size start.
       let before = c.loop-line.invariant.view size start in
-      rw map-append (view_more screen_of size _ c.in-Some.line.now c.loop-line.view c.push.new.self before c.in-Ok.ensures.count (c.in-Ok.ensures.pushed before.following));
+      rw map-append (view_more screen_of size _ c.in-Some.line.now c.loop-line.view c.push.new.self before c.in-Ok.ensures.count
+      (c.in-Ok.ensures.pushed before.following));
 }
 
 pub returns-in-Err-clause-err : goal.returns-in-Err-clause-err
 returns-in-Err-clause-err c = λ size start.
     let road = YieldsList-from_skip {s = c.into_iter-line-iterator.result} 1 (YieldsList-from_lines c.args.text.now (cc)) (cc) in
-    let turn = YieldsList-turn road c.loop-line.yielded _ c.loop-line.yielded_by c.next.result _ c.in-Some.line c.in-Some.is c.next.ensures.steps in
+    let turn = YieldsList-turn road c.loop-line.yielded _ c.loop-line.yielded_by c.next.result _ c.in-Some.line c.in-Some.is
+    c.next.ensures.steps in
     let so_far = YieldsList-so_far road c.loop-line.yielded _ c.loop-line.yielded_by in
     let count = c.loop-line.invariant.count in
     let before = c.loop-line.invariant.view size start in
@@ -27,9 +29,12 @@ returns-in-Err-clause-err c = λ size start.
     record {
       after = omega (arith, count);
       line = c.in-Some.line.now;
-      line_is = subst (λ n. slice_get (drop 1 (lines c.args.text.now)) n ≡ Some c.in-Some.line.now) place (slice_get-get_or (drop 1 (lines c.args.text.now)) (length c.loop-line.yielded) c.in-Some.line.now turn.0 ∙ ap Some (sym turn.1));
+      line_is = subst (λ n. slice_get (drop 1 (lines c.args.text.now)) n ≡ Some c.in-Some.line.now) place
+          (slice_get-get_or (drop 1 (lines c.args.text.now)) (length c.loop-line.yielded) c.in-Some.line.now turn.0
+          ∙ ap Some (sym turn.1));
       before = c.loop-line.view;
-      shown = subst (λ pushed. IsViewOf screen_of size pushed c.loop-line.view) (so_far ∙ ap (λ n. take n (drop 1 (lines c.args.text.now))) place) before;
+      shown = subst (λ pushed. IsViewOf screen_of size pushed c.loop-line.view)
+          (so_far ∙ ap (λ n. take n (drop 1 (lines c.args.text.now))) place) before;
       error = c.in-Err.field-0;
       refused = c.in-Err.ensures.refused before.following;
     }

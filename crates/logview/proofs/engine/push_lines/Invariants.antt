@@ -6,5 +6,6 @@ use Rattle.logview.proofs.engine.push_lines.Given as goal
 abbrev pub invariant-loop-line : goal.invariant-loop-line
 invariant-loop-line l = record {
   count : l.number ≡ length l.yielded + 1;
-  view : (size : Size) → IsViewOf screen_of size [] l.initial.view → IsViewOf screen_of size (map (λ line. line.now) l.yielded) l.view;
+  view : (size : Size) → IsViewOf screen_of size [] l.initial.view
+      → IsViewOf screen_of size (map (λ line. line.now) l.yielded) l.view;
 }

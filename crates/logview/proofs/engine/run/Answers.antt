@@ -4,10 +4,12 @@ use Rattle.logview.proofs.engine.run.Goals as goal
 
 pub returns-in_err-view-clause-fault : goal.returns-in_err-view-clause-fault
 returns-in_err-view-clause-fault g c =
-    let why = fault_of_read (g.R.Read.remaining c.args.reader.now) c.in_ok-bytes.bytes.items _ c.in_ok-bytes.ensures.ok (rw c.as_slice.ensures.value at c.in_err-view.ensures.fault) in
+    let why = fault_of_read (g.R.Read.remaining c.args.reader.now) c.in_ok-bytes.bytes.items _ c.in_ok-bytes.ensures.ok
+    (rw c.as_slice.ensures.value at c.in_err-view.ensures.fault) in
     search rules
 
 pub returns-in-Ok-clause-printed : goal.returns-in-Ok-clause-printed
 returns-in-Ok-clause-printed g c =
-    prints_log (g.R.Read.remaining c.args.reader.now) c.in_ok-bytes.bytes.items c.in_ok-view.view _ _ c.in_ok-bytes.ensures.ok (rw c.as_slice.ensures.value at c.in_ok-view.ensures.text) (rw c.as_slice.ensures.value at c.in_ok-view.ensures.view)
+    prints_log (g.R.Read.remaining c.args.reader.now) c.in_ok-bytes.bytes.items c.in_ok-view.view _ _ c.in_ok-bytes.ensures.ok
+    (rw c.as_slice.ensures.value at c.in_ok-view.ensures.text) (rw c.as_slice.ensures.value at c.in_ok-view.ensures.view)
     c.in-Ok.ensures

@@ -9,5 +9,6 @@ invariant-loop-grapheme l = record {
   ends : (goal.iterator-loop-grapheme).is_finite l.grapheme-iterator;
   column : l.column ≤ 4295032830;
   last : l.last ≤ 4294967295;
-  left : last_start 0 (line_symbols [] l.fn.line) ≡ last_start l.last (symbols_from [] 0 l.column (graphemes_left l.grapheme-iterator));
+  left : last_start 0 (line_symbols [] l.fn.line) ≡ last_start l.last
+      (symbols_from [] 0 l.column (graphemes_left l.grapheme-iterator));
 }

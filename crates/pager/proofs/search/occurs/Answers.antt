@@ -5,5 +5,6 @@ use Rattle.pager.proofs.search.occurs.Goals as goal
 
 pub returns : goal.returns
 returns c =
-    same_from_decides c.contains.result (occurs c.args.pattern.now c.args.line.now) (contains_text c.contains.result c.args.pattern.now c.args.line.now c.contains.ensures.cases)
+    same_from_decides c.contains.result (occurs c.args.pattern.now c.args.line.now)
+    (contains_text c.contains.result c.args.pattern.now c.args.line.now c.contains.ensures.cases)
     (occurs-decides c.args.pattern.now c.args.line.now)

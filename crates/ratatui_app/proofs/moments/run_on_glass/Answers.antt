@@ -8,26 +8,33 @@ pub loop-init : goal.loop-init
 loop-init g c = λ rest.
     let drawn = c.in-Ok.ensures in
     let shows = drawn.shows (inl rest) in (
-      runs-start shown_by (λ (b : BackendState g.row.W.Denot). b.failures) is_flushed g.A.Application.paints g.A.Updates.updated g.A.Updates.is_over _ _ _ _ _ c.new-decoder.ensures drawn.draws drawn.faults shows,
-      λ none. glass-start g.A.Application.paints g.A.Updates.updated g.A.Updates.is_over _ _ _ _ _ c.new-decoder.ensures drawn.draws drawn.faults shows (c.shown_states_are_on_the_glass.ensures _ shows (drawn.faults ∙ none)),
+      runs-start shown_by (λ (b : BackendState g.row.W.Denot). b.failures) is_flushed g.A.Application.paints g.A.Updates.updated
+          g.A.Updates.is_over _ _ _ _ _ c.new-decoder.ensures drawn.draws drawn.faults shows,
+      λ none. glass-start g.A.Application.paints g.A.Updates.updated g.A.Updates.is_over _ _ _ _ _ c.new-decoder.ensures
+          drawn.draws drawn.faults shows (c.shown_states_are_on_the_glass.ensures _ shows (drawn.faults ∙ none)),
     )
 
 pub loop-preserved : goal.loop-preserved
 loop-preserved g c = λ rest.
     let before = c.loop.invariant rest in
-    let step = c.in-Ok-step.ensures.steps (runs-shows shown_by (λ (b : BackendState g.row.W.Denot). b.failures) is_flushed g.A.Application.paints g.A.Updates.updated g.A.Updates.is_over _ _ _ _ _ _ before.0) in (
-      runs-step shown_by (λ (b : BackendState g.row.W.Denot). b.failures) is_flushed g.A.Application.paints g.A.Updates.updated g.A.Updates.is_over _ _ _ _ _ _ _ _ _ _ before.0 (λ shown. step),
+    let step = c.in-Ok-step.ensures.steps (runs-shows shown_by (λ (b : BackendState g.row.W.Denot). b.failures) is_flushed
+    g.A.Application.paints g.A.Updates.updated g.A.Updates.is_over _ _ _ _ _ _ before.0) in (
+      runs-step shown_by (λ (b : BackendState g.row.W.Denot). b.failures) is_flushed g.A.Application.paints g.A.Updates.updated
+          g.A.Updates.is_over _ _ _ _ _ _ _ _ _ _ before.0 (λ shown. step),
       λ none. glass-step g.A.Application.paints g.A.Updates.updated g.A.Updates.is_over _ _ _ _ _ _ _ _ _ _ (before.1 none) step
-          (c.shown_states_are_on_the_glass-in-loop.ensures _ step.fed.shown (step.fed.moved.faults ∙ run-unfailed g.A.Application.paints g.A.Updates.updated g.A.Updates.is_over _ _ _ _ _ _ before.0 none)),
+          (c.shown_states_are_on_the_glass-in-loop.ensures _ step.fed.shown (step.fed.moved.faults
+          ∙ run-unfailed g.A.Application.paints g.A.Updates.updated g.A.Updates.is_over _ _ _ _ _ _ before.0 none)),
     )
 
 pub returns-then-not-has_ticks-clause-runs : goal.returns-then-not-has_ticks-clause-runs
 returns-then-not-has_ticks-clause-runs g c = λ rest none.
     let before = c.loop.invariant rest in
-    let step = c.in-Ok-step.ensures.steps (runs-shows shown_by (λ (b : BackendState g.row.W.Denot). b.failures) is_flushed g.A.Application.paints g.A.Updates.updated g.A.Updates.is_over _ _ _ _ _ _ before.0) in (
+    let step = c.in-Ok-step.ensures.steps (runs-shows shown_by (λ (b : BackendState g.row.W.Denot). b.failures) is_flushed
+    g.A.Application.paints g.A.Updates.updated g.A.Updates.is_over _ _ _ _ _ _ before.0) in (
       c.step.new.decoder,
       glass-step g.A.Application.paints g.A.Updates.updated g.A.Updates.is_over _ _ _ _ _ _ _ _ _ _ (before.1 none) step
-          (c.shown_states_are_on_the_glass-in-loop.ensures _ step.fed.shown (step.fed.moved.faults ∙ run-unfailed g.A.Application.paints g.A.Updates.updated g.A.Updates.is_over _ _ _ _ _ _ before.0 none)),
+          (c.shown_states_are_on_the_glass-in-loop.ensures _ step.fed.shown (step.fed.moved.faults
+          ∙ run-unfailed g.A.Application.paints g.A.Updates.updated g.A.Updates.is_over _ _ _ _ _ _ before.0 none)),
     )
 
 pub returns-clause-stops : goal.returns-clause-stops
@@ -47,5 +54,6 @@ returns-in-Err-step-clause-stops g c = λ rest. inr (record {
   terminal = c.loop.terminal;
   ran = (c.loop.invariant rest).0;
   decoder = c.step.new.decoder;
-  stops = c.in-Err-step.ensures.stops (runs-shows shown_by (λ (b : BackendState g.row.W.Denot). b.failures) is_flushed g.A.Application.paints g.A.Updates.updated g.A.Updates.is_over _ _ _ _ _ _ (c.loop.invariant rest).0);
+  stops = c.in-Err-step.ensures.stops (runs-shows shown_by (λ (b : BackendState g.row.W.Denot). b.failures) is_flushed
+      g.A.Application.paints g.A.Updates.updated g.A.Updates.is_over _ _ _ _ _ _ (c.loop.invariant rest).0);
 })

@@ -17,11 +17,13 @@ set_stringn-requires-clause-column c =
 pub returns-in_err-set_stringn-clause-within : goal.returns-in_err-set_stringn-clause-within
 returns-in_err-set_stringn-clause-within c =
     let columns : c.text_columns.result ≡ text_columns c.args.text.now = c.text_columns.ensures.value in
-    text-within c.set_stringn.result c.args.text.now c.args.style c.args.row c.middle_columns-area.result c.args.buf.now c.set_stringn.new.self (rw columns at c.middle_columns-area.ensures) c.requires.some c.requires.inside
+    text-within c.set_stringn.result c.args.text.now c.args.style c.args.row c.middle_columns-area.result c.args.buf.now
+    c.set_stringn.new.self (rw columns at c.middle_columns-area.ensures) c.requires.some c.requires.inside
     (rw c.from.ensures at c.set_stringn.ensures.paints)
 
 pub returns-clause-within : goal.returns-clause-within
 returns-clause-within c =
     let columns : c.text_columns.result ≡ text_columns c.args.text.now = c.text_columns.ensures.value in
-    text-within c.set_stringn.result c.args.text.now c.args.style c.args.row c.middle_columns-area.result c.args.buf.now c.set_stringn.new.self (rw columns at c.middle_columns-area.ensures) c.requires.some c.requires.inside
+    text-within c.set_stringn.result c.args.text.now c.args.style c.args.row c.middle_columns-area.result c.args.buf.now
+    c.set_stringn.new.self (rw columns at c.middle_columns-area.ensures) c.requires.some c.requires.inside
     (rw c.from.ensures at c.set_stringn.ensures.paints)

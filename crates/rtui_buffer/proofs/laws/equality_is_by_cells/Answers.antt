@@ -16,5 +16,6 @@ returns c s t =
         count = pointwise-count is_same empty_cell s.cells t.cells (and_parts area cells e).1;
         cells = λ k lt. (law _ _).0 (pointwise-at is_same empty_cell s.cells t.cells (and_parts area cells e).1 k lt);
       },
-      λ h. and_from area cells (rect_itself s.area t.area h.area) (pointwise-from is_same empty_cell s.cells t.cells h.count (λ k lt. (law _ _).1 (h.cells k lt))),
+      λ h. and_from area cells (rect_itself s.area t.area h.area)
+          (pointwise-from is_same empty_cell s.cells t.cells h.count (λ k lt. (law _ _).1 (h.cells k lt))),
     )

@@ -5,4 +5,5 @@ pub returns-clause-settled : goal.returns-clause-settled
 returns-clause-settled c = IsSettledBuffer-styled
 
 pub returns-clause-paintable : goal.returns-clause-paintable
-returns-clause-paintable c = λ r area style old new p n edges emptied styled. IsPaintable-styled r area style old new edges emptied styled p n
+returns-clause-paintable c = λ r area style old new p n edges emptied styled.
+    IsPaintable-styled r area style old new edges emptied styled p n

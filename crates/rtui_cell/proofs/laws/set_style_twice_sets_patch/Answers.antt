@@ -9,6 +9,7 @@ returns c =
     let cell = c.args.cell.now in
     let first = c.args.first in
     let second = c.args.second in
-    same_but_paint (styled second (styled first cell)) (styled (patch first second) cell) cell (law.colors first.fg second.fg cell.fg)
+    same_but_paint (styled second (styled first cell)) (styled (patch first second) cell) cell
+    (law.colors first.fg second.fg cell.fg)
     (law.colors first.bg second.bg cell.bg) (law.colors first.underline_color second.underline_color cell.underline_color)
     (law.modifiers cell.modifier (rw c.style.ensures at c.modifiers_have_sixteen_bits.ensures.added))

@@ -14,7 +14,8 @@ loop-k-preserved g c =
     let known = c.loop-k.invariant in
     let i_in : i < length items = grind (arith, common_steps) in
     let p_in : p < length others = grind (arith, common_steps) in
-    let given : c.swap.new.x ≡ item d c.args.others.now p = c.swap.ensures.x_after ∙ get_or_default others p _ d p_in ∙ known.others_after p (omega arith) in
+    let given : c.swap.new.x ≡ item d c.args.others.now p = c.swap.ensures.x_after ∙ get_or_default others p _ d p_in
+    ∙ known.others_after p (omega arith) in
     record {
       moved = λ j lt. rw (item-set d items i (c.args.at + j) c.swap.new.x i_in, given) (grind (arith, nat_tests, known.moved));
       before = λ j lt. rw (item-set d items i j c.swap.new.x i_in) (grind (arith, nat_tests, known.before));

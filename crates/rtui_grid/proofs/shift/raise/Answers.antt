@@ -11,8 +11,10 @@ returns g c = λ k.
     let count = c.min-count.result in
     let fits : count ≤ length c.fill.new.items = grind (arith, common_steps) in
     let turned : item d c.rotate_left.new.self k ≡ item d c.fill.new.items (k + count) =
-    rw c.rotate_left.ensures.after (rotated d c.fill.new.items count fits (λ j low. c.fill.ensures j ∙ grind (arith, nat_tests)) k) in
-    let kept : item d c.fill.new.items (k + count) ≡ item d old (k + count) = c.fill.ensures (k + count) ∙ grind (arith, nat_tests) in
+    rw c.rotate_left.ensures.after (rotated d c.fill.new.items count fits (λ j low. c.fill.ensures j
+    ∙ grind (arith, nat_tests)) k) in
+    let kept : item d c.fill.new.items (k + count) ≡ item d old (k + count) = c.fill.ensures (k + count)
+    ∙ grind (arith, nat_tests) in
     turned ∙ kept ∙ elim (cases_lt (length old) c.args.by) [
       | inl more ↦ let all : count ≡ length old = grind (arith, common_steps) in
           past_end d old (k + count) (omega arith) ∙ sym (past_end d old (k + c.args.by) (omega arith))

@@ -12,7 +12,8 @@ returns g c = λ k.
             let m = c.lower.ensures (k - a) in
             elim (cases_lt k (a + c.args.by)) [
               | inl none ↦ grind (arith, common_steps, nat_tests)
-              | inr some ↦ let back : a + (k - a - c.args.by) ≡ k - c.args.by = omega arith in grind (arith, common_steps, nat_tests)
+              | inr some ↦ let back : a + (k - a - c.args.by) ≡ k - c.args.by = omega arith in
+                  grind (arith, common_steps, nat_tests)
             ]
         | inr past ↦ grind (arith, common_steps, nat_tests)
       ]

@@ -8,18 +8,21 @@ use Rattle.rtui_insert.proofs.MarkLemmas.{cells_written, unknown_row, emptied_ag
 use Rattle.rtui_insert.proofs.draw.draw_first_row.Goals as goal
 
 pub mark_skipped-requires-clause-empty : goal.mark_skipped-requires-clause-empty
-mark_skipped-requires-clause-empty g c = λ k k_in. rw (c.cells_mut.ensures.cells, c.requires.blank.empty.cells) (cell-empty (area_size c.args.blank.now.area) k)
+mark_skipped-requires-clause-empty g c = λ k k_in. rw (c.cells_mut.ensures.cells, c.requires.blank.empty.cells)
+    (cell-empty (area_size c.args.blank.now.area) k)
 
 pub returns-clause-ok : goal.returns-clause-ok
 returns-clause-ok g c =
     let over = c.args.blank.now.area in
-    let columns : c.from-columns.result ≡ over.width = c.from-columns.ensures ∙ ap (λ (r : Rect). r.width) c.area.ensures.area ∙ c.requires.blank.width in
+    let columns : c.from-columns.result ≡ over.width = c.from-columns.ensures ∙ ap (λ (r : Rect). r.width) c.area.ensures.area
+    ∙ c.requires.blank.width in
     let size : length c.mark_skipped.new.cells ≡ length c.args.blank.now.cells = grind (arith, common_steps) in
     let mid = with_cells c.args.blank.now c.mark_skipped.new.cells in
     let marked = rw columns at c.mark_skipped.ensures in
     on_ok_weaker c.draw_rows-drawn.result (λ drawn. record {
       former = mid;
-      unknown = unknown_row over mid c.mark_skipped.new.cells c.requires.blank.rows refl (cells_written c.args.blank.now c.mark_skipped.new.cells size) marked.skipped marked.narrow;
+      unknown = unknown_row over mid c.mark_skipped.new.cells c.requires.blank.rows refl
+          (cells_written c.args.blank.now c.mark_skipped.new.cells size) marked.skipped marked.narrow;
       width = c.requires.blank.width;
       drawn = drawn;
     }) c.draw_rows-drawn.ensures.ok
@@ -33,6 +36,8 @@ returns-clause-blank g c =
     let mid = with_cells old marked in
     let same : mid.cells ≡ marked = cells_written old marked size in
     let count : length c.fill.new.items ≡ length mid.cells = grind (arith, common_steps) in
-    let whole : length c.fill.new.items ≡ area_size over = count ∙ ap length same ∙ size ∙ ap length c.requires.blank.empty.cells ∙ length-replicate (area_size over) empty_cell in
-    emptied_again over old (with_cells mid c.fill.new.items) marked c.fill.new.items c.from-columns.result c.requires.blank.empty refl (cells_written mid c.fill.new.items count) whole
+    let whole : length c.fill.new.items ≡ area_size over = count ∙ ap length same ∙ size ∙ ap length c.requires.blank.empty.cells
+    ∙ length-replicate (area_size over) empty_cell in
+    emptied_again over old (with_cells mid c.fill.new.items) marked c.fill.new.items c.from-columns.result c.requires.blank.empty
+    refl (cells_written mid c.fill.new.items count) whole
     (rw c.cells_mut.ensures.cells at c.mark_skipped.ensures.rest) (rw (c.cells_mut-2.ensures.cells, same) at c.fill.ensures)

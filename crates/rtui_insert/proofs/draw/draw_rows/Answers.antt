@@ -7,7 +7,8 @@ use Rattle.rtui_insert.proofs.draw.draw_rows.Goals as goal
 
 pub returns-clause-ok : goal.returns-clause-ok
 returns-clause-ok g c =
-    let drawn = Draws-along {T = ℕ} {E = ℕ} (Ok 0) _ _ c.in_ok-draw.ensures.ok (YieldsList-from_first (update_by (λ cell. cell.now)) lowered_left _ c.new.ensures) in
+    let drawn = Draws-along {T = ℕ} {E = ℕ} (Ok 0) _ _ c.in_ok-draw.ensures.ok
+    (YieldsList-from_first (update_by (λ cell. cell.now)) lowered_left _ c.new.ensures) in
     on_ok_weaker c.flush.result
     (λ same. rw same (record { updates = _; diff = c.diff_rows-updates.ensures; drawn = drawn }))
     c.flush.ensures.ok

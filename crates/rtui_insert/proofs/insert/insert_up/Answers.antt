@@ -5,15 +5,17 @@ use Rattle.rtui_insert.proofs.PushLemmas.{raised_none, raised_more}
 use Rattle.rtui_insert.proofs.insert.insert_up.Goals as goal
 
 pub loop-done-init : goal.loop-done-init
-loop-done-init g c = let same : c.area.result.now.height ≡ c.args.rows.now.area.height = ap (λ (r : Rect). r.height) c.area.ensures.area in record {
-  all = search rules;
-  done = omega arith;
-  first = omega arith;
-  counts = search rules;
-  shape = search rules;
-  flushed = search rules;
-  raised = λ wide fits settled. raised_none c.args.rows.now c.args.first _ c.args.top (g.B.Backend.screen c.args.backend.now) (omega arith);
-}
+loop-done-init g c = let same : c.area.result.now.height ≡ c.args.rows.now.area.height =
+    ap (λ (r : Rect). r.height) c.area.ensures.area in record {
+      all = search rules;
+      done = omega arith;
+      first = omega arith;
+      counts = search rules;
+      shape = search rules;
+      flushed = search rules;
+      raised = λ wide fits settled. raised_none c.args.rows.now c.args.first _ c.args.top (g.B.Backend.screen c.args.backend.now)
+          (omega arith);
+    }
 
 pub loop-done-preserved : goal.loop-done-preserved
 loop-done-preserved g c =
@@ -26,6 +28,9 @@ loop-done-preserved g c =
       shape = grind (arith, common_steps);
       flushed = search rules;
       raised = λ wide fits settled.
-          raised_more c.args.rows.now c.args.first (c.loop-done.done - c.args.first) c.loop-done.done c.args.top c.min-count.result _ _ _ _ (omega arith) (before.raised wide fits settled) wide fits settled
-          (omega arith) (c.requires.room (omega arith)) (omega arith) c.in_ok-scroll_region_up.ensures.ok c.args.blank.now c.requires.blank (omega arith) c.in_ok-draw_rows.ensures.ok _ (omega arith);
+          raised_more c.args.rows.now c.args.first (c.loop-done.done - c.args.first) c.loop-done.done c.args.top
+          c.min-count.result _ _ _ _ (omega arith) (before.raised wide fits settled) wide fits settled
+          (omega arith) (c.requires.room (omega arith))
+          (omega arith) c.in_ok-scroll_region_up.ensures.ok c.args.blank.now c.requires.blank
+          (omega arith) c.in_ok-draw_rows.ensures.ok _ (omega arith);
     }

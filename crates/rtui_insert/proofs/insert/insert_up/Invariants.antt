@@ -11,8 +11,10 @@ invariant-loop-done g l = record {
   counts : g.B.Backend.failures l.backend ≡ g.B.Backend.failures l.fn.backend;
   shape : KeepsSizeAndVisibility (g.B.Backend.screen l.fn.backend) (g.B.Backend.screen l.backend);
   flushed : (l.fn.first ≡ l.done → g.B.Backend.is_flushed l.fn.backend ≡ true) → g.B.Backend.is_flushed l.backend ≡ true;
-  raised : l.rows.area.width ≡ (g.B.Backend.screen l.fn.backend).width → l.fn.top ≤ (g.B.Backend.screen l.fn.backend).height → IsSettledBuffer l.rows
-      → HasRaised l.rows l.fn.first (l.done - l.fn.first) l.fn.top (g.B.Backend.screen l.fn.backend) (g.B.Backend.screen l.backend);
+  raised : l.rows.area.width ≡ (g.B.Backend.screen l.fn.backend).width → l.fn.top ≤ (g.B.Backend.screen l.fn.backend).height
+      → IsSettledBuffer l.rows
+      → HasRaised l.rows l.fn.first (l.done - l.fn.first) l.fn.top (g.B.Backend.screen l.fn.backend)
+      (g.B.Backend.screen l.backend);
 }
 
 abbrev pub decreases-loop-done : goal.decreases-loop-done

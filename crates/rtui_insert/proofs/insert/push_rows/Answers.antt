@@ -25,13 +25,15 @@ loop-row-preserved g c =
         blank = rw w.blank-is (still_blank before.blank w.draw_first_row.ensures.blank);
         same = rw w.blank-is (w.draw_first_row.ensures.blank.area ∙ before.same);
         shape = grind (arith, common_steps);
-        pushed = λ fit settled. pushed_first c.args.rows.now c.loop-row.row _ _ _ _ (before.pushed fit settled) fit settled (omega arith) (rw w.backend-is at up) (omega arith) w.in_ok-draw_first_row.ensures.ok;
+        pushed = λ fit settled. pushed_first c.args.rows.now c.loop-row.row _ _ _ _ (before.pushed fit settled) fit settled
+            (omega arith) (rw w.backend-is at up) (omega arith) w.in_ok-draw_first_row.ensures.ok;
       }
       | else-row-eq0+in_ok-draw_rows w ↦ record {
         counts = search rules;
         blank = rw w.blank-is before.blank;
         same = rw w.blank-is before.same;
         shape = grind (arith, common_steps);
-        pushed = λ fit settled. pushed_next c.args.rows.now c.loop-row.row _ _ _ _ (before.pushed fit settled) fit settled (omega arith) (rw w.backend-is at up) _ before.blank (omega arith) w.in_ok-draw_rows.ensures.ok;
+        pushed = λ fit settled. pushed_next c.args.rows.now c.loop-row.row _ _ _ _ (before.pushed fit settled) fit settled
+            (omega arith) (rw w.backend-is at up) _ before.blank (omega arith) w.in_ok-draw_rows.ensures.ok;
       }
     ]

@@ -9,5 +9,6 @@ invariant-loop-row g l = record {
   shape : KeepsSizeAndVisibility (g.B.Backend.screen l.fn.backend) (g.B.Backend.screen l.backend);
   blank : IsBlankFor 1 l.rows l.blank;
   same : l.blank.area ≡ l.fn.blank.area;
-  pushed : RowsFit l.rows 1 0 (g.B.Backend.screen l.fn.backend) → IsSettledBuffer l.rows → HasPushed l.rows l.row (g.B.Backend.screen l.fn.backend) (g.B.Backend.screen l.backend);
+  pushed : RowsFit l.rows 1 0 (g.B.Backend.screen l.fn.backend) → IsSettledBuffer l.rows
+      → HasPushed l.rows l.row (g.B.Backend.screen l.fn.backend) (g.B.Backend.screen l.backend);
 }

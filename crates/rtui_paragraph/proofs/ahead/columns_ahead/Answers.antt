@@ -4,13 +4,15 @@ use Rattle.rtui_paragraph.proofs.ReflowLemmas.{start-inside, data-tail}
 use Rattle.rtui_paragraph.proofs.ahead.columns_ahead.Goals as goal
 
 pub offset_bounds-graphemes-trimmed_start : goal.offset_bounds-graphemes-trimmed_start
-offset_bounds-graphemes-trimmed_start c = let le = start-inside c.args.graphemes.now c.args.trim c.trimmed_start.result c.trimmed_start.ensures in search rules
+offset_bounds-graphemes-trimmed_start c = let le =
+    start-inside c.args.graphemes.now c.args.trim c.trimmed_start.result c.trimmed_start.ensures in search rules
 
 pub slice_bounds-columns_of-count : goal.slice_bounds-columns_of-count
 slice_bounds-columns_of-count c = start-inside c.args.graphemes.now c.args.trim c.trimmed_start.result c.trimmed_start.ensures
 
 pub slice_bounds-columns_of-start : goal.slice_bounds-columns_of-start
-slice_bounds-columns_of-start c = let le = start-inside c.args.graphemes.now c.args.trim c.trimmed_start.result c.trimmed_start.ensures in search rules
+slice_bounds-columns_of-start c = let le =
+    start-inside c.args.graphemes.now c.args.trim c.trimmed_start.result c.trimmed_start.ensures in search rules
 
 pub returns : goal.returns
 returns c =

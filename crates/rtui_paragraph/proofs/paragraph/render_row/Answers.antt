@@ -7,7 +7,8 @@ use Rattle.rtui_paragraph.proofs.RowsLemmas.{indent-fits, grapheme-turn, row-tur
 use Rattle.rtui_paragraph.proofs.paragraph.render_row.Goals as goal
 
 pub put_grapheme-requires-clause-inside : goal.put_grapheme-requires-clause-inside
-put_grapheme-requires-clause-inside c = inside-within c.args.part c.args.buf.now c.loop-grapheme.buf c.requires.inside c.loop-grapheme.invariant.within
+put_grapheme-requires-clause-inside c =
+    inside-within c.args.part c.args.buf.now c.loop-grapheme.buf c.requires.inside c.loop-grapheme.invariant.within
 
 pub loop-grapheme-init : goal.loop-grapheme-init
 loop-grapheme-init c =
@@ -15,27 +16,37 @@ loop-grapheme-init c =
     let box = c.requires.some in
     let across = box.across in
     let columns : c.columns_of.result ≡ taken = omega (arith, c.columns_of.ensures, c.requires.fits) in
-    let used : c.indent-used.result ≡ indent_of c.args.alignment taken c.args.part.width = c.indent-used.ensures ∙ ap (λ n. indent_of c.args.alignment n c.args.part.width) columns in
-    let fits : c.indent-used.result + taken ≤ c.args.part.width = omega (arith, used, indent-fits c.args.alignment taken c.args.part.width c.requires.fits) in
+    let used : c.indent-used.result ≡ indent_of c.args.alignment taken c.args.part.width = c.indent-used.ensures
+    ∙ ap (λ n. indent_of c.args.alignment n c.args.part.width) columns in
+    let fits : c.indent-used.result + taken ≤ c.args.part.width =
+    omega (arith, used, indent-fits c.args.alignment taken c.args.part.width c.requires.fits) in
     record {
       fits = fits;
       within = within-same c.args.part c.args.buf.now;
-      paints = λ new others. subst (λ n. PaintsGraphemes (c.args.part.x + n) (c.args.part.y + c.args.k) (data_of c.args.row.now) c.args.buf.now new) used others;
+      paints = λ new others. subst (λ n. PaintsGraphemes (c.args.part.x + n) (c.args.part.y + c.args.k)
+          (data_of c.args.row.now) c.args.buf.now new) used others;
       ready = λ from.
           let start : c.args.part.x + c.indent-used.result ≤ c.args.part.x + c.args.part.width = omega arith in
-          let right = part-right c.args.part c.args.buf.now.area (c.args.part.x + c.indent-used.result) 0 c.requires.some c.requires.inside (omega arith) in
+          let right = part-right c.args.part c.args.buf.now.area (c.args.part.x + c.indent-used.result) 0 c.requires.some
+          c.requires.inside (omega arith) in
           ready-row (c.args.part.x + c.indent-used.result) (c.args.part.y + c.args.k) c.args.buf.now from
-          (part-has_row c.args.part c.args.buf.now.area (c.args.part.y + c.args.k) c.requires.some c.requires.inside (omega arith) (omega arith)) (omega arith);
+          (part-has_row c.args.part c.args.buf.now.area (c.args.part.y + c.args.k) c.requires.some c.requires.inside (omega arith)
+          (omega arith)) (omega arith);
     }
 
 pub loop-grapheme-preserved : goal.loop-grapheme-preserved
 loop-grapheme-preserved c =
     let i = c.loop-grapheme.invariant in
-    let place : c.args.part.x + c.loop-grapheme.used + c.cell_width-columns.result ≡ c.args.part.x + (c.loop-grapheme.used + c.cell_width-columns.result) = omega arith in
+    let place : c.args.part.x + c.loop-grapheme.used + c.cell_width-columns.result ≡ c.args.part.x +
+    (c.loop-grapheme.used + c.cell_width-columns.result) = omega arith in
     record {
-      fits = grapheme-turn c.args.row.now c.loop-grapheme.grapheme-index c.loop-grapheme.used c.cell_width-columns.result c.args.part.width _ c.loop-grapheme-test.true c.cell_width-columns.ensures i.fits;
-      within = within-then c.args.part c.args.buf.now c.loop-grapheme.buf c.put_grapheme.new.buf i.within c.put_grapheme.ensures.within;
-      paints = row-turn c.args.row.now c.loop-grapheme.grapheme-index (c.args.part.y + c.args.k) c.args.part.x c.loop-grapheme.used c.cell_width-columns.result _ _ c.args.buf.now c.loop-grapheme.buf c.put_grapheme.new.buf
+      fits = grapheme-turn c.args.row.now c.loop-grapheme.grapheme-index c.loop-grapheme.used c.cell_width-columns.result
+          c.args.part.width _ c.loop-grapheme-test.true c.cell_width-columns.ensures i.fits;
+      within = within-then c.args.part c.args.buf.now c.loop-grapheme.buf c.put_grapheme.new.buf i.within
+          c.put_grapheme.ensures.within;
+      paints = row-turn c.args.row.now c.loop-grapheme.grapheme-index (c.args.part.y + c.args.k) c.args.part.x
+          c.loop-grapheme.used c.cell_width-columns.result _ _ c.args.buf.now c.loop-grapheme.buf c.put_grapheme.new.buf
           c.loop-grapheme-test.true c.cell_width-columns.ensures i.paints c.in_ok-put_grapheme.ensures.ok;
-      ready = λ from. subst (λ x. IsReadyAt x (c.args.part.y + c.args.k) c.put_grapheme.new.buf) place (c.in_ok-put_grapheme.ensures.ready (i.ready from));
+      ready = λ from. subst (λ x. IsReadyAt x (c.args.part.y + c.args.k) c.put_grapheme.new.buf) place
+          (c.in_ok-put_grapheme.ensures.ready (i.ready from));
     }

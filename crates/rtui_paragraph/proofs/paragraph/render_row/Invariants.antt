@@ -9,6 +9,7 @@ invariant-loop-grapheme l = record {
   fits : l.used + columns_taken (data_of (drop l.grapheme-index l.fn.row)) ≤ l.fn.part.width;
   within : ChangesWithin l.fn.part l.fn.buf l.buf;
   paints : FinishesRow (l.fn.part.y + l.fn.k) (l.fn.part.x + l.used) (data_of (drop l.grapheme-index l.fn.row))
-      (l.fn.part.x + indent_of l.fn.alignment (columns_taken (data_of l.fn.row)) l.fn.part.width) (data_of l.fn.row) l.fn.buf l.buf;
+      (l.fn.part.x + indent_of l.fn.alignment (columns_taken (data_of l.fn.row)) l.fn.part.width)
+      (data_of l.fn.row) l.fn.buf l.buf;
   ready : IsReadyFrom (l.fn.part.y + l.fn.k) l.fn.buf → IsReadyAt (l.fn.part.x + l.used) (l.fn.part.y + l.fn.k) l.buf;
 }

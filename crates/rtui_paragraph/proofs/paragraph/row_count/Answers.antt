@@ -14,8 +14,10 @@ loop-line-preserved c =
     let count = c.row-taken.result.1 in
     let empty : (length gs == 0) ≡ false = sym c.is_empty.ensures ∙ c.loop-line-test.true in
     let some : 0 < length gs = grind (arith, nat_tests, empty) in
-    let step = line-step count c.loop-line.line c.pass.new.self c.fill-in-loop-line.new.self c.pass.ensures.left c.in_ok-fill-2.ensures.left in
-    let next = left-next c.args.line.width c.args.line.trim gs row count i.fit some (c.row-taken.ensures.value ∙ ap₂ (λ w t. split_row w t gs) i.width i.trim) in
+    let step = line-step count c.loop-line.line c.pass.new.self c.fill-in-loop-line.new.self c.pass.ensures.left
+    c.in_ok-fill-2.ensures.left in
+    let next = left-next c.args.line.width c.args.line.trim gs row count i.fit some (c.row-taken.ensures.value
+    ∙ ap₂ (λ w t. split_row w t gs) i.width i.trim) in
     let rows = ap length (next ∙ ap (λ xs. row ∷ rows_left c.args.line.width c.args.line.trim xs) (sym step.left)) in
     let so_far = i.rows in
     record {

@@ -6,5 +6,6 @@ abbrev pub invariant-loop-grapheme : goal.invariant-loop-grapheme
 invariant-loop-grapheme l = record {
   count : l.count ≡ l.grapheme-index;
   fits : l.used ≤ l.fn.width;
-  left : l.count + count_fitting (l.fn.width - l.used) (data_of (drop l.grapheme-index l.fn.graphemes)) ≡ count_fitting l.fn.width (data_of l.fn.graphemes);
+  left : l.count + count_fitting (l.fn.width - l.used) (data_of (drop l.grapheme-index l.fn.graphemes)) ≡ count_fitting l.fn.width
+      (data_of l.fn.graphemes);
 }

@@ -3,23 +3,35 @@ use Rattle.rtui_paragraph.proofs.ReflowLemmas.{count-inside, break-blank, break-
 use Rattle.rtui_paragraph.proofs.reflow.row_ends.Goals as goal
 
 pub offset_bounds-graphemes-count : goal.offset_bounds-graphemes-count
-offset_bounds-graphemes-count c = let le : c.fitting_count-count.result ≤ length c.args.graphemes.now = count-inside c.args.graphemes.now c.args.width c.fitting_count-count.result c.fitting_count-count.ensures in search rules
+offset_bounds-graphemes-count c = let le : c.fitting_count-count.result ≤ length c.args.graphemes.now =
+    count-inside c.args.graphemes.now c.args.width c.fitting_count-count.result c.fitting_count-count.ensures in search rules
 
 pub bounds-graphemes-count : goal.bounds-graphemes-count
-bounds-graphemes-count c = let le = count-inside c.args.graphemes.now c.args.width c.fitting_count-count.result c.fitting_count-count.ensures in let more = c.if-count-graphemes.false in omega arith
+bounds-graphemes-count c = let le =
+    count-inside c.args.graphemes.now c.args.width c.fitting_count-count.result c.fitting_count-count.ensures in
+    let more = c.if-count-graphemes.false in omega arith
 
 pub break_at_blank-requires : goal.break_at_blank-requires
-break_at_blank-requires c = let le = count-inside c.args.graphemes.now c.args.width c.fitting_count-count.result c.fitting_count-count.ensures in let more = c.if-count-graphemes.false in omega arith
+break_at_blank-requires c = let le =
+    count-inside c.args.graphemes.now c.args.width c.fitting_count-count.result c.fitting_count-count.ensures in
+    let more = c.if-count-graphemes.false in omega arith
 
 pub break_in_word-requires : goal.break_in_word-requires
-break_in_word-requires c = count-inside c.args.graphemes.now c.args.width c.fitting_count-count.result c.fitting_count-count.ensures
+break_in_word-requires c = count-inside c.args.graphemes.now c.args.width c.fitting_count-count.result
+    c.fitting_count-count.ensures
 
 pub returns-then-is_whitespace : goal.returns-then-is_whitespace
 returns-then-is_whitespace c =
-    let lt : c.fitting_count-count.result < length c.args.graphemes.now = (let le = count-inside c.args.graphemes.now c.args.width c.fitting_count-count.result c.fitting_count-count.ensures in let more = c.if-count-graphemes.false in omega arith) in
-    break-blank c.args.graphemes.now c.args.width c.fitting_count-count.result c.fitting_count-count.ensures _ lt c.break_at_blank.result c.break_at_blank.ensures (sym c.is_whitespace.ensures ∙ c.if-is_whitespace.true)
+    let lt : c.fitting_count-count.result < length c.args.graphemes.now =
+    (let le = count-inside c.args.graphemes.now c.args.width c.fitting_count-count.result c.fitting_count-count.ensures in
+    let more = c.if-count-graphemes.false in omega arith) in
+    break-blank c.args.graphemes.now c.args.width c.fitting_count-count.result c.fitting_count-count.ensures _ lt
+    c.break_at_blank.result c.break_at_blank.ensures (sym c.is_whitespace.ensures ∙ c.if-is_whitespace.true)
 
 pub returns-else-is_whitespace : goal.returns-else-is_whitespace
 returns-else-is_whitespace c =
-    let lt : c.fitting_count-count.result < length c.args.graphemes.now = (let le = count-inside c.args.graphemes.now c.args.width c.fitting_count-count.result c.fitting_count-count.ensures in let more = c.if-count-graphemes.false in omega arith) in
-    break-word c.args.graphemes.now c.args.width c.fitting_count-count.result c.fitting_count-count.ensures _ lt c.break_in_word.result c.break_in_word.ensures (sym c.is_whitespace.ensures ∙ c.if-is_whitespace.false)
+    let lt : c.fitting_count-count.result < length c.args.graphemes.now =
+    (let le = count-inside c.args.graphemes.now c.args.width c.fitting_count-count.result c.fitting_count-count.ensures in
+    let more = c.if-count-graphemes.false in omega arith) in
+    break-word c.args.graphemes.now c.args.width c.fitting_count-count.result c.fitting_count-count.ensures _ lt
+    c.break_in_word.result c.break_in_word.ensures (sym c.is_whitespace.ensures ∙ c.if-is_whitespace.false)

@@ -7,6 +7,7 @@ abbrev pub invariant-loop-grapheme : goal.invariant-loop-grapheme
 invariant-loop-grapheme l = record {
   used : l.used ≤ l.fn.width;
   start : 0 < l.offset → l.used ≡ 0;
-  row : data_of l.row.items ++ fitting_front (l.fn.width - l.used) (after_columns l.offset (filter (fits_row l.fn.width) (line_graphemes_left l.grapheme-iterator)))
+  row : data_of l.row.items ++ fitting_front (l.fn.width - l.used)
+      (after_columns l.offset (filter (fits_row l.fn.width) (line_graphemes_left l.grapheme-iterator)))
       ≡ cut_row l.fn.width l.fn.offset (line_graphemes_left l.fn.graphemes);
 }

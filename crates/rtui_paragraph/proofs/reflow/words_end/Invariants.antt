@@ -6,5 +6,6 @@ use Rattle.rtui_paragraph.proofs.reflow.words_end.Given as goal
 abbrev pub invariant-loop-grapheme : goal.invariant-loop-grapheme
 invariant-loop-grapheme l = record {
   count : l.count ≡ l.grapheme-index;
-  found : found_end is_of_word l.count l.end (data_of (drop l.grapheme-index l.fn.graphemes)) ≡ last_end is_of_word (data_of l.fn.graphemes);
+  found : found_end is_of_word l.count l.end (data_of (drop l.grapheme-index l.fn.graphemes)) ≡ last_end is_of_word
+      (data_of l.fn.graphemes);
 }

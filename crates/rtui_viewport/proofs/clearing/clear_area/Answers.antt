@@ -12,5 +12,8 @@ pub returns-in_ok-set_cursor_position-in-Inline-clause-cleared :
     goal.returns-in_ok-set_cursor_position-in-Inline-clause-cleared
 returns-in_ok-set_cursor_position-in-Inline-clause-cleared g c =
     on_ok_weaker c.clear_region-in-Inline.result
-    (λ p. rw c.in-Inline.is (clears_inline c.in-Inline.field-0 c.args.area (rw (c.in_ok-set_cursor_position-in-Inline.ensures.ok, c.as_position.ensures) at p)))
+    (λ p. rw c.in-Inline.is (clears_inline c.in-Inline.field-0 c.args.area (rw (
+      c.in_ok-set_cursor_position-in-Inline.ensures.ok,
+      c.as_position.ensures,
+    ) at p)))
     c.clear_region-in-Inline.ensures.ok

@@ -7,7 +7,8 @@ use Rattle.rtui_buffer.specs.BufferData.{area_size}
 use Rattle.rtui_widgets.proofs.buffer.line_in.Goals as goal
 
 pub returns-in_default-clause-ok : goal.returns-in_default-clause-ok
-returns-in_default-clause-ok c = renders-nothing _ _ _ (first-none (line_rendered c.args.line.now.alignment c.args.line.now) (line-in_none _ _)) (search rules)
+returns-in_default-clause-ok c = renders-nothing _ _ _ (first-none (line_rendered c.args.line.now.alignment c.args.line.now)
+    (line-in_none _ _)) (search rules)
 
 pub returns : goal.returns
 returns c =
@@ -21,9 +22,13 @@ returns c =
     let cells : length buf.cells ≡ area_size buf.area = rw (← value) c.cells_mut-cells.ensures.count in
     let place = c.index_of-start.ensures.value in
     let alignment : c.line.inside.alignment ≡ line.alignment = ap (λ l. l.alignment) c.line.view_is in
-    let columns : (intersected area buf.area).width ≡ length (take n (drop at c.cells_mut-cells.result.now)) = rw value (sym (first-columns area buf c.in-Some.part c.in-Some.ensures at n place wide cells)) in
-    let all = first-lent area buf c.in-Some.part c.in-Some.ensures at n c.render_line.new.row place wide cells (rw value at c.render_line.auto.row) c.render_line.result (line_rendered line.alignment line) (HasFrontOfLine line.alignment line)
-    (rw value at c.render_line.ensures.marks) (rw (value, alignment) at c.render_line.ensures.ok) (rw (value, alignment) at c.render_line.ensures.err) in
+    let columns : (intersected area buf.area).width ≡ length (take n (drop at c.cells_mut-cells.result.now)) =
+    rw value (sym (first-columns area buf c.in-Some.part c.in-Some.ensures at n place wide cells)) in
+    let all = first-lent area buf c.in-Some.part c.in-Some.ensures at n c.render_line.new.row place wide cells
+    (rw value at c.render_line.auto.row) c.render_line.result (line_rendered line.alignment line)
+    (HasFrontOfLine line.alignment line)
+    (rw value at c.render_line.ensures.marks) (rw (value, alignment) at c.render_line.ensures.ok)
+    (rw (value, alignment) at c.render_line.ensures.err) in
     record {
       ok = rw value all.0;
       err = rw value all.1;

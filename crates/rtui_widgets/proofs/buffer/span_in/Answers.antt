@@ -7,7 +7,8 @@ use Rattle.rtui_buffer.specs.BufferData.{area_size}
 use Rattle.rtui_widgets.proofs.buffer.span_in.Goals as goal
 
 pub returns-in_default-clause-ok : goal.returns-in_default-clause-ok
-returns-in_default-clause-ok c = renders-nothing _ _ _ (first-none (span_rendered c.args.span.now.style c.args.span.now.content) (span-none _ _)) (search rules)
+returns-in_default-clause-ok c = renders-nothing _ _ _ (first-none (span_rendered c.args.span.now.style c.args.span.now.content)
+    (span-none _ _)) (search rules)
 
 pub returns : goal.returns
 returns c =
@@ -21,9 +22,13 @@ returns c =
     let cells : length buf.cells ≡ area_size buf.area = rw (← value) c.cells_mut-cells.ensures.count in
     let place = c.index_of-start.ensures.value in
     let style : c.span.inside.style ≡ c.args.span.now.style = ap (λ s. s.style) c.span.view_is in
-    let columns : (intersected area buf.area).width ≡ length (take n (drop at c.cells_mut-cells.result.now)) = rw value (sym (first-columns area buf c.in-Some.part c.in-Some.ensures at n place wide cells)) in
-    let all = first-lent area buf c.in-Some.part c.in-Some.ensures at n c.render_span.new.row place wide cells (rw value at c.render_span.auto.row) c.render_span.result (span_rendered c.args.span.now.style text) (HasFrontOfSpan c.args.span.now.style text)
-    (rw value at c.render_span.ensures.marks) (rw (value, style, c.text.ensures) at c.render_span.ensures.ok) (rw (value, style, c.text.ensures) at c.render_span.ensures.err) in
+    let columns : (intersected area buf.area).width ≡ length (take n (drop at c.cells_mut-cells.result.now)) =
+    rw value (sym (first-columns area buf c.in-Some.part c.in-Some.ensures at n place wide cells)) in
+    let all = first-lent area buf c.in-Some.part c.in-Some.ensures at n c.render_span.new.row place wide cells
+    (rw value at c.render_span.auto.row) c.render_span.result (span_rendered c.args.span.now.style text)
+    (HasFrontOfSpan c.args.span.now.style text)
+    (rw value at c.render_span.ensures.marks) (rw (value, style, c.text.ensures) at c.render_span.ensures.ok)
+    (rw (value, style, c.text.ensures) at c.render_span.ensures.err) in
     record {
       ok = rw value all.0;
       err = rw value all.1;

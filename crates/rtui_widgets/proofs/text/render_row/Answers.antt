@@ -12,4 +12,5 @@ returns-in-None-clause-ok c =
     let none : text_line c.args.text.now c.args.k ≡ line_of [] = get_or_past _ _ _ past in
     let row : List Cell = map (styled c.args.text.now.style) c.args.row.now in
     let laid : c.lay_row.new.row ≡ row = search rules in
-    laid ∙ sym (ap (λ (line : LineData). line_rendered (alignment_or line.alignment c.args.text.now.alignment) line row) none ∙ line-none _ row)
+    laid ∙ sym (ap (λ (line : LineData). line_rendered (alignment_or line.alignment c.args.text.now.alignment) line row) none
+    ∙ line-none _ row)

@@ -4,4 +4,5 @@ use Rattle.rtui_widgets.proofs.RowLemmas.{HasMade}
 use Rattle.rtui_widgets.proofs.text.render_rows.Given as goal
 
 abbrev pub invariant-loop-k : goal.invariant-loop-k
-invariant-loop-k l = HasMade (rows_from l.start l.width l.stride l.height) (text_row l.text) l.k l.initial.cells l.cells × KeepsUnmarked l.initial.cells l.cells
+invariant-loop-k l = HasMade (rows_from l.start l.width l.stride l.height) (text_row l.text) l.k l.initial.cells l.cells
+    × KeepsUnmarked l.initial.cells l.cells

@@ -8,7 +8,8 @@ use Rattle.screenplay.proofs.engine.play_acts.Goals.{in-Play+in-Ok-play_step, in
 pub loop-act-init : goal.loop-act-init
 loop-act-init c = record {
   few = omega arith;
-  played = rw c.new-text.ensures.items (HasPlayed-none c.args.stage c.args.acts.now c.in-Ok.terminal c.in-Ok.ensures.0 c.in-Ok.ensures.1);
+  played = rw c.new-text.ensures.items (HasPlayed-none c.args.stage c.args.acts.now c.in-Ok.terminal c.in-Ok.ensures.0
+      c.in-Ok.ensures.1);
 }
 
 pub loop-act-preserved : goal.loop-act-preserved
@@ -22,11 +23,14 @@ loop-act-preserved c =
         few = omega (arith, before.few, w.steps-is);
         played =
             rw (w.text-is, w.steps-is, w.terminal-is)
-            (HasPlayed-step c.args.stage acts _ _ _ _ _ (rw w.in-Play.is at played) _ (w.in-Ok-play_step.ensures.ok c.args.stage refl c.requires before.played.ran.playing));
+            (HasPlayed-step c.args.stage acts _ _ _ _ _ (rw w.in-Play.is at played) _
+            (w.in-Ok-play_step.ensures.ok c.args.stage refl c.requires before.played.ran.playing));
       }
       | in-Show+in_ok-show-in-Show w ↦ record {
         few = omega (arith, before.few, w.steps-is);
-        played = rw (w.steps-is, w.terminal-is) (HasPlayed-show c.args.stage acts _ _ _ _ c.match-act.text.items (rw w.in-Show.is at played) (rw w.text-is w.in_ok-show-in-Show.ensures.ok));
+        played = rw (w.steps-is, w.terminal-is)
+            (HasPlayed-show c.args.stage acts _ _ _ _ c.match-act.text.items (rw w.in-Show.is at played)
+            (rw w.text-is w.in_ok-show-in-Show.ensures.ok));
       }
     ]
 

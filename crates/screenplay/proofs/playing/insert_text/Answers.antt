@@ -7,4 +7,5 @@ pub returns-in-Ok-insert_rows-clause-ok : goal.returns-in-Ok-insert_rows-clause-
 returns-in-Ok-insert_rows-clause-ok c = λ stage inline good playing.
     let made = rw c.viewport_area-area.ensures at c.in-Ok.ensures.made in
     Plays-inserted stage c.args.text.now _ c.args.terminal.now _ inline playing made good (search rules)
-    (c.in-Ok-insert_rows.ensures.ok (subst IsInline (sym playing.rest.kind_is) inline) (rows_area c.args.terminal.now c.args.text.now _ made))
+    (c.in-Ok-insert_rows.ensures.ok (subst IsInline (sym playing.rest.kind_is) inline)
+    (rows_area c.args.terminal.now c.args.text.now _ made))

@@ -9,6 +9,7 @@ returns-clause-painted c = λ area empty. record {
   blank = c.args.frame.now;
   emptied = empty;
   rendered = c.render.new.buf;
-  renders = subst (λ r. RendersText c.args.text.now r c.args.frame.now c.render.new.buf) (c.area-area.ensures.area ∙ empty.area) c.in_ok-render.ensures.ok;
+  renders = subst (λ r. RendersText c.args.text.now r c.args.frame.now c.render.new.buf) (c.area-area.ensures.area
+      ∙ empty.area) c.in_ok-render.ensures.ok;
   painted = rw c.as_slice.ensures at c.in_ok-set_puts.ensures;
 }

@@ -15,11 +15,13 @@ loop-index-init c =
 pub loop-index-preserved : goal.loop-index-preserved
 loop-index-preserved c =
     let before = c.loop-index.invariant in
-    let left = left_next c.args.steps.now c.loop-index.index c.index-steps-index.result c.loop-index-test.true c.index-steps-index.is in
+    let left = left_next c.args.steps.now c.loop-index.index c.index-steps-index.result c.loop-index-test.true
+    c.index-steps-index.is in
     let added = c.in-Ok-add_scene-2.ensures.ok in
     rw added.1 (record {
       count = omega (arith, before.count, length-append c.loop-index.scenes.items (added.0 ∷ []));
-      ran = HasRun-push c.args.stage c.args.steps.now _ _ _ _ (rw left at before.ran) _ added.0 (c.in-Ok-play_step.ensures.ok c.args.stage refl c.requires before.ran.playing) added.2;
+      ran = HasRun-push c.args.stage c.args.steps.now _ _ _ _ (rw left at before.ran) _ added.0
+          (c.in-Ok-play_step.ensures.ok c.args.stage refl c.requires before.ran.playing) added.2;
     })
 
 pub returns-clause-ok : goal.returns-clause-ok
@@ -30,13 +32,19 @@ returns-clause-ok c =
 pub returns-in-Err-play_step-clause-fault : goal.returns-in-Err-play_step-clause-fault
 returns-in-Err-play_step-clause-fault c =
     let before = c.loop-index.invariant in
-    let left = left_next c.args.steps.now c.loop-index.index c.index-steps-index.result c.loop-index-test.true c.index-steps-index.is in
+    let left = left_next c.args.steps.now c.loop-index.index c.index-steps-index.result c.loop-index-test.true
+    c.index-steps-index.is in
     let why = c.in-Err-play_step.ensures.err c.args.stage refl before.ran.playing in
-    rw c.fault-in-Err-play_step.ensures (sym before.count, IsPlay-refused c.args.stage c.args.steps.now _ _ _ _ (rw left at before.ran) c.in-Err-play_step.cause why)
+    rw c.fault-in-Err-play_step.ensures (
+      sym before.count,
+      IsPlay-refused c.args.stage c.args.steps.now _ _ _ _
+          (rw left at before.ran) c.in-Err-play_step.cause why,
+    )
 
 pub returns-in-Err-add_scene-2-clause-fault : goal.returns-in-Err-add_scene-2-clause-fault
 returns-in-Err-add_scene-2-clause-fault c =
     let before = c.loop-index.invariant in
-    let left = left_next c.args.steps.now c.loop-index.index c.index-steps-index.result c.loop-index-test.true c.index-steps-index.is in
+    let left = left_next c.args.steps.now c.loop-index.index c.index-steps-index.result c.loop-index-test.true
+    c.index-steps-index.is in
     rw (c.fault-in-Err-add_scene-2.ensures, c.in-Err-add_scene-2.ensures.err)
     (sym before.count, IsPlay-refused c.args.stage c.args.steps.now _ _ _ c.loop-index.terminal (rw left at before.ran) Memory tt)

@@ -12,7 +12,8 @@ loop-line-preserved c =
     let done = map (λ (line : Bor (List ℕ)). line.now) c.loop-line.yielded in
     record {
       count = grind (arith, common_steps);
-      read = rw map-append (script_of-push done c.in-Some.line.now _ _ c.loop-line.invariant.read (rw c.if-not-branch.false at taken));
+      read = rw map-append (script_of-push done c.in-Some.line.now _ _ c.loop-line.invariant.read
+          (rw c.if-not-branch.false at taken));
       stage = c.in_ok-take_line.ensures.stage c.loop-line.invariant.stage;
     }
 
@@ -21,10 +22,12 @@ returns-then-not-branch-clause-err c =
     let all = lines c.args.text.now in
     let done = map (λ (line : Bor (List ℕ)). line.now) c.loop-line.yielded in
     let road = YieldsList-from_lines c.args.text.now (cc) in
-    let turn = YieldsList-turn road c.loop-line.yielded _ c.loop-line.yielded_by c.next.result _ c.in-Some.line c.in-Some.is c.next.ensures.steps in
+    let turn = YieldsList-turn road c.loop-line.yielded _ c.loop-line.yielded_by c.next.result _ c.in-Some.line c.in-Some.is
+    c.next.ensures.steps in
     let front = YieldsList-so_far road c.loop-line.yielded _ c.loop-line.yielded_by in
     rw c.loop-line.invariant.count
-    (IsFirstBadLine-read all done c.in-Some.line.now (length c.loop-line.yielded) _ front turn.0 turn.1 c.loop-line.invariant.read (search rules))
+    (IsFirstBadLine-read all done c.in-Some.line.now (length c.loop-line.yielded) _ front turn.0 turn.1 c.loop-line.invariant.read
+    (search rules))
 
 pub returns-clause-ok : goal.returns-clause-ok
 returns-clause-ok c =

@@ -10,7 +10,8 @@ returns-clause-ok g c = λ is.
     let v = c.args.self.now in
     let frame = c.in_ok-self.field-0.terminal.now in
     subst (λ t. DrawsRow g.B.Backend.screen (status_text v.count) v.terminal t) (search rules)
-    (draws-row g.B.Backend.screen (status_text v.count) v.terminal frame _ is (λ s cursor painted ran has. search rules) c.in_ok-self.ensures.drawn)
+    (draws-row g.B.Backend.screen (status_text v.count) v.terminal frame _ is (λ s cursor painted ran has.
+    search rules) c.in_ok-self.ensures.drawn)
 
 pub returns-in_err-self-clause-err : goal.returns-in_err-self-clause-err
 returns-in_err-self-clause-err g c = λ areas sized.
@@ -20,6 +21,7 @@ returns-in_err-self-clause-err g c = λ areas sized.
     (λ s cursor painted ran.
     let frame = ran.before in
     let short : RendersShortStr text.result.bytes frame.viewport_area frame.buffer.now =
-    rw text.ensures (c.ascii_texts_take_no_memory.ensures.painted _ frame.viewport_area frame.buffer.now (ascii-status c.args.self.now.count (omega arith))) in
+    rw text.ensures (c.ascii_texts_take_no_memory.ensures.painted _ frame.viewport_area frame.buffer.now
+    (ascii-status c.args.self.now.count (omega arith))) in
     search rules) (λ s cursor painted ran. search rules) c.draw.follows.holds-at-none in
     search rules

@@ -20,6 +20,8 @@ pub returns-in_err-draw_status-clause-refused : goal.returns-in_err-draw_status-
 returns-in_err-draw_status-clause-refused g c =
     let t = c.in_ok-terminal.terminal in
     let starts = c.in_ok-terminal.ensures.starts in
-    let by = c.in_err-draw_status.ensures.err (starts-areas g.B.Backend.screen c.args.backend t starts) (starts-sized g.B.Backend.screen c.args.backend t starts) in
-    let refused = refused-start g.B.Backend.screen g.B.Backend.failures c.args.backend t c.draw_status.new.self.terminal.backend _ c.in_ok-terminal.ensures.count by c.in_err-draw_status.ensures.faults in
+    let by = c.in_err-draw_status.ensures.err (starts-areas g.B.Backend.screen c.args.backend t starts)
+    (starts-sized g.B.Backend.screen c.args.backend t starts) in
+    let refused = refused-start g.B.Backend.screen g.B.Backend.failures c.args.backend t c.draw_status.new.self.terminal.backend _
+    c.in_ok-terminal.ensures.count by c.in_err-draw_status.ensures.faults in
     search rules

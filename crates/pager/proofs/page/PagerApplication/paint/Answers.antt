@@ -12,7 +12,9 @@ returns-in_default-clause-ok c = record {
 
 pub returns-clause-ok : goal.returns-clause-ok
 returns-clause-ok c =
-    pager-ok c.paint_page.result c.args.self.now c.args.area c.in-Some.part c.args.buf.now c.paint_page.new.buf c.in-Some.ensures c.paint_page.ensures.within c.paint_page.ensures.ok c.paint_page.ensures.settled
+    pager-ok c.paint_page.result c.args.self.now c.args.area c.in-Some.part c.args.buf.now c.paint_page.new.buf c.in-Some.ensures
+    c.paint_page.ensures.within c.paint_page.ensures.ok c.paint_page.ensures.settled
 
 pub returns-clause-err : goal.returns-clause-err
-returns-clause-err c = err-within c.paint_page.result c.args.area c.in-Some.part c.args.buf.now c.paint_page.new.buf c.in-Some.ensures c.paint_page.ensures.within
+returns-clause-err c = err-within c.paint_page.result c.args.area c.in-Some.part c.args.buf.now c.paint_page.new.buf
+    c.in-Some.ensures c.paint_page.ensures.within

@@ -21,9 +21,12 @@ loop-k-preserved c =
     let i = c.loop-k.invariant in
     record {
       line = omega (arith, c.next_place-place.ensures.line, i.line);
-      place = after-next (breaking c.args.self.now) c.loop-k.k (page_place c.args.self.now) c.loop-k.place c.next_place-place.result i.place c.next_place-place.ensures.place;
+      place = after-next (breaking c.args.self.now) c.loop-k.k (page_place c.args.self.now) c.loop-k.place
+          c.next_place-place.result i.place c.next_place-place.ensures.place;
       within = within-then c.args.part c.args.buf.now c.loop-k.buf c.paint_row.new.buf i.within c.paint_row.ensures.within;
       paints = rows-next c.args.self.now c.args.part c.loop-k.k c.args.buf.now c.loop-k.buf c.paint_row.new.buf i.paints
-          (subst (λ q. PaintsRowIn c.args.self.now.mode c.args.self.now c.args.part c.loop-k.k q c.loop-k.buf c.paint_row.new.buf) i.place c.in_ok-paint_row.ensures.ok);
-      ready = λ from. subst (λ y. IsReadyFrom y c.paint_row.new.buf) (omega arith) (c.in_ok-paint_row.ensures.ready (i.ready from));
+          (subst (λ q. PaintsRowIn c.args.self.now.mode c.args.self.now c.args.part c.loop-k.k q c.loop-k.buf c.paint_row.new.buf)
+          i.place c.in_ok-paint_row.ensures.ok);
+      ready = λ from. subst (λ y. IsReadyFrom y c.paint_row.new.buf) (omega arith)
+          (c.in_ok-paint_row.ensures.ready (i.ready from));
     }

@@ -11,5 +11,6 @@ loop-preserved c =
     let i = c.loop.invariant in
     record {
       line = omega (arith, c.next_place-place.ensures.line, i.line);
-      place = after-next (breaking c.args.self.now) c.loop.counter c.args.place c.loop.place c.next_place-place.result i.place c.next_place-place.ensures.place;
+      place = after-next (breaking c.args.self.now) c.loop.counter c.args.place c.loop.place c.next_place-place.result i.place
+          c.next_place-place.ensures.place;
     }

@@ -11,5 +11,6 @@ loop-preserved c =
     let i = c.loop.invariant in
     record {
       line = omega (arith, c.previous_place-place.ensures.line, i.line);
-      place = before-next (breaking c.args.self.now) c.loop.counter c.args.place c.loop.place c.previous_place-place.result i.place c.previous_place-place.ensures.place;
+      place = before-next (breaking c.args.self.now) c.loop.counter c.args.place c.loop.place c.previous_place-place.result
+          i.place c.previous_place-place.ensures.place;
     }

@@ -19,17 +19,26 @@ returns-clause-ok c =
     let size : length cells ≡ w * h = grind (arith, common_steps) in
     let count : c.saturating_sub-past.result ≡ past = grind (arith, common_steps, nat_tests) in
     let items : refilled cells new ≡ new = grind (arith, common_steps) in
-    let rows : map (λ r. map look_of r.items) c.in_ok-rows.rows.items ≡ map (λ b. map (λ a. look_at cells (b * w + a)) (range_with_len 0 w)) (range_with_len 0 past) =
+    let rows : map (λ r. map look_of r.items) c.in_ok-rows.rows.items ≡ map (λ b. map (λ a. look_at cells (b * w + a))
+    (range_with_len 0 w)) (range_with_len 0 past) =
     rw (c.content.ensures.cells, c.area-area.ensures.area, count) at c.in_ok-rows.ensures.looks in
     let end : length cells ≡ h * w = size ∙ mul_comm w h in
     let top : 0 * w ≡ 0 = omega arith in
-    let moved = rw (c.cells_mut-cells.ensures.cells, end, c.from-4.ensures, c.area-area.ensures.area, count) at c.shift_up.ensures in
+    let moved = rw (
+      c.cells_mut-cells.ensures.cells,
+      end,
+      c.from-4.ensures,
+      c.area-area.ensures.area,
+      count,
+    ) at c.shift_up.ensures in
     record {
       scrolled = record {
-        history = looks_behind (λ r. map look_of r.items) s.scrollback.items _ c.in_ok-rows.rows.items _ c.in_ok-append.ensures.items (rows ∙ rows_are w h cells size past);
+        history = looks_behind (λ r. map look_of r.items) s.scrollback.items _ c.in_ok-rows.rows.items _
+            c.in_ok-append.ensures.items (rows ∙ rows_are w h cells size past);
         width = refl;
         height = refl;
-        grid = λ a b a_in b_in. rw items (grid_moved (scrolling_up 0 h past) w a b cells new a_in (rows_raised empty_cell w a a_in cells new 0 h past (rw top moved) b) ∙ grind (arith, nat_tests));
+        grid = λ a b a_in b_in. rw items (grid_moved (scrolling_up 0 h past) w a b cells new a_in
+            (rows_raised empty_cell w a a_in cells new 0 h past (rw top moved) b) ∙ grind (arith, nat_tests));
         visible = refl;
         written = refl;
       };
@@ -40,9 +49,11 @@ returns-clause-ok c =
 pub invariant_of-self-2-clause-plain_history : goal.invariant_of-self-2-clause-plain_history
 invariant_of-self-2-clause-plain_history c =
     rw c.in_ok-append.ensures.items
-    (unmarked_rows (λ r. r.items) c.args.self.now.scrollback.items c.in_ok-rows.rows.items c.args.self.now.plain_history (c.in_ok-rows.ensures.unmarked (rw c.content.ensures.cells c.args.self.now.plain)))
+    (unmarked_rows (λ r. r.items) c.args.self.now.scrollback.items c.in_ok-rows.rows.items c.args.self.now.plain_history
+    (c.in_ok-rows.ensures.unmarked (rw c.content.ensures.cells c.args.self.now.plain)))
 
 pub invariant_of-self-2-clause-plain : goal.invariant_of-self-2-clause-plain
 invariant_of-self-2-clause-plain c =
     let items : refilled c.args.self.now.buffer.cells c.shift_up.new.items ≡ c.shift_up.new.items = grind (arith, common_steps) in
-    λ i. rw (items, c.shift_up.ensures i, c.cells_mut-cells.ensures.cells) (unmarked_moved _ _ _ _ (c.args.self.now.plain _) (c.args.self.now.plain _))
+    λ i. rw (items, c.shift_up.ensures i, c.cells_mut-cells.ensures.cells) (unmarked_moved _ _ _ _ (c.args.self.now.plain _)
+    (c.args.self.now.plain _))

@@ -15,10 +15,13 @@ returns-clause-cleared c =
     record {
       rest = refl;
       grid = λ a b a_in b_in.
-          rw items (grid_moved (clearing (is_cleared c.args.clear_type s.cursor.x s.cursor.y)) s.buffer.area.width a b s.buffer.cells new a_in (rw (c.cells_mut.ensures.cells, places a b a_in b_in) at (c.fill.ensures (b * s.buffer.area.width + a))));
+          rw items (grid_moved (clearing (is_cleared c.args.clear_type s.cursor.x s.cursor.y)) s.buffer.area.width a b
+          s.buffer.cells new a_in (rw (c.cells_mut.ensures.cells, places a b a_in b_in) at
+          (c.fill.ensures (b * s.buffer.area.width + a))));
     }
 
 pub invariant_of-self-clause-plain : goal.invariant_of-self-clause-plain
 invariant_of-self-clause-plain c =
     let items : refilled c.args.self.now.buffer.cells c.fill.new.items ≡ c.fill.new.items = grind (arith, common_steps) in
-    λ i. rw (items, c.fill.ensures i, c.cells_mut.ensures.cells) (unmarked_moved _ false empty_cell _ unmarked-empty (c.args.self.now.plain _))
+    λ i. rw (items, c.fill.ensures i, c.cells_mut.ensures.cells)
+    (unmarked_moved _ false empty_cell _ unmarked-empty (c.args.self.now.plain _))

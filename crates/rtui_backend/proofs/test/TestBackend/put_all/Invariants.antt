@@ -1,6 +1,7 @@
 use Rattle.std.proofs.Common.{◌≡◌, map}
 use Rattle.rtui_cell.specs.Grid.{update_by}
-use Rattle.rtui_backend.specs.{Screen.Draws, Screen.cursor_of, TestBackend.screen_of, TestBackend.failures_of, TestBackend.told_after}
+use Rattle.rtui_backend.specs.{Screen.Draws, Screen.cursor_of, TestBackend.screen_of, TestBackend.failures_of}
+use Rattle.rtui_backend.specs.{TestBackend.told_after}
 use Rattle.rtui_backend.proofs.test.TestBackend.put_all.Given as goal
 
 abbrev pub invariant-loop-x : goal.invariant-loop-x

@@ -17,12 +17,21 @@ returns-clause-scrolled c =
     let e = min c.args.region.end s.buffer.area.height in
     let items : refilled cells new ≡ new = grind (arith, common_steps) in
     let end : c.min-end.result ≡ e = grind (arith, common_steps) in
-    let moved = rw (c.cells_mut.ensures.cells, c.from-3.ensures, c.from-2.ensures, c.from.ensures, c.from-width.ensures, end, c.area-area.ensures.area) at c.shift_down.ensures in
+    let moved = rw (
+      c.cells_mut.ensures.cells,
+      c.from-3.ensures,
+      c.from-2.ensures,
+      c.from.ensures,
+      c.from-width.ensures,
+      end,
+      c.area-area.ensures.area,
+    ) at c.shift_down.ensures in
     record {
       history = refl;
       width = refl;
       height = refl;
-      grid = λ x y x_in y_in. rw items (grid_moved (scrolling_down a e c.args.n) w x y cells new x_in (rows_lowered empty_cell w x x_in cells new a e c.args.n moved y));
+      grid = λ x y x_in y_in. rw items (grid_moved (scrolling_down a e c.args.n) w x y cells new x_in
+          (rows_lowered empty_cell w x x_in cells new a e c.args.n moved y));
       visible = refl;
       written = refl;
       no_rows = λ none. absurd (omega (arith, end));
@@ -30,5 +39,7 @@ returns-clause-scrolled c =
 
 pub invariant_of-self-clause-plain : goal.invariant_of-self-clause-plain
 invariant_of-self-clause-plain c =
-    let items : refilled c.args.self.now.buffer.cells c.shift_down.new.items ≡ c.shift_down.new.items = grind (arith, common_steps) in
-    λ i. rw (items, c.shift_down.ensures i, c.cells_mut.ensures.cells) (unmarked_moved _ _ _ _ (c.args.self.now.plain _) (c.args.self.now.plain _))
+    let items : refilled c.args.self.now.buffer.cells c.shift_down.new.items ≡ c.shift_down.new.items =
+    grind (arith, common_steps) in
+    λ i. rw (items, c.shift_down.ensures i, c.cells_mut.ensures.cells) (unmarked_moved _ _ _ _ (c.args.self.now.plain _)
+    (c.args.self.now.plain _))

@@ -9,4 +9,5 @@ use Rattle.rtui_backend.proofs.test.TestBackend.write_to.Goals as goal
 pub returns : goal.returns
 returns g c =
     let rows = sym (flat_map-map (printed_row (codes "^")) (λ row. map look_of row.items) c.scrollback.result.now) in
-    written_behind c.write_rows.result _ _ _ _ _ _ (rows ∙ ap (flat_map (printed_row (codes "^"))) c.scrollback.ensures.looks) c.in_ok-write_history.ensures c.write_rows.ensures
+    written_behind c.write_rows.result _ _ _ _ _ _ (rows ∙ ap (flat_map (printed_row (codes "^"))) c.scrollback.ensures.looks)
+    c.in_ok-write_history.ensures c.write_rows.ensures

@@ -8,5 +8,6 @@ use Rattle.rtui_backend.proofs.test.lines.line_end.Given as goal
 abbrev pub invariant-loop-text : goal.invariant-loop-text
 invariant-loop-text l = record {
   within : IfSome l.end (λ end. end ≤ length l.row);
-  done : EndsAfter (symbol_in l.row) 0 (line_pieces (length l.row) new_style (map plain (map (λ text. text.now) l.yielded))) l.end;
+  done : EndsAfter (symbol_in l.row) 0 (line_pieces (length l.row) new_style (map plain (map (λ text. text.now) l.yielded)))
+      l.end;
 }

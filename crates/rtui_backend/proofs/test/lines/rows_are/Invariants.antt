@@ -5,4 +5,5 @@ use Rattle.rtui_backend.proofs.HistoryLemmas.{symbols}
 use Rattle.rtui_backend.proofs.test.lines.rows_are.Given as goal
 
 abbrev pub invariant-loop-y : goal.invariant-loop-y
-invariant-loop-y l = map symbols (take l.y (map (λ row. row.items) l.rows)) ≡ map (symbols_of_line l.width) (take l.y (raw_lines l.lines))
+invariant-loop-y l = map symbols (take l.y (map (λ row. row.items) l.rows)) ≡ map (symbols_of_line l.width)
+    (take l.y (raw_lines l.lines))

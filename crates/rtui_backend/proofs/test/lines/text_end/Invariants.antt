@@ -10,6 +10,7 @@ invariant-loop-grapheme l = record {
   can : (goal.iterator-loop-grapheme).can_next l.grapheme-iterator;
   ends : (goal.iterator-loop-grapheme).is_finite l.grapheme-iterator;
   within : l.end ≤ length l.row;
-  left : (o : Option ℕ) → EndsAfter (symbol_in l.row) l.end (pieces new_style (kept (length l.row - l.end) (graphemes_left l.grapheme-iterator))) o
+  left : (o : Option ℕ) → EndsAfter (symbol_in l.row) l.end
+      (pieces new_style (kept (length l.row - l.end) (graphemes_left l.grapheme-iterator))) o
       → EndsAfter (symbol_in l.row) l.x (text_pieces (length l.row - l.x) new_style l.text) o;
 }

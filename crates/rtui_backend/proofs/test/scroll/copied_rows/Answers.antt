@@ -10,8 +10,10 @@ pub loop-b-preserved : goal.loop-b-preserved
 loop-b-preserved c =
     let row : ℕ → List Look = λ b. map (λ a. look_at c.args.cells.now (b * c.args.width + a)) (range_with_len 0 c.args.width) in
     record {
-      looks = looks_pushed (λ r. map look_of r.items) row c.loop-b.rows.items _ _ c.loop-b.b c.in_ok-push.ensures.items c.loop-b.invariant.looks (rw c.from.ensures at c.in_ok-copied_row.ensures.looks);
+      looks = looks_pushed (λ r. map look_of r.items) row c.loop-b.rows.items _ _ c.loop-b.b c.in_ok-push.ensures.items
+          c.loop-b.invariant.looks (rw c.from.ensures at c.in_ok-copied_row.ensures.looks);
       unmarked = λ plain.
           rw (c.in_ok-push.ensures.items, map-append (λ r. r.items) c.loop-b.rows.items (c.in_ok-copied_row.field-0 ∷ []))
-          (All-push AreUnmarked (map (λ r. r.items) c.loop-b.rows.items) c.in_ok-copied_row.field-0.items (c.loop-b.invariant.unmarked plain) (c.in_ok-copied_row.ensures.unmarked plain));
+          (All-push AreUnmarked (map (λ r. r.items) c.loop-b.rows.items) c.in_ok-copied_row.field-0.items
+          (c.loop-b.invariant.unmarked plain) (c.in_ok-copied_row.ensures.unmarked plain));
     }

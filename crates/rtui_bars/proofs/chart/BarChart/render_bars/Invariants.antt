@@ -10,6 +10,7 @@ invariant-loop-bar l = record {
   inside : IsInside l.left l.fn.area;
   within : ChangesWithin l.fn.area l.fn.buf l.buf;
   fit : BarsFit l.fn.self l.left.width (drop l.bar-index l.fn.bars);
-  rest : (new : BufferData) → RendersBars l.fn.self l.left (drop l.bar-index l.fn.bars) l.buf new → RendersBars l.fn.self l.fn.area l.fn.bars l.fn.buf new;
+  rest : (new : BufferData) → RendersBars l.fn.self l.left (drop l.bar-index l.fn.bars) l.buf new
+      → RendersBars l.fn.self l.fn.area l.fn.bars l.fn.buf new;
   after : after_bars l.fn.self l.left (drop l.bar-index l.fn.bars) ≡ after_bars l.fn.self l.fn.area l.fn.bars;
 }

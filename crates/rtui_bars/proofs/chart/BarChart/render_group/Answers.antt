@@ -7,9 +7,12 @@ use Rattle.rtui_bars.proofs.chart.BarChart.render_group.Goals as goal
 pub render_bars-requires-clause-fit : goal.render_bars-requires-clause-fit
 render_bars-requires-clause-fit c =
     let items : c.as_slice-bars.result.now ≡ c.args.group.now.bars.items = c.as_slice-bars.ensures.value in
-    let count : c.min-count.result ≡ min c.fitting_count.result (length c.args.group.now.bars.items) = rw (← items) (c.min-count.ensures) in
-    let same : take c.min-count.result c.as_slice-bars.result.now ≡ take c.fitting_count.result c.args.group.now.bars.items = rw (count, items) (take-least c.fitting_count.result c.args.group.now.bars.items) in
-    rw same (bars-fit c.args.self.now c.fitting_count.result c.args.area.width c.args.group.now.bars.items c.fitting_count.ensures.fits)
+    let count : c.min-count.result ≡ min c.fitting_count.result (length c.args.group.now.bars.items) =
+    rw (← items) (c.min-count.ensures) in
+    let same : take c.min-count.result c.as_slice-bars.result.now ≡ take c.fitting_count.result c.args.group.now.bars.items =
+    rw (count, items) (take-least c.fitting_count.result c.args.group.now.bars.items) in
+    rw same (bars-fit c.args.self.now c.fitting_count.result c.args.area.width c.args.group.now.bars.items
+    c.fitting_count.ensures.fits)
 
 pub returns-clause-ok : goal.returns-clause-ok
 returns-clause-ok c =
@@ -18,9 +21,14 @@ returns-clause-ok c =
     rw (← items, ← c.fitting_count.ensures.value) (c.min-count.ensures) in
     let same : take c.min-count.result c.as_slice-bars.result.now ≡ shown_bars c.args.self.now c.args.group.now c.args.area =
     rw (count, items) (take-least (fitting_count c.args.self.now c.args.area.width) c.args.group.now.bars.items) in
-    let number : c.min-count.result ≡ length (shown_bars c.args.self.now c.args.group.now c.args.area) = count ∙ sym (length-take (fitting_count c.args.self.now c.args.area.width) c.args.group.now.bars.items) in
+    let number : c.min-count.result ≡ length (shown_bars c.args.self.now c.args.group.now c.args.area) = count
+    ∙ sym (length-take (fitting_count c.args.self.now c.args.area.width) c.args.group.now.bars.items) in
     record {
       barred = c.render_bars.new.buf;
       bars = rw same at c.in_ok-rest.ensures.ok;
-      label = rw (c.has_group_labels-is_shown.ensures.value, number, c.rows_at-row.ensures) at c.in_ok-render_group_label.ensures.ok;
+      label = rw (
+        c.has_group_labels-is_shown.ensures.value,
+        number,
+        c.rows_at-row.ensures,
+      ) at c.in_ok-render_group_label.ensures.ok;
     }

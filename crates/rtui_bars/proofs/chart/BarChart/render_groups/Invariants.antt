@@ -9,5 +9,6 @@ invariant-loop-group l = record {
   rows : HasRows l.left;
   inside : IsInside l.left l.fn.area;
   within : ChangesWithin l.fn.area l.fn.buf l.buf;
-  rest : (new : BufferData) → RendersGroups l.fn.self l.left (drop l.group-index l.fn.self.groups.items) l.buf new → RendersGroups l.fn.self l.fn.area l.fn.self.groups.items l.fn.buf new;
+  rest : (new : BufferData) → RendersGroups l.fn.self l.left (drop l.group-index l.fn.self.groups.items) l.buf new
+      → RendersGroups l.fn.self l.fn.area l.fn.self.groups.items l.fn.buf new;
 }

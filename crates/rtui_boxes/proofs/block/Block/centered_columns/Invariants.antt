@@ -5,5 +5,7 @@ use Rattle.rtui_boxes.proofs.block.Block.centered_columns.Given as goal
 
 abbrev pub invariant-loop-title : goal.invariant-loop-title
 invariant-loop-title l =
-    min (l.columns + sum_by (λ line. title_width line + 1) (lines_placed l.fn.self l.fn.position Center (drop l.title-index l.title-items))) 18446744073709551615
-    ≡ min (sum_by (λ line. title_width line + 1) (lines_placed l.fn.self l.fn.position Center l.fn.self.titles.items)) 18446744073709551615
+    min (l.columns + sum_by (λ line. title_width line + 1)
+    (lines_placed l.fn.self l.fn.position Center (drop l.title-index l.title-items))) 18446744073709551615
+    ≡ min (sum_by (λ line. title_width line + 1) (lines_placed l.fn.self l.fn.position Center l.fn.self.titles.items))
+    18446744073709551615

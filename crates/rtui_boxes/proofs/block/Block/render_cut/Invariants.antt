@@ -8,6 +8,7 @@ abbrev pub invariant-loop-title : goal.invariant-loop-title
 invariant-loop-title l = record {
   within : ChangesWithin l.fn.row l.fn.buf l.buf;
   inside : IsInside l.left l.fn.row;
-  rest : Finishes l.fn.self.titles_style (from_outside l.offset l.left (lines_placed l.fn.self l.fn.position Center (drop l.title-index l.title-items)))
+  rest : Finishes l.fn.self.titles_style
+      (from_outside l.offset l.left (lines_placed l.fn.self l.fn.position Center (drop l.title-index l.title-items)))
       (from_outside l.fn.excess l.fn.row (lines_placed l.fn.self l.fn.position Center l.fn.self.titles.items)) l.fn.buf l.buf;
 }

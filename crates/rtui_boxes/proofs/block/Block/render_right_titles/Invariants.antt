@@ -9,6 +9,7 @@ invariant-loop-k l = record {
   within : ChangesWithin l.fn.row l.fn.buf l.buf;
   inside : IsInside l.left l.fn.row;
   fits : l.left.x + l.left.width ≤ 65535;
-  rest : Finishes l.fn.self.titles_style (from_right l.left (lines_placed l.fn.self l.fn.position Right (reverse (take l.k l.titles))))
+  rest : Finishes l.fn.self.titles_style
+      (from_right l.left (lines_placed l.fn.self l.fn.position Right (reverse (take l.k l.titles))))
       (from_right l.fn.row (lines_placed l.fn.self l.fn.position Right (reverse l.fn.self.titles.items))) l.fn.buf l.buf;
 }

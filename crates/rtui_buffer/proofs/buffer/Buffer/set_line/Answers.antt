@@ -7,17 +7,22 @@ pub returns-clause-paints : goal.returns-clause-paints
 returns-clause-paints c =
     let len : c.self.inside.content.len ≡ length c.as_mut_slice.result.now = sym c.as_mut_slice.ensures.len in
     let room = c.room_at-room.ensures ∙ ap (λ s. room_at s.area c.args.x c.from.result) c.self.view_is in
-    let pieces : line_pieces c.room_at-room.result c.line.inside.style c.as_slice-spans.result.now ≡ line_pieces_at c.args.self.now.area c.args.x c.args.max c.args.line.now =
+    let pieces : line_pieces c.room_at-room.result c.line.inside.style c.as_slice-spans.result.now ≡ line_pieces_at
+    c.args.self.now.area c.args.x c.args.max c.args.line.now =
     rw (room, c.from.ensures, c.as_slice-spans.ensures, ← c.line.view_is) refl in
-    paints-written c.args.self.now c.args.x c.args.y _ _ _ _ _ (ap (λ s. s.cells) c.self.view_is) c.as_mut_slice.ensures.value len c.index_of-start.ensures.value _ _ (ap (λ s. s.area) c.self.view_is)
-    (ap (λ s. s.room) c.self.view_is) _ _ _ c.in_ok-used.ensures.shown pieces c.requires.column (line-fits c.args.self.now.area _ _ _ _ _ room c.if-room-eq0.false)
+    paints-written c.args.self.now c.args.x c.args.y _ _ _ _ _ (ap (λ s. s.cells) c.self.view_is) c.as_mut_slice.ensures.value len
+    c.index_of-start.ensures.value _ _ (ap (λ s. s.area) c.self.view_is)
+    (ap (λ s. s.room) c.self.view_is) _ _ _ c.in_ok-used.ensures.shown pieces c.requires.column
+    (line-fits c.args.self.now.area _ _ _ _ _ room c.if-room-eq0.false)
 
 pub returns-in_err-used-clause-front : goal.returns-in_err-used-clause-front
 returns-in_err-used-clause-front c =
     let len : c.self.inside.content.len ≡ length c.as_mut_slice.result.now = sym c.as_mut_slice.ensures.len in
     let room = c.room_at-room.ensures ∙ ap (λ s. room_at s.area c.args.x c.from.result) c.self.view_is in
-    let pieces : line_pieces c.room_at-room.result c.line.inside.style c.as_slice-spans.result.now ≡ line_pieces_at c.args.self.now.area c.args.x c.args.max c.args.line.now =
+    let pieces : line_pieces c.room_at-room.result c.line.inside.style c.as_slice-spans.result.now ≡ line_pieces_at
+    c.args.self.now.area c.args.x c.args.max c.args.line.now =
     rw (room, c.from.ensures, c.as_slice-spans.ensures, ← c.line.view_is) refl in
-    let front = PaintsFront-written c.args.self.now c.args.x c.args.y _ _ _ _ _ (ap (λ s. s.cells) c.self.view_is) c.as_mut_slice.ensures.value len c.index_of-start.ensures.value _ _
+    let front = PaintsFront-written c.args.self.now c.args.x c.args.y _ _ _ _ _
+    (ap (λ s. s.cells) c.self.view_is) c.as_mut_slice.ensures.value len c.index_of-start.ensures.value _ _
     (ap (λ s. s.area) c.self.view_is) (ap (λ s. s.room) c.self.view_is) _ _ c.in_err-used.ensures.front pieces in
     search (rules, front)

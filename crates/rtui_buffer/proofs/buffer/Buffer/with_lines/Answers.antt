@@ -13,4 +13,8 @@ pub returns-clause-settled : goal.returns-clause-settled
 returns-clause-settled c = rw c.in_ok-content.ensures.items (IsSettled-rows c.lines_width.result c.args.lines.now)
 
 pub returns-clause-lines : goal.returns-clause-lines
-returns-clause-lines c = rw (c.in_ok-content.ensures.items, c.lines_width.ensures) (record { area = refl; cells = refl; rows = ShowsLines-rows _ c.args.lines.now })
+returns-clause-lines c = rw (c.in_ok-content.ensures.items, c.lines_width.ensures) (record {
+  area = refl;
+  cells = refl;
+  rows = ShowsLines-rows _ c.args.lines.now;
+})

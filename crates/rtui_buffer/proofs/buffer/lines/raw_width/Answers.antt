@@ -6,5 +6,7 @@ use Rattle.rtui_buffer.proofs.buffer.lines.raw_width.Goals as goal
 
 pub returns : goal.returns
 returns c =
-    let all = YieldsList-end (YieldsList-from_lines c.args.text.now (ap lines_rest c.into_iter-line-iterator.ensures.into_iter_gives ∙ c.lines-line-items.ensures.rest)) c.loop-line.yielded _ c.loop-line.yielded_by _ _ c.in-None.is c.next.ensures.steps in
+    let all = YieldsList-end (YieldsList-from_lines c.args.text.now
+    (ap lines_rest c.into_iter-line-iterator.ensures.into_iter_gives ∙ c.lines-line-items.ensures.rest)) c.loop-line.yielded _
+    c.loop-line.yielded_by _ _ c.in-None.is c.next.ensures.steps in
     c.loop-line.invariant ∙ ap (λ ts. line_width (map plain ts)) all.0

@@ -9,5 +9,6 @@ invariant-loop-grapheme l = record {
   can : (goal.iterator-loop-grapheme).can_next l.grapheme-iterator;
   ends : (goal.iterator-loop-grapheme).is_finite l.grapheme-iterator;
   within : l.used ≤ l.room;
-  so_far : PaintsSoFar l.start l.used (pieces l.style (kept (l.room - l.used) (graphemes_left l.grapheme-iterator))) (text_pieces l.room l.style l.text) l.initial.cells l.cells;
+  so_far : PaintsSoFar l.start l.used (pieces l.style (kept (l.room - l.used) (graphemes_left l.grapheme-iterator)))
+      (text_pieces l.room l.style l.text) l.initial.cells l.cells;
 }

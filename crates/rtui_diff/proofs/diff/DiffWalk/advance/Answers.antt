@@ -9,24 +9,29 @@ use Rattle.rtui_diff.proofs.diff.DiffWalk.advance.Goals.{then-same, else-same}
 pub returns-then-at-self-clause-gives : goal.returns-then-at-self-clause-gives
 returns-then-at-self-clause-gives c =
     let s = c.args.self.now in
-    given-visited s.prev.now s.next.now s.len s.pos s.end (s.pos + c.from.result) s.force c.is_given_when_visited.result _ _ (omega arith) (omega arith) c.is_given_when_visited.ensures
-    (get_or_default s.prev.now s.pos _ empty_cell (omega arith)) (get_or_default s.next.now s.pos _ empty_cell (omega arith)) (omega arith)
+    given-visited s.prev.now s.next.now s.len s.pos s.end (s.pos + c.from.result) s.force c.is_given_when_visited.result _ _
+    (omega arith) (omega arith) c.is_given_when_visited.ensures
+    (get_or_default s.prev.now s.pos _ empty_cell (omega arith)) (get_or_default s.next.now s.pos _ empty_cell (omega arith))
+    (omega arith)
 
 pub returns-then-is_single_byte-2-clause-gives : goal.returns-then-is_single_byte-2-clause-gives
 returns-then-is_single_byte-2-clause-gives c =
     let s = c.args.self.now in
     let narrow = c.is_single_byte.ensures.narrow c.if-is_single_byte.true in
-    given-narrow s.prev.now s.next.now s.len s.pos s.end s.force c.is_single_byte_given.result _ _ (omega arith) (omega arith) (rw c.is_same-same.ensures at c.is_single_byte_given.ensures)
+    given-narrow s.prev.now s.next.now s.len s.pos s.end s.force c.is_single_byte_given.result _ _ (omega arith) (omega arith)
+    (rw c.is_same-same.ensures at c.is_single_byte_given.ensures)
     (elim c.if-same.branch [
       | then-same w ↦ same_width _ _ (sym c.is_same-same.ensures ∙ w.if-same.true) ∙ narrow
       | else-same w ↦ w.is_single_byte-else-same.ensures.narrow (sym w.value-is ∙ c.if-is_single_byte-2.true)
     ])
-    narrow (get_or_default s.prev.now s.pos _ empty_cell (omega arith)) (get_or_default s.next.now s.pos _ empty_cell (omega arith))
+    narrow (get_or_default s.prev.now s.pos _ empty_cell (omega arith))
+    (get_or_default s.next.now s.pos _ empty_cell (omega arith))
 
 pub returns-clause-gives : goal.returns-clause-gives
 returns-clause-gives c =
     let s = c.args.self.now in
     let t = c.step_after-step.result in
     rw (c.place_behind-self.ensures, c.from-2.ensures)
-    (given-plain s.prev.now s.next.now s.len s.pos s.end t.over t.left s.force c.is_given-given.result t.force _ _ (omega arith) (omega arith) (rw c.is_same-same.ensures at c.is_given-given.ensures) c.step_after-step.ensures
+    (given-plain s.prev.now s.next.now s.len s.pos s.end t.over t.left s.force c.is_given-given.result t.force _ _ (omega arith)
+    (omega arith) (rw c.is_same-same.ensures at c.is_given-given.ensures) c.step_after-step.ensures
     (get_or_default s.prev.now s.pos _ empty_cell (omega arith)) (get_or_default s.next.now s.pos _ empty_cell (omega arith)))

@@ -8,4 +8,5 @@ returns-in-Some-clause-short c = λ short.
     c.render_labelled.ensures.short (rw (c.text.ensures, style) (rw c.in-Some.is at short))
 
 pub returns-in-None-clause-short : goal.returns-in-None-clause-short
-returns-in-None-clause-short c = λ short. c.render_labelled-in-None.ensures.short (rw (c.as_str.ensures.value, c.text-text.ensures, c.new.ensures) (rw c.in-None.is at short))
+returns-in-None-clause-short c = λ short. c.render_labelled-in-None.ensures.short
+    (rw (c.as_str.ensures.value, c.text-text.ensures, c.new.ensures) (rw c.in-None.is at short))

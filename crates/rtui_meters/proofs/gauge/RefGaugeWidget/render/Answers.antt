@@ -1,28 +1,37 @@
-use Rattle.rtui_boxes.proofs.FrameLemmas.{framed-bare, framed-some, inner-within, inner-some, inner-none, inner-own, inner-is, any-err}
+use Rattle.rtui_boxes.proofs.FrameLemmas.{framed-bare, framed-some, inner-within, inner-some, inner-none, inner-own, inner-is}
+use Rattle.rtui_boxes.proofs.FrameLemmas.{any-err}
 use Rattle.rtui_meters.specs.Gauges.{FillsGauge}
 use Rattle.rtui_meters.proofs.gauge.RefGaugeWidget.render.Goals as goal
 
 pub returns-in_default-2-clause-ok : goal.returns-in_default-2-clause-ok
 returns-in_default-2-clause-ok c =
-    framed-bare c.args.self.now.style c.args.self.now.block (FillsGauge c.args.self.now) c.args.area c.in-Some.part c.args.buf.now c.render_frame.new.buf c.in-Some.ensures c.render_frame.ensures.within c.in_ok-inner.ensures.framed
+    framed-bare c.args.self.now.style c.args.self.now.block (FillsGauge c.args.self.now) c.args.area c.in-Some.part c.args.buf.now
+    c.render_frame.new.buf c.in-Some.ensures c.render_frame.ensures.within c.in_ok-inner.ensures.framed
     (inner-none c.args.self.now.block c.in-Some.part c.in_ok-inner.field-0 c.in_default-2.is c.in_ok-inner.ensures.inner)
 
 pub render_gauge-requires-clause-inside : goal.render_gauge-requires-clause-inside
 render_gauge-requires-clause-inside c =
-    inner-own c.args.self.now.block c.in-Some.part c.in-Some-2.inner c.args.area c.args.buf.now c.render_frame.new.buf c.in-Some.ensures c.render_frame.ensures.within
-    (inner-some c.args.self.now.block c.in-Some.part c.in_ok-inner.field-0 c.in-Some-2.inner c.in-Some-2.is c.in_ok-inner.ensures.inner)
+    inner-own c.args.self.now.block c.in-Some.part c.in-Some-2.inner c.args.area c.args.buf.now c.render_frame.new.buf
+    c.in-Some.ensures c.render_frame.ensures.within
+    (inner-some c.args.self.now.block c.in-Some.part c.in_ok-inner.field-0 c.in-Some-2.inner c.in-Some-2.is
+    c.in_ok-inner.ensures.inner)
 
 pub returns-clause-ok : goal.returns-clause-ok
 returns-clause-ok c =
-    framed-some c.args.self.now.style c.args.self.now.block (FillsGauge c.args.self.now) c.args.area c.in-Some.part c.args.buf.now c.render_frame.new.buf c.in-Some.ensures c.render_frame.ensures.within
+    framed-some c.args.self.now.style c.args.self.now.block (FillsGauge c.args.self.now) c.args.area c.in-Some.part c.args.buf.now
+    c.render_frame.new.buf c.in-Some.ensures c.render_frame.ensures.within
     c.render_gauge.result c.in-Some-2.inner c.render_gauge.new.buf c.in_ok-inner.ensures.framed
-    (inner-some c.args.self.now.block c.in-Some.part c.in_ok-inner.field-0 c.in-Some-2.inner c.in-Some-2.is c.in_ok-inner.ensures.inner) c.render_gauge.ensures.within c.render_gauge.ensures.ok
+    (inner-some c.args.self.now.block c.in-Some.part c.in_ok-inner.field-0 c.in-Some-2.inner c.in-Some-2.is
+    c.in_ok-inner.ensures.inner) c.render_gauge.ensures.within c.render_gauge.ensures.ok
 
 pub returns-clause-err : goal.returns-clause-err
 returns-clause-err c =
     any-err c.render_gauge.result
-    (inner-within c.args.self.now.style c.args.self.now.block (FillsGauge c.args.self.now) c.args.area c.in-Some.part c.args.buf.now c.render_frame.new.buf c.in-Some.ensures c.render_frame.ensures.within c.in-Some-2.inner c.render_gauge.new.buf
-    (inner-some c.args.self.now.block c.in-Some.part c.in_ok-inner.field-0 c.in-Some-2.inner c.in-Some-2.is c.in_ok-inner.ensures.inner) c.render_gauge.ensures.within)
+    (inner-within c.args.self.now.style c.args.self.now.block (FillsGauge c.args.self.now) c.args.area c.in-Some.part
+    c.args.buf.now c.render_frame.new.buf c.in-Some.ensures c.render_frame.ensures.within c.in-Some-2.inner
+    c.render_gauge.new.buf
+    (inner-some c.args.self.now.block c.in-Some.part c.in_ok-inner.field-0 c.in-Some-2.inner c.in-Some-2.is
+    c.in_ok-inner.ensures.inner) c.render_gauge.ensures.within)
 
 pub returns-clause-left : goal.returns-clause-left
 returns-clause-left c = any-err c.render_gauge.result tt
@@ -31,6 +40,7 @@ pub returns-clause-short : goal.returns-clause-short
 returns-clause-short c = λ short. c.render_gauge.ensures.short
     (rw (
       inner-is c.args.self.now.block c.in-Some.part c.in-Some-2.inner c.args.area c.args.buf.now.area c.in-Some.ensures
-          (inner-some c.args.self.now.block c.in-Some.part c.in_ok-inner.field-0 c.in-Some-2.inner c.in-Some-2.is c.in_ok-inner.ensures.inner),
+          (inner-some c.args.self.now.block c.in-Some.part c.in_ok-inner.field-0 c.in-Some-2.inner c.in-Some-2.is
+          c.in_ok-inner.ensures.inner),
       c.render_frame.ensures.within.same_area,
     ) short.label)

@@ -4,25 +4,33 @@ use Rattle.rtui_meters.proofs.line_gauge.RefLineGaugeWidget.render.Goals as goal
 
 pub returns-in_default-2-clause-ok : goal.returns-in_default-2-clause-ok
 returns-in_default-2-clause-ok c =
-    framed-bare c.args.self.now.style c.args.self.now.block (FillsLine c.args.self.now) c.args.area c.in-Some.part c.args.buf.now c.render_frame.new.buf c.in-Some.ensures c.render_frame.ensures.within c.in_ok-inner.ensures.framed
+    framed-bare c.args.self.now.style c.args.self.now.block (FillsLine c.args.self.now) c.args.area c.in-Some.part c.args.buf.now
+    c.render_frame.new.buf c.in-Some.ensures c.render_frame.ensures.within c.in_ok-inner.ensures.framed
     (inner-none c.args.self.now.block c.in-Some.part c.in_ok-inner.field-0 c.in_default-2.is c.in_ok-inner.ensures.inner)
 
 pub render_line-requires-clause-inside : goal.render_line-requires-clause-inside
 render_line-requires-clause-inside c =
-    inner-own c.args.self.now.block c.in-Some.part c.in-Some-2.inner c.args.area c.args.buf.now c.render_frame.new.buf c.in-Some.ensures c.render_frame.ensures.within
-    (inner-some c.args.self.now.block c.in-Some.part c.in_ok-inner.field-0 c.in-Some-2.inner c.in-Some-2.is c.in_ok-inner.ensures.inner)
+    inner-own c.args.self.now.block c.in-Some.part c.in-Some-2.inner c.args.area c.args.buf.now c.render_frame.new.buf
+    c.in-Some.ensures c.render_frame.ensures.within
+    (inner-some c.args.self.now.block c.in-Some.part c.in_ok-inner.field-0 c.in-Some-2.inner c.in-Some-2.is
+    c.in_ok-inner.ensures.inner)
 
 pub returns-clause-ok : goal.returns-clause-ok
 returns-clause-ok c =
-    framed-some c.args.self.now.style c.args.self.now.block (FillsLine c.args.self.now) c.args.area c.in-Some.part c.args.buf.now c.render_frame.new.buf c.in-Some.ensures c.render_frame.ensures.within
+    framed-some c.args.self.now.style c.args.self.now.block (FillsLine c.args.self.now) c.args.area c.in-Some.part c.args.buf.now
+    c.render_frame.new.buf c.in-Some.ensures c.render_frame.ensures.within
     c.render_line.result c.in-Some-2.inner c.render_line.new.buf c.in_ok-inner.ensures.framed
-    (inner-some c.args.self.now.block c.in-Some.part c.in_ok-inner.field-0 c.in-Some-2.inner c.in-Some-2.is c.in_ok-inner.ensures.inner) c.render_line.ensures.within c.render_line.ensures.ok
+    (inner-some c.args.self.now.block c.in-Some.part c.in_ok-inner.field-0 c.in-Some-2.inner c.in-Some-2.is
+    c.in_ok-inner.ensures.inner) c.render_line.ensures.within c.render_line.ensures.ok
 
 pub returns-clause-err : goal.returns-clause-err
 returns-clause-err c =
     any-err c.render_line.result
-    (inner-within c.args.self.now.style c.args.self.now.block (FillsLine c.args.self.now) c.args.area c.in-Some.part c.args.buf.now c.render_frame.new.buf c.in-Some.ensures c.render_frame.ensures.within c.in-Some-2.inner c.render_line.new.buf
-    (inner-some c.args.self.now.block c.in-Some.part c.in_ok-inner.field-0 c.in-Some-2.inner c.in-Some-2.is c.in_ok-inner.ensures.inner) c.render_line.ensures.within)
+    (inner-within c.args.self.now.style c.args.self.now.block (FillsLine c.args.self.now) c.args.area c.in-Some.part
+    c.args.buf.now c.render_frame.new.buf c.in-Some.ensures c.render_frame.ensures.within c.in-Some-2.inner
+    c.render_line.new.buf
+    (inner-some c.args.self.now.block c.in-Some.part c.in_ok-inner.field-0 c.in-Some-2.inner c.in-Some-2.is
+    c.in_ok-inner.ensures.inner) c.render_line.ensures.within)
 
 pub returns-clause-left : goal.returns-clause-left
 returns-clause-left c = any-err c.render_line.result tt

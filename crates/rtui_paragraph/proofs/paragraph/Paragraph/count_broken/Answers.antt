@@ -5,4 +5,5 @@ use Rattle.rtui_paragraph.proofs.paragraph.Paragraph.count_broken.Goals as goal
 
 pub row_count-requires-clause-fit : goal.row_count-requires-clause-fit
 row_count-requires-clause-fit c =
-    subst (λ w. AllFit w (left_of c.new.result)) (sym c.new.ensures.width) (fit-of-line c.args.width (left_of c.new.result) _ c.new.ensures.left)
+    subst (λ w. AllFit w (left_of c.new.result)) (sym c.new.ensures.width)
+    (fit-of-line c.args.width (left_of c.new.result) _ c.new.ensures.left)

@@ -5,6 +5,7 @@ use Rattle.rtui_paragraph.proofs.paragraph.Paragraph.count_broken_rows.Given as 
 abbrev pub invariant-loop-line : goal.invariant-loop-line
 invariant-loop-line l = record {
   small : l.count ≤ 18446744073709551615;
-  rows : min (l.count + length (rows_of_lines (Some l.fn.wrap) l.fn.self l.fn.width (drop l.line-index l.line-items))) 18446744073709551615
+  rows : min (l.count + length (rows_of_lines (Some l.fn.wrap) l.fn.self l.fn.width (drop l.line-index l.line-items)))
+      18446744073709551615
       ≡ min (length (rows_of_lines (Some l.fn.wrap) l.fn.self l.fn.width l.fn.self.text.lines)) 18446744073709551615;
 }

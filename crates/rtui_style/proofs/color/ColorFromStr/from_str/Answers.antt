@@ -3,7 +3,8 @@ use Rattle.rtui_style.proofs.Reading.{read_index, read_hex, index_is_parsed, no_
 use Rattle.rtui_style.proofs.color.ColorFromStr.from_str.Goals as goal
 
 pub returns-in-Ok : goal.returns-in-Ok
-returns-in-Ok c = read_index c.args.text.now c.in-Ok.index (sym c.named_color.ensures ∙ c.in_default.is) (index_is_parsed c.args.text.now c.in-Ok.index c.in-Ok.ensures.value.0)
+returns-in-Ok c = read_index c.args.text.now c.in-Ok.index (sym c.named_color.ensures ∙ c.in_default.is)
+    (index_is_parsed c.args.text.now c.in-Ok.index c.in-Ok.ensures.value.0)
 
 pub returns-in-Some-hex_color : goal.returns-in-Some-hex_color
 returns-in-Some-hex_color c =

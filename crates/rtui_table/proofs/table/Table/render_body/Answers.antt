@@ -9,11 +9,19 @@ returns-clause-within c =
     within-then c.args.area c.args.buf.now c.render_rows.new.buf c.highlight.new.buf c.in_ok-row.ensures.within
     (parts-within c.args.area _ c.render_rows.new.buf c.highlight.new.buf
     (highlights-inside c.args.area c.args.self.now _ _
-    (row-inside c.args.area c.args.state.selected c.args.state.offset c.args.area (drop c.args.state.offset c.args.self.now.rows.items) (λ p h. h)) (chosen-inside c.args.area c.args.state.selected_column c.args.columns.now c.requires.columns))
+    (row-inside c.args.area c.args.state.selected c.args.state.offset c.args.area
+    (drop c.args.state.offset c.args.self.now.rows.items) (λ p h. h))
+    (chosen-inside c.args.area c.args.state.selected_column c.args.columns.now c.requires.columns))
     (rw (c.in_ok-row.ensures.selected, c.column_area-column.ensures) at c.highlight.ensures))
 
 pub returns-clause-ok : goal.returns-clause-ok
 returns-clause-ok c =
-    parts-then (rows_parts c.args.self.now c.args.state.selected c.args.symbol_columns c.args.columns.now (placed_rows c.args.self.now c.args.state c.args.area))
-    (highlight_parts c.args.self.now (selected_row_area c.args.state.selected (placed_rows c.args.self.now c.args.state c.args.area)) (selected_column_area c.args.state.selected_column c.args.columns.now c.args.area)) c.args.buf.now
-    c.render_rows.new.buf c.highlight.new.buf c.in_ok-row.ensures.ok (rw (c.in_ok-row.ensures.selected, c.column_area-column.ensures) at c.highlight.ensures)
+    parts-then (rows_parts c.args.self.now c.args.state.selected c.args.symbol_columns c.args.columns.now
+    (placed_rows c.args.self.now c.args.state c.args.area))
+    (highlight_parts c.args.self.now (selected_row_area c.args.state.selected
+    (placed_rows c.args.self.now c.args.state c.args.area))
+    (selected_column_area c.args.state.selected_column c.args.columns.now c.args.area)) c.args.buf.now
+    c.render_rows.new.buf c.highlight.new.buf c.in_ok-row.ensures.ok (rw (
+      c.in_ok-row.ensures.selected,
+      c.column_area-column.ensures,
+    ) at c.highlight.ensures)

@@ -14,7 +14,11 @@ invariant-loop-k l = record {
   width : l.left.width ≡ l.fn.area.width;
   inside : IsInside l.left l.fn.area;
   within : ChangesWithin l.fn.area l.fn.buf l.buf;
-  rest : Finishing (rows_parts l.fn.self l.fn.state.selected l.fn.symbol_columns l.fn.columns (stacked_rows l.k l.left (drop l.k l.fn.self.rows.items)))
-      (rows_parts l.fn.self l.fn.state.selected l.fn.symbol_columns l.fn.columns (placed_rows l.fn.self l.fn.state l.fn.area)) l.fn.buf l.buf;
-  found : option_or l.selected (selected_row_area l.fn.state.selected (stacked_rows l.k l.left (drop l.k l.fn.self.rows.items))) ≡ selected_row_area l.fn.state.selected (placed_rows l.fn.self l.fn.state l.fn.area);
+  rest : Finishing (rows_parts l.fn.self l.fn.state.selected l.fn.symbol_columns l.fn.columns
+      (stacked_rows l.k l.left (drop l.k l.fn.self.rows.items)))
+      (rows_parts l.fn.self l.fn.state.selected l.fn.symbol_columns l.fn.columns (placed_rows l.fn.self l.fn.state l.fn.area))
+      l.fn.buf l.buf;
+  found : option_or l.selected (selected_row_area l.fn.state.selected
+      (stacked_rows l.k l.left (drop l.k l.fn.self.rows.items))) ≡ selected_row_area l.fn.state.selected
+      (placed_rows l.fn.self l.fn.state l.fn.area);
 }

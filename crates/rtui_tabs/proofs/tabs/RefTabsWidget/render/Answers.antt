@@ -1,28 +1,37 @@
-use Rattle.rtui_boxes.proofs.FrameLemmas.{framed-bare, framed-some, inner-within, inner-some, inner-none, inner-own, inner-is, any-err}
+use Rattle.rtui_boxes.proofs.FrameLemmas.{framed-bare, framed-some, inner-within, inner-some, inner-none, inner-own, inner-is}
+use Rattle.rtui_boxes.proofs.FrameLemmas.{any-err}
 use Rattle.rtui_tabs.specs.Tabs.{ShowsTabs}
 use Rattle.rtui_tabs.proofs.tabs.RefTabsWidget.render.Goals as goal
 
 pub returns-in_default-2-clause-ok : goal.returns-in_default-2-clause-ok
 returns-in_default-2-clause-ok c =
-    framed-bare c.args.self.now.style c.args.self.now.block (ShowsTabs c.args.self.now) c.args.area c.in-Some.part c.args.buf.now c.render_frame.new.buf c.in-Some.ensures c.render_frame.ensures.within c.in_ok-inner.ensures.framed
+    framed-bare c.args.self.now.style c.args.self.now.block (ShowsTabs c.args.self.now) c.args.area c.in-Some.part c.args.buf.now
+    c.render_frame.new.buf c.in-Some.ensures c.render_frame.ensures.within c.in_ok-inner.ensures.framed
     (inner-none c.args.self.now.block c.in-Some.part c.in_ok-inner.field-0 c.in_default-2.is c.in_ok-inner.ensures.inner)
 
 pub render_tabs-requires-clause-inside : goal.render_tabs-requires-clause-inside
 render_tabs-requires-clause-inside c =
-    inner-own c.args.self.now.block c.in-Some.part c.in-Some-2.inner c.args.area c.args.buf.now c.render_frame.new.buf c.in-Some.ensures c.render_frame.ensures.within
-    (inner-some c.args.self.now.block c.in-Some.part c.in_ok-inner.field-0 c.in-Some-2.inner c.in-Some-2.is c.in_ok-inner.ensures.inner)
+    inner-own c.args.self.now.block c.in-Some.part c.in-Some-2.inner c.args.area c.args.buf.now c.render_frame.new.buf
+    c.in-Some.ensures c.render_frame.ensures.within
+    (inner-some c.args.self.now.block c.in-Some.part c.in_ok-inner.field-0 c.in-Some-2.inner c.in-Some-2.is
+    c.in_ok-inner.ensures.inner)
 
 pub returns-clause-ok : goal.returns-clause-ok
 returns-clause-ok c =
-    framed-some c.args.self.now.style c.args.self.now.block (ShowsTabs c.args.self.now) c.args.area c.in-Some.part c.args.buf.now c.render_frame.new.buf c.in-Some.ensures c.render_frame.ensures.within
+    framed-some c.args.self.now.style c.args.self.now.block (ShowsTabs c.args.self.now) c.args.area c.in-Some.part c.args.buf.now
+    c.render_frame.new.buf c.in-Some.ensures c.render_frame.ensures.within
     c.render_tabs.result c.in-Some-2.inner c.render_tabs.new.buf c.in_ok-inner.ensures.framed
-    (inner-some c.args.self.now.block c.in-Some.part c.in_ok-inner.field-0 c.in-Some-2.inner c.in-Some-2.is c.in_ok-inner.ensures.inner) c.render_tabs.ensures.within c.render_tabs.ensures.ok
+    (inner-some c.args.self.now.block c.in-Some.part c.in_ok-inner.field-0 c.in-Some-2.inner c.in-Some-2.is
+    c.in_ok-inner.ensures.inner) c.render_tabs.ensures.within c.render_tabs.ensures.ok
 
 pub returns-clause-err : goal.returns-clause-err
 returns-clause-err c =
     any-err c.render_tabs.result
-    (inner-within c.args.self.now.style c.args.self.now.block (ShowsTabs c.args.self.now) c.args.area c.in-Some.part c.args.buf.now c.render_frame.new.buf c.in-Some.ensures c.render_frame.ensures.within c.in-Some-2.inner c.render_tabs.new.buf
-    (inner-some c.args.self.now.block c.in-Some.part c.in_ok-inner.field-0 c.in-Some-2.inner c.in-Some-2.is c.in_ok-inner.ensures.inner) c.render_tabs.ensures.within)
+    (inner-within c.args.self.now.style c.args.self.now.block (ShowsTabs c.args.self.now) c.args.area c.in-Some.part
+    c.args.buf.now c.render_frame.new.buf c.in-Some.ensures c.render_frame.ensures.within c.in-Some-2.inner
+    c.render_tabs.new.buf
+    (inner-some c.args.self.now.block c.in-Some.part c.in_ok-inner.field-0 c.in-Some-2.inner c.in-Some-2.is
+    c.in_ok-inner.ensures.inner) c.render_tabs.ensures.within)
 
 pub returns-clause-left : goal.returns-clause-left
 returns-clause-left c = any-err c.render_tabs.result tt
@@ -31,5 +40,6 @@ pub returns-clause-short : goal.returns-clause-short
 returns-clause-short c = λ short. c.render_tabs.ensures.short
     (rw (
     inner-is c.args.self.now.block c.in-Some.part c.in-Some-2.inner c.args.area c.args.buf.now.area c.in-Some.ensures
-    (inner-some c.args.self.now.block c.in-Some.part c.in_ok-inner.field-0 c.in-Some-2.inner c.in-Some-2.is c.in_ok-inner.ensures.inner)
+    (inner-some c.args.self.now.block c.in-Some.part c.in_ok-inner.field-0 c.in-Some-2.inner c.in-Some-2.is
+    c.in_ok-inner.ensures.inner)
     ) short.shown)

@@ -15,8 +15,10 @@ loop-k-init c = record {
 
 pub returns-then-row-eq0-clause-ok : goal.returns-then-row-eq0-clause-ok
 returns-then-row-eq0-clause-ok c =
-    let none = tabs-end c.args.self.now c.loop-k.row c.loop-k.k (drop c.loop-k.k c.args.self.now.titles.items) (omega (arith, c.if-row-eq0.true)) in
-    c.loop-k.invariant.rest c.loop-k.buf (subst (λ ps. RendersParts c.args.self.now.highlight_style ps c.loop-k.buf c.loop-k.buf) (sym none) refl)
+    let none = tabs-end c.args.self.now c.loop-k.row c.loop-k.k (drop c.loop-k.k c.args.self.now.titles.items)
+    (omega (arith, c.if-row-eq0.true)) in
+    c.loop-k.invariant.rest c.loop-k.buf (subst (λ ps. RendersParts c.args.self.now.highlight_style ps c.loop-k.buf c.loop-k.buf)
+    (sym none) refl)
 
 pub returns-in_err-row-clause-within : goal.returns-in_err-row-clause-within
 returns-in_err-row-clause-within c =
@@ -25,25 +27,33 @@ returns-in_err-row-clause-within c =
 
 pub returns-in_err-row-clause-short : goal.returns-in_err-row-clause-short
 returns-in_err-row-clause-short c = λ short.
-    let lines = title-next c.args.self.now.titles.items c.loop-k.k c.index-titles-k.result (omega arith) (rw c.as_slice-titles.ensures.value at c.index-titles-k.is) in
-    let both = tabs-short c.args.self.now c.loop-k.row c.loop-k.k c.index-titles-k.result (drop c.loop-k.k c.args.self.now.titles.items) (drop (c.loop-k.k + 1) c.args.self.now.titles.items) lines (omega arith)
+    let lines = title-next c.args.self.now.titles.items c.loop-k.k c.index-titles-k.result (omega arith)
+    (rw c.as_slice-titles.ensures.value at c.index-titles-k.is) in
+    let both = tabs-short c.args.self.now c.loop-k.row c.loop-k.k c.index-titles-k.result
+    (drop c.loop-k.k c.args.self.now.titles.items) (drop (c.loop-k.k + 1) c.args.self.now.titles.items) lines (omega arith)
     (c.loop-k.invariant.short short) in
     let no : false ≡ true = c.in_err-row.ensures.short both.0 in
     absurd (cc)
 
 pub loop-k-preserved : goal.loop-k-preserved
 loop-k-preserved c =
-    let lines = title-next c.args.self.now.titles.items c.loop-k.k c.index-titles-k.result (omega arith) (rw c.as_slice-titles.ensures.value at c.index-titles-k.is) in
+    let lines = title-next c.args.self.now.titles.items c.loop-k.k c.index-titles-k.result (omega arith)
+    (rw c.as_slice-titles.ensures.value at c.index-titles-k.is) in
     let inside = parts-inside c.loop-k.row (tab_parts c.args.self.now c.loop-k.k c.index-titles-k.result) in
     record {
       row = c.in_ok-row.ensures.left;
       inside = λ p h. c.loop-k.invariant.inside p (inside p (rw c.in_ok-row.ensures.rest at h));
       within = within-then c.args.inner c.args.buf.now c.loop-k.buf c.put_tab.new.buf c.loop-k.invariant.within
-          (within-wider c.loop-k.row c.args.inner c.loop-k.buf c.put_tab.new.buf c.loop-k.invariant.inside c.in_ok-row.ensures.within);
+          (within-wider c.loop-k.row c.args.inner c.loop-k.buf c.put_tab.new.buf c.loop-k.invariant.inside
+          c.in_ok-row.ensures.within);
       rest = rw c.in_ok-row.ensures.rest
-          (tabs-next c.args.self.now c.loop-k.row c.loop-k.k c.index-titles-k.result (drop c.loop-k.k c.args.self.now.titles.items) (drop (c.loop-k.k + 1) c.args.self.now.titles.items) (placed_tabs c.args.self.now c.args.inner)
+          (tabs-next c.args.self.now c.loop-k.row c.loop-k.k c.index-titles-k.result
+          (drop c.loop-k.k c.args.self.now.titles.items) (drop (c.loop-k.k + 1) c.args.self.now.titles.items)
+          (placed_tabs c.args.self.now c.args.inner)
           c.args.buf.now c.loop-k.buf c.put_tab.new.buf lines (omega arith) c.loop-k.invariant.rest c.in_ok-row.ensures.ok);
       short = λ short. rw c.in_ok-row.ensures.rest
-          (tabs-short c.args.self.now c.loop-k.row c.loop-k.k c.index-titles-k.result (drop c.loop-k.k c.args.self.now.titles.items) (drop (c.loop-k.k + 1) c.args.self.now.titles.items) lines (omega arith)
+          (tabs-short c.args.self.now c.loop-k.row c.loop-k.k c.index-titles-k.result
+          (drop c.loop-k.k c.args.self.now.titles.items) (drop (c.loop-k.k + 1) c.args.self.now.titles.items) lines
+          (omega arith)
           (c.loop-k.invariant.short short)).1;
     }

@@ -10,6 +10,8 @@ invariant-loop-k l = record {
   row : IsRowInBuffer l.buf.area l.row;
   inside : IsInside l.row l.fn.inner;
   within : ChangesWithin l.fn.inner l.fn.buf l.buf;
-  rest : Completes l.fn.self.highlight_style (tabs_from l.fn.self l.row l.k (drop l.k l.fn.self.titles.items)) (placed_tabs l.fn.self l.fn.inner) l.fn.buf l.buf;
-  short : AreShortTabParts (placed_tabs l.fn.self l.fn.inner) → AreShortTabParts (tabs_from l.fn.self l.row l.k (drop l.k l.fn.self.titles.items));
+  rest : Completes l.fn.self.highlight_style (tabs_from l.fn.self l.row l.k (drop l.k l.fn.self.titles.items))
+      (placed_tabs l.fn.self l.fn.inner) l.fn.buf l.buf;
+  short : AreShortTabParts (placed_tabs l.fn.self l.fn.inner)
+      → AreShortTabParts (tabs_from l.fn.self l.row l.k (drop l.k l.fn.self.titles.items));
 }

@@ -6,5 +6,7 @@ use Rattle.rtui_text.proofs.masked.MaskedDisplay.fmt.Goals as goal
 
 pub returns-clause-writes : goal.returns-clause-writes
 returns-clause-writes g c = λ p _.
-    let all = YieldsList-end (YieldsList-from_chars c.as_str.result.now c.as_str.utf8 cc) c.loop-c.yielded _ c.loop-c.yielded_by _ _ c.in-None.is c.next.ensures.steps in
-    rw (← c.self.view_is) (has_written_of_eq _ _ _ _ _ (ap (flat_map (λ _. encode_utf8 c.self.inside.mask_char)) (all.0 ∙ ap chars c.as_str.ensures.value)) (rw (← c.self.view_is) at (c.loop-c.invariant p)))
+    let all = YieldsList-end (YieldsList-from_chars c.as_str.result.now c.as_str.utf8 cc) c.loop-c.yielded _ c.loop-c.yielded_by _
+    _ c.in-None.is c.next.ensures.steps in
+    rw (← c.self.view_is) (has_written_of_eq _ _ _ _ _ (ap (flat_map (λ _. encode_utf8 c.self.inside.mask_char))
+    (all.0 ∙ ap chars c.as_str.ensures.value)) (rw (← c.self.view_is) at (c.loop-c.invariant p)))

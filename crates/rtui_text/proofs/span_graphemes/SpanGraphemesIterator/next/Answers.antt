@@ -6,4 +6,5 @@ use Rattle.rtui_text.proofs.span_graphemes.SpanGraphemesIterator.next.Goals as g
 pub returns-then-not-has_control-clause-steps : goal.returns-then-not-has_control-clause-steps
 returns-then-not-has_control-clause-steps c =
     let invariant = c.loop-symbol.invariant in
-    sym invariant.1 ∙ rw (invariant.0) (ap (in_style c.loop-symbol.self.style) c.in-Some.ensures.steps ∙ shown-next _ _ _ (search rules))
+    sym invariant.1 ∙ rw (invariant.0) (ap (in_style c.loop-symbol.self.style) c.in-Some.ensures.steps
+    ∙ shown-next _ _ _ (search rules))

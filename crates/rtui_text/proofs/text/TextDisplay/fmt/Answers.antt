@@ -11,5 +11,6 @@ returns-in_ok-write-clause-writes g c = λ p _.
     let others = c.in-Some.others.now in
     let whole : take c.loop-line.line-index others ≡ others = grind (arith, common_steps) in
     let parts : c.args.self.now.lines ≡ others ++ last ∷ [] = search rules in
-    let printed : broken_lines (take c.loop-line.line-index others) ++ printed_spans last.spans ≡ printed_lines c.args.self.now.lines = rw (whole, parts) (sym (printed_lines-last others last)) in
+    let printed : broken_lines (take c.loop-line.line-index others) ++ printed_spans last.spans ≡ printed_lines
+    c.args.self.now.lines = rw (whole, parts) (sym (printed_lines-last others last)) in
     has_written_of_eq _ _ _ _ _ printed (has_written_append _ _ _ _ _ _ (c.loop-line.invariant p) (search rules))

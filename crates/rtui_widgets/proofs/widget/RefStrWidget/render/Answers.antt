@@ -13,6 +13,8 @@ returns-in_err-set_stringn-clause-err c =
     let area = c.args.area in
     let keeps = text-keeps own area.x area.width new_style c.args.self.now in
     let within : ChangesWithin (first_row area) c.args.buf.now c.set_stringn.new.self =
-    within-beside (first_row area) (corner area) (pieces_at own area.x area.width new_style c.args.self.now) c.args.buf.now c.set_stringn.new.self c.requires.row c.requires.column
-    (text-ends own area.x area.width new_style c.args.self.now) (λ q in_own from to same. omega arith) (rw (← c.from.ensures, ← c.new.ensures) c.in_err-set_stringn.ensures.paints.err) in
+    within-beside (first_row area) (corner area) (pieces_at own area.x area.width new_style c.args.self.now) c.args.buf.now
+    c.set_stringn.new.self c.requires.row c.requires.column
+    (text-ends own area.x area.width new_style c.args.self.now) (λ q in_own from to same. omega arith)
+    (rw (← c.from.ensures, ← c.new.ensures) c.in_err-set_stringn.ensures.paints.err) in
     search rules
