@@ -24,7 +24,7 @@ mod widget;
 /// let mut terminal = Terminal::new(alloc, TestBackend::new(alloc, 80, 24)?)?;
 /// terminal.draw(|frame| {
 ///     let area = frame.area();
-///     frame.render_widget("Ready", area)
+///     frame.render_widget(Line::raw(alloc, "Ready")?, area)
 /// })?;
 /// ```
 #[derive(Debug)]

@@ -15,7 +15,7 @@ use std::alloc::AllocError;
 /// ```
 /// let area = frame.area();
 /// frame.buffer_mut().set_style(area, Style::new().bg(Color::Blue));
-/// frame.render_widget("Name: ", area)?;
+/// frame.render_widget(Line::raw(alloc, "Name: ")?, area)?;
 /// frame.set_cursor_position(Position::new(area.x.saturating_add(6), area.y));
 /// ```
 #[derive(Debug, PartialEq, Eq, Hash, Drop)]

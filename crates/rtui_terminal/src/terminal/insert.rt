@@ -127,7 +127,7 @@ impl<B: Backend> Terminal<B> {
     /// ```
     /// terminal.insert_before(1, |rows| {
     ///     let area = *rows.area();
-    ///     "a line above".render(area, rows)
+    ///     Line::raw(alloc, "a line above")?.render(area, rows)
     /// })?;
     /// ```
     ///

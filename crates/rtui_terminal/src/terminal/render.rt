@@ -143,7 +143,7 @@ impl<B: Backend> Terminal<B> {
     /// let mut terminal = Terminal::new(alloc, TestBackend::new(alloc, 5, 1)?)?;
     /// terminal.draw(|frame| {
     ///     let area = frame.area();
-    ///     frame.render_widget("Ready", area)
+    ///     frame.render_widget(Line::raw(alloc, "Ready")?, area)
     /// })?;
     /// assert!(rt; terminal.backend().lines_are(&["Ready"]));
     /// ```
@@ -200,9 +200,10 @@ impl<B: Backend> Terminal<B> {
     ///
     /// ```
     /// let mut terminal = Terminal::new(alloc, TestBackend::new(alloc, 5, 1)?)?;
+    /// let ready = Line::raw(alloc, "Ready")?;
     /// terminal.try_draw(|frame| {
     ///     let area = frame.area();
-    ///     match frame.render_widget("Ready", area) {
+    ///     match frame.render_widget(ready, area) {
     ///         Ok(()) => Ok(()),
     ///         Err(_) => Err(TestError::Memory),
     ///     }

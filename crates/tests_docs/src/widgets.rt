@@ -1,0 +1,138 @@
+//! Examples of widgets.
+use logview::LogView;
+use ratatui_core::backend::TestBackend;
+use ratatui_core::buffer::Buffer;
+use ratatui_core::layout::Rect;
+use ratatui_core::style::{Color, Style};
+use ratatui_core::terminal::{Frame, Terminal};
+use ratatui_core::text::{Line, Text};
+use ratatui_core::widgets::{StatefulWidget, Widget};
+use ratatui_widgets::{
+    Block, BorderType, Gauge, LineGauge, List, ListItem, ListState, Paragraph, Scrollbar,
+    ScrollbarOrientation, ScrollbarState, Wrap,
+};
+use std::alloc::{AllocError, Global};
+use std::test::Fail;
+
+// A box with a title, and the area inside.
+fn boxed(alloc: Global, area: Rect, buf: &mut Buffer) -> Result<Rect, AllocError> {
+    let block = Block::bordered(alloc)
+        .border_type(BorderType::Rounded)
+        .title(Line::raw(alloc, "Files")?)?;
+    let inside = block.inner(area);
+    block.render(area, buf)?;
+    Ok(inside)
+}
+
+#[test]
+fn a_box_has_an_inside(rt: HostRuntime) -> Result<(), AllocError> {
+    let alloc = rt.alloc();
+    let area = Rect::new(0, 0, 8, 3);
+    let mut buffer = Buffer::empty(alloc, area)?;
+    assert!(rt; boxed(alloc, area, &mut buffer)? == Rect::new(1, 1, 6, 1));
+    assert!(rt; buffer[(0, 0)].symbol() == "╭");
+    assert!(rt; buffer[(1, 0)].symbol() == "F");
+    Ok(())
+}
+
+// Two items.
+fn items(alloc: Global) -> Result<Vec<ListItem<'static>>, AllocError> {
+    let mut items = Vec::new(alloc);
+    items.push(ListItem::new(Text::raw(alloc, "one")?))?;
+    items.push(ListItem::new(Text::raw(alloc, "two")?))?;
+    Ok(items)
+}
+
+// A list with its second item selected.
+fn listed(alloc: Global, area: Rect, buf: &mut Buffer) -> Result<(), AllocError> {
+    let items = items(alloc)?;
+    let list = List::new(items)
+        .highlight_symbol("> ")
+        .highlight_style(Style::new().bg(Color::Blue));
+    let mut state = ListState::default();
+    state.select(Some(1));
+    StatefulWidget::render(&list, area, buf, &mut state)?;
+    Ok(())
+}
+
+#[test]
+fn a_list_shows_what_is_selected(rt: HostRuntime) -> Result<(), AllocError> {
+    let alloc = rt.alloc();
+    let area = Rect::new(0, 0, 6, 2);
+    let mut buffer = Buffer::empty(alloc, area)?;
+    listed(alloc, area, &mut buffer)?;
+    assert!(rt; buffer[(0, 1)].symbol() == ">");
+    Ok(())
+}
+
+// Two gauges and a scroll bar.
+fn measured(area: Rect, buf: &mut Buffer) -> Result<(), AllocError> {
+    let (sent, total, lines, first) = (1, 2, 10, 0);
+    Gauge::new()
+        .ratio(sent, total)
+        .gauge_style(Style::new().fg(Color::Green))
+        .render(area, buf)?;
+    LineGauge::new()
+        .percent(40)
+        .filled_style(Style::new().fg(Color::Green))
+        .render(area, buf)?;
+    let mut state = ScrollbarState::new(lines).position(first);
+    Scrollbar::new(ScrollbarOrientation::VerticalRight).render(area, buf, &mut state)?;
+    Ok(())
+}
+
+#[test]
+fn gauges_are_rendered(rt: HostRuntime) -> Result<(), AllocError> {
+    let alloc = rt.alloc();
+    let area = Rect::new(0, 0, 12, 4);
+    let mut buffer = Buffer::empty(alloc, area)?;
+    measured(area, &mut buffer)?;
+    assert!(rt; buffer[(11, 0)].symbol() == "▲");
+    Ok(())
+}
+
+// A text in a box.
+fn boxed_text(alloc: Global, frame: &mut Frame<'_>) -> Result<(), AllocError> {
+    let area = frame.area();
+    let text = Text::raw(alloc, "The quick brown fox")?;
+    let paragraph = Paragraph::new(text)
+        .wrap(Wrap { trim: true })
+        .block(Block::bordered(alloc));
+    frame.render_widget(paragraph, area)?;
+    Ok(())
+}
+
+// A list with its third item selected, if it has one.
+fn third(alloc: Global, frame: &mut Frame<'_>) -> Result<(), AllocError> {
+    let area = frame.area();
+    let list = List::new(items(alloc)?);
+    let mut state = ListState::default();
+    state.select(Some(2));
+    frame.render_stateful_widget(list, area, &mut state)?;
+    Ok(())
+}
+
+#[test]
+fn frames_have_widgets(rt: HostRuntime) -> Result<(), Fail> {
+    let alloc = rt.alloc();
+    let mut terminal = Terminal::new(alloc, TestBackend::new(alloc, 11, 4)?)?;
+    terminal.draw(|frame| boxed_text(alloc, frame))?;
+    assert!(rt;
+        terminal.backend().lines_are(&["┌─────────┐", "│The quick│", "│brown fox│", "└─────────┘"])
+    );
+    terminal.draw(|frame| third(alloc, frame))?;
+    Ok(())
+}
+
+#[test]
+fn a_log_is_shown(rt: HostRuntime) -> Result<(), Fail> {
+    let alloc = rt.alloc();
+    let mut view = LogView::new(alloc, TestBackend::new(alloc, 8, 3)?)?;
+    view.push("one")?;
+    assert!(rt;
+        view.terminal()
+            .backend()
+            .lines_are(&["one     ", "lines: 1", "        "])
+    );
+    Ok(())
+}
