@@ -45,7 +45,7 @@ pub mod layout {
         Alignment, Constraint, Direction, Flex, HorizontalAlignment, Layout, ParseError, Spacing,
         VerticalAlignment,
     };
-    pub use rtui_split::{CountError, Cut, Split, SplitArea, SplitInto};
+    pub use rtui_split::{CountError, Cut, Split, SplitArea, SplitAreaInto, SplitInto};
 
     /// Laws of rectangles and of layouts.
     pub mod laws {

@@ -3,7 +3,6 @@
 use ratatui_core::backend::Backend;
 use ratatui_core::style::{Modifier, Style};
 use ratatui_core::terminal::{Terminal, TerminalError};
-use ratatui_core::text::Text;
 use ratatui_widgets::{List, ListItem, ListState};
 use std::alloc::{AllocError, Global};
 
@@ -13,7 +12,7 @@ const FRUITS: [&str; 4] = ["apples", "cherries", "figs", "pears"];
 fn fruits(alloc: Global) -> Result<List<'static>, AllocError> {
     let mut items = Vec::new(alloc);
     for fruit in FRUITS {
-        items.push(ListItem::new(Text::raw(alloc, fruit)?))?;
+        items.push(ListItem::raw(alloc, fruit)?)?;
     }
     Ok(List::new(items).highlight_symbol("> "))
 }

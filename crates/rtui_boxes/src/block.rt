@@ -3,6 +3,7 @@
 ghost use Rattle.std.specs.Prelude.{◌≡◌, ◌-◌, ◌≤◌, IfOk, None, Some};
 ghost use Rattle.rtui_boxes.specs.declared.title.TitlePosition.TheVariants.{Top, Bottom};
 ghost use Rattle.ratatui_core.specs.Symbols.{border_texts};
+ghost use Rattle.ratatui_core.specs.Text.{raw_line};
 ghost use Rattle.rtui_boxes.specs.Kinds.{border_of_kind};
 ghost use Rattle.rtui_boxes.specs.Boxes.{AddsTitle, IsNewBlock, has_side, has_row, has_title, is_in_row};
 ghost use Rattle.rtui_boxes.specs.Boxes.{one_if, inner_of, rows_around};
@@ -27,7 +28,7 @@ mod titles;
 /// A box: borders on some of its sides, titles in its first and its last row, and the space inside.
 ///
 /// ```
-/// let block = Block::bordered(alloc).border_type(BorderType::Rounded).title(Line::raw(alloc, "Files")?)?;
+/// let block = Block::bordered(alloc).border_type(BorderType::Rounded).title_raw("Files")?;
 /// let inside = block.inner(area);
 /// block.render(area, buf)?;
 /// ```
@@ -80,6 +81,18 @@ impl<'a> Block<'a> {
         ensures { IfOk result (AddsTitle None line.entry self.entry) }
     {
         self.with_title(None, line)
+    }
+
+    /// The box with a plain text as a title, which stands where the titles do.
+    ///
+    /// # Errors
+    ///
+    /// `AllocError` if memory is refused; the box is gone then.
+    pub fn title_raw(self, text: &'a str) -> Result<Block<'a>, AllocError>
+        ensures { IfOk result (AddsTitle None (raw_line text.now) self.entry) }
+    {
+        let line = Line::raw(*self.titles.allocator(), text)?;
+        self.title(line)
     }
 
     /// The box with a title in its first row.

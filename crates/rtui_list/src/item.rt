@@ -1,12 +1,13 @@
 //! The items of a list.
 
-ghost use Rattle.std.specs.Prelude.{◌≡◌, length};
+ghost use Rattle.std.specs.Prelude.{◌≡◌, length, IfOk};
 ghost use Rattle.ratatui_core.specs.Style.{new_style};
-ghost use Rattle.ratatui_core.specs.Text.{widest};
+ghost use Rattle.ratatui_core.specs.Text.{raw_text, widest};
 ghost use Rattle.rtui_list.specs.Windows.{item_rows};
 
 use ratatui_core::style::Style;
 use ratatui_core::text::Text;
+use std::alloc::{AllocError, Global};
 
 /// An item of a list: a text in a style, which takes a row for each of its lines.
 #[derive(Debug, Drop)]
@@ -24,6 +25,19 @@ impl<'a> ListItem<'a> {
             content,
             style: Style::new(),
         }
+    }
+
+    /// An item of a plain text, a row for each of its lines.
+    ///
+    /// # Errors
+    ///
+    /// `AllocError` if memory is refused.
+    pub fn raw(alloc: Global, text: &'a str) -> Result<ListItem<'a>, AllocError>
+        ensures { IfOk result
+            (λ item. item ≡ record { content = raw_text text.now; style = new_style }) }
+    {
+        let content = Text::raw(alloc, text)?;
+        Ok(ListItem::new(content))
     }
 
     /// The item in a style.

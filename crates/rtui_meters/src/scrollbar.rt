@@ -3,6 +3,7 @@
 ghost use Rattle.std.specs.Prelude.{◌≡◌, ◌≤◌, ◌<◌, ◌-◌, ◌^◌};
 ghost use Rattle.ratatui_core.specs.Layout.{IsInside};
 ghost use Rattle.rtui_boxes.specs.Boxes.{IsBoxArea};
+ghost use Rattle.rtui_meters.specs.declared.scrollbar.ScrollbarOrientation.TheVariants.{VerticalRight};
 ghost use Rattle.rtui_meters.specs.Scrollbars.{IsNewScrollbar, HasSymbols, IsSetFor, with_bar_symbols};
 ghost use Rattle.rtui_meters.specs.Scrollbars.{is_upright, bar_area, bar_start, bar_length, arrow_count};
 ghost use Rattle.rtui_meters.specs.Scrollbars.{track_length, marks_of, mark_of};
@@ -233,6 +234,14 @@ impl<'a> Scrollbar<'a> {
         } else {
             area.width
         }
+    }
+}
+
+impl Default for Scrollbar<'_> {
+    ghost is_default = { IsNewScrollbar VerticalRight };
+
+    fn default() -> Self {
+        Scrollbar::new(ScrollbarOrientation::VerticalRight)
     }
 }
 

@@ -3,7 +3,7 @@
 ghost use Rattle.std.specs.Prelude.{◌≡◌, ◌+◌, ◌<◌, ◌≤◌, ◌∷◌, [], min, length, Some, None, IfOk, OnOk};
 ghost use Rattle.ratatui_core.specs.Layout.{IsInside};
 ghost use Rattle.ratatui_core.specs.Buffer.{IsSettledBuffer, IsReadyAt, IsReadyFrom, position_of};
-ghost use Rattle.ratatui_core.specs.Text.{grapheme_data};
+ghost use Rattle.ratatui_core.specs.Text.{grapheme_data, raw_text};
 ghost use Rattle.ratatui_core.specs.Widgets.{ChangesWithin};
 ghost use Rattle.ratatui_core.specs.declared.layout.HorizontalAlignment.TheVariants.{Left, Center, Right};
 ghost use Rattle.rtui_boxes.specs.Boxes.{IsBoxArea};
@@ -26,7 +26,7 @@ use rtui_boxes::{Block, render_frame};
 use std::alloc::{AllocError, Global};
 
 /// How lines are broken that don't fit.
-#[derive(Debug, Clone, Copy, PartialEq, Eq, Hash)]
+#[derive(Debug, Default, Clone, Copy, PartialEq, Eq, Hash)]
 pub struct Wrap {
     /// Whether blanks at the beginning of a row are left out.
     pub trim: bool,
@@ -36,8 +36,7 @@ pub struct Wrap {
 /// rows.
 ///
 /// ```
-/// let text = Text::raw(alloc, "The quick brown fox")?;
-/// let paragraph = Paragraph::new(text)
+/// let paragraph = Paragraph::raw(alloc, "The quick brown fox")?
 ///     .wrap(Wrap { trim: true })
 ///     .block(Block::bordered(alloc));
 /// frame.render_widget(paragraph, area)?;
@@ -65,6 +64,18 @@ impl<'a> Paragraph<'a> {
             scroll: Position { x: 0, y: 0 },
             alignment: HorizontalAlignment::Left,
         }
+    }
+
+    /// A paragraph of a plain text, a line for each of its lines.
+    ///
+    /// # Errors
+    ///
+    /// `AllocError` if memory is refused.
+    pub fn raw(alloc: Global, text: &'a str) -> Result<Paragraph<'a>, AllocError>
+        ensures { IfOk result (IsNewParagraph (raw_text text.now)) }
+    {
+        let text = Text::raw(alloc, text)?;
+        Ok(Paragraph::new(text))
     }
 
     /// The paragraph in a box.

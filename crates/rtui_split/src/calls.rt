@@ -191,3 +191,46 @@ impl SplitArea for Rect {
             .centered_vertically(vertical)
     }
 }
+
+/// What is divided by a layout into an array of parts.
+///
+/// ```
+/// let layout = Layout::vertical(alloc, &[Constraint::Length(1), Constraint::Fill(1)])?;
+/// let [head, body]: [Rect; 2] = frame.area().layout(&layout);
+/// ```
+pub trait SplitAreaInto<const N: usize> {
+    ghost use Rattle.std.specs.Prelude.{◌≡◌, ◌↔◌, ◌<◌, ◌^◌, List, length, IfOk, IsOk};
+    ghost use Rattle.rtui_geometry.specs.declared.rect.Rect.{Rect};
+    ghost use Rattle.rtui_split.specs.Split.{inner, IsSplit};
+
+    /// The area.
+    ghost area: { Self → Rect };
+
+    /// The parts by a layout of as many constraints; takes no memory.
+    fn layout(self, layout: &Layout) -> [Rect; N]
+        requires count { N ≡ length layout.now.constraints }
+        requires small { N < 2 ^ 32 }
+        ensures { IsSplit layout.now (inner (area self) layout.now.margin) result };
+
+    /// The parts by a layout, in an array if it has as many; takes no memory.
+    ///
+    /// # Errors
+    ///
+    /// `CountError` if the array has another number of elements than the layout has constraints.
+    fn try_layout(self, layout: &Layout) -> Result<[Rect; N], CountError>
+        requires small { N < 2 ^ 32 }
+        ensures value { IfOk result (IsSplit layout.now (inner (area self) layout.now.margin)) }
+        ensures count { IsOk result ↔ (N ≡ length layout.now.constraints) };
+}
+
+impl<const N: usize> SplitAreaInto<N> for Rect {
+    ghost area = { λ r. r };
+
+    fn layout(self, layout: &Layout) -> [Rect; N] {
+        layout.areas(self)
+    }
+
+    fn try_layout(self, layout: &Layout) -> Result<[Rect; N], CountError> {
+        layout.try_areas(self)
+    }
+}

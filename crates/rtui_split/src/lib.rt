@@ -12,4 +12,4 @@ mod place;
 mod share;
 mod smooth;
 
-pub use calls::{CountError, Cut, Split, SplitArea, SplitInto};
+pub use calls::{CountError, Cut, Split, SplitArea, SplitAreaInto, SplitInto};

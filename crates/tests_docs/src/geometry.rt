@@ -1,9 +1,10 @@
 //! Examples of positions, rectangles and layouts.
 use ratatui_core::backend::TestBackend;
 use ratatui_core::layout::{
-    Constraint, Flex, Layout, Margin, Offset, Position, Rect, Split, SplitInto,
+    Constraint, Flex, Layout, Margin, Offset, Position, Rect, Split, SplitAreaInto, SplitInto,
 };
 use ratatui_core::terminal::{Frame, Terminal};
+use ratatui_core::text::Line;
 use std::alloc::{AllocError, Global};
 use std::test::Fail;
 
@@ -47,7 +48,15 @@ fn divided(alloc: Global, frame: &mut Frame<'_>) -> Result<[Rect; 2], AllocError
     let layout = Layout::vertical(alloc, &[Constraint::Length(1), Constraint::Fill(1)])?;
     let parts = layout.split(alloc, frame.area())?;
     let [head, body]: [Rect; 2] = layout.areas(frame.area());
-    frame.render_widget(if parts.len() == 2 { "two" } else { "" }, head)?;
+    let count = if parts.len() == 2 { "two" } else { "" };
+    frame.render_widget(Line::raw(alloc, count)?, head)?;
+    Ok([head, body])
+}
+
+// The same, asked of the area.
+fn divided_by(alloc: Global, frame: &Frame<'_>) -> Result<[Rect; 2], AllocError> {
+    let layout = Layout::vertical(alloc, &[Constraint::Length(1), Constraint::Fill(1)])?;
+    let [head, body]: [Rect; 2] = frame.area().layout(&layout);
     Ok([head, body])
 }
 
@@ -59,5 +68,6 @@ fn a_layout_divides_an_area(rt: HostRuntime) -> Result<(), Fail> {
     let [head, body] = divided(alloc, &mut frame)?;
     assert!(rt; head == Rect::new(0, 0, 3, 1));
     assert!(rt; body == Rect::new(0, 1, 3, 3));
+    assert!(rt; divided_by(alloc, &frame)? == [head, body]);
     Ok(())
 }

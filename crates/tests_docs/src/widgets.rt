@@ -5,7 +5,6 @@ use ratatui_core::buffer::Buffer;
 use ratatui_core::layout::Rect;
 use ratatui_core::style::{Color, Style};
 use ratatui_core::terminal::{Frame, Terminal};
-use ratatui_core::text::{Line, Text};
 use ratatui_core::widgets::{StatefulWidget, Widget};
 use ratatui_widgets::{
     Block, BorderType, Gauge, LineGauge, List, ListItem, ListState, Paragraph, Scrollbar,
@@ -18,7 +17,7 @@ use std::test::Fail;
 fn boxed(alloc: Global, area: Rect, buf: &mut Buffer) -> Result<Rect, AllocError> {
     let block = Block::bordered(alloc)
         .border_type(BorderType::Rounded)
-        .title(Line::raw(alloc, "Files")?)?;
+        .title_raw("Files")?;
     let inside = block.inner(area);
     block.render(area, buf)?;
     Ok(inside)
@@ -38,8 +37,8 @@ fn a_box_has_an_inside(rt: HostRuntime) -> Result<(), AllocError> {
 // Two items.
 fn items(alloc: Global) -> Result<Vec<ListItem<'static>>, AllocError> {
     let mut items = Vec::new(alloc);
-    items.push(ListItem::new(Text::raw(alloc, "one")?))?;
-    items.push(ListItem::new(Text::raw(alloc, "two")?))?;
+    items.push(ListItem::raw(alloc, "one")?)?;
+    items.push(ListItem::raw(alloc, "two")?)?;
     Ok(items)
 }
 
@@ -94,8 +93,7 @@ fn gauges_are_rendered(rt: HostRuntime) -> Result<(), AllocError> {
 // A text in a box.
 fn boxed_text(alloc: Global, frame: &mut Frame<'_>) -> Result<(), AllocError> {
     let area = frame.area();
-    let text = Text::raw(alloc, "The quick brown fox")?;
-    let paragraph = Paragraph::new(text)
+    let paragraph = Paragraph::raw(alloc, "The quick brown fox")?
         .wrap(Wrap { trim: true })
         .block(Block::bordered(alloc));
     frame.render_widget(paragraph, area)?;

@@ -3,7 +3,7 @@
 
 use rtui_geometry::Rect;
 use rtui_layout::{Constraint, Layout};
-use rtui_split::{CountError, Split, SplitArea, SplitInto};
+use rtui_split::{CountError, Split, SplitArea, SplitAreaInto, SplitInto};
 use std::alloc::{AllocError, Global};
 
 const AREA: Rect = Rect {
@@ -77,6 +77,17 @@ fn an_area_is_divided_by_a_layout(rt: HostRuntime) -> Result<(), AllocError> {
     let layout = head_and_body(rt.alloc())?;
     let parts = AREA.layout_vec(rt.alloc(), &layout)?;
     assert!(rt; parts.first().map(|part| rows(*part)) == Some((1, 1)));
+    Ok(())
+}
+
+#[test]
+fn an_area_is_divided_into_an_array(rt: HostRuntime) -> Result<(), AllocError> {
+    let layout = Layout::vertical(rt.alloc(), &[Constraint::Length(1), Constraint::Fill(1)])?;
+    let [head, body]: [Rect; 2] = AREA.layout(&layout);
+    assert!(rt; rows(head) == (1, 1));
+    assert!(rt; rows(body) == (2, 9));
+    let three: Result<[Rect; 3], CountError> = AREA.try_layout(&layout);
+    assert!(rt; three.is_err());
     Ok(())
 }
 
