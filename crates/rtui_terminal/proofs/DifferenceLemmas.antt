@@ -1,11 +1,16 @@
 -- What a draw of the differences leaves on a screen.
-use Rattle.std.proofs.Common.{◌≡◌, ◌⊎◌, ℕ, ◌+◌, ◌*◌, ◌<◌, ◌≤◌, List, length, map, sym, ap, subst, ◌∙◌, arith, inl, inr}
-use Rattle.std.proofs.lemmas.{Bool.cases_lt, List.length-map}
+use Rattle.std.specs.Iterator.{Drains, YieldsFirstBy}
+use Rattle.std.proofs.Common.{◌≡◌, ◌⊎◌, ℕ, ◌+◌, ◌*◌, ◌<◌, ◌≤◌, List, Ok, length, map, inl, inr}
+use Rattle.std.proofs.Common.{refl, sym, ap, subst, ◌∙◌, arith}
+use Rattle.std.proofs.lemmas.{Bool.cases_lt, List.length-map, Iterator.Consumers.YieldsList-from_first}
 use Rattle.rtui_geometry.specs.{declared.rect.Rect.Rect, Rect.EdgesFit}
 use Rattle.rtui_cell.specs.Grid.{Update}
-use Rattle.rtui_diff.specs.{Settled.IsSettled, Shows.ShowsColumn, Shows.Shows, Shows.Replays, Updates.update_at, Completeness.AreNarrow, Completeness.differing}
-use Rattle.rtui_buffer.specs.{BufferData.BufferData, Shown.IsSettledBuffer, Shown.common_rows, Shown.buffer_updates}
+use Rattle.rtui_diff.specs.{Settled.IsSettled, Shows.ShowsColumn, Shows.Shows, Shows.Replays}
+use Rattle.rtui_diff.specs.{Updates.update_at, Completeness.AreNarrow, Completeness.differing}
+use Rattle.rtui_buffer.specs.BufferData.{BufferData}
+use Rattle.rtui_buffer.specs.Shown.{IsSettledBuffer, IsBufferDiff, common_rows, buffer_updates}
 use Rattle.rtui_backend.specs.Screen.{Screen, Draws, IsWithin}
+use Rattle.rtui_backend.proofs.DrawLemmas.{Draws-along}
 use Rattle.rtui_terminal.specs.Writing.{WritesDifferences, differing_count}
 
 -- a column that isn't in a rectangle lies on one side of it
@@ -50,3 +55,11 @@ module _ (p n : BufferData) (us : List Update) (old new : Screen) (fit : EdgesFi
         let count : length us ≡ differing_count p n = ap length (us_are is_narrow) ∙ length-map _ _ in
         drawn.written (rw count below) ∙ ap (λ k. old.written + k) count;
   }
+
+-- the items of an iterator whose state shows the updates between two buffers that are left were drawn
+pub differences_drawn : {S A : Type 0} (view : A → Update) (left : S → List Update) (s : S)
+    → (p n : BufferData) (old new : Screen) → EdgesFit p.area → n.area ≡ p.area → IsBufferDiff p n (left s)
+    → (xs : List A) × Drains (YieldsFirstBy view left) s xs × Draws old (map view xs) new → WritesDifferences p n old new
+differences_drawn view left s p n old new fit same diff drew =
+    let drawn = Draws-along {T = ℕ} {E = ℕ} (Ok 0) old new drew (YieldsList-from_first view left _ refl) in
+    writes_differences p n (left s) old new fit same diff.walks drawn diff.replays diff.narrow

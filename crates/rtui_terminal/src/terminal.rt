@@ -10,6 +10,7 @@ mod compare;
 mod copies;
 mod cursor;
 pub mod error;
+mod following;
 pub mod frame;
 pub mod init;
 mod insert;

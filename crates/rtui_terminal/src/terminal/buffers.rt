@@ -4,19 +4,17 @@ ghost use Rattle.rtui_geometry.specs.Rect.{EdgesFit};
 ghost use Rattle.rtui_buffer.specs.BufferData.{IsEmptied};
 ghost use Rattle.rtui_buffer.specs.contracts.buffer.Buffer.{the_row as buffer_row};
 ghost use Rattle.rtui_backend.specs.Failures.{Counts};
-ghost use Rattle.rtui_buffer.specs.Shown.{buffer_updates};
-ghost use Rattle.rtui_terminal.specs.TerminalData.{HasAreas};
 ghost use Rattle.rtui_terminal.specs.Faults.{Faults};
-ghost use Rattle.rtui_terminal.specs.Writing.{WritesDifferences, Flushes, FlushErr, last_place, cursor_behind};
+ghost use Rattle.rtui_terminal.specs.Writing.{WritesDifferences, Flushes, FlushErr};
 ghost use Rattle.rtui_terminal.specs.Frames.{IsNewFrame};
 ghost use Rattle.rtui_terminal.specs.contracts.terminal.Terminal.{the_row};
 
 use crate::terminal::Terminal;
 use crate::terminal::error::TerminalError;
+use crate::terminal::following::write_following;
 use crate::terminal::frame::Frame;
 use rtui_backend::Backend;
 use rtui_buffer::Buffer;
-use rtui_geometry::Position;
 use rtui_viewport::Viewport;
 use std::mem;
 
@@ -35,34 +33,7 @@ fn write_differences<B: Backend>(
     backend.draw(previous.diff_iter(current))
 }
 
-// The place of the last update from one buffer to another, or the given one if there is none.
-fn last_update(previous: &Buffer, current: &Buffer, start: Position) -> Position
-    requires { current.now.area ≡ previous.now.area }
-    ensures { result ≡ last_place start (buffer_updates previous.now current.now) }
-{
-    let mut last = start;
-    for (x, y, _) in previous.diff_iter(current) {
-        last = Position { x, y };
-    }
-    last
-}
-
 impl<B: Backend> Terminal<B> {
-    // The place of the cursor that is known after the updates; only an inline viewport asks for it.
-    fn cursor_behind(&self) -> Position
-        requires { HasAreas self.now }
-        ensures { result ≡ cursor_behind self.now }
-    {
-        match self.viewport {
-            Viewport::Inline(_) => last_update(
-                &self.previous,
-                &self.current,
-                self.last_known_cursor_pos,
-            ),
-            _ => self.last_known_cursor_pos,
-        }
-    }
-
     /// A new frame over the current buffer, without a cursor. To paint outside a draw in a way that
     /// a proof sees, use `current_buffer_mut`.
     pub fn get_frame(&mut self) -> Frame<'_>
@@ -111,12 +82,15 @@ impl<B: Backend> Terminal<B> {
         if *self.current.area() != area || *self.previous.area() != area {
             return Err(TerminalError::Area);
         }
-        let known = self.cursor_behind();
+        if let Viewport::Inline(_) = self.viewport {
+            let start = self.last_known_cursor_pos;
+            let last = write_following(&mut self.backend, &self.previous, &self.current, start);
+            self.last_known_cursor_pos = last.map_err(TerminalError::Backend)?;
+            return Ok(());
+        }
         write_differences(&mut self.backend, &self.previous, &self.current).map_err(
             TerminalError::Backend,
-        )?;
-        self.last_known_cursor_pos = known;
-        Ok(())
+        )
     }
 
     /// Makes the current buffer the previous one, and the emptied previous one current.
