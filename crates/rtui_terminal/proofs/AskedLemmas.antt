@@ -5,10 +5,12 @@ use Rattle.rtui_backend.specs.Screen.{Screen, screen_area}
 use Rattle.rtui_viewport.specs.Viewports.{IsFixed}
 use Rattle.rtui_terminal.specs.{TerminalData.TerminalData, InStep.IsSized, declared.terminal.error.TerminalError.TerminalError}
 use Rattle.rtui_terminal.specs.declared.terminal.error.TerminalError.TheVariants.{Area, Backend, Closure, Memory}
-use Rattle.rtui_terminal.specs.Resizing.{Autoresizes, AutoresizeErr, EmptiesPrevious, FailsResizing, KeepsBuffers, ResizeErr, Resizes, ResizesBuffers}
+use Rattle.rtui_terminal.specs.Resizing.{Autoresizes, AutoresizeErr, EmptiesPrevious, FailsResizing, KeepsBuffers, ResizeErr}
+use Rattle.rtui_terminal.specs.Resizing.{Resizes, ResizesBuffers}
 
 module _ {B : Type 0} (screen : B → Screen) (s : TerminalData B) (asked : B) (same : screen asked ≡ screen s.backend) where
-  resizes-asked : (area : Rect) (t : TerminalData B) → Resizes screen area (record s { backend = asked }) t → Resizes screen area s t
+  resizes-asked : (area : Rect) (t : TerminalData B) → Resizes screen area (record s { backend = asked }) t
+      → Resizes screen area s t
   resizes-asked area t is = record {
     rest = is.rest;
     viewport_area = rw same at is.viewport_area;
@@ -25,17 +27,27 @@ module _ {B : Type 0} (screen : B → Screen) (s : TerminalData B) (asked : B) (
     in_step = is.in_step;
   }
 
-  emptied-asked : (area : Rect) (t : TerminalData B) → EmptiesPrevious screen area (record s { backend = asked }) t → EmptiesPrevious screen area s t
+  emptied-asked : (area : Rect) (t : TerminalData B) → EmptiesPrevious screen area (record s { backend = asked }) t
+      → EmptiesPrevious screen area s t
   emptied-asked area t is =
-      record { previous = is.previous; scrolled = is.scrolled; scrolls = rw same at is.scrolls; emptied = is.emptied; empties = is.empties }
+      record {
+        previous = is.previous;
+        scrolled = is.scrolled;
+        scrolls = rw same at is.scrolls;
+        emptied = is.emptied;
+        empties = is.empties;
+      }
 
-  buffers-asked : (area : Rect) (t : TerminalData B) → ResizesBuffers screen area (record s { backend = asked }) t → ResizesBuffers screen area s t
+  buffers-asked : (area : Rect) (t : TerminalData B) → ResizesBuffers screen area (record s { backend = asked }) t
+      → ResizesBuffers screen area s t
   buffers-asked area t is = record {
     current = is.current;
-    previous = ⊎_elim (λ resized. inl resized) (λ (empty : EmptiesPrevious screen area (record s { backend = asked }) t). inr (emptied-asked area t empty)) is.previous;
+    previous = ⊎_elim (λ resized. inl resized) (λ (empty : EmptiesPrevious screen area (record s { backend = asked }) t).
+        inr (emptied-asked area t empty)) is.previous;
   }
 
-  fails-asked : (area : Rect) (t : TerminalData B) → FailsResizing screen area (record s { backend = asked }) t → FailsResizing screen area s t
+  fails-asked : (area : Rect) (t : TerminalData B) → FailsResizing screen area (record s { backend = asked }) t
+      → FailsResizing screen area s t
   fails-asked area t is = record {
     rest = is.rest;
     left = ⊎_elim
@@ -46,9 +58,11 @@ module _ {B : Type 0} (screen : B → Screen) (s : TerminalData B) (asked : B) (
   }
 
   -- an autoresize by the answer of its resize
-  pub autoresized-by : {T E : Type 0} (area : Rect) (t : TerminalData B) (result : Result T (TerminalError E)) → (IsSized screen s → ⊥)
+  pub autoresized-by : {T E : Type 0} (area : Rect) (t : TerminalData B) (result : Result T (TerminalError E))
+      → (IsSized screen s → ⊥)
       → area ≡ screen_area (screen s.backend)
-      → MatchResult result (λ _. Resizes screen area (record s { backend = asked }) t) (ResizeErr screen area (record s { backend = asked }) t)
+      → MatchResult result (λ _. Resizes screen area (record s { backend = asked }) t)
+      (ResizeErr screen area (record s { backend = asked }) t)
       → MatchResult result (λ _. Autoresizes screen s t) (AutoresizeErr screen s t)
   autoresized-by area t (Ok x) unsized is by =
       let resizes : Resizes screen (screen_area (screen s.backend)) s t = rw is at (resizes-asked area t by) in

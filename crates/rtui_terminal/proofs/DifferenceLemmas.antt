@@ -14,7 +14,8 @@ use Rattle.rtui_backend.proofs.DrawLemmas.{Draws-along}
 use Rattle.rtui_terminal.specs.Writing.{WritesDifferences, differing_count}
 
 -- a column that isn't in a rectangle lies on one side of it
-beside : (r : Rect) (a b : ℕ) → EdgesFit r → (IsWithin r a b → ⊥) → (a < r.x) ⊎ (r.x + r.width ≤ a) ⊎ (b < r.y) ⊎ (r.y + r.height ≤ b)
+beside : (r : Rect) (a b : ℕ) → EdgesFit r → (IsWithin r a b → ⊥) → (a < r.x) ⊎ (r.x + r.width ≤ a) ⊎ (b < r.y)
+    ⊎ (r.y + r.height ≤ b)
 beside r a b fit out = elim (cases_lt a r.x) [
   | inl left ↦ inl left
   | inr x ↦ elim (cases_lt a (r.x + r.width)) [
@@ -29,7 +30,8 @@ beside r a b fit out = elim (cases_lt a r.x) [
   ]
 ]
 
-module _ (p n : BufferData) (us : List Update) (old new : Screen) (fit : EdgesFit p.area) (same : n.area ≡ p.area) (are : us ≡ buffer_updates p n) (drawn : Draws old us new) where
+module _ (p n : BufferData) (us : List Update) (old new : Screen) (fit : EdgesFit p.area) (same : n.area ≡ p.area)
+    (are : us ≡ buffer_updates p n) (drawn : Draws old us new) where
   rows : common_rows p n ≡ p.area.height
   rows = let h : n.area.height ≡ p.area.height = ap (λ r. r.height) same in omega arith
 
@@ -37,8 +39,10 @@ module _ (p n : BufferData) (us : List Update) (old new : Screen) (fit : EdgesFi
   over settled = subst (λ area. IsSettled area.width area.height n.cells) same settled
 
   pub writes_differences :
-      (IsSettled p.area.width (common_rows p n) p.cells → IsSettled p.area.width (common_rows p n) n.cells → Replays p.area.x p.area.y p.area.width (common_rows p n) p.cells n.cells us)
-      → (AreNarrow (p.area.width * common_rows p n) p.cells n.cells → us ≡ map (update_at p.area.x p.area.y p.area.width n.cells) (differing p.cells n.cells (p.area.width * common_rows p n)))
+      (IsSettled p.area.width (common_rows p n) p.cells → IsSettled p.area.width (common_rows p n) n.cells
+      → Replays p.area.x p.area.y p.area.width (common_rows p n) p.cells n.cells us)
+      → (AreNarrow (p.area.width * common_rows p n) p.cells n.cells → us ≡ map (update_at p.area.x p.area.y p.area.width n.cells)
+      (differing p.cells n.cells (p.area.width * common_rows p n)))
       → WritesDifferences p n old new
   writes_differences replays narrow = record {
     drawn = subst (λ updates. Draws old updates new) are drawn;
@@ -46,10 +50,16 @@ module _ (p n : BufferData) (us : List Update) (old new : Screen) (fit : EdgesFi
         let r = (rw rows at replays) sp (over sn) in
         let all = r.shows old.width old.height old.grid on.right on.bottom shown in
         subst (λ area. Shows area.x area.y area.width area.height n.cells new.grid) (sym same)
-        (record { at = λ a b a_in b_in. subst (ShowsColumn p.area.width n.cells a b) (sym (drawn.grid (p.area.x + a) (p.area.y + b))) (all.at a b a_in b_in) });
+        (record {
+          at = λ a b a_in b_in. subst (ShowsColumn p.area.width n.cells a b)
+              (sym (drawn.grid (p.area.x + a) (p.area.y + b))) (all.at a b a_in b_in);
+        });
     outside = λ on sp sn.
         let r = (rw rows at replays) sp (over sn) in
-        record { at = λ a b a_in b_in out. drawn.grid a b ∙ r.outside old.width old.height old.grid on.right on.bottom a b (beside p.area a b fit out) };
+        record {
+          at = λ a b a_in b_in out. drawn.grid a b ∙ r.outside old.width old.height old.grid on.right on.bottom a b
+              (beside p.area a b fit out);
+        };
     few = λ is_narrow below.
         let us_are = rw rows at narrow in
         let count : length us ≡ differing_count p n = ap length (us_are is_narrow) ∙ length-map _ _ in

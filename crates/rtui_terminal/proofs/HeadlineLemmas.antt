@@ -1,5 +1,6 @@
 -- Each call that does what its relation says is faithful, and so is a list of them.
-use Rattle.std.proofs.Common.{◌≡◌, ◌⊎◌, ℕ, Bool, true, false, List, [], ◌∷◌, ◌++◌, Option, refl, sym, ap, ◌∙◌, subst, inl, inr, append_assoc, append-nil}
+use Rattle.std.proofs.Common.{◌≡◌, ◌⊎◌, ℕ, Bool, true, false, List, [], ◌∷◌, ◌++◌, Option, refl, sym, ap, ◌∙◌, subst, inl, inr}
+use Rattle.std.proofs.Common.{append_assoc, append-nil}
 use Rattle.rtui_geometry.specs.{declared.position.Position.Position, declared.rect.Rect.Rect}
 use Rattle.rtui_cell.specs.{Look.Look, Grid.Grid}
 use Rattle.rtui_diff.specs.Shows.{ShowsColumn}
@@ -7,21 +8,33 @@ use Rattle.rtui_buffer.specs.{BufferData.BufferData, BufferData.IsEmptied, Shown
 use Rattle.rtui_backend.specs.Screen.{Screen, KeepsSizeAndHistory, IsOnScreen, screen_area, with_visible, with_cursor}
 use Rattle.rtui_viewport.specs.{Viewports.IsFixed, Viewports.IsInline}
 use Rattle.rtui_insert.specs.Insertion.{AreRowsOfAll, AppendsRows}
-use Rattle.rtui_terminal.specs.{TerminalData.TerminalData, Cursor.Stays, Cursor.MovesCursor, Resizing.Resizes, Resizing.Autoresizes}
+use Rattle.rtui_terminal.specs.{TerminalData.TerminalData, Cursor.Stays, Cursor.MovesCursor, Resizing.Resizes}
+use Rattle.rtui_terminal.specs.{Resizing.Autoresizes}
 use Rattle.rtui_terminal.specs.InStep.{IsReady, IsInStep, IsSized, KeepsAroundViewport, rows_over}
 use Rattle.rtui_terminal.specs.{Writing.Applies, Writing.HasDrawn, Writing.cursor_placed, Drawing.DrawsFrame}
-use Rattle.rtui_terminal.specs.Headline.{Call, Draw, Apply, Insert, Clear, Resize, Autoresize, HideCursor, ShowCursor, SetCursor, Ask, Paint, Refuse, Event, Along, last_state, inserted_by, inserted_along, MayTakeSize, Does, IsFair, HasKnownSize, IsSteady, IsKeptOrEmptied, Leaves, IsFaithful}
-use Rattle.rtui_terminal.proofs.{StepLemmas.on_same, StepLemmas.not_both, KeepLemmas.rest_of, KeepLemmas.size_more, KeepLemmas.placed_size}
+use Rattle.rtui_terminal.specs.Headline.{Call, Draw, Apply, Insert, Clear, Resize, Autoresize, HideCursor, ShowCursor, SetCursor}
+use Rattle.rtui_terminal.specs.Headline.{Ask, Paint, Refuse, Event, Along, last_state, inserted_by, inserted_along, MayTakeSize}
+use Rattle.rtui_terminal.specs.Headline.{Does, IsFair, HasKnownSize, IsSteady, IsKeptOrEmptied, Leaves, IsFaithful}
+use Rattle.rtui_terminal.proofs.{StepLemmas.on_same, StepLemmas.not_both, KeepLemmas.rest_of, KeepLemmas.size_more}
+use Rattle.rtui_terminal.proofs.{KeepLemmas.placed_size}
 
 none_appended : (old new : List (List Look)) → new ≡ old → AppendsRows [] old new
 none_appended old new e = record { rows = []; appended = e ∙ sym (append-nil old); agree = refl }
 
-pub all_append : (ss ts : List BufferData) (xs ys : List (List Look)) → AreRowsOfAll ss xs → AreRowsOfAll ts ys → AreRowsOfAll (ss ++ ts) (xs ++ ys)
+pub all_append : (ss ts : List BufferData) (xs ys : List (List Look)) → AreRowsOfAll ss xs → AreRowsOfAll ts ys
+    → AreRowsOfAll (ss ++ ts) (xs ++ ys)
 all_append [] ts xs ys p q = subst (λ zs. AreRowsOfAll ts (zs ++ ys)) (sym p) q
-all_append (s ∷ ss) ts xs ys p q = (p.0, p.1 ++ ys, ap (λ zs. zs ++ ys) p.2 ∙ append_assoc p.0 p.1 ys, p.3, all_append ss ts p.1 ys p.4 q)
+all_append (s ∷ ss) ts xs ys p q = (
+  p.0,
+  p.1 ++ ys,
+  ap (λ zs. zs ++ ys) p.2 ∙ append_assoc p.0 p.1 ys,
+  p.3,
+  all_append ss ts p.1 ys p.4 q,
+)
 
 -- what is appended in two steps
-pub appends_more : (ss ts : List BufferData) (a b c : List (List Look)) → AppendsRows ss a b → AppendsRows ts b c → AppendsRows (ss ++ ts) a c
+pub appends_more : (ss ts : List BufferData) (a b c : List (List Look)) → AppendsRows ss a b → AppendsRows ts b c
+    → AppendsRows (ss ++ ts) a c
 appends_more ss ts a b c p q = record {
   rows = p.rows ++ q.rows;
   appended = q.appended ∙ ap (λ xs. xs ++ q.rows) p.appended ∙ append_assoc a p.rows q.rows;
@@ -32,7 +45,10 @@ area_same : (old new : Screen) → KeepsSizeAndHistory old new → screen_area n
 area_same old new size = rw (size.width, size.height) refl
 
 shows_same : (sheet : BufferData) (g h : Grid) → ((a b : ℕ) → h a b ≡ g a b) → ShowsBuffer sheet g → ShowsBuffer sheet h
-shows_same sheet g h same shown = record { at = λ a b a_in b_in. subst (ShowsColumn sheet.area.width sheet.cells a b) (sym (same _ _)) (shown.at a b a_in b_in) }
+shows_same sheet g h same shown = record {
+  at = λ a b a_in b_in. subst (ShowsColumn sheet.area.width sheet.cells a b)
+      (sym (same _ _)) (shown.at a b a_in b_in);
+}
 
 module _ {B : Type 0} (screen : B → Screen) where
   -- the viewport, the previous buffer and what the screen shows stay
@@ -45,24 +61,36 @@ module _ {B : Type 0} (screen : B → Screen) where
 
   kept_step : (s t : TerminalData B) → Keeps s t → IsInStep screen s → IsInStep screen t
   kept_step s t k step = record {
-    on_screen = subst (λ r. IsOnScreen r (screen t.backend)) (sym k.view) (on_same s.viewport_area (screen s.backend) (screen t.backend) k.size.width k.size.height step.on_screen);
+    on_screen = subst (λ r. IsOnScreen r (screen t.backend)) (sym k.view) (on_same s.viewport_area (screen s.backend)
+        (screen t.backend) k.size.width k.size.height step.on_screen);
     area = ap (λ (x : BufferData). x.area) k.previous ∙ step.area ∙ sym k.view;
     settled = subst IsSettledBuffer (sym k.previous) step.settled;
-    shown = subst (λ sheet. ShowsBuffer sheet (screen t.backend).grid) (sym k.previous) (shows_same s.previous (screen s.backend).grid (screen t.backend).grid k.grid step.shown);
+    shown = subst (λ sheet. ShowsBuffer sheet (screen t.backend).grid) (sym k.previous)
+        (shows_same s.previous (screen s.backend).grid (screen t.backend).grid k.grid step.shown);
   }
 
   kept_rest : (s t : TerminalData B) → Keeps s t → KeepsAroundViewport screen s t
   kept_rest s t k = rest_of screen s t k.view k.size (record { at = λ a b _ _ _. k.grid a b })
 
   keeps_more : (s t u : TerminalData B) → Keeps s t → Keeps t u → Keeps s u
-  keeps_more s t u p q = record { kind = q.kind ∙ p.kind; view = q.view ∙ p.view; previous = q.previous ∙ p.previous; size = size_more p.size q.size; grid = λ a b. q.grid a b ∙ p.grid a b }
+  keeps_more s t u p q = record {
+    kind = q.kind ∙ p.kind;
+    view = q.view ∙ p.view;
+    previous = q.previous ∙ p.previous;
+    size = size_more p.size q.size;
+    grid = λ a b. q.grid a b ∙ p.grid a b;
+  }
 
   stays_keeps : (s t : TerminalData B) → Stays screen s t → Keeps s t
   stays_keeps s t stays = record {
     kind = ap (λ (x : TerminalData B). x.viewport) stays.rest;
     view = ap (λ (x : TerminalData B). x.viewport_area) stays.rest;
     previous = ap (λ (x : TerminalData B). x.previous) stays.rest;
-    size = record { width = ap (λ (x : Screen). x.width) stays.screen_stays; height = ap (λ (x : Screen). x.height) stays.screen_stays; history = ap (λ (x : Screen). x.history) stays.screen_stays };
+    size = record {
+      width = ap (λ (x : Screen). x.width) stays.screen_stays;
+      height = ap (λ (x : Screen). x.height) stays.screen_stays;
+      history = ap (λ (x : Screen). x.history) stays.screen_stays;
+    };
     grid = λ a b. ap (λ (x : Screen). x.grid a b) stays.screen_stays;
   }
 
@@ -74,13 +102,19 @@ module _ {B : Type 0} (screen : B → Screen) where
     kind = ap (λ (x : TerminalData B). x.viewport) e;
     view = ap (λ (x : TerminalData B). x.viewport_area) e;
     previous = ap (λ (x : TerminalData B). x.previous) e;
-    size = record { width = ap (λ (x : TerminalData B). (screen x.backend).width) e; height = ap (λ (x : TerminalData B). (screen x.backend).height) e; history = ap (λ (x : TerminalData B). (screen x.backend).history) e };
+    size = record {
+      width = ap (λ (x : TerminalData B). (screen x.backend).width) e;
+      height = ap (λ (x : TerminalData B). (screen x.backend).height) e;
+      history = ap (λ (x : TerminalData B). (screen x.backend).history) e;
+    };
     grid = λ a b. ap (λ (x : TerminalData B). (screen x.backend).grid a b) e;
   }
 
   -- a moved cursor keeps all that the headline speaks of
-  keeps_cursor : (hidden : Bool) (known : Position) (cursor : Screen → Screen) (s t : TerminalData B) → MovesCursor screen hidden known cursor s t
-      → KeepsSizeAndHistory (screen s.backend) (cursor (screen s.backend)) → ((a b : ℕ) → (cursor (screen s.backend)).grid a b ≡ (screen s.backend).grid a b) → Keeps s t
+  keeps_cursor : (hidden : Bool) (known : Position) (cursor : Screen → Screen) (s t : TerminalData B)
+      → MovesCursor screen hidden known cursor s t
+      → KeepsSizeAndHistory (screen s.backend) (cursor (screen s.backend))
+      → ((a b : ℕ) → (cursor (screen s.backend)).grid a b ≡ (screen s.backend).grid a b) → Keeps s t
   keeps_cursor hidden known cursor s t m size grid = record {
     kind = ap (λ (x : TerminalData B). x.viewport) m.rest;
     view = ap (λ (x : TerminalData B). x.viewport_area) m.rest;
@@ -90,12 +124,14 @@ module _ {B : Type 0} (screen : B → Screen) where
   }
 
   -- a call that inserts nothing and leaves the screen as it is
-  quiet : (call : Call) (s t : TerminalData B) → inserted_by call ≡ [] → (t.previous ≡ s.previous → Leaves screen call s t) → IsInStep screen s → Keeps s t → IsFaithful screen call s t
+  quiet : (call : Call) (s t : TerminalData B) → inserted_by call ≡ [] → (t.previous ≡ s.previous → Leaves screen call s t)
+      → IsInStep screen s → Keeps s t → IsFaithful screen call s t
   quiet call s t none leaves step k = record {
     kind = k.kind;
     in_step = kept_step s t k step;
     leaves = leaves k.previous;
-    above = λ inline steady. subst (λ sheets. AppendsRows sheets (rows_over screen s) (rows_over screen t)) (sym none) (none_appended (rows_over screen s) (rows_over screen t) (kept_rest s t k).above);
+    above = λ inline steady. subst (λ sheets. AppendsRows sheets (rows_over screen s) (rows_over screen t)) (sym none)
+        (none_appended (rows_over screen s) (rows_over screen t) (kept_rest s t k).above);
     outside = λ fixed other. kept_rest s t k;
   }
 
@@ -109,7 +145,8 @@ module _ {B : Type 0} (screen : B → Screen) where
   taken_kind s u (inr p) = ap (λ (x : TerminalData B). x.viewport) p.0
 
   -- none was if the screen has the size that was known, or the viewport is fixed
-  untaken : (s u : TerminalData B) → MayTakeSize screen s u → IsFixed s.viewport ⊎ (screen_area (screen u.backend) ≡ s.last_known_area) → (u ≡ s) × IsSized screen u
+  untaken : (s u : TerminalData B) → MayTakeSize screen s u
+      → IsFixed s.viewport ⊎ (screen_area (screen u.backend) ≡ s.last_known_area) → (u ≡ s) × IsSized screen u
   untaken s u (inl e) (inl fixed) = (e, inl (subst IsFixed (sym (ap (λ (x : TerminalData B). x.viewport) e)) fixed))
   untaken s u (inl e) (inr known) = (e, inr (known ∙ sym (ap (λ (x : TerminalData B). x.last_known_area) e)))
   untaken s u (inr p) (inl fixed) = absurd (p.1 (inl (subst IsFixed (sym (ap (λ (x : TerminalData B). x.viewport) p.0)) fixed)))
@@ -121,29 +158,40 @@ module _ {B : Type 0} (screen : B → Screen) where
     | inr p ↦ ap (λ (x : TerminalData B). x.viewport) p.1.rest
   ]
 
-  resized_area : (area : Rect) (s t : TerminalData B) → Resizes screen area s t → screen_area (screen t.backend) ≡ screen_area (screen s.backend)
+  resized_area : (area : Rect) (s t : TerminalData B) → Resizes screen area s t
+      → screen_area (screen t.backend) ≡ screen_area (screen s.backend)
   resized_area area s t r =
       let w : (screen t.backend).width ≡ (screen s.backend).width = r.frame.size.width ∙ r.scrolls.width in
       let h : (screen t.backend).height ≡ (screen s.backend).height = r.frame.size.height ∙ r.scrolls.height in
       rw (w, h) refl
 
-  autoresized_area : (s t : TerminalData B) → Autoresizes screen s t → screen_area (screen t.backend) ≡ screen_area (screen s.backend)
+  autoresized_area : (s t : TerminalData B) → Autoresizes screen s t
+      → screen_area (screen t.backend) ≡ screen_area (screen s.backend)
   autoresized_area s t resizes = elim (resizes.case) [
     | inl p ↦ area_same (screen s.backend) (screen t.backend) (stays_keeps s t p.1).size
     | inr p ↦ resized_area _ s t p.1
   ]
 
-  drawn_area : (cursor : Option Position) (s : TerminalData B) (old new : Screen) → HasDrawn cursor s old new → screen_area new ≡ screen_area old
+  drawn_area : (cursor : Option Position) (s : TerminalData B) (old new : Screen) → HasDrawn cursor s old new
+      → screen_area new ≡ screen_area old
   drawn_area cursor s old new (between, writes, is) =
       let placed = placed_size cursor between in
-      ap screen_area is ∙ area_same between (cursor_placed cursor between) placed ∙ area_same old between (record { width = writes.drawn.width; height = writes.drawn.height; history = writes.drawn.history })
+      ap screen_area is ∙ area_same between (cursor_placed cursor between) placed
+      ∙ area_same old between (record {
+        width = writes.drawn.width;
+        height = writes.drawn.height;
+        history = writes.drawn.history;
+      })
 
   -- a draw from a state in which the screen may have taken another size
-  module _ (s u t : TerminalData B) (painted : BufferData) (taken : MayTakeSize screen s u) (d : DrawsFrame screen u t) (is : t.previous ≡ painted) where
+  module _ (s u t : TerminalData B) (painted : BufferData) (taken : MayTakeSize screen s u) (d : DrawsFrame screen u t)
+      (is : t.previous ≡ painted) where
     drawn_size : screen_area (screen t.backend) ≡ screen_area (screen u.backend)
-    drawn_size = drawn_area d.cursor (record (d.sized) { current = t.previous }) (screen d.sized.backend) (screen t.backend) d.applied.drawn ∙ autoresized_area u d.sized d.autoresized
+    drawn_size = drawn_area d.cursor (record (d.sized) { current = t.previous }) (screen d.sized.backend)
+        (screen t.backend) d.applied.drawn ∙ autoresized_area u d.sized d.autoresized
 
-    untaken_rest : IsFixed s.viewport ⊎ (screen_area (screen u.backend) ≡ s.last_known_area) → IsInStep screen s → IsSettledBuffer t.previous → KeepsAroundViewport screen s t
+    untaken_rest : IsFixed s.viewport ⊎ (screen_area (screen u.backend) ≡ s.last_known_area) → IsInStep screen s
+        → IsSettledBuffer t.previous → KeepsAroundViewport screen s t
     untaken_rest why step settled =
         let p = untaken s u taken why in
         subst (λ x. KeepsAroundViewport screen x t) p.0 (d.keeps (subst (IsInStep screen) (sym p.0) step) p.1 settled)
@@ -152,15 +200,18 @@ module _ {B : Type 0} (screen : B → Screen) where
     drawn_faithful step fair =
         let settled : IsSettledBuffer t.previous = subst IsSettledBuffer (sym is) fair in
         record {
-          kind = ap (λ (x : TerminalData B). x.viewport) d.applied.rest ∙ autoresized_kind u d.sized d.autoresized ∙ taken_kind s u taken;
+          kind = ap (λ (x : TerminalData B). x.viewport) d.applied.rest ∙ autoresized_kind u d.sized d.autoresized
+              ∙ taken_kind s u taken;
           in_step = d.in_step (taken_ready s u taken step) settled;
           leaves = is;
-          above = λ inline known. none_appended (rows_over screen s) (rows_over screen t) (untaken_rest (inr (sym drawn_size ∙ known)) step settled).above;
+          above = λ inline known. none_appended (rows_over screen s) (rows_over screen t)
+              (untaken_rest (inr (sym drawn_size ∙ known)) step settled).above;
           outside = λ fixed other. untaken_rest (inl fixed) step settled;
         }
 
   -- a resizing after which only the current buffer changed
-  module _ (call : Call) (s u z t : TerminalData B) (none : inserted_by call ≡ []) (leaves : IsKeptOrEmptied screen s t → Leaves screen call s t) (known : IsSteady screen call s t → HasKnownSize screen s t)
+  module _ (call : Call) (s u z t : TerminalData B) (none : inserted_by call ≡ [])
+      (leaves : IsKeptOrEmptied screen s t → Leaves screen call s t) (known : IsSteady screen call s t → HasKnownSize screen s t)
       (taken : MayTakeSize screen s u) (resizes : Autoresizes screen u z) (rest : t ≡ record z { current = t.current }) where
     after : Keeps z t
     after = keeps_current z t rest
@@ -177,13 +228,15 @@ module _ {B : Type 0} (screen : B → Screen) where
         ] in
         subst (λ x. Keeps x t) p.0 (keeps_more u z t first after)
 
-    left : (m : MayTakeSize screen s u) → (IsSized screen u × Stays screen u z) ⊎ ((IsSized screen u → ⊥) × Resizes screen (screen_area (screen u.backend)) u z) → IsKeptOrEmptied screen s t
+    left : (m : MayTakeSize screen s u) → (IsSized screen u × Stays screen u z)
+        ⊎ ((IsSized screen u → ⊥) × Resizes screen (screen_area (screen u.backend)) u z) → IsKeptOrEmptied screen s t
     left (inl e) (inl p) = inl (after.previous ∙ (stays_keeps u z p.1).previous ∙ ap (λ (x : TerminalData B). x.previous) e)
     left (inr p) (inl q) = absurd (p.1 q.0)
     left m (inr q) = inr (
       λ fixed. q.0 (inl (subst IsFixed (sym (taken_kind s u m)) fixed)),
       λ keeps. q.0 ((untaken s u m (inr (sym then_area ∙ keeps))).1),
-      subst (λ x. IsEmptied x t.previous) (sym after.view) (subst (IsEmptied z.viewport_area) (sym after.previous) (q.1).previous),
+      subst (λ x. IsEmptied x t.previous) (sym after.view) (subst (IsEmptied z.viewport_area) (sym after.previous)
+          (q.1).previous),
     )
 
     resized_faithful : IsInStep screen s → IsFaithful screen call s t
@@ -193,14 +246,16 @@ module _ {B : Type 0} (screen : B → Screen) where
       leaves = leaves (left taken resizes.case);
       above = λ inline steady.
           subst (λ sheets. AppendsRows sheets (rows_over screen s) (rows_over screen t)) (sym none)
-          (none_appended (rows_over screen s) (rows_over screen t) (kept_rest s t (untaken_keeps (inr (sym then_area ∙ known steady)))).above);
+          (none_appended (rows_over screen s) (rows_over screen t)
+          (kept_rest s t (untaken_keeps (inr (sym then_area ∙ known steady)))).above);
       outside = λ fixed other. kept_rest s t (untaken_keeps (inl fixed));
     }
 
   same_current : (t : TerminalData B) → t ≡ record t { current = t.current }
   same_current t = refl
 
-  faithful : (call : Call) (s t : TerminalData B) → IsInStep screen s → Does screen call s t → IsFair screen call s t → IsFaithful screen call s t
+  faithful : (call : Call) (s t : TerminalData B) → IsInStep screen s → Does screen call s t → IsFair screen call s t
+      → IsFaithful screen call s t
   faithful (Draw painted) s t step does fair = drawn_faithful s does.1.before t painted does.1.taken does.1.then does.0 step fair
   faithful (Apply painted) s t step does fair =
       let settled : IsSettledBuffer s.current = subst IsSettledBuffer (sym does.0) fair in
@@ -222,7 +277,8 @@ module _ {B : Type 0} (screen : B → Screen) where
   faithful Clear s t step does fair = record {
     kind = ap (λ (x : TerminalData B). x.viewport) does.rest;
     in_step = does.in_step step.on_screen step.area;
-    leaves = subst (λ r. IsEmptied r t.previous) (step.area ∙ sym (ap (λ (x : TerminalData B). x.viewport_area) does.rest)) does.previous;
+    leaves = subst (λ r. IsEmptied r t.previous) (step.area ∙ sym (ap (λ (x : TerminalData B). x.viewport_area) does.rest))
+        does.previous;
     above = λ inline row. none_appended (rows_over screen s) (rows_over screen t) (does.above inline step.on_screen row);
     outside = λ fixed other. does.keeps fixed step.on_screen;
   }
@@ -236,27 +292,43 @@ module _ {B : Type 0} (screen : B → Screen) where
   faithful Autoresize s t step does fair =
       resized_faithful Autoresize s does.before t t refl (λ x. x) (λ x. x) does.taken does.then (same_current t) step
   faithful HideCursor s t step does fair =
-      quiet HideCursor s t refl (λ e. e) step (keeps_cursor _ _ (with_visible false) s t does (record { width = refl; height = refl; history = refl }) (λ a b. refl))
+      quiet HideCursor s t refl (λ e. e) step (keeps_cursor _ _ (with_visible false) s t does (record {
+        width = refl;
+        height = refl;
+        history = refl;
+      }) (λ a b. refl))
   faithful ShowCursor s t step does fair =
-      quiet ShowCursor s t refl (λ e. e) step (keeps_cursor _ _ (with_visible true) s t does (record { width = refl; height = refl; history = refl }) (λ a b. refl))
+      quiet ShowCursor s t refl (λ e. e) step (keeps_cursor _ _ (with_visible true) s t does (record {
+        width = refl;
+        height = refl;
+        history = refl;
+      }) (λ a b. refl))
   faithful (SetCursor p) s t step does fair =
-      quiet (SetCursor p) s t refl (λ e. e) step (keeps_cursor _ _ (with_cursor p.x p.y) s t does (record { width = refl; height = refl; history = refl }) (λ a b. refl))
+      quiet (SetCursor p) s t refl (λ e. e) step (keeps_cursor _ _ (with_cursor p.x p.y) s t does (record {
+        width = refl;
+        height = refl;
+        history = refl;
+      }) (λ a b. refl))
   faithful Ask s t step does fair = quiet Ask s t refl (λ e. e) step (stays_keeps s t does)
   faithful Paint s t step does fair = quiet Paint s t refl (λ e. e) step (keeps_current s t does)
   faithful Refuse s t step does fair =
-      resized_faithful Refuse s does.before does.then.sized t refl (λ x. x) (λ x. x) does.taken does.then.autoresized does.then.rest step
+      resized_faithful Refuse s does.before does.then.sized t refl (λ x. x)
+      (λ x. x) does.taken does.then.autoresized does.then.rest step
 
-  pub all_faithful : (s : TerminalData B) (events : List (Event B)) → IsInStep screen s → Along (Does screen) s events → Along (IsFair screen) s events → Along (IsFaithful screen) s events
+  pub all_faithful : (s : TerminalData B) (events : List (Event B)) → IsInStep screen s → Along (Does screen) s events
+      → Along (IsFair screen) s events → Along (IsFaithful screen) s events
   all_faithful s [] step did fair = tt
   all_faithful s (e ∷ es) step did fair =
       let here : IsFaithful screen e.call s e.after = faithful e.call s e.after step did.0 fair.0 in
       (here, all_faithful e.after es here.in_step did.1 fair.1)
 
-  pub all_rows : (s : TerminalData B) (events : List (Event B)) → IsInStep screen s → IsInline s.viewport → Along (Does screen) s events → Along (IsFair screen) s events → Along (IsSteady screen) s events
+  pub all_rows : (s : TerminalData B) (events : List (Event B)) → IsInStep screen s → IsInline s.viewport
+      → Along (Does screen) s events → Along (IsFair screen) s events → Along (IsSteady screen) s events
       → AppendsRows (inserted_along events) (rows_over screen s) (rows_over screen (last_state s events))
   all_rows s [] step inline did fair steady = none_appended (rows_over screen s) (rows_over screen s) refl
   all_rows s (e ∷ es) step inline did fair steady =
       let here : IsFaithful screen e.call s e.after = faithful e.call s e.after step did.0 fair.0 in
-      appends_more (inserted_by e.call) (inserted_along es) (rows_over screen s) (rows_over screen e.after) (rows_over screen (last_state e.after es))
+      appends_more (inserted_by e.call) (inserted_along es) (rows_over screen s) (rows_over screen e.after)
+      (rows_over screen (last_state e.after es))
       (here.above inline steady.0)
       (all_rows e.after es here.in_step (subst IsInline (sym here.kind) inline) did.1 fair.1 steady.1)

@@ -1,5 +1,6 @@
 -- Rows that were scrolled in above a viewport, as one insertion.
-use Rattle.std.proofs.Common.{◌≡◌, ℕ, ◌+◌, ◌-◌, ◌*◌, ◌<◌, ◌≤◌, ◌++◌, min, nat_lt, if◌then◌else◌, List, [], ◌∷◌, slice_index_or, refl, sym, ap, ◌∙◌, subst, arith, append-nil, inl, inr, ◌⊎◌, Result, Ok, Err, OnOk, OnErr}
+use Rattle.std.proofs.Common.{◌≡◌, ℕ, ◌+◌, ◌-◌, ◌*◌, ◌<◌, ◌≤◌, ◌++◌, min, nat_lt, if◌then◌else◌, List, [], ◌∷◌, slice_index_or}
+use Rattle.std.proofs.Common.{refl, sym, ap, ◌∙◌, subst, arith, append-nil, inl, inr, ◌⊎◌, Result, Ok, Err, OnOk, OnErr}
 use Rattle.std.proofs.lemmas.{Bool.cases_lt, Bool.Decides.nat_tests}
 use Rattle.rtui_geometry.specs.declared.rect.Rect.{Rect}
 use Rattle.rtui_cell.specs.Look.{Look}
@@ -8,7 +9,8 @@ use Rattle.rtui_buffer.specs.BufferData.{BufferData, IsEmptied, area_size, empty
 use Rattle.rtui_buffer.specs.Shown.{IsSettledBuffer, ShowsBuffer}
 use Rattle.rtui_backend.specs.Screen.{Screen, rows_above}
 use Rattle.std.specs.declared.alloc.AllocError.{AllocError}
-use Rattle.rtui_terminal.specs.{Faults.FailsOnlyByBackend, declared.terminal.error.TerminalError.TerminalError, TerminalData.TerminalData}
+use Rattle.rtui_terminal.specs.{Faults.FailsOnlyByBackend, declared.terminal.error.TerminalError.TerminalError}
+use Rattle.rtui_terminal.specs.{TerminalData.TerminalData}
 use Rattle.rtui_terminal.specs.declared.terminal.error.TerminalError.TheVariants.{Backend, Memory, Area, Closure}
 use Rattle.rtui_insert.specs.{Rows.IsBlankFor, Rows.DrawsRows, Rows.nonempty_cells, Following.Follows}
 use Rattle.rtui_insert.specs.Insertion.{AppendsRows, KeepsSizeAndVisibility, HasPlaceAbove, AppendsPart}
@@ -19,7 +21,8 @@ use Rattle.rtui_insert.proofs.{CountLemmas.writes_rows, CountLemmas.writes_then,
 use Rattle.rtui_terminal.specs.Insertion.{Inserts, StopsInserting, InsertsBy}
 
 -- all rows of a buffer were appended
-pub AppendsRows-part : (s : BufferData) (n : ℕ) (old new : List (List Look)) → n ≡ s.area.height → AppendsPart s 0 n old new → AppendsRows (s ∷ []) old new
+pub AppendsRows-part : (s : BufferData) (n : ℕ) (old new : List (List Look)) → n ≡ s.area.height → AppendsPart s 0 n old new
+    → AppendsRows (s ∷ []) old new
 AppendsRows-part s n old new all part = record {
   rows = part.rows;
   appended = part.appended;
@@ -29,7 +32,9 @@ AppendsRows-part s n old new all part = record {
     sym (append-nil part.rows),
     record {
       count = part.agree.count ∙ all;
-      agree = λ b low. let none : 0 + b ≡ b = omega arith in subst (λ k. RowAgrees s.area.width s.cells k (slice_index_or part.rows b [])) none (part.agree.agree b (omega (arith, all)));
+      agree = λ b low. let none : 0 + b ≡ b = omega arith in
+          subst (λ k. RowAgrees s.area.width s.cells k (slice_index_or part.rows b [])) none
+          (part.agree.agree b (omega (arith, all)));
     },
     refl,
   );
@@ -40,18 +45,25 @@ stays_put : (r : Rect) (s : BufferData) → Follows r r s s
 stays_put r s = record { area = record { moved = λ is. is; stays = λ no. refl }; rest = refl }
 
 -- a buffer's cells, shown further down
-shows_moved : (s : BufferData) (y : ℕ) (old new : Screen) → ShowsBuffer s old.grid → ((a b : ℕ) → a < s.area.width → b < s.area.height → new.grid (s.area.x + a) (y + b) ≡ old.grid (s.area.x + a) (s.area.y + b))
+shows_moved : (s : BufferData) (y : ℕ) (old new : Screen) → ShowsBuffer s old.grid
+    → ((a b : ℕ) → a < s.area.width → b < s.area.height → new.grid (s.area.x + a) (y + b) ≡ old.grid (s.area.x + a)
+    (s.area.y + b))
     → ShowsBuffer (record s { area = record s.area { y = y } }) new.grid
-shows_moved s y old new shown same = record { at = λ a b a_in b_in. subst (ShowsColumn s.area.width s.cells a b) (sym (same a b a_in b_in)) (shown.at a b a_in b_in) }
+shows_moved s y old new shown same = record {
+  at = λ a b a_in b_in. subst (ShowsColumn s.area.width s.cells a b)
+      (sym (same a b a_in b_in)) (shown.at a b a_in b_in);
+}
 
-module _ {B : Type 0} (screen : B → Screen) (s : TerminalData B) (inserted : BufferData) (over : inserted.area ≡ inserted_area s inserted.area.height) (known : 0 < s.last_known_area.height) where
+module _ {B : Type 0} (screen : B → Screen) (s : TerminalData B) (inserted : BufferData)
+    (over : inserted.area ≡ inserted_area s inserted.area.height) (known : 0 < s.last_known_area.height) where
   same_height : TakesRows screen s → s.last_known_area.height ≡ (screen s.backend).height
   same_height takes = sym (ap (λ (r : Rect). r.height) takes.known)
 
   wide : TakesRows screen s → inserted.area.width ≡ (screen s.backend).width
   wide takes = ap (λ (r : Rect). r.width) over ∙ takes.width
 
-  has_place : TakesRows screen s → IsInStep screen s → HasPlaceAbove inserted s.viewport_area s.last_known_area.height (screen s.backend)
+  has_place : TakesRows screen s → IsInStep screen s
+      → HasPlaceAbove inserted s.viewport_area s.last_known_area.height (screen s.backend)
   has_place takes step = record {
     width = wide takes;
     height = same_height takes;
@@ -60,16 +72,19 @@ module _ {B : Type 0} (screen : B → Screen) (s : TerminalData B) (inserted : B
 
   -- above a viewport that covers the screen
   module _ (covers : s.last_known_area.height ≤ s.viewport_area.height) (some : 0 < inserted.area.height) (mid b : B)
-      (shape_mid : KeepsSizeAndVisibility (screen s.backend) (screen mid)) (shape : KeepsSizeAndVisibility (screen mid) (screen b))
+      (shape_mid : KeepsSizeAndVisibility (screen s.backend) (screen mid)) (shape : KeepsSizeAndVisibility (screen mid)
+      (screen b))
       (pushed : PushesRows inserted (screen s.backend) (screen mid))
-      {m : ℕ} (blank : BufferData) (is : IsBlankFor m inserted blank) (redrawn : s.previous.area ≡ s.viewport_area → DrawsRows blank s.previous 0 1 0 (screen mid) (screen b)) where
+      {m : ℕ} (blank : BufferData) (is : IsBlankFor m inserted blank) (redrawn : s.previous.area ≡ s.viewport_area
+      → DrawsRows blank s.previous 0 1 0 (screen mid) (screen b)) where
     abbrev pub covered : TerminalData B
     covered = record s { backend = b }
 
     at_top : TakesRows screen s → IsInStep screen s → s.viewport_area.y ≡ 0
     at_top takes step = omega (arith, step.on_screen.bottom, same_height takes)
 
-    has_pushed : TakesRows screen s → IsSettledBuffer inserted → HasPushed inserted inserted.area.height (screen s.backend) (screen mid)
+    has_pushed : TakesRows screen s → IsSettledBuffer inserted → HasPushed inserted inserted.area.height (screen s.backend)
+        (screen mid)
     has_pushed takes settled = pushed (record { width = wide takes; bottom = omega (arith, same_height takes) }) settled
 
     shown : TakesRows screen s → IsInStep screen s → IsSettledBuffer inserted → ShowsRows s.previous 0 1 0 (screen mid) (screen b)
@@ -78,10 +93,14 @@ module _ {B : Type 0} (screen : B → Screen) (s : TerminalData B) (inserted : B
         let height : s.previous.area.height ≡ s.viewport_area.height = ap (λ (r : Rect). r.height) step.area in
         let columns : blank.area.width ≡ s.viewport_area.width = sym is.width ∙ ap (λ (r : Rect). r.width) over in
         rows_shown blank s.previous (width ∙ sym columns) 0 1 0 (omega arith) (redrawn step.area) (record {
-          fit = record { width = width ∙ takes.width ∙ sym shape_mid.width; bottom = omega (arith, shape_mid.height, same_height takes) };
+          fit = record {
+            width = width ∙ takes.width ∙ sym shape_mid.width;
+            bottom = omega (arith, shape_mid.height, same_height takes);
+          };
           inside = omega (arith, height);
           settled = step.settled;
-          shown = blank_first blank 1 0 (screen mid) is.empty (columns ∙ takes.width ∙ sym shape_mid.width) ((has_pushed takes settled).blank some);
+          shown = blank_first blank 1 0 (screen mid) is.empty (columns ∙ takes.width ∙ sym shape_mid.width)
+              ((has_pushed takes settled).blank some);
         })
 
     -- each column of the viewport shows what it did
@@ -99,8 +118,10 @@ module _ {B : Type 0} (screen : B → Screen) (s : TerminalData B) (inserted : B
             | inl low ↦
                 let same : (screen b).grid x y ≡ (screen s.backend).grid x y =
                 (shown takes step settled).outside x y (inr (omega arith))
-                ∙ (has_pushed takes settled).below x y (omega (arith, width, takes.width)) (omega (arith, height, step.on_screen.bottom)) low in
-                rw (column, row) (subst (ShowsColumn s.previous.area.width s.previous.cells x y) (sym same) (rw (column, row) at (step.shown.at x y x_in y_in)))
+                ∙ (has_pushed takes settled).below x y (omega (arith, width, takes.width))
+                (omega (arith, height, step.on_screen.bottom)) low in
+                rw (column, row) (subst (ShowsColumn s.previous.area.width s.previous.cells x y) (sym same)
+                (rw (column, row) at (step.shown.at x y x_in y_in)))
             | inr first ↦
                 let zero_row : y ≡ 0 = omega arith in
                 rw (column, row, zero_row) ((shown takes step settled).shown x 0 x_in (omega arith))
@@ -114,59 +135,84 @@ module _ {B : Type 0} (screen : B → Screen) (s : TerminalData B) (inserted : B
       top = omega arith;
       current = stays_put s.viewport_area s.current;
       previous = stays_put s.viewport_area s.previous;
-      shape = record { width = shape.width ∙ shape_mid.width; height = shape.height ∙ shape_mid.height; visible = shape.visible ∙ shape_mid.visible };
+      shape = record {
+        width = shape.width ∙ shape_mid.width;
+        height = shape.height ∙ shape_mid.height;
+        visible = shape.visible ∙ shape_mid.visible;
+      };
       above = λ takes step settled.
           let top = at_top takes step in
           let part = (has_pushed takes settled).above in
           let here : rows_above (screen b) 0 ≡ rows_above (screen mid) 0 = ap (λ h. h ++ []) (shown takes step settled).history in
           rw top (AppendsRows-part inserted inserted.area.height (rows_above (screen s.backend) 0) (rows_above (screen b) 0) refl
           (subst (AppendsPart inserted 0 inserted.area.height (rows_above (screen s.backend) 0)) (sym here) part));
-      below = λ takes step settled blank. record { at = λ x y x_in y_in past. absurd (omega (arith, shape.height, shape_mid.height, same_height takes)) };
+      below = λ takes step settled blank.
+          record { at = λ x y x_in y_in past. absurd (omega (arith, shape.height, shape_mid.height, same_height takes)) };
       moved = λ takes step settled lower a b a_in b_in. absurd (omega arith);
       kept = λ takes step settled a b a_in b_in past. absurd (omega (arith, same_height takes));
       left = λ takes step. ap (λ r. record s.previous { area = r }) step.area;
       in_step = λ takes step settled. record {
-        on_screen = record { right = omega (arith, step.on_screen.right, shape.width, shape_mid.width); bottom = omega (arith, step.on_screen.bottom, shape.height, shape_mid.height) };
+        on_screen = record {
+          right = omega (arith, step.on_screen.right, shape.width, shape_mid.width);
+          bottom = omega (arith, step.on_screen.bottom, shape.height, shape_mid.height);
+        };
         area = step.area;
         settled = step.settled;
         shown = shown_again takes step settled;
       };
       few = λ takes step settled narrow.
-          let covered : (if nat_lt s.viewport_area.height s.last_known_area.height then 0 else 2 * inserted.area.width) ≡ 2 * inserted.area.width = grind (arith, nat_tests) in
-          let once : min inserted.area.height 1 * inserted.area.width ≡ inserted.area.width = ap (λ m. m * inserted.area.width) (let one : min inserted.area.height 1 ≡ 1 = omega arith in one) ∙ omega arith in
-          writes_then _ _ _ (screen s.backend) (screen mid) (screen b) (omega (arith, covered, once, is.width)) ((has_pushed takes settled).few narrow) (writes_rows (redrawn step.area));
+          let covered : (if nat_lt s.viewport_area.height s.last_known_area.height then 0
+          else 2 * inserted.area.width) ≡ 2 * inserted.area.width = grind (arith, nat_tests) in
+          let once : min inserted.area.height 1 * inserted.area.width ≡ inserted.area.width = ap (λ m. m * inserted.area.width)
+          (let one : min inserted.area.height 1 ≡ 1 = omega arith in one) ∙ omega arith in
+          writes_then _ _ _ (screen s.backend) (screen mid) (screen b) (omega (arith, covered, once, is.width))
+          ((has_pushed takes settled).few narrow) (writes_rows (redrawn step.area));
       most = λ takes step settled.
-          let covered : (if nat_lt s.viewport_area.height s.last_known_area.height then 0 else inserted.area.width) ≡ inserted.area.width = grind (arith, nat_tests) in
-          writes_then _ _ _ (screen s.backend) (screen mid) (screen b) (omega (arith, covered, is.width)) (has_pushed takes settled).most (writes_rows (redrawn step.area));
+          let covered : (if nat_lt s.viewport_area.height s.last_known_area.height then 0
+          else inserted.area.width) ≡ inserted.area.width = grind (arith, nat_tests) in
+          writes_then _ _ _ (screen s.backend) (screen mid) (screen b) (omega (arith, covered, is.width))
+          (has_pushed takes settled).most (writes_rows (redrawn step.area));
     }
 
   -- above one that doesn't: first it moves down, then the rows above it move up
-  module _ (n : ℕ) (n_is : n ≡ rows_down inserted.area.height s.viewport_area s.last_known_area.height) (mid b : B) (current previous : BufferData)
-      (shape_mid : KeepsSizeAndVisibility (screen s.backend) (screen mid)) (shape : KeepsSizeAndVisibility (screen mid) (screen b))
+  module _ (n : ℕ) (n_is : n ≡ rows_down inserted.area.height s.viewport_area s.last_known_area.height) (mid b : B)
+      (current previous : BufferData)
+      (shape_mid : KeepsSizeAndVisibility (screen s.backend) (screen mid)) (shape : KeepsSizeAndVisibility (screen mid)
+      (screen b))
       (down : InsertsDown inserted s.viewport_area s.last_known_area.height (screen s.backend) (screen mid) n)
       (up : InsertsUp inserted n (s.viewport_area.y + n) (screen mid) (screen b))
       (with_current : Follows s.viewport_area (record s.viewport_area { y = s.viewport_area.y + n }) s.current current)
       (with_older : Follows s.viewport_area (record s.viewport_area { y = s.viewport_area.y + n }) s.previous previous) where
     abbrev pub moved : TerminalData B
-    moved = record s { backend = b; current = current; previous = previous; viewport_area = record s.viewport_area { y = s.viewport_area.y + n } }
+    moved = record s {
+      backend = b;
+      current = current;
+      previous = previous;
+      viewport_area = record s.viewport_area { y = s.viewport_area.y + n };
+    }
 
     fits : TakesRows screen s → IsInStep screen s → s.viewport_area.y + n + s.viewport_area.height ≤ (screen s.backend).height
     fits takes step = omega (arith, n_is, step.on_screen.bottom, same_height takes)
 
-    lowered : TakesRows screen s → IsInStep screen s → IsSettledBuffer inserted → HasLowered inserted n s.viewport_area (screen s.backend) (screen mid)
+    lowered : TakesRows screen s → IsInStep screen s → IsSettledBuffer inserted
+        → HasLowered inserted n s.viewport_area (screen s.backend) (screen mid)
     lowered takes step settled = down (has_place takes step) settled
 
-    raised : TakesRows screen s → IsInStep screen s → IsSettledBuffer inserted → HasRaised inserted n (inserted.area.height - n) (s.viewport_area.y + n) (screen mid) (screen b)
+    raised : TakesRows screen s → IsInStep screen s → IsSettledBuffer inserted → HasRaised inserted n (inserted.area.height - n)
+        (s.viewport_area.y + n) (screen mid) (screen b)
     raised takes step settled = up (wide takes ∙ sym shape_mid.width) (omega (arith, fits takes step, shape_mid.height)) settled
 
-    left_older : TakesRows screen s → IsInStep screen s → previous ≡ record s.previous { area = record s.viewport_area { y = s.viewport_area.y + n } }
+    left_older : TakesRows screen s → IsInStep screen s
+        → previous ≡ record s.previous { area = record s.viewport_area { y = s.viewport_area.y + n } }
     left_older takes step = with_older.rest ∙ ap (λ r. record s.previous { area = r }) (with_older.area.moved step.area)
 
     -- a row of the viewport, and of what lies below, is where it went
-    viewport_moved : TakesRows screen s → IsInStep screen s → IsSettledBuffer inserted → (x y : ℕ) → x < (screen s.backend).width → y < s.viewport_area.height
+    viewport_moved : TakesRows screen s → IsInStep screen s → IsSettledBuffer inserted → (x y : ℕ) → x < (screen s.backend).width
+        → y < s.viewport_area.height
         → (screen b).grid x (s.viewport_area.y + n + y) ≡ (screen s.backend).grid x (s.viewport_area.y + y)
     viewport_moved takes step settled x y x_in y_in =
-        (raised takes step settled).below x (s.viewport_area.y + n + y) (omega (arith, shape_mid.width)) (omega (arith, shape_mid.height, fits takes step)) (omega arith)
+        (raised takes step settled).below x (s.viewport_area.y + n + y) (omega (arith, shape_mid.width))
+        (omega (arith, shape_mid.height, fits takes step)) (omega arith)
         ∙ (lowered takes step settled).moved x y x_in y_in
 
     pub inserted_moved : Inserts screen inserted s moved
@@ -176,15 +222,21 @@ module _ {B : Type 0} (screen : B → Screen) (s : TerminalData B) (inserted : B
       top = ap (λ k. s.viewport_area.y + k) n_is;
       current = with_current;
       previous = with_older;
-      shape = record { width = shape.width ∙ shape_mid.width; height = shape.height ∙ shape_mid.height; visible = shape.visible ∙ shape_mid.visible };
+      shape = record {
+        width = shape.width ∙ shape_mid.width;
+        height = shape.height ∙ shape_mid.height;
+        visible = shape.visible ∙ shape_mid.visible;
+      };
       above = λ takes step settled.
           AppendsRows-part inserted inserted.area.height _ _ refl
           (parts_join (lowered takes step settled).above (raised takes step settled).above (omega arith) (omega (arith, n_is)));
       below = λ takes step settled blank. record {
         at = λ x y x_in y_in past.
             (raised takes step settled).below x y (omega (arith, shape.width)) (omega (arith, shape.height)) (omega arith)
-            ∙ (lowered takes step settled).below x y (omega (arith, shape.width, shape_mid.width)) (omega (arith, shape.height, shape_mid.height)) (omega arith)
-            ∙ blank.at x y (omega (arith, shape.width, shape_mid.width)) (omega (arith, shape.height, shape_mid.height)) (omega arith);
+            ∙ (lowered takes step settled).below x y (omega (arith, shape.width, shape_mid.width))
+            (omega (arith, shape.height, shape_mid.height)) (omega arith)
+            ∙ blank.at x y (omega (arith, shape.width, shape_mid.width)) (omega (arith, shape.height, shape_mid.height))
+            (omega arith);
       };
       left = λ takes step. left_older takes step;
       moved = λ takes step settled lower a b a_in b_in. viewport_moved takes step settled a b a_in b_in;
@@ -197,40 +249,59 @@ module _ {B : Type 0} (screen : B → Screen) (s : TerminalData B) (inserted : B
           let y : s.previous.area.y ≡ s.viewport_area.y = ap (λ (r : Rect). r.y) step.area in
           let width : s.previous.area.width ≡ s.viewport_area.width = ap (λ (r : Rect). r.width) step.area in
           let height : s.previous.area.height ≡ s.viewport_area.height = ap (λ (r : Rect). r.height) step.area in
-          let shown : ShowsBuffer (record s.previous { area = record s.previous.area { y = s.viewport_area.y + n } }) (screen b).grid =
+          let shown : ShowsBuffer (record s.previous { area = record s.previous.area { y = s.viewport_area.y + n } })
+          (screen b).grid =
           shows_moved s.previous (s.viewport_area.y + n) (screen s.backend) (screen b) step.shown (λ a r a_in r_in.
-          viewport_moved takes step settled (s.previous.area.x + a) r (omega (arith, x, width, step.on_screen.right)) (omega (arith, height))
+          viewport_moved takes step settled (s.previous.area.x + a) r (omega (arith, x, width, step.on_screen.right))
+          (omega (arith, height))
           ∙ ap (λ k. (screen s.backend).grid (s.previous.area.x + a) (k + r)) (sym y)) in
-          let whole : ShowsBuffer (record s.previous { area = record s.viewport_area { y = s.viewport_area.y + n } }) (screen b).grid = rw step.area at shown in
+          let whole : ShowsBuffer (record s.previous { area = record s.viewport_area { y = s.viewport_area.y + n } })
+          (screen b).grid = rw step.area at shown in
           record {
-            on_screen = record { right = omega (arith, step.on_screen.right, shape.width, shape_mid.width); bottom = omega (arith, fits takes step, shape.height, shape_mid.height) };
+            on_screen = record {
+              right = omega (arith, step.on_screen.right, shape.width, shape_mid.width);
+              bottom = omega (arith, fits takes step, shape.height, shape_mid.height);
+            };
             area = ap (λ (o : BufferData). o.area) e;
             settled = subst IsSettledBuffer (sym e) (rw step.area at step.settled);
             shown = subst (λ o. ShowsBuffer o (screen b).grid) (sym e) whole;
           };
       few = λ takes step settled narrow.
           let all : n + (inserted.area.height - n) ≡ inserted.area.height = omega (arith, n_is) in
-          let parts : nonempty_cells inserted 0 inserted.area.height ≡ nonempty_cells inserted 0 n + nonempty_cells inserted n (inserted.area.height - n) =
+          let parts : nonempty_cells inserted 0 inserted.area.height ≡ nonempty_cells inserted 0 n + nonempty_cells inserted n
+          (inserted.area.height - n) =
           ap (nonempty_cells inserted 0) (sym all) ∙ nonempty_parts inserted 0 n (inserted.area.height - n)
           ∙ ap (λ k. nonempty_cells inserted 0 n + nonempty_cells inserted k (inserted.area.height - n)) (omega arith) in
-          writes_then _ _ _ (screen s.backend) (screen mid) (screen b) (omega (arith, parts)) ((lowered takes step settled).few narrow) ((raised takes step settled).few narrow);
+          writes_then _ _ _ (screen s.backend) (screen mid) (screen b) (omega (arith, parts))
+          ((lowered takes step settled).few narrow) ((raised takes step settled).few narrow);
       most = λ takes step settled.
           let all : n + (inserted.area.height - n) ≡ inserted.area.height = omega (arith, n_is) in
-          let parts : inserted.area.width * inserted.area.height ≡ inserted.area.width * n + inserted.area.width * (inserted.area.height - n) =
+          let parts : inserted.area.width * inserted.area.height ≡ inserted.area.width * n + inserted.area.width *
+          (inserted.area.height - n) =
           ap (λ h. inserted.area.width * h) (sym all) ∙ omega arith in
-          writes_then _ _ _ (screen s.backend) (screen mid) (screen b) (omega (arith, parts)) (lowered takes step settled).most (raised takes step settled).most;
+          writes_then _ _ _ (screen s.backend) (screen mid) (screen b) (omega (arith, parts)) (lowered takes step settled).most
+          (raised takes step settled).most;
     }
 
   -- a backend failed after that move
-  pub stopped_moved : (n : ℕ) → n ≡ rows_down inserted.area.height s.viewport_area s.last_known_area.height → (mid b : B) (current previous : BufferData) → InsertsDown inserted s.viewport_area s.last_known_area.height (screen s.backend) (screen mid) n
-      → Follows s.viewport_area (record s.viewport_area { y = s.viewport_area.y + n }) s.current current → Follows s.viewport_area (record s.viewport_area { y = s.viewport_area.y + n }) s.previous previous
-      → StopsInserting screen inserted s (record s { backend = b; current = current; previous = previous; viewport_area = record s.viewport_area { y = s.viewport_area.y + n } })
+  pub stopped_moved : (n : ℕ) → n ≡ rows_down inserted.area.height s.viewport_area s.last_known_area.height
+      → (mid b : B) (current previous : BufferData)
+      → InsertsDown inserted s.viewport_area s.last_known_area.height (screen s.backend) (screen mid) n
+      → Follows s.viewport_area (record s.viewport_area { y = s.viewport_area.y + n }) s.current current
+      → Follows s.viewport_area (record s.viewport_area { y = s.viewport_area.y + n }) s.previous previous
+      → StopsInserting screen inserted s (record s {
+        backend = b;
+        current = current;
+        previous = previous;
+        viewport_area = record s.viewport_area { y = s.viewport_area.y + n };
+      })
   stopped_moved n n_is mid b current previous down with_current with_older = record {
     rest = refl;
     moved = inr (record {
       top = ap (λ k. s.viewport_area.y + k) n_is;
       between = mid;
-      lowered = λ takes step settled. subst (λ k. HasLowered inserted k s.viewport_area (screen s.backend) (screen mid)) n_is (down (has_place takes step) settled);
+      lowered = λ takes step settled. subst (λ k. HasLowered inserted k s.viewport_area (screen s.backend) (screen mid)) n_is
+          (down (has_place takes step) settled);
     });
     current = with_current;
     previous = with_older;
@@ -238,7 +309,8 @@ module _ {B : Type 0} (screen : B → Screen) (s : TerminalData B) (inserted : B
 
 module _ {B : Type 0} (screen : B → Screen) where
   -- no rows
-  pub inserted_none : (s : TerminalData B) (inserted : BufferData) (height : ℕ) → inserted.area ≡ inserted_area s height → height ≡ 0 → Inserts screen inserted s s
+  pub inserted_none : (s : TerminalData B) (inserted : BufferData) (height : ℕ) → inserted.area ≡ inserted_area s height
+      → height ≡ 0 → Inserts screen inserted s s
   inserted_none s inserted height over none =
       let same : inserted.area.height ≡ height = ap (λ (r : Rect). r.height) over in
       let flat : inserted.area.height ≡ 0 = same ∙ none in
@@ -264,7 +336,8 @@ module _ {B : Type 0} (screen : B → Screen) where
   nothing low some (inr none) = absurd (omega (arith, some, none))
 
   -- rows that a closure filled were inserted, or a backend failed on the way
-  pub inserted_by : {T E : Type 0} (result : Result T (TerminalError E)) (area : Rect) (filled : Result (Unit {0}) AllocError → BufferData → Type 0) (inserted : BufferData) (s t : TerminalData B)
+  pub inserted_by : {T E : Type 0} (result : Result T (TerminalError E)) (area : Rect)
+      (filled : Result (Unit {0}) AllocError → BufferData → Type 0) (inserted : BufferData) (s t : TerminalData B)
       → filled (Ok tt) inserted → inserted.area ≡ area → 0 < s.last_known_area.height → 0 < area.height
       → OnOk result (Inserts screen inserted s t) → OnErr result (StopsInserting screen inserted s t) → FailsOnlyByBackend result
       → InsertsBy screen area filled s t result
@@ -277,9 +350,11 @@ module _ {B : Type 0} (screen : B → Screen) where
   inserted_by (Err (Closure error)) area filled inserted s t closure over known some ok err only = absurd only
 
 -- an empty current buffer moves with the viewport
-pub emptied-moved : {B : Type 0} (screen : B → Screen) (inserted : BufferData) (s t : TerminalData B) → Inserts screen inserted s t → IsEmptied s.viewport_area s.current → IsEmptied t.viewport_area t.current
+pub emptied-moved : {B : Type 0} (screen : B → Screen) (inserted : BufferData) (s t : TerminalData B)
+    → Inserts screen inserted s t → IsEmptied s.viewport_area s.current → IsEmptied t.viewport_area t.current
 emptied-moved {B} screen inserted s t inserts empty =
-    let area : t.viewport_area ≡ record s.viewport_area { y = t.viewport_area.y } = ap (λ (x : TerminalData B). x.viewport_area) inserts.rest in
+    let area : t.viewport_area ≡ record s.viewport_area { y = t.viewport_area.y } =
+    ap (λ (x : TerminalData B). x.viewport_area) inserts.rest in
     record {
       area = inserts.current.area.moved empty.area;
       cells = ap (λ (x : BufferData). x.cells) inserts.current.rest ∙ empty.cells ∙ ap empty_cells (sym (ap area_size area));

@@ -4,11 +4,13 @@ use Rattle.rtui_geometry.specs.{declared.position.Position.Position, declared.re
 use Rattle.rtui_buffer.specs.{BufferData.BufferData, Shown.IsSettledBuffer}
 use Rattle.rtui_backend.specs.Screen.{Screen, KeepsSizeAndHistory, IsOnScreen, IsWithin, rows_above}
 use Rattle.rtui_backend.proofs.ScrollLemmas.{above_same}
-use Rattle.rtui_viewport.specs.{Areas.KeepsOutside, Areas.IsBlankBelow, Clearing.ClearsArea, Viewports.IsFixed, Viewports.IsInline}
+use Rattle.rtui_viewport.specs.{Areas.KeepsOutside, Areas.IsBlankBelow, Clearing.ClearsArea, Viewports.IsFixed}
+use Rattle.rtui_viewport.specs.{Viewports.IsInline}
 use Rattle.rtui_viewport.specs.declared.viewport.Viewport.{Viewport}
 use Rattle.rtui_viewport.specs.declared.viewport.Viewport.TheVariants.{Fullscreen, Inline, Fixed}
 use Rattle.rtui_viewport.proofs.ClearLemmas.{keeps_outside, keeps_above}
-use Rattle.rtui_terminal.specs.{TerminalData.TerminalData, TerminalData.IsInPlace, Writing.HasDrawn, Writing.cursor_placed, Cursor.Stays, Resizing.Autoresizes}
+use Rattle.rtui_terminal.specs.{TerminalData.TerminalData, TerminalData.IsInPlace, Writing.HasDrawn, Writing.cursor_placed}
+use Rattle.rtui_terminal.specs.{Cursor.Stays, Resizing.Autoresizes}
 use Rattle.rtui_terminal.specs.InStep.{IsInStep, IsSized, KeepsAroundViewport, rows_over}
 
 placed_grid : (cursor : Option Position) (s : Screen) (a b : ℕ) → (cursor_placed cursor s).grid a b ≡ s.grid a b
@@ -23,20 +25,23 @@ pub size_more : {r s t : Screen} → KeepsSizeAndHistory r s → KeepsSizeAndHis
 size_more p q = record { width = q.width ∙ p.width; height = q.height ∙ p.height; history = q.history ∙ p.history }
 
 -- the rows above an inline viewport with a row stay where it is cleared
-pub above_cleared : (v : Viewport) (r : Rect) {s t : Screen} → IsInPlace v r → ClearsArea v r s t → IsInline v → IsOnScreen r s → 0 < r.height → rows_above t r.y ≡ rows_above s r.y
+pub above_cleared : (v : Viewport) (r : Rect) {s t : Screen} → IsInPlace v r → ClearsArea v r s t → IsInline v → IsOnScreen r s
+    → 0 < r.height → rows_above t r.y ≡ rows_above s r.y
 above_cleared Fullscreen r at clears inline on some = absurd inline
 above_cleared (Inline n) r at clears inline on some = keeps_above n r on some (clears at)
 above_cleared (Fixed f) r at clears inline on some = absurd inline
 
 -- and all outside a fixed one
-pub outside_cleared : (v : Viewport) (r : Rect) {s t : Screen} → ClearsArea v r s t → IsFixed v → IsOnScreen r s → KeepsOutside r s t
+pub outside_cleared : (v : Viewport) (r : Rect) {s t : Screen} → ClearsArea v r s t → IsFixed v → IsOnScreen r s
+    → KeepsOutside r s t
 outside_cleared Fullscreen r clears fixed on = absurd fixed
 outside_cleared (Inline n) r clears fixed on = absurd fixed
 outside_cleared (Fixed f) r clears fixed on = keeps_outside r (clears on)
 
 module _ {B : Type 0} (screen : B → Screen) where
   -- what stays outside a viewport stays above it
-  pub rest_of : (s t : TerminalData B) → t.viewport_area ≡ s.viewport_area → KeepsSizeAndHistory (screen s.backend) (screen t.backend)
+  pub rest_of : (s t : TerminalData B) → t.viewport_area ≡ s.viewport_area
+      → KeepsSizeAndHistory (screen s.backend) (screen t.backend)
       → KeepsOutside s.viewport_area (screen s.backend) (screen t.backend) → KeepsAroundViewport screen s t
   rest_of s t view size outside = record {
     viewport_area = view;
@@ -48,7 +53,8 @@ module _ {B : Type 0} (screen : B → Screen) where
     outside = outside;
   }
 
-  pub rest_more : (r s t : TerminalData B) → KeepsAroundViewport screen r s → KeepsAroundViewport screen s t → KeepsAroundViewport screen r t
+  pub rest_more : (r s t : TerminalData B) → KeepsAroundViewport screen r s → KeepsAroundViewport screen s t
+      → KeepsAroundViewport screen r t
   rest_more r s t p q = record {
     viewport_area = q.viewport_area ∙ p.viewport_area;
     size = size_more p.size q.size;
@@ -63,19 +69,33 @@ module _ {B : Type 0} (screen : B → Screen) where
 
   pub stays_rest : (s t : TerminalData B) → Stays screen s t → KeepsAroundViewport screen s t
   stays_rest s t stays = rest_of s t (ap (λ (x : TerminalData B). x.viewport_area) stays.rest)
-      (record { width = ap (λ (x : Screen). x.width) stays.screen_stays; height = ap (λ (x : Screen). x.height) stays.screen_stays; history = ap (λ (x : Screen). x.history) stays.screen_stays })
+      (record {
+        width = ap (λ (x : Screen). x.width) stays.screen_stays;
+        height = ap (λ (x : Screen). x.height) stays.screen_stays;
+        history = ap (λ (x : Screen). x.history) stays.screen_stays;
+      })
       (record { at = λ a b _ _ _. ap (λ (x : Screen). x.grid a b) stays.screen_stays })
 
   -- a drawing of a settled buffer changes nothing outside
-  pub drawn_rest : (cursor : Option Position) (s t : TerminalData B) → t.viewport_area ≡ s.viewport_area → HasDrawn cursor s (screen s.backend) (screen t.backend)
+  pub drawn_rest : (cursor : Option Position) (s t : TerminalData B) → t.viewport_area ≡ s.viewport_area
+      → HasDrawn cursor s (screen s.backend) (screen t.backend)
       → IsInStep screen s → IsSettledBuffer s.current → KeepsAroundViewport screen s t
   drawn_rest cursor s t view (between, writes, is) step settled =
       let placed = placed_size cursor between in
-      let on : IsOnScreen s.previous.area (screen s.backend) = subst (λ r. IsOnScreen r (screen s.backend)) (sym step.area) step.on_screen in
-      let outside : KeepsOutside s.viewport_area (screen s.backend) between = subst (λ r. KeepsOutside r (screen s.backend) between) step.area (writes.outside on step.settled settled) in
+      let on : IsOnScreen s.previous.area (screen s.backend) = subst (λ r. IsOnScreen r (screen s.backend))
+      (sym step.area) step.on_screen in
+      let outside : KeepsOutside s.viewport_area (screen s.backend) between =
+      subst (λ r. KeepsOutside r (screen s.backend) between) step.area (writes.outside on step.settled settled) in
       rest_of s t view
-      (subst (λ new. KeepsSizeAndHistory (screen s.backend) new) (sym is) (record { width = placed.width ∙ writes.drawn.width; height = placed.height ∙ writes.drawn.height; history = placed.history ∙ writes.drawn.history }))
-      (record { at = λ a b a_in b_in out. ap (λ (x : Screen). x.grid a b) is ∙ placed_grid cursor between a b ∙ outside.at a b a_in b_in out })
+      (subst (λ new. KeepsSizeAndHistory (screen s.backend) new) (sym is) (record {
+        width = placed.width ∙ writes.drawn.width;
+        height = placed.height ∙ writes.drawn.height;
+        history = placed.history ∙ writes.drawn.history;
+      }))
+      (record {
+        at = λ a b a_in b_in out. ap (λ (x : Screen). x.grid a b) is ∙ placed_grid cursor between a b
+            ∙ outside.at a b a_in b_in out;
+      })
 
   -- from in step at the known size a resizing does nothing
   pub autoresized_rest : (s t : TerminalData B) → Autoresizes screen s t → IsSized screen s → KeepsAroundViewport screen s t
@@ -84,15 +104,24 @@ module _ {B : Type 0} (screen : B → Screen) where
     | inr other ↦ absurd (other.0 sized)
   ]
 
-  pub painted_rest : (s t : TerminalData B) (painted : BufferData) → KeepsAroundViewport screen (record s { current = painted }) t → KeepsAroundViewport screen s t
-  painted_rest s t painted keeps = record { viewport_area = keeps.viewport_area; size = keeps.size; above = keeps.above; outside = keeps.outside }
+  pub painted_rest : (s t : TerminalData B) (painted : BufferData) → KeepsAroundViewport screen (record s { current = painted }) t
+      → KeepsAroundViewport screen s t
+  painted_rest s t painted keeps = record {
+    viewport_area = keeps.viewport_area;
+    size = keeps.size;
+    above = keeps.above;
+    outside = keeps.outside;
+  }
 
 -- blank rows below a viewport, all around which stays
-pub below-kept : {B : Type 0} (screen : B → Screen) (s t : TerminalData B) → KeepsAroundViewport screen s t → IsBlankBelow s.viewport_area (screen s.backend) → IsBlankBelow t.viewport_area (screen t.backend)
+pub below-kept : {B : Type 0} (screen : B → Screen) (s t : TerminalData B) → KeepsAroundViewport screen s t
+    → IsBlankBelow s.viewport_area (screen s.backend) → IsBlankBelow t.viewport_area (screen t.backend)
 below-kept screen s t keeps blank = record {
   at = λ a b a_in b_in low.
-      let bottom : t.viewport_area.y + t.viewport_area.height ≡ s.viewport_area.y + s.viewport_area.height = ap (λ (r : Rect). r.y + r.height) keeps.viewport_area in
+      let bottom : t.viewport_area.y + t.viewport_area.height ≡ s.viewport_area.y + s.viewport_area.height =
+      ap (λ (r : Rect). r.y + r.height) keeps.viewport_area in
       let wide = keeps.size.width in
       let high = keeps.size.height in
-      keeps.outside.at a b (omega arith) (omega arith) (λ within. let h = within.bottom in omega arith) ∙ blank.at a b (omega arith) (omega arith) (omega arith);
+      keeps.outside.at a b (omega arith) (omega arith) (λ within. let h = within.bottom in omega arith)
+      ∙ blank.at a b (omega arith) (omega arith) (omega arith);
 }

@@ -1,22 +1,27 @@
 -- A text drawn over one row, and inserted above it.
-use Rattle.std.proofs.Common.{◌≡◌, ℕ, zero, suc, ◌*◌, ◌≤◌, ◌<◌, List, [], ◌∷◌, ◌++◌, length, append-nil, Option, None, Some, Result, Ok, Err, OnOk, OnErr, IfErr, refl, sym, ap, ap₂, subst, ◌∙◌, inl, inr, arith, alloc_error, slice_index_or, mul-le-mul_left}
+use Rattle.std.proofs.Common.{◌≡◌, ℕ, zero, suc, ◌*◌, ◌≤◌, ◌<◌, List, [], ◌∷◌, ◌++◌, length, append-nil, Option, None, Some}
+use Rattle.std.proofs.Common.{Result, Ok, Err, OnOk, OnErr, IfErr, refl, sym, ap, ap₂, subst, ◌∙◌, inl, inr, arith, alloc_error}
+use Rattle.std.proofs.Common.{slice_index_or, mul-le-mul_left}
 use Rattle.std.specs.declared.alloc.AllocError.{AllocError}
 use Rattle.rtui_geometry.specs.{declared.position.Position.Position, declared.rect.Rect.Rect}
 use Rattle.std.proofs.lemmas.List.{length-map}
 use Rattle.rtui_cell.specs.Look.{Look}
 use Rattle.rtui_diff.specs.{DiffRule.given, DiffRule.start, Shows.RowAgrees, Updates.update_at}
-use Rattle.rtui_buffer.specs.{BufferData.BufferData, BufferData.IsEmptied, Shown.IsSettledBuffer, Shown.common_rows, Shown.buffer_updates}
+use Rattle.rtui_buffer.specs.{BufferData.BufferData, BufferData.IsEmptied, Shown.IsSettledBuffer, Shown.common_rows}
+use Rattle.rtui_buffer.specs.{Shown.buffer_updates}
 use Rattle.rtui_widgets.proofs.SettledLemmas.{has-first-row, text-settled}
 use Rattle.rtui_backend.specs.Screen.{Screen, screen_area}
 use Rattle.rtui_viewport.specs.{declared.viewport.Viewport.TheVariants.Inline, Viewports.IsInline}
 use Rattle.rtui_insert.specs.{Insertion.AppendsRows, Insertion.AreRowsOf, Rows.WritesAtMost}
 use Rattle.rtui_insert.proofs.CountLemmas.{given_count}
-use Rattle.rtui_terminal.specs.{Writing.HasDrawn, Writing.cursor_placed, TerminalData.TerminalData, TerminalData.HasAreas, InStep.IsSized, InStep.rows_over}
+use Rattle.rtui_terminal.specs.{Writing.HasDrawn, Writing.cursor_placed, TerminalData.TerminalData, TerminalData.HasAreas}
+use Rattle.rtui_terminal.specs.{InStep.IsSized, InStep.rows_over}
 use Rattle.rtui_terminal.specs.{Faults.FaultCounts, Faults.IsBackendFault, declared.terminal.error.TerminalError.TerminalError}
 use Rattle.rtui_terminal.specs.declared.terminal.error.TerminalError.TheVariants.{Backend, Memory, Area, Closure}
 use Rattle.rtui_terminal.specs.{Starting.IsBlank, Starting.StartErr, Starting.Starts, Drawing.DrawOk, Drawing.DrawErr}
 use Rattle.rtui_terminal.specs.Insertion.{inserted_area, TakesRows, Inserts, InsertOk, InsertsBy}
-use Rattle.rtui_terminal.specs.TextRow.{row_area, IsPaintedText, IsRowOf, RendersRow, FillsRow, IsOverRow, DrawsRow, InsertsRow, StartsOverRow}
+use Rattle.rtui_terminal.specs.TextRow.{row_area, IsPaintedText, IsRowOf, RendersRow, FillsRow, IsOverRow, DrawsRow, InsertsRow}
+use Rattle.rtui_terminal.specs.TextRow.{StartsOverRow}
 use Rattle.rtui_terminal.proofs.RenderedLemmas.{OnlyRenders, shows-rendered, sized-stays, refused-by-backend}
 use Rattle.rtui_terminal.proofs.StartLemmas.{starts-in-row, starts-in-step, starts-blank}
 use Rattle.rtui_terminal.proofs.{InsertionLemmas.emptied-moved, KeepLemmas.below-kept}
@@ -33,7 +38,8 @@ record HasRow (width : ℕ) (text : List ℕ) (old new : List (List Look)) : Typ
   painted : IsRowOf width text row
   above : new ≡ old ++ row ∷ []
 
-row-appended : (width : ℕ) (text : List ℕ) (sheet : BufferData) (old new : List (List Look)) → sheet.area ≡ row_area width 0 → IsPaintedText text sheet → AppendsRows (sheet ∷ []) old new → HasRow width text old new
+row-appended : (width : ℕ) (text : List ℕ) (sheet : BufferData) (old new : List (List Look)) → sheet.area ≡ row_area width 0
+    → IsPaintedText text sheet → AppendsRows (sheet ∷ []) old new → HasRow width text old new
 row-appended width text sheet old new over painted appends =
     let wide : sheet.area.width ≡ width = ap (λ (r : Rect). r.width) over in
     let high : sheet.area.height ≡ 1 = ap (λ (r : Rect). r.height) over in
@@ -42,12 +48,18 @@ row-appended width text sheet old new over painted appends =
     let all : appends.rows ≡ first = appends.agree.2 ∙ ap (λ rows. first ++ rows) appends.agree.4 ∙ append-nil first in
     record {
       row = slice_index_or first 0 [];
-      painted = record { sheet = sheet; over = over; painted = painted; agrees = subst (λ n. RowAgrees n sheet.cells 0 (slice_index_or first 0 [])) wide (are.agree 0 (omega arith)) };
+      painted = record {
+        sheet = sheet;
+        over = over;
+        painted = painted;
+        agrees = subst (λ n. RowAgrees n sheet.cells 0 (slice_index_or first 0 [])) wide (are.agree 0 (omega arith));
+      };
       above = appends.appended ∙ ap (λ rows. old ++ rows) (all ∙ only_row first (are.count ∙ high));
     }
 
 -- a text was rendered in an empty row
-row-painted : (text : List ℕ) (y width : ℕ) (blank sheet : BufferData) → sheet.area ≡ row_area width y → IsEmptied sheet.area blank → RendersRow text sheet.area blank sheet → IsPaintedText text sheet
+row-painted : (text : List ℕ) (y width : ℕ) (blank sheet : BufferData) → sheet.area ≡ row_area width y
+    → IsEmptied sheet.area blank → RendersRow text sheet.area blank sheet → IsPaintedText text sheet
 row-painted text y width blank sheet over empty renders =
     let high : sheet.area.height ≡ 1 = ap (λ (r : Rect). r.height) over in
     record { blank = blank; emptied = empty; rendered = renders (has-first-row sheet.area blank (omega arith) empty) }
@@ -64,15 +76,18 @@ placed_written None s = refl
 placed_written (Some p) s = refl
 
 -- a drawing of a row's differences writes each column at most once
-row_written : {B : Type 0} (width y : ℕ) (cursor : Option Position) (s : TerminalData B) (old new : Screen) → s.previous.area ≡ row_area width y → HasDrawn cursor s old new → WritesAtMost width old new
+row_written : {B : Type 0} (width y : ℕ) (cursor : Option Position) (s : TerminalData B) (old new : Screen)
+    → s.previous.area ≡ row_area width y → HasDrawn cursor s old new → WritesAtMost width old new
 row_written width y cursor s old new over drawn room =
     let wide : s.previous.area.width ≡ width = ap (λ (r : Rect). r.width) over in
     let high : s.previous.area.height ≡ 1 = ap (λ (r : Rect). r.height) over in
     let rows : ℕ = common_rows s.previous s.current in
-    let count : length (buffer_updates s.previous s.current) ≡ length (given s.previous.cells s.current.cells (s.previous.area.width * rows) start 0) =
+    let count : length (buffer_updates s.previous s.current) ≡ length (given s.previous.cells s.current.cells
+    (s.previous.area.width * rows) start 0) =
     length-map _ (update_at s.previous.area.x s.previous.area.y s.previous.area.width s.current.cells) in
     let le = given_count s.previous.cells s.current.cells (s.previous.area.width * rows) start 0 in
-    let cells : s.previous.area.width * rows ≤ s.previous.area.width * 1 = mul-le-mul_left s.previous.area.width (omega (arith, high)) in
+    let cells : s.previous.area.width * rows ≤ s.previous.area.width * 1 =
+    mul-le-mul_left s.previous.area.width (omega (arith, high)) in
     let same : new.written ≡ drawn.0.written = ap (λ (t : Screen). t.written) drawn.2 ∙ placed_written cursor drawn.0 in
     let is = drawn.1.drawn.written (omega (arith, room, count, le, cells, wide)) in
     omega (arith, count, le, cells, wide, same, is)
@@ -85,7 +100,8 @@ module _ {B : Type 0} (screen : B → Screen) where
       record { inline = is.kind; known = is.known; row = omega arith; width = ap (λ (r : Rect). r.width) is.row }
 
   -- the row of a text was inserted
-  pub inserts-row : (text : List ℕ) (s t : TerminalData B) (filled : Result (Unit {0}) AllocError → BufferData → Type 0) → IsOverRow screen s
+  pub inserts-row : (text : List ℕ) (s t : TerminalData B) (filled : Result (Unit {0}) AllocError → BufferData → Type 0)
+      → IsOverRow screen s
       → ((sheet : BufferData) → filled (Ok tt) sheet → FillsRow text (inserted_area s 1) sheet)
       → InsertOk screen (inserted_area s 1) filled s t → InsertsRow screen text s t
   inserts-row text s t filled is only ins =
@@ -99,13 +115,17 @@ module _ {B : Type 0} (screen : B → Screen) where
       let fills = only sheet ins.closure in
       let empty : IsEmptied sheet.area fills.before = subst (λ (r : Rect). IsEmptied r fills.before) (sym ins.over) fills.empty in
       let renders = subst (λ (r : Rect). RendersRow text r fills.before sheet) (fills.empty.area ∙ sym ins.over) fills.renders in
-      let painted : IsPaintedText text sheet = row-painted text 0 (screen s.backend).width fills.before sheet over empty renders in
+      let painted : IsPaintedText text sheet =
+      row-painted text 0 (screen s.backend).width fills.before sheet over empty renders in
       let settled : IsSettledBuffer sheet = row-settled text sheet painted in
-      let row : HasRow (screen s.backend).width text (rows_over screen s) (rows_over screen t) = row-appended (screen s.backend).width text sheet (rows_over screen s) (rows_over screen t) over painted (inserts.above may is.in_step settled) in
+      let row : HasRow (screen s.backend).width text (rows_over screen s) (rows_over screen t) =
+      row-appended (screen s.backend).width text sheet (rows_over screen s) (rows_over screen t) over painted
+      (inserts.above may is.in_step settled) in
       let height : sheet.area.height ≡ 1 = ap (λ (r : Rect). r.height) over in
       let kept = inserts.rest in
       let here : t.viewport_area ≡ row_area (screen t.backend).width t.viewport_area.y =
-      ap (λ (x : TerminalData B). x.viewport_area) kept ∙ ap (λ (r : Rect). record r { y = t.viewport_area.y }) is.row ∙ ap (λ w. row_area w t.viewport_area.y) (sym inserts.shape.width) in
+      ap (λ (x : TerminalData B). x.viewport_area) kept ∙ ap (λ (r : Rect). record r { y = t.viewport_area.y }) is.row
+      ∙ ap (λ w. row_area w t.viewport_area.y) (sym inserts.shape.width) in
       record {
         over = record {
           kind = subst IsInline (sym (ap (λ (x : TerminalData B). x.viewport) kept)) is.kind;
@@ -124,52 +144,66 @@ module _ {B : Type 0} (screen : B → Screen) where
       }
 
   -- by the answer of the insertion
-  pub inserts-row-if : {T E : Type 0} (text : List ℕ) (s t : TerminalData B) (filled : Result (Unit {0}) AllocError → BufferData → Type 0) (result : Result T (TerminalError E)) → IsOverRow screen s
+  pub inserts-row-if : {T E : Type 0} (text : List ℕ) (s t : TerminalData B) (filled : Result (Unit {0}) AllocError → BufferData
+      → Type 0) (result : Result T (TerminalError E)) → IsOverRow screen s
       → ((sheet : BufferData) → filled (Ok tt) sheet → FillsRow text (inserted_area s 1) sheet)
       → InsertsBy screen (inserted_area s 1) filled s t result → OnOk result (InsertsRow screen text s t)
   inserts-row-if text s t filled (Ok x) is only by = inserts-row text s t filled is only by
   inserts-row-if text s t filled (Err e) is only by = tt
 
   -- a text was drawn over the viewport
-  pub draws-row : {X : Type 0} (text : List ℕ) (s t : TerminalData B) (ran : TerminalData B → Result (Unit {0}) X → Option Position → BufferData → Type 0) → IsOverRow screen s → OnlyRenders ran (RendersRow text) → DrawOk screen ran s t
+  pub draws-row : {X : Type 0} (text : List ℕ) (s t : TerminalData B) (ran : TerminalData B → Result (Unit {0}) X
+      → Option Position → BufferData → Type 0) → IsOverRow screen s → OnlyRenders ran (RendersRow text) → DrawOk screen ran s t
       → DrawsRow screen text s t
   draws-row text s t ran is only drawn =
       let sized : IsSized screen s = inr is.known in
       let shows = shows-rendered screen ran (RendersRow text) s t (inl is.in_step) is.current only drawn in
       let applied = drawn.draws.applied in
       let stays = sized-stays screen s drawn.draws.sized sized drawn.draws.autoresized in
-      let kept : t.viewport_area ≡ s.viewport_area = ap (λ (x : TerminalData B). x.viewport_area) applied.rest ∙ ap (λ (x : TerminalData B). x.viewport_area) stays.rest in
+      let kept : t.viewport_area ≡ s.viewport_area = ap (λ (x : TerminalData B). x.viewport_area) applied.rest
+      ∙ ap (λ (x : TerminalData B). x.viewport_area) stays.rest in
       let over : t.previous.area ≡ row_area (screen s.backend).width s.viewport_area.y = shows.area ∙ kept ∙ is.row in
-      let painted : IsPaintedText text t.previous = row-painted text s.viewport_area.y (screen s.backend).width shows.rendered.blank t.previous over shows.rendered.emptied shows.rendered.rendered in
+      let painted : IsPaintedText text t.previous =
+      row-painted text s.viewport_area.y (screen s.backend).width shows.rendered.blank t.previous over shows.rendered.emptied
+      shows.rendered.rendered in
       let settled : IsSettledBuffer t.previous = row-settled text t.previous painted in
       let keeps = drawn.draws.keeps is.in_step sized settled in
       let step = drawn.draws.in_step (inl is.in_step) settled in
       record {
         over = record {
-          kind = subst IsInline (sym (ap (λ (x : TerminalData B). x.viewport) applied.rest ∙ ap (λ (x : TerminalData B). x.viewport) stays.rest)) is.kind;
+          kind = subst IsInline (sym (ap (λ (x : TerminalData B). x.viewport) applied.rest
+              ∙ ap (λ (x : TerminalData B). x.viewport) stays.rest)) is.kind;
           known = ap₂ (λ w h. record { x = 0; y = 0; width = w; height = h }) keeps.size.width keeps.size.height ∙ is.known
-              ∙ sym (ap (λ (x : TerminalData B). x.last_known_area) applied.rest ∙ ap (λ (x : TerminalData B). x.last_known_area) stays.rest);
+              ∙ sym (ap (λ (x : TerminalData B). x.last_known_area) applied.rest
+              ∙ ap (λ (x : TerminalData B). x.last_known_area) stays.rest);
           row = kept ∙ is.row ∙ ap₂ row_area (sym keeps.size.width) (sym (ap (λ (r : Rect). r.y) kept));
           in_step = step;
-          current = subst (λ (r : Rect). IsEmptied r t.current) (sym (ap (λ (x : TerminalData B). x.viewport_area) applied.rest)) applied.emptied;
+          current = subst (λ (r : Rect). IsEmptied r t.current)
+              (sym (ap (λ (x : TerminalData B). x.viewport_area) applied.rest)) applied.emptied;
         };
         shown = record { sheet = t.previous; over = shows.area; painted = painted; shown = step.shown };
         keeps = keeps;
         most = subst (λ (x : Screen). WritesAtMost (screen s.backend).width x (screen t.backend)) stays.screen_stays
-            (row_written (screen s.backend).width s.viewport_area.y drawn.draws.cursor (record drawn.draws.sized { current = t.previous }) (screen drawn.draws.sized.backend) (screen t.backend)
+            (row_written (screen s.backend).width s.viewport_area.y drawn.draws.cursor
+            (record drawn.draws.sized { current = t.previous }) (screen drawn.draws.sized.backend) (screen t.backend)
             (applied.areas.previous ∙ ap (λ (x : TerminalData B). x.viewport_area) stays.rest ∙ is.row) applied.drawn);
       }
 
   -- by the answer of a draw that takes no memory
-  pub refused-by-backend-if : {T F : Type 0} (X : Type 0) (s t : TerminalData B) (ran : TerminalData B → Result (Unit {0}) AllocError → Option Position → BufferData → Type 0) (result : Result T (TerminalError F)) → IsSized screen s → HasAreas s
+  pub refused-by-backend-if : {T F : Type 0} (X : Type 0) (s t : TerminalData B)
+      (ran : TerminalData B → Result (Unit {0}) AllocError → Option Position → BufferData → Type 0)
+      (result : Result T (TerminalError F)) → IsSized screen s → HasAreas s
       → ((r : TerminalData B) (cursor : Option Position) (painted : BufferData) → ran r (Err alloc_error) cursor painted → ⊥)
-      → ((r : TerminalData B) (cursor : Option Position) (painted : BufferData) → ran r (Ok tt) cursor painted → painted.area ≡ r.current.area)
+      → ((r : TerminalData B) (cursor : Option Position) (painted : BufferData) → ran r (Ok tt) cursor painted
+      → painted.area ≡ r.current.area)
       → OnErr result (IfErr result (DrawErr screen ran s t) × X) → IfErr result IsBackendFault
   refused-by-backend-if X s t ran (Ok x) sized areas never keeps by = tt
-  refused-by-backend-if X s t ran (Err e) sized areas never keeps by = refused-by-backend screen ran s t e sized areas never keeps by.0
+  refused-by-backend-if X s t ran (Err e) sized areas never keeps by =
+      refused-by-backend screen ran s t e sized areas never keeps by.0
 
   -- a text was inserted, and then another one drawn
-  pub inserts-and-draws : (text status : List ℕ) (r s t : TerminalData B) → InsertsRow screen text r s → DrawsRow screen status s t → InsertsRow screen text r t
+  pub inserts-and-draws : (text status : List ℕ) (r s t : TerminalData B) → InsertsRow screen text r s
+      → DrawsRow screen status s t → InsertsRow screen text r t
   inserts-and-draws text status r s t inserts drawn =
       let keeps = drawn.keeps in
       record {
@@ -185,7 +219,8 @@ module _ {B : Type 0} (screen : B → Screen) where
   -- the terminal of a start over one row knows its screen's size
   starts-known : (b : B) (t : TerminalData B) → Starts screen (Inline 1) b t → screen_area (screen t.backend) ≡ t.last_known_area
   starts-known b t starts =
-      ap₂ (λ w h. record { x = 0; y = 0; width = w; height = h }) starts.scrolls.width starts.scrolls.height ∙ sym starts.last_known_area
+      ap₂ (λ w h. record { x = 0; y = 0; width = w; height = h }) starts.scrolls.width starts.scrolls.height
+      ∙ sym starts.last_known_area
 
   pub starts-sized : (b : B) (t : TerminalData B) → Starts screen (Inline 1) b t → IsSized screen t
   starts-sized b t starts = inr (starts-known b t starts)
@@ -194,7 +229,8 @@ module _ {B : Type 0} (screen : B → Screen) where
   starts-areas b t starts = record { current = starts.current.area; previous = starts.previous.area }
 
   -- a start on a blank screen
-  pub starts-over-row : (b : B) (t : TerminalData B) → IsBlank (screen b) → 0 < (screen b).height → Starts screen (Inline 1) b t → IsOverRow screen t
+  pub starts-over-row : (b : B) (t : TerminalData B) → IsBlank (screen b) → 0 < (screen b).height → Starts screen (Inline 1) b t
+      → IsOverRow screen t
   starts-over-row b t blank some starts =
       let row = starts-in-row screen b t some starts in
       record {
@@ -206,23 +242,27 @@ module _ {B : Type 0} (screen : B → Screen) where
       }
 
   -- a start on a blank screen, and then a text drawn
-  pub starts-and-draws : (text : List ℕ) (b : B) (s t : TerminalData B) → IsBlank (screen b) → 0 < (screen b).height → Starts screen (Inline 1) b s → DrawsRow screen text s t → StartsOverRow screen b t
+  pub starts-and-draws : (text : List ℕ) (b : B) (s t : TerminalData B) → IsBlank (screen b) → 0 < (screen b).height
+      → Starts screen (Inline 1) b s → DrawsRow screen text s t → StartsOverRow screen b t
   starts-and-draws text b s t blank some starts drawn =
       let row = starts-in-row screen b s some starts in
       let keeps = drawn.keeps in
       let still = starts-blank screen (Inline 1) b s starts blank in
       record {
         over = drawn.over;
-        size = ap₂ (λ w h. record { width = w; height = h }) (keeps.size.width ∙ row.size.width) (keeps.size.height ∙ row.size.height);
+        size = ap₂ (λ w h. record { width = w; height = h }) (keeps.size.width ∙ row.size.width)
+            (keeps.size.height ∙ row.size.height);
         top = ap (λ (r : Rect). r.y) (keeps.viewport_area ∙ row.viewport_area);
         above = keeps.above ∙ row.above;
         below = below-kept screen s t keeps (record { at = λ a c a_in c_in low. still.at a c a_in c_in });
       }
 
 -- a start whose first frame was refused, by the backend
-pub refused-start : {B E : Type 0} (screen : B → Screen) (failures : B → ℕ) (b : B) (t : TerminalData B) (dropped : B) (error : TerminalError E) → failures t.backend ≡ failures b → IsBackendFault error
+pub refused-start : {B E : Type 0} (screen : B → Screen) (failures : B → ℕ) (b : B) (t : TerminalData B) (dropped : B)
+    (error : TerminalError E) → failures t.backend ≡ failures b → IsBackendFault error
     → FaultCounts (failures t.backend) (failures dropped) error → StartErr screen failures (Inline 1) b error
-refused-start screen failures b t dropped (Backend error) same by counts = (λ fixed. fixed, (dropped, λ small. rw same at (counts (rw same small))))
+refused-start screen failures b t dropped (Backend error) same by counts =
+    (λ fixed. fixed, (dropped, λ small. rw same at (counts (rw same small))))
 refused-start screen failures b t dropped Memory same by counts = absurd by
 refused-start screen failures b t dropped Area same by counts = absurd by
 refused-start screen failures b t dropped (Closure error) same by counts = absurd by

@@ -2,12 +2,13 @@
 use Rattle.std.specs.Prelude.{◌≡◌}
 use Rattle.rtui_buffer.specs.BufferData.{IsEmptied}
 use Rattle.rtui_backend.specs.Screen.{Screen, size_of}
-use Rattle.rtui_viewport.specs.{declared.viewport.Viewport.Viewport, Areas.IsBlankBelow, Lying.MayLie, Viewports.IsInline}
+use Rattle.rtui_viewport.specs.{declared.viewport.Viewport.Viewport, Areas.IsBlankBelow, Lying.MayLie}
+use Rattle.rtui_viewport.specs.{Viewports.IsInline}
 use Rattle.rtui_terminal.specs.{TerminalData.TerminalData, InStep.IsInStep, InStep.IsSized}
 
 module _ {B : Type 0} (screen : B → Screen) where
-  -- the terminal is in step over a viewport of this kind, which lies where it may, it knows the screen's size, its buffer to paint on is
-  -- empty, and the rows below an inline viewport are blank
+  -- the terminal is in step over a viewport of this kind, which lies where it may, it knows the screen's
+  -- size, its buffer to paint on is empty, and the rows below an inline viewport are blank
   pub record IsAtRest (kind : Viewport) (t : TerminalData B) : Type 0 where
     pub kind_is : t.viewport ≡ kind
     pub sized : IsSized screen t

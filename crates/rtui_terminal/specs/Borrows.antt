@@ -12,4 +12,5 @@ with_buffer frame sheet = record frame { buffer = record frame.buffer { now = sh
 
 -- the frame's own buffer ends with the last value of the lent one
 abbrev pub LendsBuffer : MutBor Frame → MutBor BufferData → Fml
-LendsBuffer frame lent = Lends (the_row (record { mir = named 0; lft = [] })) buffer.the_row frame lent (with_buffer frame.now)
+LendsBuffer frame lent = Lends (the_row (record { mir = named 0; lft = [] })) buffer.the_row frame lent
+    (with_buffer frame.now)

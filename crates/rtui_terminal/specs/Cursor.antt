@@ -11,7 +11,8 @@ module _ {B : Type 0} (screen : B → Screen) where
     pub screen_stays : screen t.backend ≡ screen s.backend
 
   -- the cursor changed, and with it what the terminal knows of it
-  pub record MovesCursor (hidden : Bool) (known : Position) (cursor : Screen → Screen) (s t : TerminalData B) : Type 0 where
+  pub record MovesCursor (hidden : Bool) (known : Position) (cursor : Screen → Screen)
+      (s t : TerminalData B) : Type 0 where
     pub rest : t ≡ record s { backend = t.backend; last_known_cursor_pos = known; hidden_cursor = hidden }
     pub screen_cursor : screen t.backend ≡ cursor (screen s.backend)
     pub in_step : IsInStep screen s → IsInStep screen t

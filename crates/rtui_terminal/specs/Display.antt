@@ -2,7 +2,8 @@
 use Rattle.std.specs.Prelude.{ℕ, List, Option, Some, codes}
 use Rattle.std.specs.Fmt.{◌++?◌}
 use Rattle.rtui_terminal.specs.declared.terminal.error.TerminalError.{TerminalError}
-use Rattle.rtui_terminal.specs.declared.terminal.error.TerminalError.TheVariants.{Backend, Memory, Area, Closure}
+use Rattle.rtui_terminal.specs.declared.terminal.error.TerminalError.TheVariants.{Backend, Memory, Area}
+use Rattle.rtui_terminal.specs.declared.terminal.error.TerminalError.TheVariants.{Closure}
 
 -- the printed error, which is unknown if the text of the error inside is
 abbrev pub terminal_error_text : {E : Type 0} → (E → Option (List ℕ)) → TerminalError E → Option (List ℕ)

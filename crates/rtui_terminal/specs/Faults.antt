@@ -1,7 +1,8 @@
 -- When a call fails, and what that does to the count of failures.
 use Rattle.std.specs.Prelude.{ℕ, ◌≡◌, ◌+◌, ◌-◌, ◌^◌, ◌<◌, Result, MatchResult}
 use Rattle.rtui_terminal.specs.declared.terminal.error.TerminalError.{TerminalError}
-use Rattle.rtui_terminal.specs.declared.terminal.error.TerminalError.TheVariants.{Area, Backend, Closure, Memory}
+use Rattle.rtui_terminal.specs.declared.terminal.error.TerminalError.TheVariants.{Area, Backend, Closure}
+use Rattle.rtui_terminal.specs.declared.terminal.error.TerminalError.TheVariants.{Memory}
 
 -- a backend's fault comes only if the count of failures rose, and any other answer leaves it
 abbrev pub FaultCounts : {E : Type 0} → ℕ → ℕ → TerminalError E → Type 0

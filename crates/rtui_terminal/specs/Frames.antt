@@ -20,9 +20,11 @@ pub record KeepsFrame (old new : Frame) : Type 0 where
   pub over : new.viewport_area ≡ old.viewport_area
   pub numbered : new.count ≡ old.count
 
--- a call of f at a new frame over a buffer gave an answer and left a frame with this cursor and, if that frame kept its buffer
--- reference, with this buffer
-pub record PaintsFrame {F R : Type 0} (once : Once F (MutBor Frame × Unit {0}) (R × (MutBor Frame × Unit {0}))) (f : F) (area : Rect) (count : ℕ) (sheet : BufferData) (answer : R) (cursor : Option Position) (painted : BufferData) : Type 0 where
+-- a call of f at a new frame over a buffer gave an answer and left a frame with this cursor and, if that
+-- frame kept its buffer reference, with this buffer
+pub record PaintsFrame {F R : Type 0} (once : Once F (MutBor Frame × Unit {0})
+    (R × (MutBor Frame × Unit {0}))) (f : F) (area : Rect) (count : ℕ) (sheet : BufferData) (answer : R)
+    (cursor : Option Position) (painted : BufferData) : Type 0 where
   pub before : Frame
   pub new_frame : IsNewFrame area count sheet before
   pub after : Frame
@@ -33,16 +35,22 @@ pub record PaintsFrame {F R : Type 0} (once : Once F (MutBor Frame × Unit {0}) 
 -- a frame that a draw may hand out: over a buffer of its area, or over the current buffer as it is
 pub record IsDrawFrame {B : Type 0} (s : TerminalData B) (frame : Frame) : Type 0 where
   pub no_cursor : frame.cursor_position ≡ None
-  pub over : (frame.buffer.now.area ≡ frame.viewport_area) ⊎ ((frame.viewport_area ≡ s.viewport_area) × (frame.buffer.now ≡ s.current))
+  pub over : (frame.buffer.now.area ≡ frame.viewport_area) ⊎ ((frame.viewport_area ≡ s.viewport_area)
+      × (frame.buffer.now ≡ s.current))
 
 -- f may be called at any such frame
-abbrev pub AcceptsFrames : {B F R : Type 0} → Once F (MutBor Frame × Unit {0}) (R × (MutBor Frame × Unit {0})) → F → TerminalData B → Type 0
+abbrev pub AcceptsFrames : {B F R : Type 0} → Once F (MutBor Frame × Unit {0}) (R × (MutBor Frame × Unit {0}))
+    → F → TerminalData B → Type 0
 AcceptsFrames once f s = (frame : MutBor Frame) → IsDrawFrame s frame.now → once.pre f (frame, tt)
 
 -- f may be called at a new frame over this buffer
-abbrev pub AcceptsNewFrame : {F R : Type 0} → Once F (MutBor Frame × Unit {0}) (R × (MutBor Frame × Unit {0})) → F → Rect → ℕ → BufferData → Type 0
-AcceptsNewFrame once f area count sheet = (frame : MutBor Frame) → IsNewFrame area count sheet frame.now → once.pre f (frame, tt)
+abbrev pub AcceptsNewFrame : {F R : Type 0} → Once F (MutBor Frame × Unit {0}) (R × (MutBor Frame × Unit {0}))
+    → F → Rect → ℕ → BufferData → Type 0
+AcceptsNewFrame once f area count sheet = (frame : MutBor Frame) → IsNewFrame area count sheet frame.now
+    → once.pre f (frame, tt)
 
 -- such a call on the current buffer of a terminal
-abbrev pub PaintsCurrent : {B F R : Type 0} → Once F (MutBor Frame × Unit {0}) (R × (MutBor Frame × Unit {0})) → F → TerminalData B → R → Option Position → BufferData → Type 0
-PaintsCurrent once f s answer cursor painted = PaintsFrame once f s.viewport_area s.frame_count s.current answer cursor painted
+abbrev pub PaintsCurrent : {B F R : Type 0} → Once F (MutBor Frame × Unit {0}) (R × (MutBor Frame × Unit {0}))
+    → F → TerminalData B → R → Option Position → BufferData → Type 0
+PaintsCurrent once f s answer cursor painted =
+    PaintsFrame once f s.viewport_area s.frame_count s.current answer cursor painted

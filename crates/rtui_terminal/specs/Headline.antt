@@ -5,12 +5,15 @@ use Rattle.rtui_buffer.specs.{BufferData.BufferData, BufferData.IsEmptied, Shown
 use Rattle.rtui_backend.specs.Screen.{Screen, IsOnScreen, screen_area, with_visible, with_cursor}
 use Rattle.rtui_viewport.specs.Viewports.{IsFixed, IsInline}
 use Rattle.rtui_insert.specs.Insertion.{AppendsRows}
-use Rattle.rtui_terminal.specs.{TerminalData.TerminalData, Cursor.Stays, Cursor.MovesCursor, Clearing.ClearsViewport, Resizing.Resizes, Resizing.Autoresizes}
+use Rattle.rtui_terminal.specs.{TerminalData.TerminalData, Cursor.Stays, Cursor.MovesCursor}
+use Rattle.rtui_terminal.specs.{Clearing.ClearsViewport, Resizing.Resizes, Resizing.Autoresizes}
 use Rattle.rtui_terminal.specs.InStep.{IsInStep, IsSized, KeepsAroundViewport, rows_over}
-use Rattle.rtui_terminal.specs.{Writing.Applies, Drawing.DrawsFrame, Drawing.RefusesFrame, Insertion.TakesRows, Insertion.IsLeft, Insertion.Inserts}
+use Rattle.rtui_terminal.specs.{Writing.Applies, Drawing.DrawsFrame, Drawing.RefusesFrame}
+use Rattle.rtui_terminal.specs.{Insertion.TakesRows, Insertion.IsLeft, Insertion.Inserts}
 
--- a call that answered Ok, with what it painted, inserted or was given; Ask is any call that changes nothing, also an insertion that writes
--- nothing; Paint is any write to the current buffer; Refuse is a draw that was refused for what its closure answered or left
+-- a call that answered Ok, with what it painted, inserted or was given; Ask is any call that changes nothing,
+-- also an insertion that writes nothing; Paint is any write to the current buffer; Refuse is a draw that was
+-- refused for what its closure answered or left
 pub data Call : Type 0 where
   Draw : BufferData → Call
   Apply : BufferData → Call
@@ -31,7 +34,8 @@ pub record Event (B : Type 0) : Type 0 where
   pub after : TerminalData B
 
 -- a relation holds along a list of events that begins in a state
-abbrev pub Along : {B : Type 0} → (Call → TerminalData B → TerminalData B → Type 0) → TerminalData B → List (Event B) → Type 0
+abbrev pub Along : {B : Type 0} → (Call → TerminalData B → TerminalData B → Type 0) → TerminalData B
+    → List (Event B) → Type 0
 Along R s [] = Unit {0}
 Along R s (e ∷ es) = R e.call s e.after × Along R e.after es
 
@@ -76,7 +80,8 @@ module _ {B : Type 0} (screen : B → Screen) where
   Does Paint s t = t ≡ record s { current = t.current }
   Does Refuse s t = AtAnySize (RefusesFrame screen) s t
 
-  -- what the headline asks of a call: what is painted or inserted is settled, an insertion has its place, and a resize ends on the screen
+  -- what the headline asks of a call: what is painted or inserted is settled, an insertion has its place, and
+  -- a resize ends on the screen
   abbrev pub IsFair : Call → TerminalData B → TerminalData B → Type 0
   IsFair (Draw painted) s t = IsSettledBuffer painted
   IsFair (Apply painted) s t = IsSettledBuffer painted
@@ -99,7 +104,8 @@ module _ {B : Type 0} (screen : B → Screen) where
 
   -- the previous buffer is as before, or, if a viewport that isn't fixed met another size, empty
   abbrev pub IsKeptOrEmptied : TerminalData B → TerminalData B → Type 0
-  IsKeptOrEmptied s t = (t.previous ≡ s.previous) ⊎ ((IsFixed s.viewport → ⊥) × (HasKnownSize s t → ⊥) × IsEmptied t.viewport_area t.previous)
+  IsKeptOrEmptied s t = (t.previous ≡ s.previous) ⊎ ((IsFixed s.viewport → ⊥) × (HasKnownSize s t → ⊥)
+      × IsEmptied t.viewport_area t.previous)
 
   -- which buffer the screen shows after a call: the painted one, the one before, or an empty one
   abbrev pub Leaves : Call → TerminalData B → TerminalData B → Type 0
@@ -115,13 +121,14 @@ module _ {B : Type 0} (screen : B → Screen) where
   abbrev pub IsResize : Call → Type 0
   IsResize call = (area : Rect) × (call ≡ Resize area)
 
-  -- what a call means: the screen shows the buffer that it leaves, exactly its rows came to those above an inline viewport, and nothing
-  -- changed outside a fixed one
+  -- what a call means: the screen shows the buffer that it leaves, exactly its rows came to those above an
+  -- inline viewport, and nothing changed outside a fixed one
   pub record IsFaithful (call : Call) (s t : TerminalData B) : Type 0 where
     pub kind : t.viewport ≡ s.viewport
     pub in_step : IsInStep screen t
     pub leaves : Leaves call s t
-    pub above : IsInline s.viewport → IsSteady call s t → AppendsRows (inserted_by call) (rows_over screen s) (rows_over screen t)
+    pub above : IsInline s.viewport → IsSteady call s t → AppendsRows (inserted_by call) (rows_over screen s)
+        (rows_over screen t)
     pub outside : IsFixed s.viewport → (IsResize call → ⊥) → KeepsAroundViewport screen s t
 
   -- from in step each call is faithful
@@ -129,7 +136,8 @@ module _ {B : Type 0} (screen : B → Screen) where
   IsHeadline = (s : TerminalData B) (events : List (Event B)) → IsInStep screen s
       → Along Does s events → Along IsFair s events → Along IsFaithful s events
 
-  -- while the size stays, the rows above at the end are those at the start, followed by all that were inserted
+  -- while the size stays, the rows above at the end are those at the start, followed by all that were
+  -- inserted
   abbrev pub KeepsRows : Type 0
   KeepsRows = (s : TerminalData B) (events : List (Event B)) → IsInStep screen s → IsInline s.viewport
       → Along Does s events → Along IsFair s events → Along IsSteady s events

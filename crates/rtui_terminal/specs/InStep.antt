@@ -7,7 +7,8 @@ use Rattle.rtui_viewport.specs.{Sizing.IsSizeKnown, Areas.KeepsOutside}
 use Rattle.rtui_terminal.specs.TerminalData.{TerminalData}
 
 module _ {B : Type 0} (screen : B → Screen) where
-  -- the viewport lies on the screen, the previous buffer covers it and is settled, and the screen shows it there
+  -- the viewport lies on the screen, the previous buffer covers it and is settled, and the screen shows it
+  -- there
   pub record IsInStep (s : TerminalData B) : Type 0 where
     pub on_screen : IsOnScreen s.viewport_area (screen s.backend)
     pub area : s.previous.area ≡ s.viewport_area

@@ -2,7 +2,8 @@
 use Rattle.std.specs.Prelude.{◌≡◌, Option, None, Result, IsOk, OnOk, OnErr}
 use Rattle.std.specs.declared.alloc.AllocError.{AllocError}
 use Rattle.rtui_geometry.specs.{declared.position.Position.Position, declared.rect.Rect.Rect}
-use Rattle.rtui_buffer.specs.{BufferData.BufferData, BufferData.IsEmptied, Shown.IsSettledBuffer, Shown.ShowsBuffer}
+use Rattle.rtui_buffer.specs.{BufferData.BufferData, BufferData.IsEmptied, Shown.IsSettledBuffer}
+use Rattle.rtui_buffer.specs.{Shown.ShowsBuffer}
 use Rattle.rtui_widgets.specs.Rendering.{ChangesWithin}
 use Rattle.rtui_backend.specs.Screen.{Screen}
 use Rattle.rtui_terminal.specs.TerminalData.{TerminalData}
@@ -14,13 +15,17 @@ pub record IsRendered (renders : Rect → BufferData → BufferData → Type 0) 
   pub rendered : renders s.area blank s
 
 -- the previous buffer covers the viewport and is so rendered, and the screen shows it if it is settled
-pub record ShowsRendered {B : Type 0} (screen : B → Screen) (renders : Rect → BufferData → BufferData → Type 0) (t : TerminalData B) : Type 0 where
+pub record ShowsRendered {B : Type 0} (screen : B → Screen) (renders : Rect → BufferData → BufferData
+    → Type 0) (t : TerminalData B) : Type 0 where
   pub area : t.previous.area ≡ t.viewport_area
   pub rendered : IsRendered renders t.previous
   pub shown : IsSettledBuffer t.previous → ShowsBuffer t.previous (screen t.backend).grid
 
--- a closure rendered a widget over the viewport and left no cursor: its answer, and what it made of the current buffer, are as the widget says
-pub record RendersCurrent {B : Type 0} (renders leaves : Rect → BufferData → BufferData → Type 0) (reach : Rect → Rect) (is_short : Rect → BufferData → Type 0) (s : TerminalData B) (answer : Result (Unit {0}) AllocError) (cursor : Option Position) (painted : BufferData) : Type 0 where
+-- a closure rendered a widget over the viewport and left no cursor: its answer, and what it made of the
+-- current buffer, are as the widget says
+pub record RendersCurrent {B : Type 0} (renders leaves : Rect → BufferData → BufferData → Type 0)
+    (reach : Rect → Rect) (is_short : Rect → BufferData → Type 0) (s : TerminalData B)
+    (answer : Result (Unit {0}) AllocError) (cursor : Option Position) (painted : BufferData) : Type 0 where
   pub no_cursor : cursor ≡ None
   pub area : painted.area ≡ s.current.area
   pub ok : OnOk answer (renders s.viewport_area s.current painted)

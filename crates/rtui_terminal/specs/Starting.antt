@@ -8,8 +8,10 @@ use Rattle.rtui_viewport.specs.declared.viewport.Viewport.{Viewport}
 use Rattle.rtui_viewport.specs.declared.viewport.Viewport.TheVariants.{Fixed, Fullscreen, Inline}
 use Rattle.rtui_viewport.specs.{Viewports.IsFixed, Viewports.IsInline, Areas.IsBlankOver, Sizing.first_area}
 use Rattle.rtui_viewport.specs.Placing.{area_in, cursor_row_behind, rows_scrolled, unplaced_area}
-use Rattle.rtui_terminal.specs.{TerminalData.TerminalData, InStep.IsInStep, InStep.rows_over, declared.terminal.error.TerminalError.TerminalError}
-use Rattle.rtui_terminal.specs.declared.terminal.error.TerminalError.TheVariants.{Area, Backend, Closure, Memory}
+use Rattle.rtui_terminal.specs.{TerminalData.TerminalData, InStep.IsInStep, InStep.rows_over}
+use Rattle.rtui_terminal.specs.{declared.terminal.error.TerminalError.TerminalError}
+use Rattle.rtui_terminal.specs.declared.terminal.error.TerminalError.TheVariants.{Area, Backend, Closure}
+use Rattle.rtui_terminal.specs.declared.terminal.error.TerminalError.TheVariants.{Memory}
 
 -- each column of each row of a screen is empty
 pub record IsBlank (s : Screen) : Type 0 where
@@ -21,17 +23,20 @@ first_cursor Fullscreen s = record { x = 0; y = 0 }
 first_cursor (Inline rows) s = cursor_of s
 first_cursor (Fixed r) s = corner r
 
--- a start is refused for want of memory if the viewport has cells, or by the backend if it isn't fixed; the backend was dropped then,
--- so that some backend with such a count of failures is all that is said
+-- a start is refused for want of memory if the viewport has cells, or by the backend if it isn't fixed; the
+-- backend was dropped then, so that some backend with such a count of failures is all that is said
 abbrev pub StartErr : {B E : Type 0} → (B → Screen) → (B → ℕ) → Viewport → B → TerminalError E → Type 0
-StartErr {B} screen failures viewport b (Backend error) = (IsFixed viewport → ⊥) × ((dropped : B) × (failures b < 2 ^ 64 - 1 → failures dropped ≡ failures b + 1))
-StartErr {B} screen failures viewport b Memory = (area_size (unplaced_area viewport (first_area viewport (screen b))) ≡ 0 → ⊥) × ((dropped : B) × (failures dropped ≡ failures b))
+StartErr {B} screen failures viewport b (Backend error) = (IsFixed viewport → ⊥)
+    × ((dropped : B) × (failures b < 2 ^ 64 - 1 → failures dropped ≡ failures b + 1))
+StartErr {B} screen failures viewport b Memory =
+    (area_size (unplaced_area viewport (first_area viewport (screen b))) ≡ 0 → ⊥)
+    × ((dropped : B) × (failures dropped ≡ failures b))
 StartErr screen failures viewport b Area = ⊥
 StartErr screen failures viewport b (Closure error) = ⊥
 
 module _ {B : Type 0} (screen : B → Screen) where
-  -- a new terminal: empty buffers over the viewport, which was placed; for an inline one the cursor moved down, and the screen may have
-  -- scrolled; in step if the viewport is blank then
+  -- a new terminal: empty buffers over the viewport, which was placed; for an inline one the cursor moved
+  -- down, and the screen may have scrolled; in step if the viewport is blank then
   pub record Starts (viewport : Viewport) (b : B) (t : TerminalData B) : Type 0 where
     pub kind : t.viewport ≡ viewport
     pub last_known_area : t.last_known_area ≡ first_area viewport (screen b)
@@ -46,11 +51,18 @@ module _ {B : Type 0} (screen : B → Screen) where
     pub untouched : (IsInline viewport → ⊥) → screen t.backend ≡ screen b
     pub fixed : IsFixed viewport → t.backend ≡ b
     pub on_screen : (IsFixed viewport → ⊥) → IsOnScreen t.viewport_area (screen t.backend)
-    pub in_step : IsOnScreen t.viewport_area (screen t.backend) → IsBlankOver t.viewport_area (screen t.backend) → IsInStep screen t
+    pub in_step : IsOnScreen t.viewport_area (screen t.backend)
+        → IsBlankOver t.viewport_area (screen t.backend) → IsInStep screen t
 
   -- a new terminal over one row: that of the cursor, on a screen whose rows are as they were
   pub record StartsInRow (b : B) (t : TerminalData B) : Type 0 where
-    pub viewport_area : t.viewport_area ≡ record { x = 0; y = (screen b).cursor_y; width = (screen b).width; height = 1 }
+    pub viewport_area : t.viewport_area ≡ record {
+      x = 0;
+      y = (screen b).cursor_y;
+      width = (screen b).width;
+      height = 1;
+    }
     pub size : KeepsSizeAndHistory (screen b) (screen t.backend)
     pub above : rows_over screen t ≡ rows_above (screen b) (screen b).cursor_y
-    pub grid : (a c : ℕ) → a < (screen b).width → c < (screen b).height → (screen t.backend).grid a c ≡ (screen b).grid a c
+    pub grid : (a c : ℕ) → a < (screen b).width → c < (screen b).height
+        → (screen t.backend).grid a c ≡ (screen b).grid a c

@@ -5,8 +5,9 @@ use Rattle.rtui_buffer.specs.BufferData.{BufferData, IsSameBuffer, IsEmptied, ar
 use Rattle.rtui_viewport.specs.declared.viewport.Viewport.{Viewport}
 use Rattle.rtui_viewport.specs.declared.viewport.Viewport.TheVariants.{Fullscreen, Inline, Fixed}
 
--- the backend, the buffer to paint on and the one painted before, the kind of viewport and its area, the area of the screen and the place of
--- the cursor that were known last, whether the terminal hid the cursor, and the number of the next frame
+-- the backend, the buffer to paint on and the one painted before, the kind of viewport and its area, the area
+-- of the screen and the place of the cursor that were known last, whether the terminal hid the cursor, and
+-- the number of the next frame
 pub record TerminalData (B : Type 0) : Type 0 where
   pub backend : B
   pub current : BufferData
@@ -44,7 +45,8 @@ pub record IsSameTerminal {B : Type 0} (s t : TerminalData B) : Type 0 where
   pub previous : IsSameBuffer s.previous t.previous
   pub rest : t ≡ record s { current = t.current; previous = t.previous }
 
--- a fullscreen viewport of no columns and rows and two buffers of its area, no frame drawn, the cursor not hidden
+-- a fullscreen viewport of no columns and rows and two buffers of its area, no frame drawn, the cursor not
+-- hidden
 pub record IsDefaultOver {B : Type 0} (t : TerminalData B) : Type 0 where
   pub current : IsEmptied (record { x = 0; y = 0; width = 0; height = 0 }) t.current
   pub previous : IsEmptied (record { x = 0; y = 0; width = 0; height = 0 }) t.previous

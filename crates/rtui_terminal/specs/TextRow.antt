@@ -8,7 +8,8 @@ use Rattle.rtui_widgets.specs.Rendering.{HasFirstRow, RendersStr}
 use Rattle.rtui_backend.specs.Screen.{Screen, size_of, screen_area, rows_above}
 use Rattle.rtui_viewport.specs.{Viewports.IsInline, Areas.IsBlankBelow}
 use Rattle.rtui_insert.specs.Rows.{WritesAtMost}
-use Rattle.rtui_terminal.specs.{TerminalData.TerminalData, InStep.IsInStep, InStep.KeepsAroundViewport, InStep.rows_over}
+use Rattle.rtui_terminal.specs.{TerminalData.TerminalData, InStep.IsInStep, InStep.KeepsAroundViewport}
+use Rattle.rtui_terminal.specs.{InStep.rows_over}
 use Rattle.rtui_terminal.specs.Rendered.{IsRendered}
 
 -- the area of a row of this width
@@ -44,7 +45,8 @@ pub record FillsRow (text : List ℕ) (area : Rect) (sheet : BufferData) : Type 
   pub renders : RendersRow text before.area before sheet
 
 module _ {B : Type 0} (screen : B → Screen) where
-  -- the terminal is in step over one row as wide as the screen, whose size it knows, and its buffer to paint on is empty
+  -- the terminal is in step over one row as wide as the screen, whose size it knows, and its buffer to paint
+  -- on is empty
   pub record IsOverRow (t : TerminalData B) : Type 0 where
     pub kind : IsInline t.viewport
     pub known : screen_area (screen t.backend) ≡ t.last_known_area
@@ -63,8 +65,8 @@ module _ {B : Type 0} (screen : B → Screen) where
     pub keeps : KeepsAroundViewport screen s t
     pub most : WritesAtMost (screen s.backend).width (screen s.backend) (screen t.backend)
 
-  -- a text was inserted: the terminal is still over one row, which went down by one if there was room, exactly one row, the
-  -- text's, came to those above, and if the rows below were blank, they still are
+  -- a text was inserted: the terminal is still over one row, which went down by one if there was room,
+  -- exactly one row, the text's, came to those above, and if the rows below were blank, they still are
   pub record InsertsRow (text : List ℕ) (s t : TerminalData B) : Type 0 where
     pub over : IsOverRow t
     pub size : size_of (screen t.backend) ≡ size_of (screen s.backend)
@@ -72,10 +74,11 @@ module _ {B : Type 0} (screen : B → Screen) where
     pub row : List Look
     pub painted : IsRowOf (screen s.backend).width text row
     pub above : rows_over screen t ≡ rows_over screen s ++ row ∷ []
-    pub below : IsBlankBelow s.viewport_area (screen s.backend) → IsBlankBelow t.viewport_area (screen t.backend)
+    pub below : IsBlankBelow s.viewport_area (screen s.backend)
+        → IsBlankBelow t.viewport_area (screen t.backend)
 
-  -- a start on a blank screen: the terminal is over one row, the cursor's, the rows above are those that were there, and the
-  -- rows below are blank
+  -- a start on a blank screen: the terminal is over one row, the cursor's, the rows above are those that were
+  -- there, and the rows below are blank
   pub record StartsOverRow (b : B) (t : TerminalData B) : Type 0 where
     pub over : IsOverRow t
     pub size : size_of (screen t.backend) ≡ size_of (screen b)

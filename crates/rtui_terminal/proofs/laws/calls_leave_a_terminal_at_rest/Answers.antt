@@ -1,4 +1,5 @@
-use Rattle.rtui_terminal.proofs.RestLemmas.{rests-started, rests-applied, rests-drawn, rests-resized, rests-cleared, rests-inserted}
+use Rattle.rtui_terminal.proofs.RestLemmas.{rests-started, rests-applied, rests-drawn, rests-resized, rests-cleared}
+use Rattle.rtui_terminal.proofs.RestLemmas.{rests-inserted}
 use Rattle.rtui_terminal.proofs.laws.calls_leave_a_terminal_at_rest.Goals as goal
 
 pub returns-clause-started : goal.returns-clause-started

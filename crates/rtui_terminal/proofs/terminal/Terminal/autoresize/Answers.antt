@@ -19,4 +19,5 @@ returns-in-Some-clause-outcome g c =
       hidden_cursor = own.hidden_cursor;
       frame_count = own.frame_count;
     } in
-    rw (← c.self.view_is) (autoresized-by g.B.Backend.screen s c.changed_area.new.backend asked.stays c.in-Some.area _ _ asked.area.0 asked.area.1 c.resize.ensures.outcome)
+    rw (← c.self.view_is) (autoresized-by g.B.Backend.screen s c.changed_area.new.backend asked.stays c.in-Some.area _ _
+    asked.area.0 asked.area.1 c.resize.ensures.outcome)

@@ -11,8 +11,10 @@ returns-clause-ok g c =
     passed_ok c.draw_rows.result _ c.map_err-2.ensures.variant (λ _ draws.
     let drawn = rw draws at c.draw_rows.ensures in
     rw (← c.self.view_is)
-    (inserted_covered g.B.Backend.screen _ c.args.rows.now (rw (← c.self.view_is) at c.requires.over) (rw (← c.self.view_is) at c.requires.known) (rw (← c.self.view_is) at c.requires.covers) c.requires.some
-    c.push_rows.new.backend c.draw_rows.new.backend pushed.shape drawn.shape pushed.ok _ (still_blank c.requires.blank pushed.blank) (λ same. drawn.ok)))
+    (inserted_covered g.B.Backend.screen _ c.args.rows.now (rw (← c.self.view_is) at c.requires.over)
+    (rw (← c.self.view_is) at c.requires.known) (rw (← c.self.view_is) at c.requires.covers) c.requires.some
+    c.push_rows.new.backend c.draw_rows.new.backend pushed.shape drawn.shape pushed.ok _
+    (still_blank c.requires.blank pushed.blank) (λ same. drawn.ok)))
 
 pub returns-then-ne-clause-ok : goal.returns-then-ne-clause-ok
 returns-then-ne-clause-ok g c =
@@ -22,5 +24,11 @@ returns-then-ne-clause-ok g c =
     passed_ok c.flush.result _ c.map_err-then-ne.ensures.variant (λ _ flushes.
     let still = rw flushes at c.flush.ensures.ok in
     rw (← c.self.view_is)
-    (inserted_covered g.B.Backend.screen _ c.args.rows.now (rw (← c.self.view_is) at c.requires.over) (rw (← c.self.view_is) at c.requires.known) (rw (← c.self.view_is) at c.requires.covers) c.requires.some
-    c.push_rows.new.backend c.flush.new.self pushed.shape (record { width = ap (λ (s : Screen). s.width) still; height = ap (λ (s : Screen). s.height) still; visible = ap (λ (s : Screen). s.visible) still }) pushed.ok _ (still_blank c.requires.blank pushed.blank) (λ same. absurd (differs same))))
+    (inserted_covered g.B.Backend.screen _ c.args.rows.now (rw (← c.self.view_is) at c.requires.over)
+    (rw (← c.self.view_is) at c.requires.known) (rw (← c.self.view_is) at c.requires.covers) c.requires.some
+    c.push_rows.new.backend c.flush.new.self pushed.shape (record {
+      width = ap (λ (s : Screen). s.width) still;
+      height = ap (λ (s : Screen). s.height) still;
+      visible = ap (λ (s : Screen). s.visible) still;
+    }) pushed.ok _
+    (still_blank c.requires.blank pushed.blank) (λ same. absurd (differs same))))
