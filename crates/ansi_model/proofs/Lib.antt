@@ -15,3 +15,4 @@ pub mod DisputeLemmas
 pub mod HistoryLemmas
 pub mod WindowLemmas
 pub mod PutLemmas
+pub mod EndLemmas

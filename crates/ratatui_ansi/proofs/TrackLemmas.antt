@@ -245,6 +245,7 @@ module _ (old new : Tracker) (place : Position) (visible : Bool) (written : ℕ)
         tracker = record {
           columns = subst (λ (s : Size). 0 < s.width) (sym size) is.columns;
           rows = subst (λ (s : Size). 0 < s.height) (sym size) is.rows;
+          most = subst (λ (s : Size). s.height ≤ 65535) (sym size) is.most;
           count = ap length same ∙ count ∙ is.count ∙ ap (λ (s : Size). s.width * s.height) (sym size);
           draft_count = draft ∙ ap (λ (s : Size). s.width * s.height) (sym size);
         };

@@ -1,10 +1,10 @@
 -- What callers see of a backend that sends escape sequences, and the screen that it stands for.
-use Rattle.std.specs.Prelude.{◌≡◌, ℕ, Bool, false, List, [], Option, Some, None, length, nat_eq}
+use Rattle.std.specs.Prelude.{◌≡◌, ℕ, ◌+◌, ◌-◌, ◌^◌, min, Bool, true, false, List, [], Option, Some, None, IsSome, length, nat_eq}
 use Rattle.ratatui_core.specs.{Layout.Position, Layout.Size, Backend.Screen}
 use Rattle.ansi_model.specs.{Emulator.Emulator, Emulator.rested, Emulator.blank_terminal, Sequences.feed, Screens.screen_shown}
 use Rattle.ratatui_ansi.specs.Tracker.{FitsScreen, IsAwaiting}
 use Rattle.ansi_model.specs.Beginnings.{IsAsFound, anew, with_rows_above}
-use Rattle.ansi_model.specs.{Sends.Performs, Endings.left_below, Endings.left_back, Endings.ClosesAlternate, Windows.feed_window}
+use Rattle.ansi_model.specs.{Sends.Performs, Endings.left_below, Endings.IsLeftBelow, Endings.left_back, Endings.ClosesAlternate, Windows.feed_window}
 use Rattle.std.specs.Io.KnownBytes.{Appends}
 
 -- the writer, what it held as the backend began or began anew, if that is known, what it was sent since, and what of that after the last
@@ -24,6 +24,10 @@ pub record BackendState (W : Type 0) : Type 0 where
   pub failures : ℕ
   pub is_broken : Bool
 
+-- with this writer, of which it isn't known what it was sent: that counts as a failed call, and is as if a write had failed
+abbrev pub with_writer : {W : Type 0} → BackendState W → W → BackendState W
+with_writer b writer = record b { writer = writer; failures = min (b.failures + 1) (2 ^ 64 - 1); is_broken = true }
+
 -- nothing was sent after the last flush
 abbrev pub is_flushed : {W : Type 0} → BackendState W → Bool
 is_flushed b = nat_eq (length b.held) 0
@@ -36,16 +40,28 @@ reader size bytes = feed bytes (blank_terminal size.width size.height)
 abbrev pub shown_by : {W : Type 0} → BackendState W → Screen
 shown_by b = screen_shown b.written (rested (reader b.size b.sent))
 
+-- of each writer of a kind it is known what it holds, as it is of memory
+abbrev pub IsAlwaysKnown : {W : Type 0} → (W → Option (List ℕ)) → Type 0
+IsAlwaysKnown {W} contents = (w : W) → IsSome (contents w)
+
+-- a writer holds what it held before, if that is known, and then what it was sent; and it is known of a kind of which it always is
+pub record IsTied {W : Type 0} (contents : W → Option (List ℕ)) (before : Option (List ℕ)) (writer : W) (sent : List ℕ) : Type 0 where
+  pub appends : Appends before (contents writer) sent
+  pub known : IsAlwaysKnown contents → IsSome before
+
 -- before a backend began its writer took bytes that do this, after what it held
 pub record BeginsBy (does : List ℕ → List ℕ → Type 0) (held before : Option (List ℕ)) : Type 0 where
   pub first : List ℕ
   pub begins : does [] first
   pub tied : Appends held before first
 
--- after what was sent since the backend began a writer has taken bytes that leave each terminal below its last row
+-- after what was sent since the backend began a writer has taken bytes that leave each terminal below its last row; one of the backend's size
+-- that has read them all, however it was left before, rests, and has one row more than it showed
 pub record LeavesTerminal {W : Type 0} (b : BackendState W) (contents : Option (List ℕ)) : Type 0 where
   pub sent : List ℕ
   pub leaves : Performs b.sent sent left_below
+  pub left : (t : Emulator) → IsAsFound b.size.width b.size.height t
+      → IsLeftBelow b.size.width b.size.height (rested (feed b.sent (anew t))) (feed sent (anew t))
   pub tied : Appends b.before contents sent
 
 -- after what was sent since the backend began a writer has taken bytes that bring the main screen of each window back that shows its alternate

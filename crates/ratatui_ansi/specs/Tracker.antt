@@ -1,5 +1,5 @@
 -- What a tracker knows of its terminal between two calls, and of the bytes that it collected for a call.
-use Rattle.std.specs.Prelude.{◌≡◌, ℕ, ◌*◌, ◌<◌, Bool, true, List, length, [], ◌++◌, string_bytes}
+use Rattle.std.specs.Prelude.{◌≡◌, ℕ, ◌*◌, ◌<◌, ◌≤◌, Bool, true, List, length, [], ◌++◌, string_bytes}
 use Rattle.ratatui_core.specs.Layout.{Position, Size}
 use Rattle.ratatui_core.specs.Backend.{Screen, cursor_of, Appends, Clears, ScrollsUp, ScrollsDown, with_cursor, with_visible}
 use Rattle.ansi_model.specs.{Columns.blank_column, Commands.command_bytes, Commands.AsksSize, Beginnings.MakesBlank, Emulator.Emulator, Emulator.rested, Emulator.Phase.Ground, Sequences.feed}
@@ -15,10 +15,11 @@ pub record IsAwaiting (w h : ℕ) (cursor : Position) (flags : List Bool) (t : E
   pub continuations : AreContinuations w h flags (rested t).columns
   pub placed : cursor_of (screen_shown 0 (rested t)) ≡ cursor
 
--- a screen of this size has columns and rows, and a flag for each column, also for a draft
+-- a screen of this size has columns and rows, at most 65535 of these, and a flag for each column, also for a draft
 pub record FitsScreen (size : Size) (flags draft : List Bool) : Type 0 where
   pub columns : 0 < size.width
   pub rows : 0 < size.height
+  pub most : size.height ≤ 65535
   pub count : length flags ≡ size.width * size.height
   pub draft_count : length draft ≡ size.width * size.height
 

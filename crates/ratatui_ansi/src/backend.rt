@@ -1,12 +1,14 @@
 //! A backend for terminals that read escape sequences.
 
-ghost use Rattle.std.specs.Prelude.{◌≡◌, ℕ, ◌<◌, List, [], ◌++◌, true, false, IfOk, IfErr, OnOk};
+ghost use Rattle.std.specs.Prelude.{◌≡◌, ℕ, ◌<◌, List, [], ◌++◌, true, false, IsSome, IfOk, IfErr, OnOk};
 ghost use Rattle.std.specs.Io.KnownBytes.{Appends as AppendsKnown};
+ghost use Rattle.std.specs.Borrow.{sem, Lends};
 ghost use Rattle.ratatui_core.specs.Backend.{Counts, IsBlankScreen};
 ghost use Rattle.ansi_model.specs.Beginnings.{MakesBlank, SavesScreen, OpensAlternate};
 ghost use Rattle.ansi_model.specs.Endings.{left_below, ClosesAlternate};
 ghost use Rattle.ansi_model.specs.Sends.{Performs};
-ghost use Rattle.ratatui_ansi.specs.Backend.{BackendState, shown_by, BeginsBy, LeavesTerminal, BringsBack};
+ghost use Rattle.ratatui_ansi.specs.Backend.{BackendState, shown_by, with_writer, IsAlwaysKnown, BeginsBy, LeavesTerminal, BringsBack};
+ghost use Rattle.ratatui_ansi.specs.contracts.backend.AnsiBackend.{the_row};
 ghost use Rattle.ratatui_ansi.specs.Headline.{IsReadByAll};
 ghost use Rattle.ratatui_ansi.specs.Tracker.{BeginsBlank, CallDoes, IsCommanded};
 ghost use Rattle.ratatui_ansi.specs.Refusals.{Answers, RefusesToBegin, FailsToRestart, FailsToResize};
@@ -27,8 +29,8 @@ use std::marker::Model;
 /// counts as failed until it has succeeded; after a failed write every call is refused until
 /// `restart`. It keeps no byte of what it wrote.
 ///
-/// A drop brings the main screen back, where an alternate one is shown, as `leave` does; it can't
-/// tell that the writer failed.
+/// A drop gives the terminal back, as `leave` does, as far as the writer takes that: it can't tell
+/// that the writer failed. So does a beginning that fails to write.
 pub struct AnsiBackend<W: Write> {
     pub(crate) sender: Sender<W>,
     pub(crate) tracker: Tracker,
@@ -38,8 +40,7 @@ pub struct AnsiBackend<W: Write> {
 
 impl<W: Write> Model for AnsiBackend<W> {
     ghost use Rattle.std.specs.Prelude.{◌≡◌, false};
-    ghost use Rattle.std.specs.Io.KnownBytes.{Appends};
-    ghost use Rattle.ratatui_ansi.specs.Backend.{BackendState, IsInOrder};
+    ghost use Rattle.ratatui_ansi.specs.Backend.{BackendState, IsInOrder, IsTied};
 
     ghost Value = { BackendState W };
 
@@ -62,7 +63,7 @@ impl<W: Write> Model for AnsiBackend<W> {
         b.tracker.draft.items b.tracker.is_visible b.sender.is_broken b.sender.failures
         b.sender.sent.bytes
         × (b.sender.is_broken ≡ false
-        → Appends b.sender.sent.before (W.contents b.sender.writer) b.sender.sent.bytes) };
+        → IsTied W.contents b.sender.sent.before b.sender.writer b.sender.sent.bytes) };
 }
 
 impl<W: Write + Drop> Drop for AnsiBackend<W> {
@@ -73,9 +74,21 @@ impl<W: Write + Drop> Drop for AnsiBackend<W> {
             is_on_alternate,
             alloc: _alloc,
         } = self;
-        if is_on_alternate {
-            sender.give_back(closing_alternate());
-        }
+        sender.give_back(farewell(is_on_alternate));
+    }
+}
+
+// What gives a terminal back, from its alternate screen or its main one.
+fn farewell(is_on_alternate: bool) -> &'static str
+    ensures left { is_on_alternate ≡ false
+        → (old : List ℕ) → Performs old (old ++ result.now) left_below }
+    ensures back { is_on_alternate ≡ true
+        → (old : List ℕ) → ClosesAlternate old (old ++ result.now) }
+{
+    if is_on_alternate {
+        closing_alternate()
+    } else {
+        leaving()
     }
 }
 
@@ -108,15 +121,18 @@ impl<W: Write + Drop> AnsiBackend<W> {
         ensures refused { IfErr result IsOfLeaving }
     {
         let mut sender = Sender::new(writer);
-        sender.send(first, 0)?;
-        sender.renew();
-        sender.send(tracker.out.as_str(), 0)?;
-        Ok(AnsiBackend {
-            sender,
-            tracker,
-            is_on_alternate,
-            alloc,
-        })
+        match sender.send_first(first, tracker.out.as_str()) {
+            Ok(()) => Ok(AnsiBackend {
+                sender,
+                tracker,
+                is_on_alternate,
+                alloc,
+            }),
+            Err(error) => {
+                sender.give_back(farewell(is_on_alternate));
+                Err(AnsiError::Write(error))
+            }
+        }
     }
 
     /// A backend of a screen of this size in columns and rows, over a terminal that is made blank:
@@ -188,15 +204,30 @@ impl<W: Write + Drop> AnsiBackend<W> {
     /// The writer. If its bytes are known, and no write failed since the backend began or began
     /// again, it holds what it held then, and after that what was sent since: each terminal of this
     /// size that reads this shows the backend's screen, however it was left before, and the model
-    /// is sure of it. If no call failed, no write did.
+    /// is sure of it. If no call failed, no write did. The bytes are known of each writer of a kind
+    /// of which they always are.
     pub fn writer(&self) -> &W
         ensures writer { result.now ≡ self.now.writer }
         ensures tied { self.now.is_broken ≡ false
             → AppendsKnown self.now.before (W.contents self.now.writer) self.now.sent }
+        ensures known { self.now.is_broken ≡ false
+            → IsAlwaysKnown W.contents → IsSome self.now.before }
         ensures unfailed { self.now.failures ≡ 0 → self.now.is_broken ≡ false }
         ensures read { self.now.is_broken ≡ false → IsReadByAll self.now }
     {
         &self.sender.writer
+    }
+
+    /// The writer, to be written by hand between two calls. What its terminal shows isn't known from
+    /// then on: so this counts as a failed call, and each call is refused until `restart` or `resize`
+    /// begins again after what was written.
+    pub fn writer_mut(&mut self) -> &mut W
+        ensures* writes_back { let row = the_row W.row W.Write in
+            sem 𝓛 (Lends row W.row self.entry result (with_writer self.entry.now)) }
+        ensures value { result.now ≡ self.old.writer }
+    {
+        self.sender.leave_off();
+        &mut self.sender.writer
     }
 
     /// The writer, as `writer` lends it.
@@ -204,6 +235,9 @@ impl<W: Write + Drop> AnsiBackend<W> {
         ensures writer { result ≡ self.writer }
         ensures tied { self.is_broken ≡ false
             → AppendsKnown self.before (W.contents result) self.sent }
+        ensures known { self.is_broken ≡ false → IsAlwaysKnown W.contents → IsSome self.before }
+        ensures unfailed { self.failures ≡ 0 → self.is_broken ≡ false }
+        ensures read { self.is_broken ≡ false → IsReadByAll self }
     {
         let AnsiBackend {
             sender,
@@ -214,42 +248,32 @@ impl<W: Write + Drop> AnsiBackend<W> {
         sender.writer
     }
 
-    // What gives the terminal back.
-    fn farewell(&self) -> &'static str
-        ensures left { self.now.is_on_alternate ≡ false
-            → (old : List ℕ) → Performs old (old ++ result.now) left_below }
-        ensures back { self.now.is_on_alternate ≡ true
-            → (old : List ℕ) → ClosesAlternate old (old ++ result.now) }
-    {
-        if self.is_on_alternate {
-            closing_alternate()
-        } else {
-            leaving()
-        }
-    }
-
     /// Gives the terminal back, also after a failed write, and answers the writer, which has sent
     /// all on: the terminal is in its own colours and without margins, and its cursor is shown. On
     /// its main screen that stands below the last row; from its alternate screen the main one comes
-    /// back as it was put aside, with its cursor. This takes no memory.
+    /// back as it was put aside, with its cursor. This takes no memory. Unless a write failed since the
+    /// backend began or began again, each terminal of its size shows its screen before.
     ///
     /// # Errors
     ///
     /// `Write`: the writer failed. It is dropped then.
     pub fn leave(self) -> Result<W, AnsiError>
+        ensures known { self.is_broken ≡ false → IsAlwaysKnown W.contents → IsSome self.before }
+        ensures unfailed { self.failures ≡ 0 → self.is_broken ≡ false }
+        ensures read { OnOk result (self.is_broken ≡ false → IsReadByAll self) }
         ensures left { IfOk result (λ writer. self.is_broken ≡ false
             → self.is_on_alternate ≡ false → LeavesTerminal self (W.contents writer)) }
         ensures back { IfOk result (λ writer. self.is_broken ≡ false
             → self.is_on_alternate ≡ true → BringsBack self (W.contents writer)) }
         ensures why { IfErr result IsOfLeaving }
     {
-        let last = self.farewell();
         let AnsiBackend {
             mut sender,
             tracker: _tracker,
-            is_on_alternate: _,
+            is_on_alternate,
             alloc: _alloc,
         } = self;
+        let last = farewell(is_on_alternate);
         let count = sender.failures;
         sender.mend();
         sender.send(last, count)?;

@@ -2,6 +2,7 @@
 
 ghost use Rattle.std.specs.Prelude.{◌≡◌, ◌+◌, ◌-◌, ◌^◌, min, [], ◌++◌, true, false, IfOk, IfErr, OnOk, OnErr};
 ghost use Rattle.std.specs.Io.KnownBytes.{Appends};
+ghost use Rattle.ratatui_ansi.specs.Backend.{IsTied};
 ghost use Rattle.ratatui_ansi.specs.declared.error.AnsiError.TheVariants.{Broken};
 
 use crate::error::AnsiError;
@@ -93,8 +94,8 @@ impl<W: Write> Sender<W> {
         ensures writes { OnOk result
             (Appends (W.contents self.old.writer) (W.contents self.new.writer) text.now) }
         ensures tied { OnOk result (
-            Appends self.old.sent.before (W.contents self.old.writer) self.old.sent.bytes
-            → Appends self.new.sent.before (W.contents self.new.writer) self.new.sent.bytes) }
+            IsTied W.contents self.old.sent.before self.old.writer self.old.sent.bytes
+            → IsTied W.contents self.new.sent.before self.new.writer self.new.sent.bytes) }
         ensures works { OnOk result (self.new.is_broken ≡ false) }
         ensures finished { OnOk result (self.new.failures ≡ failures) }
         ensures broken { OnErr result (self.new.is_broken ≡ true) }
@@ -106,6 +107,22 @@ impl<W: Write> Sender<W> {
         self.held.note(text.as_bytes());
         self.finish(failures);
         Ok(())
+    }
+
+    /// Writes a text that doesn't count as sent, and then another one whole. After an Err it isn't
+    /// known what of them was written.
+    pub(crate) fn send_first(&mut self, first: &str, text: &str) -> io::Result<()>
+        ensures before { OnOk result
+            (Appends (W.contents self.old.writer) self.new.sent.before first.now) }
+        ensures sent { OnOk result (self.new.sent.bytes ≡ text.now) }
+        ensures tied { OnOk result (IsTied W.contents self.new.sent.before
+            self.new.writer self.new.sent.bytes) }
+        ensures works { OnOk result (self.new.is_broken ≡ false) }
+        ensures finished { OnOk result (self.new.failures ≡ 0) }
+    {
+        self.send(first, 0)?;
+        self.renew();
+        self.send(text, 0)
     }
 
     // Ends a synchronized update after a failed write, as far as the writer takes that.
@@ -146,8 +163,8 @@ impl<W: Write> Sender<W> {
         ensures writes { OnOk result
             (Appends (W.contents self.old.writer) (W.contents self.new.writer) text.now) }
         ensures tied { OnOk result (
-            Appends self.old.sent.before (W.contents self.old.writer) self.old.sent.bytes
-            → Appends self.new.sent.before (W.contents self.new.writer) self.new.sent.bytes) }
+            IsTied W.contents self.old.sent.before self.old.writer self.old.sent.bytes
+            → IsTied W.contents self.new.sent.before self.new.writer self.new.sent.bytes) }
         ensures works { OnOk result (self.new.is_broken ≡ false) }
         ensures finished { OnOk result (self.new.failures ≡ failures) }
         ensures broken { OnErr result (self.new.is_broken ≡ true) }
@@ -168,8 +185,8 @@ impl<W: Write> Sender<W> {
     pub(crate) fn flush(&mut self, failures: u64) -> io::Result<()>
         ensures sent { self.new.sent ≡ self.old.sent }
         ensures held { OnOk result (self.new.held.bytes ≡ []) }
-        ensures tied { Appends self.old.sent.before (W.contents self.old.writer) self.old.sent.bytes
-            → Appends self.new.sent.before (W.contents self.new.writer) self.new.sent.bytes }
+        ensures tied { IsTied W.contents self.old.sent.before self.old.writer self.old.sent.bytes
+            → IsTied W.contents self.new.sent.before self.new.writer self.new.sent.bytes }
         ensures works { OnOk result (self.new.is_broken ≡ false) }
         ensures finished { OnOk result (self.new.failures ≡ failures) }
         ensures broken { OnErr result (self.new.is_broken ≡ true) }
@@ -180,6 +197,17 @@ impl<W: Write> Sender<W> {
         self.held = Sent::new(&self.writer);
         self.finish(failures);
         Ok(())
+    }
+
+    /// Nothing is known of the terminal from now on, as after a failed write.
+    pub(crate) fn leave_off(&mut self)
+        ensures { self.new ≡ record self.old {
+          failures = min (self.old.failures + 1) (2 ^ 64 - 1);
+          is_broken = true;
+        } }
+    {
+        let _before = self.count();
+        self.is_broken = true;
     }
 
     // Ends a call that sent all.
@@ -196,8 +224,8 @@ impl<W: Write> Sender<W> {
         ensures before { self.new.sent.before ≡ W.contents self.old.writer }
         ensures sent { self.new.sent.bytes ≡ [] }
         ensures held { self.new.held ≡ self.old.held }
-        ensures tied { Appends self.new.sent.before
-            (W.contents self.new.writer) self.new.sent.bytes }
+        ensures tied { IsTied W.contents self.new.sent.before
+            self.new.writer self.new.sent.bytes }
         ensures failures { self.new.failures ≡ self.old.failures }
         ensures works { self.new.is_broken ≡ self.old.is_broken }
     {

@@ -416,6 +416,38 @@ fn a_drop_brings_the_main_screen_back(rt: HostRuntime) {
     );
 }
 
+// Begins on the main screen of a terminal and drops the backend; whether that worked.
+fn begins_and_drops_on_main(alloc: Global, writer: &mut Vec<u8>) -> bool {
+    let size = Size {
+        width: 4,
+        height: 3,
+    };
+    AnsiBackend::new(alloc, writer, size).is_ok()
+}
+
+#[test]
+fn a_drop_gives_the_main_screen_back(rt: HostRuntime) {
+    let mut writer = Vec::new(rt.alloc());
+    assert!(rt; begins_and_drops_on_main(rt.alloc(), &mut writer));
+    assert!(rt;
+        writer
+            .as_slice()
+            .ends_with(b"\x1b[0m\x1b[r\x1b[?25h\x1b[65535;1H\r\n")
+    );
+}
+
+// After something was written by hand no call is made until the backend begins again.
+#[test]
+fn a_writer_is_written_by_hand(rt: HostRuntime) -> Result<(), Fail> {
+    let mut backend = over_kept(rt.alloc(), 4, 3)?;
+    backend.writer_mut().extend_from_slice(b"\x07")?;
+    assert!(rt; sent(&backend).ends_with("\u{7}"));
+    assert!(rt; by_kind(backend.hide_cursor()) == Err(Why::Broken));
+    assert!(rt; backend.restart().is_ok() && sent(&backend).ends_with(BLANK_4_3));
+    assert!(rt; by_kind(backend.hide_cursor()) == Ok(()));
+    Ok(())
+}
+
 #[test]
 fn no_backend_without_columns(rt: HostRuntime) {
     let none = Size {

@@ -160,6 +160,28 @@ fn redden(buffer: &mut Buffer) {
     buffer.set_style(area, Style::new().bg(Color::Red));
 }
 
+// Begins over a writer that is lent; whether that worked.
+fn begins(alloc: Global, writer: &mut Tearing) -> bool {
+    AnsiBackend::new(alloc, writer, SIZE).is_ok()
+}
+
+// A beginning that fails gives the terminal back, as far as the writer takes that.
+#[test]
+fn a_failed_beginning_gives_the_terminal_back(rt: HostRuntime) {
+    let mut writer = Tearing {
+        sent: Vec::new(rt.alloc()),
+        calls: 1,
+        is_torn: false,
+    };
+    assert!(rt; !begins(rt.alloc(), &mut writer));
+    assert!(rt;
+        writer
+            .sent
+            .as_slice()
+            .ends_with(b"\x1b[0m\x1b[r\x1b[?25h\x1b[65535;1H\r\n")
+    );
+}
+
 // How many bytes a writer holds after a draw.
 fn held_after_a_draw(alloc: Global) -> Option<usize> {
     let backend = AnsiBackend::new(alloc, Holding { held: 0 }, SIZE).ok()?;

@@ -1,7 +1,27 @@
 use Rattle.std.proofs.Common.{◌++◌, ap, sym, ◌∙◌, subst}
 use Rattle.std.specs.Io.KnownBytes.{Appends}
-use Rattle.ratatui_ansi.proofs.BackendLemmas.{brings-back}
+use Rattle.ratatui_ansi.proofs.{BackendLemmas.brings-back, HeadlineLemmas.read-by-all, HeadlineLemmas.leaves-terminal}
 use Rattle.ratatui_ansi.proofs.backend.AnsiBackend.leave.Goals as goal
+
+pub returns-clause-read : goal.returns-clause-read
+returns-clause-read g c =
+    let kept = c.self.invariant.0 in
+    rw (← c.self.view_is) (λ whole. read-by-all _ (kept.alike whole) (kept.awaiting whole).phase (kept.awaiting whole).ready)
+
+pub returns-clause-left : goal.returns-clause-left
+returns-clause-left g c =
+    let b = c.self.inside in
+    let text = c.farewell-last.result.now in
+    let contents = g.W.Write.contents c.flush.new.self.writer in
+    rw (← c.self.view_is) (λ whole main.
+    let mended = c.mend.ensures.works whole in
+    let before = ap (λ s. s.before) c.flush.ensures.sent ∙ c.send.ensures.before ∙ ap (λ s. s.sent.before) mended in
+    let bytes = ap (λ s. s.bytes) c.flush.ensures.sent ∙ c.in_ok-send.ensures.sent ∙ ap (λ s. s.sent.bytes ++ text) mended in
+    let all = (c.flush.ensures.tied (c.in_ok-send.ensures.tied (rw mended (c.self.invariant.1 whole)))).appends in
+    let kept = c.self.invariant.0 in
+    leaves-terminal _ contents (b.sender.sent.bytes ++ text) (c.farewell-last.ensures.left main b.sender.sent.bytes) (read-by-all _ (kept.alike whole) (kept.awaiting whole).phase (kept.awaiting whole).ready)
+    kept.tracker.columns kept.tracker.rows kept.tracker.most
+    (subst (λ xs. Appends b.sender.sent.before contents xs) bytes (subst (λ known. Appends known contents c.flush.new.self.sent.bytes) before all)))
 
 pub returns-clause-back : goal.returns-clause-back
 returns-clause-back g c =
@@ -12,7 +32,7 @@ returns-clause-back g c =
     let mended = c.mend.ensures.works whole in
     let before = ap (λ s. s.before) c.flush.ensures.sent ∙ c.send.ensures.before ∙ ap (λ s. s.sent.before) mended in
     let bytes = ap (λ s. s.bytes) c.flush.ensures.sent ∙ c.in_ok-send.ensures.sent ∙ ap (λ s. s.sent.bytes ++ text) mended in
-    let all = c.flush.ensures.tied (c.in_ok-send.ensures.tied (rw mended (c.self.invariant.1 whole))) in
+    let all = (c.flush.ensures.tied (c.in_ok-send.ensures.tied (rw mended (c.self.invariant.1 whole)))).appends in
     let kept = c.self.invariant.0 in
-    brings-back _ contents (b.sender.sent.bytes ++ text) (c.farewell-last.ensures.back (sym (ap (λ s. s.is_on_alternate) c.self.view_is) ∙ alternate) b.sender.sent.bytes) (kept.alike whole) (kept.awaiting whole).phase
+    brings-back _ contents (b.sender.sent.bytes ++ text) (c.farewell-last.ensures.back alternate b.sender.sent.bytes) (kept.alike whole) (kept.awaiting whole).phase
     (subst (λ xs. Appends b.sender.sent.before contents xs) bytes (subst (λ known. Appends known contents c.flush.new.self.sent.bytes) before all)))
