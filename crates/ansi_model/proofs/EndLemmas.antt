@@ -36,6 +36,7 @@ left-in-order w h wide high most t ready =
       rest = both.0.rest;
       screen = λ written.
           subst (λ (p : Screen). Appends p 1 (screen_shown written (left_below t)))
-          (ap₂ (λ i j. record (screen_shown written t) { cursor_x = i; cursor_y = j; visible = true }) column row) (both.1.screens written).0;
+          (ap₂ (λ i j. record (screen_shown written t) { cursor_x = i; cursor_y = j; visible = true }) column row)
+          (both.1.screens written).0;
       column = ap (λ (u : Emulator). u.x) feeds.rest;
     }

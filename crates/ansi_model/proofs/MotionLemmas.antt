@@ -1,5 +1,6 @@
 -- Columns that move, whatever the motion.
-use Rattle.std.proofs.Common.{◌≡◌, ℕ, zero, suc, ◌+◌, ◌-◌, ◌<◌, nat_eq, if◌then◌else◌, Bool, true, false, refl, sym, ap, ◌∙◌, arith, subst}
+use Rattle.std.proofs.Common.{◌≡◌, ℕ, zero, suc, ◌+◌, ◌-◌, ◌<◌, nat_eq, if◌then◌else◌, Bool, true, false, refl, sym, ap, ◌∙◌}
+use Rattle.std.proofs.Common.{arith, subst}
 use Rattle.std.proofs.lemmas.Bool.Decides.{nat_tests}
 use Rattle.ratatui_core.specs.Buffer.{empty_look}
 use Rattle.ratatui_core.specs.Backend.{Motion, moved_by, is_in_region, scrolling_up, scrolling_down}
@@ -21,7 +22,8 @@ module _ {A : Type 0} (m : Motion) (nothing : A) (was : ℕ → ℕ → A) (x y 
 
   -- where each place of the part is its own source nothing moves
   pub moved-still : (m.part x y ≡ true → (m.has_source y ≡ true) × (m.source y ≡ y)) → was x y ≡ moved_by m nothing was x y
-  moved-still own = elim (m.part x y) as (λ p. m.part x y ≡ p → was x y ≡ (if p then (if m.has_source y then was x (m.source y) else nothing) else was x y))
+  moved-still own = elim (m.part x y) as (λ p. m.part x y ≡ p
+      → was x y ≡ (if p then (if m.has_source y then was x (m.source y) else nothing) else was x y))
       [ true ↦ λ e. rw ((own e).0, (own e).1) refl | false ↦ λ e. refl ] refl
 
 -- ---- tidy columns stay tidy
@@ -50,7 +52,8 @@ abbrev pub IsOfRows : Motion → Type 0
 IsOfRows m = (k a b : ℕ) → m.part k b ≡ m.part a b
 
 moved-whole : (m : Motion) (c : Columns) → IsOfRows m → IsWhole c → IsWhole (columns_moved m c)
-moved-whole m c rows whole a b = whole_along (by (m.part a b) (m.has_source b)) (λ k. columns_moved m c k b) a (λ k. ap (λ p. by p (m.has_source b) k) (rows a k b)) (either (m.part a b) (m.has_source b))
+moved-whole m c rows whole a b = whole_along (by (m.part a b) (m.has_source b)) (λ k. columns_moved m c k b) a
+    (λ k. ap (λ p. by p (m.has_source b) k) (rows a k b)) (either (m.part a b) (m.has_source b))
   where
     by : Bool → Bool → ℕ → Column
     by p q k = if p then (if q then c k (m.source b) else blank_column) else c k b
@@ -61,7 +64,11 @@ moved-whole m c rows whole a b = whole_along (by (m.part a b) (m.has_source b)) 
     either false q = whole a b
 
 pub moved-tidy : (w : ℕ) (m : Motion) (c : Columns) → IsOfRows m → IsTidy w c → IsTidy w (columns_moved m c)
-moved-tidy w m c rows tidy = record { sized = moved-sized m c tidy.sized; whole = moved-whole m c rows tidy.whole; beyond = moved-beyond w m c tidy.beyond }
+moved-tidy w m c rows tidy = record {
+  sized = moved-sized m c tidy.sized;
+  whole = moved-whole m c rows tidy.whole;
+  beyond = moved-beyond w m c tidy.beyond;
+}
 
 -- columns that are the same are as tidy
 pub tidy-along : (w : ℕ) (c d : Columns) → ((a b : ℕ) → d a b ≡ c a b) → IsTidy w c → IsTidy w d
@@ -82,27 +89,39 @@ not_met area a b Unknown e = refl
 pub row-emptied : (m : Motion) (r : ℕ) (c : Columns) (a b : ℕ) → m.part a b ≡ is_in_region r (r + 1) b → m.has_source r ≡ false
     → overwritten (λ k j. nat_eq j r) (λ i j. blank_column) c a b ≡ columns_moved m c a b
 row-emptied m r c a b part none =
-    elim (nat_eq b r) as (λ v. nat_eq b r ≡ v → (if v then blank_column else (if is_met (λ k j. nat_eq j r) a b (c a b) then Unknown else c a b)) ≡ columns_moved m c a b) [
-      | true ↦ λ e. let here : is_in_region r (r + 1) b ≡ true = grind (arith, nat_tests) in let row : b ≡ r = grind (arith, nat_tests) in let gone : m.has_source b ≡ false = ap m.has_source row ∙ none in rw (part, here, gone) refl
-      | false ↦ λ e. let here : is_in_region r (r + 1) b ≡ false = grind (arith, nat_tests) in rw (part, here, not_met (λ k j. nat_eq j r) a b (c a b) (λ k. e)) refl
+    elim (nat_eq b r) as (λ v. nat_eq b r ≡ v
+    → (if v then blank_column else (if is_met (λ k j. nat_eq j r) a b (c a b) then Unknown else c a b)) ≡ columns_moved m c a
+    b) [
+      | true ↦ λ e. let here : is_in_region r (r + 1) b ≡ true = grind (arith, nat_tests) in
+          let row : b ≡ r = grind (arith, nat_tests) in let gone : m.has_source b ≡ false = ap m.has_source row ∙ none in
+          rw (part, here, gone) refl
+      | false ↦ λ e. let here : is_in_region r (r + 1) b ≡ false = grind (arith, nat_tests) in
+          rw (part, here, not_met (λ k j. nat_eq j r) a b (c a b) (λ k. e)) refl
     ] refl
 
 -- ---- regions of which no row moves
 
-pub up-still : (from to n : ℕ) {A : Type 0} (nothing : A) (was : ℕ → ℕ → A) (x y : ℕ) → (from < to → n ≡ 0) → was x y ≡ moved_by (scrolling_up from to n) nothing was x y
-up-still from to n nothing was x y none = moved-still (scrolling_up from to n) nothing was x y (λ e. let z : n ≡ 0 = none (grind (arith, nat_tests)) in (grind (arith, nat_tests), omega arith))
+pub up-still : (from to n : ℕ) {A : Type 0} (nothing : A) (was : ℕ → ℕ → A) (x y : ℕ) → (from < to → n ≡ 0)
+    → was x y ≡ moved_by (scrolling_up from to n) nothing was x y
+up-still from to n nothing was x y none = moved-still (scrolling_up from to n) nothing was x y
+    (λ e. let z : n ≡ 0 = none (grind (arith, nat_tests)) in (grind (arith, nat_tests), omega arith))
 
-pub down-still : (from to n : ℕ) {A : Type 0} (nothing : A) (was : ℕ → ℕ → A) (x y : ℕ) → (from < to → n ≡ 0) → was x y ≡ moved_by (scrolling_down from to n) nothing was x y
-down-still from to n nothing was x y none = moved-still (scrolling_down from to n) nothing was x y (λ e. let z : n ≡ 0 = none (grind (arith, nat_tests)) in (grind (arith, nat_tests), omega arith))
+pub down-still : (from to n : ℕ) {A : Type 0} (nothing : A) (was : ℕ → ℕ → A) (x y : ℕ) → (from < to → n ≡ 0)
+    → was x y ≡ moved_by (scrolling_down from to n) nothing was x y
+down-still from to n nothing was x y none = moved-still (scrolling_down from to n) nothing was x y
+    (λ e. let z : n ≡ 0 = none (grind (arith, nat_tests)) in (grind (arith, nat_tests), omega arith))
 
 -- ---- rows that move up again and again
 
-pub up-again : (to n : ℕ) (c : Columns) (a b : ℕ) → columns_moved (scrolling_up 0 to n) (columns_moved (scrolling_up 0 to 1) c) a b ≡ columns_moved (scrolling_up 0 to (suc n)) c a b
+pub up-again : (to n : ℕ) (c : Columns) (a b : ℕ)
+    → columns_moved (scrolling_up 0 to n) (columns_moved (scrolling_up 0 to 1) c) a b ≡ columns_moved
+    (scrolling_up 0 to (suc n)) c a b
 up-again to n c a b =
     let e : b + n + 1 ≡ b + suc n = omega arith in
     rw (← e) (grind (arith, nat_tests))
 
-pub up-and-down : (c : Columns) (a b : ℕ) → columns_moved (scrolling_down 0 2 1) (columns_moved (scrolling_up 0 2 1) c) a b ≡ columns_moved (scrolling_up 0 1 1) c a b
+pub up-and-down : (c : Columns) (a b : ℕ)
+    → columns_moved (scrolling_down 0 2 1) (columns_moved (scrolling_up 0 2 1) c) a b ≡ columns_moved (scrolling_up 0 1 1) c a b
 up-and-down c a zero = refl
 up-and-down c a (suc zero) = refl
 up-and-down c a (suc (suc b)) = grind (arith, nat_tests)

@@ -31,24 +31,32 @@ KeepsSize effect = (t : Emulator) → ((effect t).width ≡ t.width) × ((effect
 pub blanked-keeps : (sgr : Sgr) (x y n : ℕ) → KeepsSize (blanked_in sgr x y n)
 blanked-keeps sgr x y n t = (blanked-width sgr x y n t, blanked-height sgr x y n t)
 
-pub Paints-then : (w h : ℕ) (a b c : List ℕ) (p q r : Pen) (f g : Emulator → Emulator) → KeepsSize f → Paints w h a p f b q → Paints w h b q g c r → Paints w h a p (λ t. g (f t)) c r
+pub Paints-then : (w h : ℕ) (a b c : List ℕ) (p q r : Pen) (f g : Emulator → Emulator) → KeepsSize f → Paints w h a p f b q
+    → Paints w h b q g c r → Paints w h a p (λ t. g (f t)) c r
 Paints-then w h a b c p q r f g keeps first second =
-    let fed : (t : Emulator) → feed (first.bytes ++ second.bytes) t ≡ feed second.bytes (feed first.bytes t) = feed-append first.bytes second.bytes in
-    let wide : (t : Emulator) → (rested t).width ≡ w → (rested t).height ≡ h → IsDrawnBy p t → (rested (feed first.bytes t)).width ≡ w =
+    let fed : (t : Emulator) → feed (first.bytes ++ second.bytes) t ≡ feed second.bytes (feed first.bytes t) =
+    feed-append first.bytes second.bytes in
+    let wide : (t : Emulator) → (rested t).width ≡ w → (rested t).height ≡ h → IsDrawnBy p t
+    → (rested (feed first.bytes t)).width ≡ w =
     λ t width height drawn. ap (λ (v : Emulator). v.width) (first.printed t width height drawn) ∙ (keeps (rested t)).0 ∙ width in
-    let high : (t : Emulator) → (rested t).width ≡ w → (rested t).height ≡ h → IsDrawnBy p t → (rested (feed first.bytes t)).height ≡ h =
-    λ t width height drawn. ap (λ (v : Emulator). v.height) (first.printed t width height drawn) ∙ (keeps (rested t)).1 ∙ height in
+    let high : (t : Emulator) → (rested t).width ≡ w → (rested t).height ≡ h → IsDrawnBy p t
+    → (rested (feed first.bytes t)).height ≡ h =
+    λ t width height drawn. ap (λ (v : Emulator). v.height) (first.printed t width height drawn) ∙ (keeps (rested t)).1
+    ∙ height in
     record {
       bytes = first.bytes ++ second.bytes;
       appended = second.appended ∙ ap (λ xs. xs ++ second.bytes) first.appended ∙ append_assoc a first.bytes second.bytes;
       drawn = λ t width height drawn.
-          subst (IsDrawnBy r) (sym (fed t)) (second.drawn (feed first.bytes t) (wide t width height drawn) (high t width height drawn) (first.drawn t width height drawn));
+          subst (IsDrawnBy r) (sym (fed t)) (second.drawn (feed first.bytes t) (wide t width height drawn)
+          (high t width height drawn) (first.drawn t width height drawn));
       printed = λ t width height drawn.
-          ap rested (fed t) ∙ second.printed (feed first.bytes t) (wide t width height drawn) (high t width height drawn) (first.drawn t width height drawn)
+          ap rested (fed t) ∙ second.printed (feed first.bytes t) (wide t width height drawn) (high t width height drawn)
+          (first.drawn t width height drawn)
           ∙ ap g (first.printed t width height drawn);
     }
 
-pub blanks-none : (w h : ℕ) (old : List ℕ) (pen : Pen) (sgr : Sgr) (x y n : ℕ) → n ≡ 0 → Paints w h old pen (blanked_in sgr x y n) old pen
+pub blanks-none : (w h : ℕ) (old : List ℕ) (pen : Pen) (sgr : Sgr) (x y n : ℕ) → n ≡ 0
+    → Paints w h old pen (blanked_in sgr x y n) old pen
 unfolding feed
 blanks-none w h old pen sgr x y n e = record {
   bytes = [];
@@ -57,10 +65,17 @@ blanks-none w h old pen sgr x y n e = record {
   printed = λ t width height drawn. ap (λ k. blanked_in sgr x y k (rested t)) (sym e);
 }
 
-pub blanks-more : (w h : ℕ) (sgr : Sgr) (x y column m k : ℕ) (old mid new : List ℕ) (before between after : Pen) → Paints w h old before (blanked_in sgr x y m) mid between → between.sgr ≡ sgr
-    → Prints w h mid between column y between.sgr (encode 32) new after → column ≡ x + m → k ≡ suc m → Paints w h old before (blanked_in sgr x y k) new after
+pub blanks-more : (w h : ℕ) (sgr : Sgr) (x y column m k : ℕ) (old mid new : List ℕ) (before between after : Pen)
+    → Paints w h old before (blanked_in sgr x y m) mid between → between.sgr ≡ sgr
+    → Prints w h mid between column y between.sgr (encode 32) new after → column ≡ x + m → k ≡ suc m
+    → Paints w h old before (blanked_in sgr x y k) new after
 blanks-more w h sgr x y column m k old mid new before between after done own more at count =
-    let more_blank : Prints w h mid between column y between.sgr blank new after = subst (λ bs. Prints w h mid between column y between.sgr bs new after) blank-encoded more in
-    let more_own : Prints w h mid between column y sgr blank new after = subst (λ p. Prints w h mid between column y p blank new after) own more_blank in
-    let more_at : Prints w h mid between (x + m) y sgr blank new after = subst (λ j. Prints w h mid between j y sgr blank new after) at more_own in
-    subst (λ j. Paints w h old before (blanked_in sgr x y j) new after) (sym count) (Paints-then w h old mid new before between after (blanked_in sgr x y m) (printed_at (x + m) y sgr blank) (blanked-keeps sgr x y m) done more_at)
+    let more_blank : Prints w h mid between column y between.sgr blank new after =
+    subst (λ bs. Prints w h mid between column y between.sgr bs new after) blank-encoded more in
+    let more_own : Prints w h mid between column y sgr blank new after =
+    subst (λ p. Prints w h mid between column y p blank new after) own more_blank in
+    let more_at : Prints w h mid between (x + m) y sgr blank new after =
+    subst (λ j. Prints w h mid between j y sgr blank new after) at more_own in
+    subst (λ j. Paints w h old before (blanked_in sgr x y j) new after) (sym count)
+    (Paints-then w h old mid new before between after (blanked_in sgr x y m) (printed_at (x + m) y sgr blank)
+    (blanked-keeps sgr x y m) done more_at)

@@ -1,16 +1,26 @@
 -- What a terminal makes of appended bytes, of numbers, and of whole sequences.
-use Rattle.std.proofs.Common.{◌≡◌, ℕ, ◌+◌, ◌-◌, ◌*◌, ◌/◌, ◌%◌, ◌<◌, ◌≤◌, ◌^◌, min, List, [], ◌∷◌, ◌++◌, Bool, true, false, zero, suc, refl, sym, ap, ap₂, ◌∙◌, arith, ◌==◌, ◌&&◌, nat_lt, nat_eq, if◌then◌else◌, Result, Ok, Err, OnOk, append_assoc}
+use Rattle.std.proofs.Common.{◌≡◌, ℕ, ◌+◌, ◌-◌, ◌*◌, ◌/◌, ◌%◌, ◌<◌, ◌≤◌, ◌^◌, min, List, [], ◌∷◌, ◌++◌, Bool, true, false, zero}
+use Rattle.std.proofs.Common.{suc, refl, sym, ap, ap₂, ◌∙◌, arith, ◌==◌, ◌&&◌, nat_lt, nat_eq, if◌then◌else◌, Result, Ok, Err}
+use Rattle.std.proofs.Common.{OnOk, append_assoc}
 use Rattle.std.specs.{Result.is_ok, Fmt.decimal}
 use Rattle.std.proofs.lemmas.{Fmt.decimal_by_steps, Fmt.decimal_step, Fmt.decimal_digit, Bool.Decides.nat_tests}
 use Rattle.std.proofs.Math.Nat.{div-add-mod'}
-use Rattle.ansi_model.specs.Emulator.{Emulator, Phase, rested, cursor_moved, returned, erased, scrolled, line_fed, fed, if_so, cursor_shown, with_region, without_region, lines_deleted, lines_inserted, with_modes, holding, with_sgr}
-use Rattle.ansi_model.specs.{Emulator.Phase.Ground, Emulator.Phase.Opened, Emulator.Phase.Sequence, Sequences.feed, Sequences.reads_in, Sequences.is_digit}
+use Rattle.ansi_model.specs.Emulator.{Emulator, Phase, rested, cursor_moved, returned, erased, scrolled, line_fed, fed, if_so}
+use Rattle.ansi_model.specs.Emulator.{cursor_shown, with_region, without_region, lines_deleted, lines_inserted, with_modes}
+use Rattle.ansi_model.specs.Emulator.{holding, with_sgr}
+use Rattle.ansi_model.specs.{Emulator.Phase.Ground, Emulator.Phase.Opened, Emulator.Phase.Sequence, Sequences.feed}
+use Rattle.ansi_model.specs.{Sequences.reads_in, Sequences.is_digit}
 use Rattle.ratatui_core.specs.Backend.{ClearType, All, AfterCursor, BeforeCursor, CurrentLine, UntilNewLine}
 use Rattle.ansi_model.specs.Sends.{Sends, Performs}
-use Rattle.ansi_model.specs.{Commands.command_bytes, declared.command.Command.Command, declared.command.SetCursorStyle.SetCursorStyle}
-use Rattle.ansi_model.specs.declared.command.Command.TheVariants.{EnableMouseCapture, DisableMouseCapture, EnableBracketedPaste, DisableBracketedPaste, EnableFocusChange, DisableFocusChange, AskCursorPosition}
+use Rattle.ansi_model.specs.{Commands.command_bytes, declared.command.Command.Command}
+use Rattle.ansi_model.specs.{declared.command.SetCursorStyle.SetCursorStyle}
+use Rattle.ansi_model.specs.declared.command.Command.TheVariants.{EnableMouseCapture, DisableMouseCapture, EnableBracketedPaste}
+use Rattle.ansi_model.specs.declared.command.Command.TheVariants.{DisableBracketedPaste, EnableFocusChange, DisableFocusChange}
+use Rattle.ansi_model.specs.declared.command.Command.TheVariants.{AskCursorPosition}
 use Rattle.ansi_model.specs.declared.command.Command.TheVariants as Asked
-use Rattle.ansi_model.specs.declared.command.SetCursorStyle.TheVariants.{DefaultUserShape, BlinkingBlock, SteadyBlock, BlinkingUnderScore, SteadyUnderScore, BlinkingBar, SteadyBar}
+use Rattle.ansi_model.specs.declared.command.SetCursorStyle.TheVariants.{DefaultUserShape, BlinkingBlock, SteadyBlock}
+use Rattle.ansi_model.specs.declared.command.SetCursorStyle.TheVariants.{BlinkingUnderScore, SteadyUnderScore, BlinkingBar}
+use Rattle.ansi_model.specs.declared.command.SetCursorStyle.TheVariants.{SteadyBar}
 use Rattle.ansi_model.specs.{Endings.left_below, Beginnings.without_modes, Sgr.default_sgr, Sgr.inks, Sgr.are_known}
 
 and-true : (b : Bool) → (b && true) ≡ b
@@ -23,20 +33,24 @@ feed-append [] ys t = refl
 feed-append (x ∷ xs) ys t = feed-append xs ys (reads_in t.phase x t)
 
 -- one after the other
-pub Sends-then : (a b c : List ℕ) (f g : Emulator → Emulator) → Sends a b f → Sends b c g → ((t : Emulator) → (f t).phase ≡ Ground) → Sends a c (λ t. g (f t))
+pub Sends-then : (a b c : List ℕ) (f g : Emulator → Emulator) → Sends a b f → Sends b c g
+    → ((t : Emulator) → (f t).phase ≡ Ground) → Sends a c (λ t. g (f t))
 Sends-then a b c f g first second stays = record {
   bytes = first.bytes ++ second.bytes;
   appended = second.appended ∙ ap (λ xs. xs ++ second.bytes) first.appended ∙ append_assoc a first.bytes second.bytes;
-  read = λ t ground. feed-append first.bytes second.bytes t ∙ ap (feed second.bytes) (first.read t ground) ∙ second.read (f t) (stays t);
+  read = λ t ground. feed-append first.bytes second.bytes t ∙ ap (feed second.bytes) (first.read t ground) ∙ second.read (f t)
+      (stays t);
 }
 
 -- a text was pushed
-pub pushed : {E : Type 0} (r : Result (Unit {0}) E) (old new bs : List ℕ) (effect : Emulator → Emulator) → new ≡ (if is_ok r then old ++ bs else old)
+pub pushed : {E : Type 0} (r : Result (Unit {0}) E) (old new bs : List ℕ) (effect : Emulator → Emulator)
+    → new ≡ (if is_ok r then old ++ bs else old)
     → ((t : Emulator) → t.phase ≡ Ground → feed bs t ≡ effect t) → OnOk r (Sends old new effect)
 pushed (Ok u) old new bs effect e read = record { bytes = bs; appended = e; read = read }
 pushed (Err f) old new bs effect e read = tt
 
-pub on_push : {E : Type 0} (r : Result (Unit {0}) E) (old new bs : List ℕ) → new ≡ (if is_ok r then old ++ bs else old) → OnOk r (new ≡ old ++ bs)
+pub on_push : {E : Type 0} (r : Result (Unit {0}) E) (old new bs : List ℕ) → new ≡ (if is_ok r then old ++ bs else old)
+    → OnOk r (new ≡ old ++ bs)
 on_push (Ok u) old new bs e = e
 on_push (Err f) old new bs e = tt
 
@@ -103,7 +117,8 @@ begun rest t ground = ap (λ p. feed (91 ∷ rest) (reads_in p 27 t)) ground
 
 -- one with a single number
 pub with_one : (n final : ℕ) → n < 2 ^ 64 → (t : Emulator) → t.phase ≡ Ground
-    → feed (27 ∷ 91 ∷ (decimal n ++ final ∷ [])) t ≡ reads_in (Sequence false [] n) final (within (Sequence false [] n) (rested t))
+    → feed (27 ∷ 91 ∷ (decimal n ++ final ∷ [])) t ≡ reads_in (Sequence false [] n) final (within (Sequence false [] n)
+    (rested t))
 unfolding feed
 with_one n final small t ground =
     begun (decimal n ++ final ∷ []) t ground
@@ -129,7 +144,8 @@ with_two m n final small_m small_n t ground =
 abbrev pub CUP : ℕ → ℕ → List ℕ
 CUP x y = 27 ∷ 91 ∷ (decimal (y + 1) ++ (59 ∷ (decimal (x + 1) ++ 72 ∷ [])))
 
-pub CUP-read : (x y : ℕ) → x < 2 ^ 16 → y < 2 ^ 16 → (t : Emulator) → t.phase ≡ Ground → feed (CUP x y) t ≡ cursor_moved x y (rested t)
+pub CUP-read : (x y : ℕ) → x < 2 ^ 16 → y < 2 ^ 16 → (t : Emulator) → t.phase ≡ Ground
+    → feed (CUP x y) t ≡ cursor_moved x y (rested t)
 CUP-read x y x_in y_in t ground =
     let ex : x + 1 - 1 ≡ x = omega arith in
     let ey : y + 1 - 1 ≡ y = omega arith in
@@ -137,9 +153,11 @@ CUP-read x y x_in y_in t ground =
 
 -- ---- numbers, digit by digit
 
-pub digits-more : (n : ℕ) (old pre new : List ℕ) → 10 ≤ n → n < 2 ^ 64 → pre ≡ old ++ decimal (n / 10) → new ≡ pre ++ (48 + n % 10) ∷ [] → new ≡ old ++ decimal n
+pub digits-more : (n : ℕ) (old pre new : List ℕ) → 10 ≤ n → n < 2 ^ 64 → pre ≡ old ++ decimal (n / 10)
+    → new ≡ pre ++ (48 + n % 10) ∷ [] → new ≡ old ++ decimal n
 digits-more n old pre new big small first last =
-    last ∙ ap (λ xs. xs ++ (48 + n % 10) ∷ []) first ∙ append_assoc old (decimal (n / 10)) ((48 + n % 10) ∷ []) ∙ ap (λ ds. old ++ ds) (sym (decimal_step n big small))
+    last ∙ ap (λ xs. xs ++ (48 + n % 10) ∷ []) first ∙ append_assoc old (decimal (n / 10)) ((48 + n % 10) ∷ [])
+    ∙ ap (λ ds. old ++ ds) (sym (decimal_step n big small))
 
 pub digits-one : (n : ℕ) (old new : List ℕ) → n < 10 → new ≡ old ++ (48 + n) ∷ [] → new ≡ old ++ decimal n
 digits-one n old new small last = last ∙ ap (λ ds. old ++ ds) (sym (decimal_digit n small))
@@ -147,11 +165,14 @@ digits-one n old new small last = last ∙ ap (λ ds. old ++ ds) (sym (decimal_d
 pub after-those : (old mid new a b : List ℕ) → mid ≡ old ++ a → new ≡ mid ++ b → new ≡ old ++ (a ++ b)
 after-those old mid new a b first second = second ∙ ap (λ xs. xs ++ b) first ∙ append_assoc old a b
 
-pub move-appended : (x y fx fy : ℕ) (old first second third fourth new semicolon last : List ℕ) → first ≡ old ++ 27 ∷ 91 ∷ [] → second ≡ first ++ decimal (fy + 1) → third ≡ second ++ semicolon
-    → fourth ≡ third ++ decimal (fx + 1) → new ≡ fourth ++ last → fy ≡ y → fx ≡ x → semicolon ≡ 59 ∷ [] → last ≡ 72 ∷ [] → new ≡ old ++ CUP x y
+pub move-appended : (x y fx fy : ℕ) (old first second third fourth new semicolon last : List ℕ) → first ≡ old ++ 27 ∷ 91 ∷ []
+    → second ≡ first ++ decimal (fy + 1) → third ≡ second ++ semicolon
+    → fourth ≡ third ++ decimal (fx + 1) → new ≡ fourth ++ last → fy ≡ y → fx ≡ x → semicolon ≡ 59 ∷ [] → last ≡ 72 ∷ []
+    → new ≡ old ++ CUP x y
 move-appended x y fx fy old first second third fourth new semicolon last e1 e2 e3 e4 e5 row column is_semicolon is_last =
     let all : new ≡ old ++ ((27 ∷ 91 ∷ []) ++ (decimal (fy + 1) ++ (semicolon ++ (decimal (fx + 1) ++ last)))) =
-    after-those old first new _ _ e1 (after-those first second new _ _ e2 (after-those second third new _ _ e3 (after-those third fourth new _ _ e4 e5))) in
+    after-those old first new _ _ e1
+    (after-those first second new _ _ e2 (after-those second third new _ _ e3 (after-those third fourth new _ _ e4 e5))) in
     rw (row, column, is_semicolon, is_last) at all
 
 abbrev pub erasing : ClearType → List ℕ
@@ -217,13 +238,15 @@ reset-read t ground =
     let s : Emulator = rested t in
     begun (48 ∷ 109 ∷ []) t ground ∙ ap (λ sure. record (with_sgr default_sgr s) { sure = sure }) (and-true s.sure)
 
-last_row-read : (t : Emulator) → t.phase ≡ Ground → feed (27 ∷ 91 ∷ 54 ∷ 53 ∷ 53 ∷ 51 ∷ 53 ∷ 59 ∷ 49 ∷ 72 ∷ []) t ≡ cursor_moved 0 65534 (rested t)
+last_row-read : (t : Emulator) → t.phase ≡ Ground
+    → feed (27 ∷ 91 ∷ 54 ∷ 53 ∷ 53 ∷ 51 ∷ 53 ∷ 59 ∷ 49 ∷ 72 ∷ []) t ≡ cursor_moved 0 65534 (rested t)
 unfolding feed
 last_row-read t ground = begun (54 ∷ 53 ∷ 53 ∷ 51 ∷ 53 ∷ 59 ∷ 49 ∷ 72 ∷ []) t ground
 
 abbrev pub leaving_bytes : List ℕ
 leaving_bytes =
-    27 ∷ 91 ∷ 48 ∷ 109 ∷ 27 ∷ 91 ∷ 114 ∷ 27 ∷ 91 ∷ 63 ∷ 50 ∷ 53 ∷ 104 ∷ 27 ∷ 91 ∷ 54 ∷ 53 ∷ 53 ∷ 51 ∷ 53 ∷ 59 ∷ 49 ∷ 72 ∷ 13 ∷ 10 ∷ []
+    27 ∷ 91 ∷ 48 ∷ 109 ∷ 27 ∷ 91 ∷ 114 ∷ 27 ∷ 91 ∷ 63 ∷ 50 ∷ 53 ∷ 104 ∷ 27 ∷ 91 ∷ 54 ∷ 53 ∷ 53 ∷ 51 ∷ 53 ∷ 59 ∷ 49 ∷ 72 ∷ 13 ∷ 10
+    ∷ []
 
 pub leaving-read : (t : Emulator) → t.phase ≡ Ground → feed leaving_bytes t ≡ left_below (rested t)
 leaving-read t ground =
@@ -237,7 +260,8 @@ leaving-read t ground =
     let t3 : Emulator = cursor_shown true t2 in
     let t4 : Emulator = cursor_moved 0 65534 t3 in
     let t5 : Emulator = returned t4 in
-    feed-append reset (region ++ (cursor ++ (move ++ ends))) t ∙ ap (feed (region ++ (cursor ++ (move ++ ends)))) (reset-read t ground)
+    feed-append reset (region ++ (cursor ++ (move ++ ends))) t ∙ ap (feed (region ++ (cursor ++ (move ++ ends))))
+    (reset-read t ground)
     ∙ feed-append region (cursor ++ (move ++ ends)) t1 ∙ ap (feed (cursor ++ (move ++ ends))) (no_region-read t1 refl)
     ∙ feed-append cursor (move ++ ends) t2 ∙ ap (feed (move ++ ends)) (showing-read t2 refl)
     ∙ feed-append move ends t3 ∙ ap (feed ends) (last_row-read t3 refl)
@@ -250,39 +274,52 @@ pub string-read : (t : Emulator) → t.phase ≡ Ground → feed (27 ∷ 92 ∷ 
 unfolding feed
 string-read t ground = ap (λ p. feed (92 ∷ []) (reads_in p 27 t)) ground
 
-shift-read : (t : Emulator) → t.phase ≡ Ground → feed (15 ∷ []) t ≡ with_modes (record (rested t).modes { shifted = false }) (rested t)
+shift-read : (t : Emulator) → t.phase ≡ Ground → feed (15 ∷ []) t ≡ with_modes (record (rested t).modes { shifted = false })
+    (rested t)
 unfolding feed
 shift-read t ground = ap (λ p. reads_in p 15 t) ground
 
-letters-read : (t : Emulator) → t.phase ≡ Ground → feed (27 ∷ 40 ∷ 66 ∷ []) t ≡ with_modes (record (rested t).modes { lettered = false }) (rested t)
+letters-read : (t : Emulator) → t.phase ≡ Ground
+    → feed (27 ∷ 40 ∷ 66 ∷ []) t ≡ with_modes (record (rested t).modes { lettered = false }) (rested t)
 unfolding feed
 letters-read t ground = ap (λ p. feed (40 ∷ 66 ∷ []) (reads_in p 27 t)) ground
 
-coding-read : (t : Emulator) → t.phase ≡ Ground → feed (27 ∷ 37 ∷ 71 ∷ []) t ≡ with_modes (record (rested t).modes { coded = false }) (rested t)
+coding-read : (t : Emulator) → t.phase ≡ Ground
+    → feed (27 ∷ 37 ∷ 71 ∷ []) t ≡ with_modes (record (rested t).modes { coded = false }) (rested t)
 unfolding feed
 coding-read t ground = ap (λ p. feed (37 ∷ 71 ∷ []) (reads_in p 27 t)) ground
 
-insert-read : (t : Emulator) → t.phase ≡ Ground → feed (27 ∷ 91 ∷ 52 ∷ 108 ∷ []) t ≡ with_modes (record (rested t).modes { inserts = false }) (rested t)
+insert-read : (t : Emulator) → t.phase ≡ Ground
+    → feed (27 ∷ 91 ∷ 52 ∷ 108 ∷ []) t ≡ with_modes (record (rested t).modes { inserts = false }) (rested t)
 unfolding feed
 insert-read t ground = begun (52 ∷ 108 ∷ []) t ground
 
-origin-read : (t : Emulator) → t.phase ≡ Ground → feed (27 ∷ 91 ∷ 63 ∷ 54 ∷ 108 ∷ []) t ≡ record (rested t) { modes = record (rested t).modes { origin = false }; x = 0; y = 0 }
+origin-read : (t : Emulator) → t.phase ≡ Ground
+    → feed (27 ∷ 91 ∷ 63 ∷ 54 ∷ 108 ∷ []) t ≡ record (rested t) {
+      modes = record (rested t).modes { origin = false };
+      x = 0;
+      y = 0;
+    }
 unfolding feed
 origin-read t ground = begun (63 ∷ 54 ∷ 108 ∷ []) t ground
 
-sides-read : (t : Emulator) → t.phase ≡ Ground → feed (27 ∷ 91 ∷ 63 ∷ 54 ∷ 57 ∷ 108 ∷ []) t ≡ with_modes (record (rested t).modes { sides = false }) (rested t)
+sides-read : (t : Emulator) → t.phase ≡ Ground
+    → feed (27 ∷ 91 ∷ 63 ∷ 54 ∷ 57 ∷ 108 ∷ []) t ≡ with_modes (record (rested t).modes { sides = false }) (rested t)
 unfolding feed
 sides-read t ground = begun (63 ∷ 54 ∷ 57 ∷ 108 ∷ []) t ground
 
-wrap-read : (t : Emulator) → t.phase ≡ Ground → feed (27 ∷ 91 ∷ 63 ∷ 55 ∷ 104 ∷ []) t ≡ with_modes (record (rested t).modes { unwrapped = false }) (rested t)
+wrap-read : (t : Emulator) → t.phase ≡ Ground
+    → feed (27 ∷ 91 ∷ 63 ∷ 55 ∷ 104 ∷ []) t ≡ with_modes (record (rested t).modes { unwrapped = false }) (rested t)
 unfolding feed
 wrap-read t ground = begun (63 ∷ 55 ∷ 104 ∷ []) t ground
 
-pub update_begin-read : (t : Emulator) → t.phase ≡ Ground → feed (27 ∷ 91 ∷ 63 ∷ 50 ∷ 48 ∷ 50 ∷ 54 ∷ 104 ∷ []) t ≡ holding true (rested t)
+pub update_begin-read : (t : Emulator) → t.phase ≡ Ground
+    → feed (27 ∷ 91 ∷ 63 ∷ 50 ∷ 48 ∷ 50 ∷ 54 ∷ 104 ∷ []) t ≡ holding true (rested t)
 unfolding feed
 update_begin-read t ground = begun (63 ∷ 50 ∷ 48 ∷ 50 ∷ 54 ∷ 104 ∷ []) t ground
 
-pub update_end-read : (t : Emulator) → t.phase ≡ Ground → feed (27 ∷ 91 ∷ 63 ∷ 50 ∷ 48 ∷ 50 ∷ 54 ∷ 108 ∷ []) t ≡ holding false (rested t)
+pub update_end-read : (t : Emulator) → t.phase ≡ Ground
+    → feed (27 ∷ 91 ∷ 63 ∷ 50 ∷ 48 ∷ 50 ∷ 54 ∷ 108 ∷ []) t ≡ holding false (rested t)
 unfolding feed
 update_end-read t ground = begun (63 ∷ 50 ∷ 48 ∷ 50 ∷ 54 ∷ 108 ∷ []) t ground
 
@@ -381,7 +418,9 @@ quiet_6n : (t : Emulator) → t.phase ≡ Ground → feed (27 ∷ 91 ∷ 54 ∷ 
 unfolding feed
 quiet_6n t ground = begun (54 ∷ 110 ∷ []) t ground
 
-mouse_on-read : (t : Emulator) → t.phase ≡ Ground → feed (27 ∷ 91 ∷ 63 ∷ 49 ∷ 48 ∷ 48 ∷ 48 ∷ 104 ∷ 27 ∷ 91 ∷ 63 ∷ 49 ∷ 48 ∷ 48 ∷ 50 ∷ 104 ∷ 27 ∷ 91 ∷ 63 ∷ 49 ∷ 48 ∷ 48 ∷ 51 ∷ 104 ∷ 27 ∷ 91 ∷ 63 ∷ 49 ∷ 48 ∷ 48 ∷ 54 ∷ 104 ∷ []) t ≡ rested t
+mouse_on-read : (t : Emulator) → t.phase ≡ Ground
+    → feed (27 ∷ 91 ∷ 63 ∷ 49 ∷ 48 ∷ 48 ∷ 48 ∷ 104 ∷ 27 ∷ 91 ∷ 63 ∷ 49 ∷ 48 ∷ 48 ∷ 50 ∷ 104 ∷ 27 ∷ 91 ∷ 63 ∷ 49 ∷ 48 ∷ 48 ∷ 51
+    ∷ 104 ∷ 27 ∷ 91 ∷ 63 ∷ 49 ∷ 48 ∷ 48 ∷ 54 ∷ 104 ∷ []) t ≡ rested t
 mouse_on-read t ground =
     let a0 : List ℕ = 27 ∷ 91 ∷ 63 ∷ 49 ∷ 48 ∷ 48 ∷ 48 ∷ 104 ∷ [] in
     let a1 : List ℕ = 27 ∷ 91 ∷ 63 ∷ 49 ∷ 48 ∷ 48 ∷ 50 ∷ 104 ∷ [] in
@@ -393,7 +432,9 @@ mouse_on-read t ground =
     feed-append a0 r1 t ∙ ap (feed r1) (quiet_1000h t ground) ∙ feed-append a1 r2 s ∙ ap (feed r2) (quiet_1002h s refl)
     ∙ feed-append a2 a3 s ∙ ap (feed a3) (quiet_1003h s refl) ∙ quiet_1006h s refl
 
-mouse_off-read : (t : Emulator) → t.phase ≡ Ground → feed (27 ∷ 91 ∷ 63 ∷ 49 ∷ 48 ∷ 48 ∷ 54 ∷ 108 ∷ 27 ∷ 91 ∷ 63 ∷ 49 ∷ 48 ∷ 48 ∷ 51 ∷ 108 ∷ 27 ∷ 91 ∷ 63 ∷ 49 ∷ 48 ∷ 48 ∷ 50 ∷ 108 ∷ 27 ∷ 91 ∷ 63 ∷ 49 ∷ 48 ∷ 48 ∷ 48 ∷ 108 ∷ []) t ≡ rested t
+mouse_off-read : (t : Emulator) → t.phase ≡ Ground
+    → feed (27 ∷ 91 ∷ 63 ∷ 49 ∷ 48 ∷ 48 ∷ 54 ∷ 108 ∷ 27 ∷ 91 ∷ 63 ∷ 49 ∷ 48 ∷ 48 ∷ 51 ∷ 108 ∷ 27 ∷ 91 ∷ 63 ∷ 49 ∷ 48 ∷ 48 ∷ 50
+    ∷ 108 ∷ 27 ∷ 91 ∷ 63 ∷ 49 ∷ 48 ∷ 48 ∷ 48 ∷ 108 ∷ []) t ≡ rested t
 mouse_off-read t ground =
     let a0 : List ℕ = 27 ∷ 91 ∷ 63 ∷ 49 ∷ 48 ∷ 48 ∷ 54 ∷ 108 ∷ [] in
     let a1 : List ℕ = 27 ∷ 91 ∷ 63 ∷ 49 ∷ 48 ∷ 48 ∷ 51 ∷ 108 ∷ [] in
@@ -405,7 +446,8 @@ mouse_off-read t ground =
     feed-append a0 r1 t ∙ ap (feed r1) (quiet_1006l t ground) ∙ feed-append a1 r2 s ∙ ap (feed r2) (quiet_1003l s refl)
     ∙ feed-append a2 a3 s ∙ ap (feed a3) (quiet_1002l s refl) ∙ quiet_1000l s refl
 
-quiet_style : (style : SetCursorStyle) (t : Emulator) → t.phase ≡ Ground → feed (command_bytes (Asked.SetCursorStyle style)) t ≡ rested t
+quiet_style : (style : SetCursorStyle) (t : Emulator) → t.phase ≡ Ground
+    → feed (command_bytes (Asked.SetCursorStyle style)) t ≡ rested t
 unfolding feed
 quiet_style DefaultUserShape t ground = begun (48 ∷ 32 ∷ 113 ∷ []) t ground
 quiet_style BlinkingBlock t ground = begun (49 ∷ 32 ∷ 113 ∷ []) t ground
@@ -427,21 +469,31 @@ command-read (Asked.SetCursorStyle style) t ground = quiet_style style t ground
 
 -- the end of the screen, and a question there
 pub end_asked-read : (t : Emulator) → t.phase ≡ Ground
-    → feed (27 ∷ 91 ∷ 54 ∷ 53 ∷ 53 ∷ 51 ∷ 53 ∷ 59 ∷ 54 ∷ 53 ∷ 53 ∷ 51 ∷ 53 ∷ 72 ∷ 27 ∷ 91 ∷ 54 ∷ 110 ∷ []) t ≡ cursor_moved 65534 65534 (rested t)
+    → feed (27 ∷ 91 ∷ 54 ∷ 53 ∷ 53 ∷ 51 ∷ 53 ∷ 59 ∷ 54 ∷ 53 ∷ 53 ∷ 51 ∷ 53 ∷ 72 ∷ 27 ∷ 91 ∷ 54 ∷ 110 ∷ []) t ≡ cursor_moved 65534
+    65534 (rested t)
 unfolding feed
-end_asked-read t ground = begun (54 ∷ 53 ∷ 53 ∷ 51 ∷ 53 ∷ 59 ∷ 54 ∷ 53 ∷ 53 ∷ 51 ∷ 53 ∷ 72 ∷ 27 ∷ 91 ∷ 54 ∷ 110 ∷ []) t ground ∙ quiet_6n (cursor_moved 65534 65534 (rested t)) refl
+end_asked-read t ground = begun (54 ∷ 53 ∷ 53 ∷ 51 ∷ 53 ∷ 59 ∷ 54 ∷ 53 ∷ 53 ∷ 51 ∷ 53 ∷ 72 ∷ 27 ∷ 91 ∷ 54 ∷ 110 ∷ []) t ground
+    ∙ quiet_6n (cursor_moved 65534 65534 (rested t)) refl
 
 -- a rested terminal stays so
 pub line_fed-rested : (t : Emulator) → line_fed (rested t) ≡ rested (line_fed (rested t))
 line_fed-rested t =
     let s : Emulator = rested t in
-    elim (nat_eq (s.y + 1) s.bottom) as (λ v. (if v then scrolled (if_so (nat_lt s.x s.width) s) else record s { y = min (s.y + 1) (s.height - 1); sure = s.sure && nat_lt s.x s.width })
-    ≡ rested (if v then scrolled (if_so (nat_lt s.x s.width) s) else record s { y = min (s.y + 1) (s.height - 1); sure = s.sure && nat_lt s.x s.width }))
+    elim (nat_eq (s.y + 1) s.bottom) as (λ v. (if v then scrolled (if_so (nat_lt s.x s.width) s) else record s {
+      y = min (s.y + 1)
+          (s.height - 1);
+      sure = s.sure && nat_lt s.x s.width;
+    })
+    ≡ rested (if v then scrolled (if_so (nat_lt s.x s.width) s) else record s {
+      y = min (s.y + 1) (s.height - 1);
+      sure = s.sure && nat_lt s.x s.width;
+    }))
     [ true ↦ refl | false ↦ refl ]
 
 pub fed-rested : (n : ℕ) (t : Emulator) → fed n (rested t) ≡ rested (fed n (rested t))
 fed-rested zero t = refl
-fed-rested (suc n) t = ap (fed n) (line_fed-rested t) ∙ fed-rested n (line_fed (rested t)) ∙ ap (λ u. rested (fed n u)) (sym (line_fed-rested t))
+fed-rested (suc n) t = ap (fed n) (line_fed-rested t) ∙ fed-rested n (line_fed (rested t)) ∙ ap (λ u. rested (fed n u))
+    (sym (line_fed-rested t))
 
 fed-more : (n : ℕ) (t : Emulator) → fed (suc n) t ≡ line_fed (fed n t)
 fed-more zero t = refl
@@ -451,13 +503,17 @@ fed-more (suc n) t = fed-more n (line_fed t)
 pub feeds-none : (a b : List ℕ) → Performs a b returned → Performs a b (λ t. fed 0 (returned t))
 feeds-none a b first = record { bytes = first.bytes; appended = first.appended; read = first.read }
 
-pub feeds-more : (a b c : List ℕ) (k : ℕ) → Performs a b (λ t. fed k (returned t)) → Performs b c line_fed → Performs a c (λ t. fed (k + 1) (returned t))
+pub feeds-more : (a b c : List ℕ) (k : ℕ) → Performs a b (λ t. fed k (returned t)) → Performs b c line_fed
+    → Performs a c (λ t. fed (k + 1) (returned t))
 feeds-more a b c k first next =
-    let rests : (t : Emulator) → fed k (returned (rested t)) ≡ rested (fed k (returned (rested t))) = λ t. fed-rested k (returned (rested t)) in
-    let both = Sends-then a b c (λ t. fed k (returned (rested t))) (λ t. line_fed (rested t)) first next (λ t. ap (λ (u : Emulator). u.phase) (rests t)) in
+    let rests : (t : Emulator) → fed k (returned (rested t)) ≡ rested (fed k (returned (rested t))) =
+    λ t. fed-rested k (returned (rested t)) in
+    let both = Sends-then a b c (λ t. fed k (returned (rested t))) (λ t. line_fed (rested t)) first next
+    (λ t. ap (λ (u : Emulator). u.phase) (rests t)) in
     let e : suc k ≡ k + 1 = omega arith in
     record {
       bytes = both.bytes;
       appended = both.appended;
-      read = λ t ground. both.read t ground ∙ ap line_fed (sym (rests t)) ∙ sym (fed-more k (returned (rested t))) ∙ ap (λ n. fed n (returned (rested t))) e;
+      read = λ t ground. both.read t ground ∙ ap line_fed (sym (rests t)) ∙ sym (fed-more k (returned (rested t)))
+          ∙ ap (λ n. fed n (returned (rested t))) e;
     }

@@ -1,17 +1,23 @@
 -- A rendition is read back as it is written.
-use Rattle.std.proofs.Common.{◌≡◌, ℕ, ◌+◌, ◌<◌, ◌^◌, ◌==◌, nat_lt, nat_eq, List, [], ◌∷◌, ◌++◌, Bool, true, false, IsTrue, zero, suc, inl, inr, ◌⊎◌, ◌&&◌, ◌≤◌, nat_le, length, length-append, if◌then◌else◌, refl, sym, ap, ap₂, ◌∙◌, arith, append_assoc, append-nil, take, get_or}
+use Rattle.std.proofs.Common.{◌≡◌, ℕ, ◌+◌, ◌<◌, ◌^◌, ◌==◌, nat_lt, nat_eq, List, [], ◌∷◌, ◌++◌, Bool, true, false, IsTrue, zero}
+use Rattle.std.proofs.Common.{suc, inl, inr, ◌⊎◌, ◌&&◌, ◌≤◌, nat_le, length, length-append, if◌then◌else◌, refl, sym, ap, ap₂}
+use Rattle.std.proofs.Common.{◌∙◌, arith, append_assoc, append-nil, take, get_or}
 use Rattle.std.specs.{Fmt.decimal, List.list_all, List.flat_map, Int.RustNames.bit_and, Int.RustNames.bit_or}
-use Rattle.std.proofs.lemmas.{Bool.false≢true, Bool.and_parts, Bool.Decides.nat_tests, List.Folds.list_all-append, List.take_more, Grind.flat_map-append}
+use Rattle.std.proofs.lemmas.{Bool.false≢true, Bool.and_parts, Bool.Decides.nat_tests, List.Folds.list_all-append, List.take_more}
+use Rattle.std.proofs.lemmas.{Grind.flat_map-append}
 use Rattle.std.proofs.Math.ListN.{get_or-map}
 use Rattle.ratatui_core.specs.Style.{Color, Reset, Rgb, Indexed, Modifier, no_modifier, bits_of, modifier_of}
 use Rattle.ratatui_core.proofs.StyleLemmas.{same_color, same_modifier}
 use Rattle.ansi_model.specs.contracts.sgr.SgrPartialEq.TheImpl as sgr_equality
-use Rattle.ansi_model.specs.{declared.sgr.Sgr.Sgr, Emulator.Phase.Ground, Emulator.Phase.Opened, Emulator.Phase.Sequence, Sequences.feed, Sends.Performs}
+use Rattle.ansi_model.specs.{declared.sgr.Sgr.Sgr, Emulator.Phase.Ground, Emulator.Phase.Opened, Emulator.Phase.Sequence}
+use Rattle.ansi_model.specs.{Sequences.feed, Sends.Performs}
 use Rattle.ratatui_core.specs.Buffer.{Cell}
 use Rattle.ansi_model.specs.Sgr.{Awaits, Inking, inks, inks_in, is_known_parameter, are_known, default_sgr, sgr_of}
 use Rattle.ansi_model.specs.Sgr.Awaits.{Nothing, Kind, Number, Parts}
 use Rattle.ansi_model.specs.Emulator.{Emulator, rested, if_so, with_sgr}
-use Rattle.ansi_model.specs.Parameters.{color_parameters, underline_parameters, modifier_parameters, modifier_parameter, modifier_numbers, semicolons, led, is_underline, is_sendable, AddsParameters, color_count, lead_of, count_with, is_joined}
+use Rattle.ansi_model.specs.Parameters.{color_parameters, underline_parameters, modifier_parameters, modifier_parameter}
+use Rattle.ansi_model.specs.Parameters.{modifier_numbers, semicolons, led, is_underline, is_sendable, AddsParameters, color_count}
+use Rattle.ansi_model.specs.Parameters.{lead_of, count_with, is_joined}
 use Rattle.ansi_model.proofs.ReadLemmas.{feed-append, number-read, first-read, begun, within, after-those}
 use Rattle.ansi_model.proofs.TextLemmas.{and-true}
 
@@ -23,7 +29,8 @@ fits p small =
 semicolons-append : (ps qs : List ℕ) → semicolons (ps ++ qs) ≡ semicolons ps ++ semicolons qs
 semicolons-append [] qs = refl
 semicolons-append (p ∷ ps) qs =
-    ap (λ rest. 59 ∷ (decimal p ++ rest)) (semicolons-append ps qs) ∙ ap (λ rest. 59 ∷ rest) (sym (append_assoc (decimal p) (semicolons ps) (semicolons qs)))
+    ap (λ rest. 59 ∷ (decimal p ++ rest)) (semicolons-append ps qs) ∙ ap (λ rest. 59 ∷ rest)
+    (sym (append_assoc (decimal p) (semicolons ps) (semicolons qs)))
 
 -- a semicolon before the first of some parameters
 led-semicolon : (ps : List ℕ) → led (59 ∷ []) ps ≡ semicolons ps
@@ -35,7 +42,8 @@ pub Parameters-then : (a b c ps qs : List ℕ) → AddsParameters (59 ∷ []) a 
     → AddsParameters (59 ∷ []) a c (ps ++ qs)
 Parameters-then a b c ps qs first second = record {
   appended = second.appended ∙ ap₂ (λ xs ys. xs ++ ys) (first.appended ∙ ap (λ ys. a ++ ys) (led-semicolon ps)) (led-semicolon qs)
-      ∙ append_assoc a (semicolons ps) (semicolons qs) ∙ ap (λ xs. a ++ xs) (sym (led-semicolon (ps ++ qs) ∙ semicolons-append ps qs));
+      ∙ append_assoc a (semicolons ps) (semicolons qs) ∙ ap (λ xs. a ++ xs)
+      (sym (led-semicolon (ps ++ qs) ∙ semicolons-append ps qs));
   small = list_all-append (λ p. nat_lt p 256) ps qs ∙ rw (first.small, second.small) refl;
 }
 
@@ -79,13 +87,15 @@ first_modifiers bits i = flat_map (λ m. modifier_parameter bits m.0 m.1) (take 
 
 -- one more of them
 pub modifiers-more : (bits i : ℕ) → i < 9
-    → first_modifiers bits (i + 1) ≡ first_modifiers bits i ++ modifier_parameter bits (get_or numbered i (no_modifier, 0)).0.0 (get_or numbered i (no_modifier, 0)).1
+    → first_modifiers bits (i + 1) ≡ first_modifiers bits i ++ modifier_parameter bits (get_or numbered i (no_modifier, 0)).0.0
+    (get_or numbered i (no_modifier, 0)).1
 modifiers-more bits i below =
     let f : ℕ × ℕ → List ℕ = λ m. modifier_parameter bits m.0 m.1 in
     let g : Modifier × ℕ → ℕ × ℕ = λ m. (bits_of m.0, m.1) in
     ap (flat_map f) (take_more modifier_numbers i (0, 0) below)
     ∙ flat_map-append f (take i modifier_numbers) (get_or modifier_numbers i (0, 0) ∷ [])
-    ∙ ap (λ xs. first_modifiers bits i ++ xs) (append-nil (f (get_or modifier_numbers i (0, 0))) ∙ ap f (get_or-map g numbered i (no_modifier, 0)))
+    ∙ ap (λ xs. first_modifiers bits i ++ xs) (append-nil (f (get_or modifier_numbers i (0, 0)))
+    ∙ ap f (get_or-map g numbered i (no_modifier, 0)))
 
 pub inks-append : (xs ys : List ℕ) (i : Inking) → inks (xs ++ ys) i ≡ inks ys (inks xs i)
 unfolding inks
@@ -96,21 +106,24 @@ inks-append (x ∷ xs) ys i = inks-append xs ys (inks_in i.awaits x i.sgr)
 abbrev done_with : Sgr → Inking
 done_with sgr = record { sgr = sgr; awaits = Nothing }
 
-fg-inks : (c : Color) (sgr : Sgr) → sgr.fg ≡ Reset → inks (color_parameters 30 c) (done_with sgr) ≡ done_with (record sgr { fg = c })
+fg-inks : (c : Color) (sgr : Sgr) → sgr.fg ≡ Reset
+    → inks (color_parameters 30 c) (done_with sgr) ≡ done_with (record sgr { fg = c })
 unfolding inks
 fg-inks Reset sgr e = ap (λ f. done_with (record sgr { fg = f })) e
 fg-inks (Rgb r g b) sgr e = refl
 fg-inks (Indexed n) sgr e = refl
 fg-inks _ sgr e = refl
 
-bg-inks : (c : Color) (sgr : Sgr) → sgr.bg ≡ Reset → inks (color_parameters 40 c) (done_with sgr) ≡ done_with (record sgr { bg = c })
+bg-inks : (c : Color) (sgr : Sgr) → sgr.bg ≡ Reset
+    → inks (color_parameters 40 c) (done_with sgr) ≡ done_with (record sgr { bg = c })
 unfolding inks
 bg-inks Reset sgr e = ap (λ f. done_with (record sgr { bg = f })) e
 bg-inks (Rgb r g b) sgr e = refl
 bg-inks (Indexed n) sgr e = refl
 bg-inks _ sgr e = refl
 
-underline-inks : (c : Color) (sgr : Sgr) → IsTrue (is_underline c) → sgr.underline_color ≡ Reset → inks (underline_parameters c) (done_with sgr) ≡ done_with (record sgr { underline_color = c })
+underline-inks : (c : Color) (sgr : Sgr) → IsTrue (is_underline c) → sgr.underline_color ≡ Reset
+    → inks (underline_parameters c) (done_with sgr) ≡ done_with (record sgr { underline_color = c })
 unfolding inks
 underline-inks Reset sgr sent e = ap (λ f. done_with (record sgr { underline_color = f })) e
 underline-inks (Rgb r g b) sgr sent e = refl
@@ -123,26 +136,40 @@ marks b v m = if b then m else modifier_of (bit_or (bits_of m) v)
 
 -- a modifier's number, unless it is left out, marks the modifier
 abbrev Marks : ℕ → ℕ → Type 0
-Marks k v = (m : Modifier) → inks (k ∷ []) (done_with (record default_sgr { modifier = m })) ≡ done_with (record default_sgr { modifier = modifier_of (bit_or (bits_of m) v) })
+Marks k v = (m : Modifier) → inks (k ∷ []) (done_with (record default_sgr { modifier = m })) ≡ done_with
+    (record default_sgr { modifier = modifier_of (bit_or (bits_of m) v) })
 
-mark : (k v : ℕ) (b : Bool) (m : Modifier) → Marks k v → inks (if b then [] else k ∷ []) (done_with (record default_sgr { modifier = m })) ≡ done_with (record default_sgr { modifier = marks b v m })
+mark : (k v : ℕ) (b : Bool) (m : Modifier) → Marks k v
+    → inks (if b then [] else k ∷ []) (done_with (record default_sgr { modifier = m })) ≡ done_with
+    (record default_sgr { modifier = marks b v m })
 unfolding inks
 mark k v true m does = refl
 mark k v false m does = does m
 
 marked : (k v bits : ℕ) (rest : List ℕ) (m : Modifier) → Marks k v
-    → inks (modifier_parameter bits v k ++ rest) (done_with (record default_sgr { modifier = m })) ≡ inks rest (done_with (record default_sgr { modifier = marks (bit_and bits v == 0) v m }))
-marked k v bits rest m does = inks-append (modifier_parameter bits v k) rest (done_with (record default_sgr { modifier = m })) ∙ ap (inks rest) (mark k v (bit_and bits v == 0) m does)
+    → inks (modifier_parameter bits v k ++ rest) (done_with (record default_sgr { modifier = m })) ≡ inks rest
+    (done_with (record default_sgr { modifier = marks (bit_and bits v == 0) v m }))
+marked k v bits rest m does = inks-append (modifier_parameter bits v k) rest (done_with (record default_sgr { modifier = m }))
+    ∙ ap (inks rest) (mark k v (bit_and bits v == 0) m does)
 
 -- the modifiers that are read back
 abbrev read_back : ℕ → ℕ
-read_back bits = (marks (bit_and bits 256 == 0) 256 (marks (bit_and bits 128 == 0) 128 (marks (bit_and bits 64 == 0) 64 (marks (bit_and bits 32 == 0) 32 (marks (bit_and bits 16 == 0) 16 (marks (bit_and bits 8 == 0) 8 (marks (bit_and bits 4 == 0) 4 (marks (bit_and bits 2 == 0) 2 (marks (bit_and bits 1 == 0) 1 no_modifier))))))))).0
+read_back bits = (marks (bit_and bits 256 == 0) 256
+    (marks (bit_and bits 128 == 0) 128
+    (marks (bit_and bits 64 == 0) 64
+    (marks (bit_and bits 32 == 0) 32
+    (marks (bit_and bits 16 == 0) 16
+    (marks (bit_and bits 8 == 0) 8
+    (marks (bit_and bits 4 == 0) 4 (marks (bit_and bits 2 == 0) 2 (marks (bit_and bits 1 == 0) 1 no_modifier))))))))).0
 
-modifiers-inked : (bits : ℕ) → inks (modifier_parameters bits) (done_with default_sgr) ≡ done_with (record default_sgr { modifier = modifier_of (read_back bits) })
+modifiers-inked : (bits : ℕ) → inks (modifier_parameters bits) (done_with default_sgr) ≡ done_with
+    (record default_sgr { modifier = modifier_of (read_back bits) })
 unfolding inks
 modifiers-inked bits =
-    marked 1 1 bits _ _ (λ m. refl) ∙ marked 2 2 bits _ _ (λ m. refl) ∙ marked 3 4 bits _ _ (λ m. refl) ∙ marked 4 8 bits _ _ (λ m. refl)
-    ∙ marked 5 16 bits _ _ (λ m. refl) ∙ marked 6 32 bits _ _ (λ m. refl) ∙ marked 7 64 bits _ _ (λ m. refl) ∙ marked 8 128 bits _ _ (λ m. refl)
+    marked 1 1 bits _ _ (λ m. refl) ∙ marked 2 2 bits _ _ (λ m. refl) ∙ marked 3 4 bits _ _ (λ m. refl)
+    ∙ marked 4 8 bits _ _ (λ m. refl)
+    ∙ marked 5 16 bits _ _ (λ m. refl) ∙ marked 6 32 bits _ _ (λ m. refl) ∙ marked 7 64 bits _ _ (λ m. refl)
+    ∙ marked 8 128 bits _ _ (λ m. refl)
     ∙ marked 9 256 bits [] _ (λ m. refl)
 
 -- whether a test holds of each number below n
@@ -163,15 +190,12 @@ all-back : up_to (λ k. read_back k == k) 512 ≡ true
 all-back = refl
 
 -- the nine modifiers, for each set of them
-modifier-inks : (bits : ℕ) → bits < 512 → inks (modifier_parameters bits) (done_with default_sgr) ≡ done_with (record default_sgr { modifier = modifier_of bits })
+modifier-inks : (bits : ℕ) → bits < 512
+    → inks (modifier_parameters bits) (done_with default_sgr) ≡ done_with (record default_sgr { modifier = modifier_of bits })
 modifier-inks bits small =
     let same : (read_back bits == bits) ≡ true = up_to-at (λ k. read_back k == k) 512 bits all-back small in
     let e : read_back bits ≡ bits = grind (arith, nat_tests) in
     modifiers-inked bits ∙ ap (λ k. done_with (record default_sgr { modifier = modifier_of k })) e
-
-inks-reset : (ps : List ℕ) (sgr : Sgr) → inks (0 ∷ ps) (done_with sgr) ≡ inks ps (done_with default_sgr)
-unfolding inks
-inks-reset ps sgr = refl
 
 -- ---- terminals take a rendition's parameters alike
 
@@ -220,7 +244,8 @@ bg-known (Rgb r g b) small = small
 bg-known (Indexed n) small = small
 bg-known _ small = refl
 
-underline-known : (c : Color) → IsTrue (is_underline c) → are_bytes (underline_parameters c) ≡ true → are_known (underline_parameters c) Nothing ≡ true
+underline-known : (c : Color) → IsTrue (is_underline c) → are_bytes (underline_parameters c) ≡ true
+    → are_known (underline_parameters c) Nothing ≡ true
 unfolding are_known
 underline-known Reset sent small = refl
 underline-known (Rgb r g b) sent small = small
@@ -240,23 +265,28 @@ record IsMidway (sgr : Sgr) (count : ℕ) (t u : Emulator) : Type 0 where
   counted : length (done ++ number ∷ []) ≡ count
 
 -- more parameters of the same sequence
-joins : (sgr next : Sgr) (count : ℕ) (ps : List ℕ) (t u : Emulator) → IsMidway sgr count t u → inks ps (done_with sgr) ≡ done_with next
+joins : (sgr next : Sgr) (count : ℕ) (ps : List ℕ) (t u : Emulator) → IsMidway sgr count t u
+    → inks ps (done_with sgr) ≡ done_with next
     → are_known ps Nothing ≡ true → are_bytes ps ≡ true → IsMidway next (count + length ps) t (feed (semicolons ps) u)
 joins sgr next count ps t u mid inked known small =
     let all = all-after mid.done mid.number ps in
-    let split : mid.done ++ mid.number ∷ ps ≡ (mid.done ++ mid.number ∷ []) ++ ps = sym (append_assoc mid.done (mid.number ∷ []) ps) in
+    let split : mid.done ++ mid.number ∷ ps ≡ (mid.done ++ mid.number ∷ []) ++ ps =
+    sym (append_assoc mid.done (mid.number ∷ []) ps) in
     record {
       done = done_after mid.done mid.number ps;
       number = last_after mid.number ps;
       from = mid.from;
       is = ap (feed (semicolons ps)) mid.is ∙ semicolons-read ps small mid.done mid.number mid.from t;
-      inked = ap (λ xs. inks xs (done_with mid.from)) (all ∙ split) ∙ inks-append (mid.done ++ mid.number ∷ []) ps (done_with mid.from) ∙ ap (inks ps) mid.inked ∙ inked;
-      known = ap (λ xs. are_known xs Nothing) (all ∙ split) ∙ known-append (mid.done ++ mid.number ∷ []) ps Nothing mid.known known;
+      inked = ap (λ xs. inks xs (done_with mid.from)) (all ∙ split) ∙ inks-append (mid.done ++ mid.number ∷ []) ps
+          (done_with mid.from) ∙ ap (inks ps) mid.inked ∙ inked;
+      known = ap (λ xs. are_known xs Nothing) (all ∙ split)
+          ∙ known-append (mid.done ++ mid.number ∷ []) ps Nothing mid.known known;
       counted = ap length (all ∙ split) ∙ length-append (mid.done ++ mid.number ∷ []) ps ∙ ap (λ k. k + length ps) mid.counted;
     }
 
 -- the sequence is closed
-closes : (sgr : Sgr) (count : ℕ) (t u : Emulator) → IsMidway sgr count (rested t) u → count ≤ 16 → feed (109 ∷ []) u ≡ with_sgr sgr (rested t)
+closes : (sgr : Sgr) (count : ℕ) (t u : Emulator) → IsMidway sgr count (rested t) u → count ≤ 16
+    → feed (109 ∷ []) u ≡ with_sgr sgr (rested t)
 unfolding feed
 closes sgr count t u mid few =
     let s : Emulator = rested t in
@@ -292,7 +322,8 @@ reopens sgr next count p ps t u mid few inked known small =
     }
 
 -- a colour, in the same sequence or in another
-colors : (sgr next : Sgr) (count more : ℕ) (ps : List ℕ) (t u : Emulator) → IsMidway sgr count (rested t) u → count ≤ 16 → length ps ≡ more → more ≤ 16
+colors : (sgr next : Sgr) (count more : ℕ) (ps : List ℕ) (t u : Emulator) → IsMidway sgr count (rested t) u → count ≤ 16
+    → length ps ≡ more → more ≤ 16
     → inks ps (done_with sgr) ≡ done_with next → are_known ps Nothing ≡ true → are_bytes ps ≡ true
     → IsMidway next (count_with count more) (rested t) (feed (led (lead_of count more) ps) u) × (count_with count more ≤ 16)
 unfolding feed inks
@@ -304,7 +335,9 @@ colors sgr next count more [] t u mid few long room inked known small =
     (rw (e, ← same) mid, rw e few)
 colors sgr next count more (p ∷ ps) t u mid few long room inked known small =
     elim (is_joined count more) as (λ b. is_joined count more ≡ b
-    → IsMidway next (if b then count + more else more) (rested t) (feed ((if b then 59 ∷ [] else 109 ∷ 27 ∷ 91 ∷ []) ++ (decimal p ++ semicolons ps)) u) × ((if b then count + more else more) ≤ 16)) [
+    → IsMidway next (if b then count + more else more) (rested t)
+    (feed ((if b then 59 ∷ [] else 109 ∷ 27 ∷ 91 ∷ []) ++ (decimal p ++ semicolons ps)) u)
+    × ((if b then count + more else more) ≤ 16)) [
       | true ↦ λ is. (rw (← long) (joins sgr next count (p ∷ ps) (rested t) u mid inked known small), grind (arith, nat_tests))
       | false ↦ λ is. (rw (← long) (reopens sgr next count p ps t u mid few inked known small), room)
     ] refl
@@ -347,7 +380,8 @@ opens t ground = record {
   counted = refl;
 }
 
--- the bytes that set a rendition: the modifiers and the colour of the text in the first sequence, and the other colours where they fit
+-- the bytes that set a rendition: the modifiers and the colour of the text in the first sequence, and the other colours where
+-- they fit
 abbrev pub first_count : Sgr → ℕ
 first_count p = 1 + length (modifier_parameters (bits_of p.modifier)) + color_count p.fg
 
@@ -361,8 +395,10 @@ sgr_bytes p =
     ++ (led (lead_of (second_count p) (color_count p.underline_color)) (underline_parameters p.underline_color) ++ 109 ∷ [])))
 
 -- a rendition that can be sent is read back
-sgr-read : (p : Sgr) (t : Emulator) → bits_of p.modifier < 512 → IsTrue (is_underline p.underline_color) → length (modifier_parameters (bits_of p.modifier)) ≤ 9
-    → are_bytes (modifier_parameters (bits_of p.modifier) ++ color_parameters 30 p.fg) ≡ true → are_bytes (color_parameters 40 p.bg) ≡ true → are_bytes (underline_parameters p.underline_color) ≡ true
+sgr-read : (p : Sgr) (t : Emulator) → bits_of p.modifier < 512 → IsTrue (is_underline p.underline_color)
+    → length (modifier_parameters (bits_of p.modifier)) ≤ 9
+    → are_bytes (modifier_parameters (bits_of p.modifier) ++ color_parameters 30 p.fg) ≡ true
+    → are_bytes (color_parameters 40 p.bg) ≡ true → are_bytes (underline_parameters p.underline_color) ≡ true
     → t.phase ≡ Ground → feed (sgr_bytes p) t ≡ with_sgr p (rested t)
 sgr-read p t bits sent few first second third ground =
     let m = modifier_parameters (bits_of p.modifier) in
@@ -381,10 +417,12 @@ sgr-read p t bits sent few first second third ground =
     (inks-append m f (done_with default_sgr) ∙ ap (inks f) (modifier-inks (bits_of p.modifier) bits) ∙ fg-inks p.fg p1 refl)
     (known-append m f Nothing (modifiers-known (bits_of p.modifier)) (fg-known p.fg parts.1)) first in
     let counted : 1 + length (m ++ f) ≡ first_count p = omega (arith, length-append m f, fs) in
-    let one_counted : IsMidway p2 (first_count p) (rested t) (feed (semicolons (m ++ f)) (feed (27 ∷ 91 ∷ 48 ∷ []) t)) = rw (← counted) one in
+    let one_counted : IsMidway p2 (first_count p) (rested t) (feed (semicolons (m ++ f)) (feed (27 ∷ 91 ∷ 48 ∷ []) t)) =
+    rw (← counted) one in
     let two = colors p2 p3 (first_count p) (color_count p.bg) b t _ one_counted (omega arith) (bg-count p.bg) (omega arith)
     (bg-inks p.bg p2 refl) (bg-known p.bg second) second in
-    let three = colors p3 p (second_count p) (color_count p.underline_color) u t _ two.0 two.1 (underline-count p.underline_color sent) (omega arith)
+    let three = colors p3 p (second_count p) (color_count p.underline_color) u t _ two.0 two.1
+    (underline-count p.underline_color sent) (omega arith)
     (underline-inks p.underline_color p3 sent refl) (underline-known p.underline_color sent third) third in
     let lead_b = led (lead_of (first_count p) (color_count p.bg)) b in
     let lead_u = led (lead_of (second_count p) (color_count p.underline_color)) u in
@@ -396,7 +434,8 @@ sgr-read p t bits sent few first second third ground =
 
 -- the bytes of a rendition that can be sent set it
 pub sgr-sent : (p : Sgr) (old a b c new : List ℕ) → IsTrue (is_sendable p) → length (modifier_parameters (bits_of p.modifier)) ≤ 9
-    → AddsParameters (59 ∷ []) (old ++ (27 ∷ 91 ∷ 48 ∷ [])) a (modifier_parameters (bits_of p.modifier) ++ color_parameters 30 p.fg)
+    → AddsParameters (59 ∷ []) (old ++ (27 ∷ 91 ∷ 48 ∷ [])) a (modifier_parameters (bits_of p.modifier)
+    ++ color_parameters 30 p.fg)
     → AddsParameters (lead_of (first_count p) (color_count p.bg)) a b (color_parameters 40 p.bg)
     → AddsParameters (lead_of (second_count p) (color_count p.underline_color)) b c (underline_parameters p.underline_color)
     → new ≡ c ++ 109 ∷ [] → Performs old new (with_sgr p)
@@ -409,7 +448,8 @@ sgr-sent p old a b c new is few first second third e =
     record {
       bytes = sgr_bytes p;
       appended = after-those old (old ++ (27 ∷ 91 ∷ 48 ∷ [])) new _ _ refl
-          (after-those _ a new _ _ (first.appended ∙ ap (λ ys. (old ++ (27 ∷ 91 ∷ 48 ∷ [])) ++ ys) (led-semicolon mf)) (after-those a b new _ _ second.appended (after-those b c new _ _ third.appended e)));
+          (after-those _ a new _ _ (first.appended ∙ ap (λ ys. (old ++ (27 ∷ 91 ∷ 48 ∷ [])) ++ ys) (led-semicolon mf))
+          (after-those a b new _ _ second.appended (after-those b c new _ _ third.appended e)));
       read = λ t ground. sgr-read p t bits underline few first.small second.small third.small ground;
     }
 
@@ -426,11 +466,13 @@ same_sgr a b e =
     let modifier = same_modifier a.modifier b.modifier three.1 in
     rw (fg, bg, underline, modifier) refl
 
-pub sgr-of-cell : (sgr : Sgr) (cell : Cell) → sgr.fg ≡ cell.fg → sgr.bg ≡ cell.bg → sgr.underline_color ≡ cell.underline_color → sgr.modifier ≡ cell.modifier → sgr ≡ sgr_of cell
+pub sgr-of-cell : (sgr : Sgr) (cell : Cell) → sgr.fg ≡ cell.fg → sgr.bg ≡ cell.bg → sgr.underline_color ≡ cell.underline_color
+    → sgr.modifier ≡ cell.modifier → sgr ≡ sgr_of cell
 sgr-of-cell sgr cell fg bg underline modifier = rw (fg, bg, underline, modifier) refl
 
 pub equal-number : (n : ℕ) → nat_eq n n ≡ true
 equal-number n = grind (arith, nat_tests)
 
 pub same-bits : (sgr : Sgr) (cell : Cell) → sgr ≡ sgr_of cell → nat_eq (bits_of sgr.modifier) (bits_of cell.modifier) ≡ true
-same-bits sgr cell e = ap (λ (p : Sgr). nat_eq (bits_of p.modifier) (bits_of cell.modifier)) e ∙ equal-number (bits_of cell.modifier)
+same-bits sgr cell e = ap (λ (p : Sgr). nat_eq (bits_of p.modifier) (bits_of cell.modifier)) e
+    ∙ equal-number (bits_of cell.modifier)

@@ -1,14 +1,21 @@
 -- Text, read as it is sent.
-use Rattle.std.proofs.Common.{◌≡◌, ℕ, ◌+◌, ◌/◌, ◌%◌, ◌≤◌, ◌&&◌, not, cond, ltb, List, [], ◌∷◌, Bool, true, false, IsTrue, IsUtf8, chars, refl, sym, ap, ◌∙◌, arith, ◌==◌, append_assoc, append-nil, ◌<◌, ◌++◌, length, suc, Some, None, if◌then◌else◌}
+use Rattle.std.proofs.Common.{◌≡◌, ℕ, ◌+◌, ◌/◌, ◌%◌, ◌≤◌, ◌&&◌, not, cond, ltb, List, [], ◌∷◌, Bool, true, false, IsTrue, IsUtf8}
+use Rattle.std.proofs.Common.{chars, refl, sym, ap, ◌∙◌, arith, ◌==◌, append_assoc, append-nil, ◌<◌, ◌++◌, length, suc, Some}
+use Rattle.std.proofs.Common.{None, if◌then◌else◌}
 use Rattle.std.proofs.lemmas.{Bool.and_parts, Bool.and_right, Bool.Decides.nat_tests, List.Folds.list_all-append}
 use lib.Utf8.{encode, encodes}
 use Rattle.std.specs.{List.list_all, List.flat_map, Str.is_utf8}
-use Rattle.std.proofs.lemmas.Str.{chars-nil, chars-encodes, chars_past_char, encodes-chars, IsUtf8-past_char, IsUtf8-from_is_utf8, is_utf8-from_IsUtf8}
+use Rattle.std.proofs.lemmas.Str.{chars-nil, chars-encodes, chars_past_char, encodes-chars, IsUtf8-past_char, IsUtf8-from_is_utf8}
+use Rattle.std.proofs.lemmas.Str.{is_utf8-from_IsUtf8}
 use Rattle.unicode_segmentation.specs.{Grapheme.graphemes, Grapheme.is_grapheme_break, Segments.segments, Segments.cut}
 use Rattle.ratatui_core.specs.Buffer.{blank}
-use Rattle.ansi_model.specs.{Columns.Column, Columns.blank_column, Columns.is_known_column, Columns.Column.Shows, Columns.Column.Unknown, Screens.HasOwnWidth}
-use Rattle.ansi_model.specs.Symbols.{only_of, printed_columns, is_control, is_directional, is_shown, is_plain_char, is_symbol, is_single, begins_anew}
-use Rattle.ansi_model.specs.{Emulator.Emulator, Emulator.rested, Emulator.Phase.Ground, Emulator.Phase.Told, Sequences.feed, Sequences.reads_in, Sequences.is_text, Sends.typed, Commands.shown_char, Commands.shown_text, Commands.title_bytes}
+use Rattle.ansi_model.specs.{Columns.Column, Columns.blank_column, Columns.is_known_column, Columns.Column.Shows}
+use Rattle.ansi_model.specs.{Columns.Column.Unknown, Screens.HasOwnWidth}
+use Rattle.ansi_model.specs.Symbols.{only_of, printed_columns, is_control, is_directional, is_shown, is_plain_char, is_symbol}
+use Rattle.ansi_model.specs.Symbols.{is_single, begins_anew}
+use Rattle.ansi_model.specs.{Emulator.Emulator, Emulator.rested, Emulator.Phase.Ground, Emulator.Phase.Told, Sequences.feed}
+use Rattle.ansi_model.specs.{Sequences.reads_in, Sequences.is_text, Sends.typed, Commands.shown_char, Commands.shown_text}
+use Rattle.ansi_model.specs.{Commands.title_bytes}
 use Rattle.ansi_model.proofs.ReadLemmas.{feed-append}
 
 one-text : (b : ℕ) → is_text b ≡ true → (t : Emulator) → reads_in Ground b t ≡ typed (b ∷ []) t
@@ -31,7 +38,8 @@ text-read (b ∷ bs) all t ground =
 high : (b : ℕ) → 128 ≤ b → is_text b ≡ true
 high b big = grind (arith, nat_tests)
 
-one-of : (p q r : Bool) (ws bs cs ds : List ℕ) → list_all is_text ws ≡ true → list_all is_text bs ≡ true → list_all is_text cs ≡ true → list_all is_text ds ≡ true
+one-of : (p q r : Bool) (ws bs cs ds : List ℕ) → list_all is_text ws ≡ true → list_all is_text bs ≡ true
+    → list_all is_text cs ≡ true → list_all is_text ds ≡ true
     → list_all is_text (cond p ws (cond q bs (cond r cs ds))) ≡ true
 one-of true q r ws bs cs ds a b c d = a
 one-of false true r ws bs cs ds a b c d = b
@@ -106,7 +114,8 @@ and-true false = refl
 pub symbol-text : (text : List ℕ) → IsTrue (is_symbol text) → list_all is_text text ≡ true
 symbol-text text is =
     let e : is_symbol text ≡ true = grind (arith, nat_tests) in
-    let utf8 = and_parts (is_utf8 text) _ (and_parts _ (begins_anew (chars text)) (and_parts _ (is_single (graphemes true text)) e).0).0 in
+    let utf8 = and_parts (is_utf8 text) _ (and_parts _ (begins_anew (chars text))
+    (and_parts _ (is_single (graphemes true text)) e).0).0 in
     ap (list_all is_text) (sym (encodes-chars text (IsUtf8-from_is_utf8 text utf8.0))) ∙ encodes-text (chars text) utf8.1
 
 -- and so are those of a plain character
@@ -121,15 +130,19 @@ unfolding segments cut is_grapheme_break
 one-single text c one = rw one refl
 
 -- what the characters of a text say of it
-pub symbol-then : (text : List ℕ) → IsUtf8 text → begins_anew (chars text) ≡ true → is_symbol text ≡ (list_all is_shown (chars text) && is_single (graphemes true text))
-symbol-then text utf8 begins = rw (is_utf8-from_IsUtf8 text utf8, begins) (ap (λ b. b && is_single (graphemes true text)) (and-true (list_all is_shown (chars text))))
+pub symbol-then : (text : List ℕ) → IsUtf8 text → begins_anew (chars text) ≡ true
+    → is_symbol text ≡ (list_all is_shown (chars text) && is_single (graphemes true text))
+symbol-then text utf8 begins = rw (is_utf8-from_IsUtf8 text utf8, begins) (ap (λ b. b && is_single (graphemes true text))
+    (and-true (list_all is_shown (chars text))))
 
 pub symbol-else : (text : List ℕ) → begins_anew (chars text) ≡ false → is_symbol text ≡ false
-symbol-else text begins = rw begins (ap (λ b. b && is_single (graphemes true text)) (and_right (is_utf8 text && list_all is_shown (chars text)) false refl))
+symbol-else text begins = rw begins (ap (λ b. b && is_single (graphemes true text))
+    (and_right (is_utf8 text && list_all is_shown (chars text)) false refl))
 
 -- ---- the character of a text that has only one
 
-pub only-first : (text rest : List ℕ) (c : ℕ) → IsUtf8 text → text ≡ encode c ++ rest → length rest ≡ 0 → Some c ≡ only_of (chars text)
+pub only-first : (text rest : List ℕ) (c : ℕ) → IsUtf8 text → text ≡ encode c ++ rest → length rest ≡ 0
+    → Some c ≡ only_of (chars text)
 only-first text [] c utf8 e none = rw (chars_past_char text [] c utf8 e, chars-nil) refl
 only-first text (b ∷ bs) c utf8 e none = let some : length (b ∷ bs) ≡ suc (length bs) = refl in absurd (omega arith)
 
@@ -137,9 +150,11 @@ two-or-more : (c : ℕ) (cs rest : List ℕ) → encodes cs ≡ rest → 0 < len
 two-or-more c [] rest e some = let none : length rest ≡ 0 = ap length (sym e) in absurd (omega arith)
 two-or-more c (d ∷ cs) rest e some = refl
 
-pub only-more : (text rest : List ℕ) (c : ℕ) → IsUtf8 text → text ≡ encode c ++ rest → 0 < length rest → None ≡ only_of (chars text)
+pub only-more : (text rest : List ℕ) (c : ℕ) → IsUtf8 text → text ≡ encode c ++ rest → 0 < length rest
+    → None ≡ only_of (chars text)
 only-more text rest c utf8 e some =
-    rw (chars_past_char text rest c utf8 e) (two-or-more c (chars rest) rest (encodes-chars rest (IsUtf8-past_char text rest c utf8 e)) some)
+    rw (chars_past_char text rest c utf8 e)
+    (two-or-more c (chars rest) rest (encodes-chars rest (IsUtf8-past_char text rest c utf8 e)) some)
 
 pub only-none : (text : List ℕ) → length text ≡ 0 → None ≡ only_of (chars text)
 only-none [] none = rw chars-nil refl

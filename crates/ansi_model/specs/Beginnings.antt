@@ -2,10 +2,13 @@
 use Rattle.std.specs.Prelude.{◌≡◌, ◌⊎◌, ℕ, ◌-◌, ◌≤◌, true, List, [], ◌++◌, map, Some, None}
 use Rattle.std.specs.List.{range_with_len}
 use Rattle.ratatui_core.specs.Buffer.{Look}
-use Rattle.ansi_model.specs.{Columns.Columns, Columns.blank_column, Columns.is_known_column, Emulator.Emulator, Emulator.blank_terminal, Emulator.row_shown, Emulator.with_sgr, Emulator.Phase.Ground, Modes.no_modes, Sgr.default_sgr, Sequences.feed, Windows.alternate_of, Windows.feed_window}
+use Rattle.ansi_model.specs.{Columns.Columns, Columns.blank_column, Columns.is_known_column}
+use Rattle.ansi_model.specs.{Emulator.Emulator, Emulator.blank_terminal, Emulator.row_shown}
+use Rattle.ansi_model.specs.{Emulator.with_sgr, Emulator.Phase.Ground, Modes.no_modes, Sgr.default_sgr}
+use Rattle.ansi_model.specs.{Sequences.feed, Windows.alternate_of, Windows.feed_window}
 
--- a terminal of this size as another program may have left it, whatever its rendition, margins, modes, cursor and contents: it isn't in the middle
--- of a sequence, and nothing stands off its screen
+-- a terminal of this size as another program may have left it, whatever its rendition, margins, modes, cursor
+-- and contents: it isn't in the middle of a sequence, and nothing stands off its screen
 pub record IsAsFound (w h : ℕ) (t : Emulator) : Type 0 where
   pub phase : t.phase ≡ Ground
   pub text : t.text ≡ []
@@ -29,7 +32,8 @@ without_modes t = record t { modes = no_modes; x = 0; y = 0 }
 pub record MakesBlank (w h : ℕ) (old new : List ℕ) : Type 0 where
   pub bytes : List ℕ
   pub appended : new ≡ old ++ bytes
-  pub made : (t : Emulator) → IsAsFound w h t → feed bytes (anew t) ≡ record (blank_terminal w h) { history = t.history }
+  pub made : (t : Emulator) → IsAsFound w h t
+      → feed bytes (anew t) ≡ record (blank_terminal w h) { history = t.history }
 
 -- it is known what stands in each column, as it is of every real terminal
 abbrev pub AreKnown : Columns → Type 0
@@ -43,16 +47,22 @@ screen_rows t = map (row_shown t) (range_with_len 0 t.height)
 abbrev pub scrolled_off : ℕ → ℕ → List (List Look) → Emulator → Emulator
 scrolled_off w h rows t = record (blank_terminal w h) { history = rows; y = h - 1; visible = t.visible }
 
--- bytes were appended that scroll the screen of each terminal of this size into its history, however it was left
+-- bytes were appended that scroll the screen of each terminal of this size into its history, however it was
+-- left
 pub record SavesScreen (w h : ℕ) (old new : List ℕ) : Type 0 where
   pub bytes : List ℕ
   pub appended : new ≡ old ++ bytes
-  pub saved : (t : Emulator) → IsAsFound w h t → AreKnown t.columns → feed bytes (anew t) ≡ scrolled_off w h (t.history ++ screen_rows t) t
+  pub saved : (t : Emulator) → IsAsFound w h t → AreKnown t.columns
+      → feed bytes (anew t) ≡ scrolled_off w h (t.history ++ screen_rows t) t
 
--- bytes were appended that put the main screen of each window of this size aside, however it was left, and show a blank one
+-- bytes were appended that put the main screen of each window of this size aside, however it was left, and
+-- show a blank one
 pub record OpensAlternate (w h : ℕ) (old new : List ℕ) : Type 0 where
   pub bytes : List ℕ
   pub appended : new ≡ old ++ bytes
   pub opened : (main : Emulator) → IsAsFound w h main
       → let own : Emulator = with_sgr default_sgr (anew main) in
-      feed_window bytes (record { shown = anew main; aside = None }) ≡ record { shown = alternate_of own; aside = Some own }
+      feed_window bytes (record { shown = anew main; aside = None }) ≡ record {
+        shown = alternate_of own;
+        aside = Some own;
+      }

@@ -1,10 +1,17 @@
 -- What is sent to a terminal that changes nothing on its screen.
 use Rattle.std.specs.Prelude.{◌≡◌, ℕ, List, [], ◌∷◌, ◌++◌, codes, chars, encode_utf8, if◌then◌else◌}
 use Rattle.std.specs.List.{flat_map}
-use Rattle.ansi_model.specs.{declared.command.Command.Command, declared.command.SetCursorStyle.SetCursorStyle, Symbols.is_shown}
-use Rattle.ansi_model.specs.declared.command.Command.TheVariants.{EnableMouseCapture, DisableMouseCapture, EnableBracketedPaste, DisableBracketedPaste, EnableFocusChange, DisableFocusChange, AskCursorPosition}
+use Rattle.ansi_model.specs.{declared.command.Command.Command, declared.command.SetCursorStyle.SetCursorStyle}
+use Rattle.ansi_model.specs.{Symbols.is_shown}
+use Rattle.ansi_model.specs.declared.command.Command.TheVariants.{EnableMouseCapture, DisableMouseCapture}
+use Rattle.ansi_model.specs.declared.command.Command.TheVariants.{EnableBracketedPaste, DisableBracketedPaste}
+use Rattle.ansi_model.specs.declared.command.Command.TheVariants.{EnableFocusChange, DisableFocusChange}
+use Rattle.ansi_model.specs.declared.command.Command.TheVariants.{AskCursorPosition}
 use Rattle.ansi_model.specs.declared.command.Command.TheVariants as Asked
-use Rattle.ansi_model.specs.declared.command.SetCursorStyle.TheVariants.{DefaultUserShape, BlinkingBlock, SteadyBlock, BlinkingUnderScore, SteadyUnderScore, BlinkingBar, SteadyBar}
+use Rattle.ansi_model.specs.declared.command.SetCursorStyle.TheVariants.{DefaultUserShape, BlinkingBlock}
+use Rattle.ansi_model.specs.declared.command.SetCursorStyle.TheVariants.{SteadyBlock, BlinkingUnderScore}
+use Rattle.ansi_model.specs.declared.command.SetCursorStyle.TheVariants.{SteadyUnderScore, BlinkingBar}
+use Rattle.ansi_model.specs.declared.command.SetCursorStyle.TheVariants.{SteadyBar}
 
 -- ESC and a text
 abbrev pub with_escape : List ℕ → List ℕ
@@ -22,8 +29,12 @@ style_digit SteadyBar = codes "6"
 
 -- the mouse is told by the modes 1000, 1002, 1003 and 1006, pastes by 2004, the focus by 1004
 abbrev pub command_bytes : Command → List ℕ
-command_bytes EnableMouseCapture = with_escape (codes "[?1000h") ++ (with_escape (codes "[?1002h") ++ (with_escape (codes "[?1003h") ++ with_escape (codes "[?1006h")))
-command_bytes DisableMouseCapture = with_escape (codes "[?1006l") ++ (with_escape (codes "[?1003l") ++ (with_escape (codes "[?1002l") ++ with_escape (codes "[?1000l")))
+command_bytes EnableMouseCapture =
+    with_escape (codes "[?1000h") ++
+    (with_escape (codes "[?1002h") ++ (with_escape (codes "[?1003h") ++ with_escape (codes "[?1006h")))
+command_bytes DisableMouseCapture =
+    with_escape (codes "[?1006l") ++
+    (with_escape (codes "[?1003l") ++ (with_escape (codes "[?1002l") ++ with_escape (codes "[?1000l")))
 command_bytes EnableBracketedPaste = with_escape (codes "[?2004h")
 command_bytes DisableBracketedPaste = with_escape (codes "[?2004l")
 command_bytes EnableFocusChange = with_escape (codes "[?1004h")
@@ -43,7 +54,8 @@ shown_text text = flat_map shown_char (chars text)
 abbrev pub title_bytes : List ℕ → List ℕ
 title_bytes title = with_escape (codes "]2;") ++ (shown_text title ++ with_escape (92 ∷ []))
 
--- asks for the place of the last column and row: CUP goes as far down and right as there is room, and DSR asks there
+-- asks for the place of the last column and row: CUP goes as far down and right as there is room, and DSR
+-- asks there
 abbrev pub size_question : List ℕ
 size_question = with_escape (codes "[65535;65535H") ++ with_escape (codes "[6n")
 

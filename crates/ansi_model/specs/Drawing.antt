@@ -1,8 +1,10 @@
 -- What a symbol put in its place does to the terminal that reads it.
-use Rattle.std.specs.Prelude.{◌≡◌, ℕ, ◌+◌, zero, suc, ◌&&◌, Bool, true, false, IfSome, List, ◌++◌, ◌==◌, chars, IsUtf8, Option, Some, None}
+use Rattle.std.specs.Prelude.{◌≡◌, ℕ, ◌+◌, zero, suc, ◌&&◌, Bool, true, false, IfSome, List, ◌++◌, ◌==◌}
+use Rattle.std.specs.Prelude.{chars, IsUtf8, Option, Some, None}
 use Rattle.std.specs.List.{list_all}
 use Rattle.ratatui_core.specs.{Layout.Position, Buffer.blank}
-use Rattle.ansi_model.specs.{declared.sgr.Sgr.Sgr, declared.pen.Pen.Pen, Sgr.default_sgr, Symbols.is_plain_char, Symbols.printed_columns, Emulator.Phase.Ground}
+use Rattle.ansi_model.specs.{declared.sgr.Sgr.Sgr, declared.pen.Pen.Pen, Sgr.default_sgr}
+use Rattle.ansi_model.specs.{Symbols.is_plain_char, Symbols.printed_columns, Emulator.Phase.Ground}
 use Rattle.ansi_model.specs.Emulator.{Emulator, rested, prints, prints_disputed, with_sgr}
 use Rattle.ansi_model.specs.{Sequences.feed, Sends.Performs, Modes.no_modes}
 
@@ -38,12 +40,16 @@ is_at x y pen = is_place x y pen.at
 abbrev pub drawn_at : ℕ → ℕ → Sgr → Emulator → Emulator
 drawn_at x y sgr t = record t { x = x; y = y; sgr = sgr }
 
--- bytes were appended that do this to each terminal of this size that is drawn by a pen, and leave it drawn by another one
-pub record Paints (w h : ℕ) (old : List ℕ) (before : Pen) (effect : Emulator → Emulator) (new : List ℕ) (after : Pen) : Type 0 where
+-- bytes were appended that do this to each terminal of this size that is drawn by a pen, and leave it drawn
+-- by another one
+pub record Paints (w h : ℕ) (old : List ℕ) (before : Pen) (effect : Emulator → Emulator) (new : List ℕ)
+    (after : Pen) : Type 0 where
   pub bytes : List ℕ
   pub appended : new ≡ old ++ bytes
-  pub drawn : (t : Emulator) → (rested t).width ≡ w → (rested t).height ≡ h → IsDrawnBy before t → IsDrawnBy after (feed bytes t)
-  pub printed : (t : Emulator) → (rested t).width ≡ w → (rested t).height ≡ h → IsDrawnBy before t → rested (feed bytes t) ≡ effect (rested t)
+  pub drawn : (t : Emulator) → (rested t).width ≡ w → (rested t).height ≡ h → IsDrawnBy before t
+      → IsDrawnBy after (feed bytes t)
+  pub printed : (t : Emulator) → (rested t).width ≡ w → (rested t).height ≡ h → IsDrawnBy before t
+      → rested (feed bytes t) ≡ effect (rested t)
 
 -- a symbol printed in a column and a row, in a rendition
 abbrev pub printed_at : ℕ → ℕ → Sgr → List ℕ → Emulator → Emulator
@@ -53,7 +59,8 @@ printed_at x y sgr symbol t = prints symbol (printed_columns symbol) (drawn_at x
 abbrev pub disputed_at : ℕ → ℕ → Sgr → List ℕ → Emulator → Emulator
 disputed_at x y sgr symbol t = prints_disputed symbol (printed_columns symbol) (drawn_at x y sgr t)
 
--- bytes were appended that print a symbol in a column and a row of a screen of this size, in a rendition, and nothing else
+-- bytes were appended that print a symbol in a column and a row of a screen of this size, in a rendition, and
+-- nothing else
 abbrev pub Prints : ℕ → ℕ → List ℕ → Pen → ℕ → ℕ → Sgr → List ℕ → List ℕ → Pen → Type 0
 Prints w h old before x y sgr symbol new after = Paints w h old before (printed_at x y sgr symbol) new after
 

@@ -1,17 +1,23 @@
 -- A model terminal: what it shows, and what each of its actions does.
-use Rattle.std.specs.Prelude.{ℕ, ◌+◌, ◌-◌, ◌&&◌, min, nat_lt, nat_le, nat_eq, ◌==◌, Bool, true, false, if◌then◌else◌, List, [], ◌∷◌, ◌++◌, map, zero, suc, chars, encode_utf8}
+use Rattle.std.specs.Prelude.{ℕ, ◌+◌, ◌-◌, ◌&&◌, min, nat_lt, nat_le, nat_eq, ◌==◌, Bool, true, false}
+use Rattle.std.specs.Prelude.{if◌then◌else◌, List, [], ◌∷◌, ◌++◌, map, zero, suc, chars, encode_utf8}
 use Rattle.std.specs.{List.list_all, List.range_with_len, Str.bytes_eq}
 use Rattle.ratatui_core.specs.Buffer.{Look, text_width, blank}
 use Rattle.ratatui_core.specs.Style.{Color, bits_of}
-use Rattle.ansi_model.specs.{declared.sgr.Sgr.Sgr, Sgr.default_sgr, Sgr.inked, Sgr.is_own, Symbols.is_plain_char, Symbols.is_symbol, Symbols.is_disputed, Parameters.color_parameters}
-use Rattle.ratatui_core.specs.Backend.{ClearType, All, AfterCursor, is_cleared, Motion, moved_by, scrolling_up, scrolling_down}
+use Rattle.ansi_model.specs.{declared.sgr.Sgr.Sgr, Sgr.default_sgr, Sgr.inked, Sgr.is_own}
+use Rattle.ansi_model.specs.{Symbols.is_plain_char, Symbols.is_symbol, Symbols.is_disputed}
+use Rattle.ansi_model.specs.{Parameters.color_parameters}
+use Rattle.ratatui_core.specs.Backend.{ClearType, All, AfterCursor, is_cleared, Motion, moved_by}
+use Rattle.ratatui_core.specs.Backend.{scrolling_up, scrolling_down}
 use Rattle.ansi_model.specs.Modes.{Modes, no_modes, has_none}
 use Rattle.ansi_model.specs.Columns.Column.{Shows, Unknown}
-use Rattle.ansi_model.specs.Columns.{Column, Columns, Area, blank_column, look_in, is_known_column, overwritten}
+use Rattle.ansi_model.specs.Columns.{Column, Columns, Area, blank_column, look_in, is_known_column}
+use Rattle.ansi_model.specs.Columns.{overwritten}
 
--- what the next byte belongs to: text, a sequence that just began, one that is at its first parameter or its mark, or one with a mark, some
--- parameters and the number at hand, or one with its parameters and a blank after them; or one that sets G0, or the coding; or a string for the
--- operating system. One that was told to show its other screen waits until it does (Windows)
+-- what the next byte belongs to: text, a sequence that just began, one that is at its first parameter or its
+-- mark, or one with a mark, some parameters and the number at hand, or one with its parameters and a blank
+-- after them; or one that sets G0, or the coding; or a string for the operating system. One that was told to
+-- show its other screen waits until it does (Windows)
 pub data Phase : Type 0 where
   Ground : Phase
   Escape : Phase
@@ -23,8 +29,9 @@ pub data Phase : Type 0 where
   Told : Phase
   Switching : (alternate : Bool) → Phase
 
--- a terminal: `text` is what it has read since the last sequence; a cursor in column `width` is after the last one; line feeds scroll the
--- rows from `top` up to `bottom`, its scroll region. Once it isn't sure, real terminals differ
+-- a terminal: `text` is what it has read since the last sequence; a cursor in column `width` is after the
+-- last one; line feeds scroll the rows from `top` up to `bottom`, its scroll region. Once it isn't sure, real
+-- terminals differ
 pub record Emulator : Type 0 where
   pub width : ℕ
   pub height : ℕ
@@ -71,15 +78,17 @@ is_same_color a b = bytes_eq (color_parameters 30 a) (color_parameters 30 b)
 abbrev pub is_blank_in : Sgr → Column → Bool
 is_blank_in sgr (Shows look index count) =
     bytes_eq look.symbol blank && is_same_color look.fg sgr.fg && is_same_color look.bg sgr.bg
-    && is_same_color look.underline_color sgr.underline_color && (bits_of look.modifier == bits_of sgr.modifier) && (count == 1)
+    && is_same_color look.underline_color sgr.underline_color &&
+    (bits_of look.modifier == bits_of sgr.modifier) && (count == 1)
 is_blank_in sgr Unknown = false
 
 -- whether n columns from the cursor on show blanks in the rendition
 abbrev pub are_blank : ℕ → Emulator → Bool
 are_blank n t = list_all (λ a. is_blank_in t.sgr (t.columns a t.y)) (range_with_len t.x n)
 
--- a symbol of n columns of which some terminals print no more than the first one: all look alike if there were blanks before. They differ on
--- the cursor then, so it is taken to be after the last column, where nothing is sure until it moves
+-- a symbol of n columns of which some terminals print no more than the first one: all look alike if there
+-- were blanks before. They differ on the cursor then, so it is taken to be after the last column, where
+-- nothing is sure until it moves
 abbrev pub prints_disputed : List ℕ → ℕ → Emulator → Emulator
 prints_disputed symbol n t = record (prints symbol n (if_so (are_blank n t) t)) { x = t.width }
 
@@ -183,7 +192,8 @@ with_region top bottom t = record t {
 abbrev pub without_region : Emulator → Emulator
 without_region t = record t { top = 0; bottom = t.height; x = 0; y = 0 }
 
--- the rows of the region one up; the first row goes to the history. Terminals differ on that if the region begins below the first row
+-- the rows of the region one up; the first row goes to the history. Terminals differ on that if the region
+-- begins below the first row
 abbrev pub scrolled : Emulator → Emulator
 scrolled t = record t {
   history = t.history ++ row_shown t 0 ∷ [];
@@ -202,16 +212,16 @@ abbrev pub fed : ℕ → Emulator → Emulator
 fed zero t = t
 fed (suc n) t = fed n (line_fed t)
 
--- DL (delete line): n rows from the cursor's on go, those below in the region move up. Terminals differ on the history in the first row, and
--- on where the cursor ends in another column than the first
+-- DL (delete line): n rows from the cursor's on go, those below in the region move up. Terminals differ on
+-- the history in the first row, and on where the cursor ends in another column than the first
 abbrev pub lines_deleted : ℕ → Emulator → Emulator
 lines_deleted n t = record t {
   columns = columns_moved (scrolling_up t.y t.bottom n) t.columns;
   sure = t.sure && (is_own t.sgr && nat_lt 0 t.y && nat_le t.top t.y && nat_lt t.y t.bottom && nat_eq t.x 0);
 }
 
--- IL (insert line): n blank rows come in at the cursor's row, those from there on in the region move down. Terminals differ on where the cursor
--- ends in another column than the first
+-- IL (insert line): n blank rows come in at the cursor's row, those from there on in the region move down.
+-- Terminals differ on where the cursor ends in another column than the first
 abbrev pub lines_inserted : ℕ → Emulator → Emulator
 lines_inserted n t = record t {
   columns = columns_moved (scrolling_down t.y t.bottom n) t.columns;

@@ -12,7 +12,8 @@ pub record AreContinuations (w h : ℕ) (flags : List Bool) (columns : Columns) 
   pub count : length flags ≡ w * h
   pub each : (a b : ℕ) → a < w → b < h → flag flags (b * w + a) ≡ is_continuation (columns a b)
 
--- whether erasing a part, for a cursor in column x of row y, would leave a piece of a symbol, by the flags of rows of w columns
+-- whether erasing a part, for a cursor in column x of row y, would leave a piece of a symbol, by the flags of
+-- rows of w columns
 abbrev pub is_cut : ClearType → ℕ → ℕ → ℕ → List Bool → Bool
 is_cut AfterCursor w x y flags = flag flags (y * w + x)
 is_cut BeforeCursor w x y flags = nat_lt (x + 1) w && flag flags (y * w + (x + 1))

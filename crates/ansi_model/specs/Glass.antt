@@ -1,4 +1,5 @@
--- What a terminal shows on its glass of what stands in its columns: some reorder the rows that have letters written from the right.
+-- What a terminal shows on its glass of what stands in its columns: some reorder the rows that have letters
+-- written from the right.
 use Rattle.std.specs.Prelude.{◌≡◌, ℕ, ◌<◌, ◌||◌, Bool, false, chars}
 use Rattle.std.specs.List.{list_any}
 use Rattle.ucd_bidi.specs.BidiClass.{bidi_class, bidi_class_eq}
@@ -17,7 +18,8 @@ has_from_right look = list_any is_from_right (chars look.symbol)
 abbrev pub IsStraight : ℕ → Grid → ℕ → Type 0
 IsStraight w grid y = (x : ℕ) → x < w → has_from_right (grid x y) ≡ false
 
--- a terminal of so many columns may show this on its glass: each row without such letters as it stands. Of the others nothing is said, and of none
--- while a synchronized update is held
+-- a terminal of so many columns may show this on its glass: each row without such letters as it stands. Of
+-- the others nothing is said, and of none while a synchronized update is held
 pub record MayShow (held : Bool) (w : ℕ) (columns : Columns) (glass : Grid) : Type 0 where
-  pub straight : held ≡ false → (x y : ℕ) → IsStraight w (λ a b. look_in (columns a b)) y → x < w → glass x y ≡ look_in (columns x y)
+  pub straight : held ≡ false → (x y : ℕ) → IsStraight w (λ a b. look_in (columns a b)) y → x < w
+      → glass x y ≡ look_in (columns x y)

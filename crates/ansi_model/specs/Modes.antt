@@ -1,8 +1,9 @@
 -- Modes that other programs may leave set, and that change how a terminal takes text or shows it.
 use Rattle.std.specs.Prelude.{◌||◌, not, Bool, false}
 
--- IRM (text shifts what stands after it), DECOM (places count from the margins), DECLRMM (margins at the sides), DECAWM reset (text doesn't wrap),
--- a synchronized update (what is printed stands, but isn't shown yet), SO and another set than ASCII as G0 (other letters are shown), and another coding than UTF-8
+-- IRM (text shifts what stands after it), DECOM (places count from the margins), DECLRMM (margins at the
+-- sides), DECAWM reset (text doesn't wrap), a synchronized update (what is printed stands, but isn't shown
+-- yet), SO and another set than ASCII as G0 (other letters are shown), and another coding than UTF-8
 pub record Modes : Type 0 where
   pub inserts : Bool
   pub origin : Bool

@@ -1,7 +1,10 @@
 -- The parameters that set a rendition.
-use Rattle.std.specs.Prelude.{◌≡◌, ℕ, ◌+◌, ◌==◌, ◌&&◌, ◌||◌, nat_lt, nat_le, Bool, true, false, if◌then◌else◌, List, [], ◌∷◌, ◌++◌}
+use Rattle.std.specs.Prelude.{◌≡◌, ℕ, ◌+◌, ◌==◌, ◌&&◌, ◌||◌, nat_lt, nat_le, Bool, true, false, if◌then◌else◌}
+use Rattle.std.specs.Prelude.{List, [], ◌∷◌, ◌++◌}
 use Rattle.std.specs.{Int.RustNames.bit_and, List.list_all, List.flat_map, Fmt.decimal}
-use Rattle.ratatui_core.specs.Style.{Color, Reset, Black, Red, Green, Yellow, Blue, Magenta, Cyan, Gray, DarkGray, LightRed, LightGreen, LightYellow, LightBlue, LightMagenta, LightCyan, White, Rgb, Indexed, bits_of}
+use Rattle.ratatui_core.specs.Style.{Color, Reset, Black, Red, Green, Yellow, Blue, Magenta, Cyan, Gray}
+use Rattle.ratatui_core.specs.Style.{DarkGray, LightRed, LightGreen, LightYellow, LightBlue, LightMagenta}
+use Rattle.ratatui_core.specs.Style.{LightCyan, White, Rgb, Indexed, bits_of}
 use Rattle.ansi_model.specs.{Sgr.is_default_color, Sgr.most_parameters, declared.sgr.Sgr.Sgr}
 
 -- of a colour: those of the text count from 30, those of the background from 40
@@ -85,7 +88,8 @@ color_count _ = 1
 abbrev pub is_joined : ℕ → ℕ → Bool
 is_joined count more = nat_le (count + more) most_parameters
 
--- what stands before them: a semicolon, or else what closes the sequence and begins another, which is m, ESC and [
+-- what stands before them: a semicolon, or else what closes the sequence and begins another, which is m, ESC
+-- and [
 abbrev pub lead_of : ℕ → ℕ → List ℕ
 lead_of count more = if is_joined count more then 59 ∷ [] else 109 ∷ 27 ∷ 91 ∷ []
 

@@ -1,8 +1,10 @@
--- What a terminal shows, as the backends' contract speaks of it, and when it is ready for a call of a backend.
+-- What a terminal shows, as the backends' contract speaks of it, and when it is ready for a call of a
+-- backend.
 use Rattle.std.specs.Prelude.{◌≡◌, ℕ, ◌+◌, ◌-◌, ◌<◌, ◌≤◌, min, Bool, true, false, List, [], ◌++◌}
 use Rattle.ratatui_core.specs.{Buffer.Look, Backend.Screen}
 use Rattle.ansi_model.specs.Columns.{Column, Columns, blank_column, look_in, is_continuation, overwritten}
-use Rattle.ansi_model.specs.{Columns.Column.Shows, Columns.Column.Unknown, Sgr.default_sgr, declared.sgr.Sgr.Sgr, Emulator.Phase.Ground, Sequences.feed}
+use Rattle.ansi_model.specs.{Columns.Column.Shows, Columns.Column.Unknown, Sgr.default_sgr}
+use Rattle.ansi_model.specs.{declared.sgr.Sgr.Sgr, Emulator.Phase.Ground, Sequences.feed}
 use Rattle.ansi_model.specs.Emulator.{Emulator, Phase, rested, run}
 use Rattle.ansi_model.specs.Modes.{Modes, no_modes}
 use Rattle.ansi_model.specs.Symbols.{printed_columns}
@@ -31,7 +33,8 @@ HaveOwnWidths columns = (a b : ℕ) → HasOwnWidth (columns a b)
 
 -- of what stands in column a of a row the whole symbol stands there
 abbrev pub IsWholeAt : (ℕ → Column) → ℕ → Column → Type 0
-IsWholeAt row a (Shows look index count) = (index < count) × (index ≤ a) × ((j : ℕ) → j < count → row ((a - index) + j) ≡ Shows look j count)
+IsWholeAt row a (Shows look index count) = (index < count) × (index ≤ a)
+    × ((j : ℕ) → j < count → row ((a - index) + j) ≡ Shows look j count)
 IsWholeAt row a Unknown = Unit {0}
 
 -- no symbol is cut
@@ -42,14 +45,17 @@ IsWhole columns = (a b : ℕ) → IsWholeAt (λ k. columns k b) a (columns a b)
 abbrev pub IsBlankBeyond : ℕ → Columns → Type 0
 IsBlankBeyond w columns = (a b : ℕ) → w ≤ a → columns a b ≡ blank_column
 
--- what may stand in the columns of a screen so wide: symbols in their own widths, none of them cut, and nothing right of the screen
+-- what may stand in the columns of a screen so wide: symbols in their own widths, none of them cut, and
+-- nothing right of the screen
 pub record IsTidy (w : ℕ) (columns : Columns) : Type 0 where
   pub sized : HaveOwnWidths columns
   pub whole : IsWhole columns
   pub beyond : IsBlankBeyond w columns
 
--- a terminal of this size awaits text and is sure, in its default rendition, without margins and in no mode that changes how it takes text
-pub record IsResting (w h : ℕ) (at : Phase) (read : List ℕ) (wide high : ℕ) (own : Sgr) (first end : ℕ) (set : Modes) (agreed : Bool) : Type 0 where
+-- a terminal of this size awaits text and is sure, in its default rendition, without margins and in no mode
+-- that changes how it takes text
+pub record IsResting (w h : ℕ) (at : Phase) (read : List ℕ) (wide high : ℕ) (own : Sgr) (first end : ℕ)
+    (set : Modes) (agreed : Bool) : Type 0 where
   pub phase : at ≡ Ground
   pub text : read ≡ []
   pub width : wide ≡ w
@@ -66,13 +72,15 @@ pub record IsIdle (w h : ℕ) (t : Emulator) : Type 0 where
   pub row : t.y < h
   pub tidy : IsTidy w t.columns
 
--- bytes were appended that leave each terminal ready that was so once its text stands, and related to what it was
+-- bytes were appended that leave each terminal ready that was so once its text stands, and related to what it
+-- was
 pub record Turns (w h : ℕ) (old new : List ℕ) (related : Emulator → Emulator → Type 0) : Type 0 where
   pub bytes : List ℕ
   pub appended : new ≡ old ++ bytes
   pub phase : (t : Emulator) → t.phase ≡ Ground → IsIdle w h (rested t) → (feed bytes t).phase ≡ Ground
   pub ready : (t : Emulator) → t.phase ≡ Ground → IsIdle w h (rested t) → IsIdle w h (rested (feed bytes t))
-  pub turned : (t : Emulator) → t.phase ≡ Ground → IsIdle w h (rested t) → related (rested t) (rested (feed bytes t))
+  pub turned : (t : Emulator) → t.phase ≡ Ground → IsIdle w h (rested t)
+      → related (rested t) (rested (feed bytes t))
 
 -- a terminal's screen is related so to that of another, which it was, and these columns stand now
 pub record Becomes (related : Screen → Screen → Type 0) (standing : Columns) (s t : Emulator) : Type 0 where

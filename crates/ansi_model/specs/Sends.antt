@@ -1,6 +1,7 @@
 -- What appended bytes do to each terminal that reads them.
 use Rattle.std.specs.Prelude.{◌≡◌, ℕ, List, ◌++◌, true, false}
-use Rattle.ansi_model.specs.{Emulator.Emulator, Emulator.rested, Emulator.holding, Emulator.Phase.Ground, Sequences.feed}
+use Rattle.ansi_model.specs.{Emulator.Emulator, Emulator.rested, Emulator.holding, Emulator.Phase.Ground}
+use Rattle.ansi_model.specs.{Sequences.feed}
 
 -- bytes were appended that do this to each terminal that awaits text
 pub record Sends (old new : List ℕ) (effect : Emulator → Emulator) : Type 0 where

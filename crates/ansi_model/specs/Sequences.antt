@@ -1,18 +1,24 @@
 -- How a terminal reads bytes: text, and the sequences by their standard names.
-use Rattle.std.specs.Prelude.{ℕ, ◌+◌, ◌-◌, ◌*◌, ◌==◌, ◌&&◌, ◌||◌, not, nat_le, Bool, true, false, if◌then◌else◌, List, [], ◌∷◌, ◌++◌, length}
+use Rattle.std.specs.Prelude.{ℕ, ◌+◌, ◌-◌, ◌*◌, ◌==◌, ◌&&◌, ◌||◌, not, nat_le, Bool, true, false}
+use Rattle.std.specs.Prelude.{if◌then◌else◌, List, [], ◌∷◌, ◌++◌, length}
 use Rattle.ansi_model.specs.{Sgr.inks, Sgr.are_known, Sgr.most_parameters, Sgr.Awaits.Nothing}
-use Rattle.ansi_model.specs.Emulator.{Emulator, Phase, if_so, unsure, rested, cursor_moved, returned, cursor_shown, with_modes, holding, with_sgr, erased, with_region, without_region, line_fed, lines_deleted, lines_inserted}
-use Rattle.ansi_model.specs.Emulator.Phase.{Ground, Escape, Opened, Sequence, Spaced, Letters, Coding, Told, Switching}
+use Rattle.ansi_model.specs.Emulator.{Emulator, Phase, if_so, unsure, rested, cursor_moved, returned}
+use Rattle.ansi_model.specs.Emulator.{cursor_shown, with_modes, holding, with_sgr, erased, with_region}
+use Rattle.ansi_model.specs.Emulator.{without_region, line_fed, lines_deleted, lines_inserted}
+use Rattle.ansi_model.specs.Emulator.Phase.{Ground, Escape, Opened, Sequence, Spaced, Letters, Coding, Told}
+use Rattle.ansi_model.specs.Emulator.Phase.{Switching}
 use Rattle.ratatui_core.specs.Backend.{All, AfterCursor, BeforeCursor, CurrentLine, UntilNewLine}
 
 -- ED
 abbrev pub performs_ED : List ℕ → Emulator → Emulator
-performs_ED (n ∷ []) t = if n == 0 then erased AfterCursor t else (if n == 1 then erased BeforeCursor t else (if n == 2 then erased All t else unsure t))
+performs_ED (n ∷ []) t = if n == 0 then erased AfterCursor t else (if n == 1 then erased BeforeCursor t else
+    (if n == 2 then erased All t else unsure t))
 performs_ED _ t = unsure t
 
 -- EL
 abbrev pub performs_EL : List ℕ → Emulator → Emulator
-performs_EL (n ∷ []) t = if n == 0 then erased UntilNewLine t else (if n == 2 then erased CurrentLine t else unsure t)
+performs_EL (n ∷ []) t = if n == 0 then erased UntilNewLine t else
+    (if n == 2 then erased CurrentLine t else unsure t)
 performs_EL _ t = unsure t
 
 -- CUP: the row and the column, counted from 1
@@ -63,17 +69,20 @@ performs parameters final t =
     if final == 72 then performs_CUP parameters t
     else (if final == 109 then performs_SGR parameters t
     else (if final == 74 then performs_ED parameters t else (if final == 75 then performs_EL parameters t
-    else (if final == 114 then performs_DECSTBM parameters t else (if final == 77 then performs_DL parameters t
+    else (if final == 114 then performs_DECSTBM parameters t else
+    (if final == 77 then performs_DL parameters t
     else (if final == 76 then performs_IL parameters t
-    else (if final == 104 then performs_mode true parameters t else (if final == 108 then performs_mode false parameters t
+    else (if final == 104 then performs_mode true parameters t else
+    (if final == 108 then performs_mode false parameters t
     else (if final == 110 then performs_DSR parameters t else unsure t)))))))))
 
--- modes that change nothing on the screen: what is told of the mouse (1000, 1002, 1003, 1006) and of the focus (1004), and how a paste is (2004)
+-- modes that change nothing on the screen: what is told of the mouse (1000, 1002, 1003, 1006) and of the
+-- focus (1004), and how a paste is (2004)
 abbrev pub is_quiet : ℕ → Bool
 is_quiet m = (m == 1000) || (m == 1002) || (m == 1003) || (m == 1006) || (m == 1004) || (m == 2004)
 
--- DECSET and DECRST: 25 DECTCEM, 6 DECOM, which takes the cursor to the corner, 69 DECLRMM, 7 DECAWM, 2026 a synchronized update, 1049 the
--- alternate screen
+-- DECSET and DECRST: 25 DECTCEM, 6 DECOM, which takes the cursor to the corner, 69 DECLRMM, 7 DECAWM, 2026 a
+-- synchronized update, 1049 the alternate screen
 abbrev pub sets_mode : Bool → ℕ → Emulator → Emulator
 sets_mode on m t =
     if m == 25 then cursor_shown on t
@@ -85,7 +94,8 @@ sets_mode on m t =
 
 -- a sequence with the mark `?`: h sets, l resets
 abbrev pub performs_marked : List ℕ → ℕ → Emulator → Emulator
-performs_marked (m ∷ []) final t = if final == 104 then sets_mode true m t else (if final == 108 then sets_mode false m t else unsure t)
+performs_marked (m ∷ []) final t =
+    if final == 104 then sets_mode true m t else (if final == 108 then sets_mode false m t else unsure t)
 performs_marked _ final t = unsure t
 
 abbrev pub is_digit : ℕ → Bool
@@ -101,26 +111,33 @@ reads_sequence mark done n b t =
     if is_digit b then record t { phase = Sequence mark done (n * 10 + (b - 48)) }
     else (if b == 59 then record t { phase = Sequence mark (done ++ n ∷ []) 0 }
     else (if mark then performs_marked (done ++ n ∷ []) b (record t { phase = Ground })
-    else (if b == 32 then record t { phase = Spaced (done ++ n ∷ []) } else performs (done ++ n ∷ []) b (record t { phase = Ground }))))
+    else (if b == 32 then record t { phase = Spaced (done ++ n ∷ []) } else performs (done ++ n ∷ []) b
+    (record t { phase = Ground }))))
 
 -- the byte that names a sequence with a blank: q DECSCUSR
 abbrev pub reads_spaced : List ℕ → ℕ → Emulator → Emulator
 reads_spaced parameters b t =
-    if b == 113 then performs_DECSCUSR parameters (record t { phase = Ground }) else unsure (record t { phase = Ground })
+    if b == 113 then performs_DECSCUSR parameters (record t { phase = Ground }) else unsure
+    (record t { phase = Ground })
 
--- after ESC: [ opens a sequence, ] a string for the operating system, as a window's title, \ ends one, ( sets the letters of G0, % the coding
+-- after ESC: [ opens a sequence, ] a string for the operating system, as a window's title, \ ends one, ( sets
+-- the letters of G0, % the coding
 abbrev pub reads_escape : ℕ → Emulator → Emulator
 reads_escape b t =
     if b == 91 then record t { phase = Opened }
     else (if b == 93 then record t { phase = Told }
     else (if b == 92 then record t { phase = Ground }
-    else (if b == 40 then record t { phase = Letters } else (if b == 37 then record t { phase = Coding } else unsure t))))
+    else (if b == 40 then record t { phase = Letters } else
+    (if b == 37 then record t { phase = Coding } else unsure t))))
 
 -- the letters of G0: B is ASCII, 0 lines
 abbrev pub reads_letters : ℕ → Emulator → Emulator
 reads_letters b t =
     if b == 66 then record t { phase = Ground; modes = record t.modes { lettered = false } }
-    else (if b == 48 then record t { phase = Ground; modes = record t.modes { lettered = true } } else unsure t)
+    else (if b == 48 then record t {
+      phase = Ground;
+      modes = record t.modes { lettered = true };
+    } else unsure t)
 
 -- the coding: G is UTF-8, @ isn't
 abbrev pub reads_coding : ℕ → Emulator → Emulator
@@ -128,25 +145,29 @@ reads_coding b t =
     if b == 71 then record t { phase = Ground; modes = record t.modes { coded = false } }
     else (if b == 64 then record t { phase = Ground; modes = record t.modes { coded = true } } else unsure t)
 
--- a string for the operating system changes nothing on the screen; ESC ends it, and terminals differ on control characters in it
+-- a string for the operating system changes nothing on the screen; ESC ends it, and terminals differ on
+-- control characters in it
 abbrev pub reads_told : ℕ → Emulator → Emulator
 reads_told b t = if b == 27 then record t { phase = Escape } else (if is_text b then t else unsure t)
 
--- one byte, read: a sequence is ESC [, perhaps ?, numbers between semicolons, and the byte that names it; SI and SO shift
+-- one byte, read: a sequence is ESC [, perhaps ?, numbers between semicolons, and the byte that names it; SI
+-- and SO shift
 abbrev pub reads_in : Phase → ℕ → Emulator → Emulator
 reads_in Ground b t =
     if b == 27 then record (rested t) { phase = Escape }
     else (if is_text b then record t { text = t.text ++ b ∷ [] }
     else (if b == 13 then returned (rested t) else (if b == 10 then line_fed (rested t)
     else (if b == 15 then with_modes (record (rested t).modes { shifted = false }) (rested t)
-    else (if b == 14 then with_modes (record (rested t).modes { shifted = true }) (rested t) else unsure (rested t))))))
+    else (if b == 14 then with_modes (record (rested t).modes { shifted = true })
+    (rested t) else unsure (rested t))))))
 reads_in Escape b t = reads_escape b t
 reads_in Letters b t = reads_letters b t
 reads_in Coding b t = reads_coding b t
 reads_in Told b t = reads_told b t
 reads_in (Switching alternate) b t = t
 reads_in (Spaced parameters) b t = reads_spaced parameters b t
-reads_in Opened b t = if b == 63 then record t { phase = Sequence true [] 0 } else reads_sequence false [] 0 b t
+reads_in Opened b t = if b == 63 then record t { phase = Sequence true [] 0 } else reads_sequence false [] 0 b
+    t
 reads_in (Sequence mark done n) b t = reads_sequence mark done n b t
 
 -- bytes, read in order

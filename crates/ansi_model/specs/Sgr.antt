@@ -1,7 +1,10 @@
 -- The colours and modifiers that text is printed with, and how SGR (select graphic rendition) changes them.
-use Rattle.std.specs.Prelude.{ℕ, ◌-◌, ◌^◌, ◌==◌, ◌&&◌, ◌||◌, nat_le, nat_lt, Bool, true, false, if◌then◌else◌, List, [], ◌∷◌}
+use Rattle.std.specs.Prelude.{ℕ, ◌-◌, ◌^◌, ◌==◌, ◌&&◌, ◌||◌, nat_le, nat_lt, Bool, true, false, if◌then◌else◌}
+use Rattle.std.specs.Prelude.{List, [], ◌∷◌}
 use Rattle.std.specs.Int.RustNames.{bit_or}
-use Rattle.ratatui_core.specs.Style.{Color, Reset, Black, Red, Green, Yellow, Blue, Magenta, Cyan, Gray, DarkGray, LightRed, LightGreen, LightYellow, LightBlue, LightMagenta, LightCyan, White, Rgb, Indexed, no_modifier, bits_of, modifier_of}
+use Rattle.ratatui_core.specs.Style.{Color, Reset, Black, Red, Green, Yellow, Blue, Magenta, Cyan, Gray}
+use Rattle.ratatui_core.specs.Style.{DarkGray, LightRed, LightGreen, LightYellow, LightBlue, LightMagenta}
+use Rattle.ratatui_core.specs.Style.{LightCyan, White, Rgb, Indexed, no_modifier, bits_of, modifier_of}
 use Rattle.ratatui_core.specs.Buffer.{Look, Cell}
 use Rattle.ansi_model.specs.declared.sgr.Sgr.{Sgr}
 
@@ -29,10 +32,11 @@ is_default_color _ = false
 
 -- whether a rendition is the terminal's own
 abbrev pub is_own : Sgr → Bool
-is_own sgr = is_default_color sgr.fg && is_default_color sgr.bg && is_default_color sgr.underline_color && (bits_of sgr.modifier == 0)
+is_own sgr = is_default_color sgr.fg && is_default_color sgr.bg && is_default_color sgr.underline_color &&
+    (bits_of sgr.modifier == 0)
 
--- what the next parameter belongs to: to itself, to a colour that was begun (38 of the text, 48 of the background, 58 of the underline), to its
--- number, or to its three parts
+-- what the next parameter belongs to: to itself, to a colour that was begun (38 of the text, 48 of the
+-- background, 58 of the underline), to its number, or to its three parts
 pub data Awaits : Type 0 where
   Nothing : Awaits
   Kind : (target : ℕ) → Awaits
@@ -54,19 +58,39 @@ abbrev pub named : ℕ → Color
 named n =
     if n == 0 then Black else (if n == 1 then Red else (if n == 2 then Green else (if n == 3 then Yellow
     else (if n == 4 then Blue else (if n == 5 then Magenta else (if n == 6 then Cyan else (if n == 7 then Gray
-    else (if n == 8 then DarkGray else (if n == 9 then LightRed else (if n == 10 then LightGreen else (if n == 11 then LightYellow
-    else (if n == 12 then LightBlue else (if n == 13 then LightMagenta else (if n == 14 then LightCyan else White))))))))))))))
+    else (if n == 8 then DarkGray else
+    (if n == 9 then LightRed else (if n == 10 then LightGreen else (if n == 11 then LightYellow
+    else (if n == 12 then LightBlue else
+    (if n == 13 then LightMagenta else (if n == 14 then LightCyan else White))))))))))))))
 
 -- a parameter that stands for itself: 0 the own rendition, 1 to 9 a modifier, 30 and on the colours
 abbrev pub inks_alone : ℕ → Sgr → Inking
 inks_alone n sgr =
     if n == 0 then record { sgr = default_sgr; awaits = Nothing }
-    else (if nat_le n 9 then record { sgr = record sgr { modifier = modifier_of (bit_or (bits_of sgr.modifier) (2 ^ (n - 1))) }; awaits = Nothing }
+    else (if nat_le n 9 then record {
+      sgr = record sgr {
+        modifier = modifier_of (bit_or (bits_of sgr.modifier)
+            (2 ^ (n - 1)));
+      };
+      awaits = Nothing;
+    }
     else (if (n == 38) || (n == 48) || (n == 58) then record { sgr = sgr; awaits = Kind n }
-    else (if nat_le 30 n && nat_le n 37 then record { sgr = record sgr { fg = named (n - 30) }; awaits = Nothing }
-    else (if nat_le 40 n && nat_le n 47 then record { sgr = record sgr { bg = named (n - 40) }; awaits = Nothing }
-    else (if nat_le 90 n && nat_le n 97 then record { sgr = record sgr { fg = named (n - 82) }; awaits = Nothing }
-    else (if nat_le 100 n && nat_le n 107 then record { sgr = record sgr { bg = named (n - 92) }; awaits = Nothing }
+    else (if nat_le 30 n && nat_le n 37 then record {
+      sgr = record sgr { fg = named (n - 30) };
+      awaits = Nothing;
+    }
+    else (if nat_le 40 n && nat_le n 47 then record {
+      sgr = record sgr { bg = named (n - 40) };
+      awaits = Nothing;
+    }
+    else (if nat_le 90 n && nat_le n 97 then record {
+      sgr = record sgr { fg = named (n - 82) };
+      awaits = Nothing;
+    }
+    else (if nat_le 100 n && nat_le n 107 then record {
+      sgr = record sgr { bg = named (n - 92) };
+      awaits = Nothing;
+    }
     else record { sgr = sgr; awaits = Nothing }))))))
 
 -- one more part of a colour
@@ -78,13 +102,17 @@ inks_part target (r ∷ g ∷ more) n sgr = record { sgr = with_color target (Rg
 -- one parameter
 abbrev pub inks_in : Awaits → ℕ → Sgr → Inking
 inks_in Nothing n sgr = inks_alone n sgr
-inks_in (Kind target) n sgr = if n == 5 then record { sgr = sgr; awaits = Number target } else record { sgr = sgr; awaits = Parts target [] }
+inks_in (Kind target) n sgr = if n == 5 then record {
+  sgr = sgr;
+  awaits = Number target;
+} else record { sgr = sgr; awaits = Parts target [] }
 inks_in (Number target) n sgr = record { sgr = with_color target (Indexed n) sgr; awaits = Nothing }
 inks_in (Parts target parts) n sgr = inks_part target parts n sgr
 
 -- whether terminals know a parameter that stands for itself
 abbrev pub is_known_alone : ℕ → Bool
-is_known_alone n = nat_le n 9 || (nat_le 30 n && nat_le n 38) || (nat_le 40 n && nat_le n 48) || (n == 58) || (nat_le 90 n && nat_le n 97) || (nat_le 100 n && nat_le n 107)
+is_known_alone n = nat_le n 9 || (nat_le 30 n && nat_le n 38) || (nat_le 40 n && nat_le n 48) || (n == 58) ||
+    (nat_le 90 n && nat_le n 97) || (nat_le 100 n && nat_le n 107)
 
 -- whether they take a parameter alike: a colour is begun by 5 or 2, and its numbers are below 256
 abbrev pub is_known_parameter : Awaits → ℕ → Bool

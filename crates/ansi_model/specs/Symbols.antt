@@ -1,10 +1,13 @@
 -- What terminals print a text as: characters, and the columns that they take.
-use Rattle.std.specs.Prelude.{◌≡◌, ℕ, ◌==◌, ◌&&◌, ◌||◌, not, nat_lt, nat_le, Bool, true, false, if◌then◌else◌, List, [], ◌∷◌, length, drop, unwrap_or, chars, encode_utf8, Option, Some, None}
+use Rattle.std.specs.Prelude.{◌≡◌, ℕ, ◌==◌, ◌&&◌, ◌||◌, not, nat_lt, nat_le, Bool, true, false, if◌then◌else◌}
+use Rattle.std.specs.Prelude.{List, [], ◌∷◌, length, drop, unwrap_or, chars, encode_utf8, Option, Some, None}
 use Rattle.std.specs.{List.list_all, List.list_any, Str.is_utf8}
 use Rattle.unicode_width.specs.Width.{char_width}
 use Rattle.unicode_segmentation.specs.Grapheme.{graphemes}
 use Rattle.ratatui_core.specs.Buffer.{text_width}
-use Rattle.ansi_model.specs.{declared.glyph.Glyph.Glyph, declared.glyph.Glyph.TheVariants.Plain, declared.glyph.Glyph.TheVariants.Whole, declared.glyph.Glyph.TheVariants.Disputed}
+use Rattle.ansi_model.specs.{declared.glyph.Glyph.Glyph, declared.glyph.Glyph.TheVariants.Plain}
+use Rattle.ansi_model.specs.{declared.glyph.Glyph.TheVariants.Whole}
+use Rattle.ansi_model.specs.{declared.glyph.Glyph.TheVariants.Disputed}
 
 -- control characters, which terminals obey in place of showing them
 abbrev pub is_control : ℕ → Bool
@@ -12,7 +15,8 @@ is_control c = nat_lt c 32 || (nat_le 127 c && nat_lt c 160)
 
 -- characters that turn the direction of what is after them
 abbrev pub is_directional : ℕ → Bool
-is_directional c = (c == 0x61C) || (nat_le 0x200E c && nat_le c 0x200F) || (nat_le 0x202A c && nat_le c 0x202E) || (nat_le 0x2066 c && nat_le c 0x2069)
+is_directional c = (c == 0x61C) || (nat_le 0x200E c && nat_le c 0x200F) ||
+    (nat_le 0x202A c && nat_le c 0x202E) || (nat_le 0x2066 c && nat_le c 0x2069)
 
 -- characters that are shown, or join one that is
 abbrev pub is_shown : ℕ → Bool
@@ -20,7 +24,8 @@ is_shown c = not (is_control c) && not (is_directional c)
 
 -- a character of one column that never joins its neighbours: printable ASCII, Latin letters, lines and blocks
 abbrev pub is_plain_char : ℕ → Bool
-is_plain_char c = (nat_le 32 c && nat_le c 126) || (nat_le 0xC0 c && nat_le c 0x17F) || (nat_le 0x2500 c && nat_le c 0x259F)
+is_plain_char c = (nat_le 32 c && nat_le c 126) || (nat_le 0xC0 c && nat_le c 0x17F) ||
+    (nat_le 0x2500 c && nat_le c 0x259F)
 
 -- how many columns a character takes alone: none if it is a control character or joins what is before it
 abbrev pub columns_of_char : ℕ → ℕ
@@ -45,9 +50,11 @@ is_single (g ∷ gs) = list_all is_columnless gs
 
 -- a text that terminals show as one symbol
 abbrev pub is_symbol : List ℕ → Bool
-is_symbol text = is_utf8 text && list_all is_shown (chars text) && begins_anew (chars text) && is_single (graphemes true text)
+is_symbol text = is_utf8 text && list_all is_shown (chars text) && begins_anew (chars text) && is_single
+    (graphemes true text)
 
--- whether terminals differ on a symbol's columns: with U+FE0F after its first character, some give it one column
+-- whether terminals differ on a symbol's columns: with U+FE0F after its first character, some give it one
+-- column
 abbrev pub is_disputed : List ℕ → Bool
 is_disputed text = list_any (λ c. c == 0xFE0F) (drop 1 (chars text))
 

@@ -1,7 +1,9 @@
 -- A window with two screens: its main one, and an alternate one that a program may show in its place.
 use Rattle.std.specs.Prelude.{◌&&◌, nat_lt, Bool, true, false, List, [], ◌∷◌, Option, Some, None, ℕ}
-use Rattle.ansi_model.specs.{Columns.blank_column, Emulator.Emulator, Emulator.Phase, Emulator.unsure, Sgr.is_own, Sequences.reads_in}
-use Rattle.ansi_model.specs.Emulator.Phase.{Ground, Escape, Opened, Sequence, Spaced, Letters, Coding, Told, Switching}
+use Rattle.ansi_model.specs.{Columns.blank_column, Emulator.Emulator, Emulator.Phase, Emulator.unsure}
+use Rattle.ansi_model.specs.{Sgr.is_own, Sequences.reads_in}
+use Rattle.ansi_model.specs.Emulator.Phase.{Ground, Escape, Opened, Sequence, Spaced, Letters, Coding, Told}
+use Rattle.ansi_model.specs.Emulator.Phase.{Switching}
 
 -- a window: the screen that it shows, and its main screen while that is put aside, as it was
 pub record Window : Type 0 where
@@ -12,12 +14,14 @@ pub record Window : Type 0 where
 abbrev pub grounded : Emulator → Emulator
 grounded t = record t { phase = Ground }
 
--- an alternate screen is blank, with the cursor where it was. Terminals differ if the rendition isn't their own
+-- an alternate screen is blank, with the cursor where it was. Terminals differ if the rendition isn't their
+-- own
 abbrev pub alternate_of : Emulator → Emulator
 alternate_of t = record t { columns = λ a b. blank_column; sure = t.sure && is_own t.sgr }
 
--- what stood on the main screen is there again, with its history, its cursor and its rendition; margins, modes, and whether the cursor is shown
--- are the window's. Terminals differ on a cursor that was after the last column
+-- what stood on the main screen is there again, with its history, its cursor and its rendition; margins,
+-- modes, and whether the cursor is shown are the window's. Terminals differ on a cursor that was after the
+-- last column
 abbrev pub come_back : Emulator → Emulator → Emulator
 come_back main t = record t {
   columns = main.columns;

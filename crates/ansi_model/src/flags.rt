@@ -1,8 +1,10 @@
 //! The flags of a screen's columns, one for each and row by row: whether it is a continuation
 //! column.
 
-ghost use Rattle.std.specs.Prelude.{◌≡◌, ℕ, ◌+◌, ◌-◌, ◌*◌, ◌<◌, ◌≤◌, ◌&&◌, min, nat_le, nat_lt, if◌then◌else◌, true, false, length, IfOk};
-ghost use Rattle.ratatui_core.specs.Backend.{BeforeCursor, is_cleared, scrolling_up, scrolling_down, clearing};
+ghost use Rattle.std.specs.Prelude.{◌≡◌, ℕ, ◌+◌, ◌-◌, ◌*◌, ◌<◌, ◌≤◌, ◌&&◌, min, nat_le, nat_lt};
+ghost use Rattle.std.specs.Prelude.{if◌then◌else◌, true, false, length, IfOk};
+ghost use Rattle.ratatui_core.specs.Backend.{BeforeCursor, is_cleared, scrolling_up, scrolling_down};
+ghost use Rattle.ratatui_core.specs.Backend.{clearing};
 ghost use Rattle.ansi_model.specs.Columns.{Columns, blank_column};
 ghost use Rattle.ansi_model.specs.Emulator.{columns_moved};
 ghost use Rattle.ansi_model.specs.Flags.{flag, AreContinuations, is_cut};

@@ -2,7 +2,8 @@
 
 ghost use Rattle.std.specs.Prelude.{◌≡◌, ◌∷◌, [], List, ℕ, false, chars, IsUtf8, MatchOption, None};
 ghost use Rattle.std.specs.List.{list_all};
-ghost use Rattle.ansi_model.specs.Symbols.{is_plain_char, is_printed, is_disputed, only_of, glyph_columns, IsGlyphOf};
+ghost use Rattle.ansi_model.specs.Symbols.{is_plain_char, is_printed, is_disputed, only_of, glyph_columns};
+ghost use Rattle.ansi_model.specs.Symbols.{IsGlyphOf};
 
 use crate::symbol::{columns_of_char, is_plain, is_shown, is_symbol, only_char};
 use ratatui_core::buffer::CellWidth;

@@ -4,7 +4,8 @@
 ghost use Rattle.std.specs.Prelude.{◌≡◌, ℕ, ◌+◌, ◌<◌, ◌≤◌, nat_lt, if◌then◌else◌};
 ghost use Rattle.ratatui_core.specs.Buffer.{Look, look_of, width_of, Update, put};
 ghost use Rattle.ansi_model.specs.Columns.{Columns, look_in, is_continuation};
-ghost use Rattle.ansi_model.specs.Screens.{HaveOwnWidths, IsWhole, IsBlankBeyond, IsIdle, IsUncut, put_columns};
+ghost use Rattle.ansi_model.specs.Screens.{HaveOwnWidths, IsWhole, IsBlankBeyond, IsIdle, IsUncut};
+ghost use Rattle.ansi_model.specs.Screens.{put_columns};
 ghost use Rattle.ansi_model.specs.Symbols.{printed_columns};
 ghost use Rattle.ansi_model.specs.Emulator.{run, blank_terminal};
 

@@ -1,11 +1,16 @@
 //! What a backend's calls do to the screen that a terminal shows; and a blank beginning.
 
-ghost use Rattle.std.specs.Prelude.{◌≡◌, ℕ, List, ◌++◌, ◌+◌, ◌-◌, ◌<◌, ◌≤◌, min, nat_lt, OnOk, string_bytes, encode_utf8};
-ghost use Rattle.ratatui_core.specs.Backend.{Appends, scrolling_up, scrolling_down, clearing, ScrollsUp, ScrollsDown, Clears, with_cursor, with_visible, All, CurrentLine};
+ghost use Rattle.std.specs.Prelude.{◌≡◌, ℕ, List, ◌++◌, ◌+◌, ◌-◌, ◌<◌, ◌≤◌, min, nat_lt, OnOk, string_bytes};
+ghost use Rattle.std.specs.Prelude.{encode_utf8};
+ghost use Rattle.ratatui_core.specs.Backend.{Appends, scrolling_up, scrolling_down, clearing, ScrollsUp};
+ghost use Rattle.ratatui_core.specs.Backend.{ScrollsDown, Clears, with_cursor, with_visible, All};
+ghost use Rattle.ratatui_core.specs.Backend.{CurrentLine};
 ghost use Rattle.ansi_model.specs.Beginnings.{MakesBlank, OpensAlternate, SavesScreen, without_modes};
 ghost use Rattle.ansi_model.specs.Commands.{size_question, AsksSize};
 ghost use Rattle.ansi_model.specs.Endings.{ClosesAlternate, left_below};
-ghost use Rattle.ansi_model.specs.Emulator.{cursor_moved, returned, erased, line_fed, fed, with_region, without_region, lines_deleted, lines_inserted, fed_and_lowered, fed_and_lowered_by, columns_moved, rested};
+ghost use Rattle.ansi_model.specs.Emulator.{cursor_moved, returned, erased, line_fed, fed, with_region};
+ghost use Rattle.ansi_model.specs.Emulator.{without_region, lines_deleted, lines_inserted, fed_and_lowered};
+ghost use Rattle.ansi_model.specs.Emulator.{fed_and_lowered_by, columns_moved, rested};
 ghost use Rattle.ansi_model.specs.Sends.{Sends, Performs, typed};
 ghost use Rattle.ansi_model.specs.Screens.{Turns, Becomes};
 

@@ -1,8 +1,10 @@
 //! Escape sequences by their standard names.
 
-ghost use Rattle.std.specs.Prelude.{◌≡◌, ℕ, ◌+◌, ◌-◌, ◌<◌, OnOk, true, false, List, [], ◌∷◌, ◌++◌, string_bytes};
+ghost use Rattle.std.specs.Prelude.{◌≡◌, ℕ, ◌+◌, ◌-◌, ◌<◌, OnOk, true, false, List, [], ◌∷◌, ◌++◌};
+ghost use Rattle.std.specs.Prelude.{string_bytes};
 ghost use Rattle.std.specs.Fmt.{decimal};
-ghost use Rattle.ansi_model.specs.Emulator.{cursor_moved, returned, erased, fed, with_region, without_region, lines_deleted, lines_inserted, cursor_shown, holding};
+ghost use Rattle.ansi_model.specs.Emulator.{cursor_moved, returned, erased, fed, with_region, without_region};
+ghost use Rattle.ansi_model.specs.Emulator.{lines_deleted, lines_inserted, cursor_shown, holding};
 ghost use Rattle.ratatui_core.specs.Backend.{BeforeCursor};
 ghost use Rattle.ansi_model.specs.Sends.{Performs};
 

@@ -1,9 +1,11 @@
 //! Texts that are sent as symbols.
 
-ghost use Rattle.std.specs.Prelude.{◌≡◌, ◌≤◌, ◌&&◌, true, [], ◌∷◌, OnOk, IfSome, IsTrue, string_bytes, encode_utf8, chars};
+ghost use Rattle.std.specs.Prelude.{◌≡◌, ◌≤◌, ◌&&◌, true, [], ◌∷◌, OnOk, IfSome, IsTrue, string_bytes};
+ghost use Rattle.std.specs.Prelude.{encode_utf8, chars};
 ghost use Rattle.std.specs.List.{list_all};
 ghost use Rattle.unicode_segmentation.specs.Grapheme.{graphemes};
-ghost use Rattle.ansi_model.specs.Symbols.{is_plain_char, is_shown, columns_of_char, has_columns, begins_anew, is_columnless, is_single, is_symbol, only_of};
+ghost use Rattle.ansi_model.specs.Symbols.{is_plain_char, is_shown, columns_of_char, has_columns};
+ghost use Rattle.ansi_model.specs.Symbols.{begins_anew, is_columnless, is_single, is_symbol, only_of};
 ghost use Rattle.ansi_model.specs.Sends.{Sends, typed};
 
 use ratatui_core::buffer::CellWidth;

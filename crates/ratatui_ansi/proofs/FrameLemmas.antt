@@ -1,5 +1,7 @@
 -- What the bytes of a cell do to a terminal within a draw.
-use Rattle.std.proofs.Common.{◌≡◌, ℕ, ◌+◌, ◌-◌, ◌*◌, ◌^◌, ◌<◌, ◌≤◌, ◌==◌, ◌&&◌, not, min, nat_lt, nat_le, nat_eq, if◌then◌else◌, Bool, List, [], ◌∷◌, ◌++◌, IsTrue, chars, true, false, slice_index_or, IsUtf8, Option, Some, None, IfSome, refl, sym, ap, ap₂, ◌∙◌, arith, subst, inl, inr, append_assoc, append-nil, ◌⊎◌}
+use Rattle.std.proofs.Common.{◌≡◌, ℕ, ◌+◌, ◌-◌, ◌*◌, ◌^◌, ◌<◌, ◌≤◌, ◌==◌, ◌&&◌, not, min, nat_lt, nat_le, nat_eq, if◌then◌else◌}
+use Rattle.std.proofs.Common.{Bool, List, [], ◌∷◌, ◌++◌, IsTrue, chars, true, false, slice_index_or, IsUtf8, Option, Some, None}
+use Rattle.std.proofs.Common.{IfSome, refl, sym, ap, ap₂, ◌∙◌, arith, subst, inl, inr, append_assoc, append-nil, ◌⊎◌}
 use Rattle.std.proofs.lemmas.{Bool.and_parts, Bool.or_right, Bool.Decides.nat_tests, List.Folds.list_all-append, Str.encode_ascii}
 use lib.Utf8.{encode}
 use Rattle.std.specs.List.{list_all}
@@ -7,15 +9,20 @@ use Rattle.ratatui_core.specs.{Layout.Position, Backend.Draws}
 use Rattle.ratatui_core.specs.Buffer.{blank, symbol_text, Look, look_of, empty_look, width_of, text_width, Update, put, Cell}
 use Rattle.ratatui_core.proofs.{BackendLemmas.Draws-none, BackendLemmas.Draws-push, BufferLemmas.one_byte}
 use Rattle.ratatui_core.specs.DiffOption as DiffOption
-use Rattle.ansi_model.specs.{declared.sgr.Sgr.Sgr, declared.pen.Pen.Pen, declared.glyph.Glyph.Glyph, declared.glyph.Glyph.TheVariants.Plain}
+use Rattle.ansi_model.specs.{declared.sgr.Sgr.Sgr, declared.pen.Pen.Pen, declared.glyph.Glyph.Glyph}
+use Rattle.ansi_model.specs.{declared.glyph.Glyph.TheVariants.Plain}
 use Rattle.ratatui_ansi.specs.{declared.draw.DrawState.DrawState, Tracker.IsAwaiting}
-use Rattle.ansi_model.specs.{Columns.Columns, Columns.look_in, Columns.is_continuation, Flags.AreContinuations, Flags.flag, Parameters.is_sendable_by}
-use Rattle.ansi_model.specs.{Sgr.default_sgr, Sgr.inked, Sgr.sgr_of, Emulator.Emulator, Emulator.rested, Emulator.with_sgr, Sequences.feed}
+use Rattle.ansi_model.specs.{Columns.Columns, Columns.look_in, Columns.is_continuation, Flags.AreContinuations, Flags.flag}
+use Rattle.ansi_model.specs.{Parameters.is_sendable_by}
+use Rattle.ansi_model.specs.{Sgr.default_sgr, Sgr.inked, Sgr.sgr_of, Emulator.Emulator, Emulator.rested, Emulator.with_sgr}
+use Rattle.ansi_model.specs.{Sequences.feed}
 use Rattle.ansi_model.specs.Symbols.{is_plain_char, is_one_plain, is_printed, printed_columns, glyph_columns}
 use Rattle.ansi_model.specs.{Screens.screen_shown, Screens.IsIdle, Drawing.ChangesSgr.Stays, Drawing.ChangesSgr.Sets}
 use Rattle.ansi_model.specs.Drawing.{printed_at, blanked, WritesAt, IsDrawnBy, ChangesSgr, Paints, Prints}
-use Rattle.ratatui_ansi.specs.Frame.{is_fit, is_sendable_on, IsGlyph, IsVacant, IsDrawing, AreMarked, Covers, SendsUpdates, SendsDraw}
-use Rattle.ansi_model.proofs.{ReadLemmas.feed-append, SymbolLemmas.plain-printed, SymbolLemmas.plain-single, SymbolLemmas.one-undisputed, GlyphLemmas.printed-width, SgrLemmas.equal-number}
+use Rattle.ratatui_ansi.specs.Frame.{is_fit, is_sendable_on, IsGlyph, IsVacant, IsDrawing, AreMarked, Covers, SendsUpdates}
+use Rattle.ratatui_ansi.specs.Frame.{SendsDraw}
+use Rattle.ansi_model.proofs.{ReadLemmas.feed-append, SymbolLemmas.plain-printed, SymbolLemmas.plain-single}
+use Rattle.ansi_model.proofs.{SymbolLemmas.one-undisputed, GlyphLemmas.printed-width, SgrLemmas.equal-number}
 use Rattle.ratatui_ansi.proofs.TailLemmas.{continuation-empty, laid-shown, IsTail}
 use Rattle.ansi_model.proofs.PaintLemmas.{Paints-then}
 use Rattle.ratatui_ansi.proofs.LayLemmas.{sgr-paints, IsLaid, laid-by, laid-ready, tail-of, laid-flags}
@@ -26,15 +33,21 @@ ink-look : (cell : Cell) → inked (symbol_text cell.symbol) (sgr_of cell) ≡ l
 unfolding look_of
 ink-look cell = refl
 
-laid-draws : (w h x y n end : ℕ) (cell : Cell) (s u : Emulator) (written after : ℕ) → s.width ≡ w → s.height ≡ h → IsTail (x + n) end y s.columns → width_of cell ≡ n → 0 < n → x + n ≤ w → y < h
-    → IsLaid x y n end (look_of cell) s u → after ≡ min (written + 1) (2 ^ 64 - 1) → Draws (screen_shown written s) (record { x = x; y = y; cell = cell } ∷ []) (screen_shown after u)
+laid-draws : (w h x y n end : ℕ) (cell : Cell) (s u : Emulator) (written after : ℕ) → s.width ≡ w → s.height ≡ h
+    → IsTail (x + n) end y s.columns → width_of cell ≡ n → 0 < n → x + n ≤ w → y < h
+    → IsLaid x y n end (look_of cell) s u → after ≡ min (written + 1) (2 ^ 64 - 1)
+    → Draws (screen_shown written s) (record { x = x; y = y; cell = cell } ∷ []) (screen_shown after u)
 laid-draws w h x y n end cell s u written after wide high tail en some fits row is count = record {
   history = ap (λ (v : Emulator). v.history) is.only;
   width = ap (λ (v : Emulator). v.width) is.only;
   height = ap (λ (v : Emulator). v.height) is.only;
   visible = ap (λ (v : Emulator). v.visible) is.only;
   grid = λ a b.
-      rw (wide, high) (ap look_in (is.columns a b) ∙ laid-shown w h x y n end (record { x = x; y = y; cell = cell }) s.columns tail refl refl en some fits row a b);
+      rw (wide, high) (ap look_in (is.columns a b) ∙ laid-shown w h x y n end (record {
+        x = x;
+        y = y;
+        cell = cell;
+      }) s.columns tail refl refl en some fits row a b);
   written = λ below. omega arith;
   full = λ above. omega arith;
 }
@@ -61,14 +74,21 @@ pub fit-parts : (room : ℕ) (cell : Cell) → IsTrue (is_fit room cell) → Fit
 fit-parts room cell fit =
     let one = and_parts _ (nat_le (width_of cell) room) (true-of _ fit) in
     let two = and_parts _ (nat_lt 0 (width_of cell)) one.0 in
-    let three = and_parts (is_printed (symbol_text cell.symbol)) (printed_columns (symbol_text cell.symbol) == width_of cell) two.0 in
+    let three = and_parts (is_printed (symbol_text cell.symbol))
+    (printed_columns (symbol_text cell.symbol) == width_of cell) two.0 in
     let equal = three.1 in
     let some = two.1 in
     let inside = one.1 in
-    record { is_text = three.0; columns = grind (arith, nat_tests); some = grind (arith, nat_tests); inside = grind (arith, nat_tests) }
+    record {
+      is_text = three.0;
+      columns = grind (arith, nat_tests);
+      some = grind (arith, nat_tests);
+      inside = grind (arith, nat_tests);
+    }
 
 -- without a forced width a cell takes the columns of its text
-pub own-width : (c : Cell) → (c.diff_option ≡ DiffOption.None) ⊎ (c.diff_option ≡ DiffOption.Skip) ⊎ (c.diff_option ≡ DiffOption.AlwaysUpdate) → width_of c ≡ text_width (symbol_text c.symbol)
+pub own-width : (c : Cell) → (c.diff_option ≡ DiffOption.None) ⊎ (c.diff_option ≡ DiffOption.Skip)
+    ⊎ (c.diff_option ≡ DiffOption.AlwaysUpdate) → width_of c ≡ text_width (symbol_text c.symbol)
 unfolding width_of
 own-width c (inl e) = rw e refl
 own-width c (inr (inl e)) = rw e refl
@@ -77,50 +97,71 @@ own-width c (inr (inr e)) = rw e refl
 -- ---- how a cell is printed
 
 pub takes-own : (c : Cell) (n : ℕ) → IsUtf8 (symbol_text c.symbol) → n ≡ printed_columns (symbol_text c.symbol)
-    → (c.diff_option ≡ DiffOption.None) ⊎ (c.diff_option ≡ DiffOption.Skip) ⊎ (c.diff_option ≡ DiffOption.AlwaysUpdate) → true ≡ nat_eq n (width_of c)
+    → (c.diff_option ≡ DiffOption.None) ⊎ (c.diff_option ≡ DiffOption.Skip) ⊎ (c.diff_option ≡ DiffOption.AlwaysUpdate)
+    → true ≡ nat_eq n (width_of c)
 takes-own c n utf8 e own =
     let same : n ≡ width_of c = e ∙ printed-width (symbol_text c.symbol) utf8 ∙ sym (own-width c own) in
     rw same (sym (equal-number (width_of c)))
 
 -- a cell with one printable character of ASCII
-printable-fits : (room : ℕ) (c : Cell) (b : ℕ) → symbol_text c.symbol ≡ b ∷ [] → 32 ≤ b → b ≤ 126 → width_of c ≡ text_width (symbol_text c.symbol) → 0 < room → IsGlyph room c (Plain b)
+printable-fits : (room : ℕ) (c : Cell) (b : ℕ) → symbol_text c.symbol ≡ b ∷ [] → 32 ≤ b → b ≤ 126
+    → width_of c ≡ text_width (symbol_text c.symbol) → 0 < room → IsGlyph room c (Plain b)
 printable-fits room c b text low high own some =
     let small : b < 128 = omega arith in
     let plain : is_plain_char b ≡ true = grind (arith, nat_tests) in
     let same : encode b ≡ symbol_text c.symbol = encode_ascii b small ∙ sym text in
     let printed : is_printed (symbol_text c.symbol) ≡ true = subst (λ xs. is_printed xs ≡ true) same (plain-printed b plain) in
-    let one : is_one_plain (chars (symbol_text c.symbol)) ≡ true = subst (λ xs. is_one_plain (chars xs) ≡ true) same (plain-single b plain) in
+    let one : is_one_plain (chars (symbol_text c.symbol)) ≡ true = subst (λ xs. is_one_plain (chars xs) ≡ true) same
+    (plain-single b plain) in
     let wide : width_of c ≡ 1 = own ∙ ap text_width text ∙ one_byte b in
     let inside : nat_le 1 room ≡ true = grind (arith, nat_tests) in
-    record { fits = rw (printed, one, wide, inside) refl; symbol = record { printed = printed; columns = rw one refl; disputed = sym (one-undisputed (symbol_text c.symbol) one); plain = (plain, sym same) } }
+    record {
+      fits = rw (printed, one, wide, inside) refl;
+      symbol = record {
+        printed = printed;
+        columns = rw one refl;
+        disputed = sym (one-undisputed (symbol_text c.symbol) one);
+        plain = (plain, sym same);
+      };
+    }
 
-pub printable-gives : (c : Cell) (found : Option ℕ) → IfSome found (λ b. (symbol_text c.symbol ≡ b ∷ []) × (32 ≤ b) × (b ≤ 126)) → width_of c ≡ text_width (symbol_text c.symbol)
+pub printable-gives : (c : Cell) (found : Option ℕ) → IfSome found (λ b. (symbol_text c.symbol ≡ b ∷ []) × (32 ≤ b) × (b ≤ 126))
+    → width_of c ≡ text_width (symbol_text c.symbol)
     → IfSome found (λ b. (room : ℕ) → 0 < room → IsGlyph room c (Plain b))
 printable-gives c None is own = tt
 printable-gives c (Some b) is own = λ room some. printable-fits room c b is.0 is.1 is.2 own some
 
-cursor-at : (end y w ux uy uw : ℕ) → ux ≡ end → uy ≡ y → uw ≡ w → let at : Position = record { x = min ux (uw - 1); y = uy } in let goal : Position = record { x = min end (w - 1); y = y } in at ≡ goal
+cursor-at : (end y w ux uy uw : ℕ) → ux ≡ end → uy ≡ y → uw ≡ w → let at : Position = record { x = min ux (uw - 1); y = uy } in
+    let goal : Position = record { x = min end (w - 1); y = y } in at ≡ goal
 cursor-at end y w ux uy uw ex ey ew = rw (ex, ey, ew) refl
 
-pub lay-sends : (w h x y n end : ℕ) (cell : Cell) (before after : DrawState) (flags flags_after : List Bool) (old new : List ℕ) → Fits (w - x) cell → width_of cell ≡ n → x < w → y < h
-    → Paints w h old before.pen (λ t. blanked (x + n) y (end - (x + n)) (printed_at x y (sgr_of cell) (symbol_text cell.symbol) t)) new after.pen
+pub lay-sends : (w h x y n end : ℕ) (cell : Cell) (before after : DrawState) (flags flags_after : List Bool) (old new : List ℕ)
+    → Fits (w - x) cell → width_of cell ≡ n → x < w → y < h
+    → Paints w h old before.pen (λ t. blanked (x + n) y (end - (x + n))
+    (printed_at x y (sgr_of cell) (symbol_text cell.symbol) t)) new after.pen
     → slice_index_or flags (y * w + x) false ≡ false → x + n ≤ end → end ≤ w
-    → ((k : ℕ) → x + n ≤ k → k < end → slice_index_or flags (y * w + k) false ≡ true) → (end < w → slice_index_or flags (y * w + end) false ≡ false)
+    → ((k : ℕ) → x + n ≤ k → k < end → slice_index_or flags (y * w + k) false ≡ true)
+    → (end < w → slice_index_or flags (y * w + end) false ≡ false)
     → AreMarked (y * w + x) (y * w + (x + n)) (y * w + end) flags flags_after
     → after.cursor ≡ record { x = min end (w - 1); y = y } → after.written ≡ min (before.written + 1) (2 ^ 64 - 1)
     → SendsUpdates w h old before flags (record { x = x; y = y; cell = cell } ∷ []) new after flags_after
-lay-sends w h x y n end cell before after flags flags_after old new fit en column row both uncut ordered inside set unset marked cursor count =
+lay-sends w h x y n end cell before after flags flags_after old new fit en column row both uncut ordered inside set unset marked
+    cursor count =
     let symbol = symbol_text cell.symbol in
     let m = end - (x + n) in
     let columns : printed_columns symbol ≡ n = fit.columns ∙ en in
     let some : 0 < n = let s = fit.some in omega arith in
     let fits : x + n ≤ w = let i = fit.inside in omega arith in
-    let left : (t : Emulator) → IsDrawing w h before flags t → is_continuation ((rested t).columns x y) ≡ false = λ t is. sym (is.continuations.each x y column row) ∙ uncut in
+    let left : (t : Emulator) → IsDrawing w h before flags t → is_continuation ((rested t).columns x y) ≡ false =
+    λ t is. sym (is.continuations.each x y column row) ∙ uncut in
     let tail : (t : Emulator) → IsDrawing w h before flags t → IsTail (x + n) end y (rested t).columns =
-    λ t is. tail-of w h (x + n) end y flags (rested t).columns is.continuations is.ready.tidy.beyond row ordered inside set unset in
-    let laid_at : (t : Emulator) → IsDrawing w h before flags t → IsLaid x y n end (look_of cell) (rested t) (rested (feed both.bytes t)) = λ t is.
+    λ t is. tail-of w h (x + n) end y flags (rested t).columns is.continuations is.ready.tidy.beyond row ordered inside set unset
+    in
+    let laid_at : (t : Emulator) → IsDrawing w h before flags t
+    → IsLaid x y n end (look_of cell) (rested t) (rested (feed both.bytes t)) = λ t is.
     subst (IsLaid x y n end (look_of cell) (rested t)) (sym (both.printed t is.ready.rest.width is.ready.rest.height is.drawn))
-    (subst (λ look. IsLaid x y n end look (rested t) (blanked (x + n) y m (printed_at x y (sgr_of cell) symbol (rested t)))) (ink-look cell)
+    (subst (λ look. IsLaid x y n end look (rested t) (blanked (x + n) y m (printed_at x y (sgr_of cell) symbol (rested t))))
+    (ink-look cell)
     (laid-by w h x y n end (sgr_of cell) symbol (rested t) is.ready columns some fits inside row (left t is) (tail t is))) in
     record {
       bytes = both.bytes;
@@ -131,32 +172,46 @@ lay-sends w h x y n end cell before after flags flags_after old new fit en colum
           let wide : u.width ≡ w = ap (λ (v : Emulator). v.width) at.only ∙ is.ready.rest.width in
           record {
             drawn = both.drawn t is.ready.rest.width is.ready.rest.height is.drawn;
-            ready = laid-ready w h x y n end (look_of cell) (rested t) u is.ready (sym columns ∙ ap (λ (look : Look). printed_columns look.symbol) (ink-look cell)) fits row (left t is) (tail t is) at;
-            continuations = laid-flags w h x y n end (look_of cell) (rested t) u flags flags_after is.continuations ordered inside some at marked;
+            ready = laid-ready w h x y n end (look_of cell) (rested t) u is.ready (sym columns
+                ∙ ap (λ (look : Look). printed_columns look.symbol) (ink-look cell)) fits row (left t is) (tail t is) at;
+            continuations = laid-flags w h x y n end (look_of cell)
+                (rested t) u flags flags_after is.continuations ordered inside some at marked;
             cursor = cursor-at end y w u.x u.y u.width at.x_at at.y_at wide ∙ sym cursor;
           };
       draws = λ t is.
-          laid-draws w h x y n end cell (rested t) (rested (feed both.bytes t)) before.written after.written is.ready.rest.width is.ready.rest.height (tail t is) en some fits row (laid_at t is) count;
+          laid-draws w h x y n end cell (rested t) (rested (feed both.bytes t)) before.written after.written is.ready.rest.width
+          is.ready.rest.height (tail t is) en some fits row (laid_at t is) count;
     }
 
 -- a rendition, a symbol, and blanks in what is left of another one
-pub cell-sends : (w h x y : ℕ) (cell : Cell) (glyph : Glyph) (end : ℕ) (before after : DrawState) (inked drawn : Pen) (flags flags_after : List Bool) (old first mid new : List ℕ) → x < w → y < h
-    → IsGlyph (w - x) cell glyph → ChangesSgr before.pen.sgr (sgr_of cell) old first → inked ≡ record before.pen { sgr = sgr_of cell }
-    → Prints w h first inked x y inked.sgr (symbol_text cell.symbol) mid drawn → Covers w x y (glyph_columns glyph) mid flags drawn end new flags_after after.pen
-    → slice_index_or flags (y * w + x) false ≡ false → after.cursor ≡ record { x = min end (w - 1); y = y } → after.written ≡ min (before.written + 1) (2 ^ 64 - 1)
+pub cell-sends : (w h x y : ℕ) (cell : Cell) (glyph : Glyph) (end : ℕ) (before after : DrawState) (inked drawn : Pen)
+    (flags flags_after : List Bool) (old first mid new : List ℕ) → x < w → y < h
+    → IsGlyph (w - x) cell glyph → ChangesSgr before.pen.sgr (sgr_of cell) old first
+    → inked ≡ record before.pen { sgr = sgr_of cell }
+    → Prints w h first inked x y inked.sgr (symbol_text cell.symbol) mid drawn
+    → Covers w x y (glyph_columns glyph) mid flags drawn end new flags_after after.pen
+    → slice_index_or flags (y * w + x) false ≡ false → after.cursor ≡ record { x = min end (w - 1); y = y }
+    → after.written ≡ min (before.written + 1) (2 ^ 64 - 1)
     → SendsUpdates w h old before flags (record { x = x; y = y; cell = cell } ∷ []) new after flags_after
-cell-sends w h x y cell glyph end before after inked drawn flags flags_after old first mid new column row is changes pens prints covers uncut cursor count =
+cell-sends w h x y cell glyph end before after inked drawn flags flags_after old first mid new column row is changes pens prints
+    covers uncut cursor count =
     let sgr = sgr_of cell in
     let symbol = symbol_text cell.symbol in
     let n = glyph_columns glyph in
     let m = end - (x + n) in
-    let sgr_set : Paints w h old before.pen (with_sgr sgr) first inked = subst (Paints w h old before.pen (with_sgr sgr) first) (sym pens) (sgr-paints w h before.pen sgr old first changes) in
-    let here : Prints w h first inked x y sgr symbol mid drawn = subst (λ p. Prints w h first inked x y p symbol mid drawn) (ap (λ (b : Pen). b.sgr) pens) prints in
-    let two : Paints w h old before.pen (printed_at x y sgr symbol) mid drawn = Paints-then w h old first mid before.pen inked drawn (with_sgr sgr) (printed_at x y sgr symbol) (λ t. (refl, refl)) sgr_set here in
+    let sgr_set : Paints w h old before.pen (with_sgr sgr) first inked = subst (Paints w h old before.pen (with_sgr sgr) first)
+    (sym pens) (sgr-paints w h before.pen sgr old first changes) in
+    let here : Prints w h first inked x y sgr symbol mid drawn = subst (λ p. Prints w h first inked x y p symbol mid drawn)
+    (ap (λ (b : Pen). b.sgr) pens) prints in
+    let two : Paints w h old before.pen (printed_at x y sgr symbol) mid drawn =
+    Paints-then w h old first mid before.pen inked drawn (with_sgr sgr) (printed_at x y sgr symbol)
+    (λ t. (refl, refl)) sgr_set here in
     let both : Paints w h old before.pen (λ t. blanked (x + n) y m (printed_at x y sgr symbol t)) new after.pen
-    = Paints-then w h old mid new before.pen drawn after.pen (printed_at x y sgr symbol) (blanked (x + n) y m) (λ t. (refl, refl)) two (covers.paints h row) in
+    = Paints-then w h old mid new before.pen drawn after.pen (printed_at x y sgr symbol) (blanked (x + n) y m)
+    (λ t. (refl, refl)) two (covers.paints h row) in
     let fit = fit-parts (w - x) cell (rw is.fits refl) in
-    lay-sends w h x y n end cell before after flags flags_after old new fit (sym (is.symbol.columns ∙ fit.columns)) column row both uncut covers.ordered covers.inside covers.set covers.unset covers.marked cursor count
+    lay-sends w h x y n end cell before after flags flags_after old new fit (sym (is.symbol.columns ∙ fit.columns)) column row
+    both uncut covers.ordered covers.inside covers.set covers.unset covers.marked cursor count
 
 -- ---- a vacant cell
 
@@ -168,12 +223,19 @@ vacant-text c is = ap (λ (look : Look). look.symbol) (ink-look c ∙ is.look)
 
 pub vacant-sgr : (c : Cell) → IsVacant c → sgr_of c ≡ default_sgr
 vacant-sgr c is =
-    ap (λ (look : Look). let sgr : Sgr = record { fg = look.fg; bg = look.bg; underline_color = look.underline_color; modifier = look.modifier } in sgr) (ink-look c ∙ is.look)
+    ap (λ (look : Look). let sgr : Sgr = record {
+      fg = look.fg;
+      bg = look.bg;
+      underline_color = look.underline_color;
+      modifier = look.modifier;
+    } in sgr) (ink-look c ∙ is.look)
 
 -- ---- cells of which nothing is sent
 
-pub still-sends : (w h : ℕ) (u : Update) (before after : DrawState) (flags : List Bool) (old : List ℕ) → after.pen ≡ before.pen → after.cursor ≡ before.cursor → after.written ≡ min (before.written + 1) (2 ^ 64 - 1)
-    → ((c : Columns) → AreContinuations w h flags c → (a b : ℕ) → look_in (c a b) ≡ put w h u (λ i j. look_in (c i j)) a b) → SendsUpdates w h old before flags (u ∷ []) old after flags
+pub still-sends : (w h : ℕ) (u : Update) (before after : DrawState) (flags : List Bool) (old : List ℕ) → after.pen ≡ before.pen
+    → after.cursor ≡ before.cursor → after.written ≡ min (before.written + 1) (2 ^ 64 - 1)
+    → ((c : Columns) → AreContinuations w h flags c → (a b : ℕ) → look_in (c a b) ≡ put w h u (λ i j. look_in (c i j)) a b)
+    → SendsUpdates w h old before flags (u ∷ []) old after flags
 unfolding feed
 still-sends w h u before after flags old pen cursor count same = record {
   bytes = [];
@@ -195,24 +257,33 @@ still-sends w h u before after flags old pen cursor count same = record {
   };
 }
 
-pub put-off : (w h : ℕ) (u : Update) → (nat_lt u.x w && nat_lt u.y h) ≡ false → (c : Columns) (a b : ℕ) → look_in (c a b) ≡ put w h u (λ i j. look_in (c i j)) a b
+pub put-off : (w h : ℕ) (u : Update) → (nat_lt u.x w && nat_lt u.y h) ≡ false → (c : Columns) (a b : ℕ)
+    → look_in (c a b) ≡ put w h u (λ i j. look_in (c i j)) a b
 put-off w h u off c a b = rw off refl
 
 kept : (w x y a b : ℕ) (c : Columns) → look_in (c x y) ≡ empty_look
-    → look_in (c a b) ≡ (if nat_eq b y then (if nat_eq a x then empty_look else (if nat_lt x a && nat_lt a (x + 1) && nat_lt a w then empty_look else look_in (c a b))) else look_in (c a b))
+    → look_in (c a b) ≡ (if nat_eq b y then
+    (if nat_eq a x then empty_look else (if nat_lt x a && nat_lt a (x + 1) && nat_lt a w then empty_look else look_in
+    (c a b))) else look_in (c a b))
 kept w x y a b c shows =
-    elim (nat_eq b y) as (λ p. nat_eq b y ≡ p → look_in (c a b) ≡ (if p then (if nat_eq a x then empty_look else (if nat_lt x a && nat_lt a (x + 1) && nat_lt a w then empty_look else look_in (c a b))) else look_in (c a b))) [
-      | true ↦ λ e. elim (nat_eq a x) as (λ q. nat_eq a x ≡ q → look_in (c a b) ≡ (if q then empty_look else (if nat_lt x a && nat_lt a (x + 1) && nat_lt a w then empty_look else look_in (c a b)))) [
-        | true ↦ λ f.
-            let here_x : a ≡ x = grind (arith, nat_tests) in
-            let here_y : b ≡ y = grind (arith, nat_tests) in
-            ap₂ (λ i j. look_in (c i j)) here_x here_y ∙ shows
-        | false ↦ λ f. let g : (nat_lt x a && nat_lt a (x + 1)) ≡ false = grind (arith, nat_tests) in rw g refl
-      ] refl
+    elim (nat_eq b y) as (λ p. nat_eq b y ≡ p
+    → look_in (c a b) ≡ (if p then
+    (if nat_eq a x then empty_look else (if nat_lt x a && nat_lt a (x + 1) && nat_lt a w then empty_look else look_in
+    (c a b))) else look_in (c a b))) [
+      | true ↦ λ e. elim (nat_eq a x) as (λ q. nat_eq a x ≡ q
+          → look_in (c a b) ≡ (if q then empty_look else
+          (if nat_lt x a && nat_lt a (x + 1) && nat_lt a w then empty_look else look_in (c a b)))) [
+            | true ↦ λ f.
+                let here_x : a ≡ x = grind (arith, nat_tests) in
+                let here_y : b ≡ y = grind (arith, nat_tests) in
+                ap₂ (λ i j. look_in (c i j)) here_x here_y ∙ shows
+            | false ↦ λ f. let g : (nat_lt x a && nat_lt a (x + 1)) ≡ false = grind (arith, nat_tests) in rw g refl
+          ] refl
       | false ↦ λ e. refl
     ] refl
 
-pub put-vacant : (w h : ℕ) (u : Update) (flags : List Bool) → u.x < w → u.y < h → flag flags (u.y * w + u.x) ≡ true → IsVacant u.cell
+pub put-vacant : (w h : ℕ) (u : Update) (flags : List Bool) → u.x < w → u.y < h → flag flags (u.y * w + u.x) ≡ true
+    → IsVacant u.cell
     → (c : Columns) → AreContinuations w h flags c → (a b : ℕ) → look_in (c a b) ≡ put w h u (λ i j. look_in (c i j)) a b
 put-vacant w h u flags column row covered vacant c are a b =
     let x_test : nat_lt u.x w ≡ true = grind (arith, nat_tests) in
@@ -222,16 +293,20 @@ put-vacant w h u flags column row covered vacant c are a b =
 
 -- ---- which renditions are sent
 
-pub sendable-off : (w h : ℕ) (colors : Bool) (u : Update) → (nat_lt u.x w && nat_lt u.y h) ≡ false → is_sendable_on w h colors u ≡ true
+pub sendable-off : (w h : ℕ) (colors : Bool) (u : Update) → (nat_lt u.x w && nat_lt u.y h) ≡ false
+    → is_sendable_on w h colors u ≡ true
 sendable-off w h colors u off = rw off refl
 
-pub sendable-sgr : (w h : ℕ) (colors : Bool) (u : Update) → is_sendable_by colors (sgr_of u.cell) ≡ true → is_sendable_on w h colors u ≡ true
+pub sendable-sgr : (w h : ℕ) (colors : Bool) (u : Update) → is_sendable_by colors (sgr_of u.cell) ≡ true
+    → is_sendable_on w h colors u ≡ true
 sendable-sgr w h colors u sent = rw sent (or_right (not (nat_lt u.x w && nat_lt u.y h)) true refl)
 
 pub sendable-vacant : (w h : ℕ) (colors : Bool) (u : Update) → IsVacant u.cell → is_sendable_on w h colors u ≡ true
-sendable-vacant w h colors u vacant = sendable-sgr w h colors u (ap (is_sendable_by colors) (vacant-sgr u.cell vacant) ∙ own-sendable colors)
+sendable-vacant w h colors u vacant = sendable-sgr w h colors u (ap (is_sendable_by colors) (vacant-sgr u.cell vacant)
+    ∙ own-sendable colors)
 
-pub sendable-push : (w h : ℕ) (colors : Bool) (us : List Update) (u : Update) → list_all (is_sendable_on w h colors) us ≡ true → is_sendable_on w h colors u ≡ true
+pub sendable-push : (w h : ℕ) (colors : Bool) (us : List Update) (u : Update) → list_all (is_sendable_on w h colors) us ≡ true
+    → is_sendable_on w h colors u ≡ true
     → list_all (is_sendable_on w h colors) (us ++ u ∷ []) ≡ true
 sendable-push w h colors us u all sent = list_all-append (is_sendable_on w h colors) us (u ∷ []) ∙ rw (all, sent) refl
 
@@ -246,10 +321,12 @@ sends-none w h old d flags = record {
   draws = λ t is. Draws-none (screen_shown d.written (rested t));
 }
 
-pub sends-push : (w h : ℕ) (a b c : List ℕ) (p q r : DrawState) (f g k : List Bool) (us : List Update) (u : Update) → SendsUpdates w h a p f us b q g → SendsUpdates w h b q g (u ∷ []) c r k
+pub sends-push : (w h : ℕ) (a b c : List ℕ) (p q r : DrawState) (f g k : List Bool) (us : List Update) (u : Update)
+    → SendsUpdates w h a p f us b q g → SendsUpdates w h b q g (u ∷ []) c r k
     → SendsUpdates w h a p f (us ++ u ∷ []) c r k
 sends-push w h a b c p q r f g k us u first second =
-    let fed : (t : Emulator) → feed (first.bytes ++ second.bytes) t ≡ feed second.bytes (feed first.bytes t) = feed-append first.bytes second.bytes in
+    let fed : (t : Emulator) → feed (first.bytes ++ second.bytes) t ≡ feed second.bytes (feed first.bytes t) =
+    feed-append first.bytes second.bytes in
     record {
       bytes = first.bytes ++ second.bytes;
       appended = second.appended ∙ ap (λ xs. xs ++ second.bytes) first.appended ∙ append_assoc a first.bytes second.bytes;
@@ -260,7 +337,8 @@ sends-push w h a b c p q r f g k us u first second =
     }
 
 -- a draw begins with the own rendition and an unknown place
-pub begins : (w h : ℕ) (d : DrawState) (cursor : Position) (flags : List Bool) (t : Emulator) → d.pen.sgr ≡ default_sgr → d.pen.at ≡ None → d.cursor ≡ cursor → IsAwaiting w h cursor flags t → IsDrawing w h d flags t
+pub begins : (w h : ℕ) (d : DrawState) (cursor : Position) (flags : List Bool) (t : Emulator) → d.pen.sgr ≡ default_sgr
+    → d.pen.at ≡ None → d.cursor ≡ cursor → IsAwaiting w h cursor flags t → IsDrawing w h d flags t
 begins w h d cursor flags t own unplaced at is = record {
   drawn = record {
     phase = is.phase;
@@ -305,8 +383,10 @@ with-own w h t own ready = record {
 }
 
 -- and ends with the own rendition
-pub draw-sends : (w h : ℕ) (old mid new : List ℕ) (before after : DrawState) (cursor : Position) (written : ℕ) (flags flags_after : List Bool) (us : List Update) → before.pen.sgr ≡ default_sgr
-    → before.pen.at ≡ None → before.cursor ≡ cursor → before.written ≡ written → SendsUpdates w h old before flags us mid after flags_after → ChangesSgr after.pen.sgr default_sgr mid new
+pub draw-sends : (w h : ℕ) (old mid new : List ℕ) (before after : DrawState) (cursor : Position) (written : ℕ)
+    (flags flags_after : List Bool) (us : List Update) → before.pen.sgr ≡ default_sgr
+    → before.pen.at ≡ None → before.cursor ≡ cursor → before.written ≡ written
+    → SendsUpdates w h old before flags us mid after flags_after → ChangesSgr after.pen.sgr default_sgr mid new
     → SendsDraw w h old cursor written flags us new after.cursor after.written flags_after
 draw-sends w h old mid new before after cursor written flags flags_after us own unplaced at count sends changes =
     let start = λ (t : Emulator) (is : IsAwaiting w h cursor flags t). begins w h before cursor flags t own unplaced at is in
@@ -322,21 +402,27 @@ draw-sends w h old mid new before after cursor written flags flags_after us own 
               continuations = end.continuations;
               placed = end.cursor;
             };
-        draws = λ t is. subst (λ n. Draws (screen_shown n (rested t)) us (screen_shown after.written (rested (feed sends.bytes t)))) count (sends.draws t (start t is));
+        draws = λ t is. subst (λ n. Draws (screen_shown n (rested t)) us
+            (screen_shown after.written (rested (feed sends.bytes t)))) count (sends.draws t (start t is));
       }
       | Sets does ↦
-          let fed : (t : Emulator) → IsAwaiting w h cursor flags t → feed (sends.bytes ++ does.bytes) t ≡ with_sgr default_sgr (rested (feed sends.bytes t)) = λ t is.
+          let fed : (t : Emulator) → IsAwaiting w h cursor flags t
+          → feed (sends.bytes ++ does.bytes) t ≡ with_sgr default_sgr (rested (feed sends.bytes t)) = λ t is.
           feed-append sends.bytes does.bytes t ∙ does.read (feed sends.bytes t) (sends.drawing t (start t is)).drawn.phase in
           record {
             bytes = sends.bytes ++ does.bytes;
             appended = does.appended ∙ ap (λ xs. xs ++ does.bytes) sends.appended ∙ append_assoc old sends.bytes does.bytes;
             awaiting = λ t is.
                 let end = sends.drawing t (start t is) in
-                let last : IsAwaiting w h after.cursor flags_after (with_sgr default_sgr (rested (feed sends.bytes t))) = record { phase = refl; ready = end.ready; continuations = end.continuations; placed = end.cursor } in
+                let last : IsAwaiting w h after.cursor flags_after (with_sgr default_sgr (rested (feed sends.bytes t))) =
+                record { phase = refl; ready = end.ready; continuations = end.continuations; placed = end.cursor } in
                 subst (IsAwaiting w h after.cursor flags_after) (sym (fed t is)) last;
             draws = λ t is.
-                let before_count = subst (λ n. Draws (screen_shown n (rested t)) us (screen_shown after.written (rested (feed sends.bytes t)))) count (sends.draws t (start t is)) in
-                let same : Draws (screen_shown written (rested t)) us (screen_shown after.written (rested (with_sgr default_sgr (rested (feed sends.bytes t))))) = before_count in
-                subst (λ v. Draws (screen_shown written (rested t)) us (screen_shown after.written (rested v))) (sym (fed t is)) same;
+                let before_count = subst (λ n. Draws (screen_shown n (rested t)) us
+                (screen_shown after.written (rested (feed sends.bytes t)))) count (sends.draws t (start t is)) in
+                let same : Draws (screen_shown written (rested t)) us
+                (screen_shown after.written (rested (with_sgr default_sgr (rested (feed sends.bytes t))))) = before_count in
+                subst (λ v. Draws (screen_shown written (rested t)) us (screen_shown after.written (rested v)))
+                (sym (fed t is)) same;
           }
     ]

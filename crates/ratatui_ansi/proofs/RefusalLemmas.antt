@@ -1,5 +1,6 @@
 -- What refused calls leave, and where a draw stops.
-use Rattle.std.proofs.Common.{◌≡◌, ℕ, ◌+◌, ◌*◌, ◌<◌, Bool, true, IsTrue, List, map, Option, None, Result, Ok, Err, IsErr, IsErrAnd, IfErr, OnOk, sym, subst, ◌∙◌}
+use Rattle.std.proofs.Common.{◌≡◌, ℕ, ◌+◌, ◌*◌, ◌<◌, Bool, true, IsTrue, List, map, Option, None, Result, Ok, Err, IsErr}
+use Rattle.std.proofs.Common.{IsErrAnd, IfErr, OnOk, sym, subst, ◌∙◌}
 use Rattle.std.proofs.lemmas.Bool.{false≢true}
 use Rattle.ratatui_core.specs.{Layout.Position, Buffer.Update}
 use Rattle.ratatui_core.specs.Layout as layout
@@ -9,26 +10,40 @@ use Rattle.ratatui_ansi.specs.declared.error.AnsiError.TheVariants.{Memory, Symb
 use Rattle.ratatui_ansi.specs.declared.tracker.Call.TheVariants as Called
 use Rattle.ratatui_ansi.specs.{declared.draw.DrawState.DrawState, declared.draw.Refusal.Refusal, Backend.BackendState}
 use Rattle.ratatui_ansi.specs.declared.draw.Refusal.TheVariants as Refused
-use Rattle.ratatui_ansi.specs.{Tracker.IsAwaiting, Tracker.IsTracked, Tracker.IsUncollected, Errors.error_of, Frame.RefusesUpdate, Frame.IsDrawing}
-use Rattle.ansi_model.specs.{Flags.flag, Flags.is_clear_cut, Sgr.default_sgr, Screens.screen_shown, Sequences.feed, Emulator.Emulator, Emulator.rested}
-use Rattle.ratatui_ansi.specs.Refusals.{IsOfClearing, IsOfCall, FailsToResize, names_cell, has_place, IsRefusedOn, StopsWithin, StopsDraw}
-use Rattle.ratatui_ansi.proofs.{BackendLemmas.cursor-column, BackendLemmas.cursor-row, CoverLemmas.covered-continuation, FrameLemmas.begins}
+use Rattle.ratatui_ansi.specs.{Tracker.IsAwaiting, Tracker.IsTracked, Tracker.IsUncollected, Errors.error_of, Frame.RefusesUpdate}
+use Rattle.ratatui_ansi.specs.{Frame.IsDrawing}
+use Rattle.ansi_model.specs.{Flags.flag, Flags.is_clear_cut, Sgr.default_sgr, Screens.screen_shown, Sequences.feed}
+use Rattle.ansi_model.specs.{Emulator.Emulator, Emulator.rested}
+use Rattle.ratatui_ansi.specs.Refusals.{IsOfClearing, IsOfCall, FailsToResize, names_cell, has_place, IsRefusedOn, StopsWithin}
+use Rattle.ratatui_ansi.specs.Refusals.{StopsDraw}
+use Rattle.ratatui_ansi.proofs.{BackendLemmas.cursor-column, BackendLemmas.cursor-row, CoverLemmas.covered-continuation}
+use Rattle.ratatui_ansi.proofs.{FrameLemmas.begins}
 
 -- ---- where a draw stops
 
-refused-on : (w h : ℕ) (colors : Bool) (d : DrawState) (flags : List Bool) (t : Emulator) (u : Update) (refusal : Refusal) → IsDrawing w h d flags t → RefusesUpdate w h colors flags u refusal
+refused-on : (w h : ℕ) (colors : Bool) (d : DrawState) (flags : List Bool) (t : Emulator) (u : Update) (refusal : Refusal)
+    → IsDrawing w h d flags t → RefusesUpdate w h colors flags u refusal
     → IsRefusedOn colors (screen_shown d.written (rested t)) u refusal
 refused-on w h colors d flags t u Refused.Memory is because = tt
-refused-on w h colors d flags t u (Refused.Symbol p) is because = (rw (is.ready.rest.width, is.ready.rest.height) because.0, rw is.ready.rest.width because.2)
-refused-on w h colors d flags t u (Refused.Style p) is because = (rw (is.ready.rest.width, is.ready.rest.height) because.0, because.2)
+refused-on w h colors d flags t u (Refused.Symbol p) is because = (
+  rw (is.ready.rest.width, is.ready.rest.height) because.0,
+  rw is.ready.rest.width because.2,
+)
+refused-on w h colors d flags t u (Refused.Style p) is because = (
+  rw (is.ready.rest.width, is.ready.rest.height) because.0,
+  because.2,
+)
 refused-on w h colors d flags t u (Refused.Cut p) is because = (
   rw (is.ready.rest.width, is.ready.rest.height) because.0,
-  covered-continuation (rested t).columns is.ready.tidy.sized is.ready.tidy.whole u.x u.y (sym (is.continuations.each u.x u.y because.0.column because.0.row) ∙ because.1),
+  covered-continuation (rested t).columns is.ready.tidy.sized is.ready.tidy.whole u.x u.y
+      (sym (is.continuations.each u.x u.y because.0.column because.0.row) ∙ because.1),
   because.2,
 )
 
-pub stops-draw : {S A : Type 0} (steps : S → Option A → S → Type 0) (content : S) (update : A → Update) (w h : ℕ) (colors : Bool) (old : List ℕ) (d : DrawState) (cursor : Position) (written : ℕ) (flags : List Bool)
-    (refusal : Refusal) → d.pen.sgr ≡ default_sgr → d.pen.at ≡ None → d.cursor ≡ cursor → d.written ≡ written → StopsWithin steps content update w h colors old d flags refusal
+pub stops-draw : {S A : Type 0} (steps : S → Option A → S → Type 0) (content : S) (update : A → Update) (w h : ℕ) (colors : Bool)
+    (old : List ℕ) (d : DrawState) (cursor : Position) (written : ℕ) (flags : List Bool)
+    (refusal : Refusal) → d.pen.sgr ≡ default_sgr → d.pen.at ≡ None → d.cursor ≡ cursor → d.written ≡ written
+    → StopsWithin steps content update w h colors old d flags refusal
     → StopsDraw steps content update w h colors cursor written flags refusal
 stops-draw steps content update w h colors old d cursor written flags refusal own unplaced at count stops = record {
   stops = λ t is.
@@ -40,8 +55,10 @@ stops-draw steps content update w h colors old d cursor written flags refusal ow
         rest = stops.rest;
         gives = stops.gives;
         between = screen_shown stops.after.written (rested u);
-        draws = subst (λ n. Draws (screen_shown n (rested t)) (map update stops.front) (screen_shown stops.after.written (rested u))) count (stops.sends.draws t start);
-        refused = refused-on w h colors stops.after stops.flags_after u (update stops.item) refusal (stops.sends.drawing t start) stops.refused;
+        draws = subst (λ n. Draws (screen_shown n (rested t)) (map update stops.front)
+            (screen_shown stops.after.written (rested u))) count (stops.sends.draws t start);
+        refused = refused-on w h colors stops.after stops.flags_after u (update stops.item) refusal
+            (stops.sends.drawing t start) stops.refused;
       };
 }
 
@@ -53,14 +70,16 @@ named-place (Refused.Style p) named = named
 named-place (Refused.Cut p) named = named
 
 -- a clear that would cut a symbol has its cursor on a column that the symbol covers
-pub cut-is-covered : {w h : ℕ} {place : Position} {flags : List Bool} {t : Emulator} (written : ℕ) (kind : ClearType) → 0 < w → IsAwaiting w h place flags t
+pub cut-is-covered : {w h : ℕ} {place : Position} {flags : List Bool} {t : Emulator} (written : ℕ) (kind : ClearType) → 0 < w
+    → IsAwaiting w h place flags t
     → is_clear_cut kind w place.x place.y flags ≡ true → IsOfClearing (screen_shown written (rested t)) (Cut place)
 cut-is-covered {w} {h} {place} {flags} {t} written kind wide is cut =
     let set : flag flags (place.y * w + place.x) ≡ true = by_kind kind cut in
     let x_in : place.x < w = cursor-column wide is in
     let y_in : place.y < h = cursor-row is in (
       sym is.placed,
-      covered-continuation (rested t).columns is.ready.tidy.sized is.ready.tidy.whole place.x place.y (sym (is.continuations.each place.x place.y x_in y_in) ∙ set),
+      covered-continuation (rested t).columns is.ready.tidy.sized is.ready.tidy.whole place.x place.y
+          (sym (is.continuations.each place.x place.y x_in y_in) ∙ set),
     )
   where
     by_kind : (k : ClearType) → is_clear_cut k w place.x place.y flags ≡ true → flag flags (place.y * w + place.x) ≡ true
@@ -81,7 +100,8 @@ if-error P (Ok x) error is holds = tt
 if-error P (Err f) error is holds = subst P (sym is.1) holds
 
 -- a backend that takes its own size again keeps it
-pub size-stays : {W A : Type 0} (answer : Result A AnsiError) (size : layout.Size) (old new : BackendState W) → OnOk answer (new.size ≡ size) → IfErr answer (FailsToResize size old new) → old.size ≡ size → new.size ≡ size
+pub size-stays : {W A : Type 0} (answer : Result A AnsiError) (size : layout.Size) (old new : BackendState W)
+    → OnOk answer (new.size ≡ size) → IfErr answer (FailsToResize size old new) → old.size ≡ size → new.size ≡ size
 size-stays (Ok x) size old new same fails own = same
 size-stays (Err Memory) size old new same fails own = fails.size ∙ own
 size-stays (Err (Symbol p)) size old new same fails own = absurd fails
@@ -92,7 +112,8 @@ size-stays (Err Broken) size old new same fails own = absurd fails
 size-stays (Err (Write error)) size old new same fails own = fails.1 ∙ own
 
 -- why a call wasn't sent
-pub uncollected-why : (k : Tracker) (t : Emulator) (call : Call) (written : ℕ) (refusal : Refusal) → 0 < k.size.width → IsTracked k t → IsUncollected call k refusal → IsOfCall call (screen_shown written (rested t)) (error_of refusal)
+pub uncollected-why : (k : Tracker) (t : Emulator) (call : Call) (written : ℕ) (refusal : Refusal) → 0 < k.size.width
+    → IsTracked k t → IsUncollected call k refusal → IsOfCall call (screen_shown written (rested t)) (error_of refusal)
 uncollected-why k t (Called.Move p) written Refused.Memory wide is why = tt
 uncollected-why k t (Called.Show visible) written Refused.Memory wide is why = tt
 uncollected-why k t (Called.Command command) written Refused.Memory wide is why = tt
@@ -111,4 +132,5 @@ uncollected-why k t (Called.Append n) written (Refused.Cut p) wide is why = absu
 uncollected-why k t (Called.ScrollUp region n) written (Refused.Cut p) wide is why = absurd why.1
 uncollected-why k t (Called.ScrollDown region n) written (Refused.Cut p) wide is why = absurd why.1
 uncollected-why k t (Called.Clear kind) written (Refused.Cut p) wide is why =
-    subst (λ q. IsOfClearing (screen_shown written (rested t)) (Cut q)) (sym why.0) (cut-is-covered written kind wide is.awaiting why.1)
+    subst (λ q. IsOfClearing (screen_shown written (rested t)) (Cut q)) (sym why.0)
+    (cut-is-covered written kind wide is.awaiting why.1)

@@ -1,5 +1,6 @@
 -- The columns under a symbol, and what is left of one of which it covers the first part.
-use Rattle.std.proofs.Common.{◌≡◌, ℕ, ◌+◌, ◌-◌, ◌<◌, ◌≤◌, ◌==◌, ◌&&◌, ◌||◌, nat_lt, nat_eq, if◌then◌else◌, zero, suc, Bool, true, false, inl, inr, refl, sym, ap, ap₂, ◌∙◌, arith}
+use Rattle.std.proofs.Common.{◌≡◌, ℕ, ◌+◌, ◌-◌, ◌<◌, ◌≤◌, ◌==◌, ◌&&◌, ◌||◌, nat_lt, nat_eq, if◌then◌else◌, zero, suc, Bool, true}
+use Rattle.std.proofs.Common.{false, inl, inr, refl, sym, ap, ap₂, ◌∙◌, arith}
 use Rattle.std.proofs.lemmas.{Bool.or_right, Bool.cases_lt, Bool.Decides.nat_tests}
 use Rattle.std.specs.List.{list_any, range_with_len}
 use Rattle.ratatui_core.specs.Buffer.{Look, look_of, empty_look, width_of, Update, put}
@@ -21,7 +22,8 @@ laid x y n end look c a b =
     if run x y n a b then Shows look (a - x) n
     else (if run (x + n) y (end - (x + n)) a b then blank_column else c a b)
 
--- a symbol of n columns stands in column x of row y, blanks after it up to column k, and from there up to column `end` nothing is known
+-- a symbol of n columns stands in column x of row y, blanks after it up to column k, and from there up to column `end` nothing is
+-- known
 abbrev pub torn : ℕ → ℕ → ℕ → ℕ → ℕ → Look → Columns → Columns
 torn x y n k end look c a b = if run k y (end - k) a b then Unknown else laid x y n k look c a b
 
@@ -37,28 +39,35 @@ some_between f k (suc n) j low high e =
 
 -- ---- the three parts of the columns
 
-laid_cases : (x y n end : ℕ) (look : Look) (c : Columns) (a b : ℕ) (P : Column → Type 0) → (run x y n a b ≡ true → P (Shows look (a - x) n))
-    → (run x y n a b ≡ false → run (x + n) y (end - (x + n)) a b ≡ true → P blank_column) → (run x y n a b ≡ false → run (x + n) y (end - (x + n)) a b ≡ false → P (c a b)) → P (laid x y n end look c a b)
+laid_cases : (x y n end : ℕ) (look : Look) (c : Columns) (a b : ℕ) (P : Column → Type 0)
+    → (run x y n a b ≡ true → P (Shows look (a - x) n))
+    → (run x y n a b ≡ false → run (x + n) y (end - (x + n)) a b ≡ true → P blank_column)
+    → (run x y n a b ≡ false → run (x + n) y (end - (x + n)) a b ≡ false → P (c a b)) → P (laid x y n end look c a b)
 laid_cases x y n end look c a b P inside blank out =
-    elim (run x y n a b) as (λ p. run x y n a b ≡ p → P (if p then Shows look (a - x) n else (if run (x + n) y (end - (x + n)) a b then blank_column else c a b))) [
+    elim (run x y n a b) as (λ p. run x y n a b ≡ p
+    → P (if p then Shows look (a - x) n else (if run (x + n) y (end - (x + n)) a b then blank_column else c a b))) [
       | true ↦ inside
-      | false ↦ λ f. elim (run (x + n) y (end - (x + n)) a b) as (λ q. run (x + n) y (end - (x + n)) a b ≡ q → P (if q then blank_column else c a b)) [
-        | true ↦ λ g. blank f g
-        | false ↦ λ g. out f g
-      ] refl
+      | false ↦ λ f. elim (run (x + n) y (end - (x + n)) a b) as (λ q. run (x + n) y (end - (x + n)) a b ≡ q
+          → P (if q then blank_column else c a b)) [
+            | true ↦ λ g. blank f g
+            | false ↦ λ g. out f g
+          ] refl
     ] refl
 
-outside : (x y n end a b : ℕ) → x + n ≤ end → run x y n a b ≡ false → run (x + n) y (end - (x + n)) a b ≡ false → run x y (end - x) a b ≡ false
+outside : (x y n end a b : ℕ) → x + n ≤ end → run x y n a b ≡ false → run (x + n) y (end - (x + n)) a b ≡ false
+    → run x y (end - x) a b ≡ false
 outside x y n end a b ordered e f = grind (arith, nat_tests)
 
-laid-outside : (x y n end : ℕ) (look : Look) (c : Columns) (a b : ℕ) → x + n ≤ end → run x y (end - x) a b ≡ false → laid x y n end look c a b ≡ c a b
+laid-outside : (x y n end : ℕ) (look : Look) (c : Columns) (a b : ℕ) → x + n ≤ end → run x y (end - x) a b ≡ false
+    → laid x y n end look c a b ≡ c a b
 laid-outside x y n end look c a b ordered e =
     let f : run x y n a b ≡ false = grind (arith, nat_tests) in
     let g : run (x + n) y (end - (x + n)) a b ≡ false = grind (arith, nat_tests) in
     rw (f, g) refl
 
 -- a symbol outside the columns of the new one and the tail has none of its columns in them
-apart_from : (x y n end a b : ℕ) (look : Look) (i m : ℕ) (c : Columns) → is_continuation (c x y) ≡ false → IsTail (x + n) end y c → IsWholeAt (λ k. c k b) a (Shows look i m)
+apart_from : (x y n end a b : ℕ) (look : Look) (i m : ℕ) (c : Columns) → is_continuation (c x y) ≡ false → IsTail (x + n) end y c
+    → IsWholeAt (λ k. c k b) a (Shows look i m)
     → run x y (end - x) a b ≡ false → (k : ℕ) → a - i ≤ k → k < (a - i) + m → run x y (end - x) k b ≡ false
 apart_from x y n end a b look i m c left tail whole out =
     let ordered : x + n ≤ end = tail.ordered in
@@ -67,30 +76,40 @@ apart_from x y n end a b look i m c left tail whole out =
 
 -- ---- what the columns are
 
-pub laid-sized : (x y n end : ℕ) (look : Look) (c : Columns) → n ≡ printed_columns look.symbol → HaveOwnWidths c → HaveOwnWidths (laid x y n end look c)
-laid-sized x y n end look c takes sized a b = laid_cases x y n end look c a b HasOwnWidth (λ e. takes) (λ e f. blank-sized) (λ e f. sized a b)
+pub laid-sized : (x y n end : ℕ) (look : Look) (c : Columns) → n ≡ printed_columns look.symbol → HaveOwnWidths c
+    → HaveOwnWidths (laid x y n end look c)
+laid-sized x y n end look c takes sized a b = laid_cases x y n end look c a b HasOwnWidth (λ e. takes) (λ e f. blank-sized)
+    (λ e f. sized a b)
 
-pub laid-beyond : (w x y n end : ℕ) (look : Look) (c : Columns) → x + n ≤ w → IsBlankBeyond w c → IsBlankBeyond w (laid x y n end look c)
+pub laid-beyond : (w x y n end : ℕ) (look : Look) (c : Columns) → x + n ≤ w → IsBlankBeyond w c
+    → IsBlankBeyond w (laid x y n end look c)
 laid-beyond w x y n end look c fits beyond a b far =
-    laid_cases x y n end look c a b (λ d. d ≡ blank_column) (λ e. let near : a < x + n = grind (arith, nat_tests) in absurd (omega arith)) (λ e f. refl) (λ e f. beyond a b far)
+    laid_cases x y n end look c a b (λ d. d ≡ blank_column) (λ e. let near : a < x + n = grind (arith, nat_tests) in
+    absurd (omega arith)) (λ e f. refl) (λ e f. beyond a b far)
 
 pub laid-continuations : (x y n end : ℕ) (look : Look) (c : Columns) (a b : ℕ)
-    → is_continuation (laid x y n end look c a b) ≡ (if run x y n a b then nat_lt x a else (if run (x + n) y (end - (x + n)) a b then false else is_continuation (c a b)))
+    → is_continuation (laid x y n end look c a b) ≡
+    (if run x y n a b then nat_lt x a else (if run (x + n) y (end - (x + n)) a b then false else is_continuation (c a b)))
 laid-continuations x y n end look c a b =
-    laid_cases x y n end look c a b (λ d. is_continuation d ≡ (if run x y n a b then nat_lt x a else (if run (x + n) y (end - (x + n)) a b then false else is_continuation (c a b))))
+    laid_cases x y n end look c a b
+    (λ d. is_continuation d ≡ (if run x y n a b then nat_lt x a else
+    (if run (x + n) y (end - (x + n)) a b then false else is_continuation (c a b))))
     (λ e. rw e (index-later x a)) (λ e f. rw (e, f) refl) (λ e f. rw (e, f) refl)
 
-whole_outside : (x y n end a b : ℕ) (look : Look) (c : Columns) (d : Column) → is_continuation (c x y) ≡ false → IsTail (x + n) end y c → run x y (end - x) a b ≡ false
+whole_outside : (x y n end a b : ℕ) (look : Look) (c : Columns) (d : Column) → is_continuation (c x y) ≡ false
+    → IsTail (x + n) end y c → run x y (end - x) a b ≡ false
     → IsWholeAt (λ k. c k b) a d → IsWholeAt (λ k. laid x y n end look c k b) a d
 whole_outside x y n end a b look c Unknown left tail out whole = tt
 whole_outside x y n end a b look c (Shows other i m) left tail out whole = (
   whole.0,
   whole.1,
   λ j below.
-      laid-outside x y n end look c ((a - i) + j) b tail.ordered (apart_from x y n end a b other i m c left tail whole out ((a - i) + j) (omega arith) (omega arith)) ∙ whole.2 j below,
+      laid-outside x y n end look c ((a - i) + j) b tail.ordered (apart_from x y n end a b other i m c left tail whole out
+      ((a - i) + j) (omega arith) (omega arith)) ∙ whole.2 j below,
 )
 
-pub laid-whole : (x y n end : ℕ) (look : Look) (c : Columns) → IsWhole c → is_continuation (c x y) ≡ false → IsTail (x + n) end y c → IsWhole (laid x y n end look c)
+pub laid-whole : (x y n end : ℕ) (look : Look) (c : Columns) → IsWhole c → is_continuation (c x y) ≡ false
+    → IsTail (x + n) end y c → IsWhole (laid x y n end look c)
 laid-whole x y n end look c whole left tail a b =
     let ordered : x + n ≤ end = tail.ordered in
     laid_cases x y n end look c a b (IsWholeAt (λ k. laid x y n end look c k b) a)
@@ -128,14 +147,16 @@ if_past true q r s = refl
 if_past false q r s = refl
 
 -- columns and looks: the put of the cells' grids
-pub laid-shown : (w h x y n end : ℕ) (u : Update) (c : Columns) → IsTail (x + n) end y c → u.x ≡ x → u.y ≡ y → width_of u.cell ≡ n → 0 < n → x + n ≤ w → y < h
+pub laid-shown : (w h x y n end : ℕ) (u : Update) (c : Columns) → IsTail (x + n) end y c → u.x ≡ x → u.y ≡ y → width_of u.cell ≡ n
+    → 0 < n → x + n ≤ w → y < h
     → (a b : ℕ) → look_in (laid x y n end (look_of u.cell) c a b) ≡ put w h u (λ i j. look_in (c i j)) a b
 laid-shown w h x y n end u c tail ex ey en some fits y_in a b =
     let x_test : nat_lt x w ≡ true = grind (arith, nat_tests) in
     let y_test : nat_lt y h ≡ true = grind (arith, nat_tests) in
     rw (ex, ey, en, x_test, y_test)
     (laid_cases x y n end (look_of u.cell) c a b
-    (λ d. look_in d ≡ (if nat_eq b y then (if nat_eq a x then look_of u.cell else (if nat_lt x a && nat_lt a (x + n) && nat_lt a w then empty_look else look_in (c a b))) else look_in (c a b)))
+    (λ d. look_in d ≡ (if nat_eq b y then (if nat_eq a x then look_of u.cell else
+    (if nat_lt x a && nat_lt a (x + n) && nat_lt a w then empty_look else look_in (c a b))) else look_in (c a b)))
     (λ e.
     let row : nat_eq b y ≡ true = grind (arith, nat_tests) in
     let high : nat_lt a (x + n) ≡ true = grind (arith, nat_tests) in
@@ -148,9 +169,12 @@ laid-shown w h x y n end u c tail ex ey en some fits y_in a b =
     let past : nat_lt a (x + n) ≡ false = grind (arith, nat_tests) in
     let low : x + n ≤ a = grind (arith, nat_tests) in
     let high : a < end = grind (arith, nat_tests) in
-    let continuations : is_continuation (c a b) ≡ true = ap (λ k. is_continuation (c a k)) same_row ∙ tail.continuations a low high in
-    rw (row, other, past) (sym (if_past (nat_lt x a) (nat_lt a w) empty_look (look_in (c a b)) ∙ continuation-empty (c a b) continuations)))
-    (λ e f. rest-same (nat_eq b y) (nat_eq a x) (nat_lt x a && nat_lt a (x + n) && nat_lt a w) (look_of u.cell) (look_in (c a b)) empty_look
+    let continuations : is_continuation (c a b) ≡ true = ap (λ k. is_continuation (c a k)) same_row
+    ∙ tail.continuations a low high in
+    rw (row, other, past) (sym (if_past (nat_lt x a) (nat_lt a w) empty_look (look_in (c a b))
+    ∙ continuation-empty (c a b) continuations)))
+    (λ e f. rest-same (nat_eq b y) (nat_eq a x) (nat_lt x a && nat_lt a (x + n) && nat_lt a w) (look_of u.cell)
+    (look_in (c a b)) empty_look
     (λ row. grind (arith, nat_tests)) (λ row. grind (arith, nat_tests))))
 
 -- ---- the columns while the tail is emptied
@@ -159,7 +183,8 @@ later : (i : ℕ) → (if i == 0 then false else true) ≡ true → 0 < i
 later i e = grind (arith, nat_tests)
 
 -- the symbol of a column in the tail begins before the tail
-before : (x y n end a b : ℕ) (look : Look) (i m : ℕ) (c : Columns) → IsWholeAt (λ k. c k b) a (Shows look i m) → 0 < i → IsTail (x + n) end y c → b ≡ y → a < end → a - i < x + n
+before : (x y n end a b : ℕ) (look : Look) (i m : ℕ) (c : Columns) → IsWholeAt (λ k. c k b) a (Shows look i m) → 0 < i
+    → IsTail (x + n) end y c → b ≡ y → a < end → a - i < x + n
 before x y n end a b look i m c whole some tail row high =
     elim (cases_lt (a - i) (x + n)) [
       | inl e ↦ e
@@ -173,7 +198,8 @@ before x y n end a b look i m c whole some tail row high =
           absurd h
     ]
 
-tail-met : (x y n end a b : ℕ) (c : Columns) (d : Column) → IsWholeAt (λ k. c k b) a d → is_continuation d ≡ true → IsTail (x + n) end y c → 0 < n → b ≡ y → x + n ≤ a → a < end
+tail-met : (x y n end a b : ℕ) (c : Columns) (d : Column) → IsWholeAt (λ k. c k b) a d → is_continuation d ≡ true
+    → IsTail (x + n) end y c → 0 < n → b ≡ y → x + n ≤ a → a < end
     → is_met (run x y n) a b d ≡ true
 tail-met x y n end a b c Unknown whole continuations tail some row low high = let h : ⊥ = cc in absurd h
 tail-met x y n end a b c (Shows look i m) whole continuations tail some row low high =
@@ -183,14 +209,17 @@ tail-met x y n end a b c (Shows look i m) whole continuations tail some row low 
     let inside : run x y n (x + n - 1) b ≡ true = grind (arith, nat_tests) in
     some_between (λ k. run x y n k b) (a - i) m (x + n - 1) (omega arith) (omega arith) inside
 
-met-none : (x y n end a b : ℕ) (area : ℕ → ℕ → Bool) (c : Columns) (d : Column) → is_continuation (c x y) ≡ false → IsTail (x + n) end y c → run x y (end - x) a b ≡ false → IsWholeAt (λ k. c k b) a d
+met-none : (x y n end a b : ℕ) (area : ℕ → ℕ → Bool) (c : Columns) (d : Column) → is_continuation (c x y) ≡ false
+    → IsTail (x + n) end y c → run x y (end - x) a b ≡ false → IsWholeAt (λ k. c k b) a d
     → ((k : ℕ) → run x y (end - x) k b ≡ false → area k b ≡ false) → is_met area a b d ≡ false
 met-none x y n end a b area c Unknown left tail out whole within = refl
 met-none x y n end a b area c (Shows look i m) left tail out whole within =
-    none_between (λ k. area k b) (a - i) m (λ k low high. within k (apart_from x y n end a b look i m c left tail whole out k low high))
+    none_between (λ k. area k b) (a - i) m
+    (λ k low high. within k (apart_from x y n end a b look i m c left tail whole out k low high))
 
 -- the symbol alone: what it cut isn't known
-pub put-torn : (x y n end : ℕ) (look : Look) (c : Columns) → IsWhole c → is_continuation (c x y) ≡ false → IsTail (x + n) end y c → 0 < n
+pub put-torn : (x y n end : ℕ) (look : Look) (c : Columns) → IsWhole c → is_continuation (c x y) ≡ false → IsTail (x + n) end y c
+    → 0 < n
     → (a b : ℕ) → put_columns x y n look c a b ≡ torn x y n (x + n) end look c a b
 put-torn x y n end look c whole left tail some a b =
     let ordered : x + n ≤ end = tail.ordered in
@@ -198,28 +227,34 @@ put-torn x y n end look c whole left tail some a b =
       | true ↦ λ e.
           let f : run (x + n) y (end - (x + n)) a b ≡ false = grind (arith, nat_tests) in
           rw (e, f) refl
-      | false ↦ λ e. elim (run (x + n) y (end - (x + n)) a b) as (λ q. run (x + n) y (end - (x + n)) a b ≡ q → put_columns x y n look c a b ≡ torn x y n (x + n) end look c a b) [
-        | true ↦ λ f.
-            let row : b ≡ y = grind (arith, nat_tests) in
-            let low : x + n ≤ a = grind (arith, nat_tests) in
-            let high : a < end = grind (arith, nat_tests) in
-            let continuations : is_continuation (c a b) ≡ true = ap (λ k. is_continuation (c a k)) row ∙ tail.continuations a low high in
-            let met : is_met (run x y n) a b (c a b) ≡ true = tail-met x y n end a b c (c a b) (whole a b) continuations tail some row low high in
-            rw (e, f, met) refl
-        | false ↦ λ f.
-            let g : run (x + n) y (x + n - (x + n)) a b ≡ false = grind (arith, nat_tests) in
-            let met : is_met (run x y n) a b (c a b) ≡ false = met-none x y n end a b (run x y n) c (c a b) left tail (outside x y n end a b ordered e f) (whole a b)
-            (λ k out. grind (arith, nat_tests)) in
-            rw (e, f, g, met) refl
-      ] refl
+      | false ↦ λ e. elim (run (x + n) y (end - (x + n)) a b) as (λ q. run (x + n) y (end - (x + n)) a b ≡ q
+          → put_columns x y n look c a b ≡ torn x y n (x + n) end look c a b) [
+            | true ↦ λ f.
+                let row : b ≡ y = grind (arith, nat_tests) in
+                let low : x + n ≤ a = grind (arith, nat_tests) in
+                let high : a < end = grind (arith, nat_tests) in
+                let continuations : is_continuation (c a b) ≡ true = ap (λ k. is_continuation (c a k)) row
+                ∙ tail.continuations a low high in
+                let met : is_met (run x y n) a b (c a b) ≡ true = tail-met x y n end a b c (c a b)
+                (whole a b) continuations tail some row low high in
+                rw (e, f, met) refl
+            | false ↦ λ f.
+                let g : run (x + n) y (x + n - (x + n)) a b ≡ false = grind (arith, nat_tests) in
+                let met : is_met (run x y n) a b (c a b) ≡ false = met-none x y n end a b (run x y n) c (c a b) left tail
+                (outside x y n end a b ordered e f) (whole a b)
+                (λ k out. grind (arith, nat_tests)) in
+                rw (e, f, g, met) refl
+          ] refl
     ] refl
 
-laid-more : (x y n k : ℕ) (look : Look) (c : Columns) (a b : ℕ) → run k y 1 a b ≡ false → x + n ≤ k → laid x y n k look c a b ≡ laid x y n (k + 1) look c a b
+laid-more : (x y n k : ℕ) (look : Look) (c : Columns) (a b : ℕ) → run k y 1 a b ≡ false → x + n ≤ k
+    → laid x y n k look c a b ≡ laid x y n (k + 1) look c a b
 laid-more x y n k look c a b other low =
     let same : run (x + n) y (k - (x + n)) a b ≡ run (x + n) y (k + 1 - (x + n)) a b = grind (arith, nat_tests) in
     rw same refl
 
-laid-apart : (x y n k end a b : ℕ) (look : Look) (c : Columns) → IsWhole c → is_continuation (c x y) ≡ false → IsTail (x + n) end y c → x + n ≤ k → k < end → run k y (end - k) a b ≡ false
+laid-apart : (x y n k end a b : ℕ) (look : Look) (c : Columns) → IsWhole c → is_continuation (c x y) ≡ false
+    → IsTail (x + n) end y c → x + n ≤ k → k < end → run k y (end - k) a b ≡ false
     → is_met (run k y 1) a b (laid x y n k look c a b) ≡ false
 laid-apart x y n k end a b look c whole left tail low high out =
     laid_cases x y n k look c a b (λ d. is_met (run k y 1) a b d ≡ false)
@@ -234,7 +269,8 @@ laid-apart x y n k end a b look c whole left tail low high out =
     met-none x y n end a b (run k y 1) c (c a b) left tail all_out (whole a b) (λ j out_j. grind (arith, nat_tests)))
 
 -- one more blank
-pub torn-more : (x y n k end : ℕ) (look : Look) (c d : Columns) → IsWhole c → is_continuation (c x y) ≡ false → IsTail (x + n) end y c → x + n ≤ k → k < end → ((a b : ℕ) → d a b ≡ torn x y n k end look c a b)
+pub torn-more : (x y n k end : ℕ) (look : Look) (c d : Columns) → IsWhole c → is_continuation (c x y) ≡ false
+    → IsTail (x + n) end y c → x + n ≤ k → k < end → ((a b : ℕ) → d a b ≡ torn x y n k end look c a b)
     → (a b : ℕ) → put_columns k y 1 empty_look d a b ≡ torn x y n (k + 1) end look c a b
 torn-more x y n k end look c d whole left tail low high same a b =
     elim (run k y 1 a b) as (λ p. run k y 1 a b ≡ p → put_columns k y 1 empty_look d a b ≡ torn x y n (k + 1) end look c a b) [
@@ -245,17 +281,19 @@ torn-more x y n k end look c d whole left tail low high same a b =
           let here : a ≡ k = grind (arith, nat_tests) in
           let none : a - k ≡ 0 = omega arith in
           rw (e, f, g, i) (ap (λ j. Shows empty_look j 1) none)
-      | false ↦ λ e. elim (run k y (end - k) a b) as (λ q. run k y (end - k) a b ≡ q → put_columns k y 1 empty_look d a b ≡ torn x y n (k + 1) end look c a b) [
-        | true ↦ λ f.
-            let g : run (k + 1) y (end - (k + 1)) a b ≡ true = grind (arith, nat_tests) in
-            let unknown : d a b ≡ Unknown = same a b ∙ rw f refl in
-            rw (e, g, unknown) refl
-        | false ↦ λ f.
-            let g : run (k + 1) y (end - (k + 1)) a b ≡ false = grind (arith, nat_tests) in
-            let is : d a b ≡ laid x y n k look c a b = same a b ∙ rw f refl in
-            let met : is_met (run k y 1) a b (d a b) ≡ false = ap (is_met (run k y 1) a b) is ∙ laid-apart x y n k end a b look c whole left tail low high f in
-            rw (e, g, met) (is ∙ laid-more x y n k look c a b e low)
-      ] refl
+      | false ↦ λ e. elim (run k y (end - k) a b) as (λ q. run k y (end - k) a b ≡ q
+          → put_columns k y 1 empty_look d a b ≡ torn x y n (k + 1) end look c a b) [
+            | true ↦ λ f.
+                let g : run (k + 1) y (end - (k + 1)) a b ≡ true = grind (arith, nat_tests) in
+                let unknown : d a b ≡ Unknown = same a b ∙ rw f refl in
+                rw (e, g, unknown) refl
+            | false ↦ λ f.
+                let g : run (k + 1) y (end - (k + 1)) a b ≡ false = grind (arith, nat_tests) in
+                let is : d a b ≡ laid x y n k look c a b = same a b ∙ rw f refl in
+                let met : is_met (run k y 1) a b (d a b) ≡ false = ap (is_met (run k y 1) a b) is
+                ∙ laid-apart x y n k end a b look c whole left tail low high f in
+                rw (e, g, met) (is ∙ laid-more x y n k look c a b e low)
+          ] refl
     ] refl
 
 -- the tail is empty

@@ -2,15 +2,19 @@
 use Rattle.std.proofs.Common.{◌≡◌, ℕ, Bool, true, false, List, [], ◌++◌, refl, sym, ap, ◌∙◌, subst, append_assoc}
 use Rattle.ratatui_core.specs.{Layout.Position, Buffer.Update, Backend.Draws, Backend.cursor_of}
 use Rattle.ansi_model.specs.Emulator.{Emulator, rested, holding}
-use Rattle.ansi_model.specs.{Modes.no_modes, Sequences.feed, Sends.Performs, Sends.IsWithinUpdate, Screens.screen_shown, Screens.IsIdle, Flags.AreContinuations}
-use Rattle.ansi_model.proofs.{ReadLemmas.feed-append, ReadLemmas.after-those, ScrollLemmas.rested-ready, HistoryLemmas.feed-held, HistoryLemmas.rested-held}
+use Rattle.ansi_model.specs.{Modes.no_modes, Sequences.feed, Sends.Performs, Sends.IsWithinUpdate, Screens.screen_shown}
+use Rattle.ansi_model.specs.{Screens.IsIdle, Flags.AreContinuations}
+use Rattle.ansi_model.proofs.{ReadLemmas.feed-append, ReadLemmas.after-those, ScrollLemmas.rested-ready, HistoryLemmas.feed-held}
+use Rattle.ansi_model.proofs.{HistoryLemmas.rested-held}
 use Rattle.ratatui_ansi.specs.{Tracker.IsAwaiting, Frame.SendsDraw}
 
 -- an awaiting terminal rests
-rests : {w h : ℕ} {place : Position} {flags : List Bool} {t : Emulator} → IsAwaiting w h place flags t → rested (rested t) ≡ rested t
+rests : {w h : ℕ} {place : Position} {flags : List Bool} {t : Emulator} → IsAwaiting w h place flags t
+    → rested (rested t) ≡ rested t
 rests {w} {h} {t = t} awaits = rested-ready w h (rested t) awaits.ready
 
-rests-awaiting : {w h : ℕ} {place : Position} {flags : List Bool} {t : Emulator} → IsAwaiting w h place flags t → IsAwaiting w h place flags (rested t)
+rests-awaiting : {w h : ℕ} {place : Position} {flags : List Bool} {t : Emulator} → IsAwaiting w h place flags t
+    → IsAwaiting w h place flags (rested t)
 rests-awaiting {w} {h} {place} {flags} {t} awaits =
     let e : rested (rested t) ≡ rested t = rests awaits in
     record {
@@ -24,8 +28,11 @@ rests-awaiting {w} {h} {place} {flags} {t} awaits =
 holding-none : (t : Emulator) → t.modes ≡ no_modes → holding false t ≡ t
 holding-none t none = ap (λ m. record t { modes = record m { held = false } }) none ∙ ap (λ m. record t { modes = m }) (sym none)
 
-module _ {w h : ℕ} {old opened drawn new : List ℕ} {cursor after : Position} {written count : ℕ} {flags flags_after : List Bool} {us : List Update}
-    (opens : Performs old opened (holding true)) (sends : SendsDraw w h opened cursor written flags us drawn after count flags_after) (closes : Performs drawn new (holding false)) where
+module _ {w h : ℕ} {old opened drawn new : List ℕ} {cursor after : Position} {written count : ℕ} {flags flags_after : List Bool}
+    {us : List Update}
+    (opens : Performs old opened (holding true))
+    (sends : SendsDraw w h opened cursor written flags us drawn after count flags_after)
+    (closes : Performs drawn new (holding false)) where
   bytes : List ℕ
   bytes = opens.bytes ++ (sends.bytes ++ closes.bytes)
 
@@ -37,28 +44,40 @@ module _ {w h : ℕ} {old opened drawn new : List ℕ} {cursor after : Position}
       let u : Emulator = feed sends.bytes s in
       let held = feed-held sends.bytes true s in
       let drew = sends.awaiting s (rests-awaiting awaits) in
-      feed-append opens.bytes (sends.bytes ++ closes.bytes) t ∙ ap (feed (sends.bytes ++ closes.bytes)) (opens.read t awaits.phase)
+      feed-append opens.bytes (sends.bytes ++ closes.bytes) t ∙ ap (feed (sends.bytes ++ closes.bytes))
+      (opens.read t awaits.phase)
       ∙ feed-append sends.bytes closes.bytes (holding true s) ∙ ap (feed closes.bytes) held.1
-      ∙ closes.read (holding held.0 u) drew.phase ∙ ap (holding false) (rested-held held.0 u) ∙ holding-none (rested u) drew.ready.rest.modes
+      ∙ closes.read (holding held.0 u) drew.phase ∙ ap (holding false) (rested-held held.0 u)
+      ∙ holding-none (rested u) drew.ready.rest.modes
 
   pub update-drawn : SendsDraw w h old cursor written flags us new after count flags_after
   unfolding bytes
   update-drawn = record {
     bytes = bytes;
-    appended = after-those old opened new opens.bytes (sends.bytes ++ closes.bytes) opens.appended (after-those opened drawn new sends.bytes closes.bytes sends.appended closes.appended);
-    awaiting = λ t awaits. subst (IsAwaiting w h after flags_after) (sym (update-read t awaits)) (rests-awaiting (sends.awaiting (rested t) (rests-awaiting awaits)));
+    appended = after-those old opened new opens.bytes (sends.bytes ++ closes.bytes) opens.appended
+        (after-those opened drawn new sends.bytes closes.bytes sends.appended closes.appended);
+    awaiting = λ t awaits. subst (IsAwaiting w h after flags_after) (sym (update-read t awaits))
+        (rests-awaiting (sends.awaiting (rested t) (rests-awaiting awaits)));
     draws = λ t awaits.
         let u : Emulator = feed sends.bytes (rested t) in
-        let there : rested (feed bytes t) ≡ rested u = ap rested (update-read t awaits) ∙ rests (sends.awaiting (rested t) (rests-awaiting awaits)) in
+        let there : rested (feed bytes t) ≡ rested u = ap rested (update-read t awaits)
+        ∙ rests (sends.awaiting (rested t) (rests-awaiting awaits)) in
         subst (λ x. Draws (screen_shown written (rested t)) us (screen_shown count x)) (sym there)
-        (subst (λ x. Draws (screen_shown written x) us (screen_shown count (rested u))) (rests awaits) (sends.draws (rested t) (rests-awaiting awaits)));
+        (subst (λ x. Draws (screen_shown written x) us (screen_shown count (rested u))) (rests awaits)
+        (sends.draws (rested t) (rests-awaiting awaits)));
   }
 
   pub update-within : IsWithinUpdate old new
-  update-within = record { opened = opened; opens = opens; bytes = sends.bytes; closes = subst (λ xs. Performs xs new (holding false)) sends.appended closes }
+  update-within = record {
+    opened = opened;
+    opens = opens;
+    bytes = sends.bytes;
+    closes = subst (λ xs. Performs xs new (holding false)) sends.appended closes;
+  }
 
 -- the same after bytes that were sent before
-pub within-sent : (before out more after : List ℕ) → IsWithinUpdate out more → out ≡ [] → after ≡ before ++ more → IsWithinUpdate before after
+pub within-sent : (before out more after : List ℕ) → IsWithinUpdate out more → out ≡ [] → after ≡ before ++ more
+    → IsWithinUpdate before after
 within-sent before out more after within none e = record {
   opened = before ++ within.opened;
   opens = record {
@@ -69,7 +88,8 @@ within-sent before out more after within none e = record {
   bytes = within.bytes;
   closes = record {
     bytes = within.closes.bytes;
-    appended = e ∙ ap (λ xs. before ++ xs) within.closes.appended ∙ sym (append_assoc before (within.opened ++ within.bytes) within.closes.bytes)
+    appended = e ∙ ap (λ xs. before ++ xs) within.closes.appended
+        ∙ sym (append_assoc before (within.opened ++ within.bytes) within.closes.bytes)
         ∙ ap (λ xs. xs ++ within.closes.bytes) (sym (append_assoc before within.opened within.bytes));
     read = within.closes.read;
   };

@@ -3,7 +3,8 @@ use Rattle.std.specs.Prelude.{ℕ, List, ◌++◌, Option, None, Some, codes}
 use Rattle.ratatui_core.specs.Layout.{position_text}
 use Rattle.ratatui_ansi.specs.{declared.draw.Refusal.Refusal, declared.error.AnsiError.AnsiError}
 use Rattle.ratatui_ansi.specs.declared.draw.Refusal.TheVariants as Refused
-use Rattle.ratatui_ansi.specs.declared.error.AnsiError.TheVariants.{Memory, Symbol, Style, Cut, Size, Broken, Write}
+use Rattle.ratatui_ansi.specs.declared.error.AnsiError.TheVariants.{Memory, Symbol, Style, Cut, Size, Broken}
+use Rattle.ratatui_ansi.specs.declared.error.AnsiError.TheVariants.{Write}
 
 -- the printed error, which is unknown if it is the writer's
 abbrev pub ansi_error_text : AnsiError → Option (List ℕ)

@@ -1,15 +1,20 @@
 -- What a backend's call leaves, by its answer, and where a draw stops.
-use Rattle.std.specs.Prelude.{◌≡◌, ℕ, ◌-◌, ◌<◌, ◌⊎◌, Bool, true, false, IsTrue, List, map, Option, Some, Result, MatchResult}
+use Rattle.std.specs.Prelude.{◌≡◌, ℕ, ◌-◌, ◌<◌, ◌⊎◌, Bool, true, false, IsTrue, List, map, Option, Some}
+use Rattle.std.specs.Prelude.{Result, MatchResult}
 use Rattle.std.specs.{Borrow.Bor, Iterator.YieldsThen, Iterator.YieldsFirstBy}
-use Rattle.ratatui_core.specs.{Layout.Position, Buffer.Update, Buffer.Cell, Buffer.update_by, Backend.Screen, Backend.Draws, Backend.cursor_of}
+use Rattle.ratatui_core.specs.{Layout.Position, Buffer.Update, Buffer.Cell, Buffer.update_by, Backend.Screen}
+use Rattle.ratatui_core.specs.{Backend.Draws, Backend.cursor_of}
 use Rattle.ratatui_core.specs.Layout as layout
-use Rattle.ratatui_ansi.specs.{declared.error.AnsiError.AnsiError, declared.draw.DrawState.DrawState, declared.draw.Refusal.Refusal, declared.tracker.Call.Call}
-use Rattle.ratatui_ansi.specs.declared.error.AnsiError.TheVariants.{Memory, Symbol, Style, Cut, Size, Broken, Write}
+use Rattle.ratatui_ansi.specs.{declared.error.AnsiError.AnsiError, declared.draw.DrawState.DrawState}
+use Rattle.ratatui_ansi.specs.{declared.draw.Refusal.Refusal, declared.tracker.Call.Call}
+use Rattle.ratatui_ansi.specs.declared.error.AnsiError.TheVariants.{Memory, Symbol, Style, Cut, Size, Broken}
+use Rattle.ratatui_ansi.specs.declared.error.AnsiError.TheVariants.{Write}
 use Rattle.ratatui_ansi.specs.declared.draw.Refusal.TheVariants as Refused
 use Rattle.ratatui_ansi.specs.declared.tracker.Call.TheVariants as Called
 use Rattle.ratatui_ansi.specs.{Backend.BackendState, Tracker.IsAwaiting, Covered.IsCovered, Errors.error_of}
 use Rattle.ratatui_ansi.specs.Frame.{is_fit, IsVacant, IsOnScreenAt, RefusesUpdate, SendsUpdates}
-use Rattle.ansi_model.specs.{Parameters.is_sendable_by, Sgr.sgr_of, Screens.screen_shown, Emulator.Emulator, Emulator.rested}
+use Rattle.ansi_model.specs.{Parameters.is_sendable_by, Sgr.sgr_of, Screens.screen_shown, Emulator.Emulator}
+use Rattle.ansi_model.specs.{Emulator.rested}
 
 -- ---- what is left
 
@@ -38,7 +43,8 @@ pub record IsAfterSend {W : Type 0} (fails : Bool) (old new : BackendState W) : 
   pub synchronized : new.is_synchronized ≡ old.is_synchronized
   pub alternate : new.is_on_alternate ≡ old.is_on_alternate
 
--- a refused call, by its error: after a failed send every call is refused, and only a failed send changes anything
+-- a refused call, by its error: after a failed send every call is refused, and only a failed send changes
+-- anything
 abbrev pub FailsBy : {W : Type 0} → BackendState W → BackendState W → AnsiError → Type 0
 FailsBy old new Size = ⊥
 FailsBy old new Broken = (old.is_broken ≡ true) × IsUnsent old new
@@ -96,7 +102,8 @@ FailsToRestart old new Memory = IsUnsent old new
 FailsToRestart old new (Write error) = new.is_broken ≡ true
 FailsToRestart old new _ = ⊥
 
--- a backend that doesn't take another size: the size has no columns or no rows, or memory was refused, which changes nothing, or a write failed
+-- a backend that doesn't take another size: the size has no columns or no rows, or memory was refused, which
+-- changes nothing, or a write failed
 abbrev pub FailsToResize : {W : Type 0} → layout.Size → BackendState W → BackendState W → AnsiError → Type 0
 FailsToResize size old new Size = ((size.width ≡ 0) ⊎ (size.height ≡ 0)) × IsUnsent old new
 FailsToResize size old new Memory = IsUnsent old new
@@ -116,19 +123,24 @@ names_cell (Style p) = true
 names_cell (Cut p) = true
 names_cell _ = false
 
--- why an update isn't drawn on a screen: its symbol doesn't fit, its rendition can't be sent, or it isn't vacant while a symbol covers its place
+-- why an update isn't drawn on a screen: its symbol doesn't fit, its rendition can't be sent, or it isn't
+-- vacant while a symbol covers its place
 abbrev pub IsRefusedOn : Bool → Screen → Update → Refusal → Type 0
 IsRefusedOn colors s u Refused.Memory = Unit {0}
-IsRefusedOn colors s u (Refused.Symbol p) = IsOnScreenAt s.width s.height p u × (is_fit (s.width - u.x) u.cell ≡ false)
-IsRefusedOn colors s u (Refused.Style p) = IsOnScreenAt s.width s.height p u × (is_sendable_by colors (sgr_of u.cell) ≡ false)
-IsRefusedOn colors s u (Refused.Cut p) = IsOnScreenAt s.width s.height p u × IsCovered s.grid u.x u.y × (IsVacant u.cell → ⊥)
+IsRefusedOn colors s u (Refused.Symbol p) = IsOnScreenAt s.width s.height p u
+    × (is_fit (s.width - u.x) u.cell ≡ false)
+IsRefusedOn colors s u (Refused.Style p) = IsOnScreenAt s.width s.height p u
+    × (is_sendable_by colors (sgr_of u.cell) ≡ false)
+IsRefusedOn colors s u (Refused.Cut p) = IsOnScreenAt s.width s.height p u × IsCovered s.grid u.x u.y
+    × (IsVacant u.cell → ⊥)
 
 -- an item of a diff, which lends its cell, as an update
 abbrev pub lent_update : ℕ × ℕ × Bor Cell → Update
 lent_update item = update_by (λ cell. cell.now) item
 
 -- an item isn't drawn on the screen that the items before it would have made of this one
-pub record StopsAt {S A : Type 0} (steps : S → Option A → S → Type 0) (content : S) (update : A → Update) (colors : Bool) (old : Screen) (refusal : Refusal) : Type 0 where
+pub record StopsAt {S A : Type 0} (steps : S → Option A → S → Type 0) (content : S) (update : A → Update)
+    (colors : Bool) (old : Screen) (refusal : Refusal) : Type 0 where
   pub front : List A
   pub item : A
   pub rest : S
@@ -139,15 +151,19 @@ pub record StopsAt {S A : Type 0} (steps : S → Option A → S → Type 0) (con
 
 -- a draw of these updates, as a diff gives them, stops at one of them
 abbrev pub StopsInDiff : List Update → Bool → Screen → Refusal → Type 0
-StopsInDiff us colors old refusal = StopsAt (YieldsFirstBy lent_update (λ rest. rest)) us lent_update colors old refusal
+StopsInDiff us colors old refusal =
+    StopsAt (YieldsFirstBy lent_update (λ rest. rest)) us lent_update colors old refusal
 
 -- an error that names a cell is that of the item at which a draw stops
-abbrev pub StopsBy : {S A : Type 0} → (S → Option A → S → Type 0) → S → (A → Update) → Bool → Screen → AnsiError → Type 0
+abbrev pub StopsBy : {S A : Type 0} → (S → Option A → S → Type 0) → S → (A → Update) → Bool → Screen
+    → AnsiError → Type 0
 StopsBy steps content update colors old error =
-    IsTrue (names_cell error) → (refusal : Refusal) × (error ≡ error_of refusal) × StopsAt steps content update colors old refusal
+    IsTrue (names_cell error) → (refusal : Refusal) × (error ≡ error_of refusal)
+    × StopsAt steps content update colors old refusal
 
 -- the same within a draw: the bytes of the items before it were appended
-pub record StopsWithin {S A : Type 0} (steps : S → Option A → S → Type 0) (content : S) (update : A → Update) (w h : ℕ) (colors : Bool) (old : List ℕ) (before : DrawState)
+pub record StopsWithin {S A : Type 0} (steps : S → Option A → S → Type 0) (content : S) (update : A → Update)
+    (w h : ℕ) (colors : Bool) (old : List ℕ) (before : DrawState)
     (flags : List Bool) (refusal : Refusal) : Type 0 where
   pub front : List A
   pub item : A
@@ -160,6 +176,8 @@ pub record StopsWithin {S A : Type 0} (steps : S → Option A → S → Type 0) 
   pub refused : RefusesUpdate w h colors flags_after (update item) refusal
 
 -- the same for each terminal between two calls
-pub record StopsDraw {S A : Type 0} (steps : S → Option A → S → Type 0) (content : S) (update : A → Update) (w h : ℕ) (colors : Bool) (cursor : Position) (written : ℕ)
+pub record StopsDraw {S A : Type 0} (steps : S → Option A → S → Type 0) (content : S) (update : A → Update)
+    (w h : ℕ) (colors : Bool) (cursor : Position) (written : ℕ)
     (flags : List Bool) (refusal : Refusal) : Type 0 where
-  pub stops : (t : Emulator) → IsAwaiting w h cursor flags t → StopsAt steps content update colors (screen_shown written (rested t)) refusal
+  pub stops : (t : Emulator) → IsAwaiting w h cursor flags t
+      → StopsAt steps content update colors (screen_shown written (rested t)) refusal

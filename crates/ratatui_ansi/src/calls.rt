@@ -4,7 +4,8 @@ ghost use Rattle.std.specs.Prelude.{◌≡◌, ℕ, true, false, List, map, IfOk
 ghost use Rattle.std.specs.List.{list_all};
 ghost use Rattle.std.specs.Iterator.{IsFinite, Drains};
 ghost use Rattle.ratatui_core.specs.Buffer.{update_by};
-ghost use Rattle.ratatui_core.specs.Backend.{Counts, IsOnGrid, Draws, Appends, Clears, ScrollsUp, ScrollsDown, with_visible, with_cursor, cursor_of, size_of, All};
+ghost use Rattle.ratatui_core.specs.Backend.{Counts, IsOnGrid, Draws, Appends, Clears, ScrollsUp};
+ghost use Rattle.ratatui_core.specs.Backend.{ScrollsDown, with_visible, with_cursor, cursor_of, size_of, All};
 ghost use Rattle.ansi_model.specs.Sends.{IsWithinUpdate};
 ghost use Rattle.ratatui_ansi.specs.Backend.{shown_by, is_flushed};
 ghost use Rattle.ratatui_ansi.specs.Frame.{is_sendable_on};

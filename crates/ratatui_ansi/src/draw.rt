@@ -1,6 +1,8 @@
 //! Cells in their places, as a backend draws them.
 
-ghost use Rattle.std.specs.Prelude.{◌≡◌, ℕ, ◌+◌, ◌-◌, ◌*◌, ◌^◌, ◌<◌, ◌≤◌, ◌&&◌, min, true, false, IsTrue, ◌↔◌, IfOk, IfErr, IfSome, OnOk, List, [], ◌∷◌, map, length, slice_index_or, string_bytes, MatchOption, ◌==◌, IsUtf8};
+ghost use Rattle.std.specs.Prelude.{◌≡◌, ℕ, ◌+◌, ◌-◌, ◌*◌, ◌^◌, ◌<◌, ◌≤◌, ◌&&◌, min, true, false, IsTrue};
+ghost use Rattle.std.specs.Prelude.{◌↔◌, IfOk, IfErr, IfSome, OnOk, List, [], ◌∷◌, map, length};
+ghost use Rattle.std.specs.Prelude.{slice_index_or, string_bytes, MatchOption, ◌==◌, IsUtf8};
 ghost use Rattle.std.specs.List.{list_all};
 ghost use Rattle.std.specs.Iterator.{IsFinite, Drains};
 ghost use Rattle.ratatui_core.specs.Buffer.{blank, symbol_text, width_of, update_by, Cell};
@@ -9,7 +11,8 @@ ghost use Rattle.ansi_model.specs.Sgr.{default_sgr, sgr_of};
 ghost use Rattle.ansi_model.specs.Parameters.{is_sendable_by};
 ghost use Rattle.ansi_model.specs.Symbols.{printed_columns, IsGlyphOf};
 ghost use Rattle.ansi_model.specs.Drawing.{blanked, ChangesSgr, Paints, Prints};
-ghost use Rattle.ratatui_ansi.specs.Frame.{is_fit, is_sendable_on, IsGlyph, IsVacant, IsUnsendableSgr, RefusesUpdate, Covers, SendsUpdates, SendsDraw};
+ghost use Rattle.ratatui_ansi.specs.Frame.{is_fit, is_sendable_on, IsGlyph, IsVacant, IsUnsendableSgr};
+ghost use Rattle.ratatui_ansi.specs.Frame.{RefusesUpdate, Covers, SendsUpdates, SendsDraw};
 ghost use Rattle.ratatui_ansi.specs.Refusals.{has_place, StopsWithin, StopsDraw};
 
 use ansi_model::{

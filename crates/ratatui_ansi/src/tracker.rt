@@ -1,10 +1,12 @@
 //! What is known of a terminal between two calls, and the bytes that a call sends to it.
 
-ghost use Rattle.std.specs.Prelude.{◌≡◌, ◌<◌, ◌++◌, ℕ, List, map, false, true, OnOk, IfOk, IfErr, OnErr, IsTrue, string_bytes};
+ghost use Rattle.std.specs.Prelude.{◌≡◌, ◌<◌, ◌++◌, ℕ, List, map, false, true, OnOk, IfOk, IfErr, OnErr};
+ghost use Rattle.std.specs.Prelude.{IsTrue, string_bytes};
 ghost use Rattle.std.specs.List.{list_all};
 ghost use Rattle.std.specs.Iterator.{IsFinite, Drains};
 ghost use Rattle.ratatui_core.specs.Buffer.{update_by};
-ghost use Rattle.ratatui_core.specs.Backend.{Draws, Appends, Erases, Clears, ScrollsUp, ScrollsDown, with_cursor, with_visible, All};
+ghost use Rattle.ratatui_core.specs.Backend.{Draws, Appends, Erases, Clears, ScrollsUp, ScrollsDown};
+ghost use Rattle.ratatui_core.specs.Backend.{with_cursor, with_visible, All};
 ghost use Rattle.ansi_model.specs.Emulator.{keeps_history};
 ghost use Rattle.ratatui_ansi.specs.declared.tracker.Call.TheVariants as Called;
 ghost use Rattle.ansi_model.specs.Flags.{is_cut, is_clear_cut};
@@ -12,7 +14,8 @@ ghost use Rattle.ansi_model.specs.Commands.{command_bytes, title_bytes, AsksSize
 ghost use Rattle.ansi_model.specs.Sends.{IsWithinUpdate};
 ghost use Rattle.ratatui_ansi.specs.Frame.{is_sendable_on, Drafts};
 ghost use Rattle.ratatui_ansi.specs.Refusals.{has_place, StopsDraw, RefusesTracker};
-ghost use Rattle.ratatui_ansi.specs.Tracker.{IsTracker, KeepsTracked, Collects, CallDoes, IsCommanded, IsUncollected, BeginsBlank};
+ghost use Rattle.ratatui_ansi.specs.Tracker.{IsTracker, KeepsTracked, Collects, CallDoes, IsCommanded};
+ghost use Rattle.ratatui_ansi.specs.Tracker.{IsUncollected, BeginsBlank};
 
 use crate::draw::{Refusal, Target, draw_cells};
 use crate::error::AnsiError;

@@ -11,6 +11,13 @@ returns-then-region-end c = λ columns continuations.
     let h = c.args.size.height in
     let end = min c.args.region.end h in
     let e : c.min-end.result ≡ end = c.min-end.ensures in
-    flags-moved w h c.args.flags.now _ columns (scrolling_up c.args.region.start end c.args.n) (λ y y_in is. grind (arith, nat_tests)) continuations c.shift_up.auto.items
+    flags-moved w h c.args.flags.now _ columns (scrolling_up c.args.region.start end c.args.n)
+    (λ y y_in is. grind (arith, nat_tests)) continuations c.shift_up.auto.items
     (λ x y x_in. rows_raised false w x x_in _ _ c.args.region.start end c.args.n
-    (rw (c.from-then-region-end-2.ensures, c.from-then-region-end.ensures, c.from.ensures, c.from-width.ensures, e) at c.shift_up.ensures) y)
+    (rw (
+      c.from-then-region-end-2.ensures,
+      c.from-then-region-end.ensures,
+      c.from.ensures,
+      c.from-width.ensures,
+      e,
+    ) at c.shift_up.ensures) y)

@@ -11,6 +11,7 @@ pub returns : goal.returns
 returns c = λ text utf8 only.
     let result : c.is_shown.result ≡ true = let e = c.if-not-is_shown.false in grind (arith, nat_tests) in
     let shown : is_shown c.args.c ≡ true = sym c.is_shown.ensures ∙ result in
-    let some : nat_eq (columns_of_char c.args.c) 0 ≡ false = let e = c.if-columns-eq0.false in let f = c.columns_of_char-columns.ensures in grind (arith, nat_tests) in
+    let some : nat_eq (columns_of_char c.args.c) 0 ≡ false = let e = c.if-columns-eq0.false in
+    let f = c.columns_of_char-columns.ensures in grind (arith, nat_tests) in
     subst (λ n. IsGlyphOf text (Whole n)) (sym c.columns_of_char-columns.ensures)
     (whole-glyph text c.args.c (sym c.is_plain.ensures ∙ c.if-is_plain.false) shown some utf8 only)

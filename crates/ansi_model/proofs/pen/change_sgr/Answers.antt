@@ -7,4 +7,5 @@ pub returns-then-eq-clause-changes : goal.returns-then-eq-clause-changes
 returns-then-eq-clause-changes c = Stays (same_sgr c.args.pen.now.sgr c.args.sgr.now (sym c.eq.ensures ∙ c.if-eq.true)) refl
 
 pub returns-then-eq-clause-sgr : goal.returns-then-eq-clause-sgr
-returns-then-eq-clause-sgr c = pen-kept c.args.pen.now c.args.sgr.now (same_sgr c.args.pen.now.sgr c.args.sgr.now (sym c.eq.ensures ∙ c.if-eq.true))
+returns-then-eq-clause-sgr c =
+    pen-kept c.args.pen.now c.args.sgr.now (same_sgr c.args.pen.now.sgr c.args.sgr.now (sym c.eq.ensures ∙ c.if-eq.true))

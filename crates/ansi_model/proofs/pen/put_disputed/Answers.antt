@@ -5,12 +5,16 @@ use Rattle.ansi_model.proofs.pen.put_disputed.Goals as goal
 pub returns-in_ok-place_at-clause-prints : goal.returns-in_ok-place_at-clause-prints
 returns-in_ok-place_at-clause-prints c = λ h row.
     let end = c.args.place.x + c.args.columns in
-    paints-moved c.args.width h c.args.place.x c.args.place.y (end - c.args.place.x) end c.args.symbol.now c.args.pen.now _ _ _ _ _ (omega arith) (omega arith) c.requires.fits row
-    c.in_ok-put_spaces.ensures.sgr (c.in_ok-put_spaces.ensures.paints c.args.width h c.requires.fits row) (c.in_ok-put_symbol.ensures.over c.requires.disputed c.args.width h (omega arith) row) _ _ (omega arith)
+    paints-moved c.args.width h c.args.place.x c.args.place.y (end - c.args.place.x) end c.args.symbol.now c.args.pen.now _ _ _ _
+    _ (omega arith) (omega arith) c.requires.fits row
+    c.in_ok-put_spaces.ensures.sgr (c.in_ok-put_spaces.ensures.paints c.args.width h c.requires.fits row)
+    (c.in_ok-put_symbol.ensures.over c.requires.disputed c.args.width h (omega arith) row) _ _ (omega arith)
     (c.in_ok-place_at.ensures.paints c.args.width h (omega arith) row)
 
 pub returns-else-end-width-clause-prints : goal.returns-else-end-width-clause-prints
 returns-else-end-width-clause-prints c = λ h row.
     let end = c.args.place.x + c.args.columns in
-    paints-still c.args.width h c.args.place.x c.args.place.y (end - c.args.place.x) end c.args.symbol.now c.args.pen.now _ _ _ _ _ (omega arith) (omega arith) c.requires.fits row
-    c.in_ok-put_spaces.ensures.sgr (c.in_ok-put_spaces.ensures.paints c.args.width h c.requires.fits row) (c.in_ok-put_symbol.ensures.over c.requires.disputed c.args.width h (omega arith) row) (omega arith)
+    paints-still c.args.width h c.args.place.x c.args.place.y (end - c.args.place.x) end c.args.symbol.now c.args.pen.now _ _ _ _
+    _ (omega arith) (omega arith) c.requires.fits row
+    c.in_ok-put_spaces.ensures.sgr (c.in_ok-put_spaces.ensures.paints c.args.width h c.requires.fits row)
+    (c.in_ok-put_symbol.ensures.over c.requires.disputed c.args.width h (omega arith) row) (omega arith)

@@ -1,7 +1,8 @@
 use Rattle.std.proofs.Common.{◌≡◌, true, encode_utf8, string_bytes, refl, sym, subst, ◌∙◌, arith}
 use Rattle.std.proofs.lemmas.Bool.Decides.{nat_tests}
 use Rattle.ansi_model.specs.Sends.{Sends, typed}
-use Rattle.ansi_model.proofs.{SymbolLemmas.plain-printed, SymbolLemmas.plain-single, SymbolLemmas.one-undisputed, DrawLemmas.known-by, DrawLemmas.put-here, DrawLemmas.put-there}
+use Rattle.ansi_model.proofs.{SymbolLemmas.plain-printed, SymbolLemmas.plain-single, SymbolLemmas.one-undisputed}
+use Rattle.ansi_model.proofs.{DrawLemmas.known-by, DrawLemmas.put-here, DrawLemmas.put-there}
 use Rattle.ansi_model.proofs.pen.put_plain.Goals.{then-not-is_at+in_ok-move_to, else-not-is_at}
 use Rattle.ansi_model.proofs.pen.put_plain.Goals as goal
 
@@ -11,11 +12,15 @@ returns-clause-prints c = λ w h column row.
     elim c.if-not-is_at.branch [
       | then-not-is_at+in_ok-move_to v ↦
           put-there w h c.args.x c.args.y c.args.pen.now _ symbol _ _ _ column row v.in_ok-move_to.ensures
-          (subst (λ out. Sends (string_bytes out) (string_bytes c.push_plain.new.out) (typed symbol)) v.out-is c.in_ok-push_plain.ensures)
-          (plain-printed c.args.ch c.requires.plain) (one-undisputed symbol (plain-single c.args.ch c.requires.plain)) refl (rw c.then_some-pen.ensures (known-by _ c.args.x c.args.y symbol (plain-single c.args.ch c.requires.plain)))
+          (subst (λ out. Sends (string_bytes out) (string_bytes c.push_plain.new.out)
+          (typed symbol)) v.out-is c.in_ok-push_plain.ensures)
+          (plain-printed c.args.ch c.requires.plain) (one-undisputed symbol (plain-single c.args.ch c.requires.plain)) refl
+          (rw c.then_some-pen.ensures (known-by _ c.args.x c.args.y symbol (plain-single c.args.ch c.requires.plain)))
       | else-not-is_at v ↦
           let here : c.is_at.result ≡ true = grind (arith, nat_tests) in
           put-here w h c.args.x c.args.y c.args.pen.now _ c.args.ch _ _
-          (subst (λ out. Sends (string_bytes out) (string_bytes c.push_plain.new.out) (typed symbol)) v.out-is c.in_ok-push_plain.ensures)
-          c.requires.plain (sym c.is_at.ensures ∙ here) refl (rw c.then_some-pen.ensures (known-by _ c.args.x c.args.y symbol (plain-single c.args.ch c.requires.plain)))
+          (subst (λ out. Sends (string_bytes out) (string_bytes c.push_plain.new.out)
+          (typed symbol)) v.out-is c.in_ok-push_plain.ensures)
+          c.requires.plain (sym c.is_at.ensures ∙ here) refl
+          (rw c.then_some-pen.ensures (known-by _ c.args.x c.args.y symbol (plain-single c.args.ch c.requires.plain)))
     ]

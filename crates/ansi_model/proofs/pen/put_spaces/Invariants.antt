@@ -5,5 +5,7 @@ use Rattle.ansi_model.proofs.pen.put_spaces.Given as goal
 abbrev pub invariant-loop-column : goal.invariant-loop-column
 invariant-loop-column l = record {
   own : l.pen.sgr ≡ l.initial.pen.sgr;
-  paints : (w h : ℕ) → l.end ≤ w → l.y < h → Paints w h (string_bytes l.initial.out) l.initial.pen (blanked_in l.initial.pen.sgr l.x l.y (l.column - l.x)) (string_bytes l.out) l.pen;
+  paints : (w h : ℕ) → l.end ≤ w → l.y < h
+      → Paints w h (string_bytes l.initial.out) l.initial.pen (blanked_in l.initial.pen.sgr l.x l.y (l.column - l.x))
+      (string_bytes l.out) l.pen;
 }

@@ -15,5 +15,6 @@ pub returns-clause-turns : goal.returns-clause-turns
 returns-clause-turns c =
     on_ok_weaker c.move_to.result (λ does w h wide high.
     turns-from w h _ _ (λ t. cursor_moved c.args.x c.args.y (cursor_moved 65534 65534 t)) _
-    (Does-then _ _ _ (cursor_moved 65534 65534) (cursor_moved c.args.x c.args.y) c.in_ok-ask_at_the_end.ensures.moves does (λ t. refl))
+    (Does-then _ _ _ (cursor_moved 65534 65534) (cursor_moved c.args.x c.args.y) c.in_ok-ask_at_the_end.ensures.moves does
+    (λ t. refl))
     (cursor-back w h 65534 65534 c.args.x c.args.y wide high)) c.move_to.ensures

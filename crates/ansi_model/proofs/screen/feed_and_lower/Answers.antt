@@ -11,4 +11,5 @@ returns c =
     (Does-then _ _ _ (λ t. line_fed (cursor_moved 0 1 t)) (cursor_moved 0 0)
     (Does-then _ _ _ (cursor_moved 0 1) line_fed c.in_ok-move_to.ensures c.in_ok-line_feed.ensures (λ t. refl))
     c.in_ok-move_to-2.ensures (λ t. sym (line_fed-rested (cursor_moved 0 1 (rested t)))))
-    does (λ t. let e = line_fed-rested (cursor_moved 0 1 (rested t)) in ap (λ v. rested (cursor_moved 0 0 v)) e ∙ sym (ap (cursor_moved 0 0) e))) c.insert_lines.ensures
+    does (λ t. let e = line_fed-rested (cursor_moved 0 1 (rested t)) in ap (λ v. rested (cursor_moved 0 0 v)) e
+    ∙ sym (ap (cursor_moved 0 0) e))) c.insert_lines.ensures

@@ -9,5 +9,6 @@ returns c =
     let region = with_region 0 c.args.end in
     on_ok_weaker c.reset_region.result (λ does.
     Does-then _ _ _ (λ t. fed c.args.n (returned (cursor_moved 0 (c.args.end - 1) (region t)))) without_region
-    (Does-then _ _ _ region (λ t. fed c.args.n (returned (cursor_moved 0 (c.args.end - 1) t))) c.in_ok-set_region.ensures c.in_ok-feed_screen.ensures (λ t. refl))
+    (Does-then _ _ _ region (λ t. fed c.args.n (returned (cursor_moved 0 (c.args.end - 1) t))) c.in_ok-set_region.ensures
+    c.in_ok-feed_screen.ensures (λ t. refl))
     does (λ t. sym (fed-rested c.args.n (returned (cursor_moved 0 (c.args.end - 1) (region (rested t))))))) c.reset_region.ensures

@@ -12,9 +12,11 @@ returns c =
     let rest = (13 ∷ []) ++ last.bytes in
     record {
       bytes = first.bytes ++ rest;
-      appended = after-those _ _ _ first.bytes rest first.appended (after-those _ _ _ (13 ∷ []) last.bytes c.in_ok-push_str.ensures.bytes last.appended);
+      appended = after-those _ _ _ first.bytes rest first.appended
+          (after-those _ _ _ (13 ∷ []) last.bytes c.in_ok-push_str.ensures.bytes last.appended);
       read = λ t ground.
           feed-append first.bytes rest t ∙ ap (feed rest) (first.read t ground)
-          ∙ feed-append (13 ∷ []) last.bytes (typed (encode 109) t) ∙ ap (feed last.bytes) (return-read (typed (encode 109) t) ground)
+          ∙ feed-append (13 ∷ []) last.bytes (typed (encode 109) t) ∙ ap (feed last.bytes)
+          (return-read (typed (encode 109) t) ground)
           ∙ last.read (returned (rested (typed (encode 109) t))) refl;
     }) c.push_plain-2.ensures

@@ -9,6 +9,8 @@ pub returns : goal.returns
 returns c =
     let h = c.args.height in
     let one = Does-then _ _ _ without_modes (with_sgr default_sgr) c.in_ok-settle.ensures c.in_ok-push_sgr.ensures (λ t. refl) in
-    let two = Does-then _ _ _ (λ t. with_sgr default_sgr (without_modes t)) without_region one c.in_ok-reset_region.ensures (λ t. refl) in
+    let two = Does-then _ _ _ (λ t. with_sgr default_sgr (without_modes t)) without_region one c.in_ok-reset_region.ensures
+    (λ t. refl) in
     on_ok_weaker c.feed_screen.result (λ does w wide high.
-    saves-screen w h _ _ wide high (Does-then _ _ _ own (λ t. fed h (returned (cursor_moved 0 (h - 1) t))) two does (λ t. refl))) c.feed_screen.ensures
+    saves-screen w h _ _ wide high (Does-then _ _ _ own (λ t. fed h (returned (cursor_moved 0 (h - 1) t))) two does (λ t. refl)))
+    c.feed_screen.ensures

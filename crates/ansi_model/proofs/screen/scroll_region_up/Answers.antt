@@ -12,14 +12,18 @@ returns-then-n-eq0 c =
     let b = c.args.region.end in
     let h = c.args.height in
     let e : c.min-end.result ≡ min b h = c.min-end.ensures in
-    let none : a < min b h → c.args.n ≡ 0 = λ inside. elim c.then-n-eq0.either [ inl z ↦ z | inr both ↦ let past : c.min-end.result ≤ a = both.1 in absurd (omega arith) ] in
+    let none : a < min b h → c.args.n ≡ 0 = λ inside. elim c.then-n-eq0.either [
+      | inl z ↦ z
+      | inr both ↦ let past : c.min-end.result ≤ a = both.1 in absurd (omega arith)
+    ] in
     λ w some. Turns-none w h _ _ (λ t ready. still-up w h a b c.args.n t ready none)
 
 pub returns-then-region-eq0 : goal.returns-then-region-eq0
 returns-then-region-eq0 c =
     let b = c.args.region.end in
     let h = c.args.height in
-    on_ok_weaker c.scroll_first_rows.result (λ turns w some. rw c.if-region-eq0.true (turns w b some (sym c.min-end.ensures))) c.scroll_first_rows.ensures
+    on_ok_weaker c.scroll_first_rows.result (λ turns w some. rw c.if-region-eq0.true (turns w b some (sym c.min-end.ensures)))
+    c.scroll_first_rows.ensures
 
 pub returns-then-end-region-eq1 : goal.returns-then-end-region-eq1
 returns-then-end-region-eq1 c =
@@ -28,7 +32,8 @@ returns-then-end-region-eq1 c =
     let h = c.args.height in
     let e : c.min-end.result ≡ min b h = c.min-end.ensures in
     on_ok_weaker c.empty_row.result (λ does w some.
-    turns-from w h _ _ (λ t. erased CurrentLine (cursor_moved 0 a t)) _ does (row-up w h a b c.args.n some (omega arith) (omega arith) (omega arith) (omega arith))) c.empty_row.ensures
+    turns-from w h _ _ (λ t. erased CurrentLine (cursor_moved 0 a t)) _ does (row-up w h a b c.args.n some (omega arith)
+    (omega arith) (omega arith) (omega arith))) c.empty_row.ensures
 
 pub returns : goal.returns
 returns c =
@@ -37,4 +42,5 @@ returns c =
     let h = c.args.height in
     let e : c.min-end.result ≡ min b h = c.min-end.ensures in
     on_ok_weaker c.raise_rows.result (λ does w some.
-    turns-from w h _ _ (λ t. without_region (lines_deleted c.args.n (cursor_moved 0 a (with_region a (min b h) t)))) _ (rw e at does) (rows-up w h a b c.args.n some (omega arith) (omega arith))) c.raise_rows.ensures
+    turns-from w h _ _ (λ t. without_region (lines_deleted c.args.n (cursor_moved 0 a (with_region a (min b h) t)))) _
+    (rw e at does) (rows-up w h a b c.args.n some (omega arith) (omega arith))) c.raise_rows.ensures

@@ -7,5 +7,6 @@ loop-init c = feeds-none _ _ (record { bytes = _; appended = c.in_ok-push_str.en
 
 pub loop-preserved : goal.loop-preserved
 loop-preserved c =
-    feeds-more (string_bytes c.args.out.now) (string_bytes c.loop.out) (string_bytes c.push_str-in-loop.new.self) c.loop.counter c.loop.invariant
+    feeds-more (string_bytes c.args.out.now) (string_bytes c.loop.out)
+    (string_bytes c.push_str-in-loop.new.self) c.loop.counter c.loop.invariant
     (record { bytes = 10 ∷ []; appended = c.in_ok-push_str-2.ensures.bytes; read = feed-read })

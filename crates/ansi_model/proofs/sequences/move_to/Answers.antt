@@ -7,7 +7,9 @@ pub returns : goal.returns
 returns c =
     on_ok_weaker c.push-2.result (λ e. record {
       bytes = CUP c.args.x c.args.y;
-      appended = move-appended c.args.x c.args.y _ _ _ _ _ _ _ _ _ _ c.in_ok-push_str.ensures.bytes c.in_ok-push_number.ensures c.in_ok-push.ensures.bytes c.in_ok-push_number-2.ensures e
+      appended = move-appended c.args.x c.args.y _ _ _ _ _ _ _ _ _ _ c.in_ok-push_str.ensures.bytes c.in_ok-push_number.ensures
+          c.in_ok-push.ensures.bytes c.in_ok-push_number-2.ensures e
           c.from.ensures c.from-2.ensures (c.in_ok-push.ensures.ascii (omega arith)) (c.push-2.ensures.ascii (omega arith));
       read = CUP-read c.args.x c.args.y c.ranges.x.fits c.ranges.y.fits;
-    }) (on_push c.push-2.result (string_bytes c.push_number-2.new.out) (string_bytes c.push-2.new.self) (encode_utf8 72) c.push-2.ensures.bytes)
+    }) (on_push c.push-2.result (string_bytes c.push_number-2.new.out) (string_bytes c.push-2.new.self)
+    (encode_utf8 72) c.push-2.ensures.bytes)

@@ -12,8 +12,11 @@ returns-after-past_it-end c = record {
   set = λ k low high. rw (c.from.ensures, c.from-2.ensures) at (c.tail_end-end.ensures.continuations k low high);
   unset = λ within. rw (c.from.ensures, c.from-2.ensures) at (c.tail_end-end.ensures.ended within);
   paints = λ h row. elim c.if-past_it-end.branch [
-    | then-past_it-end+in_ok-put_blanks v ↦ rw (v.out-is, v.pen-is) (v.in_ok-put_blanks.ensures.paints c.args.width h c.tail_end-end.ensures.high row)
-    | else-past_it-end v ↦ rw (v.out-is, v.pen-is) (blanks-none c.args.width h _ _ default_sgr (c.args.place.x + c.args.columns) c.args.place.y (c.tail_end-end.result - (c.args.place.x + c.args.columns)) (omega arith))
+    | then-past_it-end+in_ok-put_blanks v ↦ rw (v.out-is, v.pen-is)
+        (v.in_ok-put_blanks.ensures.paints c.args.width h c.tail_end-end.ensures.high row)
+    | else-past_it-end v ↦ rw (v.out-is, v.pen-is)
+        (blanks-none c.args.width h _ _ default_sgr (c.args.place.x + c.args.columns) c.args.place.y
+        (c.tail_end-end.result - (c.args.place.x + c.args.columns)) (omega arith))
   ];
   sgr = elim c.if-past_it-end.branch [
     | then-past_it-end+in_ok-put_blanks v ↦ inr (rw v.pen-is v.in_ok-put_blanks.ensures.sgr)
@@ -21,7 +24,13 @@ returns-after-past_it-end c = record {
   ];
   marked = record {
     count = c.mark_symbol.auto.flags;
-    each = λ k. rw (c.from.ensures, c.from-2.ensures, c.from-then-x-end.ensures, c.from-then-x-end-2.ensures, c.from-then-x-end-3.ensures) at (c.mark_symbol.ensures k);
+    each = λ k. rw (
+      c.from.ensures,
+      c.from-2.ensures,
+      c.from-then-x-end.ensures,
+      c.from-then-x-end-2.ensures,
+      c.from-then-x-end-3.ensures,
+    ) at (c.mark_symbol.ensures k);
   };
 }
 
@@ -31,10 +40,13 @@ returns-else-x-end c = record {
   inside = c.tail_end-end.ensures.high;
   set = λ k low high. rw (c.from.ensures, c.from-2.ensures) at (c.tail_end-end.ensures.continuations k low high);
   unset = λ within. rw (c.from.ensures, c.from-2.ensures) at (c.tail_end-end.ensures.ended within);
-  paints = λ h row. blanks-none c.args.width h _ _ default_sgr (c.args.place.x + c.args.columns) c.args.place.y (c.tail_end-end.result - (c.args.place.x + c.args.columns)) (omega arith);
+  paints = λ h row. blanks-none c.args.width h _ _ default_sgr (c.args.place.x + c.args.columns) c.args.place.y
+      (c.tail_end-end.result - (c.args.place.x + c.args.columns)) (omega arith);
   sgr = inl refl;
   marked = record {
     count = refl;
-    each = one-marked (c.args.place.y * c.args.width + c.args.place.x) (c.args.place.y * c.args.width + (c.args.place.x + c.args.columns)) (c.args.place.y * c.args.width + c.tail_end-end.result) c.args.continuations.now c.requires.uncut (omega arith);
+    each = one-marked (c.args.place.y * c.args.width + c.args.place.x)
+        (c.args.place.y * c.args.width + (c.args.place.x + c.args.columns))
+        (c.args.place.y * c.args.width + c.tail_end-end.result) c.args.continuations.now c.requires.uncut (omega arith);
   };
 }

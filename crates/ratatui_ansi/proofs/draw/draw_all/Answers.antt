@@ -17,9 +17,12 @@ pub loop-x-preserved : goal.loop-x-preserved
 loop-x-preserved g c = record {
   can_next = search rules;
   is_finite = search rules;
-  sends = rw map-append (sends-push _ _ _ _ _ _ _ _ _ _ _ _ _ c.loop-x.invariant.sends (rw c.as_cell.ensures at c.in_ok-draw_cell.ensures.drawn));
-  sent = rw map-append (sendable-push c.args.target.width c.args.target.height c.args.target.has_underline_colors (map (update_by g.C.AsCell.cell) c.loop-x.yielded)
-      (update_by g.C.AsCell.cell (c.in-Some.x, c.in-Some.y, c.in-Some.cell)) c.loop-x.invariant.sent (rw c.as_cell.ensures at c.in_ok-draw_cell.ensures.sent));
+  sends = rw map-append (sends-push _ _ _ _ _ _ _ _ _ _ _ _ _ c.loop-x.invariant.sends
+      (rw c.as_cell.ensures at c.in_ok-draw_cell.ensures.drawn));
+  sent = rw map-append (sendable-push c.args.target.width c.args.target.height c.args.target.has_underline_colors
+      (map (update_by g.C.AsCell.cell) c.loop-x.yielded)
+      (update_by g.C.AsCell.cell (c.in-Some.x, c.in-Some.y, c.in-Some.cell)) c.loop-x.invariant.sent
+      (rw c.as_cell.ensures at c.in_ok-draw_cell.ensures.sent));
   sgr = c.in_ok-draw_cell.ensures.sgr;
 }
 
@@ -28,7 +31,11 @@ returns-in_err-draw_cell-clause-refused g c = if-error _ _ _ c.from_residual.ens
   front = c.loop-x.yielded;
   item = (c.in-Some.x, c.in-Some.y, c.in-Some.cell);
   rest = _;
-  gives = (c.loop-x.x-iterator, rw c.into_iter-x-iterator.ensures.into_iter_gives at c.loop-x.yielded_by, c.in-Some.ensures.steps);
+  gives = (
+    c.loop-x.x-iterator,
+    rw c.into_iter-x-iterator.ensures.into_iter_gives at c.loop-x.yielded_by,
+    c.in-Some.ensures.steps,
+  );
   new = _;
   after = _;
   flags_after = _;

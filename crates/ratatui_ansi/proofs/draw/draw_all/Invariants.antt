@@ -9,7 +9,9 @@ abbrev pub invariant-loop-x : goal.invariant-loop-x
 invariant-loop-x g l = record {
   can_next : (goal.iterator-loop-x g).can_next l.x-iterator;
   is_finite : (goal.iterator-loop-x g).is_finite l.x-iterator;
-  sends : SendsUpdates l.target.width l.target.height (string_bytes l.fn.out) l.fn.drawing l.fn.continuations (map (update_by g.C.AsCell.cell) l.yielded) (string_bytes l.out) l.drawing l.continuations;
-  sent : list_all (is_sendable_on l.target.width l.target.height l.target.has_underline_colors) (map (update_by g.C.AsCell.cell) l.yielded) ≡ true;
+  sends : SendsUpdates l.target.width l.target.height (string_bytes l.fn.out) l.fn.drawing l.fn.continuations
+      (map (update_by g.C.AsCell.cell) l.yielded) (string_bytes l.out) l.drawing l.continuations;
+  sent : list_all (is_sendable_on l.target.width l.target.height l.target.has_underline_colors)
+      (map (update_by g.C.AsCell.cell) l.yielded) ≡ true;
   sgr : is_sendable_by l.target.has_underline_colors l.drawing.pen.sgr ≡ true;
 }

@@ -12,4 +12,6 @@ returns-clause-drawn g c =
     )
 
 pub returns-in_err-draw_all-clause-refused : goal.returns-in_err-draw_all-clause-refused
-returns-in_err-draw_all-clause-refused g c = if-error _ _ _ c.from_residual.ensures (λ named. stops-draw _ _ _ _ _ _ _ _ _ _ _ _ refl refl refl refl c.in_err-draw_all.ensures.refused)
+returns-in_err-draw_all-clause-refused g c =
+    if-error _ _ _ c.from_residual.ensures
+    (λ named. stops-draw _ _ _ _ _ _ _ _ _ _ _ _ refl refl refl refl c.in_err-draw_all.ensures.refused)

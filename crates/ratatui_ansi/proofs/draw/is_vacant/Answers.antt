@@ -17,7 +17,8 @@ returns-then-is_of c =
     elim c.if-is_blank.branch [
       | then-is_blank w ↦ (
         λ one.
-            vacant-is cell (sym c.symbol.ensures ∙ c.is_blank.ensures.0 w.if-is_blank.true) (sym (w.is_of.ensures.0 (sym w.value-is ∙ c.if-is_of.true)))
+            vacant-is cell (sym c.symbol.ensures ∙ c.is_blank.ensures.0 w.if-is_blank.true)
+            (sym (w.is_of.ensures.0 (sym w.value-is ∙ c.if-is_of.true)))
             (one-column c.cell_width.result (width_of cell) c.cell_width.ensures one),
         λ is. is-one c.cell_width.result (width_of cell) c.cell_width.ensures is.width,
       )

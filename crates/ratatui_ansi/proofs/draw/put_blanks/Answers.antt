@@ -8,6 +8,8 @@ pub returns-clause-paints : goal.returns-clause-paints
 returns-clause-paints c =
     let own = ap (λ (b : Pen). b.sgr) c.in_ok-change_sgr.ensures.sgr in
     on_ok_weaker c.put_spaces.result (λ paints w h inside row.
-    blanks-own w h c.args.x c.args.y (c.args.end - c.args.x) (c.args.end - c.args.x - 1) _ _ _ _ _ _ c.in_ok-change_sgr.ensures.changes c.in_ok-change_sgr.ensures.sgr
-    (subst (λ sgr. Paints w h (string_bytes c.change_sgr.new.out) c.change_sgr.new.pen (blanked_in sgr c.args.x c.args.y (c.args.end - c.args.x)) (string_bytes c.put_spaces.new.out) c.put_spaces.new.pen) own
+    blanks-own w h c.args.x c.args.y (c.args.end - c.args.x)
+    (c.args.end - c.args.x - 1) _ _ _ _ _ _ c.in_ok-change_sgr.ensures.changes c.in_ok-change_sgr.ensures.sgr
+    (subst (λ sgr. Paints w h (string_bytes c.change_sgr.new.out) c.change_sgr.new.pen
+    (blanked_in sgr c.args.x c.args.y (c.args.end - c.args.x)) (string_bytes c.put_spaces.new.out) c.put_spaces.new.pen) own
     (paints w h inside row)) (omega arith)) c.put_spaces.ensures.paints

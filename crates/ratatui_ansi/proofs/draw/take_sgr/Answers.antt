@@ -10,4 +10,5 @@ pub returns-then-is_of-clause-sgr : goal.returns-then-is_of-clause-sgr
 returns-then-is_of-clause-sgr c = pen-kept c.args.pen.now (sgr_of c.args.cell.now) (c.is_of.ensures.0 c.if-is_of.true)
 
 pub returns-then-is_of-clause-sent : goal.returns-then-is_of-clause-sent
-returns-then-is_of-clause-sent c = subst (λ sgr. is_sendable_by c.args.has_underline_colors sgr ≡ true) (c.is_of.ensures.0 c.if-is_of.true) c.requires
+returns-then-is_of-clause-sent c = subst (λ sgr. is_sendable_by c.args.has_underline_colors sgr ≡ true)
+    (c.is_of.ensures.0 c.if-is_of.true) c.requires

@@ -20,8 +20,10 @@ returns-then-eq-3 c =
             let cell = c.args.cell.now in
             let fg = same_color sgr.fg cell.fg (sym c.eq.ensures ∙ w.if-eq.true) in
             let bg = same_color sgr.bg cell.bg (sym w.eq-then-eq.ensures ∙ sym w.value-is ∙ v.if-eq-2.true) in
-            let underline = same_color sgr.underline_color cell.underline_color (sym v.eq-then-eq-2.ensures ∙ sym v.value-is ∙ c.if-eq-3.true) in (
-              λ is. sgr-of-cell sgr cell fg bg underline (same_modifier sgr.modifier cell.modifier (sym c.eq-then-eq-3.ensures ∙ holds c.eq-then-eq-3.result is)),
+            let underline = same_color sgr.underline_color cell.underline_color (sym v.eq-then-eq-2.ensures ∙ sym v.value-is
+            ∙ c.if-eq-3.true) in (
+              λ is. sgr-of-cell sgr cell fg bg underline (same_modifier sgr.modifier cell.modifier (sym c.eq-then-eq-3.ensures
+                  ∙ holds c.eq-then-eq-3.result is)),
               λ e. sent c.eq-then-eq-3.result (c.eq-then-eq-3.ensures ∙ same-bits sgr cell e),
             )
         | else-eq w ↦ let not = w.value-is in let was = v.if-eq-2.true in let h : ⊥ = cc in absurd h

@@ -23,7 +23,8 @@ use denote.Steps.{nothing}
 use denote.Triple.Entry.{alive}
 use denote.Triple.Walked.{Stays, stay_dropped, walk_of, Goes-dropped}
 use Rattle.ratatui_ansi.specs.contracts.sent.Sent as T
-use Rattle.ratatui_ansi.specs.{contracts.sent.Sent.new.ended, contracts.sent.Sent.new.clauses, contracts.sent.Sent.new.Key.name as #self}
+use Rattle.ratatui_ansi.specs.{contracts.sent.Sent.new.ended, contracts.sent.Sent.new.clauses}
+use Rattle.ratatui_ansi.specs.{contracts.sent.Sent.new.Key.name as #self}
 use Rattle.ratatui_ansi.proofs.sent.Sent.new.Statement.{statement}
 use Rattle.ratatui_ansi.proofs.sent.Sent.new.Code as code
 
@@ -33,17 +34,26 @@ sent_val = vstruct (vcons (vstruct vnil) vnil)
 pub new_spec : {M : Type 1} → statement M
 new_spec 𝓤 𝓛 𝓜 𝓡 wired W L g d _ =
     let 𝓣 = tables 𝓤 𝓛.H 𝓜 𝓡 𝓡.env in let R : RattleType = param 0 W in let En = ended W g d in
-    let inst = bounded (a_type ∷ []) (W, tt) (dcons d dnil) in let fn = inst_fn inst code.function in let c = clauses W g d 𝓛 𝓜.mem 𝓡.returns in
-    let arg = RefOf (0 ∷ []) tt (plain (λ _. R)) (λ _. tt) in let hs : Stays En.signature.params En.kept = (stay_dropped arg yes, tt) in
+    let inst = bounded (a_type ∷ []) (W, tt) (dcons d dnil) in let fn = inst_fn inst code.function in
+    let c = clauses W g d 𝓛 𝓜.mem 𝓡.returns in
+    let arg = RefOf (0 ∷ []) tt (plain (λ _. R)) (λ _. tt) in let hs : Stays En.signature.params En.kept =
+    (stay_dropped arg yes, tt) in
     proved 𝓛 En hs c 𝓜 𝓡 (Goes-dropped 𝓛 2 arg yes (λ κs x f. refl), tt) (#self inst) fn (code.unfolded 𝓤 𝓛.H 𝓜 𝓡 wired (W, tt) d)
     (λ κs. (shr_vals, tt)) (λ κs. (shr_Tells (named 0) κs.0 R, tt)) (λ κs qs bounds a gh are.
     let p : Val = vptr a.0.ref_ptr.0 a.0.ref_ptr.1 in
-    let r : T.the_row.Denot = record { marker = record {}; before = g.contents a.0.now; bytes = [] } in let F : Fml = T.the_row.own_val r (sent_val ∷ []) in
-    let y : (walk_of 𝓛 En hs c).Ghost = ((κs, qs, bounds, a, (p ∷ [], tt)), gh) in let Post : Val → SProp 𝓤 = (walk_of 𝓛 En hs c).post y in
-    qed 𝓛 ((raw (alive 𝓛 En.signature κs qs) ⊛ ‵ (owns (types_at En.signature.params κs) a y.0.4)) ∷ raw ((c κs a).requires gh) ∷ []) ∵ split ! $ keep ! (0 ∷ []) $
+    let r : T.the_row.Denot = record { marker = record {}; before = g.contents a.0.now; bytes = [] } in
+    let F : Fml = T.the_row.own_val r (sent_val ∷ []) in
+    let y : (walk_of 𝓛 En hs c).Ghost = ((κs, qs, bounds, a, (p ∷ [], tt)), gh) in let Post : Val
+    → SProp 𝓤 = (walk_of 𝓛 En hs c).post y in
+    qed 𝓛 ((raw (alive 𝓛 En.signature κs qs) ⊛ ‵ (owns (types_at En.signature.params κs) a y.0.4)) ∷ raw ((c κs a).requires gh)
+    ∷ []) ∵ split ! $ keep ! (0 ∷ []) $
     enter ! 𝓣.C 𝓣.Λ fn (p ∷ []) Post $ alloc_all ! (λ l. pass_all ! refl ((tt, tt), tt) $
     sets ! (agg ! (no_more !)) refl (tt, tt) $ sets ! (agg ! (and_then ! (get ! refl) (no_more !))) refl (tt, (tt, tt)) $
     use0 𝓛 (raw (fact 𝓤 (r.bytes ≡ []))) (fact_i 𝓤 (r.bytes ≡ []) (emp 𝓤) refl) $
     use0 𝓛 (raw (fact 𝓤 (r.before ≡ r.before))) (fact_i 𝓤 (r.before ≡ r.before) (emp 𝓤) refl) $
-    use0 𝓛 (‵ F) (makes_shadow 𝓛 F ((λ vss. (tt, ((λ uss. (tt, tt)), tt))), tt) (((vstruct vnil ∷ [], tt), (refl, ((tt, (refl, tt)), tt))), tt)) $ nothing ! $ nothing ! $ fjoin ! $
-    returns ! (look_at ! 0 refl) $ free_all ! refl $ keep ! (4 ∷ 0 ∷ 1 ∷ 2 ∷ 3 ∷ []) $ by ! (leaves 𝓛 En hs c y sent_val r (tt, tt) (tt, tt))))
+    use0 𝓛 (‵ F) (makes_shadow 𝓛 F ((λ vss. (tt, ((λ uss. (tt, tt)), tt))), tt)
+    (((vstruct vnil ∷ [], tt), (refl, ((tt, (refl, tt)), tt))), tt)) $ nothing ! $ nothing ! $ fjoin ! $
+    returns ! (look_at ! 0 refl) $ free_all ! refl $ keep ! (4 ∷ 0 ∷ 1 ∷ 2 ∷ 3 ∷ []) $ by ! (leaves 𝓛 En hs c y sent_val r (
+      tt,
+      tt,
+    ) (tt, tt))))

@@ -27,9 +27,16 @@ stayed = (stay_ref (0 ∷ []) tt (plain (λ _. R)), (stay_none_slice (1 ∷ []) 
 pub note_spec : {M : Type 1} → statement M
 note_spec 𝓤 𝓛 𝓜 𝓡 wired =
     let c = f.clauses 𝓛 𝓜.mem 𝓡.returns in let W = walk_of 𝓛 f.ended stayed c in
-    proved 𝓛 f.ended stayed c 𝓜 𝓡 (Goes-ref 𝓛 2 0 tt (plain (λ _. R)), (Goes-none_slice 𝓛 2 (1 ∷ []) tt (plain (λ _. u8)) yes, tt))
+    proved 𝓛 f.ended stayed c 𝓜 𝓡 (
+      Goes-ref 𝓛 2 0 tt (plain (λ _. R)),
+      (
+        Goes-none_slice 𝓛 2 (1 ∷ []) tt (plain (λ _. u8)) yes,
+        tt,
+      ),
+    )
     f.Key.name code.function (code.unfolded 𝓤 𝓛.H 𝓜 𝓡 wired)
-    (λ κs. (mut_vals, (shr_slice_vals, tt))) (λ κs. (mut_Tells (named 0) κs.0 R, (shr_slice_Tells (named 1) κs.1.0 u8, tt))) (λ κs qs bounds a _ are.
+    (λ κs. (mut_vals, (shr_slice_vals, tt))) (λ κs. (mut_Tells (named 0) κs.0 R, (shr_slice_Tells (named 1) κs.1.0 u8, tt)))
+    (λ κs qs bounds a _ are.
     let b = a.0.ref_ptr.0 in let o = a.0.ref_ptr.1 in let h = a.0.now in let more = a.1.0 in let vs = mut_vals a.0 in
     let noted : R.Denot = record h { bytes = h.bytes ++ more.now } in
     let y : W.Ghost = ((κs, qs, bounds, a, (vs, (shr_slice_vals more, tt))), tt) in

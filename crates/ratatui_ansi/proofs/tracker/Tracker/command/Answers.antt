@@ -11,4 +11,6 @@ returns-clause-ok c =
     let h = k.size.height in
     let flags = k.continuations.items in
     on_ok_weaker c.push_command.result (λ turns.
-    collected k _ k.cursor flags c.requires refl refl refl (λ p q e. ap (λ (s : Screen). s.visible) e) (call-from w h _ _ k.cursor k.cursor flags flags _ _ (turns w h) (still-kept w h k.cursor flags))) c.push_command.ensures.turns
+    collected k _ k.cursor flags c.requires refl refl refl (λ p q e. ap (λ (s : Screen). s.visible) e)
+    (call-from w h _ _ k.cursor k.cursor flags flags _ _ (turns w h) (still-kept w h k.cursor flags)))
+    c.push_command.ensures.turns

@@ -8,7 +8,8 @@ returns-clause-ok g c =
     let old = string_bytes c.args.self.now.out in
     let drawn = string_bytes c.draft.new.self.out in
     let opens = subst (λ xs. Performs old xs (holding true)) (sym c.in_ok-push_str.ensures.bytes) (c.update_begin.ensures old) in
-    let closes = subst (λ xs. Performs drawn xs (holding false)) (sym c.in_ok-push_str-2.ensures.bytes) (c.update_end.ensures drawn) in
+    let closes = subst (λ xs. Performs drawn xs (holding false)) (sym c.in_ok-push_str-2.ensures.bytes)
+    (c.update_end.ensures drawn) in
     let d = c.in_ok-after.ensures.ok in
     (d.0, d.1, update-drawn opens d.2 closes, d.3)
 
@@ -17,5 +18,6 @@ returns-clause-within g c =
     let old = string_bytes c.args.self.now.out in
     let drawn = string_bytes c.draft.new.self.out in
     let opens = subst (λ xs. Performs old xs (holding true)) (sym c.in_ok-push_str.ensures.bytes) (c.update_begin.ensures old) in
-    let closes = subst (λ xs. Performs drawn xs (holding false)) (sym c.in_ok-push_str-2.ensures.bytes) (c.update_end.ensures drawn) in
+    let closes = subst (λ xs. Performs drawn xs (holding false)) (sym c.in_ok-push_str-2.ensures.bytes)
+    (c.update_end.ensures drawn) in
     update-within opens c.in_ok-after.ensures.ok.2 closes

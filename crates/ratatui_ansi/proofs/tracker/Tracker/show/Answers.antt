@@ -14,4 +14,5 @@ returns-clause-ok c =
     let flags = k.continuations.items in
     let after : Tracker = record k { out = c.set_visible.new.out; is_visible = c.args.visible } in
     shown-collected k after c.args.visible c.requires refl
-    (call-from w h _ _ k.cursor k.cursor flags flags _ _ (c.in_ok-set_visible.ensures w h) (visible-kept w h c.args.visible k.cursor flags))
+    (call-from w h _ _ k.cursor k.cursor flags flags _ _ (c.in_ok-set_visible.ensures w h)
+    (visible-kept w h c.args.visible k.cursor flags))
