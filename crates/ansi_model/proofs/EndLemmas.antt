@@ -1,6 +1,6 @@
 -- What leaves a terminal, on one between two calls.
-use Rattle.std.proofs.Common.{◌≡◌, ℕ, ◌+◌, ◌-◌, ◌<◌, ◌≤◌, min, true, refl, sym, ap, ap₂, subst, ◌∙◌, arith}
-use Rattle.ratatui_core.specs.Backend.{Screen, Appends, with_cursor, with_visible}
+use Rattle.std.proofs.Common.{◌≡◌, ℕ, ◌+◌, ◌-◌, ◌<◌, ◌≤◌, min, refl, ap, ap₂, subst, arith}
+use Rattle.ratatui_core.specs.Backend.{Screen, Appends}
 use Rattle.ansi_model.specs.{Sgr.default_sgr, Endings.left_below, Endings.IsLeftBelow, Screens.screen_shown, Screens.IsIdle}
 use Rattle.ansi_model.specs.Emulator.{Emulator, fed, returned, cursor_moved, without_region, with_sgr}
 use Rattle.ansi_model.specs.Emulator as terminal
@@ -36,6 +36,7 @@ left-in-order w h wide high most t ready =
       rest = both.0.rest;
       screen = λ written.
           subst (λ (p : Screen). Appends p 1 (screen_shown written (left_below t)))
-          (ap₂ (λ i j. record (screen_shown written t) { cursor_x = i; cursor_y = j; visible = true }) column row) (both.1.screens written).0;
+          (ap₂ (λ i j. record (screen_shown written t) { cursor_x = i; cursor_y = j; visible = true }) column row)
+          (both.1.screens written).0;
       column = ap (λ (u : Emulator). u.x) feeds.rest;
     }

@@ -1,10 +1,14 @@
 -- What a tracker knows of its terminal between two calls, and of the bytes that it collected for a call.
 use Rattle.std.specs.Prelude.{◌≡◌, ℕ, ◌*◌, ◌<◌, ◌≤◌, Bool, true, List, length, [], ◌++◌, string_bytes}
 use Rattle.ratatui_core.specs.Layout.{Position, Size}
-use Rattle.ratatui_core.specs.Backend.{Screen, cursor_of, Appends, Clears, ScrollsUp, ScrollsDown, with_cursor, with_visible}
-use Rattle.ansi_model.specs.{Columns.blank_column, Commands.command_bytes, Commands.AsksSize, Beginnings.MakesBlank, Emulator.Emulator, Emulator.rested, Emulator.Phase.Ground, Sequences.feed}
+use Rattle.ratatui_core.specs.Backend.{Screen, cursor_of, Appends, Clears, ScrollsUp, ScrollsDown}
+use Rattle.ratatui_core.specs.Backend.{with_cursor, with_visible}
+use Rattle.ansi_model.specs.{Columns.blank_column, Commands.command_bytes, Commands.AsksSize}
+use Rattle.ansi_model.specs.{Beginnings.MakesBlank, Emulator.Emulator, Emulator.rested, Emulator.Phase.Ground}
+use Rattle.ansi_model.specs.{Sequences.feed}
 use Rattle.ansi_model.specs.{Screens.screen_shown, Screens.IsIdle, Flags.AreContinuations, Flags.is_clear_cut}
-use Rattle.ratatui_ansi.specs.{declared.draw.Refusal.Refusal, declared.tracker.Tracker.Tracker, declared.tracker.Call.Call}
+use Rattle.ratatui_ansi.specs.{declared.draw.Refusal.Refusal, declared.tracker.Tracker.Tracker}
+use Rattle.ratatui_ansi.specs.{declared.tracker.Call.Call}
 use Rattle.ratatui_ansi.specs.declared.draw.Refusal.TheVariants as Refused
 use Rattle.ratatui_ansi.specs.declared.tracker.Call.TheVariants as Called
 
@@ -15,7 +19,8 @@ pub record IsAwaiting (w h : ℕ) (cursor : Position) (flags : List Bool) (t : E
   pub continuations : AreContinuations w h flags (rested t).columns
   pub placed : cursor_of (screen_shown 0 (rested t)) ≡ cursor
 
--- a screen of this size has columns and rows, at most 65535 of these, and a flag for each column, also for a draft
+-- a screen of this size has columns and rows, at most 65535 of these, and a flag for each column, also for a
+-- draft
 pub record FitsScreen (size : Size) (flags draft : List Bool) : Type 0 where
   pub columns : 0 < size.width
   pub rows : 0 < size.height
@@ -32,7 +37,8 @@ pub record IsTracked (k : Tracker) (t : Emulator) : Type 0 where
   pub awaiting : IsAwaiting k.size.width k.size.height k.cursor k.continuations.items t
   pub visible : (rested t).visible ≡ k.is_visible
 
--- a call's bytes were collected: they relate the screen of each tracked terminal so to the former, and it is tracked as the call left it
+-- a call's bytes were collected: they relate the screen of each tracked terminal so to the former, and it is
+-- tracked as the call left it
 pub record Collects (old : Tracker) (related : Screen → Screen → Type 0) (new : Tracker) : Type 0 where
   pub tracker : IsTracker new
   pub size : new.size ≡ old.size
@@ -42,7 +48,8 @@ pub record Collects (old : Tracker) (related : Screen → Screen → Type 0) (ne
   pub bytes : List ℕ
   pub appended : string_bytes new.out ≡ string_bytes old.out ++ bytes
   pub tracks : (t : Emulator) → IsTracked old t → IsTracked new (feed bytes t)
-  pub shows : (t : Emulator) → IsTracked old t → related (screen_shown old.written (rested t)) (screen_shown new.written (rested (feed bytes t)))
+  pub shows : (t : Emulator) → IsTracked old t
+      → related (screen_shown old.written (rested t)) (screen_shown new.written (rested (feed bytes t)))
 
 -- all is as it was but what was collected, and the draft
 pub record KeepsTracked (old new : Tracker) : Type 0 where
@@ -78,7 +85,8 @@ IsCommanded _ old new = Unit {0}
 
 -- a clear would cut a symbol at the cursor
 abbrev pub IsCutByCall : Call → Tracker → Type 0
-IsCutByCall (Called.Clear kind) k = is_clear_cut kind k.size.width k.cursor.x k.cursor.y k.continuations.items ≡ true
+IsCutByCall (Called.Clear kind) k = is_clear_cut kind k.size.width k.cursor.x k.cursor.y
+    k.continuations.items ≡ true
 IsCutByCall _ k = ⊥
 
 -- why a call wasn't collected: for want of memory, or since it would cut a symbol
