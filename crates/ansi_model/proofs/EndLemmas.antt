@@ -1,6 +1,6 @@
 -- What leaves a terminal, on one between two calls.
-use Rattle.std.proofs.Common.{◌≡◌, ℕ, ◌+◌, ◌-◌, ◌<◌, ◌≤◌, min, true, refl, sym, ap, ap₂, subst, ◌∙◌, arith}
-use Rattle.ratatui_core.specs.Backend.{Screen, Appends, with_cursor, with_visible}
+use Rattle.std.proofs.Common.{◌≡◌, ℕ, ◌+◌, ◌-◌, ◌<◌, ◌≤◌, min, refl, ap, ap₂, subst, arith}
+use Rattle.ratatui_core.specs.Backend.{Screen, Appends}
 use Rattle.ansi_model.specs.{Sgr.default_sgr, Endings.left_below, Endings.IsLeftBelow, Screens.screen_shown, Screens.IsIdle}
 use Rattle.ansi_model.specs.Emulator.{Emulator, fed, returned, cursor_moved, without_region, with_sgr}
 use Rattle.ansi_model.specs.Emulator as terminal

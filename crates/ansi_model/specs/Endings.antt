@@ -9,16 +9,17 @@ use Rattle.ansi_model.specs.{Windows.come_back, Windows.feed_window}
 -- a terminal of at most 65535 rows in its own colours, without margins, and with its cursor shown at the
 -- beginning of the row below its last one
 abbrev pub left_below : Emulator → Emulator
-left_below t = fed 1 (returned
-    (cursor_moved 0 65534 (cursor_shown true (without_region (with_sgr default_sgr t)))))
+left_below t =
+    fed 1 (returned (cursor_moved 0 65534 (cursor_shown true (without_region (with_sgr default_sgr t)))))
 
 -- a terminal of this size was given back, which showed a screen before: it awaits text and rests, and one row
 -- came in below the last one, with the cursor shown at its beginning
 pub record IsLeftBelow (w h : ℕ) (before after : Emulator) : Type 0 where
   pub rest : IsResting w h after.phase after.text after.width after.height after.sgr after.top after.bottom
       after.modes after.sure
-  pub screen : (written : ℕ) → Appends
-      (with_visible true (with_cursor 0 (h - 1) (screen_shown written before))) 1 (screen_shown written after)
+  pub screen : (written : ℕ)
+      → Appends (with_visible true (with_cursor 0 (h - 1) (screen_shown written before))) 1
+      (screen_shown written after)
   pub column : after.x ≡ 0
 
 -- the main screen as it was put aside, in the terminal's own colours, without margins, and with its cursor
@@ -31,8 +32,5 @@ pub record ClosesAlternate (old new : List ℕ) : Type 0 where
   pub bytes : List ℕ
   pub appended : new ≡ old ++ bytes
   pub closed : (t main : Emulator) → t.phase ≡ Ground
-      → feed_window bytes (record { shown = t; aside = Some main }) ≡ record {
-        shown = left_back main
-            (rested t);
-        aside = None;
-      }
+      → feed_window bytes (record { shown = t; aside = Some main })
+      ≡ record { shown = left_back main (rested t); aside = None }

@@ -7,22 +7,28 @@ use Rattle.logview.specs.{Views.IsFollowing, Views.IsViewOf, Views.RefusesPush, 
 use Rattle.follow.specs.{Lines.shown_line, Lines.AreLinesOf, declared.fault.Fault.Fault}
 use Rattle.follow.specs.declared.fault.Fault.TheVariants.{Terminal, Read, Write, Lines}
 
--- why the next line of a text isn't shown: it can't be read, and the view stays; or the terminal or memory refuses it, as a push is refused
-abbrev pub StopsAtNext : {W : Type 0} → List ℕ → LogView (BackendState W) AnsiError → LogView (BackendState W) AnsiError → Fault → Type 0
-StopsAtNext text v w (Terminal error) = IsFollowing shown_by v → RefusesPush shown_by (shown_line (take_through 10 text)) v w error
+-- why the next line of a text isn't shown: it can't be read, and the view stays; or the terminal or memory
+-- refuses it, as a push is refused
+abbrev pub StopsAtNext : {W : Type 0} → List ℕ → LogView (BackendState W) AnsiError
+    → LogView (BackendState W) AnsiError → Fault → Type 0
+StopsAtNext text v w (Terminal error) = IsFollowing shown_by v
+    → RefusesPush shown_by (shown_line (take_through 10 text)) v w error
 StopsAtNext text v w (Read error) = w ≡ v
 StopsAtNext text v w (Write error) = ⊥
 StopsAtNext text v w Lines = ⊥
 
 -- the same, or all lines were read that can be counted, and the view stays
-abbrev pub StopsAfter : {W : Type 0} → List ℕ → LogView (BackendState W) AnsiError → LogView (BackendState W) AnsiError → Fault → Type 0
-StopsAfter text v w (Terminal error) = IsFollowing shown_by v → RefusesPush shown_by (shown_line (take_through 10 text)) v w error
+abbrev pub StopsAfter : {W : Type 0} → List ℕ → LogView (BackendState W) AnsiError
+    → LogView (BackendState W) AnsiError → Fault → Type 0
+StopsAfter text v w (Terminal error) = IsFollowing shown_by v
+    → RefusesPush shown_by (shown_line (take_through 10 text)) v w error
 StopsAfter text v w (Read error) = w ≡ v
 StopsAfter text v w (Write error) = ⊥
 StopsAfter text v w Lines = w ≡ v
 
 -- lines of a text were shown, each as it is shown, and the line after them isn't
-pub record StopsText {W : Type 0} (size : Size) (text : List ℕ) (v : LogView (BackendState W) AnsiError) (fault : Fault) : Type 0 where
+pub record StopsText {W : Type 0} (size : Size) (text : List ℕ) (v : LogView (BackendState W) AnsiError)
+    (fault : Fault) : Type 0 where
   pub lines : List (List ℕ)
   pub rest : List ℕ
   pub continued : (more : List (List ℕ)) → AreLinesOf rest more → AreLinesOf text (lines ++ more)

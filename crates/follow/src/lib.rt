@@ -9,9 +9,10 @@
 
 ghost use Rattle.std.specs.Prelude.{◌≡◌, [], Some, IfOk, IfErr, IfSome, OnOk};
 ghost use Rattle.std.specs.Io.KnownBytes.{Appends};
-ghost use Rattle.ratatui_ansi.specs.Backend.{shown_by};
+ghost use Rattle.ratatui_ansi.specs.Backend.{shown_by, IsAlwaysKnown};
 ghost use Rattle.logview.specs.Views.{IsViewOf};
 ghost use Rattle.follow.specs.Lines.{MovesOn, ShowsInput};
+ghost use Rattle.follow.specs.Shown.{FollowsText};
 ghost use Rattle.follow.specs.Ends.{StopsAtNext, StopsText, IsOfShowing, EndsBy};
 
 mod fault;
@@ -39,6 +40,8 @@ fn push_line<R: BufRead, W: Write + Drop>(
     ensures stopped { IfErr result (λ fault. IfSome (R.remaining reader.old) (λ text.
         StopsAtNext text view.old view.new fault)) }
     ensures why { IfErr result IsOfShowing }
+    ensures calls { OnOk result
+        (view.new.terminal.backend.failures ≡ view.old.terminal.backend.failures) }
 {
     line.clear();
     shown.clear();
@@ -67,6 +70,8 @@ fn push_lines<R: BufRead, W: Write + Drop>(
         (size : Size) → IsViewOf shown_by size [] view.old
         → StopsText size text view.new fault)) }
     ensures why { IfErr result IsOfShowing }
+    ensures calls { OnOk result
+        (view.new.terminal.backend.failures ≡ view.old.terminal.backend.failures) }
 {
     let mut line = String::new(alloc);
     let mut shown = String::new(alloc);
@@ -76,25 +81,6 @@ fn push_lines<R: BufRead, W: Write + Drop>(
         }
     }
     Err(Fault::Lines)
-}
-
-// Shows the lines of a reader to its end, on a terminal of this size.
-fn show_lines<R: BufRead, W: Write + Drop>(
-    alloc: Global,
-    reader: &mut R,
-    writer: W,
-    size: Size,
-) -> Result<(), Fault>
-    ensures ok { OnOk result
-        (IfSome (R.remaining reader.old) (λ _. R.remaining reader.new ≡ Some [])) }
-    ensures why { IfErr result IsOfShowing }
-{
-    let backend = match AnsiBackend::new(alloc, writer, size) {
-        Ok(backend) => backend,
-        Err(error) => return Err(Fault::Terminal(TerminalError::Backend(error))),
-    };
-    let mut view = LogView::new(alloc, backend)?;
-    push_lines(alloc, reader, &mut view)
 }
 
 // Writes a text whole, and has it sent on.
@@ -107,9 +93,12 @@ fn send<W: Write>(writer: &mut W, text: &str) -> io::Result<()>
 }
 
 /// Shows the lines of a reader to its end on a terminal of `size` columns and rows, and gives the
-/// terminal back: its own colours, no margins, the cursor shown below its rows.
+/// terminal back: in its own colours, without margins, with the cursor shown below its rows.
+/// Answers the writer, which has sent all on. So each terminal of this size that reads what was
+/// written, however it was left before, shows the lines, and below them how many there were.
 ///
-/// No want of memory prevents that, and it is done after a fault, too.
+/// No want of memory prevents that the terminal is given back, and that is done after a fault, too,
+/// as far as the writer takes it.
 ///
 /// # Errors
 ///
@@ -118,22 +107,32 @@ fn send<W: Write>(writer: &mut W, text: &str) -> io::Result<()>
 /// - [`Fault::Read`]: the reader failed. All lines that it gave are shown.
 /// - [`Fault::Write`]: all was read and shown, but what gives the terminal back can't be written.
 /// - [`Fault::Lines`]: there are more lines than can be counted.
-pub fn follow<R: BufRead, W: Write>(
+///
+/// The writer is dropped then.
+pub fn follow<R: BufRead, W: Write + Drop>(
     alloc: Global,
     reader: &mut R,
-    writer: &mut W,
+    writer: W,
     size: Size,
-) -> Result<(), Fault>
+) -> Result<W, Fault>
     ensures ok { OnOk result
         (IfSome (R.remaining reader.old) (λ _. R.remaining reader.new ≡ Some [])) }
+    ensures shown { IsAlwaysKnown W.contents → IfOk result (λ taken.
+        IfSome (R.remaining reader.old) (λ text. FollowsText size text (W.contents taken))) }
     ensures failed { IfErr result
         (EndsBy (R.remaining reader.old) (R.remaining reader.new)) }
 {
-    let shown = show_lines(alloc, reader, &mut *writer, size);
-    let left = send(writer, leaving());
+    let backend = match AnsiBackend::new(alloc, writer, size) {
+        Ok(backend) => backend,
+        Err(error) => return Err(Fault::Terminal(TerminalError::Backend(error))),
+    };
+    let mut view = LogView::new(alloc, backend)?;
+    let shown = push_lines(alloc, reader, &mut view);
+    let mut writer = view.into_terminal().into_backend().into_writer();
+    let left = send(&mut writer, leaving());
     shown?;
     match left {
-        Ok(()) => Ok(()),
+        Ok(()) => Ok(writer),
         Err(error) => Err(Fault::Write(error)),
     }
 }

@@ -18,8 +18,9 @@ use std::process::ExitCode;
 // Shows standard input on a terminal of this size.
 fn run(rt: &HostRuntime, size: Size) -> Result<(), Fault> {
     let mut reader = rt.reader();
-    let mut writer = BufWriter::new(rt.alloc(), io::writer(rt)).map_err(Fault::Write)?;
-    follow(rt.alloc(), &mut reader, &mut writer, size)
+    let writer = BufWriter::new(rt.alloc(), io::writer(rt)).map_err(Fault::Write)?;
+    let _writer = follow(rt.alloc(), &mut reader, writer, size)?;
+    Ok(())
 }
 
 // Reads the words, and shows standard input.

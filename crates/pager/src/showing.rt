@@ -9,7 +9,6 @@ ghost use Rattle.pager.specs.Pages.{PaintsPager};
 
 use crate::laws::the_glass_shows_the_page;
 use crate::pager::Pager;
-use ansi_model::leaving;
 use ratatui_ansi::{AnsiBackend, AnsiError};
 use ratatui_app::{Fault, run};
 use ratatui_core::layout::Size;
@@ -70,9 +69,9 @@ fn send<W: Write>(writer: &mut W, texts: &[&str]) -> io::Result<()> {
     writer.flush()
 }
 
-// Gives a terminal back.
+// Gives a terminal back, whose backend was dropped and so left it in its own colours.
 fn give_back<W: Write>(writer: &mut W) -> Result<(), Fault<AnsiError>> {
-    match send(writer, &[leaving(), GIVING_BACK]) {
+    match send(writer, &[GIVING_BACK]) {
         Ok(()) => Ok(()),
         Err(error) => Err(Fault::Draw(TerminalError::Backend(AnsiError::Write(error)))),
     }

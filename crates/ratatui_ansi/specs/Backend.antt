@@ -31,11 +31,8 @@ pub record BackendState (W : Type 0) : Type 0 where
 -- with this writer, of which it isn't known what it was sent: that counts as a failed call, and is as if a
 -- write had failed
 abbrev pub with_writer : {W : Type 0} → BackendState W → W → BackendState W
-with_writer b writer = record b {
-  writer = writer;
-  failures = min (b.failures + 1) (2 ^ 64 - 1);
-  is_broken = true;
-}
+with_writer b writer =
+    record b { writer = writer; failures = min (b.failures + 1) (2 ^ 64 - 1); is_broken = true }
 
 -- nothing was sent after the last flush
 abbrev pub is_flushed : {W : Type 0} → BackendState W → Bool
@@ -82,11 +79,8 @@ pub record BringsBack {W : Type 0} (b : BackendState W) (contents : Option (List
   pub sent : List ℕ
   pub closes : ClosesAlternate b.sent sent
   pub back : (t main : Emulator) → IsAsFound b.size.width b.size.height t
-      → feed_window sent (record { shown = anew t; aside = Some main }) ≡ record {
-        shown = left_back main
-            (rested (feed b.sent (anew t)));
-        aside = None;
-      }
+      → feed_window sent (record { shown = anew t; aside = Some main })
+      ≡ record { shown = left_back main (rested (feed b.sent (anew t))); aside = None }
   pub tied : Appends b.before contents sent
 
 -- a terminal of this size that reads these bytes becomes what a new one would, however it was left; its

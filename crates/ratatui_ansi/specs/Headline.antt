@@ -23,7 +23,8 @@ module _ {W : Type 0} where
     pub sure : (rested (feed b.sent (anew t))).sure ≡ true
     pub ready : IsIdle b.size.width b.size.height (rested (feed b.sent (anew t)))
     pub screen : screen_shown b.written (rested (feed b.sent (anew t))) ≡ below_rows t.history (shown_by b)
-    pub glass : (g : Grid) → MayShow (rested (feed b.sent (anew t))).modes.held b.size.width
+    pub glass : (g : Grid)
+        → MayShow (rested (feed b.sent (anew t))).modes.held b.size.width
         (rested (feed b.sent (anew t))).columns g
         → (x y : ℕ) → IsStraight b.size.width (shown_by b).grid y → x < b.size.width
         → g x y ≡ (shown_by b).grid x y
@@ -45,7 +46,7 @@ module _ {W : Type 0} where
   -- or began anew, each terminal of its size that reads what was sent since shows the buffer that the last
   -- call left, however it was left before
   abbrev pub IsHeadlineOfBytes : TerminalData (BackendState W) → Type 0
-  IsHeadlineOfBytes t = (s : TerminalData (BackendState W)) (events : List (Event (BackendState W)))
-      → IsInStep shown_by s
+  IsHeadlineOfBytes t =
+      (s : TerminalData (BackendState W)) (events : List (Event (BackendState W))) → IsInStep shown_by s
       → Along (Does shown_by) s events → Along (IsFair shown_by) s events → last_state s events ≡ t
       → t.backend.is_broken ≡ false → IsShownToAll t.previous t.backend

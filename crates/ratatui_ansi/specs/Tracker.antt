@@ -48,8 +48,8 @@ pub record Collects (old : Tracker) (related : Screen → Screen → Type 0) (ne
   pub bytes : List ℕ
   pub appended : string_bytes new.out ≡ string_bytes old.out ++ bytes
   pub tracks : (t : Emulator) → IsTracked old t → IsTracked new (feed bytes t)
-  pub shows : (t : Emulator) → IsTracked old t → related (screen_shown old.written (rested t))
-      (screen_shown new.written (rested (feed bytes t)))
+  pub shows : (t : Emulator) → IsTracked old t
+      → related (screen_shown old.written (rested t)) (screen_shown new.written (rested (feed bytes t)))
 
 -- all is as it was but what was collected, and the draft
 pub record KeepsTracked (old new : Tracker) : Type 0 where
@@ -85,8 +85,8 @@ IsCommanded _ old new = Unit {0}
 
 -- a clear would cut a symbol at the cursor
 abbrev pub IsCutByCall : Call → Tracker → Type 0
-IsCutByCall (Called.Clear kind) k =
-    is_clear_cut kind k.size.width k.cursor.x k.cursor.y k.continuations.items ≡ true
+IsCutByCall (Called.Clear kind) k = is_clear_cut kind k.size.width k.cursor.x k.cursor.y
+    k.continuations.items ≡ true
 IsCutByCall _ k = ⊥
 
 -- why a call wasn't collected: for want of memory, or since it would cut a symbol

@@ -85,9 +85,9 @@ enum End {
     Lines,
 }
 
-fn end_of(ended: Result<(), Fault>) -> End {
+fn end_of<T: Drop>(ended: Result<T, Fault>) -> End {
     match ended {
-        Ok(()) => End::Whole,
+        Ok(_) => End::Whole,
         Err(Fault::Terminal(_)) => End::Terminal,
         Err(Fault::Read(_)) => End::Read,
         Err(Fault::Write(_)) => End::Write,
