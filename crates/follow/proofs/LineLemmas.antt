@@ -1,5 +1,6 @@
 -- Lines that were read, and the view of them.
-use Rattle.std.proofs.Common.{◌≡◌, ℕ, true, false, List, [], ◌∷◌, ◌++◌, map, Option, None, Some, IfSome, is_some, unwrap_or, refl, sym, ap, subst, ◌∙◌, append_assoc, append-nil}
+use Rattle.std.proofs.Common.{◌≡◌, ℕ, true, false, List, [], ◌∷◌, ◌++◌, map, Option, None, Some, IfSome, is_some, unwrap_or, refl}
+use Rattle.std.proofs.Common.{sym, ap, subst, ◌∙◌, append_assoc, append-nil}
 use Rattle.std.proofs.lemmas.{Bool.false≢true, List.map-append}
 use Rattle.std.specs.Io.BufRead.{take_through, drop_through}
 use Rattle.ratatui_core.specs.Layout.{Size}
@@ -17,22 +18,26 @@ none-some : {A : Type 0} {a : A} → None ≡ Some a → ⊥
 none-some e = false≢true (ap is_some e)
 
 -- what was read of a text until now, and what is left of it: lines that continue those that were read are lines of the text
-pub record HasRead {W E : Type 0} (size : Size) (text : List ℕ) (left : Option (List ℕ)) (v : LogView (BackendState W) E) : Type 0 where
+pub record HasRead {W E : Type 0} (size : Size) (text : List ℕ) (left : Option (List ℕ))
+    (v : LogView (BackendState W) E) : Type 0 where
   pub lines : List (List ℕ)
   pub rest : List ℕ
   pub rest_is : left ≡ Some rest
   pub continued : (more : List (List ℕ)) → AreLinesOf rest more → AreLinesOf text (lines ++ more)
   pub view : IsViewOf shown_by size (map shown_line lines) v
 
-has-read-none : {W E : Type 0} (size : Size) (text : List ℕ) (v : LogView (BackendState W) E) → IsViewOf shown_by size [] v → HasRead size text (Some text) v
+has-read-none : {W E : Type 0} (size : Size) (text : List ℕ) (v : LogView (BackendState W) E) → IsViewOf shown_by size [] v
+    → HasRead size text (Some text) v
 has-read-none size text v view = record { lines = []; rest = text; rest_is = refl; continued = λ more are. are; view = view }
 
 -- at first nothing was read
-pub begun : {W E : Type 0} (left : Option (List ℕ)) (v : LogView (BackendState W) E) → IfSome left (λ text. (size : Size) → IsViewOf shown_by size [] v → HasRead size text left v)
+pub begun : {W E : Type 0} (left : Option (List ℕ)) (v : LogView (BackendState W) E)
+    → IfSome left (λ text. (size : Size) → IsViewOf shown_by size [] v → HasRead size text left v)
 begun (Some text) v = λ size view. has-read-none size text v view
 begun None v = tt
 
-has-read-more : {W E : Type 0} (size : Size) (text rest : List ℕ) (now : Option (List ℕ)) (v w : LogView (BackendState W) E) (read : HasRead size text (Some rest) v) → MovesOn rest true now v w → HasRead size text now w
+has-read-more : {W E : Type 0} (size : Size) (text rest : List ℕ) (now : Option (List ℕ)) (v w : LogView (BackendState W) E)
+    (read : HasRead size text (Some rest) v) → MovesOn rest true now v w → HasRead size text now w
 has-read-more size text rest now v w read moves =
     let same : read.rest ≡ rest = some-same read.rest_is in
     let line = take_through 10 rest in
@@ -43,18 +48,21 @@ has-read-more size text rest now v w read moves =
       continued = λ more are. subst (AreLinesOf text) (sym (append_assoc read.lines (line ∷ []) more))
           (read.continued (line ∷ more) (subst (λ r. AreLinesOf r (line ∷ more)) (sym same) (moves.0, refl, are)));
       view = subst (λ ls. IsViewOf shown_by size ls w) (sym (map-append shown_line read.lines (line ∷ [])))
-          (view_more shown_by size (map shown_line read.lines) (shown_line line) v w read.view moves.2 (moves.3 read.view.following));
+          (view_more shown_by size (map shown_line read.lines) (shown_line line) v w read.view moves.2
+          (moves.3 read.view.following));
     }
 
 -- a line more was read and shown
 pub turned : {W E : Type 0} (first left now : Option (List ℕ)) (u v w : LogView (BackendState W) E)
-    → IfSome first (λ text. (size : Size) → IsViewOf shown_by size [] u → HasRead size text left v) → IfSome left (λ text. MovesOn text true now v w)
+    → IfSome first (λ text. (size : Size) → IsViewOf shown_by size [] u → HasRead size text left v)
+    → IfSome left (λ text. MovesOn text true now v w)
     → IfSome first (λ text. (size : Size) → IsViewOf shown_by size [] u → HasRead size text now w)
 turned None left now u v w read moves = tt
 turned (Some text) None now u v w read moves = λ size view. absurd (none-some (read size view).rest_is)
 turned (Some text) (Some rest) now u v w read moves = λ size view. has-read-more size text rest now v w (read size view) moves
 
-has-read-all : {W E : Type 0} (size : Size) (text rest : List ℕ) (now : Option (List ℕ)) (v w : LogView (BackendState W) E) (read : HasRead size text (Some rest) v) → MovesOn rest false now v w
+has-read-all : {W E : Type 0} (size : Size) (text rest : List ℕ) (now : Option (List ℕ)) (v w : LogView (BackendState W) E)
+    (read : HasRead size text (Some rest) v) → MovesOn rest false now v w
     → (now ≡ Some []) × ShowsInput size text w
 has-read-all size text rest now v w read moves =
     let same : read.rest ≡ [] = some-same read.rest_is ∙ moves.0 in (
@@ -68,19 +76,22 @@ has-read-all size text rest now v w read moves =
 
 -- nothing is left
 pub ended : {W E : Type 0} (first left now : Option (List ℕ)) (u v w : LogView (BackendState W) E)
-    → IfSome first (λ text. (size : Size) → IsViewOf shown_by size [] u → HasRead size text left v) → IfSome left (λ text. MovesOn text false now v w)
+    → IfSome first (λ text. (size : Size) → IsViewOf shown_by size [] u → HasRead size text left v)
+    → IfSome left (λ text. MovesOn text false now v w)
     → IfSome first (λ text. (size : Size) → IsViewOf shown_by size [] u → (now ≡ Some []) × ShowsInput size text w)
 ended None left now u v w read moves = tt
 ended (Some text) None now u v w read moves = λ size view. absurd (none-some (read size view).rest_is)
 ended (Some text) (Some rest) now u v w read moves = λ size view. has-read-all size text rest now v w (read size view) moves
 
-after-some : {W : Type 0} (text : List ℕ) (v w : LogView (BackendState W) AnsiError) (fault : Fault) → StopsAtNext text v w fault → StopsAfter text v w fault
+after-some : {W : Type 0} (text : List ℕ) (v w : LogView (BackendState W) AnsiError) (fault : Fault) → StopsAtNext text v w fault
+    → StopsAfter text v w fault
 after-some text v w (Terminal error) stops = stops
 after-some text v w (Read error) stops = stops
 after-some text v w (Write error) stops = absurd stops
 after-some text v w Lines stops = absurd stops
 
-stops-after : {W : Type 0} (size : Size) (text rest : List ℕ) (v w : LogView (BackendState W) AnsiError) (fault : Fault) → HasRead size text (Some rest) v → StopsAfter rest v w fault
+stops-after : {W : Type 0} (size : Size) (text rest : List ℕ) (v w : LogView (BackendState W) AnsiError) (fault : Fault)
+    → HasRead size text (Some rest) v → StopsAfter rest v w fault
     → StopsText size text w fault
 stops-after size text rest v w fault read stops =
     let same : read.rest ≡ rest = some-same read.rest_is in
@@ -95,11 +106,13 @@ stops-after size text rest v w fault read stops =
 
 -- the next line isn't shown
 pub stopped : {W : Type 0} (first left : Option (List ℕ)) (u v w : LogView (BackendState W) AnsiError) (fault : Fault)
-    → IfSome first (λ text. (size : Size) → IsViewOf shown_by size [] u → HasRead size text left v) → IfSome left (λ text. StopsAtNext text v w fault)
+    → IfSome first (λ text. (size : Size) → IsViewOf shown_by size [] u → HasRead size text left v)
+    → IfSome left (λ text. StopsAtNext text v w fault)
     → IfSome first (λ text. (size : Size) → IsViewOf shown_by size [] u → StopsText size text w fault)
 stopped None left u v w fault read stops = tt
 stopped (Some text) None u v w fault read stops = λ size view. absurd (none-some (read size view).rest_is)
-stopped (Some text) (Some rest) u v w fault read stops = λ size view. stops-after size text rest v w fault (read size view) (after-some rest v w fault stops)
+stopped (Some text) (Some rest) u v w fault read stops = λ size view. stops-after size text rest v w fault (read size view)
+    (after-some rest v w fault stops)
 
 -- so many lines were read as can be counted
 pub overrun : {W : Type 0} (first left : Option (List ℕ)) (u v : LogView (BackendState W) AnsiError)
@@ -110,7 +123,9 @@ overrun (Some text) None u v read = λ size view. absurd (none-some (read size v
 overrun (Some text) (Some rest) u v read = λ size view. stops-after size text rest v v Lines (read size view) refl
 
 -- all was read that there was
-pub all-read : {W E : Type 0} (size : Size) (first now : Option (List ℕ)) (v w : LogView (BackendState W) E) → IsViewOf shown_by size [] v
-    → IfSome first (λ text. (size : Size) → IsViewOf shown_by size [] v → (now ≡ Some []) × ShowsInput size text w) → IfSome first (λ text. now ≡ Some [])
+pub all-read : {W E : Type 0} (size : Size) (first now : Option (List ℕ)) (v w : LogView (BackendState W) E)
+    → IsViewOf shown_by size [] v
+    → IfSome first (λ text. (size : Size) → IsViewOf shown_by size [] v → (now ≡ Some []) × ShowsInput size text w)
+    → IfSome first (λ text. now ≡ Some [])
 all-read size None now v w view reads = tt
 all-read size (Some text) now v w view reads = (reads size view).0

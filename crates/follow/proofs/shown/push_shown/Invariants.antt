@@ -8,5 +8,6 @@ abbrev pub invariant-loop-grapheme : goal.invariant-loop-grapheme
 invariant-loop-grapheme l = record {
   can : (goal.iterator-loop-grapheme).can_next l.grapheme-iterator;
   ends : (goal.iterator-loop-grapheme).is_finite l.grapheme-iterator;
-  left : string_bytes l.out ++ flat_map shown_grapheme (graphemes_left l.grapheme-iterator) ≡ string_bytes l.initial.out ++ shown_line l.line;
+  left : string_bytes l.out ++ flat_map shown_grapheme (graphemes_left l.grapheme-iterator) ≡ string_bytes l.initial.out
+      ++ shown_line l.line;
 }
