@@ -1,5 +1,5 @@
 -- What leaves a terminal, on one between two calls.
-use Rattle.std.proofs.Common.{◌≡◌, ℕ, ◌+◌, ◌-◌, ◌<◌, ◌≤◌, min, refl, ap, ap₂, subst, arith}
+use Rattle.std.proofs.Common.{◌≡◌, ℕ, ◌+◌, ◌-◌, ◌<◌, ◌≤◌, min, true, refl, ap, ap₂, subst, arith}
 use Rattle.ratatui_core.specs.Backend.{Screen, Appends}
 use Rattle.ansi_model.specs.{Sgr.default_sgr, Endings.left_below, Endings.IsLeftBelow, Screens.screen_shown, Screens.IsIdle}
 use Rattle.ansi_model.specs.Emulator.{Emulator, fed, returned, cursor_moved, without_region, with_sgr}

@@ -19,11 +19,9 @@ returns-clause-left g c =
     let bytes = ap (λ s. s.bytes) c.flush.ensures.sent ∙ c.in_ok-send.ensures.sent ∙ ap (λ s. s.sent.bytes ++ text) mended in
     let all = (c.flush.ensures.tied (c.in_ok-send.ensures.tied (rw mended (c.self.invariant.1 whole)))).appends in
     let kept = c.self.invariant.0 in
-    leaves-terminal _ contents (b.sender.sent.bytes ++ text) (c.farewell-last.ensures.left main b.sender.sent.bytes)
-    (read-by-all _ (kept.alike whole) (kept.awaiting whole).phase (kept.awaiting whole).ready)
+    leaves-terminal _ contents (b.sender.sent.bytes ++ text) (c.farewell-last.ensures.left main b.sender.sent.bytes) (read-by-all _ (kept.alike whole) (kept.awaiting whole).phase (kept.awaiting whole).ready)
     kept.tracker.columns kept.tracker.rows kept.tracker.most
-    (subst (λ xs. Appends b.sender.sent.before contents xs) bytes (subst
-    (λ known. Appends known contents c.flush.new.self.sent.bytes) before all)))
+    (subst (λ xs. Appends b.sender.sent.before contents xs) bytes (subst (λ known. Appends known contents c.flush.new.self.sent.bytes) before all)))
 
 pub returns-clause-back : goal.returns-clause-back
 returns-clause-back g c =
@@ -36,7 +34,5 @@ returns-clause-back g c =
     let bytes = ap (λ s. s.bytes) c.flush.ensures.sent ∙ c.in_ok-send.ensures.sent ∙ ap (λ s. s.sent.bytes ++ text) mended in
     let all = (c.flush.ensures.tied (c.in_ok-send.ensures.tied (rw mended (c.self.invariant.1 whole)))).appends in
     let kept = c.self.invariant.0 in
-    brings-back _ contents (b.sender.sent.bytes ++ text) (c.farewell-last.ensures.back alternate b.sender.sent.bytes)
-    (kept.alike whole) (kept.awaiting whole).phase
-    (subst (λ xs. Appends b.sender.sent.before contents xs) bytes (subst
-    (λ known. Appends known contents c.flush.new.self.sent.bytes) before all)))
+    brings-back _ contents (b.sender.sent.bytes ++ text) (c.farewell-last.ensures.back alternate b.sender.sent.bytes) (kept.alike whole) (kept.awaiting whole).phase
+    (subst (λ xs. Appends b.sender.sent.before contents xs) bytes (subst (λ known. Appends known contents c.flush.new.self.sent.bytes) before all)))
