@@ -22,7 +22,8 @@ fn backend_fault(error: AnsiError) -> Fault<AnsiError> {
     Fault::Draw(TerminalError::Backend(error))
 }
 
-// Begins a terminal that is asked for its size.
+// Begins a terminal that is asked for its size. A backend that can't be asked is dropped, which gives
+// the terminal back.
 fn begin<W: Write + Drop>(
     alloc: Global,
     mut backend: AnsiBackend<W>,
@@ -31,10 +32,7 @@ fn begin<W: Write + Drop>(
 {
     match backend.ask_size() {
         Ok(()) => {}
-        Err(error) => {
-            let _ = backend.leave();
-            return Err(backend_fault(error));
-        }
+        Err(error) => return Err(backend_fault(error)),
     }
     match Terminal::new(alloc, backend) {
         Ok(terminal) => Ok(terminal),
