@@ -1,0 +1,2 @@
+pub mod GridLemmas
+pub mod LineLemmas
