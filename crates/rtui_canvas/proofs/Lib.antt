@@ -1,2 +1,1 @@
-pub mod GridLemmas
-pub mod LineLemmas
+pub mod CanvasLemmas

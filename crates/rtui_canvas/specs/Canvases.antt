@@ -1,5 +1,5 @@
 -- A canvas: what its dots and labels make of a buffer.
-use Rattle.std.specs.Prelude.{◌≡◌, ℕ, Bool, true, false, ◌+◌, ◌-◌, ◌*◌, ◌==◌, List, [], ◌∷◌, pos, Option, None, replicate, slice_index_or, encode_utf8, if◌then◌else◌}
+use Rattle.std.specs.Prelude.{◌≡◌, ℕ, Bool, true, false, ◌+◌, ◌-◌, ◌*◌, ◌==◌, List, [], ◌∷◌, pos, Option, None, slice_index_or, encode_utf8, if◌then◌else◌}
 use Rattle.ratatui_core.specs.Layout.{Rect, Position}
 use Rattle.ratatui_core.specs.Style.{Style, Color, Reset, new_style, with_bg}
 use Rattle.ratatui_core.specs.Buffer.{BufferData, Cell, with_symbol, ChangesEach, IsStyled}
@@ -8,9 +8,10 @@ use Rattle.ratatui_core.specs.declared.symbols.Marker.{Marker}
 use Rattle.ratatui_core.specs.declared.symbols.Marker.TheVariants.{Braille, HalfBlock, Bar, Dot, Custom}
 use Rattle.rtui_boxes.specs.Titles.{InTurn, title_width, first_columns, without_first}
 use Rattle.rtui_boxes.specs.Framed.{RendersInFrame}
-use Rattle.rtui_canvas.specs.declared.{scale.Scale.Scale, painter.DotCell.DotCell, label.Label.Label, canvas.Canvas.Canvas}
-use Rattle.rtui_canvas.specs.Grids.{Dot as GridDot, has_point, span, share, no_dots, with_dots}
-use Rattle.rtui_canvas.specs.Layers.{layers_of}
+use Rattle.rtui_dots.specs.declared.{Scale.Scale, DotCell.DotCell}
+use Rattle.rtui_canvas.specs.declared.{label.Label.Label, canvas.Canvas.Canvas}
+use Rattle.rtui_dots.specs.Grids.{Dot as GridDot, has_point, column_of_cell, row_of_cell, no_dots, blank, with_dots}
+use Rattle.rtui_dots.specs.Layers.{layers_of}
 
 -- the character of a cell's dots
 abbrev pub mark_of : Marker → ℕ → ℕ
@@ -38,10 +39,6 @@ shown_by m d c =
 abbrev pub shown_at : Scale → Rect → List DotCell → Position → Cell → Cell
 shown_at s r cells p = shown_by s.marker (slice_index_or cells ((p.y - r.y) * s.columns + (p.x - r.x)) no_dots)
 
--- a grid without dots
-abbrev pub blank : Scale → List DotCell
-blank s = replicate (s.columns * s.rows) no_dots
-
 -- dots over an area
 abbrev pub ShowsDots : Scale → Rect → List GridDot → List DotCell → BufferData → BufferData → Type 0
 ShowsDots s r dots cells = ChangesEach r (shown_at s r (with_dots s dots cells))
@@ -54,10 +51,9 @@ ShowsLayers s r (layer ∷ layers) old new = InTurn (ShowsDots s r layer (blank 
 -- the row of a label from its column on, and so many columns of it as the label has
 abbrev pub label_area : Scale → Rect → Label → Rect
 label_area s r l =
-    let column = share (span l.x s.left) (span s.right s.left) s.columns in
-    let row = share (span l.y s.top) (span s.top s.bottom) s.rows in
-    let left : Rect = record { x = r.x + column; y = r.y + row; width = r.width - column; height = 1 } in
-    first_columns (title_width l.line) left
+    let column = column_of_cell s l.x in
+    let row = row_of_cell s l.y in
+    first_columns (title_width l.line) (record { x = r.x + column; y = r.y + row; width = r.width - column; height = 1 })
 
 -- a label at its point, if that lies within the bounds
 abbrev pub RendersIf : Bool → (BufferData → BufferData → Type 0) → BufferData → BufferData → Type 0

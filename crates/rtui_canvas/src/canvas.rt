@@ -4,19 +4,17 @@ ghost use Rattle.std.specs.Prelude.{◌≡◌, Some, OnOk, slice_index_or, pos};
 ghost use Rattle.ratatui_core.specs.Widgets.{ChangesWithin};
 ghost use Rattle.rtui_boxes.specs.Boxes.{IsBoxArea};
 ghost use Rattle.rtui_canvas.specs.Canvases.{IsNewCanvas, scale_of, ShowsLayers, RendersLabels, ShowsCanvas};
-ghost use Rattle.rtui_canvas.specs.Layers.{layers_of};
+ghost use Rattle.rtui_dots.specs.Layers.{layers_of};
 
-use crate::drawing::Drawing;
 use crate::label::Label;
-use crate::painter::Painter;
-use crate::scale::Scale;
-use crate::shape::Shape;
+use crate::shown::show;
 use ratatui_core::buffer::Buffer;
 use ratatui_core::layout::Rect;
 use ratatui_core::style::{Color, Style};
 use ratatui_core::symbols::Marker;
 use ratatui_core::widgets::Widget;
 use rtui_boxes::{Block, render_frame};
+use rtui_dots::{Drawing, Painter, Scale, Shape};
 use std::alloc::AllocError;
 
 /// Shapes by dots, over a range of coordinates, and labels over them.
@@ -92,19 +90,17 @@ impl<'a> Canvas<'a> {
     }
 
     /// The canvas with other shapes.
-    pub fn paint(mut self, drawings: &'a [Drawing<'a>]) -> Canvas<'a>
+    pub fn paint(self, drawings: &'a [Drawing<'a>]) -> Canvas<'a>
         ensures { result ≡ record self.entry { drawings = drawings.entry } }
     {
-        self.drawings = drawings;
-        self
+        Canvas { drawings, ..self }
     }
 
     /// The canvas with other labels. They lie over all dots, each over those before it.
-    pub fn print(mut self, labels: &'a [Label<'a>]) -> Canvas<'a>
+    pub fn print(self, labels: &'a [Label<'a>]) -> Canvas<'a>
         ensures { result ≡ record self.entry { labels = labels.entry } }
     {
-        self.labels = labels;
-        self
+        Canvas { labels, ..self }
     }
 
     /// The canvas over this background.
@@ -148,13 +144,13 @@ impl<'a> Canvas<'a> {
         let mut painter = Painter::new(buf.allocator(), self.scale(inner))?;
         for drawing in self.drawings {
             if drawing.is_layer() {
-                painter.show(inner, buf)?;
+                show(&painter, inner, buf)?;
                 painter.clear();
             } else {
                 drawing.draw(&mut painter);
             }
         }
-        painter.show(inner, buf)
+        show(&painter, inner, buf)
     }
 
     // Renders the labels over an area.

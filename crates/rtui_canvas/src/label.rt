@@ -4,14 +4,14 @@ ghost use Rattle.std.specs.Prelude.{◌≡◌, ◌≤◌, OnOk, IsTrue};
 ghost use Rattle.ratatui_core.specs.Widgets.{ChangesWithin};
 ghost use Rattle.rtui_boxes.specs.Boxes.{IsBoxArea};
 ghost use Rattle.rtui_boxes.specs.Titles.{title_width};
-ghost use Rattle.rtui_canvas.specs.Grids.{has_point};
+ghost use Rattle.rtui_dots.specs.Grids.{has_point};
 ghost use Rattle.rtui_canvas.specs.Canvases.{label_area, RendersLabel};
 
-use crate::scale::Scale;
 use ratatui_core::buffer::Buffer;
 use ratatui_core::layout::Rect;
 use ratatui_core::text::Line;
 use ratatui_core::widgets::Widget;
+use rtui_dots::Scale;
 use std::alloc::AllocError;
 
 /// A line of text at a point of a canvas, over its dots.
@@ -38,8 +38,7 @@ impl<'a> Label<'a> {
         requires within { IsTrue (has_point scale.now self.now.x self.now.y) }
         ensures { result ≡ label_area scale.now inner self.now }
     {
-        let column = scale.label_column(self.x);
-        let row = scale.label_row(self.y);
+        let (column, row) = scale.cell_of(self.x, self.y);
         Rect {
             x: inner.x + column,
             y: inner.y + row,
@@ -64,7 +63,8 @@ impl<'a> Label<'a> {
         if !scale.has_point(self.x, self.y) {
             return Ok(());
         }
-        (&self.line).render(self.area(scale, inner), buf)
+        let line = &self.line;
+        line.render(self.area(scale, inner), buf)
     }
 }
 
