@@ -1,17 +1,21 @@
 -- A canvas: what its dots and labels make of a buffer.
-use Rattle.std.specs.Prelude.{◌≡◌, ℕ, Bool, true, false, ◌+◌, ◌-◌, ◌*◌, ◌==◌, List, [], ◌∷◌, pos, Option, None, slice_index_or, encode_utf8, if◌then◌else◌}
+use Rattle.std.specs.Prelude.{◌≡◌, ℕ, Bool, true, false, ◌+◌, ◌-◌, ◌*◌, ◌==◌, List, [], ◌∷◌, pos, length}
+use Rattle.std.specs.Prelude.{replicate, Option, None, slice_index_or, encode_utf8, if◌then◌else◌}
 use Rattle.ratatui_core.specs.Layout.{Rect, Position}
-use Rattle.ratatui_core.specs.Style.{Style, Color, Reset, new_style, with_bg}
+use Rattle.ratatui_core.specs.Text.{LineData}
+use Rattle.ratatui_core.specs.Style.{Reset, new_style, with_bg}
 use Rattle.ratatui_core.specs.Buffer.{BufferData, Cell, with_symbol, ChangesEach, IsStyled}
 use Rattle.ratatui_core.specs.Widgets.{RendersLine}
 use Rattle.ratatui_core.specs.declared.symbols.Marker.{Marker}
 use Rattle.ratatui_core.specs.declared.symbols.Marker.TheVariants.{Braille, HalfBlock, Bar, Dot, Custom}
-use Rattle.rtui_boxes.specs.Titles.{InTurn, title_width, first_columns, without_first}
+use Rattle.rtui_boxes.specs.Titles.{InTurn, title_width, first_columns}
 use Rattle.rtui_boxes.specs.Framed.{RendersInFrame}
-use Rattle.rtui_dots.specs.declared.{Scale.Scale, DotCell.DotCell}
+use Rattle.rtui_dots.specs.declared.{scale.Scale.Scale, painter.DotCell.DotCell, painter.Painter.Painter}
+use Rattle.rtui_dots.specs.declared.{drawing.Drawing.Drawing}
 use Rattle.rtui_canvas.specs.declared.{label.Label.Label, canvas.Canvas.Canvas}
-use Rattle.rtui_dots.specs.Grids.{Dot as GridDot, has_point, column_of_cell, row_of_cell, no_dots, blank, with_dots}
-use Rattle.rtui_dots.specs.Layers.{layers_of}
+use Rattle.rtui_dots.specs.Grids.{Dot as GridDot, has_point, column_of_cell, row_of_cell, no_dots, blank}
+use Rattle.rtui_dots.specs.Grids.{with_dots, Paints}
+use Rattle.rtui_dots.specs.Layers.{is_layer, dots_of, layers_of}
 
 -- the character of a cell's dots
 abbrev pub mark_of : Marker → ℕ → ℕ
@@ -22,7 +26,8 @@ mark_of Bar n = 0x2584
 mark_of (Custom c) n = c
 mark_of m n = 0x2588
 
--- a cell in the colour of its dots; of half blocks the upper one is before the lower one's colour, if both are set
+-- a cell in the colour of its dots; of half blocks the upper one is before the lower one's colour, if both
+-- are set
 abbrev pub in_color : Marker → DotCell → Cell → Cell
 in_color HalfBlock d c =
     if d.pattern == 2 then record c { fg = d.lower }
@@ -37,7 +42,8 @@ shown_by m d c =
 
 -- an area's cell under the dots of a grid
 abbrev pub shown_at : Scale → Rect → List DotCell → Position → Cell → Cell
-shown_at s r cells p = shown_by s.marker (slice_index_or cells ((p.y - r.y) * s.columns + (p.x - r.x)) no_dots)
+shown_at s r cells p = shown_by s.marker
+    (slice_index_or cells ((p.y - r.y) * s.columns + (p.x - r.x)) no_dots)
 
 -- dots over an area
 abbrev pub ShowsDots : Scale → Rect → List GridDot → List DotCell → BufferData → BufferData → Type 0
@@ -46,14 +52,27 @@ ShowsDots s r dots cells = ChangesEach r (shown_at s r (with_dots s dots cells))
 -- layers of dots over an area, each over those before
 abbrev pub ShowsLayers : Scale → Rect → List (List GridDot) → BufferData → BufferData → Type 0
 ShowsLayers s r [] old new = new ≡ old
-ShowsLayers s r (layer ∷ layers) old new = InTurn (ShowsDots s r layer (blank s)) (ShowsLayers s r layers) old new
+ShowsLayers s r (layer ∷ layers) old new = InTurn (ShowsDots s r layer (blank s))
+    (ShowsLayers s r layers) old new
 
--- the row of a label from its column on, and so many columns of it as the label has
+-- what comes next is drawn by a grid: the beginning of a layer shows its dots and takes them away, and a
+-- shape sets more of them
+pub record DrawsNext (d : Drawing) (r : Rect) (p q : Painter) (old new : BufferData) : Type 0 where
+  pub shows : is_layer d ≡ true → ChangesEach r (shown_at p.scale r p.cells.items) old new
+  pub clears : is_layer d ≡ true → q.cells.items ≡ replicate (length p.cells.items) no_dots
+  pub paints : is_layer d ≡ false → Paints (dots_of d p.scale) p q
+  pub same : is_layer d ≡ false → new ≡ old
+  pub scale : q.scale ≡ p.scale
+
+-- a row from a cell on, and so many columns of it as a line has
+abbrev pub label_from : Rect → ℕ → ℕ → LineData → Rect
+label_from r column row line =
+    first_columns (title_width line) (record { x = r.x + column; y = r.y + row; width = r.width - column;
+        height = 1 })
+
+-- where a label stands
 abbrev pub label_area : Scale → Rect → Label → Rect
-label_area s r l =
-    let column = column_of_cell s l.x in
-    let row = row_of_cell s l.y in
-    first_columns (title_width l.line) (record { x = r.x + column; y = r.y + row; width = r.width - column; height = 1 })
+label_area s r l = label_from r (column_of_cell s l.x) (row_of_cell s l.y) l.line
 
 -- a label at its point, if that lies within the bounds
 abbrev pub RendersIf : Bool → (BufferData → BufferData → Type 0) → BufferData → BufferData → Type 0

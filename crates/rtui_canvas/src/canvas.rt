@@ -3,7 +3,8 @@
 ghost use Rattle.std.specs.Prelude.{◌≡◌, Some, OnOk, slice_index_or, pos};
 ghost use Rattle.ratatui_core.specs.Widgets.{ChangesWithin};
 ghost use Rattle.rtui_boxes.specs.Boxes.{IsBoxArea};
-ghost use Rattle.rtui_canvas.specs.Canvases.{IsNewCanvas, scale_of, ShowsLayers, RendersLabels, ShowsCanvas};
+ghost use Rattle.rtui_canvas.specs.Canvases.{IsNewCanvas, scale_of, ShowsLayers, DrawsNext, RendersLabels};
+ghost use Rattle.rtui_canvas.specs.Canvases.{ShowsCanvas};
 ghost use Rattle.rtui_dots.specs.Layers.{layers_of};
 
 use crate::label::Label;
@@ -143,12 +144,7 @@ impl<'a> Canvas<'a> {
     {
         let mut painter = Painter::new(buf.allocator(), self.scale(inner))?;
         for drawing in self.drawings {
-            if drawing.is_layer() {
-                show(&painter, inner, buf)?;
-                painter.clear();
-            } else {
-                drawing.draw(&mut painter);
-            }
+            draw_next(drawing, &mut painter, inner, buf)?;
         }
         show(&painter, inner, buf)
     }
@@ -177,6 +173,26 @@ impl<'a> Canvas<'a> {
         self.render_layers(inner, buf)?;
         self.render_labels(inner, buf)
     }
+}
+
+// Draws what is next: sets its dots, or shows a layer over an area and begins another one.
+fn draw_next(
+    drawing: &Drawing<'_>,
+    painter: &mut Painter,
+    inner: Rect,
+    buf: &mut Buffer,
+) -> Result<(), AllocError>
+    ensures within { ChangesWithin inner buf.old buf.new }
+    ensures ok { let f = DrawsNext drawing.now inner painter.old painter.new in
+        OnOk result (f buf.old buf.new) }
+{
+    if !drawing.is_layer() {
+        drawing.draw(painter);
+        return Ok(());
+    }
+    show(painter, inner, buf)?;
+    painter.clear();
+    Ok(())
 }
 
 /// Over the area, as far as the buffer has it: the box, and inside the background, the dots layer

@@ -1,11 +1,12 @@
 //! Labels of a canvas.
 
-ghost use Rattle.std.specs.Prelude.{◌≡◌, ◌≤◌, OnOk, IsTrue};
+ghost use Rattle.std.specs.Prelude.{◌≡◌, ◌≤◌, ◌-◌, OnOk, IsTrue};
+ghost use Rattle.ratatui_core.specs.Layout.{IsInside};
 ghost use Rattle.ratatui_core.specs.Widgets.{ChangesWithin};
 ghost use Rattle.rtui_boxes.specs.Boxes.{IsBoxArea};
 ghost use Rattle.rtui_boxes.specs.Titles.{title_width};
 ghost use Rattle.rtui_dots.specs.Grids.{has_point};
-ghost use Rattle.rtui_canvas.specs.Canvases.{label_area, RendersLabel};
+ghost use Rattle.rtui_canvas.specs.Canvases.{label_from, label_area, RendersLabel};
 
 use ratatui_core::buffer::Buffer;
 use ratatui_core::layout::Rect;
@@ -30,21 +31,32 @@ impl<'a> Label<'a> {
         Label { x, y, line }
     }
 
-    // Where a label that lies within the bounds stands.
+    // Where the label stands from a cell of an area on.
+    fn area_from(&self, inner: Rect, cell: (u16, u16)) -> Rect
+        requires some { IsBoxArea inner }
+        requires across { cell.0 ≤ inner.width - 1 }
+        requires down { cell.1 ≤ inner.height - 1 }
+        ensures { result ≡ label_from inner cell.0 cell.1 self.now.line }
+    {
+        Rect {
+            x: inner.x + cell.0,
+            y: inner.y + cell.1,
+            width: columns_of(&self.line).min(inner.width - cell.0),
+            height: 1,
+        }
+    }
+
+    // Where the label stands, if it lies within the bounds.
     fn area(&self, scale: &Scale, inner: Rect) -> Rect
         requires some { IsBoxArea inner }
         requires columns { scale.now.columns ≡ inner.width }
         requires rows { scale.now.rows ≡ inner.height }
         requires within { IsTrue (has_point scale.now self.now.x self.now.y) }
-        ensures { result ≡ label_area scale.now inner self.now }
+        ensures value { result ≡ label_area scale.now inner self.now }
+        ensures inside { IsInside result inner }
     {
-        let (column, row) = scale.cell_of(self.x, self.y);
-        Rect {
-            x: inner.x + column,
-            y: inner.y + row,
-            width: columns_of(&self.line).min(inner.width - column),
-            height: 1,
-        }
+        let cell = scale.cell_of(self.x, self.y);
+        self.area_from(inner, cell)
     }
 
     // Renders the label, if it lies within the bounds.

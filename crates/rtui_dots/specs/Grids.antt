@@ -1,5 +1,7 @@
 -- A grid of dots over a range of coordinates: where a point stands in it, and what a dot makes of its cell.
-use Rattle.std.specs.Prelude.{◌≡◌, ℕ, ◌+◌, ◌-◌, ◌*◌, ◌/◌, ◌%◌, ◌^◌, Bool, true, false, ◌&&◌, ◌==◌, nat_le, nat_lt, min, max, List, [], ◌∷◌, replicate, ℤ, ◌-ℤ◌, int_lt, int_le, unsigned_abs, bit_or, slice_index, slice_index_or, slice_set, if◌then◌else◌}
+use Rattle.std.specs.Prelude.{◌≡◌, ℕ, ◌+◌, ◌-◌, ◌*◌, ◌/◌, ◌%◌, ◌^◌, Bool, true, false, ◌&&◌, ◌==◌, nat_le}
+use Rattle.std.specs.Prelude.{nat_lt, min, max, List, [], ◌∷◌, replicate, ℤ, ◌-ℤ◌, int_lt, int_le}
+use Rattle.std.specs.Prelude.{unsigned_abs, bit_or, slice_index, slice_index_or, slice_set, if◌then◌else◌}
 use Rattle.std.specs.Int.{div_ceil}
 use Rattle.rtui_style.specs.declared.color.Color.{Color}
 use Rattle.rtui_style.specs.declared.color.Color.TheVariants.{Reset}
@@ -67,7 +69,8 @@ has_point s x y = is_open s && is_within s x y
 
 -- the column and the row among the dots of a point: columns from the left, and rows from the top
 abbrev pub column_of : Scale → ℤ → ℕ
-column_of s x = place_at (int_lt x s.left) (int_lt s.right x) (span x s.left) (span s.right s.left) (dot_columns s)
+column_of s x = place_at (int_lt x s.left) (int_lt s.right x) (span x s.left) (span s.right s.left)
+    (dot_columns s)
 
 abbrev pub row_of : Scale → ℤ → ℕ
 row_of s y = place_at (int_lt s.top y) (int_lt y s.bottom) (span y s.top) (span s.top s.bottom) (dot_rows s)
@@ -128,7 +131,8 @@ abbrev pub with_dot : Scale → Dot → List DotCell → List DotCell
 with_dot s d cells =
     let i = index_of s (d.x - far) (d.y - far) in
     let n = dot_number s.marker (d.x - far) (d.y - far) in
-    if has_dot s d.x d.y then slice_set cells i (with_number s.marker n d.color (slice_index_or cells i no_dots)) else cells
+    if has_dot s d.x d.y then slice_set cells i
+        (with_number s.marker n d.color (slice_index_or cells i no_dots)) else cells
 
 -- with some dots, one after the other
 abbrev pub with_dots : Scale → List Dot → List DotCell → List DotCell

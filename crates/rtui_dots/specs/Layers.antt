@@ -1,7 +1,9 @@
 -- What is drawn, as layers of dots.
 use Rattle.std.specs.Prelude.{Bool, true, false, List, [], ◌∷◌, ◌++◌, if◌then◌else◌}
 use Rattle.rtui_dots.specs.declared.{scale.Scale.Scale, drawing.Drawing.Drawing}
-use Rattle.rtui_dots.specs.declared.drawing.Drawing.TheVariants.{Points as PointsOf, Line as LineOf, Path as PathOf, Rectangle as RectangleOf, Circle as CircleOf, Layer}
+use Rattle.rtui_dots.specs.declared.drawing.Drawing.TheVariants.{Points as PointsOf, Line as LineOf}
+use Rattle.rtui_dots.specs.declared.drawing.Drawing.TheVariants.{Path as PathOf, Rectangle as RectangleOf}
+use Rattle.rtui_dots.specs.declared.drawing.Drawing.TheVariants.{Circle as CircleOf, Layer}
 use Rattle.rtui_dots.specs.Grids.{Dot}
 use Rattle.rtui_dots.specs.Circles.{dots_of_circle}
 use Rattle.rtui_dots.specs.Shapes.{dots_of_points, dots_of_line, dots_of_path, dots_of_rectangle}

@@ -6,10 +6,11 @@ use Rattle.rtui_style.specs.declared.color.Color.{Color}
 use Rattle.rtui_dots.specs.{declared.line.Run.Run, declared.scale.Scale.Scale}
 use Rattle.rtui_dots.specs.Grids.{Dot, dot_columns, dot_rows}
 
--- A run: from its first place a line goes along its longer side, a column or a row each step, and goes across by
--- its shorter one.
+-- A run: from its first place a line goes along its longer side, a column or a row each step, and goes across
+-- by its shorter one.
 
--- how far across it has gone after k steps along: the nearest whole number to its share, the less of two as near
+-- how far across it has gone after k steps along: the nearest whole number to its share, the less of two as
+-- near
 abbrev pub gone_after : ℕ → ℕ → ℕ → ℕ
 gone_after long short k = (2 * short * k + (long - 1)) / (2 * long)
 
@@ -20,7 +21,8 @@ across_at r gone = if r.is_back then r.across - gone else r.across + gone
 -- the dot at a place along and a place across
 abbrev pub dot_by : Bool → ℕ → ℕ → Color → Dot
 dot_by flat along across color =
-    if flat then record { x = along; y = across; color = color } else record { x = across; y = along; color = color }
+    if flat then record { x = along; y = across; color = color } else record { x = across; y = along;
+        color = color }
 
 -- a run's dot after k steps
 abbrev pub run_dot : Run → Color → ℕ → Dot
@@ -48,7 +50,8 @@ run_on flat along across along' across' = record {
 -- the run between two ends, from the left or from the top
 abbrev pub run_between : Bool → ℕ → ℕ → ℕ → ℕ → Run
 run_between flat along across along' across' =
-    if nat_lt along' along then run_on flat along' across' along across else run_on flat along across along' across'
+    if nat_lt along' along then run_on flat along' across' along across else run_on flat along across along'
+        across'
 
 -- the run of a line between two dots: along the columns, if there are more of them than rows
 abbrev pub run_of : ℕ → ℕ → ℕ → ℕ → Run

@@ -2,7 +2,8 @@
 use Rattle.std.specs.Prelude.{ℕ, ◌+◌, ◌-◌, ◌*◌, List, [], ◌∷◌, ◌++◌, ℤ, ◌+ℤ◌, if◌then◌else◌}
 use Rattle.std.specs.Int.{saturate_signed, w64}
 use Rattle.rtui_style.specs.declared.color.Color.{Color}
-use Rattle.rtui_dots.specs.declared.{scale.Scale.Scale, points.Points.Points, line.Line.Line, path.Path.Path, rectangle.Rectangle.Rectangle}
+use Rattle.rtui_dots.specs.declared.{scale.Scale.Scale, points.Points.Points, line.Line.Line, path.Path.Path}
+use Rattle.rtui_dots.specs.declared.{rectangle.Rectangle.Rectangle}
 use Rattle.rtui_dots.specs.Grids.{Dot, is_open, column_of, row_of, point_dot}
 use Rattle.rtui_dots.specs.Lines.{run_of, run_dots}
 
@@ -18,7 +19,8 @@ dots_of_points p s = if is_open s then point_dots s p.color p.coords.now else []
 -- those between two points
 abbrev pub dots_between : ℤ → ℤ → ℤ → ℤ → Color → Scale → List Dot
 dots_between x y x' y' color s =
-    if is_open s then run_dots (run_of (column_of s x) (row_of s y) (column_of s x') (row_of s y')) color else []
+    if is_open s then run_dots (run_of (column_of s x) (row_of s y) (column_of s x')
+        (row_of s y')) color else []
 
 abbrev pub dots_of_line : Line → Scale → List Dot
 dots_of_line l = dots_between l.x1 l.y1 l.x2 l.y2 l.color

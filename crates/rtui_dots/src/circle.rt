@@ -1,6 +1,7 @@
 //! Circles.
 
-ghost use Rattle.std.specs.Prelude.{◌≡◌, ◌<◌, ◌≤◌, ◌+◌, ◌-◌, ◌^◌, pos, ◌+ℤ◌, ◌*ℤ◌, unsigned_abs, IsTrue, [], ◌∷◌};
+ghost use Rattle.std.specs.Prelude.{◌≡◌, ◌<◌, ◌≤◌, ◌+◌, ◌-◌, ◌^◌, pos, ◌+ℤ◌, ◌*ℤ◌, unsigned_abs, IsTrue, []};
+ghost use Rattle.std.specs.Prelude.{◌∷◌};
 ghost use Rattle.rtui_dots.specs.Grids.{is_open, Paints};
 ghost use Rattle.rtui_dots.specs.Circles.{cosine_of, fine, circle_dot, degrees_from};
 

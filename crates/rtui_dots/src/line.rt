@@ -3,7 +3,8 @@
 ghost use Rattle.std.specs.Prelude.{◌≡◌, ◌≤◌, ◌<◌, ◌+◌, ◌-◌, ◌*◌, ◌^◌, max, [], ◌∷◌};
 ghost use Rattle.std.specs.Int.{abs_diff};
 ghost use Rattle.rtui_dots.specs.Grids.{Paints};
-ghost use Rattle.rtui_dots.specs.Lines.{gone_after, across_at, dot_by, run_dot, dots_from, run_dots, run_on, run_between, run_of, places_along};
+ghost use Rattle.rtui_dots.specs.Lines.{gone_after, across_at, dot_by, run_dot, dots_from, run_dots, run_on};
+ghost use Rattle.rtui_dots.specs.Lines.{run_between, run_of, places_along};
 ghost use Rattle.rtui_dots.specs.Shapes.{dots_between};
 
 use crate::painter::Painter;

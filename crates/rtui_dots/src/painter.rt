@@ -1,7 +1,8 @@
 //! Painting dots.
 
 ghost use Rattle.std.specs.Prelude.{◌≡◌, ◌≤◌, ◌<◌, ◌+◌, ◌*◌, IsTrue, IfOk, [], ◌∷◌, length, replicate};
-ghost use Rattle.rtui_dots.specs.Grids.{far, no_dots, blank, cell_row, cell_column, dot_number, with_number, has_dot, Paints};
+ghost use Rattle.rtui_dots.specs.Grids.{far, no_dots, blank, cell_row, cell_column, dot_number, with_number};
+ghost use Rattle.rtui_dots.specs.Grids.{has_dot, Paints};
 
 use crate::scale::{FAR, Scale};
 use rtui_style::Color;

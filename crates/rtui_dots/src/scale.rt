@@ -2,7 +2,9 @@
 
 ghost use Rattle.std.specs.Prelude.{◌≡◌, ◌≤◌, ◌<◌, ◌^◌, ◌-◌, pos, ◌*ℤ◌, unsigned_abs, IsTrue};
 ghost use Rattle.rtui_dots.specs.Circles.{billion, fine_column, fine_row};
-ghost use Rattle.rtui_dots.specs.Grids.{dot_columns, dot_rows, share, column_of_cell, row_of_cell, is_between, is_within, has_point, place_at, is_open, column_of, row_of};
+ghost use Rattle.rtui_dots.specs.Grids.{dot_columns, dot_rows, share, column_of_cell, row_of_cell};
+ghost use Rattle.rtui_dots.specs.Grids.{is_between, is_within, has_point, place_at, is_open, column_of};
+ghost use Rattle.rtui_dots.specs.Grids.{row_of};
 
 use rtui_symbols::marker::Marker;
 

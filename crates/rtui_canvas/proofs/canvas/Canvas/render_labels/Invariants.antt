@@ -8,5 +8,6 @@ invariant-loop-label l =
     let s = scale_of l.fn.self l.fn.inner in
     record {
       within : ChangesWithin l.fn.inner l.fn.buf l.buf;
-      rest : (new : BufferData) → RendersLabels s l.fn.inner (drop l.label-index l.label-items) l.buf new → RendersLabels s l.fn.inner l.label-items l.fn.buf new;
+      rest : (new : BufferData) → RendersLabels s l.fn.inner (drop l.label-index l.label-items) l.buf new
+          → RendersLabels s l.fn.inner l.label-items l.fn.buf new;
     }
