@@ -21,7 +21,7 @@ pub next-degree : (s : Scale) (c : Circle) (d n m : ℕ) (old new : Painter) (al
 unfolding degrees_from
 next-degree s c d n m old new all e same paints was =
     ap (with_dots s (degrees_from s c (d + 1) m)) (paints.cells ∙ ap (λ q. with_dot q (circle_dot q c d) old.cells.items) same)
-        ∙ sym (ap (λ k. with_dots s (degrees_from s c d k) old.cells.items) e) ∙ was
+    ∙ sym (ap (λ k. with_dots s (degrees_from s c d k) old.cells.items) e) ∙ was
 
 -- no degree is left
 pub no-degrees : (s : Scale) (c : Circle) (d n : ℕ) (cells : List DotCell) → n ≡ 0

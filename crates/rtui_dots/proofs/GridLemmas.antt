@@ -24,20 +24,20 @@ paints-then ds es old mid new first second = record {
 pub next-point : (s : Scale) (color : Color) (cs : List (ℤ × ℤ)) (k : ℕ) (d : ℤ × ℤ) (old new : Painter) (all : List DotCell)
     → k < length cs → old.scale ≡ s
     → Paints (point_dot old.scale (get_or cs k d).0 (get_or cs k d).1 color ∷ []) old new
-        → with_dots s (point_dots s color (drop k cs)) old.cells.items ≡ all
+    → with_dots s (point_dots s color (drop k cs)) old.cells.items ≡ all
     → with_dots s (point_dots s color (drop (k + 1) cs)) new.cells.items ≡ all
 next-point s color cs k d old new all lt same paints was =
     let c = get_or cs k d in
     ap (with_dots s (point_dots s color (drop (k + 1) cs)))
-        (paints.cells ∙ ap (λ q. with_dot q (point_dot q c.0 c.1 color) old.cells.items) same)
+    (paints.cells ∙ ap (λ q. with_dot q (point_dot q c.0 c.1 color) old.cells.items) same)
     ∙ sym (ap (λ ps. with_dots s (point_dots s color ps) old.cells.items) (drop_more cs k d lt)) ∙ was
 
 -- the sides of a rectangle
 pub rectangle-painted : (r : Rectangle) (right top : ℤ) (p0 p1 p2 p3 p4 : Painter) → right ≡ moved_by r.x r.width
     → top ≡ moved_by r.y r.height → Paints (dots_between r.x r.y r.x top r.color p0.scale) p0 p1
     → Paints (dots_between r.x top right top r.color p1.scale) p1 p2
-        → Paints (dots_between right r.y right top r.color p2.scale) p2 p3
-        → Paints (dots_between r.x r.y right r.y r.color p3.scale) p3 p4
+    → Paints (dots_between right r.y right top r.color p2.scale) p2 p3
+    → Paints (dots_between r.x r.y right r.y r.color p3.scale) p3 p4
     → Paints (dots_of_rectangle r p0.scale) p0 p4
 rectangle-painted r right top p0 p1 p2 p3 p4 at_right at_top left upper far_side lower =
     let s1 : p1.scale ≡ p0.scale = left.scale in
@@ -47,7 +47,7 @@ rectangle-painted r right top p0 p1 p2 p3 p4 at_right at_top left upper far_side
     let third = subst (λ q. Paints (dots_between right r.y right top r.color q) p2 p3) s2 far_side in
     let fourth = subst (λ q. Paints (dots_between r.x r.y right r.y r.color q) p3 p4) s3 lower in
     rw (← at_right, ← at_top) (paints-then _ _ p0 p3 p4 (paints-then _ _ p0 p2 p3 (paints-then _ _ p0 p1 p2 left second) third)
-        fourth)
+    fourth)
 
 -- a list of one value
 pub same-as-replicate : (n : ℕ) (cells : List DotCell) → length cells ≡ n → ((k : ℕ) → k < n → get_or cells k no_dots ≡ no_dots)
@@ -62,12 +62,12 @@ same-as-replicate (suc n) (c ∷ cells) e same = ap₂ (λ x xs. x ∷ xs) (same
 pub next-line : (s : Scale) (color : Color) (last : ℤ × ℤ) (cs : List (ℤ × ℤ)) (k : ℕ) (d : ℤ × ℤ) (old new : Painter)
     (all : List DotCell) → k < length cs → old.scale ≡ s
     → Paints (dots_between last.0 last.1 (get_or cs k d).0 (get_or cs k d).1 color old.scale) old new
-        → with_dots s (dots_on last (drop k cs) color s) old.cells.items ≡ all
+    → with_dots s (dots_on last (drop k cs) color s) old.cells.items ≡ all
     → with_dots s (dots_on (get_or cs k d) (drop (k + 1) cs) color s) new.cells.items ≡ all
 next-line s color last cs k d old new all lt same paints was =
     let c = get_or cs k d in
     ap (with_dots s (dots_on c (drop (k + 1) cs) color s))
-        (paints.cells ∙ ap (λ q. with_dots q (dots_between last.0 last.1 c.0 c.1 color q) old.cells.items) same)
+    (paints.cells ∙ ap (λ q. with_dots q (dots_between last.0 last.1 c.0 c.1 color q) old.cells.items) same)
     ∙ sym (with_dots-append s (dots_between last.0 last.1 c.0 c.1 color s) (dots_on c (drop (k + 1) cs) color s) old.cells.items)
     ∙ sym (ap (λ ps. with_dots s (dots_on last ps color s) old.cells.items) (drop_more cs k d lt)) ∙ was
 

@@ -29,7 +29,7 @@ dots_from-append f k zero b =
 dots_from-append f k (suc a) b =
     let e : suc a + b ≡ suc (a + b) = omega arith in let at : (k + 1) + a ≡ k + suc a = omega arith in
     ap (dots_from f k) e ∙ ap (λ ds. f k ∷ ds) (dots_from-append f (k + 1) a b
-        ∙ ap (λ m. dots_from f (k + 1) a ++ dots_from f m b) at)
+    ∙ ap (λ m. dots_from f (k + 1) a ++ dots_from f m b) at)
 
 -- a dot that the grid doesn't have changes nothing
 with_dot-none : (s : Scale) (d : Dot) (cells : List DotCell) → has_dot s d.x d.y ≡ false → with_dot s d cells ≡ cells
@@ -40,7 +40,7 @@ dots-none : (s : Scale) (f : ℕ → Dot) (k n : ℕ) (cells : List DotCell)
 dots-none s f k zero cells none = refl
 dots-none s f k (suc n) cells none =
     ap (with_dots s (dots_from f (k + 1) n)) (with_dot-none s (f k) cells (none k (omega arith) (omega arith)))
-        ∙ dots-none s f (k + 1) n cells (λ j ge lt. none j (omega arith) (omega arith))
+    ∙ dots-none s f (k + 1) n cells (λ j ge lt. none j (omega arith) (omega arith))
 
 -- a place before the first one or behind the last one is none of the grid's
 outside : (s : Scale) (flat : Bool) (along across : ℕ) (color : Color) → (along < far) ⊎ (far + places_along flat s ≤ along)
@@ -58,7 +58,7 @@ middle-only : (s : Scale) (f : ℕ → Dot) (a b c : ℕ) (cells : List DotCell)
 middle-only s f a b c cells before behind =
     let zero-a : 0 + a ≡ a = omega arith in
     ap (λ ds. with_dots s ds cells) (dots_from-append f 0 a (b + c)) ∙ with_dots-append s (dots_from f 0 a)
-        (dots_from f (0 + a) (b + c)) cells ∙ ap (with_dots s (dots_from f (0 + a) (b + c))) (dots-none s f 0 a cells before)
+    (dots_from f (0 + a) (b + c)) cells ∙ ap (with_dots s (dots_from f (0 + a) (b + c))) (dots-none s f 0 a cells before)
     ∙ ap (λ m. with_dots s (dots_from f m (b + c)) cells) zero-a
     ∙ ap (λ ds. with_dots s ds cells) (dots_from-append f a b c)
     ∙ with_dots-append s (dots_from f a b) (dots_from f (a + b) c) cells
@@ -80,7 +80,7 @@ run-shown s r color first end cells is_first is_end = ⊎_elim (λ (lt : first <
     some lt =
         let total : first + ((end - first) + (r.long + 1 - end)) ≡ r.long + 1 = omega arith in
         sym (middle-only s (run_dot r color) first (end - first) (r.long + 1 - end) cells (λ j ge less. out j (inl (omega arith)))
-            (λ j ge less. out j (inr (omega arith)))) ∙ ap (λ n. with_dots s (dots_from (run_dot r color) 0 n) cells) total
+        (λ j ge less. out j (inr (omega arith)))) ∙ ap (λ n. with_dots s (dots_from (run_dot r color) 0 n) cells) total
 
     each : end ≤ first → (j : ℕ) → j < r.long + 1 → (r.along + j < far) ⊎ (far + places_along r.is_flat s ≤ r.along + j)
     each le j less = ⊎_elim (λ (h : j < first). inl (omega arith)) (λ (h : first ≤ j). inr (omega arith)) (cases_lt j first)
@@ -90,7 +90,7 @@ run-shown s r color first end cells is_first is_end = ⊎_elim (λ (lt : first <
     none le =
         let nothing : end - first ≡ 0 = omega arith in
         ap (λ n. with_dots s (dots_from (run_dot r color) first n) cells) nothing
-            ∙ sym (dots-none s (run_dot r color) 0 (r.long + 1) cells (λ j ge less. out j (each le j (omega arith))))
+        ∙ sym (dots-none s (run_dot r color) 0 (r.long + 1) cells (λ j ge less. out j (each le j (omega arith))))
 
 -- a step's dot is set, and those of the others are left
 pub next-dots : (s : Scale) (f : ℕ → Dot) (d : Dot) (k n m : ℕ) (old new : Painter) (all : List DotCell) → n ≡ suc m → d ≡ f k
@@ -98,8 +98,8 @@ pub next-dots : (s : Scale) (f : ℕ → Dot) (d : Dot) (k n m : ℕ) (old new :
     → with_dots s (dots_from f (k + 1) m) new.cells.items ≡ all
 next-dots s f d k n m old new all e at same paints was =
     ap (with_dots s (dots_from f (k + 1) m)) (paints.cells ∙ ap (λ q. with_dot q d old.cells.items) same
-        ∙ ap (λ q. with_dot s q old.cells.items) at) ∙ sym (ap (λ ds. with_dots s ds old.cells.items) (dots_from-more f k n m e))
-        ∙ was
+    ∙ ap (λ q. with_dot s q old.cells.items) at) ∙ sym (ap (λ ds. with_dots s ds old.cells.items) (dots_from-more f k n m e))
+    ∙ was
 
 -- a line between two points
 pub line-painted : (s : Scale) (x y x' y' : ℤ) (color : Color) (column row column' row' : ℕ) (r : Run) (old new : Painter)

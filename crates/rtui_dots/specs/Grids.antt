@@ -132,7 +132,7 @@ with_dot s d cells =
     let i = index_of s (d.x - far) (d.y - far) in
     let n = dot_number s.marker (d.x - far) (d.y - far) in
     if has_dot s d.x d.y then slice_set cells i
-        (with_number s.marker n d.color (slice_index_or cells i no_dots)) else cells
+    (with_number s.marker n d.color (slice_index_or cells i no_dots)) else cells
 
 -- with some dots, one after the other
 abbrev pub with_dots : Scale → List Dot → List DotCell → List DotCell

@@ -21,8 +21,11 @@ across_at r gone = if r.is_back then r.across - gone else r.across + gone
 -- the dot at a place along and a place across
 abbrev pub dot_by : Bool → ℕ → ℕ → Color → Dot
 dot_by flat along across color =
-    if flat then record { x = along; y = across; color = color } else record { x = across; y = along;
-        color = color }
+    if flat then record { x = along; y = across; color = color } else record {
+      x = across;
+      y = along;
+      color = color;
+    }
 
 -- a run's dot after k steps
 abbrev pub run_dot : Run → Color → ℕ → Dot
@@ -51,7 +54,7 @@ run_on flat along across along' across' = record {
 abbrev pub run_between : Bool → ℕ → ℕ → ℕ → ℕ → Run
 run_between flat along across along' across' =
     if nat_lt along' along then run_on flat along' across' along across else run_on flat along across along'
-        across'
+    across'
 
 -- the run of a line between two dots: along the columns, if there are more of them than rows
 abbrev pub run_of : ℕ → ℕ → ℕ → ℕ → Run

@@ -20,7 +20,7 @@ dots_of_points p s = if is_open s then point_dots s p.color p.coords.now else []
 abbrev pub dots_between : ℤ → ℤ → ℤ → ℤ → Color → Scale → List Dot
 dots_between x y x' y' color s =
     if is_open s then run_dots (run_of (column_of s x) (row_of s y) (column_of s x')
-        (row_of s y')) color else []
+    (row_of s y')) color else []
 
 abbrev pub dots_of_line : Line → Scale → List Dot
 dots_of_line l = dots_between l.x1 l.y1 l.x2 l.y2 l.color

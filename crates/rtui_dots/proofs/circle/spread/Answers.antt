@@ -11,6 +11,6 @@ returns-clause-within c =
     let radius : c.args.radius < 2 ^ 64 = search rules in
     let p = product-in c.args.radius c.args.cosine radius c.requires in
     let fp : SFits w128 (pos c.args.radius *ℤ c.args.cosine) = fits_signed_from_abs w128 (pos c.args.radius *ℤ c.args.cosine)
-        (omega (arith, p)) in
+    (omega (arith, p)) in
     let fr : SFits w128 (pos c.args.radius) = search rules in
     rw c.from.ensures (simp to_z-of_z p)

@@ -18,8 +18,8 @@ returns c =
     let column = simp to_z-of_z at c.fine_column-column.ensures.value in
     let row = simp to_z-of_z at c.fine_row-row.ensures.value in
     degree-painted c.args.self.now.scale c.args.circle.now c.args.degrees c.fine_column-column.result c.fine_row-row.result
-        c.args.self.now c.set_dot.new.self
+    c.args.self.now c.set_dot.new.self
     (column ∙ ap (fine_column c.args.self.now.scale)
-        (at_x ∙ ap (λ z. fine c.args.circle.now.x c.args.circle.now.radius z) c.cosine_of.ensures.value))
+    (at_x ∙ ap (λ z. fine c.args.circle.now.x c.args.circle.now.radius z) c.cosine_of.ensures.value))
     (row ∙ ap (fine_row c.args.self.now.scale)
-        (at_y ∙ ap (λ z. fine c.args.circle.now.y c.args.circle.now.radius z) c.cosine_of-2.ensures.value)) c.set_dot.ensures
+    (at_y ∙ ap (λ z. fine c.args.circle.now.y c.args.circle.now.radius z) c.cosine_of-2.ensures.value)) c.set_dot.ensures

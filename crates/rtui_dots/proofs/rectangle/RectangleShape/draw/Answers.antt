@@ -10,6 +10,6 @@ returns c =
     let right : SFits w64 c.saturating_add-right.result = search rules in
     let top : SFits w64 c.saturating_add-top.result = search rules in
     rectangle-painted c.args.self.now c.saturating_add-right.result c.saturating_add-top.result c.args.painter.now
-        c.draw_line.new.self c.draw_line-2.new.self c.draw_line-3.new.self c.draw_line-4.new.self (search rules) (search rules)
+    c.draw_line.new.self c.draw_line-2.new.self c.draw_line-3.new.self c.draw_line-4.new.self (search rules) (search rules)
     (simp to_z-of_z at c.draw_line.ensures) (simp to_z-of_z at c.draw_line-2.ensures) (simp to_z-of_z at c.draw_line-3.ensures)
-        (simp to_z-of_z at c.draw_line-4.ensures)
+    (simp to_z-of_z at c.draw_line-4.ensures)
