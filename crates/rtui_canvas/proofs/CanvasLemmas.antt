@@ -9,8 +9,8 @@ use Rattle.ratatui_core.proofs.{BufferLemmas.within-wider, WidgetLemmas.within-t
 use Rattle.rtui_boxes.specs.{Boxes.IsBoxArea, Titles.InTurn}
 use Rattle.rtui_boxes.proofs.FrameLemmas.{lies-in}
 use Rattle.rtui_dots.specs.declared.{scale.Scale.Scale, painter.DotCell.DotCell, painter.Painter.Painter, drawing.Drawing.Drawing}
-use Rattle.rtui_dots.specs.Grids.{Dot, blank, no_dots, with_dots, Paints}
-use Rattle.rtui_dots.specs.Layers.{is_layer, dots_of, with_first, layers_of}
+use Rattle.rtui_dots.specs.Grids.{Dot, empty_grid, no_dots, with_dots, SetsDots}
+use Rattle.rtui_dots.specs.Layers.{is_layer, drawn_dots, with_first, layers_of}
 use Rattle.rtui_canvas.specs.Canvases.{shown_at, ShowsDots, ShowsLayers, DrawsNext, label_from}
 use Rattle.rtui_dots.proofs.GridLemmas.{with_dots-append, with_dots-length}
 
@@ -20,7 +20,7 @@ ShowsFrom s r cells [] old new = ⊥
 ShowsFrom s r cells (layer ∷ layers) old new = InTurn (ShowsDots s r layer cells) (ShowsLayers s r layers) old new
 
 module _ (s : Scale) (r : Rect) where
-  pub layers-from : (layers : List (List Dot)) (old new : BufferData) → ShowsFrom s r (blank s) layers old new
+  pub layers-from : (layers : List (List Dot)) (old new : BufferData) → ShowsFrom s r (empty_grid s) layers old new
       → ShowsLayers s r layers old new
   layers-from [] old new none = absurd none
   layers-from (layer ∷ layers) old new all = all
@@ -35,12 +35,12 @@ module _ (s : Scale) (r : Rect) where
   }
 
   pub draw-step : (cells : List DotCell) (d : Drawing) (ds : List Drawing) (old new : BufferData) → is_layer d ≡ false
-      → ShowsFrom s r (with_dots s (dots_of d s) cells) (layers_of s ds) old new
+      → ShowsFrom s r (with_dots s (drawn_dots d s) cells) (layers_of s ds) old new
       → ShowsFrom s r cells (layers_of s (d ∷ ds)) old new
-  draw-step cells d ds old new is all = rw is (first-from cells (dots_of d s) (layers_of s ds) old new all)
+  draw-step cells d ds old new is all = rw is (first-from cells (drawn_dots d s) (layers_of s ds) old new all)
 
   pub layer-step : (cells : List DotCell) (d : Drawing) (ds : List Drawing) (old mid new : BufferData) → is_layer d ≡ true
-      → ChangesEach r (shown_at s r cells) old mid → ShowsFrom s r (blank s) (layers_of s ds) mid new
+      → ChangesEach r (shown_at s r cells) old mid → ShowsFrom s r (empty_grid s) (layers_of s ds) mid new
       → ShowsFrom s r cells (layers_of s (d ∷ ds)) old new
   layer-step cells d ds old mid new is shown all =
       rw is (record { between = mid; first = shown; second = layers-from (layers_of s ds) mid new all })
@@ -56,10 +56,10 @@ pub record IsDrawn (s : Scale) (r : Rect) (all left : List Drawing) (start : Buf
   pub count : length p.cells.items ≡ s.columns * s.rows
   pub within : ChangesWithin r start buf
   pub rest : (new : BufferData) → ShowsFrom s r p.cells.items (layers_of s left) buf new
-      → ShowsFrom s r (blank s) (layers_of s all) start new
+      → ShowsFrom s r (empty_grid s) (layers_of s all) start new
 
 module _ (s : Scale) (r : Rect) (all : List Drawing) (start : BufferData) where
-  pub begun : (p : Painter) → p.scale ≡ s → p.cells.items ≡ blank s → IsDrawn s r all all start p start
+  pub begun : (p : Painter) → p.scale ≡ s → p.cells.items ≡ empty_grid s → IsDrawn s r all all start p start
   begun p scale cells = record {
     scale = scale;
     count = ap length cells ∙ length-replicate (s.columns * s.rows) no_dots;
@@ -78,21 +78,22 @@ module _ (s : Scale) (r : Rect) (all : List Drawing) (start : BufferData) where
     where
       count : (t : Bool) → is_layer d ≡ t → length q.cells.items ≡ s.columns * s.rows
       count true is = ap length (next.clears is) ∙ length-replicate (length p.cells.items) no_dots ∙ was.count
-      count false is = ap length (next.paints is).cells ∙ with_dots-length p.scale (dots_of d p.scale) p.cells.items ∙ was.count
+      count false is = ap length (next.paints is).cells ∙ with_dots-length p.scale (drawn_dots d p.scale) p.cells.items
+          ∙ was.count
 
       rest : (t : Bool) → is_layer d ≡ t → (new : BufferData) → ShowsFrom s r q.cells.items (layers_of s ds) mid new
           → ShowsFrom s r p.cells.items (layers_of s (d ∷ ds)) buf new
       rest true is new shows =
-          let cells : q.cells.items ≡ blank s = next.clears is ∙ ap (λ n. replicate n no_dots) was.count in
+          let cells : q.cells.items ≡ empty_grid s = next.clears is ∙ ap (λ n. replicate n no_dots) was.count in
           let shown = subst (λ z. ChangesEach r (shown_at z r p.cells.items) buf mid) was.scale (next.shows is) in
           layer-step s r p.cells.items d ds buf mid new is shown
-              (subst (λ cs. ShowsFrom s r cs (layers_of s ds) mid new) cells shows)
+          (subst (λ cs. ShowsFrom s r cs (layers_of s ds) mid new) cells shows)
       rest false is new shows =
-          let cells : q.cells.items ≡ with_dots s (dots_of d s) p.cells.items = (next.paints is).cells
-              ∙ ap (λ z. with_dots z (dots_of d z) p.cells.items) was.scale in
+          let cells : q.cells.items ≡ with_dots s (drawn_dots d s) p.cells.items = (next.paints is).cells
+          ∙ ap (λ z. with_dots z (drawn_dots d z) p.cells.items) was.scale in
           let from = subst (λ cs. ShowsFrom s r cs (layers_of s ds) mid new) cells shows in
-          draw-step s r p.cells.items d ds buf new is (subst (λ b. ShowsFrom s r (with_dots s (dots_of d s) p.cells.items)
-              (layers_of s ds) b new) (next.same is) from)
+          draw-step s r p.cells.items d ds buf new is (subst (λ b. ShowsFrom s r (with_dots s (drawn_dots d s) p.cells.items)
+          (layers_of s ds) b new) (next.same is) from)
 
   pub ended : (left : List Drawing) (p : Painter) (buf new : BufferData) → IsDrawn s r all left start p buf
       → ChangesEach r (shown_at p.scale r p.cells.items) buf new → left ≡ [] → ShowsLayers s r (layers_of s all) start new
@@ -102,7 +103,7 @@ module _ (s : Scale) (r : Rect) (all : List Drawing) (start : BufferData) where
 
 -- a shape is drawn, or a layer is shown
 module _ (d : Drawing) (r : Rect) (p q : Painter) (t : Bool) (tested : t ≡ is_layer d) where
-  pub shape-drawn : (buf : BufferData) → t ≡ false → Paints (dots_of d p.scale) p q → DrawsNext d r p q buf buf
+  pub shape-drawn : (buf : BufferData) → t ≡ false → SetsDots (drawn_dots d p.scale) p q → DrawsNext d r p q buf buf
   shape-drawn buf is paints = record {
     shows = λ layer. absurd (let no : true ≡ false = sym layer ∙ sym tested ∙ is in (cc));
     clears = λ layer. absurd (let no : true ≡ false = sym layer ∙ sym tested ∙ is in (cc));

@@ -13,18 +13,18 @@ use Rattle.rtui_boxes.specs.Framed.{RendersInFrame}
 use Rattle.rtui_dots.specs.declared.{scale.Scale.Scale, painter.DotCell.DotCell, painter.Painter.Painter}
 use Rattle.rtui_dots.specs.declared.{drawing.Drawing.Drawing}
 use Rattle.rtui_canvas.specs.declared.{label.Label.Label, canvas.Canvas.Canvas}
-use Rattle.rtui_dots.specs.Grids.{Dot as GridDot, has_point, column_of_cell, row_of_cell, no_dots, blank}
-use Rattle.rtui_dots.specs.Grids.{with_dots, Paints}
-use Rattle.rtui_dots.specs.Layers.{is_layer, dots_of, layers_of}
+use Rattle.rtui_dots.specs.Grids.{Dot as GridDot, has_point, column_of_cell, row_of_cell, no_dots, empty_grid}
+use Rattle.rtui_dots.specs.Grids.{with_dots, SetsDots}
+use Rattle.rtui_dots.specs.Layers.{is_layer, drawn_dots, layers_of}
 
 -- the character of a cell's dots
-abbrev pub mark_of : Marker → ℕ → ℕ
-mark_of Braille n = 0x2800 + n
-mark_of HalfBlock n = if n == 2 then 0x2584 else 0x2580
-mark_of Dot n = 0x2022
-mark_of Bar n = 0x2584
-mark_of (Custom c) n = c
-mark_of m n = 0x2588
+abbrev pub dot_mark : Marker → ℕ → ℕ
+dot_mark Braille n = 0x2800 + n
+dot_mark HalfBlock n = if n == 2 then 0x2584 else 0x2580
+dot_mark Dot n = 0x2022
+dot_mark Bar n = 0x2584
+dot_mark (Custom c) n = c
+dot_mark m n = 0x2588
 
 -- a cell in the colour of its dots; of half blocks the upper one is before the lower one's colour, if both
 -- are set
@@ -36,13 +36,13 @@ in_color HalfBlock d c =
 in_color m d c = record c { fg = d.color }
 
 -- a cell under its dots, if it has any
-abbrev pub shown_by : Marker → DotCell → Cell → Cell
-shown_by m d c =
-    if d.pattern == 0 then c else in_color m d (with_symbol (encode_utf8 (mark_of m d.pattern)) c)
+abbrev pub under_dots : Marker → DotCell → Cell → Cell
+under_dots m d c =
+    if d.pattern == 0 then c else in_color m d (with_symbol (encode_utf8 (dot_mark m d.pattern)) c)
 
 -- an area's cell under the dots of a grid
 abbrev pub shown_at : Scale → Rect → List DotCell → Position → Cell → Cell
-shown_at s r cells p = shown_by s.marker
+shown_at s r cells p = under_dots s.marker
     (slice_index_or cells ((p.y - r.y) * s.columns + (p.x - r.x)) no_dots)
 
 -- dots over an area
@@ -52,7 +52,7 @@ ShowsDots s r dots cells = ChangesEach r (shown_at s r (with_dots s dots cells))
 -- layers of dots over an area, each over those before
 abbrev pub ShowsLayers : Scale → Rect → List (List GridDot) → BufferData → BufferData → Type 0
 ShowsLayers s r [] old new = new ≡ old
-ShowsLayers s r (layer ∷ layers) old new = InTurn (ShowsDots s r layer (blank s))
+ShowsLayers s r (layer ∷ layers) old new = InTurn (ShowsDots s r layer (empty_grid s))
     (ShowsLayers s r layers) old new
 
 -- what comes next is drawn by a grid: the beginning of a layer shows its dots and takes them away, and a
@@ -60,15 +60,19 @@ ShowsLayers s r (layer ∷ layers) old new = InTurn (ShowsDots s r layer (blank 
 pub record DrawsNext (d : Drawing) (r : Rect) (p q : Painter) (old new : BufferData) : Type 0 where
   pub shows : is_layer d ≡ true → ChangesEach r (shown_at p.scale r p.cells.items) old new
   pub clears : is_layer d ≡ true → q.cells.items ≡ replicate (length p.cells.items) no_dots
-  pub paints : is_layer d ≡ false → Paints (dots_of d p.scale) p q
+  pub paints : is_layer d ≡ false → SetsDots (drawn_dots d p.scale) p q
   pub same : is_layer d ≡ false → new ≡ old
   pub scale : q.scale ≡ p.scale
 
 -- a row from a cell on, and so many columns of it as a line has
 abbrev pub label_from : Rect → ℕ → ℕ → LineData → Rect
 label_from r column row line =
-    first_columns (title_width line) (record { x = r.x + column; y = r.y + row; width = r.width - column;
-        height = 1 })
+    first_columns (title_width line) (record {
+      x = r.x + column;
+      y = r.y + row;
+      width = r.width - column;
+      height = 1;
+    })
 
 -- where a label stands
 abbrev pub label_area : Scale → Rect → Label → Rect

@@ -3,7 +3,7 @@
 ghost use Rattle.std.specs.Prelude.{◌≡◌, IsOk};
 ghost use Rattle.ratatui_core.specs.Widgets.{ChangesWithin};
 ghost use Rattle.ratatui_core.specs.Buffer.{ChangesEach};
-ghost use Rattle.rtui_canvas.specs.Canvases.{mark_of, in_color, shown_by, shown_at};
+ghost use Rattle.rtui_canvas.specs.Canvases.{dot_mark, in_color, under_dots, shown_at};
 
 use ratatui_core::buffer::{Buffer, Cell, CellChange, change_area};
 use ratatui_core::layout::{Position, Rect};
@@ -12,8 +12,8 @@ use rtui_dots::{DotCell, Painter, Scale};
 use std::alloc::{AllocError, Global};
 
 // The character of a cell's dots.
-fn mark_of(marker: Marker, pattern: u8) -> char
-    ensures { result ≡ mark_of marker pattern }
+fn dot_mark(marker: Marker, pattern: u8) -> char
+    ensures { result ≡ dot_mark marker pattern }
 {
     match marker {
         Marker::Braille => char::from_u32(0x2800 + u32::from(pattern)).unwrap(),
@@ -51,13 +51,13 @@ fn show_cell(
     dots: &DotCell,
     cell: &mut Cell,
 ) -> Result<(), AllocError>
-    ensures value { cell.new ≡ shown_by marker dots.now cell.old }
+    ensures value { cell.new ≡ under_dots marker dots.now cell.old }
     ensures succeeds { IsOk result }
 {
     if dots.pattern == 0 {
         return Ok(());
     }
-    cell.set_char(alloc, mark_of(marker, dots.pattern))?;
+    cell.set_char(alloc, dot_mark(marker, dots.pattern))?;
     set_color(marker, dots, cell);
     Ok(())
 }

@@ -5,7 +5,7 @@ use Rattle.std.specs.Prelude.{unsigned_abs}
 use Rattle.std.proofs.Math.Nat.{mul-le-mul}
 use Rattle.std.proofs.lemmas.Int.{unsigned_abs-mul}
 use Rattle.rtui_dots.specs.declared.{scale.Scale.Scale, painter.DotCell.DotCell, painter.Painter.Painter, circle.Circle.Circle}
-use Rattle.rtui_dots.specs.Grids.{with_dot, with_dots, Paints}
+use Rattle.rtui_dots.specs.Grids.{with_dot, with_dots, SetsDots}
 use Rattle.rtui_dots.specs.Circles.{cosine_of, fine, fine_column, fine_row, circle_dot, degrees_from}
 
 -- a radius by a cosine is far below what a number of 128 bits holds
@@ -16,7 +16,7 @@ product-in r z a b =
 
 -- the dot of a degree is set, and those of the others are left
 pub next-degree : (s : Scale) (c : Circle) (d n m : ℕ) (old new : Painter) (all : List DotCell) → n ≡ suc m → old.scale ≡ s
-    → Paints (circle_dot old.scale c d ∷ []) old new
+    → SetsDots (circle_dot old.scale c d ∷ []) old new
     → with_dots s (degrees_from s c d n) old.cells.items ≡ all → with_dots s (degrees_from s c (d + 1) m) new.cells.items ≡ all
 unfolding degrees_from
 next-degree s c d n m old new all e same paints was =
@@ -32,5 +32,5 @@ no-degrees s c d n cells e = ap (λ k. with_dots s (degrees_from s c d k) cells)
 -- the dot of a degree, by its column and its row
 pub degree-painted : (s : Scale) (c : Circle) (d column row : ℕ) (old new : Painter)
     → column ≡ fine_column s (fine c.x c.radius (cosine_of d)) → row ≡ fine_row s (fine c.y c.radius (cosine_of (d + 270)))
-    → Paints (record { x = column; y = row; color = c.color } ∷ []) old new → Paints (circle_dot s c d ∷ []) old new
+    → SetsDots (record { x = column; y = row; color = c.color } ∷ []) old new → SetsDots (circle_dot s c d ∷ []) old new
 degree-painted s c d column row old new a b paints = rw (← a, ← b) paints

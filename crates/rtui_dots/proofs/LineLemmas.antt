@@ -5,7 +5,7 @@ use Rattle.std.proofs.lemmas.Bool.{cases_lt}
 use native.Mathlib.Numerals.{unary_clauses}
 use Rattle.rtui_style.specs.declared.color.Color.{Color}
 use Rattle.rtui_dots.specs.declared.{scale.Scale.Scale, painter.DotCell.DotCell, painter.Painter.Painter, line.Run.Run}
-use Rattle.rtui_dots.specs.Grids.{Dot, is_open, column_of, row_of, with_dot, with_dots, has_dot, far, Paints}
+use Rattle.rtui_dots.specs.Grids.{Dot, is_open, dot_column, dot_row, with_dot, with_dots, has_dot, far, SetsDots}
 use Rattle.rtui_dots.specs.Lines.{gone_after, dots_from, dot_by, run_dot, run_dots, run_of, across_at, places_along}
 use Rattle.rtui_dots.specs.Shapes.{dots_between}
 use Rattle.rtui_dots.proofs.GridLemmas.{with_dots-append}
@@ -94,7 +94,7 @@ run-shown s r color first end cells is_first is_end = ⊎_elim (λ (lt : first <
 
 -- a step's dot is set, and those of the others are left
 pub next-dots : (s : Scale) (f : ℕ → Dot) (d : Dot) (k n m : ℕ) (old new : Painter) (all : List DotCell) → n ≡ suc m → d ≡ f k
-    → old.scale ≡ s → Paints (d ∷ []) old new → with_dots s (dots_from f k n) old.cells.items ≡ all
+    → old.scale ≡ s → SetsDots (d ∷ []) old new → with_dots s (dots_from f k n) old.cells.items ≡ all
     → with_dots s (dots_from f (k + 1) m) new.cells.items ≡ all
 next-dots s f d k n m old new all e at same paints was =
     ap (with_dots s (dots_from f (k + 1) m)) (paints.cells ∙ ap (λ q. with_dot q d old.cells.items) same
@@ -103,6 +103,6 @@ next-dots s f d k n m old new all e at same paints was =
 
 -- a line between two points
 pub line-painted : (s : Scale) (x y x' y' : ℤ) (color : Color) (column row column' row' : ℕ) (r : Run) (old new : Painter)
-    → is_open s ≡ true → column ≡ column_of s x → row ≡ row_of s y → column' ≡ column_of s x' → row' ≡ row_of s y'
-    → r ≡ run_of column row column' row' → Paints (run_dots r color) old new → Paints (dots_between x y x' y' color s) old new
+    → is_open s ≡ true → column ≡ dot_column s x → row ≡ dot_row s y → column' ≡ dot_column s x' → row' ≡ dot_row s y'
+    → r ≡ run_of column row column' row' → SetsDots (run_dots r color) old new → SetsDots (dots_between x y x' y' color s) old new
 line-painted s x y x' y' color column row column' row' r old new is a b a' b' e paints = rw (is, ← a, ← b, ← a', ← b', ← e) paints

@@ -4,7 +4,7 @@ use Rattle.std.specs.Prelude.{slice_index, if◌then◌else◌}
 use Prim.Native.Nat.{zero, suc}
 use Rattle.rtui_dots.specs.declared.{scale.Scale.Scale, circle.Circle.Circle}
 use Rattle.rtui_dots.specs.declared.circle.TheConstants.{COSINES}
-use Rattle.rtui_dots.specs.Grids.{Dot, is_open, span, place_at, dot_columns, dot_rows}
+use Rattle.rtui_dots.specs.Grids.{Dot, is_open, span, dot_place, dot_columns, dot_rows}
 
 -- the cosine of so many degrees, in billionths
 abbrev pub billion : ℕ
@@ -28,12 +28,12 @@ fine center radius cosine = (center *ℤ pos billion) +ℤ (pos radius *ℤ cosi
 abbrev pub fine_column : Scale → ℤ → ℕ
 fine_column s x =
     let left = s.left *ℤ pos billion in let right = s.right *ℤ pos billion in
-    place_at (int_lt x left) (int_lt right x) (span x left) (span right left) (dot_columns s)
+    dot_place (int_lt x left) (int_lt right x) (span x left) (span right left) (dot_columns s)
 
 abbrev pub fine_row : Scale → ℤ → ℕ
 fine_row s y =
     let bottom = s.bottom *ℤ pos billion in let top = s.top *ℤ pos billion in
-    place_at (int_lt top y) (int_lt y bottom) (span y top) (span top bottom) (dot_rows s)
+    dot_place (int_lt top y) (int_lt y bottom) (span y top) (span top bottom) (dot_rows s)
 
 -- the dot of a point so many degrees from the right, against the clock
 abbrev pub circle_dot : Scale → Circle → ℕ → Dot

@@ -37,10 +37,10 @@ abbrev pub share : ℕ → ℕ → ℕ → ℕ
 share n whole count = n * (count - 1) / whole
 
 -- such a place of a grid; outside it, if it lies before the first one or behind the last one
-abbrev pub place_at : Bool → Bool → ℕ → ℕ → ℕ → ℕ
-place_at true behind n whole count = far - min (max (div_ceil (n * (count - 1)) whole) 1) far
-place_at false true n whole count = far + min (max (share n whole count) count) far
-place_at false false n whole count = far + min (share n whole count) far
+abbrev pub dot_place : Bool → Bool → ℕ → ℕ → ℕ → ℕ
+dot_place true behind n whole count = far - min (max (div_ceil (n * (count - 1)) whole) 1) far
+dot_place false true n whole count = far + min (max (share n whole count) count) far
+dot_place false false n whole count = far + min (share n whole count) far
 
 -- how far two numbers are apart
 abbrev pub span : ℤ → ℤ → ℕ
@@ -58,22 +58,22 @@ abbrev pub row_of_cell : Scale → ℤ → ℕ
 row_of_cell s y = share (span y s.top) (span s.top s.bottom) s.rows
 
 -- whether a point lies within the bounds
-abbrev pub is_between : ℤ → ℤ → ℤ → Bool
-is_between low high n = int_le low n && int_le n high
+abbrev pub lies_between : ℤ → ℤ → ℤ → Bool
+lies_between low high n = int_le low n && int_le n high
 
-abbrev pub is_within : Scale → ℤ → ℤ → Bool
-is_within s x y = is_between s.left s.right x && is_between s.bottom s.top y
+abbrev pub lies_within : Scale → ℤ → ℤ → Bool
+lies_within s x y = lies_between s.left s.right x && lies_between s.bottom s.top y
 
 abbrev pub has_point : Scale → ℤ → ℤ → Bool
-has_point s x y = is_open s && is_within s x y
+has_point s x y = is_open s && lies_within s x y
 
 -- the column and the row among the dots of a point: columns from the left, and rows from the top
-abbrev pub column_of : Scale → ℤ → ℕ
-column_of s x = place_at (int_lt x s.left) (int_lt s.right x) (span x s.left) (span s.right s.left)
+abbrev pub dot_column : Scale → ℤ → ℕ
+dot_column s x = dot_place (int_lt x s.left) (int_lt s.right x) (span x s.left) (span s.right s.left)
     (dot_columns s)
 
-abbrev pub row_of : Scale → ℤ → ℕ
-row_of s y = place_at (int_lt s.top y) (int_lt y s.bottom) (span y s.top) (span s.top s.bottom) (dot_rows s)
+abbrev pub dot_row : Scale → ℤ → ℕ
+dot_row s y = dot_place (int_lt s.top y) (int_lt y s.bottom) (span y s.top) (span s.top s.bottom) (dot_rows s)
 
 -- a dot: its column, its row and its colour
 pub record Dot : Type 0 where
@@ -82,7 +82,7 @@ pub record Dot : Type 0 where
   pub color : Color
 
 abbrev pub point_dot : Scale → ℤ → ℤ → Color → Dot
-point_dot s x y color = record { x = column_of s x; y = row_of s y; color = color }
+point_dot s x y color = record { x = dot_column s x; y = dot_row s y; color = color }
 
 -- a cell without dots
 abbrev pub no_dots : DotCell
@@ -114,8 +114,8 @@ is_lower HalfBlock n = n == 2
 is_lower m n = false
 
 -- a cell with one dot more, which gives it its colour; the lower half of a cell has a colour of its own
-abbrev pub with_number : Marker → ℕ → Color → DotCell → DotCell
-with_number m n color c =
+abbrev pub with_dot_number : Marker → ℕ → Color → DotCell → DotCell
+with_dot_number m n color c =
     if is_lower m n then record c { pattern = bit_or c.pattern n; lower = color }
     else record c { pattern = bit_or c.pattern n; color = color }
 
@@ -132,7 +132,7 @@ with_dot s d cells =
     let i = index_of s (d.x - far) (d.y - far) in
     let n = dot_number s.marker (d.x - far) (d.y - far) in
     if has_dot s d.x d.y then slice_set cells i
-    (with_number s.marker n d.color (slice_index_or cells i no_dots)) else cells
+    (with_dot_number s.marker n d.color (slice_index_or cells i no_dots)) else cells
 
 -- with some dots, one after the other
 abbrev pub with_dots : Scale → List Dot → List DotCell → List DotCell
@@ -140,10 +140,10 @@ with_dots s [] cells = cells
 with_dots s (d ∷ ds) cells = with_dots s ds (with_dot s d cells)
 
 -- what a painter has after it sets some dots: their colours in their cells, and all else as before
-pub record Paints (dots : List Dot) (old new : Painter) : Type 0 where
+pub record SetsDots (dots : List Dot) (old new : Painter) : Type 0 where
   pub cells : new.cells.items ≡ with_dots old.scale dots old.cells.items
   pub scale : new.scale ≡ old.scale
 
 -- a grid without dots
-abbrev pub blank : Scale → List DotCell
-blank s = replicate (s.columns * s.rows) no_dots
+abbrev pub empty_grid : Scale → List DotCell
+empty_grid s = replicate (s.columns * s.rows) no_dots

@@ -14,13 +14,13 @@ is_layer Layer = true
 is_layer d = false
 
 -- the dots of what is drawn
-abbrev pub dots_of : Drawing → Scale → List Dot
-dots_of (PointsOf p) s = dots_of_points p s
-dots_of (LineOf l) s = dots_of_line l s
-dots_of (PathOf p) s = dots_of_path p s
-dots_of (RectangleOf r) s = dots_of_rectangle r s
-dots_of (CircleOf c) s = dots_of_circle c s
-dots_of Layer s = []
+abbrev pub drawn_dots : Drawing → Scale → List Dot
+drawn_dots (PointsOf p) s = dots_of_points p s
+drawn_dots (LineOf l) s = dots_of_line l s
+drawn_dots (PathOf p) s = dots_of_path p s
+drawn_dots (RectangleOf r) s = dots_of_rectangle r s
+drawn_dots (CircleOf c) s = dots_of_circle c s
+drawn_dots Layer s = []
 
 -- dots before those of the first layer
 abbrev pub with_first : List Dot → List (List Dot) → List (List Dot)
@@ -30,4 +30,5 @@ with_first ds (layer ∷ layers) = (ds ++ layer) ∷ layers
 -- what is drawn, as layers of dots
 abbrev pub layers_of : Scale → List Drawing → List (List Dot)
 layers_of s [] = [] ∷ []
-layers_of s (d ∷ ds) = if is_layer d then [] ∷ layers_of s ds else with_first (dots_of d s) (layers_of s ds)
+layers_of s (d ∷ ds) = if is_layer d then [] ∷ layers_of s ds else with_first (drawn_dots d s)
+    (layers_of s ds)

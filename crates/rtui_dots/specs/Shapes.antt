@@ -4,7 +4,7 @@ use Rattle.std.specs.Int.{saturate_signed, w64}
 use Rattle.rtui_style.specs.declared.color.Color.{Color}
 use Rattle.rtui_dots.specs.declared.{scale.Scale.Scale, points.Points.Points, line.Line.Line, path.Path.Path}
 use Rattle.rtui_dots.specs.declared.{rectangle.Rectangle.Rectangle}
-use Rattle.rtui_dots.specs.Grids.{Dot, is_open, column_of, row_of, point_dot}
+use Rattle.rtui_dots.specs.Grids.{Dot, is_open, dot_column, dot_row, point_dot}
 use Rattle.rtui_dots.specs.Lines.{run_of, run_dots}
 
 -- a dot for each of some points
@@ -19,8 +19,8 @@ dots_of_points p s = if is_open s then point_dots s p.color p.coords.now else []
 -- those between two points
 abbrev pub dots_between : ℤ → ℤ → ℤ → ℤ → Color → Scale → List Dot
 dots_between x y x' y' color s =
-    if is_open s then run_dots (run_of (column_of s x) (row_of s y) (column_of s x')
-    (row_of s y')) color else []
+    if is_open s then run_dots (run_of (dot_column s x) (dot_row s y) (dot_column s x')
+    (dot_row s y')) color else []
 
 abbrev pub dots_of_line : Line → Scale → List Dot
 dots_of_line l = dots_between l.x1 l.y1 l.x2 l.y2 l.color
@@ -39,14 +39,14 @@ abbrev pub dots_of_path : Path → Scale → List Dot
 dots_of_path p = dots_along p.coords.now p.color
 
 -- the number that is so far from another one, at most the greatest one of 64 bits and at least the least one
-abbrev pub moved_by : ℤ → ℤ → ℤ
-moved_by x n = saturate_signed w64 (x +ℤ n)
+abbrev pub far_end : ℤ → ℤ → ℤ
+far_end x n = saturate_signed w64 (x +ℤ n)
 
 -- the lines of a rectangle's sides: left, top, right, bottom
 abbrev pub dots_of_rectangle : Rectangle → Scale → List Dot
 dots_of_rectangle r s =
-    let right = moved_by r.x r.width in
-    let top = moved_by r.y r.height in
+    let right = far_end r.x r.width in
+    let top = far_end r.y r.height in
     dots_between r.x r.y r.x top r.color s
     ++ dots_between r.x top right top r.color s
     ++ dots_between right r.y right top r.color s

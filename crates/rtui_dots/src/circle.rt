@@ -2,7 +2,7 @@
 
 ghost use Rattle.std.specs.Prelude.{◌≡◌, ◌<◌, ◌≤◌, ◌+◌, ◌-◌, ◌^◌, pos, ◌+ℤ◌, ◌*ℤ◌, unsigned_abs, IsTrue, []};
 ghost use Rattle.std.specs.Prelude.{◌∷◌};
-ghost use Rattle.rtui_dots.specs.Grids.{is_open, Paints};
+ghost use Rattle.rtui_dots.specs.Grids.{is_open, SetsDots};
 ghost use Rattle.rtui_dots.specs.Circles.{cosine_of, fine, circle_dot, degrees_from};
 
 use crate::painter::Painter;
@@ -159,7 +159,7 @@ impl Painter {
     fn set_degree(&mut self, circle: &Circle, degrees: u32)
         requires open { IsTrue (is_open self.old.scale) }
         requires below { degrees < 360 }
-        ensures { Paints (circle_dot self.old.scale circle.now degrees ∷ []) self.old self.new }
+        ensures { SetsDots (circle_dot self.old.scale circle.now degrees ∷ []) self.old self.new }
     {
         let x = fine(circle.x, circle.radius, cosine_of(degrees));
         let y = fine(circle.y, circle.radius, cosine_of(degrees + 270));
@@ -170,7 +170,7 @@ impl Painter {
     // Sets the dots of a circle.
     fn set_circle(&mut self, circle: &Circle)
         requires { IsTrue (is_open self.old.scale) }
-        ensures { Paints (degrees_from self.old.scale circle.now 0 360) self.old self.new }
+        ensures { SetsDots (degrees_from self.old.scale circle.now 0 360) self.old self.new }
     {
         for degrees in 0..360 {
             self.set_degree(circle, degrees);

@@ -42,9 +42,9 @@ impl<'a> Drawing<'a> {
 }
 
 impl<'a> Shape for Drawing<'a> {
-    ghost use Rattle.rtui_dots.specs.Layers.{dots_of};
+    ghost use Rattle.rtui_dots.specs.Layers.{drawn_dots};
 
-    ghost dots = { dots_of };
+    ghost dots = { drawn_dots };
 
     fn draw(&self, painter: &mut Painter) {
         match self {

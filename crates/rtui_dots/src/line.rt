@@ -2,7 +2,7 @@
 
 ghost use Rattle.std.specs.Prelude.{◌≡◌, ◌≤◌, ◌<◌, ◌+◌, ◌-◌, ◌*◌, ◌^◌, max, [], ◌∷◌};
 ghost use Rattle.std.specs.Int.{abs_diff};
-ghost use Rattle.rtui_dots.specs.Grids.{Paints};
+ghost use Rattle.rtui_dots.specs.Grids.{SetsDots};
 ghost use Rattle.rtui_dots.specs.Lines.{gone_after, across_at, dot_by, run_dot, dots_from, run_dots, run_on};
 ghost use Rattle.rtui_dots.specs.Lines.{run_between, run_of, places_along};
 ghost use Rattle.rtui_dots.specs.Shapes.{dots_between};
@@ -111,7 +111,7 @@ impl Painter {
         requires along { run.along + step ≤ 2 ^ 62 }
         requires across { run.across + gone ≤ 2 ^ 63 }
         ensures { let d = dot_by run.is_flat (run.along + step) (across_at run gone) color in
-            Paints (d ∷ []) self.old self.new }
+            SetsDots (d ∷ []) self.old self.new }
     {
         let along = run.along + step;
         let across = if run.is_back {
@@ -133,7 +133,7 @@ impl Painter {
         requires end { end ≤ run.long + 1 }
         requires along { run.along + run.long ≤ 2 ^ 61 }
         requires across { run.across ≤ 2 ^ 61 }
-        ensures { Paints (dots_from (run_dot run color) first (end - first)) self.old self.new }
+        ensures { SetsDots (dots_from (run_dot run color) first (end - first)) self.old self.new }
     {
         if end <= first {
             return;
@@ -165,7 +165,7 @@ impl Painter {
         requires slope { run.short ≤ run.long }
         requires along { run.along + run.long ≤ 2 ^ 61 }
         requires across { run.across ≤ 2 ^ 61 }
-        ensures { Paints (run_dots run color) self.old self.new }
+        ensures { SetsDots (run_dots run color) self.old self.new }
     {
         if run.long == 0 {
             self.set_run_dot(run, 0, 0, color);
@@ -180,7 +180,7 @@ impl Painter {
     // Draws a line between two points.
     pub(crate) fn draw_line(&mut self, from: (i64, i64), to: (i64, i64), color: Color)
         ensures { let s = self.old.scale in
-            Paints (dots_between from.0 from.1 to.0 to.1 color s) self.old self.new }
+            SetsDots (dots_between from.0 from.1 to.0 to.1 color s) self.old self.new }
     {
         if !self.scale.is_open() {
             return;

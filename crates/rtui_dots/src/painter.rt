@@ -1,8 +1,9 @@
 //! Painting dots.
 
 ghost use Rattle.std.specs.Prelude.{◌≡◌, ◌≤◌, ◌<◌, ◌+◌, ◌*◌, IsTrue, IfOk, [], ◌∷◌, length, replicate};
-ghost use Rattle.rtui_dots.specs.Grids.{far, no_dots, blank, cell_row, cell_column, dot_number, with_number};
-ghost use Rattle.rtui_dots.specs.Grids.{has_dot, Paints};
+ghost use Rattle.rtui_dots.specs.Grids.{far, no_dots, empty_grid, cell_row, cell_column, dot_number};
+ghost use Rattle.rtui_dots.specs.Grids.{with_dot_number};
+ghost use Rattle.rtui_dots.specs.Grids.{has_dot, SetsDots};
 
 use crate::scale::{FAR, Scale};
 use rtui_style::Color;
@@ -72,8 +73,8 @@ fn cell_row(marker: Marker, y: u64) -> u64
 
 impl DotCell {
     // The cell with one dot more.
-    fn with_number(self, marker: Marker, number: u8, color: Color) -> DotCell
-        ensures { result ≡ with_number marker number color self }
+    fn with_dot_number(self, marker: Marker, number: u8, color: Color) -> DotCell
+        ensures { result ≡ with_dot_number marker number color self }
     {
         let pattern = self.pattern | number;
         match marker {
@@ -99,7 +100,7 @@ impl Painter {
     /// `AllocError` if memory is refused.
     pub fn new(alloc: Global, scale: Scale) -> Result<Painter, AllocError>
         ensures scale { IfOk result (λ p. p.scale ≡ scale) }
-        ensures cells { IfOk result (λ p. p.cells.items ≡ blank scale) }
+        ensures cells { IfOk result (λ p. p.cells.items ≡ empty_grid scale) }
     {
         let count = usize::from(scale.columns) * usize::from(scale.rows);
         let cells = vec![in alloc; NO_DOTS; count]?;
@@ -143,7 +144,7 @@ impl Painter {
 
     // Sets a dot by its places.
     pub(crate) fn set_dot(&mut self, x: u64, y: u64, color: Color)
-        ensures { Paints (record { x = x; y = y; color = color } ∷ []) self.old self.new }
+        ensures { SetsDots (record { x = x; y = y; color = color } ∷ []) self.old self.new }
     {
         if !self.has_dot(x, y) {
             return;
@@ -155,7 +156,7 @@ impl Painter {
         let number = dot_number(marker, x, y);
         let cells = self.cells.as_mut_slice();
         if index < cells.len() {
-            cells[index] = cells[index].with_number(marker, number, color);
+            cells[index] = cells[index].with_dot_number(marker, number, color);
         }
     }
 }

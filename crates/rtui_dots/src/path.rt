@@ -1,7 +1,7 @@
 //! Lines from point to point.
 
 ghost use Rattle.std.specs.Prelude.{◌≡◌};
-ghost use Rattle.rtui_dots.specs.Grids.{Paints};
+ghost use Rattle.rtui_dots.specs.Grids.{SetsDots};
 ghost use Rattle.rtui_dots.specs.Shapes.{dots_between, dots_on};
 
 use crate::painter::Painter;
@@ -21,7 +21,7 @@ impl Painter {
     // Draws a line from one point to another one.
     fn draw_on(&mut self, from: &(i64, i64), to: &(i64, i64), color: Color)
         ensures { let s = self.old.scale in
-            Paints (dots_between from.now.0 from.now.1 to.now.0 to.now.1 color s) self.old self.new }
+            SetsDots (dots_between from.now.0 from.now.1 to.now.0 to.now.1 color s) self.old self.new }
     {
         self.draw_line(*from, *to, color);
     }
@@ -29,7 +29,7 @@ impl Painter {
     // Draws lines from a point to the first of some others, and on to the next one.
     fn draw_path(&mut self, first: &(i64, i64), others: &[(i64, i64)], color: Color)
         ensures { let s = self.old.scale in
-            Paints (dots_on first.now others.now color s) self.old self.new }
+            SetsDots (dots_on first.now others.now color s) self.old self.new }
     {
         let mut last = first;
         for point in others {

@@ -1,7 +1,7 @@
 //! Points.
 
 ghost use Rattle.std.specs.Prelude.{◌≡◌, IsTrue, [], ◌∷◌};
-ghost use Rattle.rtui_dots.specs.Grids.{is_open, point_dot, Paints};
+ghost use Rattle.rtui_dots.specs.Grids.{is_open, point_dot, SetsDots};
 ghost use Rattle.rtui_dots.specs.Shapes.{point_dots};
 
 use crate::painter::Painter;
@@ -22,7 +22,7 @@ impl Painter {
     fn set_point(&mut self, point: &(i64, i64), color: Color)
         requires { IsTrue (is_open self.old.scale) }
         ensures { let d = point_dot self.old.scale point.now.0 point.now.1 color in
-            Paints (d ∷ []) self.old self.new }
+            SetsDots (d ∷ []) self.old self.new }
     {
         let (column, row) = (self.scale.column(point.0), self.scale.row(point.1));
         self.set_dot(column, row, color);
@@ -31,7 +31,7 @@ impl Painter {
     // Sets the dot of each point.
     fn set_points(&mut self, coords: &[(i64, i64)], color: Color)
         requires { IsTrue (is_open self.old.scale) }
-        ensures { Paints (point_dots self.old.scale color coords.now) self.old self.new }
+        ensures { SetsDots (point_dots self.old.scale color coords.now) self.old self.new }
     {
         for point in coords {
             self.set_point(point, color);

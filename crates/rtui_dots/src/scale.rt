@@ -3,8 +3,8 @@
 ghost use Rattle.std.specs.Prelude.{◌≡◌, ◌≤◌, ◌<◌, ◌^◌, ◌-◌, pos, ◌*ℤ◌, unsigned_abs, IsTrue};
 ghost use Rattle.rtui_dots.specs.Circles.{billion, fine_column, fine_row};
 ghost use Rattle.rtui_dots.specs.Grids.{dot_columns, dot_rows, share, column_of_cell, row_of_cell};
-ghost use Rattle.rtui_dots.specs.Grids.{is_between, is_within, has_point, place_at, is_open, column_of};
-ghost use Rattle.rtui_dots.specs.Grids.{row_of};
+ghost use Rattle.rtui_dots.specs.Grids.{lies_between, lies_within, has_point, dot_place, is_open, dot_column};
+ghost use Rattle.rtui_dots.specs.Grids.{dot_row};
 
 use rtui_symbols::marker::Marker;
 
@@ -33,11 +33,11 @@ pub struct Scale {
 }
 
 // The place of what lies `from_first` from the first one of so many over a whole length.
-fn place_at(is_before: bool, is_behind: bool, from_first: u128, whole: u128, count: u64) -> u64
+fn dot_place(is_before: bool, is_behind: bool, from_first: u128, whole: u128, count: u64) -> u64
     requires whole { 0 < whole }
     requires length { from_first < 2 ^ 100 }
     requires count { count ≤ 262140 }
-    ensures value { result ≡ place_at is_before is_behind from_first whole count }
+    ensures value { result ≡ dot_place is_before is_behind from_first whole count }
     ensures within { result ≤ 2 ^ 61 }
 {
     let shares = from_first * u128::from(count.saturating_sub(1));
@@ -69,8 +69,8 @@ pub(crate) fn in_billionths(n: i64) -> i128
 }
 
 // Whether a number lies between two others, or is one of them.
-fn is_between(low: i64, high: i64, n: i64) -> bool
-    ensures { result ≡ is_between low high n }
+fn lies_between(low: i64, high: i64, n: i64) -> bool
+    ensures { result ≡ lies_between low high n }
 {
     low <= n && n <= high
 }
@@ -109,12 +109,12 @@ impl Scale {
     // The column of a coordinate.
     pub(crate) fn column(&self, x: i64) -> u64
         requires { IsTrue (is_open self.now) }
-        ensures value { result ≡ column_of self.now x }
+        ensures value { result ≡ dot_column self.now x }
         ensures within { result ≤ 2 ^ 61 }
     {
         let (from_left, whole) = (x.abs_diff(self.left), self.right.abs_diff(self.left));
         let count = self.dot_columns();
-        place_at(
+        dot_place(
             x < self.left,
             self.right < x,
             u128::from(from_left),
@@ -126,12 +126,12 @@ impl Scale {
     // The row of a coordinate.
     pub(crate) fn row(&self, y: i64) -> u64
         requires { IsTrue (is_open self.now) }
-        ensures value { result ≡ row_of self.now y }
+        ensures value { result ≡ dot_row self.now y }
         ensures within { result ≤ 2 ^ 61 }
     {
         let (from_top, whole) = (y.abs_diff(self.top), self.top.abs_diff(self.bottom));
         let count = self.dot_rows();
-        place_at(
+        dot_place(
             self.top < y,
             y < self.bottom,
             u128::from(from_top),
@@ -150,7 +150,7 @@ impl Scale {
         let (left, right) = (in_billionths(self.left), in_billionths(self.right));
         let (from_left, whole) = (x.abs_diff(left), right.abs_diff(left));
         let count = self.dot_columns();
-        place_at(x < left, right < x, from_left, whole, count)
+        dot_place(x < left, right < x, from_left, whole, count)
     }
 
     // The row of a coordinate in billionths.
@@ -163,27 +163,27 @@ impl Scale {
         let (bottom, top) = (in_billionths(self.bottom), in_billionths(self.top));
         let (from_top, whole) = (y.abs_diff(top), top.abs_diff(bottom));
         let count = self.dot_rows();
-        place_at(top < y, y < bottom, from_top, whole, count)
+        dot_place(top < y, y < bottom, from_top, whole, count)
     }
 
     // Whether a point lies within the bounds or on them.
-    fn is_within(&self, x: i64, y: i64) -> bool
-        ensures { result ≡ is_within self.now x y }
+    fn lies_within(&self, x: i64, y: i64) -> bool
+        ensures { result ≡ lies_within self.now x y }
     {
-        is_between(self.left, self.right, x) && is_between(self.bottom, self.top, y)
+        lies_between(self.left, self.right, x) && lies_between(self.bottom, self.top, y)
     }
 
     /// Whether there are points between the bounds, and this is one of them.
     pub fn has_point(&self, x: i64, y: i64) -> bool
         ensures { result ≡ has_point self.now x y }
     {
-        self.is_open() && self.is_within(x, y)
+        self.is_open() && self.lies_within(x, y)
     }
 
     // The column among the cells of a point within the bounds.
     fn column_of_cell(&self, x: i64) -> u16
         requires open { IsTrue (is_open self.now) }
-        requires within { IsTrue (is_between self.now.left self.now.right x) }
+        requires within { IsTrue (lies_between self.now.left self.now.right x) }
         ensures value { result ≡ column_of_cell self.now x }
         ensures within { result ≤ self.now.columns - 1 }
     {
@@ -194,7 +194,7 @@ impl Scale {
     // The row among the cells of a point within the bounds.
     fn row_of_cell(&self, y: i64) -> u16
         requires open { IsTrue (is_open self.now) }
-        requires within { IsTrue (is_between self.now.bottom self.now.top y) }
+        requires within { IsTrue (lies_between self.now.bottom self.now.top y) }
         ensures value { result ≡ row_of_cell self.now y }
         ensures within { result ≤ self.now.rows - 1 }
     {

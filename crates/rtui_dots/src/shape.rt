@@ -1,6 +1,6 @@
 //! What can be drawn by dots.
 
-ghost use Rattle.rtui_dots.specs.Grids.{Paints};
+ghost use Rattle.rtui_dots.specs.Grids.{SetsDots};
 
 use crate::painter::Painter;
 
@@ -15,5 +15,5 @@ pub trait Shape {
 
     /// Sets the shape's dots, as far as the grid has them.
     fn draw(&self, painter: &mut Painter)
-        ensures { Paints (dots self.now painter.old.scale) painter.old painter.new };
+        ensures { SetsDots (dots self.now painter.old.scale) painter.old painter.new };
 }
