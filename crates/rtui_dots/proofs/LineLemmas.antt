@@ -2,7 +2,6 @@
 use Rattle.std.proofs.Common.{◌≡◌, ℕ, zero, suc, ◌+◌, ◌-◌, ◌*◌, ◌/◌, ◌<◌, ◌≤◌, ℤ, ◌⊎◌, ⊎_elim, inl, inr, Bool, true, false, min}
 use Rattle.std.proofs.Common.{List, [], ◌∷◌, ◌++◌, refl, ◌∙◌, ap, sym, arith}
 use Rattle.std.proofs.lemmas.Bool.{cases_lt}
-use native.Mathlib.Numerals.{unary_clauses}
 use Rattle.rtui_style.specs.declared.color.Color.{Color}
 use Rattle.rtui_dots.specs.declared.{scale.Scale.Scale, painter.DotCell.DotCell, painter.Painter.Painter, line.Run.Run}
 use Rattle.rtui_dots.specs.Grids.{Dot, is_open, dot_column, dot_row, with_dot, with_dots, has_dot, far, SetsDots}

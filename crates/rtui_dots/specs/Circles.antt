@@ -1,5 +1,5 @@
 -- A circle: which dots it has.
-use Rattle.std.specs.Prelude.{ℕ, ◌+◌, ◌-◌, ◌*◌, ◌%◌, nat_lt, List, [], ◌∷◌, ℤ, pos, neg_ℤ, ◌+ℤ◌, ◌*ℤ◌, int_lt}
+use Rattle.std.specs.Prelude.{ℕ, ◌+◌, ◌-◌, ◌%◌, nat_lt, List, [], ◌∷◌, ℤ, pos, neg_ℤ, ◌+ℤ◌, ◌*ℤ◌, int_lt}
 use Rattle.std.specs.Prelude.{slice_index, if◌then◌else◌}
 use Prim.Native.Nat.{zero, suc}
 use Rattle.rtui_dots.specs.declared.{scale.Scale.Scale, circle.Circle.Circle}

@@ -1,5 +1,4 @@
-use Rattle.std.proofs.Common.{rules, SFits, ◌≡◌, ◌<◌, ◌^◌, ◌*ℤ◌, pos, arith}
-use Rattle.std.specs.Prelude.{unsigned_abs}
+use Rattle.std.proofs.Common.{rules, SFits, ◌<◌, ◌^◌, ◌*ℤ◌, pos, arith}
 use Rattle.std.specs.Int.{w128}
 use Rattle.std.proofs.lemmas.Int.{to_z-of_z, fits_signed_from_abs}
 use Rattle.rtui_dots.proofs.CircleLemmas.{product-in}

@@ -1,6 +1,5 @@
-use Rattle.std.proofs.Common.{◌≡◌, ◌∙◌, length, replicate, sym, ap, arith}
+use Rattle.std.proofs.Common.{◌≡◌, ◌∙◌, length, ap, arith}
 use Rattle.std.proofs.lemmas.List.{take-append-le, take_all}
-use Rattle.rtui_dots.specs.Grids.{no_dots}
 use Rattle.rtui_dots.proofs.GridLemmas.{same-as-replicate}
 use Rattle.rtui_dots.proofs.painter.Painter.clear.Goals as goal
 

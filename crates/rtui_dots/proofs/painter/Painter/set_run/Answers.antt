@@ -1,4 +1,4 @@
-use Rattle.std.proofs.Common.{◌∙◌, sym, ap, arith}
+use Rattle.std.proofs.Common.{◌∙◌, arith}
 use Rattle.rtui_dots.proofs.LineLemmas.{run-shown}
 use Rattle.rtui_dots.proofs.painter.Painter.set_run.Goals as goal
 

@@ -1,6 +1,5 @@
 use Rattle.std.proofs.Common.{◌≡◌, suc, ◌+◌, ◌-◌, ◌*◌, ◌∙◌, sym, ap, arith}
-use Rattle.rtui_dots.specs.Grids.{with_dots}
-use Rattle.rtui_dots.specs.Lines.{run_dot, dots_from, gone_after, dot_by, across_at}
+use Rattle.rtui_dots.specs.Lines.{run_dot, gone_after, dot_by, across_at}
 use Rattle.rtui_dots.proofs.LineLemmas.{quotient, next-dots}
 use Rattle.rtui_dots.proofs.painter.Painter.set_steps.Goals as goal
 
