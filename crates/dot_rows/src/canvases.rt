@@ -127,10 +127,10 @@ fn drawings_of<'a>(
     Ok(drawings)
 }
 
-// The labels that the parts of a case say.
-fn labels_of<'a>(alloc: Global, case: &Case<'a>) -> Result<Vec<Label<'a>>, AllocError> {
+// The labels that parts between bars say.
+fn labels_of<'a>(alloc: Global, parts: &'a str) -> Result<Vec<Label<'a>>, AllocError> {
     let mut labels = Vec::new(alloc);
-    for part in case.parts.split(" | ") {
+    for part in parts.split(" | ") {
         let (kind, rest) = first_word(part);
         if kind == "print" {
             let (x, rest) = first_word(rest);
@@ -148,7 +148,7 @@ pub fn show(alloc: Global, case: &Case<'_>) -> Result<String, AllocError> {
     let mut buffer = Buffer::empty(alloc, area)?;
     let coords = all_coords(alloc, case)?;
     let drawings = drawings_of(alloc, case, coords.as_slice())?;
-    let labels = labels_of(alloc, case)?;
+    let labels = labels_of(alloc, case.parts)?;
     Canvas::new()
         .x_bounds(case.bounds("x"))
         .y_bounds(case.bounds("y"))
