@@ -1,0 +1,128 @@
+-- A canvas: what its dots and labels make of a buffer.
+use Rattle.std.specs.Prelude.{◌≡◌, ℕ, Bool, true, false, ◌+◌, ◌-◌, ◌*◌, ◌==◌, List, [], ◌∷◌, pos, length}
+use Rattle.std.specs.Prelude.{replicate, Option, None, slice_index_or, encode_utf8, if◌then◌else◌}
+use Rattle.ratatui_core.specs.Layout.{Rect, Position}
+use Rattle.ratatui_core.specs.Text.{LineData}
+use Rattle.ratatui_core.specs.Style.{Reset, new_style, with_bg}
+use Rattle.ratatui_core.specs.Buffer.{BufferData, Cell, with_symbol, ChangesEach, IsStyled}
+use Rattle.ratatui_core.specs.Widgets.{RendersLine}
+use Rattle.ratatui_core.specs.declared.symbols.Marker.{Marker}
+use Rattle.ratatui_core.specs.declared.symbols.Marker.TheVariants.{Braille, HalfBlock, Bar, Dot, Custom}
+use Rattle.rtui_boxes.specs.Titles.{InTurn, title_width, first_columns}
+use Rattle.rtui_boxes.specs.Framed.{RendersInFrame}
+use Rattle.rtui_dots.specs.declared.{scale.Scale.Scale, painter.DotCell.DotCell, painter.Painter.Painter}
+use Rattle.rtui_dots.specs.declared.{drawing.Drawing.Drawing}
+use Rattle.rtui_canvas.specs.declared.{label.Label.Label, canvas.Canvas.Canvas}
+use Rattle.rtui_dots.specs.Grids.{Dot as GridDot, has_point, column_of_cell, row_of_cell, no_dots, empty_grid}
+use Rattle.rtui_dots.specs.Grids.{with_dots, SetsDots}
+use Rattle.rtui_dots.specs.Layers.{is_layer, drawn_dots, layers_of}
+
+-- the character of a cell's dots
+abbrev pub dot_mark : Marker → ℕ → ℕ
+dot_mark Braille n = 0x2800 + n
+dot_mark HalfBlock n = if n == 2 then 0x2584 else 0x2580
+dot_mark Dot n = 0x2022
+dot_mark Bar n = 0x2584
+dot_mark (Custom c) n = c
+dot_mark m n = 0x2588
+
+-- a cell in the colour of its dots; of half blocks the upper one is before the lower one's colour, if both
+-- are set
+abbrev pub in_color : Marker → DotCell → Cell → Cell
+in_color HalfBlock d c =
+    if d.pattern == 2 then record c { fg = d.lower }
+    else if d.pattern == 1 then record c { fg = d.color }
+    else record c { fg = d.color; bg = d.lower }
+in_color m d c = record c { fg = d.color }
+
+-- a cell under its dots, if it has any
+abbrev pub under_dots : Marker → DotCell → Cell → Cell
+under_dots m d c =
+    if d.pattern == 0 then c else in_color m d (with_symbol (encode_utf8 (dot_mark m d.pattern)) c)
+
+-- an area's cell under the dots of a grid
+abbrev pub shown_at : Scale → Rect → List DotCell → Position → Cell → Cell
+shown_at s r cells p = under_dots s.marker
+    (slice_index_or cells ((p.y - r.y) * s.columns + (p.x - r.x)) no_dots)
+
+-- dots over an area
+abbrev pub ShowsDots : Scale → Rect → List GridDot → List DotCell → BufferData → BufferData → Type 0
+ShowsDots s r dots cells = ChangesEach r (shown_at s r (with_dots s dots cells))
+
+-- layers of dots over an area, each over those before
+abbrev pub ShowsLayers : Scale → Rect → List (List GridDot) → BufferData → BufferData → Type 0
+ShowsLayers s r [] old new = new ≡ old
+ShowsLayers s r (layer ∷ layers) old new = InTurn (ShowsDots s r layer (empty_grid s))
+    (ShowsLayers s r layers) old new
+
+-- what comes next is drawn by a grid: the beginning of a layer shows its dots and takes them away, and a
+-- shape sets more of them
+pub record DrawsNext (d : Drawing) (r : Rect) (p q : Painter) (old new : BufferData) : Type 0 where
+  pub shows : is_layer d ≡ true → ChangesEach r (shown_at p.scale r p.cells.items) old new
+  pub clears : is_layer d ≡ true → q.cells.items ≡ replicate (length p.cells.items) no_dots
+  pub paints : is_layer d ≡ false → SetsDots (drawn_dots d p.scale) p q
+  pub same : is_layer d ≡ false → new ≡ old
+  pub scale : q.scale ≡ p.scale
+
+-- a row from a cell on, and so many columns of it as a line has
+abbrev pub label_from : Rect → ℕ → ℕ → LineData → Rect
+label_from r column row line =
+    first_columns (title_width line) (record {
+      x = r.x + column;
+      y = r.y + row;
+      width = r.width - column;
+      height = 1;
+    })
+
+-- where a label stands
+abbrev pub label_area : Scale → Rect → Label → Rect
+label_area s r l = label_from r (column_of_cell s l.x) (row_of_cell s l.y) l.line
+
+-- a label at its point, if that lies within the bounds
+abbrev pub RendersIf : Bool → (BufferData → BufferData → Type 0) → BufferData → BufferData → Type 0
+RendersIf true f old new = f old new
+RendersIf false f old new = new ≡ old
+
+abbrev pub RendersLabel : Scale → Rect → Label → BufferData → BufferData → Type 0
+RendersLabel s r l = RendersIf (has_point s l.x l.y) (RendersLine l.line (label_area s r l))
+
+abbrev pub RendersLabels : Scale → Rect → List Label → BufferData → BufferData → Type 0
+RendersLabels s r [] old new = new ≡ old
+RendersLabels s r (l ∷ ls) old new = InTurn (RendersLabel s r l) (RendersLabels s r ls) old new
+
+-- the bounds of a canvas over the cells of an area
+abbrev pub scale_of : Canvas → Rect → Scale
+scale_of c r = record {
+  left = c.left;
+  right = c.right;
+  bottom = c.bottom;
+  top = c.top;
+  columns = r.width;
+  rows = r.height;
+  marker = c.marker;
+}
+
+-- the background of a canvas, its layers, and its labels over them
+pub record ShowsCanvas (c : Canvas) (r : Rect) (old new : BufferData) : Type 0 where
+  pub laid : BufferData
+  pub drawn : BufferData
+  pub background : IsStyled r (with_bg c.background_color new_style) old laid
+  pub layers : ShowsLayers (scale_of c r) r (layers_of (scale_of c r) c.drawings.now) laid drawn
+  pub labels : RendersLabels (scale_of c r) r c.labels.now drawn new
+
+-- A canvas over the part of an area that a buffer has: its box, and inside its background, dots and labels.
+-- Nothing outside the area changes.
+abbrev pub RendersCanvas : Canvas → Rect → BufferData → BufferData → Type 0
+RendersCanvas c = RendersInFrame new_style c.block (ShowsCanvas c)
+
+-- a canvas of nothing: no box, no points between its bounds, and Braille dots
+pub record IsNewCanvas (c : Canvas) : Type 0 where
+  pub no_box : c.block ≡ None
+  pub left : c.left ≡ pos 0
+  pub right : c.right ≡ pos 0
+  pub bottom : c.bottom ≡ pos 0
+  pub top : c.top ≡ pos 0
+  pub no_drawings : c.drawings.now ≡ []
+  pub no_labels : c.labels.now ≡ []
+  pub no_background : c.background_color ≡ Reset
+  pub braille : c.marker ≡ Braille

@@ -1,0 +1,107 @@
+-- The steps of a line.
+use Rattle.std.proofs.Common.{◌≡◌, ℕ, zero, suc, ◌+◌, ◌-◌, ◌*◌, ◌/◌, ◌<◌, ◌≤◌, ℤ, ◌⊎◌, ⊎_elim, inl, inr, Bool, true, false, min}
+use Rattle.std.proofs.Common.{List, [], ◌∷◌, ◌++◌, refl, ◌∙◌, ap, sym, arith}
+use Rattle.std.proofs.lemmas.Bool.{cases_lt}
+use Rattle.rtui_style.specs.declared.color.Color.{Color}
+use Rattle.rtui_dots.specs.declared.{scale.Scale.Scale, painter.DotCell.DotCell, painter.Painter.Painter, line.Run.Run}
+use Rattle.rtui_dots.specs.Grids.{Dot, is_open, dot_column, dot_row, with_dot, with_dots, has_dot, far, SetsDots}
+use Rattle.rtui_dots.specs.Lines.{gone_after, dots_from, dot_by, run_dot, run_dots, run_of, across_at, places_along}
+use Rattle.rtui_dots.specs.Shapes.{dots_between}
+use Rattle.rtui_dots.proofs.GridLemmas.{with_dots-append}
+
+-- a quotient is found by its remainder
+pub quotient : (whole n r total : ℕ) → r < whole → r + whole * n ≡ total → total / whole ≡ n
+quotient whole n r total lt e = grind arith
+
+-- a line goes across by at most as many places as along
+pub gone-few : (long short k : ℕ) → short ≤ long → 0 < long → gone_after long short k ≤ k
+gone-few long short k le some = grind arith
+
+-- a step more
+pub dots_from-more : (f : ℕ → Dot) (k n m : ℕ) → n ≡ suc m → dots_from f k n ≡ f k ∷ dots_from f (k + 1) m
+dots_from-more f k n m e = ap (dots_from f k) e
+
+dots_from-append : (f : ℕ → Dot) (k a b : ℕ) → dots_from f k (a + b) ≡ dots_from f k a ++ dots_from f (k + a) b
+dots_from-append f k zero b =
+    let e : 0 + b ≡ b = omega arith in let at : k ≡ k + 0 = omega arith in
+    ap (dots_from f k) e ∙ ap (λ m. dots_from f m b) at
+dots_from-append f k (suc a) b =
+    let e : suc a + b ≡ suc (a + b) = omega arith in let at : (k + 1) + a ≡ k + suc a = omega arith in
+    ap (dots_from f k) e ∙ ap (λ ds. f k ∷ ds) (dots_from-append f (k + 1) a b
+    ∙ ap (λ m. dots_from f (k + 1) a ++ dots_from f m b) at)
+
+-- a dot that the grid doesn't have changes nothing
+with_dot-none : (s : Scale) (d : Dot) (cells : List DotCell) → has_dot s d.x d.y ≡ false → with_dot s d cells ≡ cells
+with_dot-none s d cells none = rw none refl
+
+dots-none : (s : Scale) (f : ℕ → Dot) (k n : ℕ) (cells : List DotCell)
+    → ((j : ℕ) → k ≤ j → j < k + n → has_dot s (f j).x (f j).y ≡ false) → with_dots s (dots_from f k n) cells ≡ cells
+dots-none s f k zero cells none = refl
+dots-none s f k (suc n) cells none =
+    ap (with_dots s (dots_from f (k + 1) n)) (with_dot-none s (f k) cells (none k (omega arith) (omega arith)))
+    ∙ dots-none s f (k + 1) n cells (λ j ge lt. none j (omega arith) (omega arith))
+
+-- a place before the first one or behind the last one is none of the grid's
+outside : (s : Scale) (flat : Bool) (along across : ℕ) (color : Color) → (along < far) ⊎ (far + places_along flat s ≤ along)
+    → has_dot s (dot_by flat along across color).x (dot_by flat along across color).y ≡ false
+outside s true along across color out = ⊎_elim (λ (h : along < far). grind arith)
+    (λ (h : far + places_along true s ≤ along). grind arith) out
+outside s false along across color out = ⊎_elim (λ (h : along < far). grind arith)
+    (λ (h : far + places_along false s ≤ along). grind arith) out
+
+-- the steps before some and behind them change nothing
+middle-only : (s : Scale) (f : ℕ → Dot) (a b c : ℕ) (cells : List DotCell)
+    → ((j : ℕ) → 0 ≤ j → j < 0 + a → has_dot s (f j).x (f j).y ≡ false)
+    → ((j : ℕ) → a + b ≤ j → j < a + b + c → has_dot s (f j).x (f j).y ≡ false)
+    → with_dots s (dots_from f 0 (a + (b + c))) cells ≡ with_dots s (dots_from f a b) cells
+middle-only s f a b c cells before behind =
+    let zero-a : 0 + a ≡ a = omega arith in
+    ap (λ ds. with_dots s ds cells) (dots_from-append f 0 a (b + c)) ∙ with_dots-append s (dots_from f 0 a)
+    (dots_from f (0 + a) (b + c)) cells ∙ ap (with_dots s (dots_from f (0 + a) (b + c))) (dots-none s f 0 a cells before)
+    ∙ ap (λ m. with_dots s (dots_from f m (b + c)) cells) zero-a
+    ∙ ap (λ ds. with_dots s ds cells) (dots_from-append f a b c)
+    ∙ with_dots-append s (dots_from f a b) (dots_from f (a + b) c) cells
+    ∙ dots-none s f (a + b) c (with_dots s (dots_from f a b) cells) behind
+
+-- the steps before the grid and behind it change nothing
+pub run-shown : (s : Scale) (r : Run) (color : Color) (first end : ℕ) (cells : List DotCell) → first ≡ far - r.along
+    → end ≡ min (far + places_along r.is_flat s - r.along) (r.long + 1)
+    → with_dots s (dots_from (run_dot r color) first (end - first)) cells ≡ with_dots s (run_dots r color) cells
+run-shown s r color first end cells is_first is_end = ⊎_elim (λ (lt : first < end). some lt) (λ (le : end ≤ first). none le)
+    (cases_lt first end)
+  where
+    out : (j : ℕ) → (r.along + j < far) ⊎ (far + places_along r.is_flat s ≤ r.along + j)
+        → has_dot s (run_dot r color j).x (run_dot r color j).y ≡ false
+    out j = outside s r.is_flat (r.along + j) (across_at r (gone_after r.long r.short j)) color
+
+    some : first < end → with_dots s (dots_from (run_dot r color) first (end - first)) cells ≡ with_dots s
+        (run_dots r color) cells
+    some lt =
+        let total : first + ((end - first) + (r.long + 1 - end)) ≡ r.long + 1 = omega arith in
+        sym (middle-only s (run_dot r color) first (end - first) (r.long + 1 - end) cells (λ j ge less. out j (inl (omega arith)))
+        (λ j ge less. out j (inr (omega arith)))) ∙ ap (λ n. with_dots s (dots_from (run_dot r color) 0 n) cells) total
+
+    each : end ≤ first → (j : ℕ) → j < r.long + 1 → (r.along + j < far) ⊎ (far + places_along r.is_flat s ≤ r.along + j)
+    each le j less = ⊎_elim (λ (h : j < first). inl (omega arith)) (λ (h : first ≤ j). inr (omega arith)) (cases_lt j first)
+
+    none : end ≤ first → with_dots s (dots_from (run_dot r color) first (end - first)) cells ≡ with_dots s
+        (run_dots r color) cells
+    none le =
+        let nothing : end - first ≡ 0 = omega arith in
+        ap (λ n. with_dots s (dots_from (run_dot r color) first n) cells) nothing
+        ∙ sym (dots-none s (run_dot r color) 0 (r.long + 1) cells (λ j ge less. out j (each le j (omega arith))))
+
+-- a step's dot is set, and those of the others are left
+pub next-dots : (s : Scale) (f : ℕ → Dot) (d : Dot) (k n m : ℕ) (old new : Painter) (all : List DotCell) → n ≡ suc m → d ≡ f k
+    → old.scale ≡ s → SetsDots (d ∷ []) old new → with_dots s (dots_from f k n) old.cells.items ≡ all
+    → with_dots s (dots_from f (k + 1) m) new.cells.items ≡ all
+next-dots s f d k n m old new all e at same paints was =
+    ap (with_dots s (dots_from f (k + 1) m)) (paints.cells ∙ ap (λ q. with_dot q d old.cells.items) same
+    ∙ ap (λ q. with_dot s q old.cells.items) at) ∙ sym (ap (λ ds. with_dots s ds old.cells.items) (dots_from-more f k n m e))
+    ∙ was
+
+-- a line between two points
+pub line-painted : (s : Scale) (x y x' y' : ℤ) (color : Color) (column row column' row' : ℕ) (r : Run) (old new : Painter)
+    → is_open s ≡ true → column ≡ dot_column s x → row ≡ dot_row s y → column' ≡ dot_column s x' → row' ≡ dot_row s y'
+    → r ≡ run_of column row column' row' → SetsDots (run_dots r color) old new → SetsDots (dots_between x y x' y' color s) old new
+line-painted s x y x' y' color column row column' row' r old new is a b a' b' e paints = rw (is, ← a, ← b, ← a', ← b', ← e) paints

@@ -1,0 +1,5 @@
+pub mod Grids
+pub mod Lines
+pub mod Circles
+pub mod Shapes
+pub mod Layers
