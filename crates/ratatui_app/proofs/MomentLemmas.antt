@@ -8,7 +8,7 @@ use Rattle.ratatui_input.specs.declared.decoder.Decoder.{Decoder}
 use Rattle.ratatui_events.specs.declared.event.Event.{Event}
 use Rattle.ratatui_reads.specs.Reads.{Between}
 use Rattle.ratatui_reads.proofs.MomentLemmas.{ran-start, ran-step, ran-kept}
-use Rattle.ratatui_app.specs.Showing.{ShowsState, Moves, TakesSize, StepsTo, RunsTo}
+use Rattle.ratatui_app.specs.Showing.{ShowsState, Moves, TakesOrKeepsSize, StepsTo, RunsTo}
 use Rattle.ratatui_app.specs.Glass.{IsOnGlass, ShowsOnGlass, RunsAlongGlass}
 
 module _ {W S : Type 0} (paints : S → Rect → BufferData → BufferData → Type 0) (u : S → Event → S) (o : S → Bool) where
@@ -23,7 +23,7 @@ module _ {W S : Type 0} (paints : S → Rect → BufferData → BufferData → T
   glass-start t0 d s all t fresh draws same shows glass =
       subst (λ (x : Decoder). RunsAlongGlass paints u o t0 (record { decoder = fresh_decoder; state = s }) all
       (record { decoder = x; state = s }) all t) (sym fresh)
-      (ran-start u o (ShowsOnGlass paints) (Moves shown_by failed) (TakesSize shown_by failed) t0
+      (ran-start u o (ShowsOnGlass paints) (Moves shown_by failed) (TakesOrKeepsSize shown_by failed) t0
       (record { decoder = fresh_decoder; state = s }) all t
       (record { drawn = inr (record { before = t0; taken = inl refl-here; then = draws }); faults = same })
       (record { state = shows; glass = glass }))
@@ -40,7 +40,7 @@ module _ {W S : Type 0} (paints : S → Rect → BufferData → BufferData → T
       → RunsAlongGlass paints u o t0 first all next left t'
   glass-step t0 first all now rest t next left t' came ran step glass =
       ran-step u o (ShowsOnGlass paints) (Moves shown_by failed)
-      (TakesSize shown_by failed) t0 first all now rest t next left t' came ran (record {
+      (TakesOrKeepsSize shown_by failed) t0 first all now rest t next left t' came ran (record {
         bytes = step.bytes;
         some = step.some;
         none = step.none;
@@ -58,5 +58,5 @@ module _ {W S : Type 0} (paints : S → Rect → BufferData → BufferData → T
       (rest : Option (List ℕ)) (t : TerminalData (BackendState W))
       → RunsTo shown_by failed is_flushed paints u o t0 first all now rest t → failed t0.backend ≡ 0 → failed t.backend ≡ 0
   run-unfailed t0 first all now rest t ran none =
-      ran-kept u o (ShowsState shown_by is_flushed paints) (Moves shown_by failed) (TakesSize shown_by failed)
+      ran-kept u o (ShowsState shown_by is_flushed paints) (Moves shown_by failed) (TakesOrKeepsSize shown_by failed)
       (λ s. failed s.backend) (λ s x moves. moves.faults) t0 first all now rest t ran ∙ none

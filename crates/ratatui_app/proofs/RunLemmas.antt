@@ -15,7 +15,7 @@ use Rattle.ratatui_reads.specs.Reads.{Between, told_by, all_updated, size_told, 
 use Rattle.ratatui_reads.proofs.ReadLemmas.{nonempty}
 use Rattle.ratatui_reads.proofs.MomentLemmas.{ran-start, ran-step, ran-shows}
 use Rattle.ratatui_app.specs.Showing
-use Rattle.ratatui_app.specs.Showing.{ShowsState, Moves, StepsTo, RunsTo, MayDraw, HasNewSize, TakesSize, FeedsTo, LacksFrame}
+use Rattle.ratatui_app.specs.Showing.{ShowsState, Moves, StepsTo, RunsTo, MayDraw, HasNewSize, TakesOrKeepsSize, FeedsTo, LacksFrame}
 use Rattle.ratatui_app.specs.Showing.{RefusesState, Stops, StopsFeeding}
 use Rattle.ratatui_app.specs.declared.running.Fault.{Fault}
 use Rattle.ratatui_app.specs.declared.running.Fault.TheVariants.{Read, Memory, Draw, Resize}
@@ -39,13 +39,13 @@ module _ {B S : Type 0} (screen : B → Screen) (failures : B → ℕ) (is_flush
   runs-start t0 d s all t e draws same sh =
       subst (λ (x : Decoder). RunsTo screen failures is_flushed paints u o t0 (record { decoder = fresh_decoder; state = s }) all
       (record { decoder = x; state = s }) all t) (sym e)
-      (ran-start u o (ShowsState screen is_flushed paints) (Moves screen failures) (TakesSize screen failures) t0
+      (ran-start u o (ShowsState screen is_flushed paints) (Moves screen failures) (TakesOrKeepsSize screen failures) t0
       (record { decoder = fresh_decoder; state = s }) all t
       (record { drawn = inr (record { before = t0; taken = inl refl; then = draws }); faults = same }) sh)
 
   -- the size that a screen keeps
   kept-size : (size : Option (ℕ × ℕ)) (s t t' : TerminalData B) → size_of (screen t'.backend) ≡ size_of (screen t.backend)
-      → IfSome size (λ z. TakesSize screen failures z s t) → IfSome size (λ z. TakesSize screen failures z s t')
+      → IfSome size (λ z. TakesOrKeepsSize screen failures z s t) → IfSome size (λ z. TakesOrKeepsSize screen failures z s t')
   kept-size None s t t' e h = tt
   kept-size (Some z) s t t' e (inl has) = inl (e ∙ has)
   kept-size (Some z) s t t' e (inr kept) = inr (e ∙ kept)
@@ -68,7 +68,7 @@ module _ {B S : Type 0} (screen : B → Screen) (failures : B → ℕ) (is_flush
       drawn = inr (record { before = sized; taken = asked.taken; then = draws });
       faults = same_count ∙ asked.faults;
     };
-    sized = subst (λ (z : Option (ℕ × ℕ)). IfSome z (λ x. TakesSize screen failures x t t')) ez
+    sized = subst (λ (z : Option (ℕ × ℕ)). IfSome z (λ x. TakesOrKeepsSize screen failures x t t')) ez
         (kept-size size t sized t' (same asked.may) asked.has);
     shown = shows asked.may;
   }
@@ -125,15 +125,15 @@ module _ {B S : Type 0} (screen : B → Screen) (failures : B → ℕ) (is_flush
       → RunsTo screen failures is_flushed paints u o t0 first all next left t'
   runs-step t0 first all now rest t next left t' came ran step =
       ran-step u o (ShowsState screen is_flushed paints) (Moves screen failures)
-      (TakesSize screen failures) t0 first all now rest t next left t' came ran
+      (TakesOrKeepsSize screen failures) t0 first all now rest t next left t' came ran
       (step (ran-shows u o (ShowsState screen is_flushed paints) (Moves screen failures)
-      (TakesSize screen failures) t0 first all now rest t ran))
+      (TakesOrKeepsSize screen failures) t0 first all now rest t ran))
 
   pub runs-shows : (t0 : TerminalData B) (first : Between S) (all : Option (List ℕ)) (now : Between S) (rest : Option (List ℕ))
       (t : TerminalData B)
       → RunsTo screen failures is_flushed paints u o t0 first all now rest t → ShowsState screen is_flushed paints now.state t
   runs-shows t0 first all now rest t ran = ran-shows u o (ShowsState screen is_flushed paints) (Moves screen failures)
-      (TakesSize screen failures) t0 first all now rest t ran
+      (TakesOrKeepsSize screen failures) t0 first all now rest t ran
 
 pub keeps-known : (known : Option (List ℕ)) → Keeps known known
 keeps-known None = tt

@@ -9,7 +9,7 @@ use Rattle.ratatui_events.specs.declared.event.Event.{Event}
 use Rattle.ratatui_input.specs.declared.decoder.Decoder.{Decoder}
 use Rattle.ratatui_reads.specs.Reads.{Between}
 use Rattle.ratatui_reads.specs.Moments.{Ran}
-use Rattle.ratatui_app.specs.Showing.{RunsTo, ShowsState, Moves, TakesSize}
+use Rattle.ratatui_app.specs.Showing.{RunsTo, ShowsState, Moves, TakesOrKeepsSize}
 
 -- a run on a terminal that is sent bytes
 abbrev pub RunsOnGlass : {W S : Type 0} → (S → Rect → BufferData → BufferData → Type 0) → (S → Event → S)
@@ -37,7 +37,7 @@ abbrev pub RunsAlongGlass : {W S : Type 0} → (S → Rect → BufferData → Bu
     → TerminalData (BackendState W) → Type 0
 RunsAlongGlass {W = W} paints updated is_over =
     Ran updated is_over (ShowsOnGlass paints) (Moves shown_by (λ (b : BackendState W). b.failures))
-    (TakesSize shown_by (λ (b : BackendState W). b.failures))
+    (TakesOrKeepsSize shown_by (λ (b : BackendState W). b.failures))
 
 -- a terminal was asked for its size, and begun on the backend's screen
 pub record Begins {W : Type 0} (backend : BackendState W) (t : TerminalData (BackendState W)) : Type 0 where

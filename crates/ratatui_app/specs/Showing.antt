@@ -36,8 +36,8 @@ module _ {B : Type 0} (screen : B → Screen) (failures : B → ℕ) where
   MayDraw t = IsAtRest screen Fullscreen t ⊎ HasNewSize t
 
   -- a size was told: the screen has it now, or kept its own, as it does if the backend refused the new one
-  abbrev pub TakesSize : ℕ × ℕ → TerminalData B → TerminalData B → Type 0
-  TakesSize size s t = (size_of (screen t.backend) ≡ record { width = size.0; height = size.1 })
+  abbrev pub TakesOrKeepsSize : ℕ × ℕ → TerminalData B → TerminalData B → Type 0
+  TakesOrKeepsSize size s t = (size_of (screen t.backend) ≡ record { width = size.0; height = size.1 })
       ⊎ (size_of (screen t.backend) ≡ size_of (screen s.backend))
 
   -- the screen took a size that was told, if one was and it was another one, or the backend refused it; a
@@ -45,7 +45,7 @@ module _ {B : Type 0} (screen : B → Screen) (failures : B → ℕ) where
   pub record TakesTold (size : Option (ℕ × ℕ)) (s t : TerminalData B) : Type 0 where
     pub may : MayDraw t
     pub taken : MayTakeSize screen s t
-    pub has : IfSome size (λ z. TakesSize z s t)
+    pub has : IfSome size (λ z. TakesOrKeepsSize z s t)
     pub faults : failures t.backend ≡ failures s.backend
 
   -- the terminal stayed, or a frame was drawn on it, at the size that it had or at another one; no call
@@ -62,17 +62,17 @@ module _ {B S : Type 0} (screen : B → Screen) (failures : B → ℕ) (is_flush
       → TerminalData B
       → Type 0
   RunsTo = Ran updated is_over (ShowsState screen is_flushed paints) (Moves screen failures)
-      (TakesSize screen failures)
+      (TakesOrKeepsSize screen failures)
 
   abbrev pub FeedsTo : Between S → TerminalData B → List ℕ → Between S → TerminalData B → Type 0
   FeedsTo = Feeds updated is_over (ShowsState screen is_flushed paints) (Moves screen failures)
-      (TakesSize screen failures)
+      (TakesOrKeepsSize screen failures)
 
   abbrev pub StepsTo : Between S → Option (List ℕ) → TerminalData B → Between S → Option (List ℕ)
       → TerminalData B
       → Bool → Type 0
   StepsTo = Steps updated is_over (ShowsState screen is_flushed paints) (Moves screen failures)
-      (TakesSize screen failures)
+      (TakesOrKeepsSize screen failures)
 
 -- a draw of a state was refused: nothing was written after the resize, or the backend failed
 abbrev pub RefusesState : {B S E : Type 0} → (B → Screen) → (S → Rect → BufferData → BufferData → Type 0) → S

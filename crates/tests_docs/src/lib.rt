@@ -3,6 +3,7 @@
 #![tactic(auto)]
 
 mod buffers;
+mod canvases;
 mod geometry;
 mod input;
 mod styles;
