@@ -1,5 +1,5 @@
 -- Runs of which each moment is on the glass.
-use Rattle.std.proofs.Common.{◌≡◌, ℕ, Bool, List, Option, inl, inr, sym, subst, ◌∙◌}
+use Rattle.std.proofs.Common.{◌≡◌, ℕ, Bool, List, Option, Result, Ok, Err, IfOk, inl, inr, sym, subst, ◌∙◌}
 use Rattle.ratatui_core.specs.{Layout.Rect, Buffer.BufferData}
 use Rattle.ratatui_core.specs.Terminal.{TerminalData, DrawsFrame}
 use Rattle.ratatui_ansi.specs.Backend.{BackendState, shown_by, is_flushed}
@@ -9,7 +9,7 @@ use Rattle.ratatui_events.specs.declared.event.Event.{Event}
 use Rattle.ratatui_reads.specs.Reads.{Between}
 use Rattle.ratatui_reads.proofs.MomentLemmas.{ran-start, ran-step, ran-kept}
 use Rattle.ratatui_app.specs.Showing.{ShowsState, Moves, TakesOrKeepsSize, StepsTo, RunsTo}
-use Rattle.ratatui_app.specs.Glass.{IsOnGlass, ShowsOnGlass, RunsAlongGlass}
+use Rattle.ratatui_app.specs.Glass.{IsOnGlass, ShowsOnGlass, RunsAlongGlass, Begins, IsGivenBack, RunsWhole}
 
 module _ {W S : Type 0} (paints : S → Rect → BufferData → BufferData → Type 0) (u : S → Event → S) (o : S → Bool) where
   abbrev failed : BackendState W → ℕ
@@ -60,3 +60,28 @@ module _ {W S : Type 0} (paints : S → Rect → BufferData → BufferData → T
   run-unfailed t0 first all now rest t ran none =
       ran-kept u o (ShowsState shown_by is_flushed paints) (Moves shown_by failed) (TakesOrKeepsSize shown_by failed)
       (λ s. failed s.backend) (λ s x moves. moves.faults) t0 first all now rest t ran ∙ none
+
+  -- neither in one that is shown so at each moment
+  glass-unfailed : (t0 : TerminalData (BackendState W)) (first : Between S) (all : Option (List ℕ)) (now : Between S)
+      (rest : Option (List ℕ)) (t : TerminalData (BackendState W))
+      → RunsAlongGlass paints u o t0 first all now rest t → failed t0.backend ≡ 0 → failed t.backend ≡ 0
+  glass-unfailed t0 first all now rest t ran none =
+      ran-kept u o (ShowsOnGlass paints) (Moves shown_by failed) (TakesOrKeepsSize shown_by failed)
+      (λ s. failed s.backend) (λ s x moves. moves.faults) t0 first all now rest t ran ∙ none
+
+  -- a run from beginning to end, by what giving back the terminal answers
+  pub runs-whole : {E : Type 0} (contents : W → Option (List ℕ)) (backend : BackendState W) (first : Between S)
+      (all : Option (List ℕ)) (state : S) (rest : Option (List ℕ)) (begun : TerminalData (BackendState W))
+      → Begins backend begun → (ended : TerminalData (BackendState W)) (d : Decoder)
+      → RunsAlongGlass paints u o begun first all (record { decoder = d; state = state }) rest ended
+      → (result : Result W E) → (failed ended.backend ≡ 0 → IfOk result (λ w. IsGivenBack ended.backend (contents w)))
+      → failed backend ≡ 0 → IfOk result (λ w. RunsWhole paints u o backend first all state rest (contents w))
+  runs-whole contents backend first all state rest begun begins ended d ran (Ok w) given none = record {
+    begun = begun;
+    begins = begins;
+    ended = ended;
+    decoder = d;
+    ran = ran;
+    given_back = given (glass-unfailed begun first all _ rest ended ran (begins.faults ∙ none));
+  }
+  runs-whole contents backend first all state rest begun begins ended d ran (Err e) given none = tt

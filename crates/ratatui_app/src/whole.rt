@@ -1,10 +1,9 @@
 //! Runs from beginning to end.
 
-ghost use Rattle.std.specs.Prelude.{◌≡◌, false, OnOk, IfOk};
+ghost use Rattle.std.specs.Prelude.{◌≡◌, OnOk, IfOk};
 ghost use Rattle.ratatui_core.specs.Terminal.{IsBlank};
 ghost use Rattle.ratatui_ansi.specs.Backend.{shown_by};
 ghost use Rattle.ratatui_input.specs.Encodings.{fresh_decoder};
-ghost use Rattle.ratatui_reads.specs.Moments.{HasEnded};
 ghost use Rattle.ratatui_app.specs.Showing.{IsEnd};
 ghost use Rattle.ratatui_app.specs.Glass.{Begins, IsGivenBack, RunsWhole};
 
@@ -70,10 +69,6 @@ pub fn run_and_leave<R: Read, W: Write + Drop, A: Application>(
         → IfOk result (λ writer. RunsWhole A.paints A.updated A.is_over backend
         (record { decoder = fresh_decoder; state = application.old }) (R.remaining reader.old)
         application.new (R.remaining reader.new) (W.contents writer)) }
-    ensures typed { IsBlank (shown_by backend) → has_ticks ≡ false
-        → OnOk result (HasEnded A.updated A.is_over
-        (record { decoder = fresh_decoder; state = application.old }) (R.remaining reader.old)
-        application.new (R.remaining reader.new)) }
     ensures ended { OnOk result
         (IsEnd A.is_over has_ticks application.new (R.remaining reader.new)) }
 {
