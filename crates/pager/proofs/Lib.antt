@@ -2,4 +2,3 @@ pub mod PaintLemmas
 pub mod SearchLemmas
 pub mod PlaceLemmas
 pub mod RowLemmas
-pub mod PageLemmas

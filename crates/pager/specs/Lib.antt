@@ -4,3 +4,4 @@ pub mod Symbols
 pub mod Places
 pub mod Moves
 pub mod Pages
+pub mod PageLemmas

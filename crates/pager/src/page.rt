@@ -211,7 +211,7 @@ impl<'a> Pager<'a> {
 
 impl<'a> Application for Pager<'a> {
     ghost use Rattle.pager.specs.Pages.{PaintsPager};
-    ghost use Rattle.pager.proofs.PageLemmas.{pages-settled};
+    ghost use Rattle.pager.specs.PageLemmas.{pages-settled};
 
     ghost paints = { PaintsPager };
 
