@@ -1,4 +1,5 @@
 //! Examples of cells and buffers.
+use crate::symbol_at;
 use ratatui_core::buffer::{Buffer, Cell};
 use ratatui_core::layout::Rect;
 use ratatui_core::style::{Color, Style, Stylize};
@@ -75,6 +76,6 @@ fn a_line_is_rendered(rt: HostRuntime) -> Result<(), AllocError> {
     let alloc = rt.alloc();
     let mut buffer = Buffer::empty(alloc, Rect::new(0, 0, 15, 1))?;
     greet(alloc, &mut buffer)?;
-    assert!(rt; buffer[(1, 0)].symbol() == "H");
+    assert!(rt; symbol_at(&buffer, 1, 0) == "H");
     Ok(())
 }

