@@ -22,7 +22,7 @@ sys.path.insert(0, f"{os.path.dirname(HERE)}/tools")
 sys.dont_write_bytecode = True
 from shared import refuse
 
-# All workloads that README.md names. The twin has no widgets.
+# All workloads that README.md names. The twin has the widgets of tui 0.19, and no keys and areas.
 WORKLOADS = (
     "app_text app_boxes app_colors app_wide app_few app_scroll "
     "draw_all draw_dots draw_none draw_wide inline_all inline_few insert_kept insert_1 insert_10 insert_1000 "

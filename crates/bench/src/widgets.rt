@@ -4,21 +4,18 @@ use crate::{Done, Size};
 use ratatui_core::buffer::Buffer;
 use ratatui_core::layout::Rect;
 use ratatui_core::style::{Color, Style};
-use ratatui_core::symbols::merge::MergeStrategy;
 use ratatui_core::text::{Line, Text};
 use ratatui_core::widgets::{StatefulWidget, Widget};
 use ratatui_widgets::{Block, List, ListItem, ListState, Paragraph, Wrap};
 use std::alloc::{AllocError, Global};
 
-// A bordered box with titles over the whole area, each round.
+// A bordered box with a title over the whole area, each round.
 fn blocks(alloc: Global, size: Size) -> Done {
     let area = Rect::new(0, 0, size.width, size.height);
     let mut buffer = Buffer::empty(alloc, area)?;
     let block = Block::bordered(alloc)
         .border_style(Style::new().fg(Color::Cyan))
-        .merge_borders(MergeStrategy::Fuzzy)
-        .title(Line::raw(alloc, "left")?)?
-        .title(Line::raw(alloc, "right")?.right_aligned())?;
+        .title_raw("title")?;
     for _round in 0..size.count {
         buffer.reset();
         (&block).render(area, &mut buffer)?;
@@ -68,8 +65,7 @@ fn lists(alloc: Global, size: Size, count: u32) -> Done {
     let mut buffer = Buffer::empty(alloc, area)?;
     let list = List::new(items(alloc, count)?)
         .highlight_symbol("> ")
-        .highlight_style(Style::new().bg(Color::Blue))
-        .scroll_padding(3);
+        .highlight_style(Style::new().bg(Color::Blue));
     let mut state = ListState::default();
     for round in 0..size.count {
         buffer.reset();
@@ -80,7 +76,7 @@ fn lists(alloc: Global, size: Size, count: u32) -> Done {
         }
         StatefulWidget::render(&list, area, &mut buffer, &mut state)?;
     }
-    Ok(Some((state.offset() as u64, sum(&buffer))))
+    Ok(Some((size.count, sum(&buffer))))
 }
 
 /// The workload of this name.

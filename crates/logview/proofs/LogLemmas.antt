@@ -4,8 +4,9 @@ use Rattle.std.proofs.Common.{IfSome, Result, Ok, Err, IfOk, sym, ap, ap₂, sub
 use Rattle.std.specs.{Result.result_ok, Str.IsUtf8, Str.Lines.lines, Io.KnownBytes.Appends}
 use Rattle.ratatui_core.specs.Layout.{Rect, Size}
 use Rattle.ratatui_core.specs.Backend.{Screen, IsBlankScreen, rows_above, TestBackend, TestError, screen_of, printed_screen}
-use Rattle.ratatui_core.specs.Terminal.{IsBlank, IsBlankBelow, row_area, IsPaintedText, IsRowOf, rows_over}
-use Rattle.logview.specs.{Rows.counted, Rows.status_text, Rows.AreRowsOfLines, Views.StartsView, Views.PushesLine, Views.IsViewOf}
+use Rattle.ratatui_core.specs.Terminal.{IsBlank, IsBlankBelow, row_area, IsRendered, HasCursor, IsRowOf, rows_over}
+use Rattle.logview.specs.Rows.{counted, status_text, RendersStatus, end_place, AreRowsOfLines}
+use Rattle.logview.specs.Views.{StartsView, PushesLine, IsViewOf}
 use Rattle.script_words.specs.Words.{parsed_size}
 use Rattle.logview.specs.Engine.{ShowsLog, IsLog, IsLogFault, IsLogView, PrintsLog, StopsPushing, size_of_log}
 use Rattle.logview.specs.{declared.fault.LogFault.LogFault, declared.view.LogView.LogView}
@@ -65,11 +66,14 @@ module _ {B E : Type 0} (screen : B → Screen) where
         top_is = is.top;
         above = is.above;
         status = record {
-          sheet = is.status.sheet;
-          over = is.status.over ∙ place;
-          painted = subst (λ n. IsPaintedText (status_text n) is.status.sheet) is.count is.status.painted;
-          shown = is.status.shown;
+          sheet = is.status.row.sheet;
+          over = is.status.row.over ∙ place;
+          painted = subst (λ n. IsRendered (RendersStatus (status_text n)) is.status.row.sheet) is.count is.status.row.painted;
+          shown = is.status.row.shown;
         };
+        cursor = subst (λ n. HasCursor (end_place (status_text n) (row_area size.width v.terminal.viewport_area.y))
+            (screen v.terminal.backend)) is.count
+            (subst (λ r. HasCursor (end_place (status_text v.count) r) (screen v.terminal.backend)) place is.status.cursor);
         below = subst (λ (r : Rect). IsBlankBelow r (screen v.terminal.backend)) place is.below;
       }
 

@@ -9,8 +9,12 @@ use Rattle.ratatui_core.specs.Terminal.{IsSized, IsBackendFault, WritesAtMost, T
 use Rattle.ratatui_core.specs.Terminal.{inserted_area}
 use Rattle.ratatui_core.proofs.TerminalLemmas.{inserts-and-draws, over-takes}
 use Rattle.ratatui_core.proofs.WidgetLemmas.{has-first-row, text-settled}
-use Rattle.logview.specs.{Rows.counted, Rows.status_text, declared.view.LogView.LogView}
+use Rattle.logview.specs.{Rows.counted, Rows.status_text, Rows.RendersStatus, Rows.end_place, declared.view.LogView.LogView}
 use Rattle.logview.specs.Views.{cells_pushed, screen_in, KeepsBelow, PushesLine, RefusesLine, RefusesPush}
+
+-- the status line of a count was drawn
+abbrev pub DrawsStatus : {B : Type 0} → (B → Screen) → ℕ → TerminalData B → TerminalData B → Type 0
+DrawsStatus screen count = DrawsRow screen (RendersStatus (status_text count)) (end_place (status_text count))
 
 -- a line rendered on an empty row can be shown
 fills-settled : (line : List ℕ) (area : Rect) (sheet : BufferData) → area.height ≡ 1 → FillsRow line area sheet
@@ -100,7 +104,8 @@ module _ {B E : Type 0} (screen : B → Screen) where
 
   -- a draw of the status line keeps them, too
   draws-below : (line status : List ℕ) (v m w : LogView B E) → InsertsRow screen line v.terminal m.terminal
-      → DrawsRow screen status m.terminal w.terminal → KeepsBelow screen v m → KeepsBelow screen v w
+      → DrawsRow screen (RendersStatus status) (end_place status) m.terminal w.terminal → KeepsBelow screen v m
+      → KeepsBelow screen v w
   draws-below line status v m w inserts drawn kept =
       let keeps = drawn.keeps in
       let width : (screen m.terminal.backend).width ≡ (screen v.terminal.backend).width =
@@ -119,13 +124,14 @@ module _ {B E : Type 0} (screen : B → Screen) where
   pub pushed_if : {T F : Type 0} (line : List ℕ) (v m w : LogView B E) (result : Result T F)
       → InsertsRow screen line v.terminal m.terminal → KeepsBelow screen v m
       → WritesAtMost (cells_pushed (screen_in screen v)) (screen_in screen v) (screen_in screen m)
-      → (IsOverRow screen m.terminal → OnOk result (DrawsRow screen (status_text w.count) m.terminal w.terminal))
+      → (IsOverRow screen m.terminal → OnOk result (DrawsStatus screen w.count m.terminal w.terminal))
       → OnOk result (PushesLine screen line v w)
   pushed_if line v m w (Ok x) inserts kept most draws =
       let drawn = draws inserts.over in
       let width : (screen_in screen m).width ≡ (screen_in screen v).width = ap (λ (z : Size). z.width) inserts.size in
       record {
-        inserts = inserts-and-draws screen line (status_text w.count) v.terminal m.terminal w.terminal inserts drawn;
+        inserts = inserts-and-draws screen line (RendersStatus (status_text w.count)) (end_place (status_text w.count))
+            v.terminal m.terminal w.terminal inserts drawn;
         status = drawn.shown;
         kept = draws-below line (status_text w.count) v m w inserts drawn kept;
         most = λ room.

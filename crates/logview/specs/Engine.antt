@@ -5,21 +5,23 @@ use Rattle.std.specs.{Fmt.decimal, Str.IsUtf8, Str.Lines.lines, Io.KnownBytes.Ap
 use Rattle.ratatui_core.specs.Layout.{Size}
 use Rattle.ratatui_core.specs.Backend.{Screen, TestBackend, TestError, screen_of, size_of, rows_above}
 use Rattle.ratatui_core.specs.Backend.{printed_screen}
-use Rattle.ratatui_core.specs.Terminal.{row_area, ShowsText, IsBlankBelow, TerminalError}
-use Rattle.logview.specs.{Rows.counted, Rows.status_text, Rows.AreRowsOfLines, Views.IsViewOf}
+use Rattle.ratatui_core.specs.Terminal.{row_area, ShowsOver, HasCursor, IsBlankBelow, TerminalError}
+use Rattle.logview.specs.Rows.{counted, status_text, RendersStatus, end_place, AreRowsOfLines}
+use Rattle.logview.specs.Views.{IsViewOf}
 use Rattle.logview.specs.{Views.RefusesPush, declared.view.LogView.LogView}
 use Rattle.script_words.specs.Words.{parsed_size}
 use Rattle.logview.specs.declared.fault.LogFault.{LogFault}
 use Rattle.logview.specs.declared.fault.LogFault.TheVariants as fault
 
 -- the screen of a log from a blank one on: a row for each line, those that have no room scrolled off, after
--- them the status line, and blank rows below it
+-- them the status line with the cursor after it, and blank rows below
 pub record ShowsLog (size : Size) (log : List (List ℕ)) (s : Screen) : Type 0 where
   pub size_is : size_of s ≡ size
   pub top : ℕ
   pub top_is : top ≡ min (length log) (size.height - 1)
   pub above : AreRowsOfLines size.width log (rows_above s top)
-  pub status : ShowsText (status_text (counted (length log))) (row_area size.width top) s.grid
+  pub status : ShowsOver (RendersStatus (status_text (counted (length log)))) (row_area size.width top) s.grid
+  pub cursor : HasCursor (end_place (status_text (counted (length log))) (row_area size.width top)) s
   pub below : IsBlankBelow (row_area size.width top) s
 
 -- the size that the first line says, if it does

@@ -5,7 +5,8 @@ use Rattle.ratatui_core.specs.Terminal.{IsBlankBelow, IsOverRow, FillsRow, Shows
 use Rattle.ratatui_core.specs.Terminal.{StartsOverRow, TerminalData, StopsInserting, WritesAtMost}
 use Rattle.ratatui_core.specs.Terminal.{inserted_area, rows_over}
 use Rattle.ratatui_core.specs.Terminal.{TerminalError, Backend, Memory, Area, Closure}
-use Rattle.logview.specs.{Rows.counted, Rows.status_text, Rows.AreRowsOfLines, declared.view.LogView.LogView}
+use Rattle.logview.specs.Rows.{counted, status_text, RendersStatus, end_place, AreRowsOfLines}
+use Rattle.logview.specs.declared.view.LogView.{LogView}
 
 -- how many cells the row of a line takes at most: its own, and on a screen of one row that row again
 abbrev pub cells_pushed : Screen → ℕ
@@ -20,9 +21,10 @@ module _ {B E : Type 0} (screen : B → Screen) where
   abbrev pub IsFollowing : LogView B E → Type 0
   IsFollowing v = IsOverRow screen v.terminal
 
-  -- that row shows the status line of the view's count
+  -- that row shows the status line of the view's count, and the cursor stands after it
   abbrev pub ShowsStatus : LogView B E → Type 0
-  ShowsStatus v = ShowsRow screen (status_text v.count) v.terminal
+  ShowsStatus v = let text = status_text v.count in
+      ShowsRow screen (RendersStatus text) (end_place text) v.terminal
 
   -- a start on a blank screen: the status line stands in the cursor's row
   pub record StartsView (b : B) (v : LogView B E) : Type 0 where

@@ -3,20 +3,20 @@
 ghost use Rattle.std.specs.Prelude.{◌≡◌, ◌+◌, ◌<◌, IfOk, IfErr, IsOk, OnOk};
 ghost use Rattle.ratatui_core.specs.Terminal.{DrawsRow, Faults, HasAreas, Inline, InsertsRow, IsBackendFault};
 ghost use Rattle.ratatui_core.specs.Terminal.{IsBlank, IsSized};
-ghost use Rattle.ratatui_core.specs.Terminal.{KeepsFrame, StartErr, WritesAtMost};
+ghost use Rattle.ratatui_core.specs.Terminal.{StartErr, WritesAtMost};
 ghost use Rattle.ratatui_core.specs.Widgets.{HasFirstRow, RendersStr, RendersShortStr};
-ghost use Rattle.logview.specs.Rows.{counted, status_text};
+ghost use Rattle.logview.specs.Rows.{counted, status_text, RendersStatus, RendersShortStatus};
+ghost use Rattle.logview.specs.Rows.{end_place};
 ghost use Rattle.logview.specs.Views.{IsFollowing, KeepsBelow, PushesLine, RefusesLine, RefusesPush};
 ghost use Rattle.logview.specs.Views.{StartsView};
 ghost use Rattle.logview.specs.Views.{cells_pushed, screen_in};
 
-use crate::status::status_text;
+use crate::status::{status_style, status_text};
 use ratatui_core::backend::Backend;
 use ratatui_core::buffer::Buffer;
-use ratatui_core::layout::Rect;
+use ratatui_core::layout::{Position, Rect};
 use ratatui_core::terminal::{Frame, Terminal, TerminalError, TerminalOptions, Viewport};
 use ratatui_core::widgets::Widget;
-use ratatui_core::widgets::laws::ascii_texts_take_no_memory;
 use std::alloc::{AllocError, Global};
 
 // Renders a text in the first row of an area, if the buffer has that row.
@@ -33,21 +33,44 @@ fn render_row(text: &str, area: Rect, buffer: &mut Buffer) -> Result<(), AllocEr
     text.render(area, buffer)
 }
 
-// Renders a text in the first row of a frame.
+// Renders a status line in the first row of an area, if the buffer has that row.
+fn render_status(text: &str, area: Rect, buffer: &mut Buffer) -> Result<(), AllocError>
+    ensures area { buffer.new.area ≡ buffer.old.area }
+    ensures ok { HasFirstRow area buffer.old
+        → OnOk result (RendersStatus text.now area buffer.old buffer.new) }
+    ensures short { RendersShortStatus text.now area buffer.old → IsOk result }
+{
+    let own = *buffer.area();
+    if area.x < own.x || area.y < own.y || own.bottom() <= area.y {
+        return Ok(());
+    }
+    let columns = usize::from(area.width);
+    buffer.set_stringn(area.x, area.y, text, columns, status_style())?;
+    Ok(())
+}
+
+// Renders a status line of ASCII in the first row of a frame, and has the cursor after it.
 fn render_frame(text: &str, frame: &mut Frame<'_>) -> Result<(), AllocError>
-    ensures keeps { KeepsFrame frame.old frame.new }
+    ensures same { frame.new.buffer.ghost_name ≡ frame.old.buffer.ghost_name }
+    ensures area { frame.new.buffer.now.area ≡ frame.old.buffer.now.area }
     ensures ok { HasFirstRow frame.old.viewport_area frame.old.buffer.now
-        → OnOk result (RendersStr text.now frame.old.viewport_area
+        → OnOk result (RendersStatus text.now frame.old.viewport_area
         frame.old.buffer.now frame.new.buffer.now) }
-    ensures short { RendersShortStr text.now frame.old.viewport_area frame.old.buffer.now
+    ensures cursor { OnOk result
+        (frame.new.cursor_position ≡ end_place text.now frame.old.viewport_area) }
+    ensures short { RendersShortStatus text.now frame.old.viewport_area frame.old.buffer.now
         → IsOk result }
 {
     let area = frame.area();
-    render_row(text, area, frame.buffer_mut())
+    render_status(text, area, frame.buffer_mut())?;
+    let last = area.width.saturating_sub(1);
+    let columns = text.len().min(usize::from(last)) as u16;
+    frame.set_cursor_position(Position::new(area.x.saturating_add(columns), area.y));
+    Ok(())
 }
 
 /// A terminal over one row, the status line, below the lines that were pushed, of which it keeps
-/// the number.
+/// the number. The status line stands in reverse video, and the cursor after it.
 ///
 /// ```
 /// let mut view = LogView::new(alloc, TestBackend::new(alloc, 8, 3)?)?;
@@ -88,18 +111,18 @@ impl<B: Backend + Drop> LogView<B> {
 }
 
 impl<B: Backend> LogView<B> {
-    // Draws the status line.
+    // Draws the status line, and has the cursor after it.
     fn draw_status(&mut self) -> Result<(), TerminalError<B::Error>>
         ensures count { self.new.count ≡ self.old.count }
         ensures ok { IsFollowing B.screen self.old
-            → OnOk result (DrawsRow B.screen (status_text self.old.count)
+            → OnOk result (let text = status_text self.old.count in
+            DrawsRow B.screen (RendersStatus text) (end_place text)
             self.old.terminal self.new.terminal) }
         ensures err { HasAreas self.old.terminal → IsSized B.screen self.old.terminal
             → IfErr result IsBackendFault }
         ensures faults { Faults result (B.failures self.old.terminal.backend)
             (B.failures self.new.terminal.backend) }
     {
-        ascii_texts_take_no_memory();
         let text = status_text(self.count);
         self.terminal
             .draw(|frame| render_frame(text.as_str(), frame))?;

@@ -11,8 +11,10 @@ pub use Rattle.rtui_buffer.proofs.TextLemmas.{text_pieces-none, PaintsPieces-non
 pub use Rattle.rtui_buffer.proofs.BarLemmas.{ShowsPieces-bar}
 -- Cells that are the same have one look and one width, and an empty cell has the empty look and takes one column.
 pub use Rattle.rtui_cell.proofs.CellLemmas.{same_look, same_width, same-empty, look-empty, width-empty}
--- A text of short graphemes is painted in short pieces.
-pub use Rattle.rtui_buffer.proofs.ShortLemmas.{text-short}
+-- A text of short graphemes is painted in short pieces; those of ASCII are short.
+pub use Rattle.rtui_buffer.proofs.ShortLemmas.{text-short, ascii-short}
+-- What is painted within a row keeps a buffer settled, and a text ends there.
+pub use Rattle.rtui_buffer.proofs.{TextLemmas.IsSettled-row, ColumnLemmas.text-ends}
 -- A text of one byte takes one column; those of a text of one character above U+00A0 are the character's.
 pub use Rattle.rtui_cell.proofs.WidthLemmas.{one_byte, one_character}
 -- A change of each cell of an area, and what stays within one.

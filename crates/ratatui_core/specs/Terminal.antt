@@ -19,11 +19,11 @@ pub use Rattle.rtui_terminal.specs.Resizing.{Resizes, ResizeErr, Autoresizes, Au
 pub use Rattle.rtui_terminal.specs.Cursor.{Stays, MovesCursor}
 pub use Rattle.rtui_terminal.specs.Clearing.{FailsClearing, ClearsViewport}
 pub use Rattle.rtui_terminal.specs.Drawing.{CompletesFrame, DrawsFrame, DrawOk, DrawErr, TryDrawErr}
-pub use Rattle.rtui_terminal.specs.Rendered.{RendersCurrent, ShowsRendered}
+pub use Rattle.rtui_terminal.specs.Rendered.{RendersCurrent, IsRendered, ShowsRendered}
 pub use Rattle.rtui_viewport.specs.Lying.{FitsSize}
 pub use Rattle.rtui_terminal.specs.AtRest.{IsAtRest}
-pub use Rattle.rtui_terminal.specs.TextRow.{row_area, IsPaintedText, IsRowOf, ShowsText, FillsRow, IsOverRow}
-pub use Rattle.rtui_terminal.specs.TextRow.{ShowsRow, DrawsRow, InsertsRow, StartsOverRow}
+pub use Rattle.rtui_terminal.specs.TextRow.{row_area, IsPaintedText, IsRowOf, ShowsOver, FillsRow, IsOverRow}
+pub use Rattle.rtui_terminal.specs.TextRow.{ShowsRow, HasCursor, DrawsRow, InsertsRow, StartsOverRow}
 pub use Rattle.rtui_terminal.specs.Display.{terminal_error_text}
 pub use Rattle.rtui_insert.specs.Filling.{AcceptsRows, FillsRows, RefusesFilling}
 pub use Rattle.rtui_insert.specs.Rows.{WritesAtMost}

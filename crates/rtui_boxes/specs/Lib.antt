@@ -4,3 +4,4 @@ pub mod Boxes
 pub mod Clears
 pub mod Framed
 pub mod Kinds
+pub mod Names

@@ -12,6 +12,7 @@ mod borders;
 mod clear;
 mod frame;
 pub mod laws;
+mod names;
 mod padding;
 mod styled;
 mod title;

@@ -1,3 +1,4 @@
 pub mod Windows
 pub mod States
 pub mod Items
+pub mod Names

@@ -9,6 +9,7 @@ mod fresh;
 mod item;
 pub mod laws;
 mod list;
+mod names;
 mod state;
 mod styled;
 mod window;

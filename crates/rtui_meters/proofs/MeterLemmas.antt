@@ -19,7 +19,7 @@ use Rattle.rtui_meters.specs.declared.scrollbar.ScrollbarOrientation.TheVariants
 use Rattle.rtui_meters.specs.declared.scrollbar.ScrollbarOrientation.TheVariants.{HorizontalTop}
 use Rattle.rtui_meters.specs.Scrollbars.{bar_area, bar_length, track_length, mark_of, marks_of, marked_cell, MarksBar}
 use Rattle.rtui_meters.specs.Scrollbars.{RendersScrollbar, IsLightMark, IsShortIf, HasShortMarks}
-use Rattle.rtui_meters.specs.{Shares.filled_part, Shares.percent_text, Gauges.label_part}
+use Rattle.rtui_meters.specs.{Shares.filled_part, Shares.even_percent_text, Gauges.label_part}
 use Rattle.rtui_meters.specs.LineGauges.{pieces_of_label, line_label_pieces, line_start, line_cell, FillsLine}
 
 -- a rounded share of a number is at most the number
@@ -51,7 +51,7 @@ changed-within (Err e) part area f old new inside ok err = within-wider part are
 
 -- a label's pieces keep to the part's columns
 pub pieces-keep : (g : LineGauge) (o : Option LineData) (r own : Rect) → columns (pieces_of_label g o r own) ≤ r.width
-pieces-keep g None r own = text-keeps own r.x r.width new_style (percent_text g.share)
+pieces-keep g None r own = text-keeps own r.x r.width new_style (even_percent_text g.share)
 pieces-keep g (Some label) r own = line-keeps own r.x r.width label
 
 pub label-within : {A : Type 0} (res : Result A AllocError) (g : LineGauge) (r : Rect) (old new : BufferData) → IsBoxArea r

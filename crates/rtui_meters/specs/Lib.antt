@@ -2,3 +2,4 @@ pub mod Shares
 pub mod Gauges
 pub mod LineGauges
 pub mod Scrollbars
+pub mod Names

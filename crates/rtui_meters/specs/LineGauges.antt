@@ -7,7 +7,7 @@ use Rattle.ratatui_core.specs.Buffer.{columns, PaintsPieces, ChangesEach, AreSho
 use Rattle.rtui_boxes.specs.Framed.{RendersInFrame, IsShortFrame, inner_if}
 use Rattle.rtui_meters.specs.{declared.line_gauge.LineGauge.LineGauge, declared.line_gauge.LineFill.LineFill}
 use Rattle.rtui_meters.specs.{declared.line_gauge.TheConstants.PLAIN_LINE}
-use Rattle.rtui_meters.specs.Shares.{share_of, filled_part, percent_text}
+use Rattle.rtui_meters.specs.Shares.{share_of, filled_part, even_percent_text}
 
 -- an empty gauge of plain lines, without box, label and styles
 pub record IsNewLineGauge (g : LineGauge) : Type 0 where
@@ -22,7 +22,7 @@ pub record IsNewLineGauge (g : LineGauge) : Type 0 where
 
 -- the pieces of a label that are painted from an area's corner on: without a label those of the percentage
 abbrev pub pieces_of_label : LineGauge → Option LineData → Rect → Rect → List Piece
-pieces_of_label g None r own = pieces_at own r.x r.width new_style (percent_text g.share)
+pieces_of_label g None r own = pieces_at own r.x r.width new_style (even_percent_text g.share)
 pieces_of_label g (Some label) r own = line_pieces_at own r.x r.width label
 
 abbrev pub line_label_pieces : LineGauge → Rect → Rect → List Piece

@@ -1,5 +1,6 @@
 -- A share of a whole: how much of a number it is.
-use Rattle.std.specs.Prelude.{ℕ, Bool, ◌+◌, ◌*◌, ◌/◌, ◌%◌, ◌++◌, nat_le, min, max, List, codes, decimal}
+use Rattle.std.specs.Prelude.{ℕ, Bool, ◌+◌, ◌*◌, ◌/◌, ◌%◌, ◌==◌, ◌++◌, ◌&&◌, ◌||◌, nat_lt, nat_le}
+use Rattle.std.specs.Prelude.{if◌then◌else◌, min, max, List, codes, decimal}
 use Rattle.rtui_meters.specs.declared.share.Share.{Share}
 
 -- so many parts of a whole
@@ -34,6 +35,20 @@ rounded_part s n = (2 * n * parts_of s + whole_of s) / (2 * whole_of s)
 abbrev pub eighths_of : Share → ℕ → ℕ
 eighths_of s n = (16 * (n * parts_of s % whole_of s) + whole_of s) / (2 * whole_of s)
 
--- the share in percent, and a percent sign
+-- the same, and rounded to the even one if two are as near
+abbrev pub evenly_rounded_part : Share → ℕ → ℕ
+evenly_rounded_part s n =
+    let rest = n * parts_of s % whole_of s in
+    let down = filled_part s n in
+    if nat_lt (whole_of s) (2 * rest) || ((whole_of s == 2 * rest) && (down % 2 == 1)) then down + 1 else down
+
+-- hundredths, and a percent sign
+abbrev pub percent_of : ℕ → List ℕ
+percent_of n = decimal n ++ codes "%"
+
+-- the share in percent, rounded, or rounded evenly
 abbrev pub percent_text : Share → List ℕ
-percent_text s = decimal (rounded_part s 100) ++ codes "%"
+percent_text s = percent_of (rounded_part s 100)
+
+abbrev pub even_percent_text : Share → List ℕ
+even_percent_text s = percent_of (evenly_rounded_part s 100)

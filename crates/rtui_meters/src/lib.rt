@@ -8,6 +8,7 @@
 mod gauge;
 pub mod laws;
 mod line_gauge;
+mod names;
 mod scrollbar;
 mod share;
 mod styled;

@@ -148,7 +148,7 @@ impl<'a> LineGauge<'a> {
         let (x, _) = match &self.label {
             Some(label) => buf.set_line(inner.x, inner.y, label, inner.width)?,
             None => {
-                let text = self.share.text();
+                let text = self.share.even_text();
                 let width = usize::from(inner.width);
                 buf.set_stringn(inner.x, inner.y, text.as_str(), width, Style::new())?
             }

@@ -1,7 +1,8 @@
 //! A share of a whole, in whole numbers.
 
 ghost use Rattle.std.specs.Prelude.{◌≡◌, ◌≤◌};
-ghost use Rattle.rtui_meters.specs.Shares.{filled_part, rounded_part, eighths_of, percent_text, is_full};
+ghost use Rattle.rtui_meters.specs.Shares.{filled_part, rounded_part, evenly_rounded_part, eighths_of};
+ghost use Rattle.rtui_meters.specs.Shares.{percent_of, percent_text, even_percent_text, is_full};
 
 use arrayvec::ArrayString;
 use itoa::Buffer;
@@ -11,6 +12,17 @@ use itoa::Buffer;
 pub struct Share {
     pub(crate) parts: u32,
     pub(crate) whole: u32,
+}
+
+// Hundredths, and a percent sign.
+fn percent_of(hundredths: u16) -> ArrayString<8>
+    ensures { result.bytes ≡ percent_of hundredths }
+{
+    let mut digits = Buffer::new();
+    let mut text = ArrayString::new();
+    text.push_str(digits.format(hundredths));
+    text.push_str("%");
+    text
 }
 
 impl Share {
@@ -52,14 +64,33 @@ impl Share {
         ((16 * rest + whole) / (2 * whole)) as usize
     }
 
+    // So much of a number, rounded to the nearest one, and to the even one if two are as near.
+    pub(crate) fn evenly_rounded(self, number: u16) -> u16
+        ensures value { result ≡ evenly_rounded_part self number }
+        ensures within { result ≤ number }
+    {
+        let whole = u64::from(self.whole.max(1));
+        let parts = u64::from(self.parts.min(self.whole.max(1)));
+        let filled = self.filled(number);
+        let rest = u64::from(number) * parts % whole;
+        if whole < 2 * rest || whole == 2 * rest && filled % 2 == 1 {
+            filled + 1
+        } else {
+            filled
+        }
+    }
+
     // The share in percent, rounded, and a percent sign. It takes no memory.
     pub(crate) fn text(self) -> ArrayString<8>
         ensures { result.bytes ≡ percent_text self }
     {
-        let mut digits = Buffer::new();
-        let mut text = ArrayString::new();
-        text.push_str(digits.format(self.rounded(100)));
-        text.push_str("%");
-        text
+        percent_of(self.rounded(100))
+    }
+
+    // The same, rounded evenly.
+    pub(crate) fn even_text(self) -> ArrayString<8>
+        ensures { result.bytes ≡ even_percent_text self }
+    {
+        percent_of(self.evenly_rounded(100))
     }
 }

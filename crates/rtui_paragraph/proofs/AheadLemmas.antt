@@ -1,21 +1,21 @@
 -- A line of which as many graphemes are held as the next row needs.
-use Rattle.std.proofs.Common.{◌≡◌, ℕ, suc, ◌+◌, ◌-◌, ◌*◌, ◌<◌, ◌≤◌, ◌++◌, ◌⊎◌, ⊎_elim, Bool, true, false, nat_lt, if◌then◌else◌}
+use Rattle.std.proofs.Common.{◌≡◌, ℕ, suc, ◌+◌, ◌-◌, ◌<◌, ◌≤◌, ◌++◌, ◌⊎◌, ⊎_elim, Bool, true, false, if◌then◌else◌}
 use Rattle.std.proofs.Common.{List, [], ◌∷◌, filter, take, drop, length, refl, sym, ap, ◌∙◌, inl, inr, arith, append_assoc}
 use Rattle.std.proofs.Common.{append-nil}
 use Rattle.std.specs.List.{prefix_len, list_all}
 use Rattle.std.proofs.lemmas.Bool.{cases_lt, cases_Bool, and_parts}
-use Rattle.std.proofs.lemmas.{Bool.Decides.nat_tests, List.Sums.sum_by-append, List.Folds.list_all-append}
+use Rattle.std.proofs.lemmas.{List.Sums.sum_by-append, List.Folds.list_all-append}
 use Rattle.std.proofs.Math.Seq.{take-append_seam}
-use Rattle.std.proofs.lemmas.List.{take-append-drop, take-append-le, drop-append-le, length-drop, length-take, drop-drop}
+use Rattle.std.proofs.lemmas.List.{take-append-le, drop-append-le, length-drop, length-take, drop-drop}
 use Rattle.std.proofs.lemmas.List.{map-append}
 use Rattle.ratatui_core.specs.{Text.GraphemeData, Text.grapheme_data, declared.text.StyledGrapheme.StyledGrapheme}
 use Rattle.rtui_paragraph.specs.Reflow.{data_of, is_break, grapheme_columns, columns_taken, fits_row, AllFit, count_fitting}
-use Rattle.rtui_paragraph.specs.Reflow.{last_end, leading_word, break_at_blank, break_in_word, break_before, row_break}
+use Rattle.rtui_paragraph.specs.Reflow.{last_end, break_at_blank, break_in_word, break_before, row_break}
 use Rattle.rtui_paragraph.specs.Reflow.{trimmed_start, split_row}
 use Rattle.rtui_paragraph.specs.Ahead.{columns_ahead, IsEnough, HasLeft, left_of}
 use Rattle.rtui_paragraph.specs.declared.ahead.Ahead.{Ahead}
-use Rattle.rtui_paragraph.proofs.ReflowLemmas.{columns-next, count-next, count-full, count-fits, word-next, wide-next, wide-full}
-use Rattle.rtui_paragraph.proofs.ReflowLemmas.{last_end-le, front-fits, fit-past, row_break-is, data-count, data-drop, tail-is}
+use Rattle.rtui_paragraph.proofs.ReflowLemmas.{columns-next, count-next, count-full}
+use Rattle.rtui_paragraph.proofs.ReflowLemmas.{last_end-le, fit-past, row_break-is, data-count, data-drop, tail-is}
 
 -- ---- what comes after enough graphemes changes nothing of the next row
 
@@ -40,9 +40,6 @@ some-columns : (n : ℕ) (gs : List GraphemeData) → n < columns_taken gs → 0
 some-columns n [] lt = absurd (omega arith)
 some-columns n (g ∷ gs) lt = omega arith
 
-columns-parts : (n : ℕ) (gs : List GraphemeData) → columns_taken gs ≡ columns_taken (take n gs) + columns_taken (drop n gs)
-columns-parts n gs = ap columns_taken (sym (take-append-drop n gs)) ∙ sum_by-append grapheme_columns (take n gs) (drop n gs)
-
 count-append : (room : ℕ) (gs more : List GraphemeData) → room < columns_taken gs
     → count_fitting room (gs ++ more) ≡ count_fitting room gs
 count-append room [] more lt = absurd (omega arith)
@@ -63,31 +60,9 @@ count-short room (g ∷ gs) lt = ⊎_elim
     omega (arith, count-next room g gs le, count-short (room - grapheme_columns g) gs fewer))
     (cases_lt room (grapheme_columns g))
 
--- whether the first word is wider than m
-leading-append : (m : ℕ) (gs more : List GraphemeData) → m < columns_taken gs
-    → nat_lt m (columns_taken (leading_word (gs ++ more))) ≡ nat_lt m (columns_taken (leading_word gs))
-leading-append m [] more lt = absurd (omega arith)
-leading-append m (g ∷ gs) more lt = ⊎_elim
-    (λ (blank : is_break g ≡ true). rw blank refl)
-    (λ (word : is_break g ≡ false).
-    let here = leading_word gs in
-    let there = leading_word (gs ++ more) in
-    ap (nat_lt m) (word-next g (gs ++ more) word) ∙ (⊎_elim
-    (λ (wide : m < grapheme_columns g). wide-full m (grapheme_columns g) (columns_taken there) wide
-    ∙ sym (wide-full m (grapheme_columns g) (columns_taken here) wide))
-    (λ (le : grapheme_columns g ≤ m).
-    let fewer : m - grapheme_columns g < columns_taken gs = omega (arith, columns-next g gs) in
-    sym (wide-next m (grapheme_columns g) (columns_taken there) le)
-    ∙ (leading-append (m - grapheme_columns g) gs more fewer ∙ wide-next m (grapheme_columns g) (columns_taken here) le))
-    (cases_lt m (grapheme_columns g)) ∙ ap (nat_lt m) (sym (word-next g gs word))))
-    (cases_Bool (is_break g))
-
-module _ (width : ℕ) (gs more : List GraphemeData) (lt : 2 * width < columns_taken gs) where
+module _ (width : ℕ) (gs more : List GraphemeData) (lt : width < columns_taken gs) where
   abbrev fitting : ℕ
   fitting = count_fitting width gs
-
-  fits : columns_taken (take fitting gs) ≤ width
-  fits = count-fits gs width
 
   short : fitting < length gs
   short = count-short width gs (omega arith)
@@ -98,27 +73,24 @@ module _ (width : ℕ) (gs more : List GraphemeData) (lt : 2 * width < columns_t
   at-blank : break_at_blank (gs ++ more) fitting ≡ break_at_blank gs fitting
   at-blank = rw front refl
 
-  in-word : break_in_word width (gs ++ more) fitting ≡ break_in_word width gs fitting
+  in-word : break_in_word (gs ++ more) fitting ≡ break_in_word gs fitting
   in-word =
       let word = last_end is_break (take fitting gs) in
       let le : word ≤ fitting = omega (arith, last_end-le is_break (take fitting gs), length-take fitting gs) in
       let before : take word (gs ++ more) ≡ take word gs = take-append-le word gs more (omega (arith, short)) in
-      let after : drop word (gs ++ more) ≡ drop word gs ++ more = drop-append-le word gs more (omega (arith, short)) in
-      let wide : width < columns_taken (drop word gs) =
-      omega (arith, columns-parts word gs, front-fits word fitting width gs le fits) in
-      rw (front, before, after, leading-append width (drop word gs) more wide) refl
+      rw (front, before) refl
 
   break-append : row_break width (gs ++ more) ≡ row_break width gs
   break-append = rw (count-append width gs more (omega arith), drop-append-le fitting gs more (omega (arith, short)))
       (cases (drop fitting gs) refl)
     where
       cases : (after : List GraphemeData) → drop fitting gs ≡ after
-          → break_before width (gs ++ more) fitting (after ++ more) ≡ break_before width gs fitting after
+          → break_before (gs ++ more) fitting (after ++ more) ≡ break_before gs fitting after
       cases [] is = absurd (omega (arith, short, length-drop fitting gs, ap length is))
       cases (g ∷ after) is = by (is_break g)
         where
-          by : (b : Bool) → (if b then break_at_blank (gs ++ more) fitting else break_in_word width (gs ++ more) fitting)
-              ≡ (if b then break_at_blank gs fitting else break_in_word width gs fitting)
+          by : (b : Bool) → (if b then break_at_blank (gs ++ more) fitting else break_in_word (gs ++ more) fitting)
+              ≡ (if b then break_at_blank gs fitting else break_in_word gs fitting)
           by true = at-blank
           by false = in-word
 
@@ -128,7 +100,7 @@ pub split-append : (width : ℕ) (trim : Bool) (gs more : List GraphemeData) →
 split-append width trim gs more lt fit =
     let start = trimmed_start trim gs in
     let rest = drop start gs in
-    let some : 0 < length rest = some-columns (2 * width) rest lt in
+    let some : 0 < length rest = some-columns width rest lt in
     let inside : start < length gs = omega (arith, length-drop start gs) in
     let ends = row_break width rest in
     let is = row_break-is width rest (fit-past width start gs fit) in

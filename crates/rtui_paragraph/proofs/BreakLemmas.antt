@@ -1,13 +1,15 @@
--- A word is broken only if it is wider than a row.
-use Rattle.std.proofs.Common.{◌≡◌, ℕ, zero, suc, ◌+◌, ◌-◌, ◌<◌, ◌≤◌, ◌||◌, ◌==◌, ⊎_elim, Bool, true, false, nat_lt, if◌then◌else◌}
+-- A word is broken only if it stands first, after blanks at most, and doesn't fit its row with these.
+use Rattle.std.proofs.Common.{◌≡◌, ℕ, zero, suc, ◌+◌, ◌-◌, ◌<◌, ◌≤◌, ⊎_elim, Bool, true, false, not, nat_lt, if◌then◌else◌}
 use Rattle.std.proofs.Common.{List, [], ◌∷◌, take, drop, length, length-take, length-drop, refl, sym, ap, subst, ◌∙◌, arith}
 use Rattle.std.proofs.Common.{slice_index_or}
 use Rattle.std.proofs.lemmas.{Bool.cases_lt, Bool.cases_Bool, Bool.Decides.nat_tests, List.drop_more, List.get_or-take}
+use Rattle.std.proofs.lemmas.{List.take-append-drop, List.drop-take, List.take-take, List.drop-drop, List.Sums.sum_by-append}
 use Rattle.ratatui_core.specs.Text.{GraphemeData}
 use Rattle.rtui_paragraph.specs.Reflow.{is_break, is_of_word, grapheme_columns, columns_taken, count_fitting, last_end}
-use Rattle.rtui_paragraph.specs.Reflow.{leading_word, word_around, break_at_blank, break_in_word, break_before, row_break}
+use Rattle.rtui_paragraph.specs.Reflow.{leading_word, words_of, word_start, word_around, IsWithinWord, break_at_blank}
+use Rattle.rtui_paragraph.specs.Reflow.{break_in_word, break_before, row_break}
 use Rattle.rtui_paragraph.proofs.ReflowLemmas.{columns-next, count-next, count-full, count-le, word-next, end_after}
-use Rattle.rtui_paragraph.proofs.ReflowLemmas.{end_after-some, end_after-none, last_end-le}
+use Rattle.rtui_paragraph.proofs.ReflowLemmas.{end_after-some, end_after-none, last_end-le, none-after}
 
 same-head : (x g : GraphemeData) (xs after : List GraphemeData) → x ∷ xs ≡ g ∷ after → x ≡ g
 same-head x g xs after e = cc
@@ -59,6 +61,16 @@ blank-before n gs d inside some =
     ap is_break (sym (get_or-take n gs (last_end is_break (take n gs) - 1) d (omega arith)))
     ∙ last_end-at is_break (take n gs) d some
 
+-- a front without words that begins with no blank is empty
+none-first : (n : ℕ) (gs : List GraphemeData) (d : GraphemeData) → is_break (slice_index_or gs 0 d) ≡ false
+    → words_of (take n gs) ≡ [] → take n gs ≡ []
+none-first zero gs d first none = refl
+none-first (suc n) [] d first none = refl
+none-first (suc n) (g ∷ gs) d first none =
+    let word : is_of_word g ≡ true = ap not first in
+    let some : g ∷ words_of (take n gs) ≡ [] = sym (ap (λ b. if b then g ∷ words_of (take n gs) else words_of (take n gs)) word) ∙ none in
+    let no : ⊥ = cc in absurd no
+
 -- a front without blanks is the front of the first word
 none-both : (n : ℕ) (here : Bool) → end_after n here ≡ 0 → (n ≡ 0) × (here ≡ false)
 none-both n true none = let no : ⊥ = grind (arith, nat_tests, none) in absurd no
@@ -75,51 +87,71 @@ word-front (suc n) (g ∷ gs) none =
     let front = columns-next g (take n gs) in
     omega arith
 
+-- after the last grapheme of a kind there is none
+none-behind : (p : GraphemeData → Bool) (gs : List GraphemeData) → last_end p (drop (last_end p gs) gs) ≡ 0
+none-behind p [] = refl
+none-behind p (g ∷ gs) = ⊎_elim
+    (λ (some : 0 < last_end p gs). rw (end_after-some (last_end p gs) (p g) some) (none-behind p gs))
+    (λ (le : last_end p gs ≤ 0).
+    let none : last_end p gs ≡ 0 = omega arith in
+    let end = end_after-none (last_end p gs) (p g) none in
+    ⊎_elim
+    (λ (here : p g ≡ true).
+    let one : end_after (last_end p gs) (p g) ≡ 1 = end ∙ ap (λ b. if b then 1 else 0) here in rw one none)
+    (λ (other : p g ≡ false).
+    let nothing : end_after (last_end p gs) (p g) ≡ 0 = end ∙ ap (λ b. if b then 1 else 0) other in rw nothing nothing)
+    (cases_Bool (p g)))
+    (cases_lt 0 (last_end p gs))
+
 module _ (width : ℕ) (gs : List GraphemeData) (d : GraphemeData) where
-  abbrev IsWideAt : ℕ → Type 0
-  IsWideAt k = k < length gs → is_break (slice_index_or gs (k - 1) d) ≡ false → is_break (slice_index_or gs k d) ≡ false
-      → width < columns_taken (word_around gs k)
+  -- a place within a word has no other word before it, and the word doesn't fit with what is before it
+  record IsWideAt (k : ℕ) : Type 0 where
+    alone : words_of (take (word_start gs k) gs) ≡ []
+    wide : width < columns_taken (take (word_start gs k) gs) + columns_taken (word_around gs k)
 
   abbrev n : ℕ
   n = count_fitting width gs
 
-  after-blank : (k : ℕ) → is_break (slice_index_or gs (k - 1) d) ≡ true → IsWideAt k
-  after-blank k blank = λ lt before after. let no : true ≡ false = sym blank ∙ before in absurd (cc)
+  after-blank : (k : ℕ) → is_break (slice_index_or gs (k - 1) d) ≡ true → IsWithinWord gs k d → IsWideAt k
+  after-blank k blank is = let no : true ≡ false = sym blank ∙ is.before in absurd (cc)
 
-  -- no blank stands before the graphemes that fit
-  first-wide : last_end is_break (take n gs) ≡ 0 → IsWideAt n
-  first-wide none = λ lt before after.
-      let next = drop_more gs n d lt in
-      let wide = too-wide gs width (slice_index_or gs n d) (drop (n + 1) gs) next in
-      let front = word-front n gs none in
-      let rest : columns_taken (leading_word (drop n gs)) ≡ grapheme_columns (slice_index_or gs n d) + columns_taken
-      (leading_word (drop (n + 1) gs)) =
-      ap (λ xs. columns_taken (leading_word xs)) next ∙ word-next (slice_index_or gs n d) (drop (n + 1) gs) after in
-      let same : columns_taken (word_around gs n) ≡ columns_taken (leading_word gs) =
-      ap (λ s. columns_taken (leading_word (drop s gs))) none in
-      omega arith
+  -- no word stands before the one that crosses the end of those that fit
+  first-wide : last_end is_of_word (take (word_start gs n) gs) ≡ 0 → IsWithinWord gs n d → IsWideAt n
+  first-wide none is =
+      let word = word_start gs n in
+      let le : word ≤ n = omega (arith, last_end-le is_break (take n gs), length-take n gs) in
+      let next = drop_more gs n d is.inside in
+      let full = too-wide gs width (slice_index_or gs n d) (drop (n + 1) gs) next in
+      let part : drop word (take n gs) ≡ take (n - word) (drop word gs) = drop-take word n gs in
+      let behind : last_end is_break (take (n - word) (drop word gs)) ≡ 0 =
+      ap (last_end is_break) (sym part) ∙ none-behind is_break (take n gs) in
+      let front = word-front (n - word) (drop word gs) behind in
+      let past : drop (n - word) (drop word gs) ≡ drop n gs = drop-drop (n - word) word gs ∙ ap (λ k. drop k gs) (omega (arith, le)) in
+      let rest : columns_taken (leading_word (drop (n - word) (drop word gs))) ≡ grapheme_columns (slice_index_or gs n d)
+      + columns_taken (leading_word (drop (n + 1) gs)) =
+      ap (λ xs. columns_taken (leading_word xs)) (past ∙ next) ∙ word-next (slice_index_or gs n d) (drop (n + 1) gs) is.after in
+      let both : columns_taken (take n gs) ≡ columns_taken (take word (take n gs)) + columns_taken (drop word (take n gs)) =
+      ap columns_taken (sym (take-append-drop word (take n gs)))
+      ∙ sum_by-append grapheme_columns (take word (take n gs)) (drop word (take n gs)) in
+      let first : take word (take n gs) ≡ take word gs = take-take word n gs ∙ ap (λ k. take k gs) (omega (arith, le)) in
+      let blanks = ap columns_taken first in
+      let inner = ap columns_taken part in
+      record { alone = none-after (take word gs) none; wide = omega (arith, full, front, rest, both, blanks, inner) }
 
-  abbrev ends_at : Bool → Bool → ℕ → ℕ → ℕ × ℕ
-  ends_at t whole word end = if t then (end, word) else if whole then (n, n) else (word, word)
+  in-word-wide : (end : ℕ) → end ≡ last_end is_of_word (take (word_start gs n) gs) → (t : Bool) → nat_lt 0 end ≡ t
+      → IsWithinWord gs (if t then (end, word_start gs n) else (n, n)).1 d
+      → IsWideAt (if t then (end, word_start gs n) else (n, n)).1
+  in-word-wide end at true e =
+      let some : 0 < end = grind (arith, nat_tests, e) in
+      let le = last_end-le is_of_word (take (word_start gs n) gs) in
+      let more : 0 < word_start gs n = omega (arith, at, some, le, length-take (word_start gs n) gs) in
+      after-blank (word_start gs n) (blank-before n gs d (count-le gs width) more)
+  in-word-wide end at false e = first-wide (let none : end ≡ 0 = grind (arith, nat_tests, e) in sym at ∙ none)
 
-  in-word-wide : (word : ℕ) → word ≡ last_end is_break (take n gs) → (t u v : Bool) → (word == 0) ≡ u
-      → nat_lt width (columns_taken (leading_word (drop word gs))) ≡ v → (end : ℕ) → (t ≡ true → 0 < word)
-      → IsWideAt (ends_at t (u || v) word end).1
-  in-word-wide word at true u v zero_is wide end some =
-      after-blank word (subst (λ k. is_break (slice_index_or gs (k - 1) d) ≡ true) (sym at)
-      (blank-before n gs d (count-le gs width) (subst (λ k. 0 < k) at (some refl))))
-  in-word-wide word at false true v zero_is wide end some = first-wide (let z : word ≡ 0 = grind (arith, nat_tests, zero_is) in
-      sym at ∙ z)
-  in-word-wide word at false false true zero_is wide end some = λ lt before after.
-      let here : width < columns_taken (leading_word (drop word gs)) = grind (arith, nat_tests, wide) in
-      subst (λ k. width < columns_taken (leading_word (drop k gs))) at here
-  in-word-wide word at false false false zero_is wide end some =
-      let more : 0 < word = grind (arith, nat_tests, zero_is) in
-      after-blank word (subst (λ k. is_break (slice_index_or gs (k - 1) d) ≡ true) (sym at)
-      (blank-before n gs d (count-le gs width) (subst (λ k. 0 < k) at more)))
-
-  wide-before : (after : List GraphemeData) → drop n gs ≡ after → IsWideAt (break_before width gs n after).1
-  wide-before [] is = λ lt before next. let e = length-drop n gs in let none = ap length is in absurd (omega arith)
+  wide-before : (after : List GraphemeData) → drop n gs ≡ after → IsWithinWord gs (break_before gs n after).1 d
+      → IsWideAt (break_before gs n after).1
+  wide-before [] is =
+      λ within. let lt = within.inside in let e = length-drop n gs in let none = ap length is in absurd (omega arith)
   wide-before (g ∷ after) is = by (is_break g) refl
     where
       lt : n < length gs
@@ -128,16 +160,29 @@ module _ (width : ℕ) (gs : List GraphemeData) (d : GraphemeData) where
       here : slice_index_or gs n d ≡ g
       here = same-head (slice_index_or gs n d) g (drop (n + 1) gs) after (sym (drop_more gs n d lt) ∙ is)
 
-      by : (b : Bool) → is_break g ≡ b → IsWideAt (if b then break_at_blank gs n else break_in_word width gs n).1
+      by : (b : Bool) → is_break g ≡ b → IsWithinWord gs (if b then break_at_blank gs n else break_in_word gs n).1 d
+          → IsWideAt (if b then break_at_blank gs n else break_in_word gs n).1
       by true blank = after-blank (n + 1) (let place : n + 1 - 1 ≡ n = omega arith in
           ap (λ i. is_break (slice_index_or gs i d)) place ∙ (ap is_break here ∙ blank))
       by false word_ =
-          let word = last_end is_break (take n gs) in
-          let end = last_end is_of_word (take word gs) in
-          in-word-wide word refl (nat_lt 0 end) (word == 0) (nat_lt width (columns_taken (leading_word (drop word gs)))) refl refl
-          end
-          (λ some. (let more : 0 < end = grind (arith, nat_tests, some) in let le = last_end-le is_of_word (take word gs) in
-          omega (arith, length-take word gs)))
+          let end = last_end is_of_word (take (word_start gs n) gs) in
+          in-word-wide end refl (nat_lt 0 end) refl
 
-  pub broken-wide : IsWideAt (row_break width gs).1
+  broken-wide : IsWithinWord gs (row_break width gs).1 d → IsWideAt (row_break width gs).1
   broken-wide = wide-before (drop n gs) refl
+
+  pub broken-alone : IsWithinWord gs (row_break width gs).1 d → words_of (take (word_start gs (row_break width gs).1) gs) ≡ []
+  broken-alone is = (broken-wide is).alone
+
+  pub broken-blanks : IsWithinWord gs (row_break width gs).1 d
+      → width < columns_taken (take (word_start gs (row_break width gs).1) gs) + columns_taken (word_around gs (row_break width gs).1)
+  broken-blanks is = (broken-wide is).wide
+
+  pub broken-first : IsWithinWord gs (row_break width gs).1 d → is_break (slice_index_or gs 0 d) ≡ false
+      → width < columns_taken (word_around gs (row_break width gs).1)
+  broken-first is first =
+      let k = (row_break width gs).1 in
+      let none = none-first (word_start gs k) gs d first (broken-alone is) in
+      let nothing : columns_taken (take (word_start gs k) gs) ≡ 0 = ap columns_taken none in
+      let wide = broken-blanks is in
+      omega (arith, nothing, wide)

@@ -43,12 +43,6 @@ pub word-next : (g : GraphemeData) (gs : List GraphemeData) → is_break g ≡ f
     → columns_taken (leading_word (g ∷ gs)) ≡ grapheme_columns g + columns_taken (leading_word gs)
 word-next g gs is = rw is (columns-next g (leading_word gs))
 
-pub wide-next : (left w c : ℕ) → w ≤ left → nat_lt (left - w) c ≡ nat_lt left (w + c)
-wide-next left w c le = grind (arith, nat_tests)
-
-pub wide-full : (left w c : ℕ) → left < w → nat_lt left (w + c) ≡ true
-wide-full left w c lt = grind (arith, nat_tests)
-
 -- ---- what holds of a row's end
 
 abbrev pub end_after : ℕ → Bool → ℕ
@@ -77,7 +71,7 @@ none-step : (n : ℕ) (here : Bool) (g : GraphemeData) (ws : List GraphemeData) 
 none-step n true g ws more none = let no : ⊥ = grind (arith, nat_tests, none) in absurd no
 none-step n false g ws more none = more (grind (arith, nat_tests, none))
 
-none-after : (gs : List GraphemeData) → last_end is_of_word gs ≡ 0 → words_of gs ≡ []
+pub none-after : (gs : List GraphemeData) → last_end is_of_word gs ≡ 0 → words_of gs ≡ []
 none-after [] none = refl
 none-after (g ∷ gs) none = none-step (last_end is_of_word gs) (is_of_word g) g (words_of gs) (none-after gs) none
 
@@ -236,29 +230,24 @@ at-blank width n gs after g inside fits is blank =
     }
 
 in-word : (width n : ℕ) (gs : List GraphemeData) → n ≤ length gs → 0 < n → columns_taken (take n gs) ≤ width
-    → IsBreak width gs (break_in_word width gs n)
+    → IsBreak width gs (break_in_word gs n)
 in-word width n gs inside some fits =
     let word = last_end is_break (take n gs) in
     let end = last_end is_of_word (take word gs) in
     let le : word ≤ n = omega (arith, last_end-le is_break (take n gs), length-take n gs) in
     let less : end ≤ word = omega (arith, last_end-le is_of_word (take word gs), length-take word gs) in
-    cases word end le less (nat_lt 0 end) refl (word == 0) refl (nat_lt width (columns_taken (leading_word (drop word gs)))) refl
+    cases word end le less (nat_lt 0 end) refl refl
   where
-    cases : (word end : ℕ) → word ≤ n → end ≤ word → (t : Bool) → nat_lt 0 end ≡ t → (u : Bool) → (word == 0) ≡ u → (v : Bool)
-        → end ≡ last_end is_of_word (take word gs)
-        → IsBreak width gs (if t then (end, word) else if u || v then (n, n) else (word, word))
-    cases word end le less true e u f v is = record {
+    cases : (word end : ℕ) → word ≤ n → end ≤ word → (t : Bool) → nat_lt 0 end ≡ t → end ≡ last_end is_of_word (take word gs)
+        → IsBreak width gs (if t then (end, word) else (n, n))
+    cases word end le less true e is = record {
       ends = less;
       inside = omega arith;
       some = λ _. (let lt : 0 < end = grind (arith, nat_tests, e) in omega arith);
       fits = front-fits end n width gs (omega arith) fits;
       keeps = front-keeps word gs ∙ ap (λ k. words_of (take k gs)) (sym is);
     }
-    cases word end le less false e true f v is = same-break width n gs inside (λ _. some) fits
-    cases word end le less false e false f true is = same-break width n gs inside (λ _. some) fits
-    cases word end le less false e false f false is =
-        let lt : 0 < word = grind (arith, nat_tests, f) in
-        same-break width word gs (omega arith) (λ _. lt) (front-fits word n width gs le fits)
+    cases word end le less false e is = same-break width n gs inside (λ _. some) fits
 
 pub row_break-is : (width : ℕ) (gs : List GraphemeData) → AllFit width gs → IsBreak width gs (row_break width gs)
 row_break-is width gs fit = cases (drop n gs) refl
@@ -266,14 +255,14 @@ row_break-is width gs fit = cases (drop n gs) refl
     n : ℕ
     n = count_fitting width gs
 
-    cases : (after : List GraphemeData) → drop n gs ≡ after → IsBreak width gs (break_before width gs n after)
+    cases : (after : List GraphemeData) → drop n gs ≡ after → IsBreak width gs (break_before gs n after)
     cases [] is = same-break width n gs (count-le gs width) (λ some. count-some gs width fit some) (count-fits gs width)
     cases (g ∷ after) is = by (is_break g) refl
       where
         longer : 0 < length gs
         longer = let d = length-drop n gs in let l = ap length is in omega arith
 
-        by : (b : Bool) → is_break g ≡ b → IsBreak width gs (if b then break_at_blank gs n else break_in_word width gs n)
+        by : (b : Bool) → is_break g ≡ b → IsBreak width gs (if b then break_at_blank gs n else break_in_word gs n)
         by true e = at-blank width n gs after g (count-le gs width) (count-fits gs width) is e
         by false e = in-word width n gs (count-le gs width) (count-some gs width fit longer) (count-fits gs width)
 
@@ -337,7 +326,7 @@ last-inside p gs n word is =
     let count : length (data_of (take n gs)) ≤ n = omega (arith, data-count (take n gs), length-take n gs) in
     omega arith
 
-module _ (gs : List StyledGrapheme) (width n word end : ℕ) (at : word ≡ last_end is_break (data_of (take n gs)))
+module _ (gs : List StyledGrapheme) (n word end : ℕ) (at : word ≡ last_end is_break (data_of (take n gs)))
     (is : end ≡ last_end is_of_word (data_of (take word gs))) where
   word-at : last_end is_break (take n (data_of gs)) ≡ word
   word-at = ap (last_end is_break) (sym (data-take n gs)) ∙ sym at
@@ -345,39 +334,11 @@ module _ (gs : List StyledGrapheme) (width n word end : ℕ) (at : word ≡ last
   end-at : last_end is_of_word (take word (data_of gs)) ≡ end
   end-at = ap (last_end is_of_word) (sym (data-take word gs)) ∙ sym is
 
-  pub word-ends-at : 0 < end → (end, word) ≡ break_in_word width (data_of gs) n
+  pub word-ends-at : 0 < end → (end, word) ≡ break_in_word (data_of gs) n
   word-ends-at some = let t : nat_lt 0 end ≡ true = grind (arith, nat_tests) in rw (word-at, end-at, t) refl
 
-  wide-at : (wide : Bool) → wide ≡ nat_lt width (columns_taken (leading_word (data_of (take (length gs - word) (drop word gs)))))
-      → nat_lt width (columns_taken (leading_word (drop word (data_of gs)))) ≡ wide
-  wide-at wide e = ap (λ rest. nat_lt width (columns_taken (leading_word rest))) (sym (data-tail word gs)) ∙ sym e
-
-  pub word-broken : end ≤ 0 → word ≡ 0 → (n, n) ≡ break_in_word width (data_of gs) n
-  word-broken none first = let t : nat_lt 0 end ≡ false = grind (arith, nat_tests) in let z : (word == 0) ≡ true =
-      grind (arith, nat_tests) in rw (word-at, end-at, t, z) refl
-
-  abbrev whole : ℕ × ℕ
-  whole = (n, n)
-
-  abbrev moved : ℕ × ℕ
-  moved = (word, word)
-
-  pub word-wide : end ≤ 0 → (wide : Bool)
-      → wide ≡ nat_lt width (columns_taken (leading_word (data_of (take (length gs - word) (drop word gs))))) → wide ≡ true
-      → (n, n) ≡ break_in_word width (data_of gs) n
-  word-wide none wide e is_wide =
-      let t : nat_lt 0 end ≡ false = grind (arith, nat_tests) in
-      let w : nat_lt width (columns_taken (leading_word (drop word (data_of gs)))) ≡ true = wide-at wide e ∙ is_wide in
-      rw (word-at, end-at, t, w) (ap (λ b. if b then whole else moved) (sym (or_right (word == 0) true refl)))
-
-  pub word-moved : end ≤ 0 → 0 < word → (wide : Bool)
-      → wide ≡ nat_lt width (columns_taken (leading_word (data_of (take (length gs - word) (drop word gs))))) → wide ≡ false
-      → (word, word) ≡ break_in_word width (data_of gs) n
-  word-moved none some wide e is_not =
-      let t : nat_lt 0 end ≡ false = grind (arith, nat_tests) in
-      let z : (word == 0) ≡ false = grind (arith, nat_tests) in
-      let w : nat_lt width (columns_taken (leading_word (drop word (data_of gs)))) ≡ false = wide-at wide e ∙ is_not in
-      rw (word-at, end-at, t, z, w) refl
+  pub word-broken : end ≤ 0 → (n, n) ≡ break_in_word (data_of gs) n
+  word-broken none = let t : nat_lt 0 end ≡ false = grind (arith, nat_tests) in rw (word-at, end-at, t) refl
 
 module _ (gs : List StyledGrapheme) (width count : ℕ) (is : count ≡ count_fitting width (data_of gs)) where
   count-at : count_fitting width (data_of gs) ≡ count
@@ -394,29 +355,9 @@ module _ (gs : List StyledGrapheme) (width count : ℕ) (is : count ≡ count_fi
         → is_break (grapheme_data (slice_index_or gs count d)) ≡ true → b ≡ row_break width (data_of gs)
     break-blank b e blank = e ∙ rw (count-at, next-is, blank) refl
 
-    pub break-word : (b : ℕ × ℕ) → b ≡ break_in_word width (data_of gs) count
+    pub break-word : (b : ℕ × ℕ) → b ≡ break_in_word (data_of gs) count
         → is_break (grapheme_data (slice_index_or gs count d)) ≡ false → b ≡ row_break width (data_of gs)
     break-word b e word = e ∙ rw (count-at, next-is, word) refl
-
--- a turn of the loop over a word
-module _ (gs : List StyledGrapheme) (i left width w : ℕ) (d : StyledGrapheme) (lt : i < length gs)
-    (is : w ≡ grapheme_columns (grapheme_data (slice_index_or gs i d)))
-    (word : is_break (grapheme_data (slice_index_or gs i d)) ≡ false)
-    (so_far : nat_lt left (columns_taken (leading_word (data_of (drop i gs)))) ≡ nat_lt width
-    (columns_taken (leading_word (data_of gs)))) where
-  word-columns : columns_taken (leading_word (data_of (drop i gs))) ≡ w + columns_taken (leading_word (data_of (drop (i + 1) gs)))
-  word-columns = ap (λ xs. columns_taken (leading_word xs)) (next-data gs i d lt)
-      ∙ (word-next (grapheme_data (slice_index_or gs i d)) (data_of (drop (i + 1) gs)) word
-      ∙ ap (λ n. n + columns_taken (leading_word (data_of (drop (i + 1) gs)))) (sym is))
-
-  pub wide-turn : w ≤ left → nat_lt (left - w) (columns_taken (leading_word (data_of (drop (i + 1) gs)))) ≡ nat_lt width
-      (columns_taken (leading_word (data_of gs)))
-  wide-turn le = wide-next left w (columns_taken (leading_word (data_of (drop (i + 1) gs)))) le
-      ∙ (ap (nat_lt left) (sym word-columns) ∙ so_far)
-
-  pub wide-found : left < w → true ≡ nat_lt width (columns_taken (leading_word (data_of gs)))
-  wide-found more = sym (wide-full left w (columns_taken (leading_word (data_of (drop (i + 1) gs)))) more)
-      ∙ (ap (nat_lt left) (sym word-columns) ∙ so_far)
 
 -- a row and where the next one begins, in a slice
 pub start-inside : (gs : List StyledGrapheme) (trim : Bool) (start : ℕ) → start ≡ trimmed_start trim (data_of gs)

@@ -1,5 +1,5 @@
 -- A line of which only as many graphemes are held as its next row needs.
-use Rattle.std.specs.Prelude.{◌≡◌, ℕ, ◌*◌, ◌<◌, ◌≤◌, ◌⊎◌, Bool, true, List, [], ◌++◌, length, filter, drop}
+use Rattle.std.specs.Prelude.{◌≡◌, ℕ, ◌<◌, ◌≤◌, ◌⊎◌, Bool, true, List, [], ◌++◌, length, filter, drop}
 use Rattle.ratatui_core.specs.Text.{GraphemeData, line_graphemes_left}
 use Rattle.rtui_paragraph.specs.declared.ahead.Ahead.{Ahead}
 use Rattle.rtui_paragraph.specs.Reflow.{data_of, columns_taken, fits_row, trimmed_start}
@@ -21,10 +21,9 @@ pub record IsAhead (a : Ahead) : Type 0 where
   pub within : a.passed ≤ length a.held.items
   pub read : a.is_read ≡ true → line_graphemes_left a.rest ≡ []
 
--- what is held decides where the next row ends, whatever comes after it: the row, and a word at its end that
--- is wider than a row
+-- what is held decides where the next row ends, whatever comes after it: the row, and a grapheme after it
 abbrev pub IsEnough : ℕ → Bool → List GraphemeData → Type 0
-IsEnough width trim gs = 2 * width < columns_ahead trim gs
+IsEnough width trim gs = width < columns_ahead trim gs
 
 -- the next row is held, or all that is left
 pub record HoldsNext (a : Ahead) : Type 0 where

@@ -1,6 +1,6 @@
 -- A line of graphemes cut, or broken into rows.
-use Rattle.std.specs.Prelude.{◌≡◌, ℕ, zero, suc, ◌+◌, ◌-◌, Bool, true, not, ◌&&◌, ◌||◌, ◌==◌, nat_le, nat_lt}
-use Rattle.std.specs.Prelude.{List, [], ◌∷◌, length, map, take, drop, filter, if◌then◌else◌}
+use Rattle.std.specs.Prelude.{◌≡◌, ℕ, zero, suc, ◌+◌, ◌-◌, ◌<◌, Bool, true, false, not, ◌&&◌, nat_le, nat_lt}
+use Rattle.std.specs.Prelude.{List, [], ◌∷◌, length, map, take, drop, filter, if◌then◌else◌, slice_index_or}
 use Rattle.std.specs.List.{sum_by, list_all, prefix_len}
 use Rattle.ratatui_core.specs.{Text.GraphemeData, Text.grapheme_data, Text.is_whitespace_symbol}
 use Rattle.ratatui_core.specs.{Buffer.text_width, declared.text.StyledGrapheme.StyledGrapheme}
@@ -66,9 +66,19 @@ abbrev pub leading_word : List GraphemeData → List GraphemeData
 leading_word [] = []
 leading_word (g ∷ gs) = if is_break g then [] else g ∷ leading_word gs
 
--- the word around a place of a line: from after the last blank before it up to the next blank
+-- where the word around a place of a line begins: after the last blank before it
+abbrev pub word_start : List GraphemeData → ℕ → ℕ
+word_start gs k = last_end is_break (take k gs)
+
+-- that word, up to the next blank
 abbrev pub word_around : List GraphemeData → ℕ → List GraphemeData
-word_around gs k = leading_word (drop (last_end is_break (take k gs)) gs)
+word_around gs k = leading_word (drop (word_start gs k) gs)
+
+-- a place within a word: no blank stands before it, and none after it
+pub record IsWithinWord (gs : List GraphemeData) (k : ℕ) (d : GraphemeData) : Type 0 where
+  pub inside : k < length gs
+  pub before : is_break (slice_index_or gs (k - 1) d) ≡ false
+  pub after : is_break (slice_index_or gs k d) ≡ false
 
 -- Where a row ends, and where the next one begins. A blank comes after the n graphemes that fit: the row ends
 -- with its last word, if it has one, and the next one begins after the blank.
@@ -77,25 +87,23 @@ break_at_blank gs n =
     let end = last_end is_of_word (take n gs) in
     (if nat_lt 0 end then end else n, n + 1)
 
--- A word crosses the end of the n graphemes that fit: it goes to the next row, but for one that stands first,
--- or is wider than a row and has no word before it.
-abbrev pub break_in_word : ℕ → List GraphemeData → ℕ → ℕ × ℕ
-break_in_word width gs n =
+-- A word crosses the end of the n graphemes that fit: it goes to the next row, but for one that has no word
+-- before it, which is broken.
+abbrev pub break_in_word : List GraphemeData → ℕ → ℕ × ℕ
+break_in_word gs n =
     let word = last_end is_break (take n gs) in
     let end = last_end is_of_word (take word gs) in
-    if nat_lt 0 end then (end, word)
-    else if (word == 0) || nat_lt width (columns_taken (leading_word (drop word gs))) then (n, n)
-    else (word, word)
+    if nat_lt 0 end then (end, word) else (n, n)
 
 -- n graphemes fit, and these come after them
-abbrev pub break_before : ℕ → List GraphemeData → ℕ → List GraphemeData → ℕ × ℕ
-break_before width gs n [] = (n, n)
-break_before width gs n (g ∷ after) = if is_break g then break_at_blank gs n else break_in_word width gs n
+abbrev pub break_before : List GraphemeData → ℕ → List GraphemeData → ℕ × ℕ
+break_before gs n [] = (n, n)
+break_before gs n (g ∷ after) = if is_break g then break_at_blank gs n else break_in_word gs n
 
 -- where the row at the front of graphemes ends, and where the next one begins: it has as many words as fit
 -- the width
 abbrev pub row_break : ℕ → List GraphemeData → ℕ × ℕ
-row_break width gs = let n = count_fitting width gs in break_before width gs n (drop n gs)
+row_break width gs = let n = count_fitting width gs in break_before gs n (drop n gs)
 
 -- the blanks before the first row, if rows are trimmed
 abbrev pub trimmed_start : Bool → List GraphemeData → ℕ

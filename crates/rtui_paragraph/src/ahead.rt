@@ -82,7 +82,7 @@ impl<'t, 'a> Ahead<'t, 'a> {
         if self.is_read {
             return Ok(());
         }
-        let enough = 2 * usize::from(self.width);
+        let enough = usize::from(self.width);
         let mut ahead = columns_ahead(&self.held[self.passed..], self.trim);
         while ahead <= enough {
             let Some(grapheme) = self.rest.next() else {

@@ -1,12 +1,12 @@
 //! Laws of paragraphs that are no single call's clause.
 
-ghost use Rattle.std.specs.Prelude.{◌≡◌, ℕ, ◌-◌, ◌<◌, ◌≤◌, Bool, false, List, length, slice_index_or, All};
+ghost use Rattle.std.specs.Prelude.{◌≡◌, ℕ, ◌+◌, ◌<◌, ◌≤◌, Bool, false, List, [], take, slice_index_or, All};
 ghost use Rattle.std.specs.List.{flat_map};
 ghost use Rattle.ratatui_core.specs.Buffer.{BufferData, PaintsPieces, position_of};
 ghost use Rattle.ratatui_core.specs.Text.{GraphemeData};
 ghost use Rattle.rtui_paragraph.specs.Paragraphs.{IsSingleGrapheme, row_pieces, PaintsGraphemes};
 ghost use Rattle.rtui_paragraph.specs.Reflow.{is_break, columns_taken, words_of, AllFit, word_around};
-ghost use Rattle.rtui_paragraph.specs.Reflow.{row_break, broken_rows};
+ghost use Rattle.rtui_paragraph.specs.Reflow.{word_start, IsWithinWord, row_break, broken_rows};
 
 /// Of a line that is broken into rows nothing is lost but blanks: no row is wider than the width,
 /// and the rows have the graphemes of all words, in order.
@@ -17,14 +17,20 @@ pub fn wrapping_loses_nothing()
         → flat_map words_of (broken_rows width trim gs) ≡ words_of gs }
 {}
 
-/// A word is broken only if it is wider than a row: if no blank stands before the place at which a
-/// line is broken, and none after it, then the word there doesn't fit a row.
+/// A word is broken only if it is wider than a row, or than what blanks before it leave: if no blank
+/// stands before the place at which a line is broken, and none after it, then the word there has no
+/// other one before it in its row, and doesn't fit the row with the blanks before it. A row that is
+/// trimmed begins with no blank.
 pub fn words_are_broken_only_if_wide()
-    ensures { (width : ℕ) (gs : List GraphemeData) (d : GraphemeData)
-        → let k = (row_break width gs).1 in k < length gs
-        → is_break (slice_index_or gs (k - 1) d) ≡ false
-        → is_break (slice_index_or gs k d) ≡ false
-        → width < columns_taken (word_around gs k) }
+    ensures alone { (width : ℕ) (gs : List GraphemeData) (d : GraphemeData)
+        → let k = (row_break width gs).1 in IsWithinWord gs k d
+        → words_of (take (word_start gs k) gs) ≡ [] }
+    ensures wide { (width : ℕ) (gs : List GraphemeData) (d : GraphemeData)
+        → let k = (row_break width gs).1 in IsWithinWord gs k d
+        → width < columns_taken (take (word_start gs k) gs) + columns_taken (word_around gs k) }
+    ensures trimmed { (width : ℕ) (gs : List GraphemeData) (d : GraphemeData)
+        → let k = (row_break width gs).1 in IsWithinWord gs k d
+        → is_break (slice_index_or gs 0 d) ≡ false → width < columns_taken (word_around gs k) }
 {}
 
 /// Whole graphemes that are painted in a row one after the other are painted together.

@@ -1,12 +1,12 @@
 //! Lines of graphemes cut, or broken into rows.
 
-ghost use Rattle.std.specs.Prelude.{◌≡◌, ◌+◌, ◌≤◌, ◌<◌, [], ◌∷◌, min, nat_lt, length, filter, take, drop};
+ghost use Rattle.std.specs.Prelude.{◌≡◌, ◌+◌, ◌≤◌, ◌<◌, [], ◌∷◌, min, length, filter, take, drop};
 ghost use Rattle.std.specs.Prelude.{IfOk};
 ghost use Rattle.std.specs.List.{prefix_len};
 ghost use Rattle.ratatui_core.specs.Text.{line_graphemes_left};
 ghost use Rattle.rtui_paragraph.specs.Reflow.{data_of, is_break, is_of_word, columns_taken, words_of};
 ghost use Rattle.rtui_paragraph.specs.Reflow.{fits_row, AllFit, count_fitting, cut_row, last_end};
-ghost use Rattle.rtui_paragraph.specs.Reflow.{leading_word, break_at_blank, break_in_word, row_break};
+ghost use Rattle.rtui_paragraph.specs.Reflow.{break_at_blank, break_in_word, row_break};
 ghost use Rattle.rtui_paragraph.specs.Reflow.{trimmed_start, split_row};
 
 use ratatui_core::buffer::CellWidth;
@@ -121,38 +121,14 @@ fn last_word(graphemes: &[StyledGrapheme<'_>]) -> usize
     start
 }
 
-// Whether the word that stands first is wider than a row.
-fn is_wide_word(graphemes: &[StyledGrapheme<'_>], width: u16) -> bool
-    ensures { result ≡ nat_lt width (columns_taken (leading_word (data_of graphemes.now))) }
-{
-    let mut left = width;
-    for grapheme in graphemes {
-        if grapheme.is_whitespace() {
-            return false;
-        }
-        let columns = grapheme.symbol.cell_width();
-        if columns > left {
-            return true;
-        }
-        left -= columns;
-    }
-    false
-}
-
 // Where a row of so many graphemes ends that a word crosses, and where the next one begins.
-fn break_in_word(graphemes: &[StyledGrapheme<'_>], count: usize, width: u16) -> (usize, usize)
+fn break_in_word(graphemes: &[StyledGrapheme<'_>], count: usize) -> (usize, usize)
     requires { count ≤ length graphemes.now }
-    ensures { result ≡ break_in_word width (data_of graphemes.now) count }
+    ensures { result ≡ break_in_word (data_of graphemes.now) count }
 {
     let word = last_word(&graphemes[..count]);
     let end = words_end(&graphemes[..word]);
-    if end > 0 {
-        return (end, word);
-    }
-    if word == 0 || is_wide_word(&graphemes[word..], width) {
-        return (count, count);
-    }
-    (word, word)
+    if end > 0 { (end, word) } else { (count, count) }
 }
 
 // Where a row of so many graphemes ends that a blank crosses, and where the next one begins: after
@@ -169,7 +145,7 @@ fn break_at_blank(graphemes: &[StyledGrapheme<'_>], count: usize) -> (usize, usi
 }
 
 // Where the row at the front ends, and where the next one begins: it has as many words as fit the
-// width, and a word is broken only if it is wider than a row.
+// width, and a word is broken only if no other one stands before it.
 fn row_ends(graphemes: &[StyledGrapheme<'_>], width: u16) -> (usize, usize)
     ensures { result ≡ row_break width (data_of graphemes.now) }
 {
@@ -180,7 +156,7 @@ fn row_ends(graphemes: &[StyledGrapheme<'_>], width: u16) -> (usize, usize)
     if graphemes[count].is_whitespace() {
         break_at_blank(graphemes, count)
     } else {
-        break_in_word(graphemes, count, width)
+        break_in_word(graphemes, count)
     }
 }
 

@@ -1,4 +1,4 @@
--- A text drawn over one row, and inserted above it.
+-- One row that is drawn over, and texts inserted above it.
 use Rattle.std.proofs.Common.{◌≡◌, ℕ, zero, suc, ◌*◌, ◌≤◌, ◌<◌, List, [], ◌∷◌, ◌++◌, length, append-nil, Option, None, Some}
 use Rattle.std.proofs.Common.{Result, Ok, Err, OnOk, OnErr, IfErr, refl, sym, ap, ap₂, subst, ◌∙◌, inl, inr, arith, alloc_error}
 use Rattle.std.proofs.Common.{slice_index_or, mul-le-mul_left}
@@ -9,6 +9,7 @@ use Rattle.rtui_cell.specs.Look.{Look}
 use Rattle.rtui_diff.specs.{DiffRule.given, DiffRule.start, Shows.RowAgrees, Updates.update_at}
 use Rattle.rtui_buffer.specs.{BufferData.BufferData, BufferData.IsEmptied, Shown.IsSettledBuffer, Shown.common_rows}
 use Rattle.rtui_buffer.specs.{Shown.buffer_updates}
+use Rattle.rtui_widgets.specs.Rendering.{HasFirstRow, RendersStr}
 use Rattle.rtui_widgets.proofs.SettledLemmas.{has-first-row, text-settled}
 use Rattle.rtui_backend.specs.Screen.{Screen, screen_area}
 use Rattle.rtui_viewport.specs.{declared.viewport.Viewport.TheVariants.Inline, Viewports.IsInline}
@@ -21,7 +22,8 @@ use Rattle.rtui_terminal.specs.declared.terminal.error.TerminalError.TheVariants
 use Rattle.rtui_terminal.specs.{Starting.IsBlank, Starting.StartErr, Starting.Starts, Drawing.DrawOk, Drawing.DrawErr}
 use Rattle.rtui_terminal.specs.Insertion.{inserted_area, TakesRows, Inserts, InsertOk, InsertsBy}
 use Rattle.rtui_terminal.specs.TextRow.{row_area, IsPaintedText, IsRowOf, RendersRow, FillsRow, IsOverRow, DrawsRow, InsertsRow}
-use Rattle.rtui_terminal.specs.TextRow.{StartsOverRow}
+use Rattle.rtui_terminal.specs.TextRow.{StartsOverRow, HasCursor}
+use Rattle.rtui_terminal.specs.Rendered.{IsRendered}
 use Rattle.rtui_terminal.proofs.RenderedLemmas.{OnlyRenders, shows-rendered, sized-stays, refused-by-backend}
 use Rattle.rtui_terminal.proofs.StartLemmas.{starts-in-row, starts-in-step, starts-blank}
 use Rattle.rtui_terminal.proofs.{InsertionLemmas.emptied-moved, KeepLemmas.below-kept}
@@ -57,12 +59,24 @@ row-appended width text sheet old new over painted appends =
       above = appends.appended ∙ ap (λ rows. old ++ rows) (all ∙ only_row first (are.count ∙ high));
     }
 
--- a text was rendered in an empty row
-row-painted : (text : List ℕ) (y width : ℕ) (blank sheet : BufferData) → sheet.area ≡ row_area width y
-    → IsEmptied sheet.area blank → RendersRow text sheet.area blank sheet → IsPaintedText text sheet
-row-painted text y width blank sheet over empty renders =
+-- a closure leaves its cursor at its place in the viewport
+abbrev pub OnlyPlaces : {B X : Type 0} → (TerminalData B → Result (Unit {0}) X → Option Position → BufferData → Type 0)
+    → (Rect → Option Position) → Type 0
+OnlyPlaces {B} ran place = (s : TerminalData B) (cursor : Option Position) (painted : BufferData)
+    → ran s (Ok tt) cursor painted → cursor ≡ place s.viewport_area
+
+-- a cursor that was placed is at its place
+has-cursor : (cursor : Option Position) (between new : Screen) → new ≡ cursor_placed cursor between → HasCursor cursor new
+has-cursor None between new e = subst (HasCursor None) (sym e) refl
+has-cursor (Some p) between new e = subst (HasCursor (Some p)) (sym e) refl
+
+-- something was rendered in an empty row
+row-painted : (renders : Rect → BufferData → BufferData → Type 0) (y width : ℕ) (blank sheet : BufferData)
+    → sheet.area ≡ row_area width y → IsEmptied sheet.area blank → RendersRow renders sheet.area blank sheet
+    → IsRendered renders sheet
+row-painted renders y width blank sheet over empty rendered =
     let high : sheet.area.height ≡ 1 = ap (λ (r : Rect). r.height) over in
-    record { blank = blank; emptied = empty; rendered = renders (has-first-row sheet.area blank (omega arith) empty) }
+    record { blank = blank; emptied = empty; rendered = rendered (has-first-row sheet.area blank (omega arith) empty) }
 
 -- a screen can show it
 row-settled : (text : List ℕ) (sheet : BufferData) → IsPaintedText text sheet → IsSettledBuffer sheet
@@ -114,9 +128,9 @@ module _ {B : Type 0} (screen : B → Screen) where
       let over : sheet.area ≡ row_area (screen s.backend).width 0 = ins.over ∙ ap (λ w. row_area w 0) may.width in
       let fills = only sheet ins.closure in
       let empty : IsEmptied sheet.area fills.before = subst (λ (r : Rect). IsEmptied r fills.before) (sym ins.over) fills.empty in
-      let renders = subst (λ (r : Rect). RendersRow text r fills.before sheet) (fills.empty.area ∙ sym ins.over) fills.renders in
+      let renders = subst (λ (r : Rect). RendersRow (RendersStr text) r fills.before sheet) (fills.empty.area ∙ sym ins.over) fills.renders in
       let painted : IsPaintedText text sheet =
-      row-painted text 0 (screen s.backend).width fills.before sheet over empty renders in
+      row-painted (RendersStr text) 0 (screen s.backend).width fills.before sheet over empty renders in
       let settled : IsSettledBuffer sheet = row-settled text sheet painted in
       let row : HasRow (screen s.backend).width text (rows_over screen s) (rows_over screen t) =
       row-appended (screen s.backend).width text sheet (rows_over screen s) (rows_over screen t) over painted
@@ -151,24 +165,28 @@ module _ {B : Type 0} (screen : B → Screen) where
   inserts-row-if text s t filled (Ok x) is only by = inserts-row text s t filled is only by
   inserts-row-if text s t filled (Err e) is only by = tt
 
-  -- a text was drawn over the viewport
-  pub draws-row : {X : Type 0} (text : List ℕ) (s t : TerminalData B) (ran : TerminalData B → Result (Unit {0}) X
-      → Option Position → BufferData → Type 0) → IsOverRow screen s → OnlyRenders ran (RendersRow text) → DrawOk screen ran s t
-      → DrawsRow screen text s t
-  draws-row text s t ran is only drawn =
+  -- the viewport was drawn over
+  pub draws-row : {X : Type 0} (renders : Rect → BufferData → BufferData → Type 0) (place : Rect → Option Position)
+      (s t : TerminalData B) (ran : TerminalData B → Result (Unit {0}) X → Option Position → BufferData → Type 0)
+      → IsOverRow screen s → OnlyRenders ran (RendersRow renders) → OnlyPlaces ran place
+      → ((sheet : BufferData) → IsRendered renders sheet → IsSettledBuffer sheet) → DrawOk screen ran s t
+      → DrawsRow screen renders place s t
+  draws-row renders place s t ran is only places settles drawn =
       let sized : IsSized screen s = inr is.known in
-      let shows = shows-rendered screen ran (RendersRow text) s t (inl is.in_step) is.current only drawn in
+      let shows = shows-rendered screen ran (RendersRow renders) s t (inl is.in_step) is.current only drawn in
       let applied = drawn.draws.applied in
       let stays = sized-stays screen s drawn.draws.sized sized drawn.draws.autoresized in
       let kept : t.viewport_area ≡ s.viewport_area = ap (λ (x : TerminalData B). x.viewport_area) applied.rest
       ∙ ap (λ (x : TerminalData B). x.viewport_area) stays.rest in
       let over : t.previous.area ≡ row_area (screen s.backend).width s.viewport_area.y = shows.area ∙ kept ∙ is.row in
-      let painted : IsPaintedText text t.previous =
-      row-painted text s.viewport_area.y (screen s.backend).width shows.rendered.blank t.previous over shows.rendered.emptied
+      let painted : IsRendered renders t.previous =
+      row-painted renders s.viewport_area.y (screen s.backend).width shows.rendered.blank t.previous over shows.rendered.emptied
       shows.rendered.rendered in
-      let settled : IsSettledBuffer t.previous = row-settled text t.previous painted in
+      let settled : IsSettledBuffer t.previous = settles t.previous painted in
       let keeps = drawn.draws.keeps is.in_step sized settled in
       let step = drawn.draws.in_step (inl is.in_step) settled in
+      let own : place drawn.draws.sized.viewport_area ≡ place t.viewport_area =
+      ap place (sym (ap (λ (x : TerminalData B). x.viewport_area) applied.rest)) in
       record {
         over = record {
           kind = subst IsInline (sym (ap (λ (x : TerminalData B). x.viewport) applied.rest
@@ -181,7 +199,12 @@ module _ {B : Type 0} (screen : B → Screen) where
           current = subst (λ (r : Rect). IsEmptied r t.current)
               (sym (ap (λ (x : TerminalData B). x.viewport_area) applied.rest)) applied.emptied;
         };
-        shown = record { sheet = t.previous; over = shows.area; painted = painted; shown = step.shown };
+        shown = record {
+          row = record { sheet = t.previous; over = shows.area; painted = painted; shown = step.shown };
+          cursor = subst (λ cursor. HasCursor cursor (screen t.backend))
+              (places drawn.draws.sized drawn.draws.cursor t.previous drawn.closure ∙ own)
+              (has-cursor drawn.draws.cursor applied.drawn.0 (screen t.backend) applied.drawn.2);
+        };
         keeps = keeps;
         most = subst (λ (x : Screen). WritesAtMost (screen s.backend).width x (screen t.backend)) stays.screen_stays
             (row_written (screen s.backend).width s.viewport_area.y drawn.draws.cursor
@@ -201,10 +224,10 @@ module _ {B : Type 0} (screen : B → Screen) where
   refused-by-backend-if X s t ran (Err e) sized areas never keeps by =
       refused-by-backend screen ran s t e sized areas never keeps by.0
 
-  -- a text was inserted, and then another one drawn
-  pub inserts-and-draws : (text status : List ℕ) (r s t : TerminalData B) → InsertsRow screen text r s
-      → DrawsRow screen status s t → InsertsRow screen text r t
-  inserts-and-draws text status r s t inserts drawn =
+  -- a text was inserted, and then the viewport drawn over
+  pub inserts-and-draws : (text : List ℕ) (renders : Rect → BufferData → BufferData → Type 0) (place : Rect → Option Position)
+      (r s t : TerminalData B) → InsertsRow screen text r s → DrawsRow screen renders place s t → InsertsRow screen text r t
+  inserts-and-draws text renders place r s t inserts drawn =
       let keeps = drawn.keeps in
       record {
         over = drawn.over;
@@ -241,10 +264,11 @@ module _ {B : Type 0} (screen : B → Screen) where
         current = starts.current;
       }
 
-  -- a start on a blank screen, and then a text drawn
-  pub starts-and-draws : (text : List ℕ) (b : B) (s t : TerminalData B) → IsBlank (screen b) → 0 < (screen b).height
-      → Starts screen (Inline 1) b s → DrawsRow screen text s t → StartsOverRow screen b t
-  starts-and-draws text b s t blank some starts drawn =
+  -- a start on a blank screen, and then the viewport drawn over
+  pub starts-and-draws : (renders : Rect → BufferData → BufferData → Type 0) (place : Rect → Option Position) (b : B)
+      (s t : TerminalData B) → IsBlank (screen b) → 0 < (screen b).height → Starts screen (Inline 1) b s
+      → DrawsRow screen renders place s t → StartsOverRow screen b t
+  starts-and-draws renders place b s t blank some starts drawn =
       let row = starts-in-row screen b s some starts in
       let keeps = drawn.keeps in
       let still = starts-blank screen (Inline 1) b s starts blank in

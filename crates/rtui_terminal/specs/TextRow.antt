@@ -1,6 +1,6 @@
 -- A terminal over one row of text, and rows of text above it.
-use Rattle.std.specs.Prelude.{◌≡◌, ℕ, ◌+◌, ◌-◌, min, List, [], ◌∷◌, ◌++◌}
-use Rattle.rtui_geometry.specs.declared.rect.Rect.{Rect}
+use Rattle.std.specs.Prelude.{◌≡◌, ℕ, ◌+◌, ◌-◌, min, List, [], ◌∷◌, ◌++◌, Option}
+use Rattle.rtui_geometry.specs.{declared.position.Position.Position, declared.rect.Rect.Rect}
 use Rattle.rtui_buffer.specs.{BufferData.BufferData, BufferData.IsEmptied, Shown.ShowsBuffer}
 use Rattle.rtui_cell.specs.{Look.Look, Grid.Grid}
 use Rattle.rtui_diff.specs.Shows.{RowAgrees}
@@ -10,7 +10,7 @@ use Rattle.rtui_viewport.specs.{Viewports.IsInline, Areas.IsBlankBelow}
 use Rattle.rtui_insert.specs.Rows.{WritesAtMost}
 use Rattle.rtui_terminal.specs.{TerminalData.TerminalData, InStep.IsInStep, InStep.KeepsAroundViewport}
 use Rattle.rtui_terminal.specs.{InStep.rows_over}
-use Rattle.rtui_terminal.specs.Rendered.{IsRendered}
+use Rattle.rtui_terminal.specs.{Rendered.IsRendered, Writing.cursor_placed}
 
 -- the area of a row of this width
 abbrev pub row_area : ℕ → ℕ → Rect
@@ -27,22 +27,26 @@ pub record IsRowOf (width : ℕ) (text : List ℕ) (row : List Look) : Type 0 wh
   pub painted : IsPaintedText text sheet
   pub agrees : RowAgrees width sheet.cells 0 row
 
--- the grid shows a text painted on an empty row
-pub record ShowsText (text : List ℕ) (area : Rect) (g : Grid) : Type 0 where
+-- the grid shows what rendering over an area makes of an empty buffer
+pub record ShowsOver (renders : Rect → BufferData → BufferData → Type 0) (area : Rect) (g : Grid) : Type 0 where
   pub sheet : BufferData
   pub over : sheet.area ≡ area
-  pub painted : IsPaintedText text sheet
+  pub painted : IsRendered renders sheet
   pub shown : ShowsBuffer sheet g
 
--- how a closure renders a text in the first row of a buffer, if the buffer has it
-abbrev pub RendersRow : List ℕ → Rect → BufferData → BufferData → Type 0
-RendersRow text area old new = HasFirstRow area old → RendersStr text area old new
+-- a screen's cursor is as a frame leaves it: hidden, or visible at a place
+abbrev pub HasCursor : Option Position → Screen → Type 0
+HasCursor cursor s = s ≡ cursor_placed cursor s
+
+-- how a closure renders in the first row of a buffer, if the buffer has it
+abbrev pub RendersRow : (Rect → BufferData → BufferData → Type 0) → Rect → BufferData → BufferData → Type 0
+RendersRow renders area old new = HasFirstRow area old → renders area old new
 
 -- what a closure leaves that renders a text over the whole of an empty buffer
 pub record FillsRow (text : List ℕ) (area : Rect) (sheet : BufferData) : Type 0 where
   pub before : BufferData
   pub empty : IsEmptied area before
-  pub renders : RendersRow text before.area before sheet
+  pub renders : RendersRow (RendersStr text) before.area before sheet
 
 module _ {B : Type 0} (screen : B → Screen) where
   -- the terminal is in step over one row as wide as the screen, whose size it knows, and its buffer to paint
@@ -54,14 +58,17 @@ module _ {B : Type 0} (screen : B → Screen) where
     pub in_step : IsInStep screen t
     pub current : IsEmptied t.viewport_area t.current
 
-  -- the viewport shows a text
-  abbrev pub ShowsRow : List ℕ → TerminalData B → Type 0
-  ShowsRow text t = ShowsText text t.viewport_area (screen t.backend).grid
+  -- the viewport shows what was rendered over it, and the cursor is at its place there, if it has one
+  pub record ShowsRow (renders : Rect → BufferData → BufferData → Type 0) (place : Rect → Option Position)
+      (t : TerminalData B) : Type 0 where
+    pub row : ShowsOver renders t.viewport_area (screen t.backend).grid
+    pub cursor : HasCursor (place t.viewport_area) (screen t.backend)
 
-  -- a text was drawn over the viewport, by at most one item for each column, and all else stays
-  pub record DrawsRow (text : List ℕ) (s t : TerminalData B) : Type 0 where
+  -- the viewport was drawn over, by at most one item for each column, and all else stays
+  pub record DrawsRow (renders : Rect → BufferData → BufferData → Type 0) (place : Rect → Option Position)
+      (s t : TerminalData B) : Type 0 where
     pub over : IsOverRow t
-    pub shown : ShowsRow text t
+    pub shown : ShowsRow renders place t
     pub keeps : KeepsAroundViewport screen s t
     pub most : WritesAtMost (screen s.backend).width (screen s.backend) (screen t.backend)
 

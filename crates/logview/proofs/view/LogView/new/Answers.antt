@@ -1,7 +1,7 @@
 use Rattle.std.proofs.Common.{rules, subst, sym}
 use Rattle.ratatui_core.specs.Terminal.{ShowsRow}
 use Rattle.ratatui_core.proofs.TerminalLemmas.{starts-sized, starts-areas, starts-over-row, starts-and-draws, refused-start}
-use Rattle.logview.specs.Rows.{status_text}
+use Rattle.logview.specs.Rows.{status_text, RendersStatus, end_place}
 use Rattle.logview.proofs.view.LogView.new.Goals as goal
 
 pub returns-clause-started : goal.returns-clause-started
@@ -12,8 +12,9 @@ returns-clause-started g c = λ blank some.
     let w = c.draw_status.new.self in
     let drawn = c.in_ok-draw_status.ensures.ok (starts-over-row screen c.args.backend t blank some starts) in
     record {
-      starts = starts-and-draws screen (status_text 0) c.args.backend t w.terminal blank some starts drawn;
-      status = subst (λ n. ShowsRow screen (status_text n) w.terminal) (sym c.draw_status.ensures.count) drawn.shown;
+      starts = starts-and-draws screen (RendersStatus (status_text 0)) (end_place (status_text 0)) c.args.backend t w.terminal blank some starts drawn;
+      status = subst (λ n. ShowsRow screen (RendersStatus (status_text n)) (end_place (status_text n)) w.terminal)
+          (sym c.draw_status.ensures.count) drawn.shown;
     }
 
 pub returns-in_err-draw_status-clause-refused : goal.returns-in_err-draw_status-clause-refused

@@ -1,7 +1,5 @@
 use Rattle.std.proofs.Common.{subst, sym, OnOk, arith}
-use Rattle.ratatui_core.specs.Terminal.{DrawsRow}
-use Rattle.logview.specs.Rows.{status_text}
-use Rattle.logview.proofs.ViewLemmas.{pushed_if, refused_if}
+use Rattle.logview.proofs.ViewLemmas.{DrawsStatus, pushed_if, refused_if}
 use Rattle.logview.proofs.view.LogView.push.Goals as goal
 
 pub returns-clause-pushed : goal.returns-clause-pushed
@@ -11,7 +9,7 @@ returns-clause-pushed g c = λ is.
     let w = c.draw_status.new.self in
     pushed_if screen c.args.line.now c.args.self.now m w c.draw_status.result (c.in_ok-insert_line.ensures.ok is)
     (c.in_ok-insert_line.ensures.kept is) (c.in_ok-insert_line.ensures.most is)
-    (λ over. subst (λ n. OnOk c.draw_status.result (DrawsRow screen (status_text n) m.terminal w.terminal))
+    (λ over. subst (λ n. OnOk c.draw_status.result (DrawsStatus screen n m.terminal w.terminal))
     (sym c.draw_status.ensures.count) (c.draw_status.ensures.ok over))
 
 pub returns-clause-refused : goal.returns-clause-refused

@@ -1,0 +1,94 @@
+//! A picture of each widget, as docs/WIDGETS.md shows them: its name, and the rows of a small screen.
+#![tactic(auto)]
+
+mod bars;
+mod boxes;
+mod lists;
+mod meters;
+
+use ratatui_core::backend::TestBackend;
+use ratatui_core::terminal::{Frame, Terminal};
+use std::alloc::{AllocError, Global};
+
+// A widget, by its name.
+#[derive(Clone, Copy)]
+enum Picture {
+    Block,
+    Paragraph,
+    List,
+    Table,
+    Tabs,
+    Gauge,
+    LineGauge,
+    Scrollbar,
+    Sparkline,
+    BarChart,
+    Canvas,
+}
+
+impl Picture {
+    fn name(self) -> &'static str {
+        match self {
+            Picture::Block => "Block",
+            Picture::Paragraph => "Paragraph",
+            Picture::List => "List",
+            Picture::Table => "Table",
+            Picture::Tabs => "Tabs",
+            Picture::Gauge => "Gauge",
+            Picture::LineGauge => "LineGauge",
+            Picture::Scrollbar => "Scrollbar",
+            Picture::Sparkline => "Sparkline",
+            Picture::BarChart => "BarChart",
+            Picture::Canvas => "Canvas",
+        }
+    }
+
+    // Paints it over a frame.
+    fn paint(self, alloc: Global, frame: &mut Frame<'_>) -> Result<(), AllocError> {
+        match self {
+            Picture::Block => boxes::block(alloc, frame),
+            Picture::Paragraph => boxes::paragraph(alloc, frame),
+            Picture::List => lists::list(alloc, frame),
+            Picture::Table => lists::table(alloc, frame),
+            Picture::Tabs => lists::tabs(alloc, frame),
+            Picture::Gauge => meters::gauge(frame),
+            Picture::LineGauge => meters::line_gauge(alloc, frame),
+            Picture::Scrollbar => meters::scrollbar(frame),
+            Picture::Sparkline => bars::sparkline(alloc, frame),
+            Picture::BarChart => bars::bar_chart(alloc, frame),
+            Picture::Canvas => bars::canvas(frame),
+        }
+    }
+}
+
+// Each widget, with the columns and rows of its picture.
+static PICTURES: [(Picture, u16, u16); 11] = [
+    (Picture::Block, 24, 4),
+    (Picture::Paragraph, 24, 4),
+    (Picture::List, 24, 3),
+    (Picture::Table, 24, 3),
+    (Picture::Tabs, 24, 1),
+    (Picture::Gauge, 24, 1),
+    (Picture::LineGauge, 24, 1),
+    (Picture::Scrollbar, 1, 6),
+    (Picture::Sparkline, 24, 2),
+    (Picture::BarChart, 24, 6),
+    (Picture::Canvas, 24, 6),
+];
+
+// Draws a widget on a screen of its own, and prints its name and that screen.
+fn show(rt: &HostRuntime, picture: Picture, width: u16, height: u16) -> anyhow::Result<()> {
+    let alloc = rt.alloc();
+    let mut terminal = Terminal::new(alloc, TestBackend::new(alloc, width, height)?)?;
+    terminal.draw(|frame| picture.paint(alloc, frame))?;
+    println!(rt; "{}", picture.name())?;
+    terminal.backend().write_to(&mut rt.stdout())?;
+    Ok(())
+}
+
+fn main(rt: HostRuntime) -> anyhow::Result<()> {
+    for (picture, width, height) in PICTURES {
+        show(&rt, picture, width, height)?;
+    }
+    Ok(())
+}

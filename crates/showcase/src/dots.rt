@@ -1,0 +1,73 @@
+//! The third page: grids of dots.
+
+ghost use Rattle.std.specs.Prelude.{◌≡◌};
+
+use ratatui_core::buffer::Buffer;
+use ratatui_core::layout::{Constraint, Layout, Rect, SplitInto};
+use ratatui_core::style::{Color, Style};
+use ratatui_core::symbols::Marker;
+use ratatui_core::text::Line;
+use ratatui_core::widgets::Widget;
+use ratatui_widgets::canvas::{Canvas, Circle, Drawing, Line as Segment, Rectangle};
+use ratatui_widgets::{Block, BorderType};
+use std::alloc::{AllocError, Global};
+
+// A box with a title.
+fn boxed<'a>(alloc: Global, title: &'a str) -> Result<Block<'a>, AllocError> {
+    Block::bordered(alloc)
+        .border_type(BorderType::Rounded)
+        .border_style(Style::new().fg(Color::Cyan))
+        .title(Line::raw(alloc, title)?.style(Style::new().fg(Color::Yellow)))
+}
+
+// A circle, a rectangle and a line, in dots of a sort.
+fn paint_shapes(
+    alloc: Global,
+    title: &str,
+    marker: Marker,
+    area: Rect,
+    buf: &mut Buffer,
+) -> Result<(), AllocError>
+    ensures { buf.new.area ≡ buf.old.area }
+{
+    let drawings = [
+        Drawing::Rectangle(Rectangle {
+            x: 10,
+            y: 10,
+            width: 100,
+            height: 60,
+            color: Color::Blue,
+        }),
+        Drawing::Circle(Circle {
+            x: 60,
+            y: 40,
+            radius: 28,
+            color: Color::Green,
+        }),
+        Drawing::Line(Segment {
+            x1: 0,
+            y1: 0,
+            x2: 119,
+            y2: 79,
+            color: Color::LightRed,
+        }),
+    ];
+    Canvas::new()
+        .block(boxed(alloc, title)?)
+        .marker(marker)
+        .x_bounds([0, 119])
+        .y_bounds([0, 79])
+        .paint(&drawings)
+        .render(area, buf)
+}
+
+/// Paints the same shapes in dots of braille and in half blocks.
+pub fn paint(alloc: Global, buf: &mut Buffer) -> Result<(), AllocError>
+    ensures { buf.new.area ≡ buf.old.area }
+{
+    let area = *buf.area();
+    let halves = [Constraint::Fill(1), Constraint::Fill(1)];
+    let [left, right]: [Rect; 2] = Layout::horizontal(alloc, &halves)?.areas(area);
+    paint_shapes(alloc, " Canvas: braille ", Marker::Braille, left, buf)?;
+    paint_shapes(alloc, " Canvas: half blocks ", Marker::HalfBlock, right, buf)
+}
