@@ -36,7 +36,7 @@ abbrev pub eighths_of : Share → ℕ → ℕ
 eighths_of s n = (16 * (n * parts_of s % whole_of s) + whole_of s) / (2 * whole_of s)
 
 -- the same, and rounded to the even one if two are as near
-abbrev pub evenly_rounded_part : Share → ℕ → ℕ
+unfoldable pub evenly_rounded_part : Share → ℕ → ℕ
 evenly_rounded_part s n =
     let rest = n * parts_of s % whole_of s in
     let down = filled_part s n in

@@ -65,6 +65,7 @@ impl Share {
     }
 
     // So much of a number, rounded to the nearest one, and to the even one if two are as near.
+    #[tactic(auto, unfolding(crate::specs::Shares::evenly_rounded_part))]
     pub(crate) fn evenly_rounded(self, number: u16) -> u16
         ensures value { result ≡ evenly_rounded_part self number }
         ensures within { result ≤ number }
