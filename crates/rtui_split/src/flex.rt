@@ -1,6 +1,8 @@
 //! Where the room goes that no part takes.
 ghost use Rattle.std.specs.Prelude.{◌≡◌, ◌≤◌, ◌+◌, ◌*◌, ◌-◌, ◌^◌, ◌<◌, ℕ, false, length};
 ghost use Rattle.rtui_split.specs.Spaces.{IsArranged, KeepsWishes, IsPacked, IsSpread, least_spaces};
+ghost use Rattle.rtui_split.specs.Spaces.{lead, first_share, middle_share};
+ghost use Rattle.rtui_split.specs.Shares.{wanted_before};
 
 use crate::draft::Draft;
 use crate::edge::{Overlapped, share_overlapped};
@@ -34,7 +36,7 @@ fn is_legacy(flex: Flex) -> bool
 
 // How much of what is left comes before the first part.
 fn lead_of(flex: Flex, left: u64) -> u64
-    ensures { result ≤ left }
+    ensures { result ≡ lead flex left }
 {
     match flex {
         Flex::End => left,
@@ -73,6 +75,7 @@ fn arrange_packed(parts: &[Part], room: Room, drafts: &mut [Draft], sizes: &mut 
 fn room_after_mins(parts: &[Part], room: u64, more: u64) -> u64
     ensures most { result ≤ room }
     ensures least { room ≤ result + more }
+    ensures spared { wanted_before 1 parts.now < result → result + more ≤ room }
 {
     match left_before(parts, 1, room) {
         Some(left) => room - more.min(left),
@@ -83,14 +86,17 @@ fn room_after_mins(parts: &[Part], room: u64, more: u64) -> u64
 // Spaces that share the rest: so many of equal size, or those at the ends half of the others.
 fn spaces_of(rest: u64, flex: Flex, count: u64) -> Spaces
     requires { count < 2 ^ 63 }
-    ensures { result.first + count * result.middle ≤ rest + result.middle }
+    ensures fit { result.first + count * result.middle ≤ rest + result.middle }
+    ensures first { IsSpread flex → 0 < count → result.first ≡ first_share flex count rest }
+    ensures middle { IsSpread flex → KeepsWishes flex count → 0 < count
+        → result.middle ≡ middle_share flex count rest }
 {
     match flex {
         Flex::SpaceBetween => Spaces {
             first: 0,
             middle: rest / count.saturating_sub(1).max(1),
         },
-        Flex::SpaceAround if count > 1 => {
+        Flex::SpaceAround if count > 0 => {
             let first = rest / (2 * count);
             Spaces {
                 first,

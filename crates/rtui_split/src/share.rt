@@ -1,5 +1,5 @@
 //! Shares room among the parts.
-ghost use Rattle.std.specs.Prelude.{◌≡◌, ◌-◌, ◌≤◌, ◌<◌, ◌+◌, ◌*◌, ℕ, length, sum, sum_by, map, min};
+ghost use Rattle.std.specs.Prelude.{◌≡◌, ◌-◌, ◌≤◌, ◌<◌, ◌+◌, ◌*◌, ◌^◌, ℕ, length, sum, sum_by, map, min};
 ghost use Rattle.std.specs.List.{AllZip};
 ghost use Rattle.rtui_split.specs.Shares.{if_before, if_in, wanted_before, wanted_in};
 ghost use Rattle.rtui_split.specs.Shares.{sized, Settled, IsShared};
@@ -173,7 +173,8 @@ pub(crate) fn share(
 
 // What nobody takes, if the sizes are those at a level.
 fn left_at(level: u64, room: u64, sizes: &[u64]) -> u64
-    ensures { result ≤ room - sum sizes.now }
+    ensures most { result ≤ room - sum sizes.now }
+    ensures top { room < 2 ^ 43 → level ≡ (room + 1) * 1048576 → result ≡ room - sum sizes.now }
 {
     if level < top_of(room) {
         0

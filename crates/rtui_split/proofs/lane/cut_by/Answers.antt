@@ -28,4 +28,5 @@ returns c = λ l is_lane is_rule.
       in_order = λ space. c.place.ensures.in_order (is_rule.overlap space);
       at_most = c.place.ensures.at_most;
       at_least = λ space. c.place.ensures.at_least (is_rule.overlap space);
+      edges = λ space. c.place.ensures.edges (is_rule.overlap space);
     }))
