@@ -1,5 +1,6 @@
 pub mod CutLemmas
 pub mod FlexLemmas
+pub mod GrowthLemmas
 pub mod LevelLemmas
 pub mod Lists
 pub mod ShareLemmas

@@ -43,6 +43,14 @@ pub AllZip-mapped : {A B : Type 0} (R : A → B → Type 0) (f : A → B) → ((
 AllZip-mapped R f holds [] = tt
 AllZip-mapped R f holds (x ∷ xs) = (holds x, AllZip-mapped R f holds xs)
 
+-- what holds of what a function makes of each element
+pub AllZip-unmapped : {A B C : Type 0} (R : B → C → Type 0) (f : A → B) (xs : List A) (ys : List C) → AllZip R (map f xs) ys
+    → AllZip (λ x y. R (f x) y) xs ys
+AllZip-unmapped R f [] [] all = tt
+AllZip-unmapped R f [] (y ∷ ys) all = absurd all
+AllZip-unmapped R f (x ∷ xs) [] all = absurd all
+AllZip-unmapped R f (x ∷ xs) (y ∷ ys) all = (all.0, AllZip-unmapped R f xs ys all.1)
+
 -- a list from a place on
 pub drop_cons : {A : Type 0} (xs : List A) (i : ℕ) (d : A) → i < length xs → drop i xs ≡ get_or xs i d ∷ drop (i + 1) xs
 drop_cons xs i d within = rw add-one (drop-cons xs i d within)

@@ -1,7 +1,7 @@
 -- What exact sizes make of the cells of a part.
 use Rattle.std.proofs.Common.{ℕ, ◌≡◌, ◌<◌, ◌≤◌, ◌+◌, ◌-◌, ◌*◌, ◌/◌, max, Bool, true, false, inl, inr, List, [], ◌∷◌, map, length}
 use Rattle.std.proofs.Common.{sum_by, All, refl, sym, ◌∙◌, ap, suc, nat_lt, if◌then◌else◌, subst, add-mul, mul-le-mul_right}
-use Rattle.std.proofs.Common.{arith, sum, ◌==◌}
+use Rattle.std.proofs.Common.{arith, sum, ap₂, ◌==◌}
 use Rattle.std.proofs.Math.Nat.{suc-mul, mul_right_comm, div-mul-le_self, lt-div-mul-add}
 use Rattle.std.proofs.lemmas.List.Sums.{sum_by-cons}
 use Rattle.std.specs.List.{AllZip}
@@ -19,6 +19,9 @@ use Rattle.rtui_split.specs.Spaces.{least_spaces, KeepsWishes, FitsBefore, HasRo
 use Rattle.rtui_split.specs.Split.{IsCutFrom, LeavesNothing}
 use Rattle.rtui_split.specs.declared.flex.Room.{Room}
 use Rattle.rtui_split.specs.Split.{gap_units, FitWishes, IsLane, HasWish, WithinWish, IsGivenBefore, IsWithinWish, IsSplit}
+use Rattle.rtui_split.specs.Split.{AreExact, IsLevel}
+use Rattle.rtui_split.specs.Spaces.{IsFilledBeside}
+use Rattle.rtui_split.proofs.Lists.{AllZip-unmapped}
 use Rattle.rtui_split.specs.Split.{size_at, total_weight, NoneTakes, IsDeniedFrom, HasExactPlaces}
 use Rattle.rtui_split.specs.{Wishes.weight_in, Cut.AreEdges, Spaces.IsFlexed}
 use Rattle.rtui_split.specs.Shares.{IsDenied, TakeNothing, weights}
@@ -195,16 +198,11 @@ sum_sized_is cells even level (c ∷ cs) =
       sum_by-cons (sized (record { legacy = false; even = even }) level) (part_in cells c) (map (part_in cells) cs),
     )
 
-sum_units_is : (cells : ℕ) (even : Bool) (level : ℕ) (cs : List Constraint) (units : List ℕ)
-    → units ≡ map (sized (record { legacy = false; even = even }) level) (map (part_in cells) cs)
-    → sum units ≡ sum_by (size_at cells even level) cs
-sum_units_is cells even level cs units filled =
-    omega (
-      arith,
-      ap sum filled,
-      sum-map (sized (record { legacy = false; even = even }) level) (map (part_in cells) cs),
-      sum_sized_is cells even level cs,
-    )
+all_sized_are : (cells : ℕ) (even : Bool) (level : ℕ) (cs : List Constraint)
+    → map (sized (record { legacy = false; even = even }) level) (map (part_in cells) cs) ≡ map (size_at cells even level) cs
+all_sized_are cells even level [] = refl
+all_sized_are cells even level (c ∷ cs) =
+    ap₂ (λ x xs. x ∷ xs) (sized_is cells even level c) (all_sized_are cells even level cs)
 
 -- a weight above 0 takes at least the level
 one_weight : (k level : ℕ) → 0 < k → level / 1048576 ≤ k * level / 1048576
@@ -276,6 +274,36 @@ weights_are cells (c ∷ cs) =
       sum_by-cons (weight_in false) c cs,
     )
 
+-- sizes that are filled are those at a level
+levelled : (l : LayoutData) (cells n : ℕ) (units : List ℕ) (o : ℕ) → n ≡ length l.constraints
+    → IsFilledBeside (map (part_in cells) l.constraints) (record
+    { whole = cells * 5040000; flex = l.flex; gap = gap_units l.spacing; overlap = o }) units
+    → length (map (part_in cells) l.constraints) ≡ n
+    → (even : Bool) × (level : ℕ) × (units ≡ map (size_at cells even level) l.constraints) × IsLevel l cells even level
+levelled l cells n units o long filled same =
+    let cs = l.constraints in
+    let even = filled.0 in
+    let level = filled.1 in
+    let weighed : even ≡ (total_weight cs == 0) = filled.4 ∙ ap (λ n. n == 0) (weights_are cells cs) in
+    let sizes : units ≡ map (size_at cells even level) cs = filled.2 ∙ all_sized_are cells even level cs in
+    let least : least_spaces l.flex (length (map (part_in cells) cs)) * gap_units l.spacing
+    ≡ least_spaces l.flex (length cs) * gap_units l.spacing =
+    ap (λ k. least_spaces l.flex k * gap_units l.spacing) (omega (arith, long, same)) in (
+      even,
+      level,
+      sizes,
+      (
+        λ some. omega (
+          arith,
+          filled.3 (omega (arith, taker_le cells even level cs weighed some, sum_sized_is cells even level cs)),
+          sum_sized_is cells even (level + 1048576) cs,
+          least,
+        ),
+        weighed,
+        omega (arith, filled.5, ap sum sizes, sum-map (size_at cells even level) cs, least),
+      ),
+    )
+
 -- a part that is denied more than its wish
 denied_each : (t cells : ℕ) (d : Direction) (c : Constraint) (units : ℕ) (p : Rect) → IsDenied t (part_in cells c) units
     → AtMostCells units (length_of d p) → IsDeniedFrom t cells d c p
@@ -313,8 +341,9 @@ exact_places : (l : LayoutData) (start cells n : ℕ) (parts : List Rect) (units
     × IsFlexed l.flex (TakeNothing (map (part_in cells) l.constraints)) n (gap_units l.spacing) spaces.first spaces.middle last)
     → ((rounding : ℕ) × (2520000 ≤ rounding) × (rounding ≤ 2557800)
     × AreEdges l.direction start rounding spaces.middle spaces.first units parts)
+    → AreExact l cells units
     → HasExactPlaces l start cells parts
-exact_places l start cells n parts units spaces o long flexed edges =
+exact_places l start cells n parts units spaces o long flexed edges exact =
     let F : ℕ → Type 0 = λ k. IsFlexed l.flex (NoneTakes l.constraints) k (gap_units l.spacing) spaces.first spaces.middle
     flexed.0 in (
       units,
@@ -323,6 +352,7 @@ exact_places l start cells n parts units spaces o long flexed edges =
       flexed.0,
       edges.0,
       record {
+        sizes = exact;
         whole = omega (arith, flexed.1, ap (λ k. (k - 1) * spaces.middle) long);
         flexed = subst F long (flexed_for l.flex (TakeNothing (map (part_in cells) l.constraints)) (NoneTakes l.constraints) n
             (gap_units l.spacing) spaces.first spaces.middle flexed.0
@@ -333,24 +363,15 @@ exact_places l start cells n parts units spaces o long flexed edges =
     )
 
 -- parts that are cut from sizes at a level
-cut_one : (cells : ℕ) (even : Bool) (level : ℕ) (d : Direction) (c : Constraint) (p : Rect)
-    → AtMostCells (sized (record { legacy = false; even = even }) level (part_in cells c)) (length_of d p)
-    → AtLeastCells (sized (record { legacy = false; even = even }) level (part_in cells c)) (length_of d p)
-    → IsCutAt cells even level d c p
-cut_one cells even level d c p most least =
-    let P : ℕ → Type 0 = λ n. AtMostCells n (length_of d p) in
-    let Q : ℕ → Type 0 = λ n. AtLeastCells n (length_of d p) in
-    record { at_most = subst P (sized_is cells even level c) most; at_least = subst Q (sized_is cells even level c) least }
-
 cut_all : (cells : ℕ) (even : Bool) (level : ℕ) (d : Direction) (cs : List Constraint) (ps : List Rect)
-    → AllZip (IsCutTo AtMostCells d) (map (sized (record { legacy = false; even = even }) level) (map (part_in cells) cs)) ps
-    → AllZip (IsCutTo AtLeastCells d) (map (sized (record { legacy = false; even = even }) level) (map (part_in cells) cs)) ps
+    → AllZip (IsCutTo AtMostCells d) (map (size_at cells even level) cs) ps
+    → AllZip (IsCutTo AtLeastCells d) (map (size_at cells even level) cs) ps
     → AllZip (IsCutAt cells even level d) cs ps
 cut_all cells even level d [] [] most least = tt
 cut_all cells even level d [] (p ∷ ps) most least = absurd most
 cut_all cells even level d (c ∷ cs) [] most least = absurd most
 cut_all cells even level d (c ∷ cs) (p ∷ ps) most least = (
-  cut_one cells even level d c p most.0 least.0,
+  record { at_most = most.0; at_least = least.0 },
   cut_all cells even level d cs ps most.1 least.1,
 )
 
@@ -417,28 +438,27 @@ is_split l area units spaces parts cells o cells_are small long arranged placed 
           subst H cells_are (λ spaced.
           exact_places l (first_cell d area) cells (length (map (part_in cells) cs)) parts units spaces o long_cs
           ((arranged space (keeps k)).flexed (omega (arith, some, long_cs)) (omega (arith, cells_are, small)) (fits 0 spaced))
-          (placed.edges space (omega (arith, (arranged space (keeps k)).fit 0 (fits 0 spaced), cells_are))));
+          (placed.edges space (omega (arith, (arranged space (keeps k)).fit 0 (fits 0 spaced), cells_are)))
+          (record {
+            within = AllZip-unmapped IsModest (part_in cells) cs units (arranged space (keeps k)).at_most;
+            given = λ t last fit. AllZip-unmapped (IsGranted t) (part_in cells) cs units
+                ((arranged space (keeps k)).granted t last (fits t fit));
+            later = λ t last misses. AllZip-unmapped (IsDenied t) (part_in cells) cs units
+                ((arranged space (keeps k)).later t last (fits 0 spaced) (λ f. misses (unfits t f)));
+            rest = λ fit. levelled l cells (length cs) units o refl
+                ((arranged space (keeps k)).filled (omega (arith, cells_are, small)) (fits 5 fit)) long_cs;
+          }));
       rest = λ space k. let H : ℕ → Type 0 = λ n. FitWishes 5 l n → SharesRest l n parts in
           subst H cells_are (λ fit.
-          let filled = (arranged space (keeps k)).filled (omega (arith, cells_are, small)) (fits 5 fit) in
-          let even = filled.0 in
-          let level = filled.1 in
-          let weighed : even ≡ (total_weight cs == 0) = filled.4 ∙ ap (λ n. n == 0) (weights_are cells cs) in
-          let all : sum units ≡ sum_by (size_at cells even level) cs = sum_units_is cells even level cs units filled.2 in
+          let filled = levelled l cells (length cs) units o refl
+          ((arranged space (keeps k)).filled (omega (arith, cells_are, small)) (fits 5 fit)) long_cs in
           let least = placed.at_least space (omega (arith, (arranged space (keeps k)).fit 5 (fits 5 fit), cells_are)) in
           let A : List ℕ → Type 0 = λ us. AllZip (IsCutTo AtMostCells d) us parts in
           let B : List ℕ → Type 0 = λ us. AllZip (IsCutTo AtLeastCells d) us parts in (
-            even,
-            level,
-            cut_all cells even level d cs parts (subst A filled.2 placed.at_most) (subst B filled.2 least),
-            λ some. omega (
-              arith,
-              filled.3 (omega (arith, taker_le cells even level cs weighed some, sum_sized_is cells even level cs)),
-              sum_sized_is cells even (level + 1048576) cs,
-              ap (λ n. least_spaces l.flex n * gap_units l.spacing) long_cs,
-            ),
-            weighed,
-            omega (arith, filled.5, all, ap (λ n. least_spaces l.flex n * gap_units l.spacing) long_cs),
+            filled.0,
+            filled.1,
+            cut_all cells filled.0 filled.1 d cs parts (subst A filled.2 placed.at_most) (subst B filled.2 least),
+            filled.3,
           ));
     }
 

@@ -1,6 +1,6 @@
 -- What a layout makes of an area.
 use Rattle.std.specs.Prelude.{ℕ, ◌≡◌, ◌+◌, ◌-◌, ◌*◌, ◌/◌, ◌<◌, ◌==◌, Bool, false, sum_by, ◌≤◌, max, List, [], ◌∷◌}
-use Rattle.std.specs.Prelude.{sum, length, All, nat_le, if◌then◌else◌, ⊤}
+use Rattle.std.specs.Prelude.{sum, map, length, All, nat_le, if◌then◌else◌, ⊤}
 use Rattle.std.specs.List.{AllZip}
 use Rattle.rtui_geometry.specs.{Rect.doubled, Rect.shrunk, declared.margin.Margin.Margin}
 use Rattle.rtui_geometry.specs.{declared.rect.Rect.Rect}
@@ -93,16 +93,20 @@ HasTaker (Fill n ∷ cs) = ⊤
 abbrev pub total_weight : List Constraint → ℕ
 total_weight cs = sum_by (weight_in false) cs
 
--- the parts have their sizes at one level, and if some part takes what is left, there is no room for a unit
--- more for each weight. Weights count as even if all are 0. The sizes fit, with the spaces
-abbrev pub SharesRest : LayoutData → ℕ → List Rect → Type 0
-SharesRest l cells parts = (even : Bool) × (level : ℕ)
-    × AllZip (IsCutAt cells even level l.direction) l.constraints parts
-    × (HasTaker l.constraints → cells * 5040000 < sum_by (size_at cells even (level + 1048576))
+-- the sizes at a level fit, with the spaces, and if some part takes what is left, there is no room for a unit
+-- more for each weight. Weights count as even if all are 0
+abbrev pub IsLevel : LayoutData → ℕ → Bool → ℕ → Type 0
+IsLevel l cells even level = (HasTaker l.constraints → cells * 5040000
+    < sum_by (size_at cells even (level + 1048576))
     l.constraints + least_spaces l.flex (length l.constraints) * gap_units l.spacing)
     × (even ≡ (total_weight l.constraints == 0))
     × (sum_by (size_at cells even level) l.constraints
     + least_spaces l.flex (length l.constraints) * gap_units l.spacing ≤ cells * 5040000)
+
+-- the parts have their sizes at one such level
+abbrev pub SharesRest : LayoutData → ℕ → List Rect → Type 0
+SharesRest l cells parts = (even : Bool) × (level : ℕ)
+    × AllZip (IsCutAt cells even level l.direction) l.constraints parts × IsLevel l cells even level
 
 -- an exact size, in units, and the part that it is cut to: the whole number of cells below or above
 pub record IsCutFrom (d : Direction) (units : ℕ) (p : Rect) : Type 0 where
@@ -129,11 +133,34 @@ NoneTakes cs = All TakesNothing cs
 abbrev pub IsDeniedFrom : ℕ → ℕ → Direction → Constraint → Rect → Type 0
 IsDeniedFrom t cells d c p = AtMostCells (wish cells c) (length_of d p) × (t ≤ turn c → length_of d p ≡ 0)
 
+-- the same of exact sizes, in units: nothing over the wish if the part takes nothing of what is left, the wish if
+-- its turn comes before this one, and nothing over it then, and nothing at all if its turn isn't before this one
+abbrev pub IsModestAt : ℕ → Constraint → ℕ → Type 0
+IsModestAt cells c units = TakesNothing c → units ≤ wish cells c
+
+abbrev pub IsGrantedAt : ℕ → ℕ → Constraint → ℕ → Type 0
+IsGrantedAt t cells c units = turn c < t → wish cells c ≤ units
+
+abbrev pub IsDeniedAt : ℕ → ℕ → Constraint → ℕ → Type 0
+IsDeniedAt t cells c units = (units ≤ wish cells c) × (t ≤ turn c → units ≡ 0)
+
+-- exact sizes: nobody has more than it wishes but of what is left, all whose wishes fit have theirs, from the first
+-- turn that comes too short on nobody has more than it wishes, and those after it nothing, and if all fit, they are
+-- the sizes at one level
+pub record AreExact (l : LayoutData) (cells : ℕ) (units : List ℕ) : Type 0 where
+  pub within : AllZip (IsModestAt cells) l.constraints units
+  pub given : (t : ℕ) → t ≤ 5 → FitWishes t l cells → AllZip (IsGrantedAt t cells) l.constraints units
+  pub later : (t : ℕ) → t ≤ 5 → (FitWishes t l cells → ⊥)
+      → AllZip (IsDeniedAt t cells) l.constraints units
+  pub rest : FitWishes 5 l cells → (even : Bool) × (level : ℕ)
+      × (units ≡ map (size_at cells even level) l.constraints) × IsLevel l cells even level
+
 -- exact sizes, in units, and spaces before, between and after them that make up the area and are as the flex
 -- says: the parts are these sizes, each edge cut to the nearest column or row. A half, and up to 0.0075 less,
 -- goes to the later one
 pub record IsLaidOut (l : LayoutData) (start cells : ℕ) (parts : List Rect) (units : List ℕ)
     (first middle last rounding : ℕ) : Type 0 where
+  pub sizes : AreExact l cells units
   pub whole : first + sum units + (length l.constraints - 1) * middle + last ≡ cells * 5040000
   pub flexed : IsFlexed l.flex (NoneTakes l.constraints) (length l.constraints) (gap_units l.spacing)
       first middle last
