@@ -14,7 +14,7 @@ use Rattle.rtui_split.specs.Spaces.{IsFlexed, IsFlexedIn, lead, first_share, mid
 use Rattle.rtui_split.proofs.ShareLemmas.{before-later}
 
 -- so much more for each
-sum-plus : (m : ℕ) (xs : List ℕ) → sum_by (λ s. s + m) xs ≡ sum xs + length xs * m
+pub sum-plus : (m : ℕ) (xs : List ℕ) → sum_by (λ s. s + m) xs ≡ sum xs + length xs * m
 sum-plus m [] = omega arith
 sum-plus m (x ∷ xs) = grind (arith, sum-plus m xs, sum_by-cons (λ s. s + m) x xs, sum_by-cons (λ s. s) x xs)
 

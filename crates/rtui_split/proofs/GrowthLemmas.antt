@@ -103,8 +103,14 @@ within_wishes cells (c ∷ cs) fits =
     let heads : wished_before 5 cells (c ∷ cs) ≡ own c + wished_before 5 cells cs = sum_by-cons own c cs in
     let parts : cells * sum_by per_cell (c ∷ cs) ≡ cells * per_cell c + cells * sum_by per_cell cs =
     ap (λ x. cells * x) (sum_by-cons per_cell c cs) ∙ mul_sum cells (per_cell c) (sum_by per_cell cs) in
-    omega (arith, parts, heads, within_wish cells c (omega (arith, fits, heads)), within_wishes cells cs
-    (omega (arith, fits, heads)))
+    omega (
+      arith,
+      parts,
+      heads,
+      within_wish cells c (omega (arith, fits, heads)),
+      within_wishes cells cs
+          (omega (arith, fits, heads)),
+    )
   where
     mul_sum : (k a b : ℕ) → k * (a + b) ≡ k * a + k * b
     mul_sum k a b = omega (arith, mul_comm k (a + b), mul_comm k a, mul_comm k b, add-mul a b k)
@@ -201,19 +207,19 @@ each_no_smaller : (cells : ℕ) (even : Bool) (level next least : ℕ) (cs : Lis
     → All (IsNoSmaller cells even level next (ratios cs)) cs
 each_no_smaller cells even level next least cs small wishes fits most = elim (taker_or_none cs) [
   | inr none ↦ All-weaker TakesNothing (IsNoSmaller cells even level next (ratios cs))
-        (flat_no_smaller cells even level next (ratios cs)) cs none
+      (flat_no_smaller cells even level next (ratios cs)) cs none
   | inl some ↦
       let below = λ (c : Constraint). size_at cells even level c ≤ size_at cells even (next + 1048576) c + ratios cs in
       let all : All below cs = elim (lt_or_le (next + 1048576) level) [
         | inl higher ↦ each_within (size_at cells even level) (size_at cells even (next + 1048576)) (ratios cs) cs
-              (λ c. size_higher cells even (next + 1048576) level c (omega arith))
-              (omega (
-                arith,
-                fits,
-                most some,
-                sizes_next cells even (next + 1048576) cs,
-                per_cell_within cells cs small wishes,
-              ))
+            (λ c. size_higher cells even (next + 1048576) level c (omega arith))
+            (omega (
+              arith,
+              fits,
+              most some,
+              sizes_next cells even (next + 1048576) cs,
+              per_cell_within cells cs small wishes,
+            ))
         | inr lower ↦ each_higher cells even level (next + 1048576) (ratios cs) cs lower
       ] in
       All-weaker below (IsNoSmaller cells even level next (ratios cs)) (no_smaller cells even level next (ratios cs)) cs all

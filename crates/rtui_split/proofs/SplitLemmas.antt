@@ -375,6 +375,20 @@ cut_all cells even level d (c ∷ cs) (p ∷ ps) most least = (
   cut_all cells even level d cs ps most.1 least.1,
 )
 
+-- parts that are cut from sizes at a level share the rest
+shares_rest_of : (l : LayoutData) (cells : ℕ) (units : List ℕ) (parts : List Rect)
+    → ((even : Bool) × (level : ℕ) × (units ≡ map (size_at cells even level) l.constraints) × IsLevel l cells even level)
+    → AllZip (IsCutTo AtMostCells l.direction) units parts → AllZip (IsCutTo AtLeastCells l.direction) units parts
+    → SharesRest l cells parts
+shares_rest_of l cells units parts filled most least =
+    let A : List ℕ → Type 0 = λ us. AllZip (IsCutTo AtMostCells l.direction) us parts in
+    let B : List ℕ → Type 0 = λ us. AllZip (IsCutTo AtLeastCells l.direction) us parts in (
+      filled.0,
+      filled.1,
+      cut_all cells filled.0 filled.1 l.direction l.constraints parts (subst A filled.2 most) (subst B filled.2 least),
+      filled.3,
+    )
+
 cut_from : (d : Direction) (us : List ℕ) (ps : List Rect) → AllZip (IsCutTo AtMostCells d) us ps
     → AllZip (IsCutTo AtLeastCells d) us ps → AllZip (IsCutFrom d) us ps
 cut_from d [] [] most least = tt
@@ -450,16 +464,11 @@ is_split l area units spaces parts cells o cells_are small long arranged placed 
           }));
       rest = λ space k. let H : ℕ → Type 0 = λ n. FitWishes 5 l n → SharesRest l n parts in
           subst H cells_are (λ fit.
-          let filled = levelled l cells (length cs) units o refl
-          ((arranged space (keeps k)).filled (omega (arith, cells_are, small)) (fits 5 fit)) long_cs in
-          let least = placed.at_least space (omega (arith, (arranged space (keeps k)).fit 5 (fits 5 fit), cells_are)) in
-          let A : List ℕ → Type 0 = λ us. AllZip (IsCutTo AtMostCells d) us parts in
-          let B : List ℕ → Type 0 = λ us. AllZip (IsCutTo AtLeastCells d) us parts in (
-            filled.0,
-            filled.1,
-            cut_all cells filled.0 filled.1 d cs parts (subst A filled.2 placed.at_most) (subst B filled.2 least),
-            filled.3,
-          ));
+          shares_rest_of l cells units parts
+          (levelled l cells (length cs) units o refl
+          ((arranged space (keeps k)).filled (omega (arith, cells_are, small)) (fits 5 fit)) long_cs)
+          placed.at_most
+          (placed.at_least space (omega (arith, (arranged space (keeps k)).fit 5 (fits 5 fit), cells_are))));
     }
 
 -- spaces between the edges of a lane are spacers of the area

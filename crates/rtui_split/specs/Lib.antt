@@ -1,4 +1,5 @@
 pub mod Cut
+pub mod Flexed
 pub mod Growth
 pub mod Shares
 pub mod Spacers

@@ -1,13 +1,27 @@
 //! Laws of divided areas. Calling one of these functions costs nothing and tells the caller's proof
 //! its law.
 
-ghost use Rattle.std.specs.Prelude.{◌≡◌, ◌+◌, List, length};
+ghost use Rattle.std.specs.Prelude.{◌≡◌, ◌+◌, ◌<◌, ◌≤◌, List, length};
 ghost use Rattle.rtui_geometry.specs.declared.rect.Rect.{Rect};
 ghost use Rattle.rtui_layout.specs.Layout.{LayoutData};
 ghost use Rattle.rtui_split.specs.Cut.{IsSpace};
 ghost use Rattle.rtui_split.specs.Spaces.{KeepsWishes};
 ghost use Rattle.rtui_split.specs.Split.{cells_of, FitWishes, IsSplit};
 ghost use Rattle.rtui_split.specs.Growth.{HasGrown};
+ghost use Rattle.rtui_split.specs.Flexed.{HasFlexedSpaces};
+
+/// The spaces before, between and after the parts are as the flex says, in whole columns or rows:
+/// of a million parts at most.
+///
+/// `Start` leaves what no part takes after the last part, `End` before the first, and `Center` half
+/// at each end, the odd cell before the first. The spaces of the others share it: each is the whole
+/// number below or above its share, and with `SpaceAround` those at the ends have half a share.
+pub fn spaces_are_as_the_flex_says()
+    ensures { (l : LayoutData) (area : Rect) (parts : List Rect) → IsSplit l area parts
+        → IsSpace l.spacing → KeepsWishes l.flex (length l.constraints) → 0 < length l.constraints
+        → length l.constraints ≤ 1000000 → FitWishes 0 l (cells_of l.direction area)
+        → HasFlexedSpaces l area parts }
+{}
 
 /// Where all wishes fit, one column or row more makes no part smaller before its edges are cut to
 /// whole cells.
