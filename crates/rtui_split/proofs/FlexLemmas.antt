@@ -1,6 +1,6 @@
 -- What the spaces take, and what they leave for the parts.
 use Rattle.std.proofs.Common.{ℕ, ◌≡◌, ◌≤◌, ◌+◌, ◌-◌, ◌*◌, false, List, [], ◌∷◌, length, sum, sum_by, refl, ap, add-mul}
-use Rattle.std.proofs.Common.{◌<◌, ◌/◌, ◌%◌, ◌^◌, ◌⊎◌, subst, sym, ◌∙◌, inl, inr, mul-le-mul_right, arith}
+use Rattle.std.proofs.Common.{◌<◌, ◌/◌, ◌%◌, ◌^◌, ◌⊎◌, subst, sym, inl, inr, mul-le-mul_right, arith}
 use Rattle.std.proofs.lemmas.Bool.Decides.{nat_tests}
 use Rattle.std.specs.List.{AllZip}
 use Rattle.std.proofs.Math.Nat.{mul_comm, mul_assoc, div-add-mod, mod-lt}

@@ -1,7 +1,7 @@
 -- What a column or row more makes of exact sizes.
-use Rattle.std.proofs.Common.{ℕ, ◌≡◌, ◌<◌, ◌≤◌, ◌+◌, ◌*◌, ◌/◌, ◌-◌, ◌^◌, ◌==◌, ◌⊎◌, inl, inr, min, max, Bool, true, false, List}
+use Rattle.std.proofs.Common.{ℕ, ◌≡◌, ◌<◌, ◌≤◌, ◌+◌, ◌*◌, ◌/◌, ◌-◌, ◌^◌, ◌⊎◌, inl, inr, max, Bool, List}
 use Rattle.std.proofs.Common.{[], ◌∷◌, All, sum_by, if◌then◌else◌, nat_lt, length, sym, ◌∙◌, ap, subst, arith, add-mul, mul-le-mul_left}
-use Rattle.std.proofs.Math.Nat.{mul_assoc, mul_comm, mul_right_comm, div-mul-le_self, lt-div-mul-add, div-lt_iff_lt-mul}
+use Rattle.std.proofs.Math.Nat.{mul_assoc, mul_comm, div-mul-le_self, lt-div-mul-add, div-lt_iff_lt-mul}
 use Rattle.std.proofs.Math.Nat.{le_of_mul-le-mul_left}
 use Rattle.std.proofs.lemmas.Nat.{le-div}
 use Rattle.std.proofs.lemmas.List.Sums.{sum_by-cons, sum_by-le-sum_by}
@@ -16,7 +16,7 @@ use Rattle.rtui_split.specs.Split.{cells_of, size_at, HasTaker, NoneTakes, IsCut
 use Rattle.std.specs.List.{AllZip}
 use Rattle.rtui_layout.specs.declared.direction.Direction.{Direction}
 use Rattle.rtui_layout.specs.declared.direction.Direction.TheVariants.{Horizontal, Vertical}
-use Rattle.rtui_split.specs.Growth.{one_ratio, ratios, slack, IsNoSmaller, HasGrown}
+use Rattle.rtui_split.specs.Growth.{one_ratio, ratios, IsNoSmaller, HasGrown}
 use Rattle.rtui_split.proofs.FlexLemmas.{lt_or_le}
 
 -- a quotient of a sum

@@ -1,5 +1,6 @@
 -- Sizes at levels.
-use Rattle.std.proofs.Common.{ℕ, ◌≤◌, ◌*◌, ◌/◌, Bool, true, false, max, List, [], ◌∷◌, sum_by, if◌then◌else◌, mul-le-mul_left, arith}
+use Rattle.std.proofs.Common.{ℕ, ◌≤◌, ◌*◌, ◌/◌, Bool, true, false, max, List, [], ◌∷◌, sum_by, if◌then◌else◌, arith}
+use Rattle.std.proofs.Common.{mul-le-mul_left}
 use Rattle.std.proofs.lemmas.List.Sums.{sum_by-le-sum_by}
 use Rattle.rtui_layout.specs.declared.constraint.Constraint.{Constraint}
 use Rattle.rtui_layout.specs.declared.constraint.Constraint.TheVariants.{Min, Max, Length, Percentage, Ratio, Fill}

@@ -1,5 +1,6 @@
 -- Sums of wishes, turn by turn, and what sizes keep to.
-use Rattle.std.proofs.Common.{ℕ, ◌≡◌, ◌<◌, ◌≤◌, ◌+◌, ◌-◌, ◌*◌, ◌^◌, ◌==◌, List, [], ◌∷◌, sum, sum_by, map, Bool, refl, subst, arith}
+use Rattle.std.proofs.Common.{ℕ, ◌≡◌, ◌<◌, ◌≤◌, ◌+◌, ◌-◌, ◌*◌, ◌^◌, ◌==◌, List, [], ◌∷◌, sum, sum_by, map, Bool, refl}
+use Rattle.std.proofs.Common.{subst, arith}
 use Rattle.std.proofs.lemmas.Bool.Decides.{nat_tests}
 use Rattle.std.proofs.lemmas.List.Sums.{sum_by-cons, sum_by-le-sum_by, sum-map}
 use Rattle.std.specs.List.{AllZip}
@@ -64,8 +65,10 @@ settled_share legacy ps room sizes t short each all fits misses = record {
   at_most = AllZip-weaker (Settled t) IsModest (λ p s settled modest. settled.at_most) ps sizes each;
   short = λ u last missing. all;
   later = λ u last missing.
-      let after : t + 1 ≤ u = not_after (t + 1) u (λ later. absurd (omega (arith, missing, fits, before-later u t ps (omega arith)))) in
-      AllZip-weaker (Settled t) (IsDenied u) (λ p s settled. (settled.at_most, λ from. settled.later (omega arith))) ps sizes each;
+      let after : t + 1 ≤ u = not_after (t + 1) u
+      (λ later. absurd (omega (arith, missing, fits, before-later u t ps (omega arith)))) in
+      AllZip-weaker (Settled t) (IsDenied u) (λ p s settled. (settled.at_most, λ from. settled.later (omega arith)))
+      ps sizes each;
   rest = λ small modest. omega arith;
   filled = λ small enough. absurd (omega (arith, misses, before-later (t + 1) 5 ps (omega arith)));
 }

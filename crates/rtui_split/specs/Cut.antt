@@ -45,8 +45,8 @@ Alternate d a b (s ∷ ss) [] = (first_cell d s ≡ a) × (after_of d s ≡ b) �
 Alternate d a b (s ∷ ss) (p ∷ ps) = (first_cell d s ≡ a) × (after_of d s ≡ first_cell d p)
     × Alternate d (after_of d p) b ss ps
 
--- parts of exact sizes, in units, from an exact place on, with the same space between two: their edges are cut
--- to whole cells
+-- parts of exact sizes, in units, from an exact place on, with the same space between two: their edges are
+-- cut to whole cells
 abbrev pub AreEdges : Direction → ℕ → ℕ → ℕ → ℕ → List ℕ → List Rect → Type 0
 AreEdges d start rounding middle at [] [] = ⊤
 AreEdges d start rounding middle at [] (p ∷ ps) = ⊥

@@ -15,8 +15,8 @@ one_ratio _ = 0
 abbrev pub ratios : List Constraint → ℕ
 ratios cs = sum_by one_ratio cs
 
--- by how many units a part that takes what is left may miss, since units aren't divided: one for each of its weight,
--- and one for each ratio
+-- how many units a part that takes what is left may miss, since units aren't divided: one for each of its
+-- weight, and one for each ratio
 abbrev pub slack : Bool → ℕ → Constraint → ℕ
 slack even rs (Min n) = 1 + rs
 slack even rs (Fill n) = (if even then max n 1 else n) + rs
@@ -27,8 +27,8 @@ abbrev pub IsNoSmaller : ℕ → Bool → ℕ → ℕ → ℕ → Constraint →
 IsNoSmaller cells even level next rs c = size_at cells even level c
     ≤ size_at (cells + 1) even next c + slack even rs c
 
--- the parts of an area are cut from exact sizes, those of an area of a column or row more too, and no exact size
--- is smaller there
+-- the parts of an area are cut from exact sizes, those of an area of a column or row more too, and no exact
+-- size is smaller there
 abbrev pub HasGrown : LayoutData → ℕ → List Rect → List Rect → Type 0
 HasGrown l cells parts more = (even : Bool) × (level : ℕ) × (next : ℕ)
     × AllZip (IsCutAt cells even level l.direction) l.constraints parts

@@ -39,8 +39,8 @@ abbrev pub FitsBefore : ℕ → List Part → Room → Type 0
 FitsBefore t parts room = wanted_before t parts + least_spaces room.flex (length parts)
     * room.gap ≤ room.whole
 
--- where the room goes that no part takes, in units: to the space before the first part, those between two, and
--- the one after the last. Spaces that share it differ by less than a unit for each
+-- where the room goes that no part takes, in units: to the space before the first part, those between two,
+-- and the one after the last. Spaces that share it differ by less than a unit for each
 abbrev pub IsFlexed : Flex → Type 0 → ℕ → ℕ → ℕ → ℕ → ℕ → Type 0
 IsFlexed Legacy none n gap first middle last = ⊤
 IsFlexed Start none n gap first middle last = (middle ≡ gap) × (first ≡ 0)

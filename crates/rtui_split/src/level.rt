@@ -1,5 +1,6 @@
 //! How what is left is shared by weight.
-ghost use Rattle.std.specs.Prelude.{◌≡◌, ◌≤◌, ◌<◌, ◌+◌, ◌*◌, ◌/◌, ◌^◌, ◌==◌, sum_by, unwrap_or, IsTrue, IsFalse};
+ghost use Rattle.std.specs.Prelude.{◌≡◌, ◌≤◌, ◌<◌, ◌+◌, ◌*◌, ◌/◌, ◌^◌, ◌==◌, sum_by};
+ghost use Rattle.std.specs.Prelude.{unwrap_or, IsTrue, IsFalse};
 ghost use Rattle.rtui_split.specs.Wishes.{weight_in};
 ghost use Rattle.rtui_split.specs.Shares.{sized, wanted_before, weights, TakeNothing};
 
@@ -20,7 +21,8 @@ pub(crate) struct Takers {
 
 // The weight of a part, or nothing if it takes nothing of what is left.
 fn weight_of(part: &Part, takers: Takers) -> Option<u16>
-    ensures { IsFalse takers.even → unwrap_or result 0 ≡ weight_in takers.legacy part.now.constraint }
+    ensures { IsFalse takers.even
+        → unwrap_or result 0 ≡ weight_in takers.legacy part.now.constraint }
 {
     match part.constraint {
         Constraint::Fill(_) if takers.even => Some(1),

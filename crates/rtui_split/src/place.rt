@@ -1,5 +1,6 @@
 //! Cuts an area at the edges of the parts.
-ghost use Rattle.std.specs.Prelude.{◌≡◌, ◌<◌, ◌≤◌, ◌+◌, ◌*◌, ◌-◌, ◌/◌, ℕ, length, min, max, All, sum_by};
+ghost use Rattle.std.specs.Prelude.{◌≡◌, ◌<◌, ◌≤◌, ◌+◌, ◌*◌, ◌-◌, ◌/◌, ℕ, length, min, max};
+ghost use Rattle.std.specs.Prelude.{All, sum_by};
 ghost use Rattle.std.specs.List.{AllZip};
 ghost use Rattle.rtui_split.specs.Cut.{first_cell, after_of, length_of, Alternate, InOrder, SpansAcross};
 ghost use Rattle.rtui_split.specs.Cut.{IsPartAlong};

@@ -1,5 +1,6 @@
 //! Shares room among the parts.
-ghost use Rattle.std.specs.Prelude.{◌≡◌, ◌-◌, ◌≤◌, ◌<◌, ◌+◌, ◌*◌, ◌^◌, ℕ, length, sum, sum_by, map, min};
+ghost use Rattle.std.specs.Prelude.{◌≡◌, ◌-◌, ◌≤◌, ◌<◌, ◌+◌, ◌*◌, ◌^◌, ℕ};
+ghost use Rattle.std.specs.Prelude.{length, sum, sum_by, map, min};
 ghost use Rattle.std.specs.List.{AllZip};
 ghost use Rattle.rtui_split.specs.Shares.{if_before, if_in, wanted_before, wanted_in};
 ghost use Rattle.rtui_split.specs.Shares.{sized, Settled, IsShared};

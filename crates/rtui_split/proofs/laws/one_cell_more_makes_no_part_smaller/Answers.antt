@@ -1,4 +1,4 @@
-use Rattle.std.proofs.Common.{ℕ, ◌≡◌, ◌+◌, ◌*◌, ◌≤◌, subst, arith}
+use Rattle.std.proofs.Common.{ℕ, ◌*◌, ◌≤◌, subst, arith}
 use Rattle.rtui_split.specs.{Wishes.wished_before, Split.cells_of, Split.SharesRest}
 use Rattle.rtui_split.proofs.GrowthLemmas.{grown, cells_small}
 use Rattle.rtui_split.proofs.laws.one_cell_more_makes_no_part_smaller.Goals as goal

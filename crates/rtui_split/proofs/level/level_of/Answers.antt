@@ -1,5 +1,4 @@
-use Rattle.std.proofs.Common.{◌≤◌, sum_by, arith}
-use Rattle.rtui_split.specs.Shares.{sized}
+use Rattle.std.proofs.Common.{arith}
 use Rattle.rtui_split.proofs.LevelLemmas.{flat_sizes, sizes_at_first}
 use Rattle.rtui_split.proofs.level.level_of.Goals as goal
 
