@@ -1,5 +1,5 @@
 -- What the spaces take, and what they leave for the parts.
-use Rattle.std.proofs.Common.{ℕ, ◌≡◌, ◌≤◌, ◌+◌, ◌-◌, ◌*◌, false, List, [], ◌∷◌, length, sum, sum_by, refl, ap, add-mul}
+use Rattle.std.proofs.Common.{ℕ, ◌≡◌, ◌≤◌, ◌+◌, ◌-◌, ◌*◌, Bool, false, List, [], ◌∷◌, length, sum, sum_by, refl, ap, add-mul}
 use Rattle.std.proofs.Common.{◌<◌, ◌/◌, ◌%◌, ◌^◌, ◌⊎◌, subst, sym, inl, inr, mul-le-mul_right, arith}
 use Rattle.std.proofs.lemmas.Bool.Decides.{nat_tests}
 use Rattle.std.specs.List.{AllZip}
@@ -8,9 +8,9 @@ use Rattle.std.proofs.lemmas.List.Sums.{sum_by-cons}
 use Rattle.rtui_layout.specs.declared.flex.Flex.{Flex}
 use Rattle.rtui_layout.specs.declared.flex.Flex.TheVariants.{Legacy, Start, End, Center, SpaceBetween, SpaceAround, SpaceEvenly}
 use Rattle.rtui_split.specs.declared.{flex.Spaces.Spaces, flex.Room.Room, part.Part.Part}
-use Rattle.rtui_split.specs.Shares.{wanted_before, if_before, IsGranted, IsDenied, IsShared}
+use Rattle.rtui_split.specs.Shares.{wanted_before, if_before, IsAtMost, IsGranted, IsDenied, IsShared}
 use Rattle.rtui_split.specs.Spaces.{FitsBefore, IsArranged, IsPacked, IsSpread, KeepsWishes, least_spaces}
-use Rattle.rtui_split.specs.Spaces.{IsFlexed, IsFlexedIn, lead, first_share, middle_share}
+use Rattle.rtui_split.specs.Spaces.{IsFlexed, IsFlexedIn, IsGiven, lead, first_share, middle_share}
 use Rattle.rtui_split.proofs.ShareLemmas.{before-later}
 
 -- so much more for each
@@ -64,6 +64,59 @@ first_only parts t for_parts least whole misses spaced spare many = elim (lt_or_
   ]
 ]
 
+-- one space less than parts, and one space more
+pub one_more : (n gap : ℕ) → n * gap ≤ (n - 1) * gap + gap
+one_more n gap = grind (arith, mul-le-mul_right gap (within n), add-mul (n - 1) 1 gap)
+  where
+    within : (k : ℕ) → k ≤ k - 1 + 1
+    within k = omega arith
+
+-- sizes that are no less
+granted_more : (t : ℕ) (ps : List Part) (few more : List ℕ) → AllZip (IsGranted t) ps few → AllZip IsAtMost few more
+    → AllZip (IsGranted t) ps more
+granted_more t [] [] [] granted less = tt
+granted_more t [] [] (m ∷ ms) granted less = absurd less
+granted_more t [] (s ∷ ss) ms granted less = absurd granted
+granted_more t (p ∷ ps) [] ms granted less = absurd granted
+granted_more t (p ∷ ps) (s ∷ ss) [] granted less = absurd less
+granted_more t (p ∷ ps) (s ∷ ss) (m ∷ ms) granted less =
+    (λ first. omega (arith, granted.0 first, less.0), granted_more t ps ss ms granted.1 less.1)
+
+-- sizes with the wishes that fit, and spaces, in a room
+pub given_in : (parts : List Part) (room : Room) (sizes : List ℕ) (spaces : Spaces)
+    → ((t : ℕ) → t ≤ 5 → FitsBefore t parts room → AllZip (IsGranted t) parts sizes)
+    → ((t : ℕ) → FitsBefore t parts room → spaces.first + sum sizes + length sizes * spaces.middle ≤ room.whole + spaces.middle)
+    → IsGiven parts room sizes spaces
+given_in parts room sizes spaces granted fits =
+    record { granted = granted; fit = λ t enough. omega (arith, fits t enough, sum-plus spaces.middle sizes) }
+
+-- the same where a part is stretched
+pub stretched_given : (legacy : Bool) (parts : List Part) (room : Room) (shared sizes : List ℕ) (left for_parts : ℕ)
+    → IsShared legacy parts for_parts shared left → AllZip IsAtMost shared sizes → sum sizes ≤ sum shared + left
+    → length sizes ≡ length parts
+    → ((t : ℕ) → FitsBefore t parts room → for_parts + (length parts - 1) * room.gap ≡ room.whole)
+    → ((t : ℕ) → FitsBefore t parts room → wanted_before t parts ≤ for_parts)
+    → IsGiven parts room sizes (record { first = 0; middle = room.gap })
+stretched_given legacy parts room shared sizes left for_parts is_shared more all long whole fits =
+    let gaps : length sizes * room.gap ≡ length parts * room.gap = ap (λ n. n * room.gap) long in
+    given_in parts room sizes (record { first = 0; middle = room.gap })
+    (λ t last enough. granted_more t parts shared sizes (is_shared.granted t last (fits t enough)) more)
+    (λ t enough. omega (arith, whole t enough, all, is_shared.total, gaps, one_more (length parts) room.gap))
+
+-- a part alone that takes the room
+pub alone_given : (parts : List Part) (room : Room) (sizes : List ℕ) (spaces : Spaces) → length sizes ≡ length parts
+    → length parts ≤ 1 → (length sizes ≡ 1 → sizes ≡ room.whole ∷ []) → spaces.first ≡ 0 → spaces.middle ≡ 0
+    → IsGiven parts room sizes spaces
+alone_given [] room [] spaces long few all first middle = record { granted = λ t last enough. tt; fit = λ t enough. omega arith }
+alone_given [] room (s ∷ ss) spaces long few all first middle = absurd (omega arith)
+alone_given (p ∷ []) room sizes spaces long few all first middle =
+    let P : List ℕ → Type 0 = λ ss. IsGiven (p ∷ []) room ss spaces in
+    subst P (sym (all (omega (arith, long)))) (record {
+      granted = λ t last enough. (λ own. grind (arith, nat_tests, enough, own), tt);
+      fit = λ t enough. omega (arith, first, middle);
+    })
+alone_given (p ∷ q ∷ qs) room sizes spaces long few all first middle = absurd (omega (arith, few))
+
 -- what is shared in a room that has room for what fits is arranged
 pub arranged : (parts : List Part) (room : Room) (sizes : List ℕ) (left for_parts : ℕ) (spaces : Spaces)
     → IsShared false parts for_parts sizes left
@@ -107,13 +160,6 @@ arranged parts room sizes left for_parts spaces shared within fits beside fit sp
       ] in
       (filled.0, filled.1, filled.2, λ some. omega (arith, filled.3 some, beside 5 enough), filled.4, all);
 }
-
--- one space less than parts, and one space more
-pub one_more : (n gap : ℕ) → n * gap ≤ (n - 1) * gap + gap
-one_more n gap = grind (arith, mul-le-mul_right gap (within n), add-mul (n - 1) 1 gap)
-  where
-    within : (k : ℕ) → k ≤ k - 1 + 1
-    within k = omega arith
 
 pub packed_least : (flex : Flex) (n : ℕ) → IsPacked flex → least_spaces flex n ≡ n - 1
 packed_least Legacy n packed = refl

@@ -1,6 +1,7 @@
 -- Relations between two lists, element by element.
 use Rattle.std.proofs.Common.{ℕ, ◌≡◌, ◌<◌, ◌+◌, List, [], ◌∷◌, ◌++◌, All, take, drop, add-one, arith, get_or, map, length, sum}
-use Rattle.std.proofs.Common.{sym, ◌∙◌, ap, refl, subst}
+use Rattle.rtui_split.specs.Shares.{IsAtMost}
+use Rattle.std.proofs.Common.{zero, suc, ◌≤◌, sym, ◌∙◌, ap, refl, subst}
 use Rattle.std.proofs.Math.ListN.{set}
 use Rattle.std.specs.List.{AllZip}
 use Rattle.std.proofs.lemmas.List.{take_more, take_more_set, take_all}
@@ -50,6 +51,16 @@ AllZip-unmapped R f [] [] all = tt
 AllZip-unmapped R f [] (y ∷ ys) all = absurd all
 AllZip-unmapped R f (x ∷ xs) [] all = absurd all
 AllZip-unmapped R f (x ∷ xs) (y ∷ ys) all = (all.0, AllZip-unmapped R f xs ys all.1)
+
+-- each number is at most itself, and at most one that is written over it and is no less
+pub each_same : (xs : List ℕ) → AllZip IsAtMost xs xs
+each_same [] = tt
+each_same (x ∷ xs) = (omega arith, each_same xs)
+
+pub one_more_at : (xs : List ℕ) (i y : ℕ) → get_or xs i 0 ≤ y → AllZip IsAtMost xs (set xs i y)
+one_more_at [] i y more = tt
+one_more_at (x ∷ xs) zero y more = (more, each_same xs)
+one_more_at (x ∷ xs) (suc i) y more = (omega arith, one_more_at xs i y more)
 
 -- a list from a place on
 pub drop_cons : {A : Type 0} (xs : List A) (i : ℕ) (d : A) → i < length xs → drop i xs ≡ get_or xs i d ∷ drop (i + 1) xs

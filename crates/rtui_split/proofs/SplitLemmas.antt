@@ -19,16 +19,16 @@ use Rattle.rtui_split.specs.Spaces.{least_spaces, KeepsWishes, FitsBefore, HasRo
 use Rattle.rtui_split.specs.Split.{IsCutFrom, LeavesNothing}
 use Rattle.rtui_split.specs.declared.flex.Room.{Room}
 use Rattle.rtui_split.specs.Split.{gap_units, FitWishes, IsLane, HasWish, WithinWish, IsGivenBefore, IsWithinWish, IsSplit}
-use Rattle.rtui_split.specs.Split.{AreExact, IsLevel}
-use Rattle.rtui_split.specs.Spaces.{IsFilledBeside}
+use Rattle.rtui_split.specs.Split.{AreExact, IsLevel, HasLeast}
+use Rattle.rtui_split.specs.Spaces.{IsFilledBeside, IsGiven}
 use Rattle.rtui_split.proofs.Lists.{AllZip-unmapped}
 use Rattle.rtui_split.specs.Split.{size_at, total_weight, NoneTakes, IsDeniedFrom, HasExactPlaces}
 use Rattle.rtui_split.specs.{Wishes.weight_in, Cut.AreEdges, Spaces.IsFlexed}
 use Rattle.rtui_split.specs.Shares.{IsDenied, TakeNothing, weights}
-use Rattle.rtui_split.proofs.FlexLemmas.{lt_or_le}
+use Rattle.rtui_split.proofs.FlexLemmas.{lt_or_le, sum-plus}
 use Rattle.rtui_layout.specs.declared.flex.Flex.TheVariants.{Legacy, Start, End, Center, SpaceBetween, SpaceAround, SpaceEvenly}
 use Rattle.std.proofs.lemmas.Bool.Decides.{nat_tests}
-use Rattle.std.proofs.lemmas.List.Elements.{All-map}
+use Rattle.std.proofs.lemmas.List.Elements.{All-map, All-nil, All-cons}
 use Rattle.std.proofs.lemmas.List.Sums.{sum-map}
 use Rattle.rtui_split.specs.Split.{IsCutAt, HasTaker, SharesRest}
 use Rattle.std.proofs.lemmas.List.Elements.{All-head, All-tail}
@@ -159,21 +159,61 @@ moved space area units spaces parts d e a b p q same_d same_a same_b placed =
     let R : ℕ → Type 0 = λ x. Placed space area units spaces parts e p x in
     subst R same_b (subst Q same_a (subst P same_d placed))
 
--- the same of what is arranged in another room, of other parts
+-- what arranging makes of parts
+pub record Arranges (units : List ℕ) (spaces : Spaces) (parts : List Part) (room : Room) : Type 0 where
+  pub given : IsGiven parts room units spaces
+  pub alone : room.flex ≡ SpaceBetween → length parts ≡ 1
+      → (units ≡ room.whole ∷ []) × (spaces.first ≡ 0) × (spaces.middle ≡ 0)
+  pub arranged : KeepsWishes room.flex (length parts) → IsArranged parts room units spaces
+
+-- the same of another room, and of other parts
 pub rearranged : (ps qs : List Part) (units : List ℕ) (spaces : Spaces) (w w' g g' o : ℕ) (f f' : Flex) → ps ≡ qs → w ≡ w'
-    → g ≡ g' → f ≡ f'
-    → (KeepsWishes f (length ps) → IsArranged ps (record { whole = w; flex = f; gap = g; overlap = o }) units spaces)
-    → KeepsWishes f' (length qs) → IsArranged qs (record { whole = w'; flex = f'; gap = g'; overlap = o }) units spaces
-rearranged ps qs units spaces w w' g g' o f f' same_ps same_w same_g same_f arranged =
-    let P : List Part → Type 0 = λ x. KeepsWishes f (length x)
-    → IsArranged x (record { whole = w; flex = f; gap = g; overlap = o }) units spaces in
-    let Q : ℕ → Type 0 = λ x. KeepsWishes f (length qs) → IsArranged qs (record { whole = x; flex = f; gap = g; overlap = o })
-    units spaces in
-    let R : ℕ → Type 0 = λ x. KeepsWishes f (length qs) → IsArranged qs (record { whole = w'; flex = f; gap = x; overlap = o })
-    units spaces in
-    let S : Flex → Type 0 = λ x. KeepsWishes x (length qs) → IsArranged qs
-    (record { whole = w'; flex = x; gap = g'; overlap = o }) units spaces in
-    subst S same_f (subst R same_g (subst Q same_w (subst P same_ps arranged)))
+    → g ≡ g' → f ≡ f' → Arranges units spaces ps (record { whole = w; flex = f; gap = g; overlap = o })
+    → Arranges units spaces qs (record { whole = w'; flex = f'; gap = g'; overlap = o })
+rearranged ps qs units spaces w w' g g' o f f' same_ps same_w same_g same_f arranges =
+    let P : List Part → Type 0 = λ x. Arranges units spaces x (record { whole = w; flex = f; gap = g; overlap = o }) in
+    let Q : ℕ → Type 0 = λ x. Arranges units spaces qs (record { whole = x; flex = f; gap = g; overlap = o }) in
+    let R : ℕ → Type 0 = λ x. Arranges units spaces qs (record { whole = w'; flex = f; gap = x; overlap = o }) in
+    let S : Flex → Type 0 = λ x. Arranges units spaces qs (record { whole = w'; flex = x; gap = g'; overlap = o }) in
+    subst S same_f (subst R same_g (subst Q same_w (subst P same_ps arranges)))
+
+-- wishes that are granted, in cells
+least_all : (t cells : ℕ) (d : Direction) (cs : List Constraint) (us : List ℕ) (ps : List Rect)
+    → AllZip (IsGranted t) (map (part_in cells) cs) us → AllZip (IsCutTo AtLeastCells d) us ps
+    → AllZip (HasLeast t cells d) cs ps
+least_all t cells d [] [] [] granted least = tt
+least_all t cells d [] [] (p ∷ ps) granted least = absurd least
+least_all t cells d [] (u ∷ us) ps granted least = absurd granted
+least_all t cells d (c ∷ cs) [] ps granted least = absurd granted
+least_all t cells d (c ∷ cs) (u ∷ us) [] granted least = absurd least
+least_all t cells d (c ∷ cs) (u ∷ us) (p ∷ ps) granted least =
+    (λ first. omega (arith, granted.0 first, least.0), least_all t cells d cs us ps granted.1 least.1)
+
+-- a part that has all the room, in cells
+alone_has_room : (cells : ℕ) (units : List ℕ) (spaces : Spaces) → units ≡ cells * 5040000 ∷ [] → spaces.first ≡ 0
+    → spaces.middle ≡ 0 → HasRoomForSpaces spaces cells units
+alone_has_room cells units spaces all first middle = omega (
+  arith,
+  first,
+  middle,
+  sum-plus spaces.middle units,
+  ap sum all,
+  ap (λ m. length units * m) middle,
+)
+
+alone_cells : (d : Direction) (cells : ℕ) (units : List ℕ) (ps : List Rect) → units ≡ cells * 5040000 ∷ []
+    → AllZip (IsCutTo AtMostCells d) units ps → AllZip (IsCutTo AtLeastCells d) units ps → All (λ p. length_of d p ≡ cells) ps
+alone_cells d cells units ps all most least =
+    let P : List ℕ → Type 0 = λ us. AllZip (IsCutTo AtMostCells d) us ps in
+    let Q : List ℕ → Type 0 = λ us. AllZip (IsCutTo AtLeastCells d) us ps in
+    of_one ps (subst P all most) (subst Q all least)
+  where
+    of_one : (qs : List Rect) → AllZip (IsCutTo AtMostCells d) (cells * 5040000 ∷ []) qs
+        → AllZip (IsCutTo AtLeastCells d) (cells * 5040000 ∷ []) qs → All (λ p. length_of d p ≡ cells) qs
+    of_one [] most least = absurd most
+    of_one (p ∷ []) most least = All-cons (λ q. length_of d q ≡ cells) p [] (omega (arith, most.0, least.0))
+        (All-nil (λ q. length_of d q ≡ cells))
+    of_one (p ∷ q ∷ qs) most least = absurd most.1
 
 -- the size of a part at a level is that of its constraint
 sized_is : (cells : ℕ) (even : Bool) (level : ℕ) (c : Constraint)
@@ -401,12 +441,11 @@ cut_from d (u ∷ us) (p ∷ ps) most least =
 pub is_split : (l : LayoutData) (area : Rect) (units : List ℕ) (spaces : Spaces) (parts : List Rect) (cells o : ℕ)
     → cells ≡ area_end l.direction area - first_cell l.direction area → area_end l.direction area ≤ 65535
     → length parts ≡ length l.constraints
-    → (IsSpace l.spacing → KeepsWishes l.flex (length (map (part_in cells) l.constraints))
-    → IsArranged (map (part_in cells) l.constraints) (record
-    { whole = cells * 5040000; flex = l.flex; gap = gap_units l.spacing; overlap = o }) units spaces)
+    → (IsSpace l.spacing → Arranges units spaces (map (part_in cells) l.constraints) (record
+    { whole = cells * 5040000; flex = l.flex; gap = gap_units l.spacing; overlap = o }))
     → Placed (IsSpace l.spacing) area units spaces parts l.direction (first_cell l.direction area) (area_end l.direction area)
     → IsSplit l area parts
-is_split l area units spaces parts cells o cells_are small long arranged placed =
+is_split l area units spaces parts cells o cells_are small long arranges placed =
     let cs = l.constraints in
     let d = l.direction in
     let long_cs : length (map (part_in cells) cs) ≡ length cs = length-map cs (part_in cells) in
@@ -419,10 +458,19 @@ is_split l area units spaces parts cells o cells_are small long arranged placed 
     (record { whole = cells * 5040000; flex = l.flex; gap = gap_units l.spacing; overlap = o }) → FitWishes t l cells =
     λ t f. omega (arith, f, wanted_is_wished t cells cs, ap (λ n. least_spaces l.flex n * gap_units l.spacing) long_cs) in
     let W : ℕ → Type 0 = λ n. AllZip (IsWithinWish n d) cs parts in
+    let arranged = λ (space : IsSpace l.spacing). (arranges space).arranged in
     record {
       count = long;
       inside = placed.inside;
       in_order = placed.in_order;
+      least = λ space t last. let H : ℕ → Type 0 = λ n. FitWishes t l n → AllZip (HasLeast t n d) cs parts in
+          subst H cells_are (λ fit. least_all t cells d cs units parts ((arranges space).given.granted t last (fits t fit))
+          (placed.at_least space (omega (arith, (arranges space).given.fit t (fits t fit), cells_are))));
+      alone = λ space between one. let H : ℕ → Type 0 = λ n. All (λ p. length_of d p ≡ n) parts in
+          let all = (arranges space).alone between (omega (arith, one, long_cs)) in
+          let roomy : HasRoomForSpaces spaces cells units = alone_has_room cells units spaces all.0 all.1 all.2 in
+          subst H cells_are (alone_cells d cells units parts all.0 placed.at_most
+          (placed.at_least space (omega (arith, roomy, cells_are))));
       within = λ space k. subst W cells_are (within_all cells d cs units parts (arranged space (keeps k)).at_most placed.at_most);
       given = λ space k t last. let H : ℕ → Type 0 = λ n. FitWishes t l n → AllZip (IsGivenBefore t n d) cs parts in
           subst H cells_are (λ fit. given_all t cells d cs units parts

@@ -49,6 +49,9 @@ pub record Settled (t : ℕ) (p : Part) (size : ℕ) : Type 0 where
   pub before : turn p.constraint < t → size ≡ p.wanted
   pub later : t < turn p.constraint → size ≡ 0
 
+abbrev pub IsAtMost : ℕ → ℕ → Type 0
+IsAtMost a b = a ≤ b
+
 -- the part has its wish if its turn comes before this one
 abbrev pub IsGranted : ℕ → Part → ℕ → Type 0
 IsGranted t p size = turn p.constraint < t → p.wanted ≤ size

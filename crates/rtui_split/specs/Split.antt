@@ -122,6 +122,10 @@ LeavesNothing l cells parts = (units : List ℕ) × AllZip (IsCutFrom l.directio
 abbrev pub IsGivenBefore : ℕ → ℕ → Direction → Constraint → Rect → Type 0
 IsGivenBefore t cells d c p = turn c < t → HasWish cells c (length_of d p)
 
+-- the part has at least its wish, cut to whole cells, if its turn comes before this one
+abbrev pub HasLeast : ℕ → ℕ → Direction → Constraint → Rect → Type 0
+HasLeast t cells d c p = turn c < t → AtLeastCells (wish cells c) (length_of d p)
+
 abbrev pub IsWithinWish : ℕ → Direction → Constraint → Rect → Type 0
 IsWithinWish cells d c p = WithinWish cells c (length_of d p)
 
@@ -171,7 +175,8 @@ abbrev pub HasExactPlaces : LayoutData → ℕ → ℕ → List Rect → Type 0
 HasExactPlaces l start cells parts = (units : List ℕ) × (first : ℕ) × (middle : ℕ) × (last : ℕ)
     × (rounding : ℕ) × IsLaidOut l start cells parts units first middle last rounding
 
--- a part for each constraint, inside and in order. Without overlap, if no part is stretched: nobody has more
+-- a part for each constraint, inside and in order. Without overlap, all whose wishes fit have at least theirs,
+-- and a part alone takes all if spaces stand between parts only. If no part is stretched: nobody has more
 -- than it wishes, all whose wishes fit have theirs, if a turn comes too short nothing is left over and those
 -- after it have nothing, if all fit, what is left is shared by weight, and what no part takes goes to the
 -- spaces as the flex says
@@ -181,6 +186,10 @@ pub record IsSplit (l : LayoutData) (area : Rect) (parts : List Rect) : Type 0 w
       (area_end l.direction area)) parts
   pub in_order : IsSpace l.spacing → InOrder l.direction (first_cell l.direction area)
       (area_end l.direction area) parts
+  pub least : IsSpace l.spacing → (t : ℕ) → t ≤ 5 → FitWishes t l (cells_of l.direction area)
+      → AllZip (HasLeast t (cells_of l.direction area) l.direction) l.constraints parts
+  pub alone : IsSpace l.spacing → l.flex ≡ flex.SpaceBetween → length l.constraints ≡ 1
+      → All (λ p. length_of l.direction p ≡ cells_of l.direction area) parts
   pub within : IsSpace l.spacing → KeepsWishes l.flex (length l.constraints)
       → AllZip (IsWithinWish (cells_of l.direction area) l.direction) l.constraints parts
   pub given : IsSpace l.spacing → KeepsWishes l.flex (length l.constraints) → (t : ℕ) → t ≤ 5

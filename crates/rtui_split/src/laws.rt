@@ -27,7 +27,12 @@ pub fn spaces_are_as_the_flex_says()
 /// whole cells.
 ///
 /// A unit, a 5040000th of a cell, isn't divided: a part that takes what is left may miss one for
-/// each of its weight and for each ratio.
+/// each of its weight and for each ratio. Cut to whole cells it may lose one: of two
+/// `Percentage(33)` the second has the one column of an area of one, and none of two.
+///
+/// Nothing is said of a kind that comes too short. The crate has several answers there, by the order
+/// of its solver's maps, so that one column more may take two from a part: `Max` of 3, 3, 0, 2 and 5
+/// have 1, 0, 0, 2, 2 or 3, 2, 0, 0, 0 of five columns, and 1, 1, 0, 2, 2 or 3, 3, 0, 0, 0 of six.
 pub fn one_cell_more_makes_no_part_smaller()
     ensures { (l : LayoutData) (area longer : Rect) (parts more : List Rect)
         → IsSplit l area parts → IsSplit l longer more

@@ -3,7 +3,7 @@ ghost use Rattle.std.specs.Prelude.{◌≡◌, ◌-◌, ◌≤◌, ◌<◌, ◌+
 ghost use Rattle.std.specs.Prelude.{length, sum, sum_by, map, min};
 ghost use Rattle.std.specs.List.{AllZip};
 ghost use Rattle.rtui_split.specs.Shares.{if_before, if_in, wanted_before, wanted_in};
-ghost use Rattle.rtui_split.specs.Shares.{sized, Settled, IsShared};
+ghost use Rattle.rtui_split.specs.Shares.{sized, IsAtMost, Settled, IsShared};
 
 use crate::draft::Draft;
 use crate::level::{Takers, level_of, size_at, takers_of, top_of};
@@ -207,8 +207,8 @@ fn patience_of(constraint: Constraint) -> u8 {
     }
 }
 
-/// What nobody takes goes to the last part of the kind that minds least.
-pub(crate) fn stretch(parts: &[Part], left: u64, sizes: &mut [u64]) {
+// The last part of the kind that minds least to be stretched.
+fn stretched(parts: &[Part]) -> usize {
     let mut most: u8 = 0;
     let mut at: usize = 0;
     for (i, part) in parts.iter().enumerate() {
@@ -218,7 +218,16 @@ pub(crate) fn stretch(parts: &[Part], left: u64, sizes: &mut [u64]) {
             at = i;
         }
     }
-    if let Some(size) = sizes.get_mut(at) {
-        *size = size.saturating_add(left);
+    at
+}
+
+/// What nobody takes goes to the last part of the kind that minds least.
+pub(crate) fn stretch(parts: &[Part], left: u64, sizes: &mut [u64])
+    ensures more { AllZip IsAtMost sizes.old sizes.new }
+    ensures all { sum sizes.new ≤ sum sizes.old + left }
+{
+    let at = stretched(parts);
+    if at < sizes.len() {
+        sizes[at] = sizes[at].saturating_add(left);
     }
 }
