@@ -10,7 +10,7 @@ use Rattle.rtui_layout.specs.declared.flex.Flex.TheVariants.{Legacy, Start, End,
 use Rattle.rtui_split.specs.declared.{flex.Spaces.Spaces, flex.Room.Room, part.Part.Part}
 use Rattle.rtui_split.specs.Shares.{wanted_before, if_before, IsAtMost, IsGranted, IsDenied, IsShared}
 use Rattle.rtui_split.specs.Spaces.{FitsBefore, IsArranged, IsPacked, IsSpread, KeepsWishes, least_spaces}
-use Rattle.rtui_split.specs.Spaces.{IsFlexed, IsFlexedIn, IsGiven, lead, first_share, middle_share}
+use Rattle.rtui_split.specs.Spaces.{IsFlexed, IsFlexedIn, GivesWishes, lead, first_share, middle_share}
 use Rattle.rtui_split.proofs.ShareLemmas.{before-later}
 
 -- so much more for each
@@ -86,7 +86,7 @@ granted_more t (p ∷ ps) (s ∷ ss) (m ∷ ms) granted less =
 pub given_in : (parts : List Part) (room : Room) (sizes : List ℕ) (spaces : Spaces)
     → ((t : ℕ) → t ≤ 5 → FitsBefore t parts room → AllZip (IsGranted t) parts sizes)
     → ((t : ℕ) → FitsBefore t parts room → spaces.first + sum sizes + length sizes * spaces.middle ≤ room.whole + spaces.middle)
-    → IsGiven parts room sizes spaces
+    → GivesWishes parts room sizes spaces
 given_in parts room sizes spaces granted fits =
     record { granted = granted; fit = λ t enough. omega (arith, fits t enough, sum-plus spaces.middle sizes) }
 
@@ -96,7 +96,7 @@ pub stretched_given : (legacy : Bool) (parts : List Part) (room : Room) (shared 
     → length sizes ≡ length parts
     → ((t : ℕ) → FitsBefore t parts room → for_parts + (length parts - 1) * room.gap ≡ room.whole)
     → ((t : ℕ) → FitsBefore t parts room → wanted_before t parts ≤ for_parts)
-    → IsGiven parts room sizes (record { first = 0; middle = room.gap })
+    → GivesWishes parts room sizes (record { first = 0; middle = room.gap })
 stretched_given legacy parts room shared sizes left for_parts is_shared more all long whole fits =
     let gaps : length sizes * room.gap ≡ length parts * room.gap = ap (λ n. n * room.gap) long in
     given_in parts room sizes (record { first = 0; middle = room.gap })
@@ -106,11 +106,11 @@ stretched_given legacy parts room shared sizes left for_parts is_shared more all
 -- a part alone that takes the room
 pub alone_given : (parts : List Part) (room : Room) (sizes : List ℕ) (spaces : Spaces) → length sizes ≡ length parts
     → length parts ≤ 1 → (length sizes ≡ 1 → sizes ≡ room.whole ∷ []) → spaces.first ≡ 0 → spaces.middle ≡ 0
-    → IsGiven parts room sizes spaces
+    → GivesWishes parts room sizes spaces
 alone_given [] room [] spaces long few all first middle = record { granted = λ t last enough. tt; fit = λ t enough. omega arith }
 alone_given [] room (s ∷ ss) spaces long few all first middle = absurd (omega arith)
 alone_given (p ∷ []) room sizes spaces long few all first middle =
-    let P : List ℕ → Type 0 = λ ss. IsGiven (p ∷ []) room ss spaces in
+    let P : List ℕ → Type 0 = λ ss. GivesWishes (p ∷ []) room ss spaces in
     subst P (sym (all (omega (arith, long)))) (record {
       granted = λ t last enough. (λ own. grind (arith, nat_tests, enough, own), tt);
       fit = λ t enough. omega (arith, first, middle);

@@ -11,7 +11,16 @@ use Rattle.rtui_layout.specs.declared.layout.Spacing.TheVariants.{Overlap}
 use Rattle.rtui_split.specs.Cut.{first_cell, after_of, AreEdges}
 use Rattle.rtui_split.specs.{Split.gap_units, Spaces.IsFlexed}
 use Rattle.rtui_split.specs.Flexed.{IsCutUnits, SpacesAfter, SpacesAre, FlexedSpaces, gap_cells}
-use Rattle.rtui_split.proofs.FlexLemmas.{sum-plus}
+use Rattle.rtui_split.proofs.{FlexLemmas.sum-plus, FlexLemmas.packed_least, GrowthLemmas.share_unit}
+use Rattle.std.proofs.Common.{nat_lt, Bool, true, false, max, if◌then◌else◌, map, ◌∙◌}
+use Rattle.std.proofs.lemmas.List.Sums.{sum-map, sum_by-le-sum_by}
+use Rattle.rtui_layout.specs.Layout.{LayoutData}
+use Rattle.rtui_layout.specs.declared.constraint.Constraint.{Constraint}
+use Rattle.rtui_layout.specs.declared.constraint.Constraint.TheVariants.{Min, Max, Length, Percentage, Ratio, Fill}
+use Rattle.rtui_split.specs.{Wishes.weight_in, Spaces.IsPacked, Spaces.KeepsWishes, Spaces.least_spaces}
+use Rattle.rtui_split.specs.Split.{size_at, total_weight, FitWishes, HasTaker, IsLevel}
+use Rattle.rtui_split.specs.Wishes.{turn, wish, wished_before}
+use Rattle.std.proofs.lemmas.Bool.Decides.{nat_tests}
 
 pub gap_in_units : (spacing : Spacing) → gap_units spacing ≡ gap_cells spacing * 5040000
 gap_in_units (Space n) = refl
@@ -123,3 +132,83 @@ flexed_spaces SpaceEvenly none n gap start r first middle last cells d us ps hal
       (omega (arith, here.0, flexed.0), omega (arith, here.1, flexed.0)))
       (cut_last first last r cells (omega arith) flexed.1 (omega (arith, flexed.2)) (omega (arith, whole))),
 )
+
+-- a packed flex leaves the gap between two parts
+pub packed_gap : (flex : Flex) (none : Type 0) (n gap first middle last : ℕ) → IsPacked flex → KeepsWishes flex n
+    → IsFlexed flex none n gap first middle last → middle ≡ gap
+packed_gap Legacy none n gap first middle last packed keeps flexed = absurd keeps
+packed_gap Start none n gap first middle last packed keeps flexed = flexed.0
+packed_gap End none n gap first middle last packed keeps flexed = flexed.0
+packed_gap Center none n gap first middle last packed keeps flexed = flexed.0
+packed_gap SpaceBetween none n gap first middle last packed keeps flexed = absurd packed
+packed_gap SpaceAround none n gap first middle last packed keeps flexed = absurd packed
+packed_gap SpaceEvenly none n gap first middle last packed keeps flexed = absurd packed
+
+-- a size at a level of a unit more
+fill_unit : (even : Bool) (n level : ℕ) → (if even then max n 1 else n) * (level + 1048576) / 1048576
+    ≤ (if even then max n 1 else n) * level / 1048576 + n + 1
+fill_unit true n level = omega (arith, share_unit (max n 1) level)
+fill_unit false n level = omega (arith, share_unit n level)
+
+size_unit : (cells : ℕ) (even : Bool) (level : ℕ) (c : Constraint)
+    → size_at cells even (level + 1048576) c ≤ size_at cells even level c + weight_in false c + 1
+size_unit cells even level (Min n) = omega arith
+size_unit cells even level (Length n) = omega arith
+size_unit cells even level (Percentage n) = omega arith
+size_unit cells even level (Ratio m n) = omega arith
+size_unit cells even level (Max n) = omega arith
+size_unit cells even level (Fill n) = fill_unit even n level
+
+sizes_unit : (cells : ℕ) (even : Bool) (level : ℕ) (cs : List Constraint)
+    → sum_by (size_at cells even (level + 1048576)) cs ≤ sum_by (size_at cells even level) cs + total_weight cs + length cs
+sizes_unit cells even level [] = omega arith
+sizes_unit cells even level (c ∷ cs) = omega (
+  arith,
+  size_unit cells even level c,
+  sizes_unit cells even level cs,
+  sum_by-cons (size_at cells even (level + 1048576)) c cs,
+  sum_by-cons (size_at cells even level) c cs,
+  sum_by-cons (weight_in false) c cs,
+)
+
+-- what is left at the ends is less than a unit for each weight
+pub little_left : (l : LayoutData) (cells first middle last : ℕ) (units : List ℕ) → IsPacked l.flex
+    → middle ≡ gap_units l.spacing → HasTaker l.constraints
+    → ((even : Bool) × (level : ℕ) × (units ≡ map (size_at cells even level) l.constraints) × IsLevel l cells even level)
+    → first + sum units + (length l.constraints - 1) * middle + last ≡ cells * 5040000
+    → first + last ≤ total_weight l.constraints + length l.constraints
+little_left l cells first middle last units packed gap some filled whole =
+    let cs = l.constraints in
+    let even = filled.0 in
+    let level = filled.1 in
+    let all : sum units ≡ sum_by (size_at cells even level) cs = ap sum filled.2 ∙ sum-map (size_at cells even level) cs in
+    let least : least_spaces l.flex (length cs) * gap_units l.spacing ≡ (length cs - 1) * gap_units l.spacing =
+    ap (λ n. n * gap_units l.spacing) (packed_least l.flex (length cs) packed) in
+    let gaps : (length cs - 1) * middle ≡ (length cs - 1) * gap_units l.spacing = ap (λ m. (length cs - 1) * m) gap in
+    omega (arith, all, whole, gaps, least, filled.3.0 some, sizes_unit cells even level cs)
+
+pub no_spaces : (gap start r first middle last cells n : ℕ) (d : Direction) (us : List ℕ) (ps : List Rect) → 2520000 ≤ r
+    → r ≤ 2557800 → first + last ≤ 1000000 → n ≡ length ps → AreEdges d start r middle first us ps
+    → first + sum us + (n - 1) * middle + last ≡ cells * 5040000 → middle ≡ gap * 5040000
+    → SpacesAre d start (start + cells) (λ s. s ≡ 0) (λ s. s ≡ gap) (λ s. s ≡ 0) ps
+no_spaces gap start r first middle last cells n d us ps half most few long edges whole wide =
+    spaces_hold d start r middle first last cells (λ s. s ≡ 0) (λ s. s ≡ gap) (λ s. s ≡ 0) us ps edges
+    (omega (arith, whole, ap (λ k. (k - 1) * middle) long))
+    (omega (arith, few, most)) (λ e. cut_gap e gap middle r wide) (omega (arith, few, half, whole))
+
+-- who takes what is left is a part
+pub some_part : (cs : List Constraint) → HasTaker cs → 0 < length cs
+some_part [] taker = absurd taker
+some_part (c ∷ cs) taker = omega arith
+
+-- where all wishes fit the spaces do
+before_all : (cells : ℕ) (cs : List Constraint) → wished_before 0 cells cs ≤ wished_before 5 cells cs
+before_all cells cs = sum_by-le-sum_by (λ c. if nat_lt (turn c) 0 then wish cells c else 0)
+    (λ c. if nat_lt (turn c) 5 then wish cells c else 0) cs (λ c. none_before cells c)
+  where
+    none_before : (cells : ℕ) (c : Constraint)
+        → (if nat_lt (turn c) 0 then wish cells c else 0) ≤ (if nat_lt (turn c) 5 then wish cells c else 0)
+    none_before cells c = grind (arith, nat_tests)
+
+pub spaces_fit : (l : LayoutData) (cells : ℕ) → FitWishes 5 l cells → FitWishes 0 l cells
+spaces_fit l cells fits = omega (arith, fits, before_all cells l.constraints)

@@ -1,6 +1,7 @@
 -- What a column or row more makes of exact sizes.
 use Rattle.std.proofs.Common.{ℕ, ◌≡◌, ◌<◌, ◌≤◌, ◌+◌, ◌*◌, ◌/◌, ◌-◌, ◌^◌, ◌⊎◌, inl, inr, max, Bool, List}
-use Rattle.std.proofs.Common.{[], ◌∷◌, All, sum_by, if◌then◌else◌, nat_lt, length, sym, ◌∙◌, ap, subst, arith, add-mul, mul-le-mul_left}
+use Rattle.std.proofs.Common.{[], ◌∷◌, All, sum_by, if◌then◌else◌, nat_lt, length, sym, ◌∙◌, ap, subst, arith}
+use Rattle.std.proofs.Common.{add-mul, mul-le-mul_left}
 use Rattle.std.proofs.Math.Nat.{mul_assoc, mul_comm, div-mul-le_self, lt-div-mul-add, div-lt_iff_lt-mul}
 use Rattle.std.proofs.Math.Nat.{le_of_mul-le-mul_left}
 use Rattle.std.proofs.lemmas.Nat.{le-div}
@@ -145,7 +146,7 @@ size_higher cells even l m (Ratio x y) later = omega arith
 size_higher cells even l m (Max n) later = omega arith
 size_higher cells even l m (Fill n) later = share_higher (if even then max n 1 else n) l m later
 
-share_unit : (k l : ℕ) → k * (l + 1048576) / 1048576 ≤ k * l / 1048576 + k
+pub share_unit : (k l : ℕ) → k * (l + 1048576) / 1048576 ≤ k * l / 1048576 + k
 share_unit k l = omega (arith, mul_comm k (l + 1048576), add-mul l 1048576 k, mul_comm l k, mul_comm 1048576 k)
 
 ratio_more : (cells m n : ℕ) → wish cells (Ratio m n) ≤ wish (cells + 1) (Ratio m n)

@@ -20,7 +20,7 @@ use Rattle.rtui_split.specs.Split.{IsCutFrom, LeavesNothing}
 use Rattle.rtui_split.specs.declared.flex.Room.{Room}
 use Rattle.rtui_split.specs.Split.{gap_units, FitWishes, IsLane, HasWish, WithinWish, IsGivenBefore, IsWithinWish, IsSplit}
 use Rattle.rtui_split.specs.Split.{AreExact, IsLevel, HasLeast}
-use Rattle.rtui_split.specs.Spaces.{IsFilledBeside, IsGiven}
+use Rattle.rtui_split.specs.Spaces.{IsFilledBeside, GivesWishes}
 use Rattle.rtui_split.proofs.Lists.{AllZip-unmapped}
 use Rattle.rtui_split.specs.Split.{size_at, total_weight, NoneTakes, IsDeniedFrom, HasExactPlaces}
 use Rattle.rtui_split.specs.{Wishes.weight_in, Cut.AreEdges, Spaces.IsFlexed}
@@ -161,7 +161,7 @@ moved space area units spaces parts d e a b p q same_d same_a same_b placed =
 
 -- what arranging makes of parts
 pub record Arranges (units : List ℕ) (spaces : Spaces) (parts : List Part) (room : Room) : Type 0 where
-  pub given : IsGiven parts room units spaces
+  pub given : GivesWishes parts room units spaces
   pub alone : room.flex ≡ SpaceBetween → length parts ≡ 1
       → (units ≡ room.whole ∷ []) × (spaces.first ≡ 0) × (spaces.middle ≡ 0)
   pub arranged : KeepsWishes room.flex (length parts) → IsArranged parts room units spaces

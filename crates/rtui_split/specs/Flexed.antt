@@ -46,6 +46,11 @@ abbrev pub gap_cells : Spacing → ℕ
 gap_cells (Space n) = n
 gap_cells _ = 0
 
+-- no space at the ends, and between two parts no more than their gap
+abbrev pub LeavesNoSpace : LayoutData → Rect → List Rect → Type 0
+LeavesNoSpace l area parts = SpacesAre l.direction (first_cell l.direction area) (area_end l.direction area)
+    (λ s. s ≡ 0) (λ s. s ≡ gap_cells l.spacing) (λ s. s ≡ 0) parts
+
 abbrev pub HasFlexedSpaces : LayoutData → Rect → List Rect → Type 0
 HasFlexedSpaces l area parts = FlexedSpaces l.flex (NoneTakes l.constraints) (gap_cells l.spacing) l.direction
     (first_cell l.direction area) (area_end l.direction area) parts

@@ -101,7 +101,7 @@ middle_share SpaceEvenly n rest = rest / (n + 1)
 middle_share _ n rest = 0
 
 -- each part whose wishes fit has at least its wish, and sizes and spaces fit: also where a part is stretched
-pub record IsGiven (parts : List Part) (room : Room) (sizes : List ℕ) (spaces : Spaces) : Type 0 where
+pub record GivesWishes (parts : List Part) (room : Room) (sizes : List ℕ) (spaces : Spaces) : Type 0 where
   pub granted : (t : ℕ) → t ≤ 5 → FitsBefore t parts room → AllZip (IsGranted t) parts sizes
   pub fit : (t : ℕ) → FitsBefore t parts room → spaces.first + sum_by (λ s. s + spaces.middle)
       sizes ≤ room.whole + spaces.middle

@@ -137,8 +137,8 @@ NoneTakes cs = All TakesNothing cs
 abbrev pub IsDeniedFrom : ℕ → ℕ → Direction → Constraint → Rect → Type 0
 IsDeniedFrom t cells d c p = AtMostCells (wish cells c) (length_of d p) × (t ≤ turn c → length_of d p ≡ 0)
 
--- of exact sizes, in units: no more than the wish, if the part takes nothing of what is left; the wish at least,
--- if its turn comes before this one; no more than the wish, and nothing if its turn isn't before this one
+-- of exact sizes, in units: no more than the wish, if the part takes nothing of what is left; the wish at
+-- least, if its turn comes before this one; no more than the wish, and nothing if its turn isn't before it
 abbrev pub IsModestAt : ℕ → Constraint → ℕ → Type 0
 IsModestAt cells c units = TakesNothing c → units ≤ wish cells c
 
@@ -148,9 +148,9 @@ IsGrantedAt t cells c units = turn c < t → wish cells c ≤ units
 abbrev pub IsDeniedAt : ℕ → ℕ → Constraint → ℕ → Type 0
 IsDeniedAt t cells c units = (units ≤ wish cells c) × (t ≤ turn c → units ≡ 0)
 
--- exact sizes: nobody has more than it wishes but of what is left, all whose wishes fit have theirs, if a turn
--- comes too short nobody at all has more, and those after it have nothing, and if all fit, they are the sizes at
--- one level
+-- exact sizes: nobody has more than it wishes but of what is left, all whose wishes fit have theirs, if a
+-- turn comes too short nobody at all has more, and those after it have nothing, and if all fit, they are the
+-- sizes at one level
 pub record AreExact (l : LayoutData) (cells : ℕ) (units : List ℕ) : Type 0 where
   pub within : AllZip (IsModestAt cells) l.constraints units
   pub given : (t : ℕ) → t ≤ 5 → FitWishes t l cells → AllZip (IsGrantedAt t cells) l.constraints units

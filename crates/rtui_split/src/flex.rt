@@ -1,7 +1,7 @@
 //! Where the room goes that no part takes.
 ghost use Rattle.std.specs.Prelude.{◌≡◌, ◌≤◌, ◌+◌, ◌*◌, ◌-◌, ◌^◌, ◌<◌, ℕ, false, [], ◌∷◌, length};
 ghost use Rattle.rtui_split.specs.Spaces.{IsArranged, KeepsWishes, IsPacked, IsSpread, least_spaces};
-ghost use Rattle.rtui_split.specs.Spaces.{lead, first_share, middle_share, IsGiven};
+ghost use Rattle.rtui_split.specs.Spaces.{lead, first_share, middle_share, GivesWishes};
 ghost use Rattle.rtui_layout.specs.declared.flex.Flex.TheVariants.{SpaceBetween};
 ghost use Rattle.rtui_split.specs.Shares.{wanted_before};
 
@@ -51,7 +51,7 @@ fn arrange_packed(parts: &[Part], room: Room, drafts: &mut [Draft], sizes: &mut 
     requires sizes { length sizes.old ≡ length parts.now }
     requires drafts { length drafts.old ≡ length parts.now }
     requires flex { IsPacked room.flex }
-    ensures given { IsGiven parts.now room sizes.new result }
+    ensures given { GivesWishes parts.now room sizes.new result }
     ensures arranged { KeepsWishes room.flex (length parts.now)
         → IsArranged parts.now room sizes.new result }
 {
@@ -133,7 +133,7 @@ fn arrange_spread(parts: &[Part], room: Room, drafts: &mut [Draft], sizes: &mut 
     requires sizes { length sizes.old ≡ length parts.now }
     requires drafts { length drafts.old ≡ length parts.now }
     requires flex { IsSpread room.flex }
-    ensures given { IsGiven parts.now room sizes.new result }
+    ensures given { GivesWishes parts.now room sizes.new result }
     ensures arranged { KeepsWishes room.flex (length parts.now)
         → IsArranged parts.now room sizes.new result }
 {
@@ -163,7 +163,7 @@ fn give_all(room: Room, sizes: &mut [u64]) -> Spaces
 pub(crate) fn arrange(parts: &[Part], room: Room, drafts: &mut [Draft], sizes: &mut [u64]) -> Spaces
     requires sizes { length sizes.old ≡ length parts.now }
     requires drafts { length drafts.old ≡ length parts.now }
-    ensures given { room.overlap ≡ 0 → IsGiven parts.now room sizes.new result }
+    ensures given { room.overlap ≡ 0 → GivesWishes parts.now room sizes.new result }
     ensures alone { room.overlap ≡ 0 → room.flex ≡ SpaceBetween → length parts.now ≡ 1
         → (sizes.new ≡ room.whole ∷ []) × (result.first ≡ 0) × (result.middle ≡ 0) }
     ensures arranged { room.overlap ≡ 0 → KeepsWishes room.flex (length parts.now)

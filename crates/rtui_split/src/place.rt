@@ -79,7 +79,8 @@ pub(crate) fn place(sizes: &[u64], spaces: Spaces, overlap: u64, lane: Lane, par
         → AllZip (IsCutTo AtLeastCells lane.direction) sizes.now parts.new }
     ensures edges { overlap ≡ 0 → HasRoomForSpaces spaces (lane.end - lane.start) sizes.now
         → (rounding : ℕ) × (2520000 ≤ rounding) × (rounding ≤ 2557800)
-        × AreEdges lane.direction lane.start rounding spaces.middle spaces.first sizes.now parts.new }
+        × AreEdges lane.direction lane.start rounding spaces.middle spaces.first sizes.now
+        parts.new }
 {
     let whole = u64::from(lane.end - lane.start) * UNIT;
     let rounding = rounding_of(sizes.len());
