@@ -5,7 +5,7 @@ use Rattle.std.proofs.lemmas.List.Elements.{All-head, All-tail}
 use Rattle.ratatui_core.specs.Layout.{Rect, LayoutData, default_layout, inner, IsSplit, LeavesNoSpace, IsPartAlong, bottom_edge}
 use Rattle.ratatui_core.specs.declared.layout.Direction.TheVariants.{Vertical}
 use Rattle.ratatui_core.specs.declared.layout.Constraint.TheVariants.{Length, Fill}
-use Rattle.guide.specs.Areas.{HasRows, IsHeadAndBody}
+use Rattle.guide.specs.Areas.{TakesRowsOf, IsHeadAndBody}
 
 -- the layout of a row and of what is left
 abbrev pub head_layout : LayoutData
