@@ -1,3 +1,4 @@
+pub mod AreaLemmas
 pub mod LabelLemmas
 pub mod LogLemmas
 pub mod RenewLemmas

@@ -1,3 +1,4 @@
+pub mod Areas
 pub mod Gauges
 pub mod Labels
 pub mod Logging

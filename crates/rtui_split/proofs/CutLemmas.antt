@@ -1,6 +1,6 @@
 -- Rounding of places to cells, and parts in order.
 use Rattle.std.proofs.Common.{ℕ, ◌≡◌, ◌≤◌, ◌<◌, ◌+◌, ◌/◌, List, [], ◌∷◌, ◌++◌, ◌∙◌, take, drop, length, get_or, subst, sym, refl}
-use Rattle.std.proofs.Common.{arith}
+use Rattle.std.proofs.Common.{arith, sum_by}
 use Rattle.std.proofs.Math.ListN.{set}
 use Rattle.std.proofs.lemmas.List.{take_more, take_more_set, take_all}
 use Rattle.rtui_split.proofs.Lists.{drop_cons, set_last}
@@ -8,6 +8,8 @@ use Rattle.rtui_geometry.specs.declared.rect.Rect.{Rect}
 use Rattle.rtui_layout.specs.declared.direction.Direction.{Direction}
 use Rattle.rtui_layout.specs.declared.direction.Direction.TheVariants.{Horizontal, Vertical}
 use Rattle.rtui_split.specs.Cut.{first_cell, after_of, InOrder, Alternate, AtMostCells, AtLeastCells}
+use Rattle.rtui_split.specs.Cut.{AreEdges}
+use Rattle.std.proofs.lemmas.List.Sums.{sum_by-cons}
 
 -- a size from one place to another is cut to the whole number below or above
 pub cut_at_most : (b f s r start from to size : ℕ) → f ≤ b + s → from ≡ start + (b + r) / 5040000
@@ -55,6 +57,30 @@ first_before_after Vertical p = omega arith
 pub InOrder-le : (d : Direction) (a b : ℕ) (ps : List Rect) → InOrder d a b ps → a ≤ b
 InOrder-le d a b [] done = done
 InOrder-le d a b (p ∷ ps) done = omega (arith, done.0, first_before_after d p, InOrder-le d (after_of d p) b ps done.1)
+
+-- one part more, at its exact place
+AreEdges-push : (d : Direction) (start r m at b u : ℕ) (us : List ℕ) (ps : List Rect) (p : Rect)
+    → AreEdges d start r m at us ps → b ≡ at + sum_by (λ s. s + m) us
+    → first_cell d p ≡ start + (b + r) / 5040000 → after_of d p ≡ start + (b + u + r) / 5040000
+    → AreEdges d start r m at (us ++ u ∷ []) (ps ++ p ∷ [])
+AreEdges-push d start r m at b u [] [] p done begin from to = (omega (arith, begin, from), omega (arith, begin, to), tt)
+AreEdges-push d start r m at b u [] (q ∷ qs) p done begin from to = absurd done
+AreEdges-push d start r m at b u (v ∷ vs) [] p done begin from to = absurd done
+AreEdges-push d start r m at b u (v ∷ vs) (q ∷ qs) p done begin from to = (
+  done.0,
+  done.1,
+  AreEdges-push d start r m (at + v + m) b u vs qs p done.2 (omega (arith, begin, sum_by-cons (λ s. s + m) v vs)) from to,
+)
+
+pub AreEdges-written : (d : Direction) (start r m at b i : ℕ) (us : List ℕ) (ps : List Rect) (p : Rect) → i < length us
+    → i < length ps → AreEdges d start r m at (take i us) (take i ps) → b ≡ at + sum_by (λ s. s + m) (take i us)
+    → first_cell d p ≡ start + (b + r) / 5040000 → after_of d p ≡ start + (b + get_or us i 0 + r) / 5040000
+    → AreEdges d start r m at (take (i + 1) us) (take (i + 1) (set ps i p))
+AreEdges-written d start r m at b i us ps p in_us in_ps done begin from to =
+    let P : List Rect → Type 0 = λ qs. AreEdges d start r m at (take (i + 1) us) qs in
+    let Q : List ℕ → Type 0 = λ vs. AreEdges d start r m at vs (take i ps ++ p ∷ []) in
+    subst P (sym (take_more_set ps i p in_ps)) (subst Q (sym (take_more us i 0 in_us))
+    (AreEdges-push d start r m at b (get_or us i 0) (take i us) (take i ps) p done begin from to))
 
 -- as many spaces as parts, in turn, the last part up to c
 abbrev pub InTurn : Direction → ℕ → ℕ → List Rect → List Rect → Type 0

@@ -1,5 +1,7 @@
 pub mod CutLemmas
 pub mod FlexLemmas
+pub mod FlexedLemmas
+pub mod GrowthLemmas
 pub mod LevelLemmas
 pub mod Lists
 pub mod ShareLemmas

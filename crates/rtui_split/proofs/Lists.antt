@@ -1,6 +1,7 @@
 -- Relations between two lists, element by element.
 use Rattle.std.proofs.Common.{ℕ, ◌≡◌, ◌<◌, ◌+◌, List, [], ◌∷◌, ◌++◌, All, take, drop, add-one, arith, get_or, map, length, sum}
-use Rattle.std.proofs.Common.{sym, ◌∙◌, ap, refl, subst}
+use Rattle.rtui_split.specs.Shares.{IsAtMost}
+use Rattle.std.proofs.Common.{zero, suc, ◌≤◌, sym, ◌∙◌, ap, refl, subst}
 use Rattle.std.proofs.Math.ListN.{set}
 use Rattle.std.specs.List.{AllZip}
 use Rattle.std.proofs.lemmas.List.{take_more, take_more_set, take_all}
@@ -42,6 +43,24 @@ pub AllZip-mapped : {A B : Type 0} (R : A → B → Type 0) (f : A → B) → ((
     → AllZip R xs (map f xs)
 AllZip-mapped R f holds [] = tt
 AllZip-mapped R f holds (x ∷ xs) = (holds x, AllZip-mapped R f holds xs)
+
+-- what holds of what a function makes of each element
+pub AllZip-unmapped : {A B C : Type 0} (R : B → C → Type 0) (f : A → B) (xs : List A) (ys : List C) → AllZip R (map f xs) ys
+    → AllZip (λ x y. R (f x) y) xs ys
+AllZip-unmapped R f [] [] all = tt
+AllZip-unmapped R f [] (y ∷ ys) all = absurd all
+AllZip-unmapped R f (x ∷ xs) [] all = absurd all
+AllZip-unmapped R f (x ∷ xs) (y ∷ ys) all = (all.0, AllZip-unmapped R f xs ys all.1)
+
+-- each number is at most itself, and at most one that is written over it and is no less
+pub each_same : (xs : List ℕ) → AllZip IsAtMost xs xs
+each_same [] = tt
+each_same (x ∷ xs) = (omega arith, each_same xs)
+
+pub one_more_at : (xs : List ℕ) (i y : ℕ) → get_or xs i 0 ≤ y → AllZip IsAtMost xs (set xs i y)
+one_more_at [] i y more = tt
+one_more_at (x ∷ xs) zero y more = (more, each_same xs)
+one_more_at (x ∷ xs) (suc i) y more = (omega arith, one_more_at xs i y more)
 
 -- a list from a place on
 pub drop_cons : {A : Type 0} (xs : List A) (i : ℕ) (d : A) → i < length xs → drop i xs ≡ get_or xs i d ∷ drop (i + 1) xs

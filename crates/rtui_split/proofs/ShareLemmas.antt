@@ -1,5 +1,6 @@
 -- Sums of wishes, turn by turn, and what sizes keep to.
-use Rattle.std.proofs.Common.{ℕ, ◌≡◌, ◌<◌, ◌≤◌, ◌+◌, ◌-◌, ◌*◌, ◌^◌, List, [], ◌∷◌, sum, sum_by, map, Bool, refl, subst, arith}
+use Rattle.std.proofs.Common.{ℕ, ◌≡◌, ◌<◌, ◌≤◌, ◌+◌, ◌-◌, ◌*◌, ◌^◌, ◌==◌, List, [], ◌∷◌, sum, sum_by, map, Bool, refl}
+use Rattle.std.proofs.Common.{subst, arith}
 use Rattle.std.proofs.lemmas.Bool.Decides.{nat_tests}
 use Rattle.std.proofs.lemmas.List.Sums.{sum_by-cons, sum_by-le-sum_by, sum-map}
 use Rattle.std.specs.List.{AllZip}
@@ -8,7 +9,7 @@ use Rattle.rtui_layout.specs.declared.constraint.Constraint.TheVariants.{Min, Ma
 use Rattle.rtui_split.specs.declared.{part.Part.Part, level.Takers.Takers}
 use Rattle.rtui_split.specs.Wishes.{turn}
 use Rattle.rtui_split.specs.Shares.{if_before, if_in, wanted_before, wanted_in, sized, size_of_constraint, TakesNothing, Settled}
-use Rattle.rtui_split.specs.Shares.{IsGranted, IsModest, IsShared, IsFilled}
+use Rattle.rtui_split.specs.Shares.{IsGranted, IsModest, IsDenied, IsShared, IsFilled, TakeNothing, weights}
 use Rattle.rtui_split.proofs.Lists.{AllZip-weaker, AllZip-mapped}
 
 one_before_next : (t : ℕ) (p : Part) → if_before (t + 1) p ≡ if_before t p + if_in t p
@@ -53,17 +54,23 @@ all_fit ps room t left last whole = omega (arith, all_left ps room t left last w
 
 -- sizes that are settled for a turn that comes too short are shared
 pub settled_share : (legacy : Bool) (ps : List Part) (room : ℕ) (sizes : List ℕ) (t : ℕ) → t < 5
-    → AllZip (Settled t) ps sizes → sum sizes ≡ room → room < wanted_before (t + 1) ps
+    → AllZip (Settled t) ps sizes → sum sizes ≡ room → wanted_before t ps ≤ room → room < wanted_before (t + 1) ps
     → IsShared legacy ps room sizes 0
-settled_share legacy ps room sizes t short each all misses = record {
+settled_share legacy ps room sizes t short each all fits misses = record {
   total = omega arith;
-  granted = λ u last fits. AllZip-weaker (Settled t) (IsGranted u) (λ p s settled first.
+  granted = λ u last enough. AllZip-weaker (Settled t) (IsGranted u) (λ p s settled first.
       let within : u ≤ t = not_after u t (λ later. absurd (omega (arith, misses, before-later (t + 1) u ps later))) in
       let own : s ≡ p.wanted = settled.before (omega arith) in
       omega arith) ps sizes each;
   at_most = AllZip-weaker (Settled t) IsModest (λ p s settled modest. settled.at_most) ps sizes each;
   short = λ u last missing. all;
-  filled = λ small fits. absurd (omega (arith, misses, before-later (t + 1) 5 ps (omega arith)));
+  later = λ u last missing.
+      let after : t + 1 ≤ u = not_after (t + 1) u
+      (λ later. absurd (omega (arith, missing, fits, before-later u t ps (omega arith)))) in
+      AllZip-weaker (Settled t) (IsDenied u) (λ p s settled. (settled.at_most, λ from. settled.later (omega arith)))
+      ps sizes each;
+  rest = λ small modest. omega arith;
+  filled = λ small enough. absurd (omega (arith, misses, before-later (t + 1) 5 ps (omega arith)));
 }
 
 -- a size at a level is a wish, or more if the part takes something of what is left
@@ -88,9 +95,11 @@ modest_at takers level wanted (Fill n) modest = absurd modest
 -- sizes at a level are shared, if all wishes fit and the sizes do
 pub filled_share : (legacy : Bool) (ps : List Part) (room : ℕ) (takers : Takers) (level over : ℕ) → takers.legacy ≡ legacy
     → wanted_before 5 ps ≤ room → sum_by (sized takers level) ps ≤ room → over ≤ room - sum (map (sized takers level) ps)
+    → (room < 2 ^ 43 → TakeNothing ps → over ≡ room - sum (map (sized takers level) ps))
+    → takers.even ≡ (weights takers.legacy ps == 0)
     → (room < 2 ^ 43 → level < (room + 1) * 1048576 → room < sum_by (sized takers (level + 1048576)) ps)
     → IsShared legacy ps room (map (sized takers level) ps) over
-filled_share legacy ps room takers level over same fits within rest most =
+filled_share legacy ps room takers level over same fits within rest all even most =
     let P : Bool → Type 0 = λ b. IsFilled b ps room (map (sized takers level) ps) in
     record {
       total = omega (arith, sum-map (sized takers level) ps);
@@ -98,5 +107,7 @@ filled_share legacy ps room takers level over same fits within rest most =
           (λ p first. granted_at takers level p.wanted p.constraint (omega arith)) ps;
       at_most = AllZip-mapped IsModest (sized takers level) (λ p modest. modest_at takers level p.wanted p.constraint modest) ps;
       short = λ u last misses. absurd (omega (arith, before-later u 5 ps last));
-      filled = λ small _. subst P same (takers.even, level, refl, λ some. most small (omega (arith, some, within)));
+      later = λ u last misses. absurd (omega (arith, before-later u 5 ps last));
+      rest = λ small modest. omega (arith, all small modest, within, sum-map (sized takers level) ps);
+      filled = λ small _. subst P same (takers.even, level, refl, λ some. most small (omega (arith, some, within)), even);
     }

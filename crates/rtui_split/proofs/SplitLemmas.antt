@@ -1,7 +1,7 @@
 -- What exact sizes make of the cells of a part.
 use Rattle.std.proofs.Common.{ℕ, ◌≡◌, ◌<◌, ◌≤◌, ◌+◌, ◌-◌, ◌*◌, ◌/◌, max, Bool, true, false, inl, inr, List, [], ◌∷◌, map, length}
 use Rattle.std.proofs.Common.{sum_by, All, refl, sym, ◌∙◌, ap, suc, nat_lt, if◌then◌else◌, subst, add-mul, mul-le-mul_right}
-use Rattle.std.proofs.Common.{arith}
+use Rattle.std.proofs.Common.{arith, sum, ap₂, ◌==◌}
 use Rattle.std.proofs.Math.Nat.{suc-mul, mul_right_comm, div-mul-le_self, lt-div-mul-add}
 use Rattle.std.proofs.lemmas.List.Sums.{sum_by-cons}
 use Rattle.std.specs.List.{AllZip}
@@ -19,7 +19,17 @@ use Rattle.rtui_split.specs.Spaces.{least_spaces, KeepsWishes, FitsBefore, HasRo
 use Rattle.rtui_split.specs.Split.{IsCutFrom, LeavesNothing}
 use Rattle.rtui_split.specs.declared.flex.Room.{Room}
 use Rattle.rtui_split.specs.Split.{gap_units, FitWishes, IsLane, HasWish, WithinWish, IsGivenBefore, IsWithinWish, IsSplit}
-use Rattle.rtui_split.specs.Split.{size_at}
+use Rattle.rtui_split.specs.Split.{AreExact, IsLevel, HasLeast}
+use Rattle.rtui_split.specs.Spaces.{IsFilledBeside, GivesWishes}
+use Rattle.rtui_split.proofs.Lists.{AllZip-unmapped}
+use Rattle.rtui_split.specs.Split.{size_at, total_weight, NoneTakes, IsDeniedFrom, HasExactPlaces}
+use Rattle.rtui_split.specs.{Wishes.weight_in, Cut.AreEdges, Spaces.IsFlexed}
+use Rattle.rtui_split.specs.Shares.{IsDenied, TakeNothing, weights}
+use Rattle.rtui_split.proofs.FlexLemmas.{lt_or_le, sum-plus}
+use Rattle.rtui_layout.specs.declared.flex.Flex.TheVariants.{Legacy, Start, End, Center, SpaceBetween, SpaceAround, SpaceEvenly}
+use Rattle.std.proofs.lemmas.Bool.Decides.{nat_tests}
+use Rattle.std.proofs.lemmas.List.Elements.{All-map, All-nil, All-cons}
+use Rattle.std.proofs.lemmas.List.Sums.{sum-map}
 use Rattle.rtui_split.specs.Split.{IsCutAt, HasTaker, SharesRest}
 use Rattle.std.proofs.lemmas.List.Elements.{All-head, All-tail}
 use Rattle.std.proofs.lemmas.List.{length-map}
@@ -138,6 +148,8 @@ pub record Placed (space : Type 0) (area : Rect) (units : List ℕ) (spaces : Sp
   pub in_order : space → InOrder d a b parts
   pub at_most : AllZip (IsCutTo AtMostCells d) units parts
   pub at_least : space → HasRoomForSpaces spaces (b - a) units → AllZip (IsCutTo AtLeastCells d) units parts
+  pub edges : space → HasRoomForSpaces spaces (b - a) units → (rounding : ℕ) × (2520000 ≤ rounding) × (rounding ≤ 2557800)
+      × AreEdges d a rounding spaces.middle spaces.first units parts
 
 pub moved : (space : Type 0) (area : Rect) (units : List ℕ) (spaces : Spaces) (parts : List Rect) (d e : Direction) (a b p q : ℕ)
     → d ≡ e → a ≡ p → b ≡ q → Placed space area units spaces parts d a b → Placed space area units spaces parts e p q
@@ -147,21 +159,61 @@ moved space area units spaces parts d e a b p q same_d same_a same_b placed =
     let R : ℕ → Type 0 = λ x. Placed space area units spaces parts e p x in
     subst R same_b (subst Q same_a (subst P same_d placed))
 
--- the same of what is arranged in another room, of other parts
+-- what arranging makes of parts
+pub record Arranges (units : List ℕ) (spaces : Spaces) (parts : List Part) (room : Room) : Type 0 where
+  pub given : GivesWishes parts room units spaces
+  pub alone : room.flex ≡ SpaceBetween → length parts ≡ 1
+      → (units ≡ room.whole ∷ []) × (spaces.first ≡ 0) × (spaces.middle ≡ 0)
+  pub arranged : KeepsWishes room.flex (length parts) → IsArranged parts room units spaces
+
+-- the same of another room, and of other parts
 pub rearranged : (ps qs : List Part) (units : List ℕ) (spaces : Spaces) (w w' g g' o : ℕ) (f f' : Flex) → ps ≡ qs → w ≡ w'
-    → g ≡ g' → f ≡ f'
-    → (KeepsWishes f (length ps) → IsArranged ps (record { whole = w; flex = f; gap = g; overlap = o }) units spaces)
-    → KeepsWishes f' (length qs) → IsArranged qs (record { whole = w'; flex = f'; gap = g'; overlap = o }) units spaces
-rearranged ps qs units spaces w w' g g' o f f' same_ps same_w same_g same_f arranged =
-    let P : List Part → Type 0 = λ x. KeepsWishes f (length x)
-    → IsArranged x (record { whole = w; flex = f; gap = g; overlap = o }) units spaces in
-    let Q : ℕ → Type 0 = λ x. KeepsWishes f (length qs) → IsArranged qs (record { whole = x; flex = f; gap = g; overlap = o })
-    units spaces in
-    let R : ℕ → Type 0 = λ x. KeepsWishes f (length qs) → IsArranged qs (record { whole = w'; flex = f; gap = x; overlap = o })
-    units spaces in
-    let S : Flex → Type 0 = λ x. KeepsWishes x (length qs) → IsArranged qs
-    (record { whole = w'; flex = x; gap = g'; overlap = o }) units spaces in
-    subst S same_f (subst R same_g (subst Q same_w (subst P same_ps arranged)))
+    → g ≡ g' → f ≡ f' → Arranges units spaces ps (record { whole = w; flex = f; gap = g; overlap = o })
+    → Arranges units spaces qs (record { whole = w'; flex = f'; gap = g'; overlap = o })
+rearranged ps qs units spaces w w' g g' o f f' same_ps same_w same_g same_f arranges =
+    let P : List Part → Type 0 = λ x. Arranges units spaces x (record { whole = w; flex = f; gap = g; overlap = o }) in
+    let Q : ℕ → Type 0 = λ x. Arranges units spaces qs (record { whole = x; flex = f; gap = g; overlap = o }) in
+    let R : ℕ → Type 0 = λ x. Arranges units spaces qs (record { whole = w'; flex = f; gap = x; overlap = o }) in
+    let S : Flex → Type 0 = λ x. Arranges units spaces qs (record { whole = w'; flex = x; gap = g'; overlap = o }) in
+    subst S same_f (subst R same_g (subst Q same_w (subst P same_ps arranges)))
+
+-- wishes that are granted, in cells
+least_all : (t cells : ℕ) (d : Direction) (cs : List Constraint) (us : List ℕ) (ps : List Rect)
+    → AllZip (IsGranted t) (map (part_in cells) cs) us → AllZip (IsCutTo AtLeastCells d) us ps
+    → AllZip (HasLeast t cells d) cs ps
+least_all t cells d [] [] [] granted least = tt
+least_all t cells d [] [] (p ∷ ps) granted least = absurd least
+least_all t cells d [] (u ∷ us) ps granted least = absurd granted
+least_all t cells d (c ∷ cs) [] ps granted least = absurd granted
+least_all t cells d (c ∷ cs) (u ∷ us) [] granted least = absurd least
+least_all t cells d (c ∷ cs) (u ∷ us) (p ∷ ps) granted least =
+    (λ first. omega (arith, granted.0 first, least.0), least_all t cells d cs us ps granted.1 least.1)
+
+-- a part that has all the room, in cells
+alone_has_room : (cells : ℕ) (units : List ℕ) (spaces : Spaces) → units ≡ cells * 5040000 ∷ [] → spaces.first ≡ 0
+    → spaces.middle ≡ 0 → HasRoomForSpaces spaces cells units
+alone_has_room cells units spaces all first middle = omega (
+  arith,
+  first,
+  middle,
+  sum-plus spaces.middle units,
+  ap sum all,
+  ap (λ m. length units * m) middle,
+)
+
+alone_cells : (d : Direction) (cells : ℕ) (units : List ℕ) (ps : List Rect) → units ≡ cells * 5040000 ∷ []
+    → AllZip (IsCutTo AtMostCells d) units ps → AllZip (IsCutTo AtLeastCells d) units ps → All (λ p. length_of d p ≡ cells) ps
+alone_cells d cells units ps all most least =
+    let P : List ℕ → Type 0 = λ us. AllZip (IsCutTo AtMostCells d) us ps in
+    let Q : List ℕ → Type 0 = λ us. AllZip (IsCutTo AtLeastCells d) us ps in
+    of_one ps (subst P all most) (subst Q all least)
+  where
+    of_one : (qs : List Rect) → AllZip (IsCutTo AtMostCells d) (cells * 5040000 ∷ []) qs
+        → AllZip (IsCutTo AtLeastCells d) (cells * 5040000 ∷ []) qs → All (λ p. length_of d p ≡ cells) qs
+    of_one [] most least = absurd most
+    of_one (p ∷ []) most least = All-cons (λ q. length_of d q ≡ cells) p [] (omega (arith, most.0, least.0))
+        (All-nil (λ q. length_of d q ≡ cells))
+    of_one (p ∷ q ∷ qs) most least = absurd most.1
 
 -- the size of a part at a level is that of its constraint
 sized_is : (cells : ℕ) (even : Bool) (level : ℕ) (c : Constraint)
@@ -186,71 +238,196 @@ sum_sized_is cells even level (c ∷ cs) =
       sum_by-cons (sized (record { legacy = false; even = even }) level) (part_in cells c) (map (part_in cells) cs),
     )
 
+all_sized_are : (cells : ℕ) (even : Bool) (level : ℕ) (cs : List Constraint)
+    → map (sized (record { legacy = false; even = even }) level) (map (part_in cells) cs) ≡ map (size_at cells even level) cs
+all_sized_are cells even level [] = refl
+all_sized_are cells even level (c ∷ cs) =
+    ap₂ (λ x xs. x ∷ xs) (sized_is cells even level c) (all_sized_are cells even level cs)
+
 -- a weight above 0 takes at least the level
 one_weight : (k level : ℕ) → 0 < k → level / 1048576 ≤ k * level / 1048576
 one_weight k level some = let more : 1 * level ≤ k * level = mul-le-mul_right level some in omega (arith, more)
 
-some_weight : (even : Bool) (n : ℕ) → 0 < n → 0 < (if even then max n 1 else n)
-some_weight true n some = omega arith
-some_weight false n some = some
+-- a part that takes something of what is left takes at least the level
+weight_le : (cells level : ℕ) (c : Constraint) → 0 < weight_in false c → level / 1048576 ≤ size_at cells false level c
+weight_le cells level (Min n) some = omega arith
+weight_le cells level (Length n) some = absurd (omega (arith, some))
+weight_le cells level (Percentage n) some = absurd (omega (arith, some))
+weight_le cells level (Ratio m n) some = absurd (omega (arith, some))
+weight_le cells level (Max n) some = absurd (omega (arith, some))
+weight_le cells level (Fill n) some = one_weight n level some
 
-taker_le : (cells : ℕ) (even : Bool) (level : ℕ) (cs : List Constraint) → HasTaker cs
+-- if some part weighs something
+weights_le : (cells level : ℕ) (cs : List Constraint) → 0 < total_weight cs
+    → level / 1048576 ≤ sum_by (size_at cells false level) cs
+weights_le cells level [] some = absurd (omega (arith, some))
+weights_le cells level (c ∷ cs) some = elim (lt_or_le 0 (weight_in false c)) [
+  | inl own ↦ omega (arith, sum_by-cons (size_at cells false level) c cs, weight_le cells level c own)
+  | inr none ↦ omega (
+    arith,
+    sum_by-cons (size_at cells false level) c cs,
+    weights_le cells level cs (omega (arith, some, none, sum_by-cons (weight_in false) c cs)),
+  )
+]
+
+-- if weights count as even
+even_le : (cells level : ℕ) (cs : List Constraint) → HasTaker cs → level / 1048576 ≤ sum_by (size_at cells true level) cs
+even_le cells level [] some = absurd some
+even_le cells level (Min n ∷ cs) some = omega (arith, sum_by-cons (size_at cells true level) (Min n) cs)
+even_le cells level (Length n ∷ cs) some = omega (
+  arith,
+  sum_by-cons (size_at cells true level) (Length n) cs,
+  even_le cells level cs some,
+)
+even_le cells level (Percentage n ∷ cs) some = omega (
+  arith,
+  sum_by-cons (size_at cells true level) (Percentage n) cs,
+  even_le cells level cs some,
+)
+even_le cells level (Ratio m n ∷ cs) some = omega (
+  arith,
+  sum_by-cons (size_at cells true level) (Ratio m n) cs,
+  even_le cells level cs some,
+)
+even_le cells level (Max n ∷ cs) some = omega (
+  arith,
+  sum_by-cons (size_at cells true level) (Max n) cs,
+  even_le cells level cs some,
+)
+even_le cells level (Fill n ∷ cs) some =
+    omega (arith, sum_by-cons (size_at cells true level) (Fill n) cs, one_weight (max n 1) level (omega arith))
+
+taker_le : (cells : ℕ) (even : Bool) (level : ℕ) (cs : List Constraint) → even ≡ (total_weight cs == 0) → HasTaker cs
     → level / 1048576 ≤ sum_by (size_at cells even level) cs
-taker_le cells even level [] some = absurd some
-taker_le cells even level (Min n ∷ cs) some = omega (arith, sum_by-cons (size_at cells even level) (Min n) cs)
-taker_le cells even level (Length n ∷ cs) some = omega (
-  arith,
-  sum_by-cons (size_at cells even level) (Length n) cs,
-  taker_le cells even level cs some,
-)
-taker_le cells even level (Percentage n ∷ cs) some = omega (
-  arith,
-  sum_by-cons (size_at cells even level) (Percentage n) cs,
-  taker_le cells even level cs some,
-)
-taker_le cells even level (Ratio m n ∷ cs) some = omega (
-  arith,
-  sum_by-cons (size_at cells even level) (Ratio m n) cs,
-  taker_le cells even level cs some,
-)
-taker_le cells even level (Max n ∷ cs) some = omega (
-  arith,
-  sum_by-cons (size_at cells even level) (Max n) cs,
-  taker_le cells even level cs some,
-)
-taker_le cells even level (Fill n ∷ cs) (inl weight) =
+taker_le cells true level cs same some = even_le cells level cs some
+taker_le cells false level cs same some =
+    weights_le cells level cs (grind (arith, nat_tests, same))
+
+-- what parts weigh is what their constraints weigh
+weights_are : (cells : ℕ) (cs : List Constraint) → weights false (map (part_in cells) cs) ≡ total_weight cs
+weights_are cells [] = refl
+weights_are cells (c ∷ cs) =
     omega (
       arith,
-      sum_by-cons (size_at cells even level) (Fill n) cs,
-      one_weight (if even then max n 1 else n) level (some_weight even n weight),
+      weights_are cells cs,
+      sum_by-cons (λ (p : Part). weight_in false p.constraint) (part_in cells c) (map (part_in cells) cs),
+      sum_by-cons (weight_in false) c cs,
     )
-taker_le cells even level (Fill n ∷ cs) (inr some) = omega (
-  arith,
-  sum_by-cons (size_at cells even level) (Fill n) cs,
-  taker_le cells even level cs some,
-)
+
+-- sizes that are filled are those at a level
+levelled : (l : LayoutData) (cells n : ℕ) (units : List ℕ) (o : ℕ) → n ≡ length l.constraints
+    → IsFilledBeside (map (part_in cells) l.constraints) (record
+    { whole = cells * 5040000; flex = l.flex; gap = gap_units l.spacing; overlap = o }) units
+    → length (map (part_in cells) l.constraints) ≡ n
+    → (even : Bool) × (level : ℕ) × (units ≡ map (size_at cells even level) l.constraints) × IsLevel l cells even level
+levelled l cells n units o long filled same =
+    let cs = l.constraints in
+    let even = filled.0 in
+    let level = filled.1 in
+    let weighed : even ≡ (total_weight cs == 0) = filled.4 ∙ ap (λ n. n == 0) (weights_are cells cs) in
+    let sizes : units ≡ map (size_at cells even level) cs = filled.2 ∙ all_sized_are cells even level cs in
+    let least : least_spaces l.flex (length (map (part_in cells) cs)) * gap_units l.spacing
+    ≡ least_spaces l.flex (length cs) * gap_units l.spacing =
+    ap (λ k. least_spaces l.flex k * gap_units l.spacing) (omega (arith, long, same)) in (
+      even,
+      level,
+      sizes,
+      (
+        λ some. omega (
+          arith,
+          filled.3 (omega (arith, taker_le cells even level cs weighed some, sum_sized_is cells even level cs)),
+          sum_sized_is cells even (level + 1048576) cs,
+          least,
+        ),
+        weighed,
+        omega (arith, filled.5, ap sum sizes, sum-map (size_at cells even level) cs, least),
+      ),
+    )
+
+-- a part that is denied more than its wish
+denied_each : (t cells : ℕ) (d : Direction) (c : Constraint) (units : ℕ) (p : Rect) → IsDenied t (part_in cells c) units
+    → AtMostCells units (length_of d p) → IsDeniedFrom t cells d c p
+denied_each t cells d c units p denied most = (omega (arith, denied.0, most), λ from. omega (arith, denied.1 from, most))
+
+denied_cells : (t cells : ℕ) (d : Direction) (cs : List Constraint) (us : List ℕ) (ps : List Rect)
+    → AllZip (IsDenied t) (map (part_in cells) cs) us → AllZip (IsCutTo AtMostCells d) us ps
+    → AllZip (IsDeniedFrom t cells d) cs ps
+denied_cells t cells d [] [] [] denied most = tt
+denied_cells t cells d [] [] (p ∷ ps) denied most = absurd most
+denied_cells t cells d [] (u ∷ us) ps denied most = absurd denied
+denied_cells t cells d (c ∷ cs) [] ps denied most = absurd denied
+denied_cells t cells d (c ∷ cs) (u ∷ us) [] denied most = absurd most
+denied_cells t cells d (c ∷ cs) (u ∷ us) (p ∷ ps) denied most =
+    (denied_each t cells d c u p denied.0 most.0, denied_cells t cells d cs us ps denied.1 most.1)
+
+-- the same spaces, by a condition that says the same
+flexed_for : (flex : Flex) (none other : Type 0) (n gap first middle last : ℕ) → (other → none)
+    → IsFlexed flex none n gap first middle last → IsFlexed flex other n gap first middle last
+flexed_for Legacy none other n gap first middle last same flexed = tt
+flexed_for Start none other n gap first middle last same flexed = flexed
+flexed_for End none other n gap first middle last same flexed = (flexed.0, λ x. flexed.1 (same x))
+flexed_for Center none other n gap first middle last same flexed = (flexed.0, λ x. flexed.1 (same x))
+flexed_for SpaceBetween none other n gap first middle last same flexed = flexed
+flexed_for SpaceAround none other n gap first middle last same flexed = flexed
+flexed_for SpaceEvenly none other n gap first middle last same flexed = flexed
+
+none_takes : (cells : ℕ) (cs : List Constraint) → NoneTakes cs → TakeNothing (map (part_in cells) cs)
+none_takes cells cs none = All-map (λ (p : Part). TakesNothing p.constraint) (part_in cells) cs none
+
+-- parts at exact places
+exact_places : (l : LayoutData) (start cells n : ℕ) (parts : List Rect) (units : List ℕ) (spaces : Spaces) (o : ℕ)
+    → n ≡ length l.constraints
+    → ((last : ℕ) × (spaces.first + sum units + (n - 1) * spaces.middle + last ≡ cells * 5040000)
+    × IsFlexed l.flex (TakeNothing (map (part_in cells) l.constraints)) n (gap_units l.spacing) spaces.first spaces.middle last)
+    → ((rounding : ℕ) × (2520000 ≤ rounding) × (rounding ≤ 2557800)
+    × AreEdges l.direction start rounding spaces.middle spaces.first units parts)
+    → AreExact l cells units
+    → HasExactPlaces l start cells parts
+exact_places l start cells n parts units spaces o long flexed edges exact =
+    let F : ℕ → Type 0 = λ k. IsFlexed l.flex (NoneTakes l.constraints) k (gap_units l.spacing) spaces.first spaces.middle
+    flexed.0 in (
+      units,
+      spaces.first,
+      spaces.middle,
+      flexed.0,
+      edges.0,
+      record {
+        sizes = exact;
+        whole = omega (arith, flexed.1, ap (λ k. (k - 1) * spaces.middle) long);
+        flexed = subst F long (flexed_for l.flex (TakeNothing (map (part_in cells) l.constraints)) (NoneTakes l.constraints) n
+            (gap_units l.spacing) spaces.first spaces.middle flexed.0
+            (none_takes cells l.constraints) flexed.2);
+        half = (edges.1, edges.2);
+        edges = edges.3;
+      },
+    )
 
 -- parts that are cut from sizes at a level
-cut_one : (cells : ℕ) (even : Bool) (level : ℕ) (d : Direction) (c : Constraint) (p : Rect)
-    → AtMostCells (sized (record { legacy = false; even = even }) level (part_in cells c)) (length_of d p)
-    → AtLeastCells (sized (record { legacy = false; even = even }) level (part_in cells c)) (length_of d p)
-    → IsCutAt cells even level d c p
-cut_one cells even level d c p most least =
-    let P : ℕ → Type 0 = λ n. AtMostCells n (length_of d p) in
-    let Q : ℕ → Type 0 = λ n. AtLeastCells n (length_of d p) in
-    record { at_most = subst P (sized_is cells even level c) most; at_least = subst Q (sized_is cells even level c) least }
-
 cut_all : (cells : ℕ) (even : Bool) (level : ℕ) (d : Direction) (cs : List Constraint) (ps : List Rect)
-    → AllZip (IsCutTo AtMostCells d) (map (sized (record { legacy = false; even = even }) level) (map (part_in cells) cs)) ps
-    → AllZip (IsCutTo AtLeastCells d) (map (sized (record { legacy = false; even = even }) level) (map (part_in cells) cs)) ps
+    → AllZip (IsCutTo AtMostCells d) (map (size_at cells even level) cs) ps
+    → AllZip (IsCutTo AtLeastCells d) (map (size_at cells even level) cs) ps
     → AllZip (IsCutAt cells even level d) cs ps
 cut_all cells even level d [] [] most least = tt
 cut_all cells even level d [] (p ∷ ps) most least = absurd most
 cut_all cells even level d (c ∷ cs) [] most least = absurd most
 cut_all cells even level d (c ∷ cs) (p ∷ ps) most least = (
-  cut_one cells even level d c p most.0 least.0,
+  record { at_most = most.0; at_least = least.0 },
   cut_all cells even level d cs ps most.1 least.1,
 )
+
+-- parts that are cut from sizes at a level share the rest
+shares_rest_of : (l : LayoutData) (cells : ℕ) (units : List ℕ) (parts : List Rect)
+    → ((even : Bool) × (level : ℕ) × (units ≡ map (size_at cells even level) l.constraints) × IsLevel l cells even level)
+    → AllZip (IsCutTo AtMostCells l.direction) units parts → AllZip (IsCutTo AtLeastCells l.direction) units parts
+    → SharesRest l cells parts
+shares_rest_of l cells units parts filled most least =
+    let A : List ℕ → Type 0 = λ us. AllZip (IsCutTo AtMostCells l.direction) us parts in
+    let B : List ℕ → Type 0 = λ us. AllZip (IsCutTo AtLeastCells l.direction) us parts in (
+      filled.0,
+      filled.1,
+      cut_all cells filled.0 filled.1 l.direction l.constraints parts (subst A filled.2 most) (subst B filled.2 least),
+      filled.3,
+    )
 
 cut_from : (d : Direction) (us : List ℕ) (ps : List Rect) → AllZip (IsCutTo AtMostCells d) us ps
     → AllZip (IsCutTo AtLeastCells d) us ps → AllZip (IsCutFrom d) us ps
@@ -264,12 +441,11 @@ cut_from d (u ∷ us) (p ∷ ps) most least =
 pub is_split : (l : LayoutData) (area : Rect) (units : List ℕ) (spaces : Spaces) (parts : List Rect) (cells o : ℕ)
     → cells ≡ area_end l.direction area - first_cell l.direction area → area_end l.direction area ≤ 65535
     → length parts ≡ length l.constraints
-    → (IsSpace l.spacing → KeepsWishes l.flex (length (map (part_in cells) l.constraints))
-    → IsArranged (map (part_in cells) l.constraints) (record
-    { whole = cells * 5040000; flex = l.flex; gap = gap_units l.spacing; overlap = o }) units spaces)
+    → (IsSpace l.spacing → Arranges units spaces (map (part_in cells) l.constraints) (record
+    { whole = cells * 5040000; flex = l.flex; gap = gap_units l.spacing; overlap = o }))
     → Placed (IsSpace l.spacing) area units spaces parts l.direction (first_cell l.direction area) (area_end l.direction area)
     → IsSplit l area parts
-is_split l area units spaces parts cells o cells_are small long arranged placed =
+is_split l area units spaces parts cells o cells_are small long arranges placed =
     let cs = l.constraints in
     let d = l.direction in
     let long_cs : length (map (part_in cells) cs) ≡ length cs = length-map cs (part_in cells) in
@@ -278,11 +454,23 @@ is_split l area units spaces parts cells o cells_are small long arranged placed 
     let fits : (t : ℕ) → FitWishes t l cells → FitsBefore t (map (part_in cells) cs)
     (record { whole = cells * 5040000; flex = l.flex; gap = gap_units l.spacing; overlap = o }) =
     λ t f. omega (arith, f, wanted_is_wished t cells cs, ap (λ n. least_spaces l.flex n * gap_units l.spacing) long_cs) in
+    let unfits : (t : ℕ) → FitsBefore t (map (part_in cells) cs)
+    (record { whole = cells * 5040000; flex = l.flex; gap = gap_units l.spacing; overlap = o }) → FitWishes t l cells =
+    λ t f. omega (arith, f, wanted_is_wished t cells cs, ap (λ n. least_spaces l.flex n * gap_units l.spacing) long_cs) in
     let W : ℕ → Type 0 = λ n. AllZip (IsWithinWish n d) cs parts in
+    let arranged = λ (space : IsSpace l.spacing). (arranges space).arranged in
     record {
       count = long;
       inside = placed.inside;
       in_order = placed.in_order;
+      least = λ space t last. let H : ℕ → Type 0 = λ n. FitWishes t l n → AllZip (HasLeast t n d) cs parts in
+          subst H cells_are (λ fit. least_all t cells d cs units parts ((arranges space).given.granted t last (fits t fit))
+          (placed.at_least space (omega (arith, (arranges space).given.fit t (fits t fit), cells_are))));
+      alone = λ space between one. let H : ℕ → Type 0 = λ n. All (λ p. length_of d p ≡ n) parts in
+          let all = (arranges space).alone between (omega (arith, one, long_cs)) in
+          let roomy : HasRoomForSpaces spaces cells units = alone_has_room cells units spaces all.0 all.1 all.2 in
+          subst H cells_are (alone_cells d cells units parts all.0 placed.at_most
+          (placed.at_least space (omega (arith, roomy, cells_are))));
       within = λ space k. subst W cells_are (within_all cells d cs units parts (arranged space (keeps k)).at_most placed.at_most);
       given = λ space k t last. let H : ℕ → Type 0 = λ n. FitWishes t l n → AllZip (IsGivenBefore t n d) cs parts in
           subst H cells_are (λ fit. given_all t cells d cs units parts
@@ -293,13 +481,7 @@ is_split l area units spaces parts cells o cells_are small long arranged placed 
           subst H cells_are (λ spaced misses.
           let room : Room = record { whole = cells * 5040000; flex = l.flex; gap = gap_units l.spacing; overlap = o } in
           let least = placed.at_least space (omega (arith, (arranged space (keeps k)).fit 0 (fits 0 spaced), cells_are)) in
-          let unfit : FitsBefore t (map (part_in cells) cs) room → ⊥ =
-          λ f. misses (omega (
-            arith,
-            f,
-            wanted_is_wished t cells cs,
-            ap (λ n. least_spaces l.flex n * gap_units l.spacing) long_cs,
-          )) in (
+          let unfit : FitsBefore t (map (part_in cells) cs) room → ⊥ = λ f. misses (unfits t f) in (
             units,
             cut_from d units parts placed.at_most least,
             omega (
@@ -308,24 +490,33 @@ is_split l area units spaces parts cells o cells_are small long arranged placed 
               ap (λ n. least_spaces l.flex n * gap_units l.spacing) long_cs,
             ),
           ));
+      later = λ space k t last. let H : ℕ → Type 0 = λ n. FitWishes 0 l n → (FitWishes t l n → ⊥)
+          → AllZip (IsDeniedFrom t n d) cs parts in
+          subst H cells_are (λ spaced misses.
+          let room : Room = record { whole = cells * 5040000; flex = l.flex; gap = gap_units l.spacing; overlap = o } in
+          denied_cells t cells d cs units parts
+          ((arranged space (keeps k)).later t last (fits 0 spaced) (λ f. misses (unfits t f))) placed.at_most);
+      flexed = λ space k some. let H : ℕ → Type 0 = λ n. FitWishes 0 l n → HasExactPlaces l (first_cell d area) n parts in
+          subst H cells_are (λ spaced.
+          exact_places l (first_cell d area) cells (length (map (part_in cells) cs)) parts units spaces o long_cs
+          ((arranged space (keeps k)).flexed (omega (arith, some, long_cs)) (omega (arith, cells_are, small)) (fits 0 spaced))
+          (placed.edges space (omega (arith, (arranged space (keeps k)).fit 0 (fits 0 spaced), cells_are)))
+          (record {
+            within = AllZip-unmapped IsModest (part_in cells) cs units (arranged space (keeps k)).at_most;
+            given = λ t last fit. AllZip-unmapped (IsGranted t) (part_in cells) cs units
+                ((arranged space (keeps k)).granted t last (fits t fit));
+            later = λ t last misses. AllZip-unmapped (IsDenied t) (part_in cells) cs units
+                ((arranged space (keeps k)).later t last (fits 0 spaced) (λ f. misses (unfits t f)));
+            rest = λ fit. levelled l cells (length cs) units o refl
+                ((arranged space (keeps k)).filled (omega (arith, cells_are, small)) (fits 5 fit)) long_cs;
+          }));
       rest = λ space k. let H : ℕ → Type 0 = λ n. FitWishes 5 l n → SharesRest l n parts in
           subst H cells_are (λ fit.
-          let filled = (arranged space (keeps k)).filled (omega (arith, cells_are, small)) (fits 5 fit) in
-          let even = filled.0 in
-          let level = filled.1 in
-          let least = placed.at_least space (omega (arith, (arranged space (keeps k)).fit 5 (fits 5 fit), cells_are)) in
-          let A : List ℕ → Type 0 = λ us. AllZip (IsCutTo AtMostCells d) us parts in
-          let B : List ℕ → Type 0 = λ us. AllZip (IsCutTo AtLeastCells d) us parts in (
-            even,
-            level,
-            cut_all cells even level d cs parts (subst A filled.2 placed.at_most) (subst B filled.2 least),
-            λ some. omega (
-              arith,
-              filled.3 (omega (arith, taker_le cells even level cs some, sum_sized_is cells even level cs)),
-              sum_sized_is cells even (level + 1048576) cs,
-              ap (λ n. least_spaces l.flex n * gap_units l.spacing) long_cs,
-            ),
-          ));
+          shares_rest_of l cells units parts
+          (levelled l cells (length cs) units o refl
+          ((arranged space (keeps k)).filled (omega (arith, cells_are, small)) (fits 5 fit)) long_cs)
+          placed.at_most
+          (placed.at_least space (omega (arith, (arranged space (keeps k)).fit 5 (fits 5 fit), cells_are))));
     }
 
 -- spaces between the edges of a lane are spacers of the area

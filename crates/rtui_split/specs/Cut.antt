@@ -1,5 +1,5 @@
 -- An area cut into parts, with spaces before, between and after them.
-use Rattle.std.specs.Prelude.{ℕ, ◌≡◌, ◌+◌, ◌*◌, ◌<◌, ◌≤◌, List, [], ◌∷◌}
+use Rattle.std.specs.Prelude.{ℕ, ◌≡◌, ◌+◌, ◌*◌, ◌/◌, ◌<◌, ◌≤◌, ⊤, List, [], ◌∷◌}
 use Rattle.rtui_geometry.specs.{Rect.right_edge, Rect.bottom_edge, declared.rect.Rect.Rect}
 use Rattle.rtui_layout.specs.{declared.direction.Direction.Direction}
 use Rattle.rtui_layout.specs.{declared.direction.Direction.TheVariants.Vertical}
@@ -44,6 +44,16 @@ Alternate d a b [] _ = ⊥
 Alternate d a b (s ∷ ss) [] = (first_cell d s ≡ a) × (after_of d s ≡ b) × (ss ≡ [])
 Alternate d a b (s ∷ ss) (p ∷ ps) = (first_cell d s ≡ a) × (after_of d s ≡ first_cell d p)
     × Alternate d (after_of d p) b ss ps
+
+-- parts of exact sizes, in units, from an exact place on, with the same space between two: their edges are
+-- cut to whole cells
+abbrev pub AreEdges : Direction → ℕ → ℕ → ℕ → ℕ → List ℕ → List Rect → Type 0
+AreEdges d start rounding middle at [] [] = ⊤
+AreEdges d start rounding middle at [] (p ∷ ps) = ⊥
+AreEdges d start rounding middle at (u ∷ us) [] = ⊥
+AreEdges d start rounding middle at (u ∷ us) (p ∷ ps) = (first_cell d p ≡ start + (at + rounding) / 5040000)
+    × (after_of d p ≡ start + (at + u + rounding) / 5040000)
+    × AreEdges d start rounding middle (at + u + middle) us ps
 
 -- the other two sides of a rectangle are those of the area
 abbrev pub SpansAcross : Direction → Rect → Rect → Type 0

@@ -1,4 +1,6 @@
 pub mod Cut
+pub mod Flexed
+pub mod Growth
 pub mod Shares
 pub mod Spacers
 pub mod Spaces

@@ -1,12 +1,12 @@
 -- Parts with what they wish, and the sizes that they get, in units.
 use Rattle.std.specs.Prelude.{ℕ, ◌≡◌, ◌==◌, ◌+◌, ◌*◌, ◌/◌, ◌<◌, ◌≤◌, max, List, Bool, sum_by, nat_lt}
-use Rattle.std.specs.Prelude.{if◌then◌else◌, sum, map, ◌^◌, ⊤}
+use Rattle.std.specs.Prelude.{if◌then◌else◌, sum, map, All, ◌^◌, ⊤}
 use Rattle.std.specs.List.{AllZip}
 use Rattle.rtui_layout.specs.declared.constraint.Constraint.{Constraint}
 use Rattle.rtui_layout.specs.declared.constraint.Constraint.TheVariants.{Min, Fill}
 use Rattle.rtui_split.specs.declared.part.Part.{Part}
 use Rattle.rtui_split.specs.declared.level.Takers.{Takers}
-use Rattle.rtui_split.specs.Wishes.{turn, wish}
+use Rattle.rtui_split.specs.Wishes.{turn, wish, weight_in}
 
 -- the part of a constraint in an area of so many columns or rows
 abbrev pub part_in : ℕ → Constraint → Part
@@ -43,10 +43,14 @@ TakesNothing _ = ⊤
 abbrev pub sized : Takers → ℕ → Part → ℕ
 sized takers level p = size_of_constraint takers level p.wanted p.constraint
 
--- those before a turn have their wishes, and nobody has more
+-- those before a turn have their wishes, nobody has more, and those after it have nothing
 pub record Settled (t : ℕ) (p : Part) (size : ℕ) : Type 0 where
   pub at_most : size ≤ p.wanted
   pub before : turn p.constraint < t → size ≡ p.wanted
+  pub later : t < turn p.constraint → size ≡ 0
+
+abbrev pub IsAtMost : ℕ → ℕ → Type 0
+IsAtMost a b = a ≤ b
 
 -- the part has its wish if its turn comes before this one
 abbrev pub IsGranted : ℕ → Part → ℕ → Type 0
@@ -56,19 +60,34 @@ IsGranted t p size = turn p.constraint < t → p.wanted ≤ size
 abbrev pub IsModest : Part → ℕ → Type 0
 IsModest p size = TakesNothing p.constraint → size ≤ p.wanted
 
+-- the part has no more than its wish, and nothing if its turn isn't before this one
+abbrev pub IsDenied : ℕ → Part → ℕ → Type 0
+IsDenied t p size = (size ≤ p.wanted) × (t ≤ turn p.constraint → size ≡ 0)
+
+-- no part takes anything of what is left
+abbrev pub TakeNothing : List Part → Type 0
+TakeNothing ps = All (λ p. TakesNothing p.constraint) ps
+
+-- what all weigh together
+abbrev pub weights : Bool → List Part → ℕ
+weights legacy ps = sum_by (λ p. weight_in legacy p.constraint) ps
+
 -- the sizes are those at a level, which is the highest that has room, but for less than a unit, if any part
--- takes more at a higher one
+-- takes more at a higher one; weights count as even if all are 0
 abbrev pub IsFilled : Bool → List Part → ℕ → List ℕ → Type 0
 IsFilled legacy parts room sizes = (even : Bool) × (level : ℕ)
     × (sizes ≡ map (sized (record { legacy = legacy; even = even }) level) parts)
     × (level / 1048576 ≤ sum_by (sized (record { legacy = legacy; even = even }) level) parts
     → room < sum_by (sized (record { legacy = legacy; even = even }) (level + 1048576)) parts)
+    × (even ≡ (weights legacy parts == 0))
 
 -- sizes in so much room: wishes in turns, nothing over what takes part in the rest, and all of the room if a
--- turn comes too short
+-- turn comes too short, with nothing for those after it, or if no part takes anything of what is left
 pub record IsShared (legacy : Bool) (parts : List Part) (room : ℕ) (sizes : List ℕ) (left : ℕ) : Type 0 where
   pub total : sum sizes + left ≤ room
   pub granted : (t : ℕ) → t ≤ 5 → wanted_before t parts ≤ room → AllZip (IsGranted t) parts sizes
   pub at_most : AllZip IsModest parts sizes
   pub short : (t : ℕ) → t ≤ 5 → room < wanted_before t parts → sum sizes ≡ room
+  pub later : (t : ℕ) → t ≤ 5 → room < wanted_before t parts → AllZip (IsDenied t) parts sizes
+  pub rest : room < 2 ^ 43 → TakeNothing parts → sum sizes + left ≡ room
   pub filled : room < 2 ^ 43 → wanted_before 5 parts ≤ room → IsFilled legacy parts room sizes

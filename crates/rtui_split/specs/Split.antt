@@ -1,6 +1,6 @@
 -- What a layout makes of an area.
-use Rattle.std.specs.Prelude.{ℕ, ◌≡◌, ◌+◌, ◌-◌, ◌*◌, ◌/◌, ◌<◌, ◌⊎◌, Bool, sum_by, ◌≤◌, max, List, [], ◌∷◌}
-use Rattle.std.specs.Prelude.{sum, length, All, nat_le, if◌then◌else◌, ⊤}
+use Rattle.std.specs.Prelude.{ℕ, ◌≡◌, ◌+◌, ◌-◌, ◌*◌, ◌/◌, ◌<◌, ◌==◌, Bool, false, sum_by, ◌≤◌, max, List, [], ◌∷◌}
+use Rattle.std.specs.Prelude.{sum, map, length, All, nat_le, if◌then◌else◌, ⊤}
 use Rattle.std.specs.List.{AllZip}
 use Rattle.rtui_geometry.specs.{Rect.doubled, Rect.shrunk, declared.margin.Margin.Margin}
 use Rattle.rtui_geometry.specs.{declared.rect.Rect.Rect}
@@ -16,8 +16,8 @@ use Rattle.rtui_split.specs.declared.{place.Lane.Lane, lane.Rule.Rule}
 use Rattle.rtui_split.specs.{Cut.first_cell, Cut.area_end, Cut.length_of, Cut.IsPartAlong, Cut.InOrder}
 use Rattle.rtui_split.specs.{Cut.IsSpace}
 use Rattle.rtui_split.specs.{Cut.AtMostCells, Cut.AtLeastCells, Wishes.turn, Wishes.wish}
-use Rattle.rtui_split.specs.{Wishes.wished_before}
-use Rattle.rtui_split.specs.Spaces.{least_spaces, KeepsWishes}
+use Rattle.rtui_split.specs.{Wishes.wished_before, Wishes.weight_in, Cut.AreEdges, Shares.TakesNothing}
+use Rattle.rtui_split.specs.Spaces.{least_spaces, KeepsWishes, IsFlexed}
 
 -- no area, at the corner
 abbrev pub area_of_nothing : Rect
@@ -87,15 +87,26 @@ HasTaker (Length n ∷ cs) = HasTaker cs
 HasTaker (Percentage n ∷ cs) = HasTaker cs
 HasTaker (Ratio m n ∷ cs) = HasTaker cs
 HasTaker (Max n ∷ cs) = HasTaker cs
-HasTaker (Fill n ∷ cs) = (0 < n) ⊎ HasTaker cs
+HasTaker (Fill n ∷ cs) = ⊤
 
--- the parts have their sizes at one level, and if some part takes what is left, there is no room for a unit
--- more for each weight
+-- what all parts weigh together
+abbrev pub total_weight : List Constraint → ℕ
+total_weight cs = sum_by (weight_in false) cs
+
+-- the sizes at a level fit, with the spaces, and if some part takes what is left, there is no room for a unit
+-- more for each weight. Weights count as even if all are 0
+abbrev pub IsLevel : LayoutData → ℕ → Bool → ℕ → Type 0
+IsLevel l cells even level = (HasTaker l.constraints → cells * 5040000
+    < sum_by (size_at cells even (level + 1048576))
+    l.constraints + least_spaces l.flex (length l.constraints) * gap_units l.spacing)
+    × (even ≡ (total_weight l.constraints == 0))
+    × (sum_by (size_at cells even level) l.constraints
+    + least_spaces l.flex (length l.constraints) * gap_units l.spacing ≤ cells * 5040000)
+
+-- the parts have their sizes at one such level
 abbrev pub SharesRest : LayoutData → ℕ → List Rect → Type 0
 SharesRest l cells parts = (even : Bool) × (level : ℕ)
-    × AllZip (IsCutAt cells even level l.direction) l.constraints parts
-    × (HasTaker l.constraints → cells * 5040000 < sum_by (size_at cells even (level + 1048576))
-    l.constraints + least_spaces l.flex (length l.constraints) * gap_units l.spacing)
+    × AllZip (IsCutAt cells even level l.direction) l.constraints parts × IsLevel l cells even level
 
 -- an exact size, in units, and the part that it is cut to: the whole number of cells below or above
 pub record IsCutFrom (d : Direction) (units : ℕ) (p : Rect) : Type 0 where
@@ -111,18 +122,74 @@ LeavesNothing l cells parts = (units : List ℕ) × AllZip (IsCutFrom l.directio
 abbrev pub IsGivenBefore : ℕ → ℕ → Direction → Constraint → Rect → Type 0
 IsGivenBefore t cells d c p = turn c < t → HasWish cells c (length_of d p)
 
+-- the part has at least its wish, cut to whole cells, if its turn comes before this one
+abbrev pub HasLeast : ℕ → ℕ → Direction → Constraint → Rect → Type 0
+HasLeast t cells d c p = turn c < t → AtLeastCells (wish cells c) (length_of d p)
+
 abbrev pub IsWithinWish : ℕ → Direction → Constraint → Rect → Type 0
 IsWithinWish cells d c p = WithinWish cells c (length_of d p)
 
--- a part for each constraint, inside and in order. Without overlap, if no part is stretched: nobody has more
--- than it wishes, all whose wishes fit have theirs, if a turn
--- comes too short nothing is left over, and if all fit, what is left is shared by weight
+-- no part takes anything of what is left
+abbrev pub NoneTakes : List Constraint → Type 0
+NoneTakes cs = All TakesNothing cs
+
+-- the part has no more than its wish, and nothing if its turn isn't before this one
+abbrev pub IsDeniedFrom : ℕ → ℕ → Direction → Constraint → Rect → Type 0
+IsDeniedFrom t cells d c p = AtMostCells (wish cells c) (length_of d p) × (t ≤ turn c → length_of d p ≡ 0)
+
+-- of exact sizes, in units: no more than the wish, if the part takes nothing of what is left; the wish at
+-- least, if its turn comes before this one; no more than the wish, and nothing if its turn isn't before it
+abbrev pub IsModestAt : ℕ → Constraint → ℕ → Type 0
+IsModestAt cells c units = TakesNothing c → units ≤ wish cells c
+
+abbrev pub IsGrantedAt : ℕ → ℕ → Constraint → ℕ → Type 0
+IsGrantedAt t cells c units = turn c < t → wish cells c ≤ units
+
+abbrev pub IsDeniedAt : ℕ → ℕ → Constraint → ℕ → Type 0
+IsDeniedAt t cells c units = (units ≤ wish cells c) × (t ≤ turn c → units ≡ 0)
+
+-- exact sizes: nobody has more than it wishes but of what is left, all whose wishes fit have theirs, if a
+-- turn comes too short nobody at all has more, and those after it have nothing, and if all fit, they are the
+-- sizes at one level
+pub record AreExact (l : LayoutData) (cells : ℕ) (units : List ℕ) : Type 0 where
+  pub within : AllZip (IsModestAt cells) l.constraints units
+  pub given : (t : ℕ) → t ≤ 5 → FitWishes t l cells → AllZip (IsGrantedAt t cells) l.constraints units
+  pub later : (t : ℕ) → t ≤ 5 → (FitWishes t l cells → ⊥)
+      → AllZip (IsDeniedAt t cells) l.constraints units
+  pub rest : FitWishes 5 l cells → (even : Bool) × (level : ℕ)
+      × (units ≡ map (size_at cells even level) l.constraints) × IsLevel l cells even level
+
+-- exact sizes, in units, and spaces before, between and after them that make up the area and are as the flex
+-- says: the parts are these sizes, each edge cut to the nearest column or row. A half, and up to 0.0075 less,
+-- goes to the later one
+pub record IsLaidOut (l : LayoutData) (start cells : ℕ) (parts : List Rect) (units : List ℕ)
+    (first middle last rounding : ℕ) : Type 0 where
+  pub sizes : AreExact l cells units
+  pub whole : first + sum units + (length l.constraints - 1) * middle + last ≡ cells * 5040000
+  pub flexed : IsFlexed l.flex (NoneTakes l.constraints) (length l.constraints) (gap_units l.spacing)
+      first middle last
+  pub half : (2520000 ≤ rounding) × (rounding ≤ 2557800)
+  pub edges : AreEdges l.direction start rounding middle first units parts
+
+abbrev pub HasExactPlaces : LayoutData → ℕ → ℕ → List Rect → Type 0
+HasExactPlaces l start cells parts = (units : List ℕ) × (first : ℕ) × (middle : ℕ) × (last : ℕ)
+    × (rounding : ℕ) × IsLaidOut l start cells parts units first middle last rounding
+
+-- a part for each constraint, inside and in order. Without overlap, all whose wishes fit have at least theirs,
+-- and a part alone takes all if spaces stand between parts only. If no part is stretched: nobody has more
+-- than it wishes, all whose wishes fit have theirs, if a turn comes too short nothing is left over and those
+-- after it have nothing, if all fit, what is left is shared by weight, and what no part takes goes to the
+-- spaces as the flex says
 pub record IsSplit (l : LayoutData) (area : Rect) (parts : List Rect) : Type 0 where
   pub count : length parts ≡ length l.constraints
   pub inside : All (IsPartAlong l.direction area (first_cell l.direction area)
       (area_end l.direction area)) parts
   pub in_order : IsSpace l.spacing → InOrder l.direction (first_cell l.direction area)
       (area_end l.direction area) parts
+  pub least : IsSpace l.spacing → (t : ℕ) → t ≤ 5 → FitWishes t l (cells_of l.direction area)
+      → AllZip (HasLeast t (cells_of l.direction area) l.direction) l.constraints parts
+  pub alone : IsSpace l.spacing → l.flex ≡ flex.SpaceBetween → length l.constraints ≡ 1
+      → All (λ p. length_of l.direction p ≡ cells_of l.direction area) parts
   pub within : IsSpace l.spacing → KeepsWishes l.flex (length l.constraints)
       → AllZip (IsWithinWish (cells_of l.direction area) l.direction) l.constraints parts
   pub given : IsSpace l.spacing → KeepsWishes l.flex (length l.constraints) → (t : ℕ) → t ≤ 5
@@ -132,6 +199,12 @@ pub record IsSplit (l : LayoutData) (area : Rect) (parts : List Rect) : Type 0 w
   pub short : IsSpace l.spacing → KeepsWishes l.flex (length l.constraints) → (t : ℕ) → t ≤ 5
       → FitWishes 0 l (cells_of l.direction area) → (FitWishes t l (cells_of l.direction area) → ⊥)
       → LeavesNothing l (cells_of l.direction area) parts
+  pub later : IsSpace l.spacing → KeepsWishes l.flex (length l.constraints) → (t : ℕ) → t ≤ 5
+      → FitWishes 0 l (cells_of l.direction area) → (FitWishes t l (cells_of l.direction area) → ⊥)
+      → AllZip (IsDeniedFrom t (cells_of l.direction area) l.direction) l.constraints parts
+  pub flexed : IsSpace l.spacing → KeepsWishes l.flex (length l.constraints) → 0 < length l.constraints
+      → FitWishes 0 l (cells_of l.direction area)
+      → HasExactPlaces l (first_cell l.direction area) (cells_of l.direction area) parts
   pub rest : IsSpace l.spacing → KeepsWishes l.flex (length l.constraints)
       → FitWishes 5 l (cells_of l.direction area) → SharesRest l (cells_of l.direction area) parts
 

@@ -1,6 +1,6 @@
 -- What each part of a layout wishes, and whose wishes come first. Exact sizes are counted in units, of which
 -- 5040000 make one column or row.
-use Rattle.std.specs.Prelude.{ℕ, ◌*◌, ◌/◌, ◌-◌, ◌^◌, min, max, List, sum_by, nat_lt, if◌then◌else◌}
+use Rattle.std.specs.Prelude.{ℕ, ◌*◌, ◌/◌, ◌-◌, ◌^◌, min, max, Bool, List, sum_by, nat_lt, if◌then◌else◌}
 use Rattle.rtui_layout.specs.declared.constraint.Constraint.{Constraint}
 use Rattle.rtui_layout.specs.declared.constraint.Constraint.TheVariants.{Min, Max, Length, Percentage, Ratio}
 use Rattle.rtui_layout.specs.declared.constraint.Constraint.TheVariants.{Fill}
@@ -22,6 +22,12 @@ wish cells (Percentage n) = cells * n * 50400
 wish cells (Ratio m n) = min (cells * m * 5040000 / max n 1) (2 ^ 64 - 1)
 wish cells (Max n) = n * 5040000
 wish cells (Fill n) = 0
+
+-- how much a part takes of what is left, beside others; with `Flex::Legacy` a `Min` takes nothing
+abbrev pub weight_in : Bool → Constraint → ℕ
+weight_in legacy (Min n) = if legacy then 0 else 1
+weight_in legacy (Fill n) = n
+weight_in legacy _ = 0
 
 -- what all wish whose turn comes before this one
 abbrev pub wished_before : ℕ → ℕ → List Constraint → ℕ

@@ -1,6 +1,9 @@
 //! Where the room goes that no part takes.
-ghost use Rattle.std.specs.Prelude.{◌≡◌, ◌≤◌, ◌+◌, ◌*◌, ◌-◌, ◌^◌, ◌<◌, ℕ, false, length};
+ghost use Rattle.std.specs.Prelude.{◌≡◌, ◌≤◌, ◌+◌, ◌*◌, ◌-◌, ◌^◌, ◌<◌, ℕ, false, [], ◌∷◌, length};
 ghost use Rattle.rtui_split.specs.Spaces.{IsArranged, KeepsWishes, IsPacked, IsSpread, least_spaces};
+ghost use Rattle.rtui_split.specs.Spaces.{lead, first_share, middle_share, GivesWishes};
+ghost use Rattle.rtui_layout.specs.declared.flex.Flex.TheVariants.{SpaceBetween};
+ghost use Rattle.rtui_split.specs.Shares.{wanted_before};
 
 use crate::draft::Draft;
 use crate::edge::{Overlapped, share_overlapped};
@@ -34,7 +37,7 @@ fn is_legacy(flex: Flex) -> bool
 
 // How much of what is left comes before the first part.
 fn lead_of(flex: Flex, left: u64) -> u64
-    ensures { result ≤ left }
+    ensures { result ≡ lead flex left }
 {
     match flex {
         Flex::End => left,
@@ -48,7 +51,8 @@ fn arrange_packed(parts: &[Part], room: Room, drafts: &mut [Draft], sizes: &mut 
     requires sizes { length sizes.old ≡ length parts.now }
     requires drafts { length drafts.old ≡ length parts.now }
     requires flex { IsPacked room.flex }
-    ensures { KeepsWishes room.flex (length parts.now)
+    ensures given { GivesWishes parts.now room sizes.new result }
+    ensures arranged { KeepsWishes room.flex (length parts.now)
         → IsArranged parts.now room sizes.new result }
 {
     let inner = (parts.len() as u64).saturating_sub(1);
@@ -73,6 +77,7 @@ fn arrange_packed(parts: &[Part], room: Room, drafts: &mut [Draft], sizes: &mut 
 fn room_after_mins(parts: &[Part], room: u64, more: u64) -> u64
     ensures most { result ≤ room }
     ensures least { room ≤ result + more }
+    ensures spared { wanted_before 1 parts.now < result → result + more ≤ room }
 {
     match left_before(parts, 1, room) {
         Some(left) => room - more.min(left),
@@ -83,14 +88,17 @@ fn room_after_mins(parts: &[Part], room: u64, more: u64) -> u64
 // Spaces that share the rest: so many of equal size, or those at the ends half of the others.
 fn spaces_of(rest: u64, flex: Flex, count: u64) -> Spaces
     requires { count < 2 ^ 63 }
-    ensures { result.first + count * result.middle ≤ rest + result.middle }
+    ensures fit { result.first + count * result.middle ≤ rest + result.middle }
+    ensures first { IsSpread flex → 0 < count → result.first ≡ first_share flex count rest }
+    ensures middle { IsSpread flex → KeepsWishes flex count → 0 < count
+        → result.middle ≡ middle_share flex count rest }
 {
     match flex {
         Flex::SpaceBetween => Spaces {
             first: 0,
             middle: rest / count.saturating_sub(1).max(1),
         },
-        Flex::SpaceAround if count > 1 => {
+        Flex::SpaceAround if count > 0 => {
             let first = rest / (2 * count);
             Spaces {
                 first,
@@ -125,7 +133,8 @@ fn arrange_spread(parts: &[Part], room: Room, drafts: &mut [Draft], sizes: &mut 
     requires sizes { length sizes.old ≡ length parts.now }
     requires drafts { length drafts.old ≡ length parts.now }
     requires flex { IsSpread room.flex }
-    ensures { KeepsWishes room.flex (length parts.now)
+    ensures given { GivesWishes parts.now room sizes.new result }
+    ensures arranged { KeepsWishes room.flex (length parts.now)
         → IsArranged parts.now room sizes.new result }
 {
     let count = parts.len() as u64;
@@ -136,11 +145,28 @@ fn arrange_spread(parts: &[Part], room: Room, drafts: &mut [Draft], sizes: &mut 
     spaces_of(rest_of(room.whole, sizes), room.flex, count)
 }
 
+// A part alone, if there is one, takes the room.
+fn give_all(room: Room, sizes: &mut [u64]) -> Spaces
+    ensures spaces { (result.first ≡ 0) × (result.middle ≡ 0) }
+    ensures one { length sizes.old ≡ 1 → sizes.new ≡ room.whole ∷ [] }
+{
+    if !sizes.is_empty() {
+        sizes[0] = room.whole;
+    }
+    Spaces {
+        first: 0,
+        middle: 0,
+    }
+}
+
 /// Gives the parts their sizes, and answers what the spaces have.
 pub(crate) fn arrange(parts: &[Part], room: Room, drafts: &mut [Draft], sizes: &mut [u64]) -> Spaces
     requires sizes { length sizes.old ≡ length parts.now }
     requires drafts { length drafts.old ≡ length parts.now }
-    ensures { room.overlap ≡ 0 → KeepsWishes room.flex (length parts.now)
+    ensures given { room.overlap ≡ 0 → GivesWishes parts.now room sizes.new result }
+    ensures alone { room.overlap ≡ 0 → room.flex ≡ SpaceBetween → length parts.now ≡ 1
+        → (sizes.new ≡ room.whole ∷ []) × (result.first ≡ 0) × (result.middle ≡ 0) }
+    ensures arranged { room.overlap ≡ 0 → KeepsWishes room.flex (length parts.now)
         → IsArranged parts.now room sizes.new result }
 {
     let inner = (parts.len() as u64).saturating_sub(1);
@@ -160,15 +186,7 @@ pub(crate) fn arrange(parts: &[Part], room: Room, drafts: &mut [Draft], sizes: &
         Flex::Legacy | Flex::Start | Flex::End | Flex::Center => {
             arrange_packed(parts, room, drafts, sizes)
         }
-        Flex::SpaceBetween if inner == 0 => {
-            if let Some(size) = sizes.first_mut() {
-                *size = room.whole;
-            }
-            Spaces {
-                first: 0,
-                middle: 0,
-            }
-        }
+        Flex::SpaceBetween if inner == 0 => give_all(room, sizes),
         _ => arrange_spread(parts, room, drafts, sizes),
     }
 }

@@ -1,6 +1,8 @@
 //! How what is left is shared by weight.
-ghost use Rattle.std.specs.Prelude.{◌≡◌, ◌≤◌, ◌<◌, ◌+◌, ◌*◌, ◌/◌, ◌^◌, sum_by, IsTrue, IsFalse};
-ghost use Rattle.rtui_split.specs.Shares.{sized, wanted_before};
+ghost use Rattle.std.specs.Prelude.{◌≡◌, ◌≤◌, ◌<◌, ◌+◌, ◌*◌, ◌/◌, ◌^◌, ◌==◌, sum_by};
+ghost use Rattle.std.specs.Prelude.{unwrap_or, IsTrue, IsFalse};
+ghost use Rattle.rtui_split.specs.Wishes.{weight_in};
+ghost use Rattle.rtui_split.specs.Shares.{sized, wanted_before, weights, TakeNothing};
 
 use crate::part::{FILL, Part, turn_of};
 use rtui_layout::Constraint;
@@ -18,7 +20,10 @@ pub(crate) struct Takers {
 }
 
 // The weight of a part, or nothing if it takes nothing of what is left.
-fn weight_of(part: &Part, takers: Takers) -> Option<u16> {
+fn weight_of(part: &Part, takers: Takers) -> Option<u16>
+    ensures { IsFalse takers.even
+        → unwrap_or result 0 ≡ weight_in takers.legacy part.now.constraint }
+{
     match part.constraint {
         Constraint::Fill(_) if takers.even => Some(1),
         Constraint::Fill(n) => Some(n),
@@ -81,16 +86,29 @@ fn lower_level(parts: &[Part], takers: Takers, level: Option<u64>, room: u64) ->
 
 /// Who takes what is left.
 pub(crate) fn takers_of(parts: &[Part], legacy: bool) -> Takers
-    ensures { result.legacy ≡ legacy }
+    ensures legacy { result.legacy ≡ legacy }
+    ensures even { result.even ≡ (weights legacy parts.now == 0) }
+{
+    Takers {
+        legacy,
+        even: weigh_nothing(parts, legacy),
+    }
+}
+
+// Whether all weights are 0.
+fn weigh_nothing(parts: &[Part], legacy: bool) -> bool
+    ensures { result ≡ (weights legacy parts.now == 0) }
 {
     let each = Takers {
         legacy,
         even: false,
     };
-    let even = parts
-        .iter()
-        .all(|part| weight_of(part, each).unwrap_or(0) == 0);
-    Takers { legacy, even }
+    for part in parts {
+        if weight_of(part, each).unwrap_or(0) > 0 {
+            return false;
+        }
+    }
+    true
 }
 
 // A level near the highest that has room.
@@ -139,6 +157,7 @@ pub(crate) fn level_of(parts: &[Part], takers: Takers, room: u64) -> u64
     ensures fits { sum_by (sized takers result) parts.now ≤ room }
     ensures most { room < 2 ^ 43 → result < (room + 1) * 1048576
         → room < sum_by (sized takers (result + 1048576)) parts.now }
+    ensures top { room < 2 ^ 43 → TakeNothing parts.now → result ≡ (room + 1) * 1048576 }
 {
     let top = top_of(room);
     let near = near_level(parts, takers, room).min(top);

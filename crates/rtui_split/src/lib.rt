@@ -6,6 +6,7 @@ mod draft;
 mod edge;
 mod flex;
 mod lane;
+pub mod laws;
 mod level;
 mod part;
 mod place;

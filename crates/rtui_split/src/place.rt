@@ -1,9 +1,10 @@
 //! Cuts an area at the edges of the parts.
-ghost use Rattle.std.specs.Prelude.{◌≡◌, ◌<◌, ◌≤◌, ◌+◌, ◌*◌, ◌-◌, ◌/◌, length, min, max, All, sum_by};
+ghost use Rattle.std.specs.Prelude.{◌≡◌, ◌<◌, ◌≤◌, ◌+◌, ◌*◌, ◌-◌, ◌/◌, ℕ, length, min, max};
+ghost use Rattle.std.specs.Prelude.{All, sum_by};
 ghost use Rattle.std.specs.List.{AllZip};
 ghost use Rattle.rtui_split.specs.Cut.{first_cell, after_of, length_of, Alternate, InOrder, SpansAcross};
 ghost use Rattle.rtui_split.specs.Cut.{IsPartAlong};
-ghost use Rattle.rtui_split.specs.Cut.{AtMostCells, AtLeastCells};
+ghost use Rattle.rtui_split.specs.Cut.{AtMostCells, AtLeastCells, AreEdges};
 ghost use Rattle.rtui_split.specs.Spaces.{HasRoomForSpaces, IsCutTo};
 
 use crate::flex::Spaces;
@@ -25,7 +26,8 @@ pub(crate) struct Lane {
 // What is added to a place before it is cut to whole cells: a half, and a bit more, since places
 // count to hundredths, half up, and each may have lost a unit for each part before it.
 fn rounding_of(count: usize) -> u64
-    ensures { result < 5040000 }
+    ensures half { 2520000 ≤ result }
+    ensures most { result ≤ 2557800 }
 {
     let lost = (count as u64).saturating_mul(2).min(UNIT / 400);
     UNIT / 2 + UNIT / 200 + lost
@@ -75,6 +77,10 @@ pub(crate) fn place(sizes: &[u64], spaces: Spaces, overlap: u64, lane: Lane, par
     ensures at_most { AllZip (IsCutTo AtMostCells lane.direction) sizes.now parts.new }
     ensures at_least { overlap ≡ 0 → HasRoomForSpaces spaces (lane.end - lane.start) sizes.now
         → AllZip (IsCutTo AtLeastCells lane.direction) sizes.now parts.new }
+    ensures edges { overlap ≡ 0 → HasRoomForSpaces spaces (lane.end - lane.start) sizes.now
+        → (rounding : ℕ) × (2520000 ≤ rounding) × (rounding ≤ 2557800)
+        × AreEdges lane.direction lane.start rounding spaces.middle spaces.first sizes.now
+        parts.new }
 {
     let whole = u64::from(lane.end - lane.start) * UNIT;
     let rounding = rounding_of(sizes.len());

@@ -1,8 +1,9 @@
 //! Shares room among the parts.
-ghost use Rattle.std.specs.Prelude.{◌≡◌, ◌-◌, ◌≤◌, ◌<◌, ◌+◌, ◌*◌, ℕ, length, sum, sum_by, map, min};
+ghost use Rattle.std.specs.Prelude.{◌≡◌, ◌-◌, ◌≤◌, ◌<◌, ◌+◌, ◌*◌, ◌^◌, ℕ};
+ghost use Rattle.std.specs.Prelude.{length, sum, sum_by, map, min};
 ghost use Rattle.std.specs.List.{AllZip};
 ghost use Rattle.rtui_split.specs.Shares.{if_before, if_in, wanted_before, wanted_in};
-ghost use Rattle.rtui_split.specs.Shares.{sized, Settled, IsShared};
+ghost use Rattle.rtui_split.specs.Shares.{sized, IsAtMost, Settled, IsShared};
 
 use crate::draft::Draft;
 use crate::level::{Takers, level_of, size_at, takers_of, top_of};
@@ -173,7 +174,8 @@ pub(crate) fn share(
 
 // What nobody takes, if the sizes are those at a level.
 fn left_at(level: u64, room: u64, sizes: &[u64]) -> u64
-    ensures { result ≤ room - sum sizes.now }
+    ensures most { result ≤ room - sum sizes.now }
+    ensures top { room < 2 ^ 43 → level ≡ (room + 1) * 1048576 → result ≡ room - sum sizes.now }
 {
     if level < top_of(room) {
         0
@@ -205,8 +207,8 @@ fn patience_of(constraint: Constraint) -> u8 {
     }
 }
 
-/// What nobody takes goes to the last part of the kind that minds least.
-pub(crate) fn stretch(parts: &[Part], left: u64, sizes: &mut [u64]) {
+// The last part of the kind that minds least to be stretched.
+fn stretched(parts: &[Part]) -> usize {
     let mut most: u8 = 0;
     let mut at: usize = 0;
     for (i, part) in parts.iter().enumerate() {
@@ -216,7 +218,16 @@ pub(crate) fn stretch(parts: &[Part], left: u64, sizes: &mut [u64]) {
             at = i;
         }
     }
-    if let Some(size) = sizes.get_mut(at) {
-        *size = size.saturating_add(left);
+    at
+}
+
+/// What nobody takes goes to the last part of the kind that minds least.
+pub(crate) fn stretch(parts: &[Part], left: u64, sizes: &mut [u64])
+    ensures more { AllZip IsAtMost sizes.old sizes.new }
+    ensures all { sum sizes.new ≤ sum sizes.old + left }
+{
+    let at = stretched(parts);
+    if at < sizes.len() {
+        sizes[at] = sizes[at].saturating_add(left);
     }
 }

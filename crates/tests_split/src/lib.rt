@@ -102,3 +102,46 @@ fn boxes_stand_in_the_middle(rt: HostRuntime) -> Result<(), AllocError> {
     assert!(rt; lines.x == 2 && rows(lines) == (4, 5));
     Ok(())
 }
+
+// The widths of the parts of so many columns, packed from the left.
+fn widths(alloc: Global, constraints: &[Constraint], columns: u16) -> Result<Vec<u16>, AllocError> {
+    let layout = Layout::horizontal(alloc, constraints)?;
+    let parts = layout.split(
+        alloc,
+        Rect {
+            x: 0,
+            y: 0,
+            width: columns,
+            height: 1,
+        },
+    )?;
+    let mut widths = Vec::new(alloc);
+    for part in &parts {
+        widths.push(part.width)?;
+    }
+    Ok(widths)
+}
+
+// One column more makes no part smaller, before it is cut to whole columns.
+#[test]
+fn a_column_more_may_take_one_from_a_part(rt: HostRuntime) -> Result<(), AllocError> {
+    let thirds = [Constraint::Percentage(33), Constraint::Percentage(33)];
+    assert!(rt; widths(rt.alloc(), &thirds, 1)?.as_slice() == [0, 1].as_slice());
+    assert!(rt; widths(rt.alloc(), &thirds, 2)?.as_slice() == [1, 0].as_slice());
+    Ok(())
+}
+
+// The crate has a second answer for each, so that one column more may take two from a part there.
+#[test]
+fn a_kind_that_comes_too_short_has_one_answer(rt: HostRuntime) -> Result<(), AllocError> {
+    let most = [
+        Constraint::Max(3),
+        Constraint::Max(3),
+        Constraint::Max(0),
+        Constraint::Max(2),
+        Constraint::Max(5),
+    ];
+    assert!(rt; widths(rt.alloc(), &most, 5)?.as_slice() == [1, 0, 0, 2, 2].as_slice());
+    assert!(rt; widths(rt.alloc(), &most, 6)?.as_slice() == [1, 1, 0, 2, 2].as_slice());
+    Ok(())
+}

@@ -20,7 +20,11 @@ returns c = λ l is_lane is_rule.
     (c.from.result * 5040000) (cells * 5040000) rule.gap (gap_units l.spacing) rule.overlap rule.flex l.flex
     (c.write_parts.ensures ∙ ap (map (part_in cells)) is_rule.parts)
     (omega arith) is_rule.gap is_rule.flex
-    (c.arrange-spaces.ensures (is_rule.overlap space)))
+    (record {
+      given = c.arrange-spaces.ensures.given (is_rule.overlap space);
+      alone = c.arrange-spaces.ensures.alone (is_rule.overlap space);
+      arranged = c.arrange-spaces.ensures.arranged (is_rule.overlap space);
+    }))
     (moved (IsSpace l.spacing) area units spaces rects lane.direction l.direction lane.start lane.end _ _ is_lane.direction
     is_lane.start is_lane.end
     (record {
@@ -28,4 +32,5 @@ returns c = λ l is_lane is_rule.
       in_order = λ space. c.place.ensures.in_order (is_rule.overlap space);
       at_most = c.place.ensures.at_most;
       at_least = λ space. c.place.ensures.at_least (is_rule.overlap space);
+      edges = λ space. c.place.ensures.edges (is_rule.overlap space);
     }))

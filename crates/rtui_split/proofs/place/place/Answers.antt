@@ -1,11 +1,11 @@
 use Rattle.std.proofs.Common.{ℕ, ◌≡◌, ◌<◌, ◌+◌, ◌*◌, ◌-◌, min, List, take, drop, length, get_or, sum_by, subst, sym, take_all}
 use Rattle.std.proofs.Common.{arith}
-use Rattle.std.proofs.lemmas.List.Sums.{sum_by-drop_more}
+use Rattle.std.proofs.lemmas.List.Sums.{sum_by-drop_more, sum_by_more}
 use Rattle.rtui_geometry.specs.declared.rect.Rect.{Rect}
-use Rattle.rtui_split.specs.Cut.{length_of, IsPartAlong, InOrder, AtMostCells, AtLeastCells}
+use Rattle.rtui_split.specs.Cut.{length_of, IsPartAlong, InOrder, AtMostCells, AtLeastCells, AreEdges}
 use Rattle.rtui_split.specs.Spaces.{IsCutTo}
 use Rattle.rtui_split.proofs.Lists.{All-written, AllZip-written}
-use Rattle.rtui_split.proofs.CutLemmas.{cut_at_most, cut_at_least, cut_later, InOrder-later, InOrder-written}
+use Rattle.rtui_split.proofs.CutLemmas.{cut_at_most, cut_at_least, cut_later, InOrder-later, InOrder-written, AreEdges-written}
 use Rattle.rtui_split.proofs.place.place.Goals as goal
 
 pub loop-i-preserved : goal.loop-i-preserved
@@ -50,7 +50,35 @@ loop-i-preserved c =
           (cut_at_least begin finish size rounding lane.start c.cell_of-from.result c.cell_of-to.result (length_of d part)
           (omega (arith, inv.room none roomy, own_size))
           c.cell_of-from.ensures.value c.cell_of-to.ensures.value c.across.ensures.size);
+      exact = λ none roomy. omega (
+        arith,
+        inv.exact none roomy,
+        inv.room none roomy,
+        own_size,
+        sum_by_more own sizes i 0 c.loop-i-test.true,
+      );
+      edges = λ none roomy. AreEdges-written d lane.start rounding c.args.spaces.middle c.args.spaces.first begin i sizes
+          c.loop-i.parts part c.loop-i-test.true in_parts
+          (inv.edges none roomy)
+          (omega (arith, inv.exact none roomy, inv.room none roomy, own_size))
+          (omega (arith, c.across.ensures.from, c.cell_of-from.ensures.value))
+          (omega (arith, c.across.ensures.to, c.cell_of-to.ensures.value, inv.room none roomy, own_size));
     }
+
+pub returns-clause-edges : goal.returns-clause-edges
+returns-clause-edges c = λ none roomy.
+    let lane = c.args.lane in
+    let rounding = c.rounding_of-rounding.result in
+    let E : List ℕ → List Rect → Type 0 =
+    λ us ps. AreEdges lane.direction lane.start rounding c.args.spaces.middle c.args.spaces.first us ps in
+    let P : List Rect → Type 0 = λ ps. E c.args.sizes.now ps in
+    let Q : List ℕ → Type 0 = λ us. E us (take c.loop-i.i c.loop-i.parts) in (
+      rounding,
+      c.rounding_of-rounding.ensures.half,
+      c.rounding_of-rounding.ensures.most,
+      subst P (take_all c.loop-i.i c.loop-i.parts (omega arith))
+          (subst Q (take_all c.loop-i.i c.args.sizes.now (omega arith)) (c.loop-i.invariant.edges none roomy)),
+    )
 
 pub returns-clause-in_order : goal.returns-clause-in_order
 returns-clause-in_order c = λ none.

@@ -1,6 +1,6 @@
-use Rattle.std.proofs.Common.{◌≡◌, ◌≤◌, ◌+◌, ◌-◌, ◌/◌, min, take, drop, All, sum_by}
+use Rattle.std.proofs.Common.{◌≡◌, ◌≤◌, ◌+◌, ◌-◌, ◌/◌, ◌^◌, min, take, drop, All, sum_by}
 use Rattle.std.specs.List.{AllZip}
-use Rattle.rtui_split.specs.Cut.{IsPartAlong, InOrder, AtMostCells, AtLeastCells}
+use Rattle.rtui_split.specs.Cut.{IsPartAlong, InOrder, AtMostCells, AtLeastCells, AreEdges}
 use Rattle.rtui_split.specs.Spaces.{HasRoomForSpaces, IsCutTo}
 use Rattle.rtui_split.proofs.place.place.Given as goal
 
@@ -14,4 +14,9 @@ invariant-loop-i l = record {
       → l.at + sum_by (λ s. s + l.fn.spaces.middle) (drop l.i l.sizes) ≤ l.whole + l.fn.spaces.middle;
   at_least : l.overlap ≡ 0 → HasRoomForSpaces l.fn.spaces (l.fn.lane.end - l.fn.lane.start) l.sizes
       → AllZip (IsCutTo AtLeastCells l.fn.lane.direction) (take l.i l.sizes) (take l.i l.parts);
+  exact : l.overlap ≡ 0 → HasRoomForSpaces l.fn.spaces (l.fn.lane.end - l.fn.lane.start) l.sizes
+      → l.at ≡ min (l.fn.spaces.first + sum_by (λ s. s + l.fn.spaces.middle) (take l.i l.sizes)) (2 ^ 64 - 1);
+  edges : l.overlap ≡ 0 → HasRoomForSpaces l.fn.spaces (l.fn.lane.end - l.fn.lane.start) l.sizes
+      → AreEdges l.fn.lane.direction l.fn.lane.start l.rounding l.fn.spaces.middle l.fn.spaces.first (take l.i l.sizes)
+      (take l.i l.parts);
 }

@@ -1,5 +1,5 @@
-use Rattle.std.proofs.Common.{ℕ, ◌≡◌, ◌≤◌, ◌-◌, map, sum, ap, subst, sym, arith, List}
-use Rattle.rtui_split.specs.Shares.{wanted_before, sized, IsShared}
+use Rattle.std.proofs.Common.{ℕ, ◌≡◌, ◌≤◌, ◌-◌, ◌==◌, ◌∙◌, map, sum, ap, subst, sym, arith, List}
+use Rattle.rtui_split.specs.Shares.{wanted_before, sized, IsShared, weights}
 use Rattle.rtui_split.proofs.ShareLemmas.{before-next, all_fit, settled_share, filled_share}
 use Rattle.rtui_split.proofs.share.share.Goals as goal
 
@@ -13,6 +13,7 @@ returns-then-short-lt-FILL c =
     settled_share c.args.legacy c.args.parts.now c.args.room c.settle.new.sizes short.turn c.if-short-lt-FILL.true
     c.settle.ensures.each
     (omega (arith, c.settle.ensures.all, c.first_short-short.ensures.left))
+    (omega (arith, c.first_short-short.ensures.left))
     (c.first_short-short.ensures.short c.if-short-lt-FILL.true)
 
 pub returns : goal.returns
@@ -26,7 +27,14 @@ returns c =
     turn c.first_short-short.ensures.left in
     let P : List ℕ → Type 0 = λ sizes. IsShared c.args.legacy parts room sizes c.left_at.result in
     let rest : c.left_at.result ≤ room - sum (map (sized takers level) parts) =
-    omega (arith, c.left_at.ensures, ap sum c.fill.ensures) in
+    omega (arith, c.left_at.ensures.most, ap sum c.fill.ensures) in
     subst P (sym c.fill.ensures)
-    (filled_share c.args.legacy parts room takers level c.left_at.result c.takers_of-takers.ensures fits
-    c.level_of-level.ensures.fits rest c.level_of-level.ensures.most)
+    (filled_share c.args.legacy parts room takers level c.left_at.result c.takers_of-takers.ensures.legacy fits
+    c.level_of-level.ensures.fits rest
+    (λ small modest. omega (
+      arith,
+      c.left_at.ensures.top small (c.level_of-level.ensures.top small modest),
+      ap sum c.fill.ensures,
+    ))
+    (c.takers_of-takers.ensures.even ∙ ap (λ legacy. weights legacy parts == 0) (sym c.takers_of-takers.ensures.legacy))
+    c.level_of-level.ensures.most)
