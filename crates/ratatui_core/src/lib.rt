@@ -54,6 +54,10 @@ pub mod layout {
             rect_constants, size_constants,
         };
         pub use rtui_layout::laws::{defaults as layout_defaults, names_read_back};
+        pub use rtui_split::laws::{
+            one_cell_more_makes_no_part_smaller, spaces_are_as_the_flex_says,
+            who_takes_the_rest_leaves_nothing,
+        };
     }
 }
 
