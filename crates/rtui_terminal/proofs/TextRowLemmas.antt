@@ -9,7 +9,7 @@ use Rattle.rtui_cell.specs.Look.{Look}
 use Rattle.rtui_diff.specs.{DiffRule.given, DiffRule.start, Shows.RowAgrees, Updates.update_at}
 use Rattle.rtui_buffer.specs.{BufferData.BufferData, BufferData.IsEmptied, Shown.IsSettledBuffer, Shown.common_rows}
 use Rattle.rtui_buffer.specs.{Shown.buffer_updates}
-use Rattle.rtui_widgets.specs.Rendering.{HasFirstRow, RendersStr}
+use Rattle.rtui_widgets.specs.Rendering.{RendersStr}
 use Rattle.rtui_widgets.proofs.SettledLemmas.{has-first-row, text-settled}
 use Rattle.rtui_backend.specs.Screen.{Screen, screen_area}
 use Rattle.rtui_viewport.specs.{declared.viewport.Viewport.TheVariants.Inline, Viewports.IsInline}
