@@ -1,7 +1,7 @@
 //! The examples on a screen in memory.
-use guide::{draw_checked, greet, label, log, restyle_first};
+use guide::{draw_checked, greet, head_and_body, label, log, restyle_first};
 use ratatui_core::backend::{Backend, TestBackend};
-use ratatui_core::layout::Position;
+use ratatui_core::layout::{Position, Rect};
 use ratatui_core::style::{Color, Style};
 use ratatui_core::terminal::{Terminal, TerminalOptions, Viewport};
 use ratatui_core::text::{Line, Span};
@@ -103,5 +103,13 @@ fn the_first_span_is_restyled(rt: HostRuntime) -> Result<(), Fail> {
     let mut empty = Line::raw(rt.alloc(), "")?;
     restyle_first(&mut empty, red);
     assert!(rt; empty == Line::raw(rt.alloc(), "")?);
+    Ok(())
+}
+
+#[test]
+fn an_area_is_divided(rt: HostRuntime) -> Result<(), AllocError> {
+    let [head, body] = head_and_body(rt.alloc(), Rect::new(2, 1, 8, 5))?;
+    assert!(rt; head == Rect::new(2, 1, 8, 1));
+    assert!(rt; body == Rect::new(2, 2, 8, 4));
     Ok(())
 }
