@@ -1,14 +1,13 @@
 -- A line of which as many graphemes are held as the next row needs.
 use Rattle.std.proofs.Common.{◌≡◌, ℕ, suc, ◌+◌, ◌-◌, ◌<◌, ◌≤◌, ◌++◌, ◌⊎◌, ⊎_elim, Bool, true, false, if◌then◌else◌}
-use Rattle.std.proofs.Common.{List, [], ◌∷◌, filter, take, drop, length, refl, sym, ap, ◌∙◌, inl, inr, arith, append_assoc}
+use Rattle.std.proofs.Common.{List, [], ◌∷◌, filter, take, drop, length, refl, sym, ap, ◌∙◌, inl, inr, arith}
 use Rattle.std.proofs.Common.{append-nil}
 use Rattle.std.specs.List.{prefix_len, list_all}
 use Rattle.std.proofs.lemmas.Bool.{cases_lt, cases_Bool, and_parts}
 use Rattle.std.proofs.lemmas.{List.Sums.sum_by-append, List.Folds.list_all-append}
 use Rattle.std.proofs.Math.Seq.{take-append_seam}
 use Rattle.std.proofs.lemmas.List.{take-append-le, drop-append-le, length-drop, length-take, drop-drop}
-use Rattle.std.proofs.lemmas.List.{map-append}
-use Rattle.ratatui_core.specs.{Text.GraphemeData, Text.grapheme_data, declared.text.StyledGrapheme.StyledGrapheme}
+use Rattle.ratatui_core.specs.{Text.GraphemeData, declared.text.StyledGrapheme.StyledGrapheme}
 use Rattle.rtui_paragraph.specs.Reflow.{data_of, is_break, grapheme_columns, columns_taken, fits_row, AllFit, count_fitting}
 use Rattle.rtui_paragraph.specs.Reflow.{last_end, break_at_blank, break_in_word, break_before, row_break}
 use Rattle.rtui_paragraph.specs.Reflow.{trimmed_start, split_row}

@@ -122,7 +122,9 @@ module _ (width : ℕ) (gs : List GraphemeData) (d : GraphemeData) where
       let le : word ≤ n = omega (arith, last_end-le is_break (take n gs), length-take n gs) in
       let next = drop_more gs n d is.inside in
       let full = too-wide gs width (slice_index_or gs n d) (drop (n + 1) gs) next in
-      let part : drop word (take n gs) ≡ take (n - word) (drop word gs) = drop-take word n gs in
+      let whole : n ≡ word + (n - word) = omega (arith, le) in
+      let part : drop word (take n gs) ≡ take (n - word) (drop word gs) =
+      ap (λ k. drop word (take k gs)) whole ∙ drop-take word (n - word) gs in
       let behind : last_end is_break (take (n - word) (drop word gs)) ≡ 0 =
       ap (last_end is_break) (sym part) ∙ none-behind is_break (take n gs) in
       let front = word-front (n - word) (drop word gs) behind in
@@ -133,14 +135,16 @@ module _ (width : ℕ) (gs : List GraphemeData) (d : GraphemeData) where
       let both : columns_taken (take n gs) ≡ columns_taken (take word (take n gs)) + columns_taken (drop word (take n gs)) =
       ap columns_taken (sym (take-append-drop word (take n gs)))
       ∙ sum_by-append grapheme_columns (take word (take n gs)) (drop word (take n gs)) in
-      let first : take word (take n gs) ≡ take word gs = take-take word n gs ∙ ap (λ k. take k gs) (omega (arith, le)) in
+      let first : take word (take n gs) ≡ take word gs = take-take word n gs le in
       let blanks = ap columns_taken first in
       let inner = ap columns_taken part in
       record { alone = none-after (take word gs) none; wide = omega (arith, full, front, rest, both, blanks, inner) }
 
+  abbrev ends_at : Bool → ℕ → ℕ × ℕ
+  ends_at t end = if t then (end, word_start gs n) else (n, n)
+
   in-word-wide : (end : ℕ) → end ≡ last_end is_of_word (take (word_start gs n) gs) → (t : Bool) → nat_lt 0 end ≡ t
-      → IsWithinWord gs (if t then (end, word_start gs n) else (n, n)).1 d
-      → IsWideAt (if t then (end, word_start gs n) else (n, n)).1
+      → IsWithinWord gs (ends_at t end).1 d → IsWideAt (ends_at t end).1
   in-word-wide end at true e =
       let some : 0 < end = grind (arith, nat_tests, e) in
       let le = last_end-le is_of_word (take (word_start gs n) gs) in

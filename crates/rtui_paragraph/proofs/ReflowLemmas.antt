@@ -1,9 +1,9 @@
 -- A row at the front of a line: where it ends, and what it keeps.
-use Rattle.std.proofs.Common.{◌≡◌, ℕ, suc, ◌+◌, ◌-◌, ◌<◌, ◌≤◌, ◌++◌, ◌&&◌, ◌||◌, ◌==◌, ⊎_elim, Bool, true, false, nat_lt, nat_le}
+use Rattle.std.proofs.Common.{◌≡◌, ℕ, suc, ◌+◌, ◌-◌, ◌<◌, ◌≤◌, ◌++◌, ◌&&◌, ⊎_elim, Bool, true, false, nat_lt, nat_le}
 use Rattle.std.proofs.Common.{if◌then◌else◌, List, [], ◌∷◌, filter, take, drop, length, refl, sym, ap, ap₂, subst, ◌∙◌, arith}
 use Rattle.std.proofs.Common.{slice_index_or}
 use Rattle.std.specs.List.{list_all, prefix_len}
-use Rattle.std.proofs.lemmas.Bool.{cases_lt, and_parts, and_right, or_right, cases_Bool}
+use Rattle.std.proofs.lemmas.Bool.{cases_lt, and_parts, and_right, cases_Bool}
 use Rattle.std.proofs.lemmas.{Bool.Decides.nat_tests, List.Elements.filter-append, List.Folds.list_all-append}
 use Rattle.std.proofs.lemmas.{List.Sums.sum_by-cons, List.Sums.sum_by-take-le}
 use Rattle.std.proofs.lemmas.List.{take-append-drop, take-take, drop-take, take_all, length-drop, length-take, length-map}

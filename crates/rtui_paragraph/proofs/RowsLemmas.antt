@@ -4,7 +4,7 @@ use Rattle.std.proofs.Common.{map, filter, take, drop, length, Some, None, refl,
 use Rattle.std.specs.List.{flat_map}
 use Rattle.std.proofs.lemmas.{Bool.cases_lt, Bool.cases_Bool, Bool.Decides.nat_tests}
 use Rattle.std.proofs.lemmas.List.Elements.{All-nil, All-cons, All-head, All-tail, filter-append}
-use Rattle.std.proofs.lemmas.List.{length-drop, length-map, take-append-drop, drop_more, drop_all, append_assoc, append-nil}
+use Rattle.std.proofs.lemmas.List.{length-drop, take-append-drop, drop_more, drop_all, append_assoc, append-nil}
 use Rattle.std.proofs.lemmas.List.{drop-map}
 use Rattle.ratatui_core.specs.{Layout.Rect, declared.text.StyledGrapheme.StyledGrapheme}
 use Rattle.ratatui_core.specs.{declared.layout.HorizontalAlignment.HorizontalAlignment}
@@ -17,7 +17,7 @@ use Rattle.ratatui_core.specs.declared.layout.HorizontalAlignment.TheVariants.{L
 use Rattle.rtui_paragraph.specs.{declared.paragraph.Paragraph.Paragraph, declared.paragraph.Wrap.Wrap}
 use Rattle.rtui_paragraph.specs.Reflow.{data_of, grapheme_columns, columns_taken, words_of, is_of_word, AllFit, cut_row}
 use Rattle.rtui_paragraph.specs.Reflow.{after_columns, fits_row, split_row, rows_within, broken_rows}
-use Rattle.rtui_paragraph.specs.Paragraphs.{TextRow, alignment_of, graphemes_of, IsSingleGrapheme, row_pieces, aligned_row}
+use Rattle.rtui_paragraph.specs.Paragraphs.{TextRow, alignment_of, graphemes_of, IsSingleGrapheme, row_pieces}
 use Rattle.rtui_paragraph.specs.Paragraphs.{aligned_rows, cut_line, broken_line, rows_of_lines, rows_shown, indent_of}
 use Rattle.rtui_paragraph.specs.Paragraphs.{PaintsGrapheme, PaintsGraphemes, PaintsRow, PaintsRows, PaintsOn}
 use Rattle.rtui_paragraph.proofs.ReflowLemmas.{split_row-is, fit-past, count-fits, next-data, columns-next}

@@ -1,4 +1,4 @@
-use Rattle.std.proofs.Common.{length, arith}
+use Rattle.std.proofs.Common.{arith}
 use Rattle.std.proofs.lemmas.List.{length-take}
 use Rattle.rtui_paragraph.specs.Reflow.{is_break}
 use Rattle.rtui_paragraph.proofs.ReflowLemmas.{last-inside, word-ends-at, word-broken}
