@@ -6,7 +6,7 @@ use Rattle.ratatui_reads.proofs.ReadLemmas
 use Rattle.ratatui_reads.proofs.ReadLemmas.{read-some, bytes-none}
 use Rattle.ratatui_reads.proofs.SourceLemmas.{gives-more}
 use Rattle.ratatui_reads.specs.Reads.{Between, Rules, after_read, after_reads, after_bytes, all_bytes, size_told, AreNonEmpty, IsNonEmpty}
-use Rattle.ratatui_reads.specs.Sources.{Coming, GivesRead, Gives, read_room}
+use Rattle.ratatui_reads.specs.Sources.{Coming, GivesRead, GivesReads, read_room}
 use Rattle.ratatui_reads.specs.Moments.{Moment, Stage, AreMoments, Ran, Steps, HasTyped, HasEnded, last_between, last_terminal, reads_of}
 
 bytes-append : (a b : List (List ℕ)) → all_bytes (a ++ b) ≡ all_bytes a ++ all_bytes b
@@ -70,7 +70,7 @@ module _ {S T : Type 0} (u : Rules S) (stage : Stage S T) where
             step.fed.sized)) step.fed.shown;
         now_is = sym (last_between-append first ran.moments m);
         terminal_is = sym (last_terminal-append ran.begun ran.moments m);
-        given = subst (λ (l : List (List ℕ)). Gives all left l) (sym (reads-append ran.moments (m ∷ [])))
+        given = subst (λ (l : List (List ℕ)). GivesReads all left l) (sym (reads-append ran.moments (m ∷ [])))
             (gives-more all rest left (reads_of ran.moments) step.bytes ran.given step.given);
       }
 

@@ -2,7 +2,7 @@
 use Rattle.std.specs.Prelude.{◌≡◌, ◌⊎◌, ℕ, Bool, true, false, List, [], ◌∷◌, IfSome}
 use Rattle.ratatui_reads.specs.Reads.{Between, Rules, after_read, after_bytes, all_bytes, size_told, IsNonEmpty}
 use Rattle.ratatui_reads.specs.Reads.{AreNonEmpty}
-use Rattle.ratatui_reads.specs.Sources.{Coming, GivesRead, Gives, read_room}
+use Rattle.ratatui_reads.specs.Sources.{Coming, GivesRead, GivesReads, read_room}
 
 -- the bytes of a read, and the decoder, the state and the terminal after it
 pub record Moment (S T : Type 0) : Type 0 where
@@ -53,7 +53,7 @@ module _ {S T : Type 0} (rules : Rules S) (stage : Stage S T) where
     pub are : AreMoments first begun moments
     pub now_is : now ≡ last_between first moments
     pub terminal_is : t ≡ last_terminal begun moments
-    pub given : Gives all rest (reads_of moments)
+    pub given : GivesReads all rest (reads_of moments)
 
   -- bytes of a read, some or none, were fed: what they make of the state is shown, and the last size that
   -- they told was taken
@@ -77,7 +77,7 @@ module _ {S T : Type 0} (rules : Rules S) (stage : Stage S T) where
 pub record HasTyped {S : Type 0} (rules : Rules S) (first : Between S) (all : Coming) (now : Between S)
     (rest : Coming) : Type 0 where
   pub reads : List (List ℕ)
-  pub given : Gives all rest reads
+  pub given : GivesReads all rest reads
   pub some : AreNonEmpty reads
   pub now_is : now ≡ after_bytes rules first (all_bytes reads)
 

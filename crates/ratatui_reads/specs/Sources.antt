@@ -58,11 +58,11 @@ abbrev pub read_room : ℕ
 read_room = 1024
 
 -- these reads were given, one after the other, and this is known of what comes after them
-abbrev pub Gives : Coming → Coming → List (List ℕ) → Type 0
-Gives all rest [] = rest ≡ all
-Gives all rest (r ∷ rs) = (left : Coming) × GivesRead read_room all left r × Gives left rest rs
+abbrev pub GivesReads : Coming → Coming → List (List ℕ) → Type 0
+GivesReads all rest [] = rest ≡ all
+GivesReads all rest (r ∷ rs) = (left : Coming) × GivesRead read_room all left r × GivesReads left rest rs
 
 -- each of these reads has that room
-abbrev pub AreShort : List (List ℕ) → Type 0
-AreShort [] = ⊤
-AreShort (r ∷ rs) = (length r ≤ read_room) × AreShort rs
+abbrev pub AreWithinRoom : List (List ℕ) → Type 0
+AreWithinRoom [] = ⊤
+AreWithinRoom (r ∷ rs) = (length r ≤ read_room) × AreWithinRoom rs

@@ -4,7 +4,7 @@ ghost use Rattle.std.specs.Prelude.{◌≡◌, ℕ, ◌++◌, ◌∷◌, Bool, L
 ghost use Rattle.ratatui_events.specs.declared.event.Event.{Event};
 ghost use Rattle.ratatui_reads.specs.Reads.{Between, after_read, after_reads, after_bytes, all_bytes};
 ghost use Rattle.ratatui_reads.specs.Reads.{IsNonEmpty, AreNonEmpty};
-ghost use Rattle.ratatui_reads.specs.Sources.{Coming, KnownBytes, KnownReads, Gives, AreShort};
+ghost use Rattle.ratatui_reads.specs.Sources.{Coming, KnownBytes, KnownReads, GivesReads, AreWithinRoom};
 
 use crate::updates::Updates;
 
@@ -23,10 +23,10 @@ pub fn pieces_make_the_same<A: Updates>()
 /// What is known of a source comes in order: each read that has room is given whole, also an empty
 /// one; and known bytes are given whole, in whatever reads.
 pub fn what_is_known_is_given()
-    ensures reads { (all reads : List (List ℕ)) (rest : Coming) → AreShort all
-        → Gives (KnownReads all) rest reads
+    ensures reads { (all reads : List (List ℕ)) (rest : Coming) → AreWithinRoom all
+        → GivesReads (KnownReads all) rest reads
         → (left : List (List ℕ)) × (rest ≡ KnownReads left) × (all ≡ reads ++ left) }
     ensures bytes { (all : List ℕ) (reads : List (List ℕ)) (rest : Coming)
-        → Gives (KnownBytes all) rest reads
+        → GivesReads (KnownBytes all) rest reads
         → (left : List ℕ) × (rest ≡ KnownBytes left) × (all ≡ all_bytes reads ++ left) }
 {}
