@@ -1,15 +1,16 @@
 //! Laws of the pager.
 
-ghost use Rattle.std.specs.Prelude.{◌≡◌, ℕ, List, Option};
+ghost use Rattle.std.specs.Prelude.{◌≡◌, ℕ, List};
 ghost use Rattle.ratatui_core.specs.Layout.{Size};
 ghost use Rattle.ratatui_core.specs.Terminal.{TerminalData};
 ghost use Rattle.ratatui_ansi.specs.Backend.{BackendState};
 ghost use Rattle.ratatui_events.specs.declared.event.Event.{Event};
 ghost use Rattle.ratatui_reads.specs.Reads.{Between};
+ghost use Rattle.ratatui_reads.specs.Sources.{Coming};
 ghost use Rattle.ratatui_app.specs.Glass.{RunsOnGlass, IsOnGlass};
 ghost use Rattle.pager.specs.Moves.{started, updated};
 ghost use Rattle.pager.specs.Places.{IsInText};
-ghost use Rattle.pager.specs.Pages.{PaintsPager};
+ghost use Rattle.pager.specs.Paging.{paging};
 ghost use Rattle.pager.specs.declared.pager.Pager.{Pager};
 
 use crate::pager::Pager;
@@ -29,10 +30,10 @@ pub fn the_place_lies_in_the_text()
 /// was sent shows the page that the keys so far lead to.
 pub fn the_glass_shows_the_page<W: Write + Drop>(terminal: &Terminal<AnsiBackend<W>>)
     ensures { (before : TerminalData (BackendState W)) (first now : Between Pager)
-        (all rest : Option (List ℕ))
-        → RunsOnGlass PaintsPager updated (λ p. p.is_over) before first all now rest terminal.now
+        (all rest : Coming)
+        → RunsOnGlass paging before first all now rest terminal.now
         → before.backend.failures ≡ 0
-        → IsOnGlass PaintsPager now.state terminal.now }
+        → IsOnGlass paging now.state terminal.now }
 {
     glass_shows_the_state::<W, Pager<'static>>(terminal);
 }

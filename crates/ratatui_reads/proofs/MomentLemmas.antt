@@ -1,6 +1,6 @@
 -- A run grows by a read.
 use Rattle.std.proofs.Common.{◌≡◌, ℕ, Bool, true, false, inl, inr, List, [], ◌∷◌, ◌++◌, refl, ap, sym, ◌∙◌, subst, append-nil}
-use Rattle.std.proofs.Common.{append_assoc, IfSome}
+use Rattle.std.proofs.Common.{append_assoc}
 use Rattle.ratatui_input.specs.declared.decoder.Decoder.{Decoder}
 use Rattle.ratatui_reads.proofs.ReadLemmas
 use Rattle.ratatui_reads.proofs.ReadLemmas.{read-some, bytes-none}
@@ -29,7 +29,7 @@ module _ {S T : Type 0} where
 module _ {S T : Type 0} (u : Rules S) (stage : Stage S T) where
   are-append : (b : Between S) (t : T) (ms : List (Moment S T)) (m : Moment S T) → AreMoments u stage b t ms
       → m.between ≡ after_read u (last_between b ms) m.bytes → stage.moves (last_terminal t ms) m.terminal
-      → IfSome (size_told (last_between b ms).decoder m.bytes) (λ size. stage.takes_size size (last_terminal t ms) m.terminal)
+      → stage.takes_size (size_told (last_between b ms).decoder m.bytes) (last_terminal t ms) m.terminal
       → stage.shows m.between.state m.terminal
       → AreMoments u stage b t (ms ++ (m ∷ []))
   are-append b t [] m are e mv sz sh = (e, mv, sz, sh, tt)
@@ -64,9 +64,9 @@ module _ {S T : Type 0} (u : Rules S) (stage : Stage S T) where
         are = are-append first ran.begun ran.moments m ran.are (step.fed.taken
             ∙ ap (λ (b : Between S). after_read u b step.bytes) ran.now_is)
             (subst (λ (x : T). stage.moves x t') ran.terminal_is step.fed.moved)
-            (subst (λ (x : T). IfSome (size_told (last_between first ran.moments).decoder step.bytes)
-            (λ size. stage.takes_size size x t')) ran.terminal_is
-            (subst (λ (b : Between S). IfSome (size_told b.decoder step.bytes) (λ size. stage.takes_size size t t')) ran.now_is
+            (subst (λ (x : T). stage.takes_size (size_told (last_between first ran.moments).decoder step.bytes) x t')
+            ran.terminal_is
+            (subst (λ (b : Between S). stage.takes_size (size_told b.decoder step.bytes) t t') ran.now_is
             step.fed.sized)) step.fed.shown;
         now_is = sym (last_between-append first ran.moments m);
         terminal_is = sym (last_terminal-append ran.begun ran.moments m);

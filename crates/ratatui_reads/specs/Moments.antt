@@ -1,5 +1,5 @@
 -- What stood after each read of a run.
-use Rattle.std.specs.Prelude.{◌≡◌, ◌⊎◌, ℕ, Bool, true, false, List, [], ◌∷◌, IfSome}
+use Rattle.std.specs.Prelude.{◌≡◌, ◌⊎◌, ℕ, Bool, true, false, List, [], ◌∷◌, Option}
 use Rattle.ratatui_reads.specs.Reads.{Between, Rules, after_read, after_bytes, all_bytes, size_told, IsNonEmpty}
 use Rattle.ratatui_reads.specs.Reads.{AreNonEmpty}
 use Rattle.ratatui_reads.specs.Sources.{Coming, GivesRead, GivesReads, read_room}
@@ -25,20 +25,21 @@ module _ {S T : Type 0} where
   reads_of [] = []
   reads_of (m ∷ ms) = m.bytes ∷ reads_of ms
 
--- what a terminal is to a run: which state it shows, how a frame moves it on, and that it took a size
+-- what a terminal is to a run: which state it shows, how a frame moves it on, and what its size is after one
+-- was told, or none
 pub record Stage (S T : Type 0) : Type 1 where
   pub shows : S → T → Type 0
   pub moves : T → T → Type 0
-  pub takes_size : ℕ × ℕ → T → T → Type 0
+  pub takes_size : Option (ℕ × ℕ) → T → T → Type 0
 
 module _ {S T : Type 0} (rules : Rules S) (stage : Stage S T) where
   -- after each read the state is what the read makes of the one before, the terminal moved on from the one
-  -- before, took the last size that the read told, and shows the state
+  -- before, took the last size that the read told, if it told one, and shows the state
   abbrev pub AreMoments : Between S → T → List (Moment S T) → Type 0
   AreMoments b t [] = Unit {0}
   AreMoments b t (m ∷ ms) = (m.between ≡ after_read rules b m.bytes)
       × stage.moves t m.terminal
-      × IfSome (size_told b.decoder m.bytes) (λ size. stage.takes_size size t m.terminal)
+      × stage.takes_size (size_told b.decoder m.bytes) t m.terminal
       × stage.shows m.between.state m.terminal
       × AreMoments m.between m.terminal ms
 
@@ -56,11 +57,11 @@ module _ {S T : Type 0} (rules : Rules S) (stage : Stage S T) where
     pub given : GivesReads all rest (reads_of moments)
 
   -- bytes of a read, some or none, were fed: what they make of the state is shown, and the last size that
-  -- they told was taken
+  -- they told was taken, if they told one
   pub record Feeds (before : Between S) (t : T) (bytes : List ℕ) (after : Between S) (t' : T) : Type 0 where
     pub taken : after ≡ after_read rules before bytes
     pub moved : stage.moves t t'
-    pub sized : IfSome (size_told before.decoder bytes) (λ size. stage.takes_size size t t')
+    pub sized : stage.takes_size (size_told before.decoder bytes) t t'
     pub shown : stage.shows after.state t'
 
   -- one read: the source gave bytes, which were fed
