@@ -7,15 +7,17 @@ ghost use Rattle.ratatui_ansi.specs.Backend.{BackendState};
 ghost use Rattle.ratatui_events.specs.declared.event.Event.{Event};
 ghost use Rattle.ratatui_reads.specs.Reads.{Between};
 ghost use Rattle.ratatui_reads.specs.Sources.{Coming};
-ghost use Rattle.ratatui_app.specs.Glass.{RunsOnGlass, IsOnGlass};
+ghost use Rattle.ratatui_app.specs.Showing.{RunsTo};
+ghost use Rattle.ratatui_app.specs.Glass.{sender, RunsOnGlass, RunsAlongGlass, IsOnGlass};
 ghost use Rattle.pager.specs.Moves.{started, updated};
 ghost use Rattle.pager.specs.Places.{IsInText};
-ghost use Rattle.pager.specs.Paging.{paging};
+ghost use Rattle.pager.specs.Paging.{paging, FillsScreen, FillsAlong, TakesAlong};
 ghost use Rattle.pager.specs.declared.pager.Pager.{Pager};
 
 use crate::pager::Pager;
 use ratatui_ansi::AnsiBackend;
 use ratatui_app::laws::glass_shows_the_state;
+use ratatui_core::backend::Backend;
 use ratatui_core::terminal::Terminal;
 use std::io::Write;
 
@@ -37,3 +39,16 @@ pub fn the_glass_shows_the_page<W: Write + Drop>(terminal: &Terminal<AnsiBackend
 {
     glass_shows_the_state::<W, Pager<'static>>(terminal);
 }
+
+/// If the first page is as large as the screen, and the terminal takes each size that it is told,
+/// then the page is as large as the screen at each moment of a run, until the pager is over.
+pub fn the_page_fills_the_screen<B: Backend, W: Write>()
+    ensures runs { (before t : TerminalData B) (first now : Between Pager) (all rest : Coming)
+        (ran : RunsTo B.Backend paging before first all now rest t)
+        → FillsScreen B.Backend first.state ran.begun
+        → TakesAlong B.Backend first ran.moments → FillsAlong B.Backend ran.moments }
+    ensures glass { (before t : TerminalData (BackendState W)) (first now : Between Pager)
+        (all rest : Coming) (ran : RunsAlongGlass paging before first all now rest t)
+        → FillsScreen sender first.state ran.begun
+        → TakesAlong sender first ran.moments → FillsAlong sender ran.moments }
+{}

@@ -40,7 +40,7 @@ taken-kind : {B : Type 0} (screen : B → Screen) (s t : TerminalData B) → May
 taken-kind {B} screen s t (inl same) = ap (λ (x : TerminalData B). x.viewport) same
 taken-kind {B} screen s t (inr taken) = ap (λ (x : TerminalData B). x.viewport) taken.0
 
-module _ {B S : Type 0} (device : Device B) (app : App S) where
+module _ {B X S : Type 0} (device : Device B X) (app : App S) where
   -- the first frame
   pub runs-start : (t0 : TerminalData B) (d : Decoder) (s : S) (all : Coming) (t : TerminalData B) → d ≡ fresh_decoder
       → DrawsFrame device.screen t0 t → device.failures t.backend ≡ device.failures t0.backend → ShowsState device app s t
@@ -146,29 +146,33 @@ stays-known NotKnown = tt
 stays-known (KnownBytes all) = refl
 stays-known (KnownReads all) = refl
 
-module _ {B : Type 0} (device : Device B) where
+module _ {B : Type 0} (screen : B → Screen) where
   -- what the laws of terminals at rest say
   abbrev RestsApplied : Type 0
   RestsApplied = (kind : Viewport) (cursor : Option Position) (frame : BufferData) (s t : TerminalData B)
-      → IsAtRest device.screen kind s → IsSettledBuffer frame
-      → Applies device.screen cursor (record s { current = frame }) t → IsAtRest device.screen kind t
+      → IsAtRest screen kind s → IsSettledBuffer frame
+      → Applies screen cursor (record s { current = frame }) t → IsAtRest screen kind t
 
   abbrev RestsDrawn : Type 0
-  RestsDrawn = (kind : Viewport) (s t : TerminalData B) → IsAtRest device.screen kind s → IsSettledBuffer t.previous
-      → DrawsFrame device.screen s t → IsAtRest device.screen kind t
+  RestsDrawn = (kind : Viewport) (s t : TerminalData B) → IsAtRest screen kind s → IsSettledBuffer t.previous
+      → DrawsFrame screen s t → IsAtRest screen kind t
 
   abbrev RestsResized : Type 0
-  RestsResized = (kind : Viewport) (b : B) (s t : TerminalData B) → (IsFixed kind → ⊥) → IsAtRest device.screen kind s
-      → Resizes device.screen (screen_area (device.screen b)) (record s { backend = b }) t → IsAtRest device.screen kind t
+  RestsResized = (kind : Viewport) (b : B) (s t : TerminalData B) → (IsFixed kind → ⊥) → IsAtRest screen kind s
+      → Resizes screen (screen_area (screen b)) (record s { backend = b }) t → IsAtRest screen kind t
 
   -- at rest over a viewport of a kind that isn't fixed
-  pub rests-unfixed : (kind : Viewport) (t : TerminalData B) → (IsFixed kind → ⊥) → IsAtRest device.screen kind t
-      → RestsUnfixed device.screen t
+  pub rests-unfixed : (kind : Viewport) (t : TerminalData B) → (IsFixed kind → ⊥) → IsAtRest screen kind t
+      → RestsUnfixed screen t
   rests-unfixed kind t free rest = record {
-    rest = subst (λ (k : Viewport). IsAtRest device.screen k t) (sym rest.kind_is) rest;
+    rest = subst (λ (k : Viewport). IsAtRest screen k t) (sym rest.kind_is) rest;
     free = λ fixed. free (subst IsFixed rest.kind_is fixed);
   }
 
+same-size : (a b : Screen) → b.width ≡ a.width → b.height ≡ a.height → size_of b ≡ size_of a
+same-size a b w h = ap₂ (λ (x y : ℕ). record { width = x; height = y }) w h
+
+module _ {B X : Type 0} (device : Device B X) where
   -- a draw will show what is painted
   pub may-ready : (s : TerminalData B) → MayDraw device s → IsReady device.screen s
   may-ready s (inl rests) = inl rests.rest.in_step
@@ -180,7 +184,7 @@ module _ {B : Type 0} (device : Device B) where
       subst (λ (x : TerminalData B). IsEmptied x.viewport_area x.current) (sym new.only) new.rest.rest.current
 
   -- where the draw found another size
-  new-rest : RestsApplied → RestsResized → (s t : TerminalData B) → (new : HasNewSize device s)
+  new-rest : RestsApplied device.screen → RestsResized device.screen → (s t : TerminalData B) → (new : HasNewSize device s)
       → IsSettledBuffer t.previous → (draws : DrawsFrame device.screen s t)
       → (IsSized device.screen s × Stays device.screen s draws.sized)
       ⊎ ((IsSized device.screen s → ⊥) × Resizes device.screen (screen_area (device.screen s.backend)) s draws.sized)
@@ -193,15 +197,12 @@ module _ {B : Type 0} (device : Device B) where
       sized.1)) settled draws.applied
 
   -- and leaves the terminal at rest
-  pub may-rest : RestsApplied → RestsDrawn → RestsResized → (s t : TerminalData B) → MayDraw device s
+  pub may-rest : RestsApplied device.screen → RestsDrawn device.screen → RestsResized device.screen → (s t : TerminalData B) → MayDraw device s
       → IsSettledBuffer t.previous → DrawsFrame device.screen s t → RestsUnfixed device.screen t
   may-rest applied drawn resized s t (inl rests) settled draws =
-      rests-unfixed s.viewport t rests.free (drawn s.viewport s t rests.rest settled draws)
+      rests-unfixed device.screen s.viewport t rests.free (drawn s.viewport s t rests.rest settled draws)
   may-rest applied drawn resized s t (inr new) settled draws =
-      rests-unfixed new.before.viewport t new.rest.free (new-rest applied resized s t new settled draws draws.autoresized.case)
-
-  same-size : (a b : Screen) → b.width ≡ a.width → b.height ≡ a.height → size_of b ≡ size_of a
-  same-size a b w h = ap₂ (λ (x y : ℕ). record { width = x; height = y }) w h
+      rests-unfixed device.screen new.before.viewport t new.rest.free (new-rest applied resized s t new settled draws draws.autoresized.case)
 
   -- the resize before a draw keeps the screen's size
   sized-size : (s t : TerminalData B) → (IsSized device.screen s × Stays device.screen s t)
@@ -273,7 +274,7 @@ module _ {B : Type 0} (device : Device B) where
   resizes-if s b w h (Err e) other size same rests = tt
 
 -- a screen that stayed kept its size
-pub stays-sized : {B : Type 0} (device : Device B) (size : Option (ℕ × ℕ)) (t : TerminalData B)
+pub stays-sized : {B X : Type 0} (device : Device B X) (size : Option (ℕ × ℕ)) (t : TerminalData B)
     → TakesOrKeepsSize device size t t
 stays-sized device None t = refl
 stays-sized device (Some z) t = inr refl

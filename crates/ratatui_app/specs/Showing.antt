@@ -13,8 +13,8 @@ use Rattle.ratatui_reads.specs.Sources.{Coming, GivesRead, StaysKnown, IsUsedUp,
 use Rattle.ratatui_app.specs.declared.running.Fault.{Fault}
 use Rattle.ratatui_app.specs.declared.running.Fault.TheVariants.{Read, Memory, Draw, Resize}
 
--- a backend: its screen, how many of its calls failed, and whether all was sent
-abbrev pub Device : Type 0 → Type 1
+-- a backend and its errors: its screen, how many of its calls failed, and whether all was sent
+abbrev pub Device : Type 0 → Type 0 → Type 1
 Device = Ghosts
 
 -- an application: what events make of a state, which states take no more of them, and what painting a state
@@ -34,7 +34,7 @@ pub record RestsUnfixed {B : Type 0} (screen : B → Screen) (t : TerminalData B
   pub rest : IsAtRest screen t.viewport t
   pub free : IsFixed t.viewport → ⊥
 
-module _ {B : Type 0} (device : Device B) where
+module _ {B X : Type 0} (device : Device B X) where
   -- at rest but for the screen, which has taken another size, with any contents
   pub record HasNewSize (t : TerminalData B) : Type 0 where
     pub before : TerminalData B
@@ -72,12 +72,12 @@ module _ {B : Type 0} (device : Device B) where
     pub faults : device.failures t.backend ≡ device.failures s.backend
 
 -- a draw of a state was refused: nothing was written after the resize, or the backend failed
-abbrev pub RefusesState : {B S E : Type 0} → Device B → App S → S → TerminalData B → TerminalData B
+abbrev pub RefusesState : {B X S E : Type 0} → Device B X → App S → S → TerminalData B → TerminalData B
     → TerminalError E → Type 0
 RefusesState device app s = DrawErr device.screen (RendersCurrent (app.paints s) (λ _ _ _. ⊤) (λ area. area)
     (λ _ _. ⊥))
 
-module _ {B S : Type 0} (device : Device B) (app : App S) where
+module _ {B X S : Type 0} (device : Device B X) (app : App S) where
   -- the terminal is at rest, the buffer that its screen shows is what painting the state makes of an empty
   -- one, and all of it was sent
   pub record ShowsState (s : S) (t : TerminalData B) : Type 0 where

@@ -1,8 +1,9 @@
 //! A counter run over bytes that come in pieces.
 
-use crate::{Counter, Fault, run};
+use crate::{Counter, Fault, run, run_and_leave, run_inline_and_leave};
+use ratatui_ansi::AnsiBackend;
 use ratatui_core::backend::{Backend, TestBackend};
-use ratatui_core::layout::Position;
+use ratatui_core::layout::{Position, Size};
 use ratatui_core::terminal::{Terminal, TerminalOptions, Viewport};
 use ratatui_reads::Pieces;
 use std::alloc::Global;
@@ -124,5 +125,42 @@ fn counts_inline(rt: HostRuntime) -> Result<(), Fail> {
             &["10 ", "   ", "   "]
         )
     );
+    Ok(())
+}
+
+/// What the terminal is sent at the end, below its last row.
+const FAREWELL: &[u8] = b"\x1b[0m\x1b[r\x1b[?25h\x1b[65535;1H\r\n";
+
+// Whether a run from beginning to end, over so many rows or the whole screen, counts to 2 and gives
+// the terminal back.
+fn leaves(alloc: Global, rows: Option<u16>) -> bool {
+    let size = Size {
+        width: 4,
+        height: 3,
+    };
+    let Ok(backend) = AnsiBackend::new(alloc, Vec::new(alloc), size) else {
+        return false;
+    };
+    let mut counter = Counter {
+        count: 0,
+        is_over: false,
+    };
+    let pieces: [&[u8]; 4] = [b"+", b"", b"+", b"q"];
+    let mut source = Pieces::new(&pieces);
+    let left = match rows {
+        None => run_and_leave(alloc, &mut source, true, backend, &mut counter),
+        Some(rows) => run_inline_and_leave(alloc, rows, &mut source, true, backend, &mut counter),
+    };
+    match left {
+        Ok(sent) => counter.count == 2 && sent.as_slice().ends_with(FAREWELL),
+        Err(_) => false,
+    }
+}
+
+#[test]
+fn leaves_the_terminal(rt: HostRuntime) -> Result<(), Fail> {
+    let alloc = rt.alloc();
+    assert!(rt; leaves(alloc, None));
+    assert!(rt; leaves(alloc, Some(2)));
     Ok(())
 }
