@@ -1,10 +1,10 @@
 //! Laws of applications.
 
-ghost use Rattle.std.specs.Prelude.{◌≡◌, ℕ, List};
+ghost use Rattle.std.specs.Prelude.{◌≡◌, ◌++◌, ℕ, List};
 ghost use Rattle.ratatui_core.specs.Terminal.{TerminalData};
 ghost use Rattle.ratatui_ansi.specs.Backend.{BackendState};
 ghost use Rattle.ratatui_reads.specs.Reads.{Between, after_reads};
-ghost use Rattle.ratatui_reads.specs.Sources.{Coming, GivesReads};
+ghost use Rattle.ratatui_reads.specs.Sources.{Coming, KnownReads, GivesReads, AreWithinRoom};
 ghost use Rattle.ratatui_app.specs.Showing.{ShowsState, RunsTo};
 ghost use Rattle.ratatui_app.specs.Glass.{sender, RunsOnGlass, IsOnGlass};
 
@@ -39,11 +39,16 @@ pub fn glass_shows_the_state<W: Write + Drop, A: Application>(terminal: &Termina
     shown_states_are_on_the_glass::<W, A>(terminal);
 }
 
-/// Where a run stands now, decoder and state are what the reads make of the first ones that the
-/// source gave so far, empty ones too.
+/// Where a run stands now, decoder and state are what the reads that the source gave so far make of
+/// the first ones, empty reads too; and known reads of which each has room are these, in order.
 pub fn a_run_makes_what_its_reads_make<B: Backend, A: Application>()
-    ensures { (before t : TerminalData B) (first now : Between A) (all rest : Coming)
+    ensures reads { (before t : TerminalData B) (first now : Between A) (all rest : Coming)
         → RunsTo B.Backend A.Application before first all now rest t
         → (reads : List (List ℕ)) × GivesReads all rest reads
+        × (now ≡ after_reads A.Updates first reads) }
+    ensures known { (before t : TerminalData B) (first now : Between A)
+        (all : List (List ℕ)) (rest : Coming) → AreWithinRoom all
+        → RunsTo B.Backend A.Application before first (KnownReads all) now rest t
+        → (reads left : List (List ℕ)) × (rest ≡ KnownReads left) × (all ≡ reads ++ left)
         × (now ≡ after_reads A.Updates first reads) }
 {}

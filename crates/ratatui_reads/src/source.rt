@@ -8,7 +8,8 @@ ghost use Rattle.ratatui_reads.specs.Pieces.{pieces_left};
 
 use std::io::{self, ErrorKind, Read};
 
-/// What gives reads, one after the other. Each [`Read`] does; if its bytes are known, these are.
+/// What gives reads, one after the other. Each [`Read`] does; if its bytes are known, so is what it
+/// gives. A type of which more is known, as [`Pieces`], is a source of its own, and no `Read`.
 pub trait Source {
     // what is known of the reads from here on
     ghost coming: { Self → Coming };
@@ -35,7 +36,7 @@ impl<R: Read> Source for R {
     }
 }
 
-/// Reads that are known: each piece is one, also an empty one; where the buffer has no room for all
+/// Reads that are known. Each piece is one, also an empty one; where the buffer has no room for all
 /// of a piece, the next read goes on with it. After the last one a read fails.
 #[derive(Debug, Drop, Clone, Copy)]
 pub struct Pieces<'a> {
