@@ -147,3 +147,9 @@ module _ {B X : Type 0} (device : Device B X) where
       subst (λ (x : Between Pager). FillsScreen device x.state m.terminal) (sym are.0)
       (moved told (all_updated (rules_of paging) b.state (told_by b.decoder m.bytes).0) s m.terminal sized (taken told s m.terminal (takes told s m.terminal are.2) taken_all.0)) in
       (here, fills stage takes m.between m.terminal ms are.4 here taken_all.1)
+
+  -- the first frame keeps the size
+  pub fills-first : (p : Pager) (s t : TerminalData B) → size_of (device.screen t.backend) ≡ size_of (device.screen s.backend)
+      → FillsScreen device p s → FillsScreen device p t
+  fills-first p s t same (inl over) = inl over
+  fills-first p s t same (inr sized) = inr (sized ∙ sym same)

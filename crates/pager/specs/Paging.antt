@@ -3,7 +3,7 @@ use Rattle.std.specs.Prelude.{◌≡◌, ◌⊎◌, ℕ, true, List, [], ◌∷�
 use Rattle.ratatui_core.specs.{Layout.Size, Backend.size_of}
 use Rattle.ratatui_core.specs.Terminal.{TerminalData, Fullscreen}
 use Rattle.ansi_model.specs.Beginnings.{MakesBlank, OpensAlternate}
-use Rattle.ratatui_ansi.specs.Backend.{BackendState, BeginsBy}
+use Rattle.ratatui_ansi.specs.Backend.{BackendState, BeginsBy, shown_by}
 use Rattle.ratatui_reads.specs.{Reads.Between, Reads.size_told, Moments.Moment, Sources.Coming}
 use Rattle.ratatui_app.specs.{Showing.Device, Showing.App, Glass.RunsWhole}
 use Rattle.pager.specs.declared.pager.Pager.{Pager}
@@ -20,6 +20,7 @@ pub record IsPaged {W : Type 0} (size : Size) (first : Between Pager) (all : Com
     (rest : Coming) (before after : Option (List ℕ)) : Type 0 where
   pub backend : BackendState W
   pub is_size : backend.size ≡ size
+  pub screen_is : size_of (shown_by backend) ≡ size
   pub alternate : backend.is_on_alternate ≡ true
   pub opened : BeginsBy (OpensAlternate size.width size.height) before backend.before
   pub blank : MakesBlank size.width size.height [] backend.sent

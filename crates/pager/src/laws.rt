@@ -1,6 +1,6 @@
 //! Laws of the pager.
 
-ghost use Rattle.std.specs.Prelude.{◌≡◌, ℕ, List};
+ghost use Rattle.std.specs.Prelude.{◌≡◌, ℕ, List, Option};
 ghost use Rattle.ratatui_core.specs.Layout.{Size};
 ghost use Rattle.ratatui_core.specs.Terminal.{TerminalData};
 ghost use Rattle.ratatui_ansi.specs.Backend.{BackendState};
@@ -11,7 +11,7 @@ ghost use Rattle.ratatui_app.specs.Showing.{RunsTo};
 ghost use Rattle.ratatui_app.specs.Glass.{sender, RunsOnGlass, RunsAlongGlass, IsOnGlass};
 ghost use Rattle.pager.specs.Moves.{started, updated};
 ghost use Rattle.pager.specs.Places.{IsInText};
-ghost use Rattle.pager.specs.Paging.{paging, FillsScreen, FillsAlong, TakesAlong};
+ghost use Rattle.pager.specs.Paging.{paging, page_size, IsPaged, FillsScreen, FillsAlong, TakesAlong};
 ghost use Rattle.pager.specs.declared.pager.Pager.{Pager};
 
 use crate::pager::Pager;
@@ -41,14 +41,18 @@ pub fn the_glass_shows_the_page<W: Write + Drop>(terminal: &Terminal<AnsiBackend
 }
 
 /// If the first page is as large as the screen, and the terminal takes each size that it is told,
-/// then the page is as large as the screen at each moment of a run, until the pager is over.
+/// then the page is as large as the screen at the first frame and at each moment of a run, until the
+/// pager is over; and a pager of a terminal's size begins so.
 pub fn the_page_fills_the_screen<B: Backend, W: Write>()
     ensures runs { (before t : TerminalData B) (first now : Between Pager) (all rest : Coming)
         (ran : RunsTo B.Backend paging before first all now rest t)
-        → FillsScreen B.Backend first.state ran.begun
-        → TakesAlong B.Backend first ran.moments → FillsAlong B.Backend ran.moments }
+        → FillsScreen B.Backend first.state before → TakesAlong B.Backend first ran.moments
+        → FillsScreen B.Backend first.state ran.begun × FillsAlong B.Backend ran.moments }
     ensures glass { (before t : TerminalData (BackendState W)) (first now : Between Pager)
         (all rest : Coming) (ran : RunsAlongGlass paging before first all now rest t)
-        → FillsScreen sender first.state ran.begun
-        → TakesAlong sender first ran.moments → FillsAlong sender ran.moments }
+        → FillsScreen sender first.state before → TakesAlong sender first ran.moments
+        → FillsScreen sender first.state ran.begun × FillsAlong sender ran.moments }
+    ensures paged { (size : Size) (first : Between Pager) (all rest : Coming) (last : Pager)
+        (before after : Option (List ℕ)) (paged : IsPaged {W = W} size first all last rest before after)
+        → page_size first.state ≡ size → FillsScreen sender first.state paged.ran.begun }
 {}

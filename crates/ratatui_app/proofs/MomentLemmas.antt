@@ -1,6 +1,6 @@
 -- Runs of which each moment is on the glass.
 use Rattle.std.proofs.Common.{◌≡◌, ℕ, Bool, List, Option, Result, Ok, Err, IfOk, inl, inr, sym, subst, ◌∙◌, refl}
-use Rattle.ratatui_core.specs.Terminal.{TerminalData, Viewport, DrawsFrame}
+use Rattle.ratatui_core.specs.{Backend.size_of, Terminal.TerminalData, Terminal.Viewport, Terminal.DrawsFrame}
 use Rattle.ratatui_ansi.specs.Backend.{BackendState, shown_by}
 use Rattle.ratatui_input.specs.Encodings.{fresh_decoder}
 use Rattle.ratatui_input.specs.declared.decoder.Decoder.{Decoder}
@@ -18,9 +18,10 @@ module _ {W S : Type 0} (app : App S) where
   -- the first frame
   pub glass-start : (t0 : TerminalData (BackendState W)) (d : Decoder) (s : S) (all : Coming)
       (t : TerminalData (BackendState W)) → d ≡ fresh_decoder → DrawsFrame shown_by t0 t
-      → failed t.backend ≡ failed t0.backend → ShowsState sender app s t → IsOnGlass app s t
+      → failed t.backend ≡ failed t0.backend → size_of (shown_by t.backend) ≡ size_of (shown_by t0.backend)
+      → ShowsState sender app s t → IsOnGlass app s t
       → RunsAlongGlass app t0 (record { decoder = fresh_decoder; state = s }) all (record { decoder = d; state = s }) all t
-  glass-start t0 d s all t fresh draws same shows glass =
+  glass-start t0 d s all t fresh draws same size shows glass =
       subst (λ (x : Decoder). RunsAlongGlass app t0 (record { decoder = fresh_decoder; state = s }) all
       (record { decoder = x; state = s }) all t) (sym fresh)
       (ran-start (rules_of app) (glass_stage app) t0
@@ -29,8 +30,7 @@ module _ {W S : Type 0} (app : App S) where
         drawn = inr (record { before = t0; taken = inl refl; then = draws });
         kind = draws-kind shown_by t0 t draws;
         faults = same;
-      })
-      (record { state = shows; glass = glass }))
+      }) size (record { state = shows; glass = glass }))
 
   -- one more read
   pub glass-step : (t0 : TerminalData (BackendState W)) (first : Between S) (all : Coming) (now : Between S)

@@ -10,7 +10,7 @@ use Rattle.ratatui_core.specs.{Backend.size_of, Backend.screen_area}
 use Rattle.ratatui_core.specs.Headline.{MayTakeSize}
 use Rattle.ratatui_input.specs.Encodings.{fresh_decoder}
 use Rattle.ratatui_input.specs.declared.decoder.Decoder.{Decoder}
-use Rattle.ratatui_reads.specs.Reads.{Between, told_by, all_updated, size_told, last_size}
+use Rattle.ratatui_reads.specs.Reads.{Between, told_by, all_updated, size_told}
 use Rattle.ratatui_reads.specs.Sources.{Coming, NotKnown, KnownBytes, KnownReads, GivesRead, StaysKnown, read_room}
 use Rattle.ratatui_reads.proofs.ReadLemmas.{nonempty}
 use Rattle.ratatui_reads.proofs.MomentLemmas.{ran-start, ran-step, ran-shows}
@@ -43,9 +43,10 @@ taken-kind {B} screen s t (inr taken) = ap (λ (x : TerminalData B). x.viewport)
 module _ {B X S : Type 0} (device : Device B X) (app : App S) where
   -- the first frame
   pub runs-start : (t0 : TerminalData B) (d : Decoder) (s : S) (all : Coming) (t : TerminalData B) → d ≡ fresh_decoder
-      → DrawsFrame device.screen t0 t → device.failures t.backend ≡ device.failures t0.backend → ShowsState device app s t
+      → DrawsFrame device.screen t0 t → device.failures t.backend ≡ device.failures t0.backend
+      → size_of (device.screen t.backend) ≡ size_of (device.screen t0.backend) → ShowsState device app s t
       → RunsTo device app t0 (record { decoder = fresh_decoder; state = s }) all (record { decoder = d; state = s }) all t
-  runs-start t0 d s all t e draws same sh =
+  runs-start t0 d s all t e draws same size sh =
       subst (λ (x : Decoder). RunsTo device app t0 (record { decoder = fresh_decoder; state = s }) all
       (record { decoder = x; state = s }) all t) (sym e)
       (ran-start (rules_of app) (stage device app) t0 (record { decoder = fresh_decoder; state = s }) all t
@@ -53,7 +54,7 @@ module _ {B X S : Type 0} (device : Device B X) (app : App S) where
         drawn = inr (record { before = t0; taken = inl refl; then = draws });
         kind = draws-kind device.screen t0 t draws;
         faults = same;
-      }) sh)
+      }) size sh)
 
   -- the size that a screen keeps
   kept-size : (size : Option (ℕ × ℕ)) (s t t' : TerminalData B)

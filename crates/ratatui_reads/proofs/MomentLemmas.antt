@@ -1,6 +1,6 @@
 -- A run grows by a read.
 use Rattle.std.proofs.Common.{◌≡◌, ℕ, Bool, true, false, inl, inr, List, [], ◌∷◌, ◌++◌, refl, ap, sym, ◌∙◌, subst, append-nil}
-use Rattle.std.proofs.Common.{append_assoc}
+use Rattle.std.proofs.Common.{append_assoc, None}
 use Rattle.ratatui_input.specs.declared.decoder.Decoder.{Decoder}
 use Rattle.ratatui_reads.proofs.ReadLemmas
 use Rattle.ratatui_reads.proofs.ReadLemmas.{read-some, bytes-none}
@@ -36,11 +36,12 @@ module _ {S T : Type 0} (u : Rules S) (stage : Stage S T) where
   are-append b t (n ∷ ms) m are e mv sz sh = (are.0, are.1, are.2, are.3, are-append n.between n.terminal ms m are.4 e mv sz sh)
 
   -- the first frame was drawn
-  pub ran-start : (t0 : T) (first : Between S) (all : Coming) (t : T) → stage.moves t0 t → stage.shows first.state t
-      → Ran u stage t0 first all first all t
-  ran-start t0 first all t mv sh = record {
+  pub ran-start : (t0 : T) (first : Between S) (all : Coming) (t : T) → stage.moves t0 t → stage.takes_size None t0 t
+      → stage.shows first.state t → Ran u stage t0 first all first all t
+  ran-start t0 first all t mv sz sh = record {
     begun = t;
     began = mv;
+    sized = sz;
     begins = sh;
     moments = [];
     are = tt;
@@ -59,6 +60,7 @@ module _ {S T : Type 0} (u : Rules S) (stage : Stage S T) where
       record {
         begun = ran.begun;
         began = ran.began;
+        sized = ran.sized;
         begins = ran.begins;
         moments = ran.moments ++ (m ∷ []);
         are = are-append first ran.begun ran.moments m ran.are (step.fed.taken

@@ -1,5 +1,5 @@
 -- What stood after each read of a run.
-use Rattle.std.specs.Prelude.{◌≡◌, ◌⊎◌, ℕ, Bool, true, false, List, [], ◌∷◌, Option}
+use Rattle.std.specs.Prelude.{◌≡◌, ◌⊎◌, ℕ, Bool, true, false, List, [], ◌∷◌, Option, None}
 use Rattle.ratatui_reads.specs.Reads.{Between, Rules, after_read, after_bytes, all_bytes, size_told, IsNonEmpty}
 use Rattle.ratatui_reads.specs.Reads.{AreNonEmpty}
 use Rattle.ratatui_reads.specs.Sources.{Coming, GivesRead, GivesReads, read_room}
@@ -43,12 +43,13 @@ module _ {S T : Type 0} (rules : Rules S) (stage : Stage S T) where
       × stage.shows m.between.state m.terminal
       × AreMoments m.between m.terminal ms
 
-  -- a run that is between two reads: its first frame on a terminal, and each moment up to now; what these
-  -- read is what the source gave
+  -- a run that is between two reads: its first frame on a terminal, at the size that this had, and each moment
+  -- up to now; what these read is what the source gave
   pub record Ran (before : T) (first : Between S) (all : Coming) (now : Between S) (rest : Coming)
       (t : T) : Type 0 where
     pub begun : T
     pub began : stage.moves before begun
+    pub sized : stage.takes_size None before begun
     pub begins : stage.shows first.state begun
     pub moments : List (Moment S T)
     pub are : AreMoments first begun moments

@@ -1,3 +1,4 @@
+use Rattle.std.proofs.Common.{ℕ, ap₂}
 use Rattle.std.proofs.lemmas.Result.{IfOk-weaker}
 use Rattle.pager.proofs.showing.show_on.Goals as goal
 
@@ -8,6 +9,7 @@ returns-clause-paged g c =
     IfOk-weaker c.run_and_leave.result _ _ (λ left whole. record {
       backend = c.in-Ok.backend;
       is_size = made.is_size;
+      screen_is = ap₂ (λ (w h : ℕ). record { width = w; height = h }) made.blank.width made.blank.height;
       alternate = made.alternate;
       opened = made.before;
       blank = made.sent;

@@ -1,4 +1,3 @@
-use Rattle.std.proofs.Common.{◌∙◌}
 use Rattle.ratatui_app.specs.Glass.{sender}
 use Rattle.ratatui_app.proofs.RunLemmas.{runs-shows}
 use Rattle.ratatui_app.proofs.MomentLemmas.{run-unfailed}

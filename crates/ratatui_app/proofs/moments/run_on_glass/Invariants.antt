@@ -2,13 +2,13 @@ use Rattle.std.specs.Prelude.{◌≡◌, false}
 use Rattle.ratatui_ansi.specs.Backend.{shown_by}
 use Rattle.ratatui_input.specs.Encodings.{fresh_decoder}
 use Rattle.ratatui_reads.specs.Moments.{HasTyped}
-use Rattle.ratatui_app.specs.{Showing.RestsUnfixed, Showing.RunsTo, Glass.RunsAlongGlass, Glass.sender}
+use Rattle.ratatui_app.specs.{Showing.App, Showing.RestsUnfixed, Showing.RunsTo, Glass.RunsAlongGlass, Glass.sender}
 use Rattle.ratatui_app.proofs.moments.run_on_glass.Given as goal
 
 -- a run up to here
 abbrev pub invariant-loop : goal.invariant-loop
 invariant-loop g l = RestsUnfixed shown_by l.fn.terminal →
-    let app = record { updated = g.A.Updates.updated; is_over = g.A.Updates.is_over; paints = g.A.Application.paints } in
+    let app : App g.row.A.Denot = record { updated = g.A.Updates.updated; is_over = g.A.Updates.is_over; paints = g.A.Application.paints } in
     RunsTo sender app l.fn.terminal
     (record { decoder = fresh_decoder; state = l.fn.application }) (g.S.Source.coming l.fn.source)
     (record { decoder = l.decoder; state = l.application }) (g.S.Source.coming l.source) l.terminal

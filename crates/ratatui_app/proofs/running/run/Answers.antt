@@ -7,7 +7,7 @@ use Rattle.ratatui_app.proofs.running.run.Goals as goal
 pub loop-init : goal.loop-init
 loop-init g c = λ rest. (
   runs-start g.B.Backend _ _ _ _ _ _ c.new-decoder.ensures c.in-Ok.ensures.draws c.in-Ok.ensures.faults
-      (c.in-Ok.ensures.shows (inl rest)),
+      (c.in-Ok.ensures.size (inl rest)) (c.in-Ok.ensures.shows (inl rest)),
   λ no'. rw c.new-decoder.ensures (typed-start _ (record {
     decoder = fresh_decoder;
     state = c.args.application.now;
@@ -19,15 +19,16 @@ loop-preserved g c = λ rest.
     let before = c.loop.invariant rest in
     let step = c.in-Ok-step.ensures.steps
     (runs-shows g.B.Backend _ _ _ _ _ _ _ before.0) in (
-      runs-step g.B.Backend _ _ _ _ _ _ _ _ _ _ _ before.0 (λ shown. step),
-      λ no'. typed-step _ _ _ _ _ _ _ _ _ _ _ (before.1 no') step
+      runs-step g.B.Backend _ _ _ _ _ _ _ (record { decoder = c.step.new.decoder; state = c.step.new.application }) _ _ _ before.0 (λ shown. step),
+      λ no'. typed-step _ _ _ _ _ _ _ (record { decoder = c.step.new.decoder; state = c.step.new.application }) _ _ _ (before.1 no') step
           (came-if c.in-Ok-step.came c.args.has_ticks no' c.else-not-came.either),
     )
 
 pub returns-then-not-has_ticks-clause-runs : goal.returns-then-not-has_ticks-clause-runs
 returns-then-not-has_ticks-clause-runs g c = λ rest. (
   c.step.new.decoder,
-  runs-step g.B.Backend _ _ _ _ _ _ _ _ _ _ _ (c.loop.invariant rest).0 c.in-Ok-step.ensures.steps,
+  runs-step g.B.Backend _ _ _ _ _ _ _ (record { decoder = c.step.new.decoder; state = c.step.new.application }) _ _ _
+      (c.loop.invariant rest).0 c.in-Ok-step.ensures.steps,
 )
 
 pub returns-then-not-has_ticks-clause-typed : goal.returns-then-not-has_ticks-clause-typed
