@@ -16,7 +16,7 @@ paging = record { updated = updated; is_over = λ p. p.is_over; paints = PaintsP
 -- a pager was run from beginning to end on the alternate screen of a terminal of this size: that was opened
 -- and made blank, the page was shown at each moment, and the main screen was brought back. The writer held
 -- these bytes before and after
-pub record IsPaged {W : Type 0} (size : Size) (first : Between Pager) (all : Coming) (last : Pager)
+pub record IsPaged (W : Type 0) (size : Size) (first : Between Pager) (all : Coming) (last : Pager)
     (rest : Coming) (before after : Option (List ℕ)) : Type 0 where
   pub backend : BackendState W
   pub is_size : backend.size ≡ size

@@ -53,6 +53,6 @@ pub fn the_page_fills_the_screen<B: Backend, W: Write>()
         → FillsScreen sender first.state before → TakesAlong sender first ran.moments
         → FillsScreen sender first.state ran.begun × FillsAlong sender ran.moments }
     ensures paged { (size : Size) (first : Between Pager) (all rest : Coming) (last : Pager)
-        (before after : Option (List ℕ)) (paged : IsPaged {W = W} size first all last rest before after)
+        (before after : Option (List ℕ)) (paged : IsPaged W size first all last rest before after)
         → page_size first.state ≡ size → FillsScreen sender first.state paged.ran.begun }
 {}

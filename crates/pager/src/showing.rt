@@ -40,7 +40,7 @@ pub fn show_on<S: Source, W: Write + Drop>(
     writer: W,
     pager: &mut Pager<'_>,
 ) -> Result<W, Fault<AnsiError>>
-    ensures paged { IfOk result (λ left. IsPaged size
+    ensures paged { IfOk result (λ left. IsPaged W size
         (record { decoder = fresh_decoder; state = pager.old }) (S.coming source.old)
         pager.new (S.coming source.new) (W.contents writer) (W.contents left)) }
     ensures typed { has_ticks ≡ false → OnOk result (HasEnded (rules_of paging)
@@ -79,7 +79,7 @@ fn show_to<S: Source, W: Write>(
     writer: &mut W,
     pager: &mut Pager<'_>,
 ) -> Result<(), Fault<AnsiError>>
-    ensures paged { OnOk result ((before after : Option (List ℕ)) × IsPaged {W = MutBor W} size
+    ensures paged { OnOk result ((before after : Option (List ℕ)) × IsPaged (MutBor W) size
         (record { decoder = fresh_decoder; state = pager.old }) (S.coming source.old)
         pager.new (S.coming source.new) before after) }
     ensures typed { has_ticks ≡ false → OnOk result (HasEnded (rules_of paging)
@@ -108,7 +108,7 @@ pub fn show<S: Source, W: Write>(
     writer: &mut W,
     pager: &mut Pager<'_>,
 ) -> Result<(), Fault<AnsiError>>
-    ensures paged { OnOk result ((before after : Option (List ℕ)) × IsPaged {W = MutBor W} size
+    ensures paged { OnOk result ((before after : Option (List ℕ)) × IsPaged (MutBor W) size
         (record { decoder = fresh_decoder; state = pager.old }) (S.coming source.old)
         pager.new (S.coming source.new) before after) }
     ensures typed { has_ticks ≡ false → OnOk result (HasEnded (rules_of paging)
