@@ -8,8 +8,8 @@ use Rattle.ratatui_core.specs.{Layout.Rect, Layout.IsInside, Style.Style, Widget
 use Rattle.ratatui_core.specs.{Widgets.IsClipped}
 use Rattle.ratatui_core.specs.Buffer.{BufferData, HasRow, IsReadyAt, IsReadyFrom, IsSettledBuffer, PaintsPieces}
 use Rattle.ratatui_core.specs.Buffer.{columns, pieces_at, room_at, text_pieces, position_of}
-use Rattle.ratatui_core.proofs.{BufferLemmas.within-same, BufferLemmas.within-wider, BufferLemmas.ready-row}
-use Rattle.ratatui_core.proofs.{BufferLemmas.ready-plain, WidgetLemmas.within-then, WidgetLemmas.OnPart-clipped}
+use Rattle.ratatui_core.proofs.{BufferLemmas.within-wider, BufferLemmas.ready-row}
+use Rattle.ratatui_core.proofs.{BufferLemmas.ready-plain, WidgetLemmas.OnPart-clipped}
 use Rattle.rtui_boxes.specs.Boxes.{IsBoxArea}
 use Rattle.rtui_boxes.proofs.PaintLemmas.{part-has_row, part-right}
 use Rattle.pager.specs.declared.view.View.{View}

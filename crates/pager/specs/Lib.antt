@@ -5,3 +5,4 @@ pub mod Places
 pub mod Moves
 pub mod Pages
 pub mod PageLemmas
+pub mod Paging

@@ -6,15 +6,18 @@ ghost use Rattle.ratatui_core.specs.Terminal.{TerminalData};
 ghost use Rattle.ratatui_ansi.specs.Backend.{BackendState};
 ghost use Rattle.ratatui_events.specs.declared.event.Event.{Event};
 ghost use Rattle.ratatui_reads.specs.Reads.{Between};
-ghost use Rattle.ratatui_app.specs.Glass.{RunsOnGlass, IsOnGlass};
+ghost use Rattle.ratatui_reads.specs.Sources.{Coming};
+ghost use Rattle.ratatui_app.specs.Showing.{RunsTo};
+ghost use Rattle.ratatui_app.specs.Glass.{sender, RunsOnGlass, RunsAlongGlass, IsOnGlass};
 ghost use Rattle.pager.specs.Moves.{started, updated};
 ghost use Rattle.pager.specs.Places.{IsInText};
-ghost use Rattle.pager.specs.Pages.{PaintsPager};
+ghost use Rattle.pager.specs.Paging.{paging, page_size, IsPaged, FillsScreen, FillsAlong, TakesAlong};
 ghost use Rattle.pager.specs.declared.pager.Pager.{Pager};
 
 use crate::pager::Pager;
 use ratatui_ansi::AnsiBackend;
 use ratatui_app::laws::glass_shows_the_state;
+use ratatui_core::backend::Backend;
 use ratatui_core::terminal::Terminal;
 use std::io::Write;
 
@@ -29,10 +32,27 @@ pub fn the_place_lies_in_the_text()
 /// was sent shows the page that the keys so far lead to.
 pub fn the_glass_shows_the_page<W: Write + Drop>(terminal: &Terminal<AnsiBackend<W>>)
     ensures { (before : TerminalData (BackendState W)) (first now : Between Pager)
-        (all rest : Option (List ℕ))
-        → RunsOnGlass PaintsPager updated (λ p. p.is_over) before first all now rest terminal.now
+        (all rest : Coming)
+        → RunsOnGlass paging before first all now rest terminal.now
         → before.backend.failures ≡ 0
-        → IsOnGlass PaintsPager now.state terminal.now }
+        → IsOnGlass paging now.state terminal.now }
 {
     glass_shows_the_state::<W, Pager<'static>>(terminal);
 }
+
+/// If the first page is as large as the screen, and the terminal takes each size that it is told,
+/// then the page is as large as the screen at the first frame and at each moment of a run, until the
+/// pager is over; and a pager of a terminal's size begins so.
+pub fn the_page_fills_the_screen<B: Backend, W: Write>()
+    ensures runs { (before t : TerminalData B) (first now : Between Pager) (all rest : Coming)
+        (ran : RunsTo B.Backend paging before first all now rest t)
+        → FillsScreen B.Backend first.state before → TakesAlong B.Backend first ran.moments
+        → FillsScreen B.Backend first.state ran.begun × FillsAlong B.Backend ran.moments }
+    ensures glass { (before t : TerminalData (BackendState W)) (first now : Between Pager)
+        (all rest : Coming) (ran : RunsAlongGlass paging before first all now rest t)
+        → FillsScreen sender first.state before → TakesAlong sender first ran.moments
+        → FillsScreen sender first.state ran.begun × FillsAlong sender ran.moments }
+    ensures paged { (size : Size) (first : Between Pager) (all rest : Coming) (last : Pager)
+        (before after : Option (List ℕ)) (paged : IsPaged W size first all last rest before after)
+        → page_size first.state ≡ size → FillsScreen sender first.state paged.ran.begun }
+{}

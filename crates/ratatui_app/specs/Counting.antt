@@ -7,6 +7,7 @@ use Rattle.ratatui_events.specs.declared.event.Event.TheVariants.{Key}
 use Rattle.ratatui_events.specs.declared.key.KeyCode.{KeyCode}
 use Rattle.ratatui_events.specs.declared.key.KeyCode.TheVariants.{Char}
 use Rattle.ratatui_app.specs.declared.counter.Counter.{Counter}
+use Rattle.ratatui_app.specs.Showing.{App}
 
 -- + and - change the number, and q ends
 abbrev pub after_character : ℕ → Counter → Counter
@@ -27,3 +28,7 @@ count_after c _ = c
 pub record PaintsCount (c : Counter) (area : Rect) (old new : BufferData) : Type 0 where
   pub painted : HasFirstRow area old → RendersStr (decimal c.count) area old new
   pub kept : (HasFirstRow area old → ⊥) → new ≡ old
+
+-- the application that counts
+abbrev pub counting : App Counter
+counting = record { updated = count_after; is_over = λ c. c.is_over; paints = PaintsCount }

@@ -3,7 +3,8 @@
 ghost use Rattle.std.specs.Prelude.{◌≡◌, false, IfSome};
 ghost use Rattle.ratatui_input.specs.Encodings.{fresh_decoder};
 ghost use Rattle.ratatui_reads.specs.Moments.{HasEnded};
-ghost use Rattle.ratatui_app.specs.Counting.{PaintsCount, count_after};
+ghost use Rattle.ratatui_app.specs.Showing.{rules_of};
+ghost use Rattle.ratatui_app.specs.Counting.{counting};
 ghost use Rattle.ratatui_app.specs.Glass.{IsOnGlass};
 ghost use Rattle.ratatui_app.specs.declared.counter.Counter.{Counter};
 
@@ -14,23 +15,24 @@ use ratatui_ansi::AnsiBackend;
 use ratatui_core::layout::Size;
 use ratatui_core::terminal::Terminal;
 use ratatui_core::terminal::laws::calls_leave_a_terminal_at_rest;
+use ratatui_reads::Source;
 use std::alloc::Global;
-use std::io::{Read, Write};
+use std::io::Write;
 
-/// Counts from 0 on a terminal of this size, until `q` or the reader's end, and answers the
+/// Counts from 0 on a terminal of this size, until `q` or the source's end, and answers the
 /// terminal, or none if a call failed or memory was refused. Then each terminal that has read what
 /// was sent shows the number that the bytes lead to.
-pub fn count_from_blank<R: Read, W: Write + Drop>(
+pub fn count_from_blank<S: Source, W: Write + Drop>(
     alloc: Global,
     size: Size,
-    reader: &mut R,
+    source: &mut S,
     writer: W,
 ) -> Option<Terminal<AnsiBackend<W>>>
     ensures { IfSome result (λ t. (s : Counter)
-        × HasEnded count_after (λ c. c.is_over)
+        × HasEnded (rules_of counting)
         (record { decoder = fresh_decoder; state = record { count = 0; is_over = false } })
-        (R.remaining reader.old) s (R.remaining reader.new)
-        × IsOnGlass PaintsCount s t) }
+        (S.coming source.old) s (S.coming source.new)
+        × IsOnGlass counting s t) }
 {
     let Ok(backend) = AnsiBackend::new(alloc, writer, size) else {
         return None;
@@ -43,7 +45,7 @@ pub fn count_from_blank<R: Read, W: Write + Drop>(
         is_over: false,
     };
     calls_leave_a_terminal_at_rest::<AnsiBackend<W>>();
-    match run(reader, false, &mut terminal, &mut counter) {
+    match run(source, false, &mut terminal, &mut counter) {
         Ok(()) => {}
         Err(_) => return None,
     }

@@ -18,4 +18,4 @@ pub use counter::Counter;
 pub use from_blank::count_from_blank;
 pub use moments::run_on_glass;
 pub use running::{Fault, draw, feed, run, step};
-pub use whole::run_and_leave;
+pub use whole::{run_and_leave, run_inline_and_leave};

@@ -1,12 +1,12 @@
 //! Runs of which each moment is on the glass.
 
-ghost use Rattle.std.specs.Prelude.{◌≡◌, OnOk, IfErr};
-ghost use Rattle.ratatui_core.specs.Terminal.{IsAtRest, Fullscreen};
-ghost use Rattle.ratatui_ansi.specs.Backend.{shown_by, is_flushed};
+ghost use Rattle.std.specs.Prelude.{◌≡◌, false, OnOk, IfErr};
+ghost use Rattle.ratatui_ansi.specs.Backend.{shown_by};
 ghost use Rattle.ratatui_input.specs.Encodings.{fresh_decoder};
 ghost use Rattle.ratatui_input.specs.declared.decoder.Decoder.{Decoder};
-ghost use Rattle.ratatui_app.specs.Showing.{StopsRun, IsEnd};
-ghost use Rattle.ratatui_app.specs.Glass.{RunsAlongGlass};
+ghost use Rattle.ratatui_reads.specs.Moments.{HasEnded};
+ghost use Rattle.ratatui_app.specs.Showing.{RestsUnfixed, StopsRun, IsEnd};
+ghost use Rattle.ratatui_app.specs.Glass.{sender, RunsAlongGlass};
 
 use crate::application::Application;
 use crate::laws::shown_states_are_on_the_glass;
@@ -14,7 +14,8 @@ use crate::running::{Fault, draw, step};
 use ratatui_ansi::{AnsiBackend, AnsiError};
 use ratatui_core::terminal::Terminal;
 use ratatui_input::Decoder;
-use std::io::{self, ErrorKind, Read, Write};
+use ratatui_reads::Source;
+use std::io::{self, ErrorKind, Write};
 
 /// Runs an application, as [`run`](crate::run) does, on a terminal that is sent bytes. If no call
 /// had failed before, then at each moment of the run, after the first frame and after each read,
@@ -23,24 +24,27 @@ use std::io::{self, ErrorKind, Read, Write};
 /// # Errors
 ///
 /// Those of [`step`].
-pub fn run_on_glass<R: Read, W: Write + Drop, A: Application>(
-    reader: &mut R,
+pub fn run_on_glass<S: Source, W: Write + Drop, A: Application>(
+    source: &mut S,
     has_ticks: bool,
     terminal: &mut Terminal<AnsiBackend<W>>,
     application: &mut A,
 ) -> Result<(), Fault<AnsiError>>
-    ensures runs { IsAtRest shown_by Fullscreen terminal.old → terminal.old.backend.failures ≡ 0
-        → OnOk result ((decoder : Decoder) × RunsAlongGlass A.paints A.updated A.is_over
-        terminal.old
-        (record { decoder = fresh_decoder; state = application.old }) (R.remaining reader.old)
-        (record { decoder = decoder; state = application.new }) (R.remaining reader.new)
+    ensures runs { RestsUnfixed shown_by terminal.old → terminal.old.backend.failures ≡ 0
+        → OnOk result ((decoder : Decoder) × RunsAlongGlass A.Application terminal.old
+        (record { decoder = fresh_decoder; state = application.old }) (S.coming source.old)
+        (record { decoder = decoder; state = application.new }) (S.coming source.new)
         terminal.new) }
+    ensures typed { RestsUnfixed shown_by terminal.old → has_ticks ≡ false
+        → OnOk result (HasEnded A.Updates
+        (record { decoder = fresh_decoder; state = application.old }) (S.coming source.old)
+        application.new (S.coming source.new)) }
     ensures ended { OnOk result
-        (IsEnd A.is_over has_ticks application.new (R.remaining reader.new)) }
-    ensures stops { IsAtRest shown_by Fullscreen terminal.old → IfErr result (
-        StopsRun shown_by (λ b. b.failures) is_flushed A.paints A.updated A.is_over
-        (record { decoder = fresh_decoder; state = application.old }) (R.remaining reader.old)
-        terminal.old application.new (R.remaining reader.new) terminal.new) }
+        (IsEnd A.is_over has_ticks application.new (S.coming source.new)) }
+    ensures stops { RestsUnfixed shown_by terminal.old → IfErr result (
+        StopsRun sender A.Application
+        (record { decoder = fresh_decoder; state = application.old }) (S.coming source.old)
+        terminal.old application.new (S.coming source.new) terminal.new) }
 {
     let mut decoder = Decoder::new();
     match draw(terminal, application) {
@@ -52,7 +56,7 @@ pub fn run_on_glass<R: Read, W: Write + Drop, A: Application>(
         if application.is_over() {
             return Ok(());
         }
-        let came = match step(reader, &mut decoder, terminal, application) {
+        let came = match step(source, &mut decoder, terminal, application) {
             Ok(came) => came,
             Err(fault) => return Err(fault),
         };

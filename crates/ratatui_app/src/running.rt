@@ -1,13 +1,14 @@
 //! Running an application.
 
 ghost use Rattle.std.specs.Prelude.{◌≡◌, ◌⊎◌, Bool, Some, [], false, OnOk, IfOk, IfErr};
-ghost use Rattle.std.specs.Io.KnownBytes.{IsAtEnd};
 ghost use Rattle.ratatui_core.specs.Backend.{size_of};
-ghost use Rattle.ratatui_core.specs.Terminal.{IsAtRest, Fullscreen, DrawsFrame};
+ghost use Rattle.ratatui_core.specs.Terminal.{DrawsFrame};
 ghost use Rattle.ratatui_input.specs.Encodings.{fresh_decoder};
 ghost use Rattle.ratatui_input.specs.declared.decoder.Decoder.{Decoder};
 ghost use Rattle.ratatui_reads.specs.Moments.{HasEnded};
-ghost use Rattle.ratatui_app.specs.Showing.{MayDraw, TakesTold, ShowsState, FeedsTo, StepsTo, RunsTo};
+ghost use Rattle.ratatui_reads.specs.Sources.{IsUsedUp};
+ghost use Rattle.ratatui_app.specs.Showing.{RestsUnfixed, MayDraw, TakesTold, ShowsState};
+ghost use Rattle.ratatui_app.specs.Showing.{FeedsTo, StepsTo, RunsTo};
 ghost use Rattle.ratatui_app.specs.Showing.{StopsFeeding, RefusesState, Stops, StopsRun, IsEnd};
 
 use crate::application::{Application, Page};
@@ -16,13 +17,13 @@ use ratatui_core::layout::Size;
 use ratatui_core::terminal::laws::calls_leave_a_terminal_at_rest;
 use ratatui_core::terminal::{Terminal, TerminalError};
 use ratatui_input::Decoder;
-use ratatui_reads::take;
-use std::io::{self, ErrorKind, Read};
+use ratatui_reads::{Source, take};
+use std::io::{self, ErrorKind};
 
 /// Why a run ended before the application was over.
 #[derive(Debug, Drop)]
 pub enum Fault<E> {
-    /// The reader failed.
+    /// The source failed.
     Read(io::Error),
     /// An update was refused memory.
     Memory,
@@ -44,12 +45,12 @@ pub fn draw<B: Backend, A: Application>(
     ensures draws { OnOk result (DrawsFrame B.screen terminal.old terminal.new) }
     ensures faults { OnOk result
         (B.failures terminal.new.backend ≡ B.failures terminal.old.backend) }
-    ensures shows { MayDraw B.screen B.failures terminal.old
-        → OnOk result (ShowsState B.screen B.is_flushed A.paints application.now terminal.new) }
-    ensures size { MayDraw B.screen B.failures terminal.old → OnOk result
+    ensures shows { MayDraw B.Backend terminal.old
+        → OnOk result (ShowsState B.Backend A.Application application.now terminal.new) }
+    ensures size { MayDraw B.Backend terminal.old → OnOk result
         (size_of (B.screen terminal.new.backend) ≡ size_of (B.screen terminal.old.backend)) }
     ensures refused { IfErr result
-        (RefusesState B.screen A.paints application.now terminal.old terminal.new) }
+        (RefusesState B.Backend A.Application application.now terminal.old terminal.new) }
 {
     calls_leave_a_terminal_at_rest::<B>();
     terminal.draw_widget(Page(application))?;
@@ -73,11 +74,11 @@ fn give_size<B: Resizable>(
     rows: u16,
 ) -> Result<(), B::Error>
     ensures only { terminal.new ≡ record terminal.old { backend = terminal.new.backend } }
-    ensures ok { IsAtRest B.screen Fullscreen terminal.old
-        → ((terminal.old.viewport_area.width ≡ columns)
-        × (terminal.old.viewport_area.height ≡ rows) → ⊥)
+    ensures ok { RestsUnfixed B.screen terminal.old
+        → ((terminal.old.last_known_area.width ≡ columns)
+        × (terminal.old.last_known_area.height ≡ rows) → ⊥)
         → OnOk result
-        (TakesTold B.screen B.failures (Some (columns, rows)) terminal.old terminal.new) }
+        (TakesTold B.Backend (Some (columns, rows)) terminal.old terminal.new) }
 {
     let size = Size {
         width: columns,
@@ -92,13 +93,13 @@ fn resize<B: Resizable>(
     size: Option<(u16, u16)>,
 ) -> Result<(), B::Error>
     ensures only { terminal.new ≡ record terminal.old { backend = terminal.new.backend } }
-    ensures ok { IsAtRest B.screen Fullscreen terminal.old
-        → OnOk result (TakesTold B.screen B.failures size terminal.old terminal.new) }
+    ensures ok { RestsUnfixed B.screen terminal.old
+        → OnOk result (TakesTold B.Backend size terminal.old terminal.new) }
 {
     let Some((columns, rows)) = size else {
         return Ok(());
     };
-    let area = terminal.viewport_area();
+    let area = terminal.last_known_area();
     if area.width == columns && area.height == rows {
         return Ok(());
     }
@@ -119,12 +120,12 @@ pub fn feed<B: Resizable, A: Application>(
     terminal: &mut Terminal<B>,
     application: &mut A,
 ) -> Result<(), Fault<B::Error>>
-    ensures fed { ShowsState B.screen B.is_flushed A.paints application.old terminal.old
-        → OnOk result (FeedsTo B.screen B.failures B.is_flushed A.paints A.updated A.is_over
+    ensures fed { ShowsState B.Backend A.Application application.old terminal.old
+        → OnOk result (FeedsTo B.Backend A.Application
         (record { decoder = decoder.old; state = application.old }) terminal.old bytes.now
         (record { decoder = decoder.new; state = application.new }) terminal.new) }
-    ensures stops { ShowsState B.screen B.is_flushed A.paints application.old terminal.old
-        → IfErr result (StopsFeeding B.screen B.failures B.is_flushed A.paints A.updated A.is_over
+    ensures stops { ShowsState B.Backend A.Application application.old terminal.old
+        → IfErr result (StopsFeeding B.Backend A.Application
         (record { decoder = decoder.old; state = application.old }) terminal.old bytes.now
         (record { decoder = decoder.new; state = application.new }) terminal.new) }
 {
@@ -149,29 +150,29 @@ pub fn feed<B: Resizable, A: Application>(
 ///
 /// # Errors
 ///
-/// `Read` if the reader failed; nothing has changed then. Else those of [`feed`].
-pub fn step<R: Read, B: Resizable, A: Application>(
-    reader: &mut R,
+/// `Read` if the source failed; nothing has changed then. Else those of [`feed`].
+pub fn step<S: Source, B: Resizable, A: Application>(
+    source: &mut S,
     decoder: &mut Decoder,
     terminal: &mut Terminal<B>,
     application: &mut A,
 ) -> Result<bool, Fault<B::Error>>
-    ensures steps { ShowsState B.screen B.is_flushed A.paints application.old terminal.old
-        → IfOk result (StepsTo B.screen B.failures B.is_flushed A.paints A.updated A.is_over
-        (record { decoder = decoder.old; state = application.old }) (R.remaining reader.old)
+    ensures steps { ShowsState B.Backend A.Application application.old terminal.old
+        → IfOk result (StepsTo B.Backend A.Application
+        (record { decoder = decoder.old; state = application.old }) (S.coming source.old)
         terminal.old
-        (record { decoder = decoder.new; state = application.new }) (R.remaining reader.new)
+        (record { decoder = decoder.new; state = application.new }) (S.coming source.new)
         terminal.new) }
-    ensures stops { ShowsState B.screen B.is_flushed A.paints application.old terminal.old
-        → IfErr result (Stops B.screen B.failures B.is_flushed A.paints A.updated A.is_over
-        (record { decoder = decoder.old; state = application.old }) (R.remaining reader.old)
+    ensures stops { ShowsState B.Backend A.Application application.old terminal.old
+        → IfErr result (Stops B.Backend A.Application
+        (record { decoder = decoder.old; state = application.old }) (S.coming source.old)
         terminal.old
-        (record { decoder = decoder.new; state = application.new }) (R.remaining reader.new)
+        (record { decoder = decoder.new; state = application.new }) (S.coming source.new)
         terminal.new) }
-    ensures end { IfOk result (λ came. came ≡ false → IsAtEnd (R.remaining reader.new)) }
+    ensures end { IfOk result (λ came. came ≡ false → IsUsedUp (S.coming source.new)) }
 {
     let mut buf = [0u8; 1024];
-    let count = match reader.read(&mut buf) {
+    let count = match source.read_once(&mut buf) {
         Ok(count) => count,
         Err(error) => return Err(Fault::Read(error)),
     };
@@ -182,33 +183,34 @@ pub fn step<R: Read, B: Resizable, A: Application>(
 }
 
 /// Draws a frame of an application, and then reads, takes the events of what was read and draws
-/// again, until the application is over or, unless nothing read is a tick, nothing more comes.
+/// again, until the application is over or, unless nothing read is a tick, nothing more comes. The
+/// terminal is fullscreen, or stands inline.
 ///
 /// # Errors
 ///
 /// Those of [`step`].
-pub fn run<R: Read, B: Resizable, A: Application>(
-    reader: &mut R,
+pub fn run<S: Source, B: Resizable, A: Application>(
+    source: &mut S,
     has_ticks: bool,
     terminal: &mut Terminal<B>,
     application: &mut A,
 ) -> Result<(), Fault<B::Error>>
-    ensures runs { IsAtRest B.screen Fullscreen terminal.old → OnOk result (
-        (decoder : Decoder) × RunsTo B.screen B.failures B.is_flushed A.paints A.updated A.is_over
+    ensures runs { RestsUnfixed B.screen terminal.old → OnOk result (
+        (decoder : Decoder) × RunsTo B.Backend A.Application
         terminal.old
-        (record { decoder = fresh_decoder; state = application.old }) (R.remaining reader.old)
-        (record { decoder = decoder; state = application.new }) (R.remaining reader.new)
+        (record { decoder = fresh_decoder; state = application.old }) (S.coming source.old)
+        (record { decoder = decoder; state = application.new }) (S.coming source.new)
         terminal.new) }
-    ensures typed { IsAtRest B.screen Fullscreen terminal.old → has_ticks ≡ false
-        → OnOk result (HasEnded A.updated A.is_over
-        (record { decoder = fresh_decoder; state = application.old }) (R.remaining reader.old)
-        application.new (R.remaining reader.new)) }
+    ensures typed { RestsUnfixed B.screen terminal.old → has_ticks ≡ false
+        → OnOk result (HasEnded A.Updates
+        (record { decoder = fresh_decoder; state = application.old }) (S.coming source.old)
+        application.new (S.coming source.new)) }
     ensures ended { OnOk result
-        (IsEnd A.is_over has_ticks application.new (R.remaining reader.new)) }
-    ensures stops { IsAtRest B.screen Fullscreen terminal.old → IfErr result (
-        StopsRun B.screen B.failures B.is_flushed A.paints A.updated A.is_over
-        (record { decoder = fresh_decoder; state = application.old }) (R.remaining reader.old)
-        terminal.old application.new (R.remaining reader.new) terminal.new) }
+        (IsEnd A.is_over has_ticks application.new (S.coming source.new)) }
+    ensures stops { RestsUnfixed B.screen terminal.old → IfErr result (
+        StopsRun B.Backend A.Application
+        (record { decoder = fresh_decoder; state = application.old }) (S.coming source.old)
+        terminal.old application.new (S.coming source.new) terminal.new) }
 {
     let mut decoder = Decoder::new();
     match draw(terminal, application) {
@@ -219,7 +221,7 @@ pub fn run<R: Read, B: Resizable, A: Application>(
         if application.is_over() {
             return Ok(());
         }
-        let came = match step(reader, &mut decoder, terminal, application) {
+        let came = match step(source, &mut decoder, terminal, application) {
             Ok(came) => came,
             Err(fault) => return Err(fault),
         };

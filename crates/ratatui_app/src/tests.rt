@@ -1,30 +1,13 @@
 //! A counter run over bytes that come in pieces.
 
-use crate::{Counter, Fault, run};
-use ratatui_core::backend::TestBackend;
-use ratatui_core::terminal::Terminal;
+use crate::{Counter, Fault, run, run_and_leave, run_inline_and_leave};
+use ratatui_ansi::AnsiBackend;
+use ratatui_core::backend::{Backend, TestBackend};
+use ratatui_core::layout::{Position, Size};
+use ratatui_core::terminal::{Terminal, TerminalOptions, Viewport};
+use ratatui_reads::Pieces;
 use std::alloc::Global;
-use std::io::{self, ErrorKind, Read};
 use std::test::Fail;
-
-// Gives these pieces, one at each read, and then fails.
-#[derive(Drop)]
-struct Pieces<'a> {
-    pieces: &'a [&'a [u8]],
-    at: usize,
-}
-
-impl Read for Pieces<'_> {
-    fn read(&mut self, buf: &mut [u8]) -> io::Result<usize> {
-        let Some(piece) = self.pieces.get(self.at) else {
-            return Err(ErrorKind::BrokenPipe.into());
-        };
-        let count = piece.len().min(buf.len());
-        buf[..count].copy_from_slice(&piece[..count]);
-        self.at = self.at.saturating_add(1);
-        Ok(count)
-    }
-}
 
 // What the screen shows after these pieces, and whether the run ended without a fault.
 fn shows(alloc: Global, pieces: &[&[u8]], has_ticks: bool, line: &str, is_fine: bool) -> bool {
@@ -38,8 +21,8 @@ fn shows(alloc: Global, pieces: &[&[u8]], has_ticks: bool, line: &str, is_fine: 
         count: 0,
         is_over: false,
     };
-    let mut reader = Pieces { pieces, at: 0 };
-    let ended = run(&mut reader, has_ticks, &mut terminal, &mut counter);
+    let mut source = Pieces::new(pieces);
+    let ended = run(&mut source, has_ticks, &mut terminal, &mut counter);
     let fine = match ended {
         Ok(()) => true,
         Err(Fault::Read(_)) => false,
@@ -60,8 +43,33 @@ fn shows_on(alloc: Global, pieces: &[&[u8]], lines: &[&str]) -> bool {
         count: 0,
         is_over: false,
     };
-    let mut reader = Pieces { pieces, at: 0 };
-    match run(&mut reader, false, &mut terminal, &mut counter) {
+    let mut source = Pieces::new(pieces);
+    match run(&mut source, false, &mut terminal, &mut counter) {
+        Err(Fault::Read(_)) => terminal.backend().lines_are(lines),
+        _ => false,
+    }
+}
+
+// The same over an inline viewport of two rows, from this row on.
+fn shows_inline(alloc: Global, row: u16, pieces: &[&[u8]], lines: &[&str]) -> bool {
+    let Ok(mut backend) = TestBackend::new(alloc, 4, 4) else {
+        return false;
+    };
+    let Ok(()) = backend.set_cursor_position(Position { x: 0, y: row }) else {
+        return false;
+    };
+    let options = TerminalOptions {
+        viewport: Viewport::Inline(2),
+    };
+    let Ok(mut terminal) = Terminal::with_options(alloc, backend, options) else {
+        return false;
+    };
+    let mut counter = Counter {
+        count: 7,
+        is_over: false,
+    };
+    let mut source = Pieces::new(pieces);
+    match run(&mut source, true, &mut terminal, &mut counter) {
         Err(Fault::Read(_)) => terminal.backend().lines_are(lines),
         _ => false,
     }
@@ -91,5 +99,68 @@ fn counts_in_pieces(rt: HostRuntime) -> Result<(), Fail> {
     assert!(rt; shows_on(alloc, &[b"++\x1b[8;0;0t\x1b[2;3R"], &["2  ", "   "]));
     // A size of more than a million cells is none.
     assert!(rt; shows_on(alloc, &[b"++\x1b[8;1001;1000t"], &["2   ", "    "]));
+    Ok(())
+}
+
+#[test]
+fn counts_inline(rt: HostRuntime) -> Result<(), Fail> {
+    let alloc = rt.alloc();
+    assert!(rt;
+        shows_inline(
+            alloc,
+            0,
+            &[b"+", b"", b"+"],
+            &["9   ", "    ", "    ", "    "]
+        )
+    );
+    assert!(rt; shows_inline(alloc, 1, &[b"+"], &["    ", "8   ", "    ", "    "]));
+    // The viewport doesn't fit below the last row, and the screen scrolls.
+    assert!(rt; shows_inline(alloc, 3, &[b"++"], &["    ", "    ", "9   ", "    "]));
+    // A size of three columns and rows.
+    assert!(rt;
+        shows_inline(
+            alloc,
+            1,
+            &[b"++", b"\x1b[8;3;3t", b"+"],
+            &["10 ", "   ", "   "]
+        )
+    );
+    Ok(())
+}
+
+/// What the terminal is sent at the end, below its last row.
+const FAREWELL: &[u8] = b"\x1b[0m\x1b[r\x1b[?25h\x1b[65535;1H\r\n";
+
+// Whether a run from beginning to end, over so many rows or the whole screen, counts to 2 and gives
+// the terminal back.
+fn leaves(alloc: Global, rows: Option<u16>) -> bool {
+    let size = Size {
+        width: 4,
+        height: 3,
+    };
+    let Ok(backend) = AnsiBackend::new(alloc, Vec::new(alloc), size) else {
+        return false;
+    };
+    let mut counter = Counter {
+        count: 0,
+        is_over: false,
+    };
+    let pieces: [&[u8]; 4] = [b"+", b"", b"+", b"q"];
+    let mut source = Pieces::new(&pieces);
+    let left = match rows {
+        None => run_and_leave(alloc, &mut source, true, backend, &mut counter),
+        Some(rows) => run_inline_and_leave(alloc, rows, &mut source, true, backend, &mut counter),
+    };
+    match left {
+        Ok(sent) => counter.count == 2 && sent.as_slice().ends_with(FAREWELL),
+        Err(_) => false,
+    }
+}
+
+#[test]
+fn leaves_the_terminal(rt: HostRuntime) -> Result<(), Fail> {
+    let alloc = rt.alloc();
+    assert!(rt; leaves(alloc, None));
+    assert!(rt; leaves(alloc, Some(2)));
     Ok(())
 }

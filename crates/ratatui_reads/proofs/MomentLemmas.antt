@@ -1,24 +1,13 @@
 -- A run grows by a read.
 use Rattle.std.proofs.Common.{◌≡◌, ℕ, Bool, true, false, inl, inr, List, [], ◌∷◌, ◌++◌, refl, ap, sym, ◌∙◌, subst, append-nil}
-use Rattle.std.proofs.Common.{append_assoc, Option, Some, None, IfSome}
-use Rattle.std.specs.Io.KnownBytes.{Consumes, IsAtEnd}
-use Rattle.ratatui_events.specs.declared.event.Event.{Event}
+use Rattle.std.proofs.Common.{append_assoc, None}
 use Rattle.ratatui_input.specs.declared.decoder.Decoder.{Decoder}
 use Rattle.ratatui_reads.proofs.ReadLemmas
 use Rattle.ratatui_reads.proofs.ReadLemmas.{read-some, bytes-none}
-use Rattle.ratatui_reads.specs.Reads.{Between, after_read, after_bytes, all_bytes, size_told}
-use Rattle.ratatui_reads.specs.Moments.{Moment, AreMoments, Ran, Steps, HasTyped, HasEnded, last_between, last_terminal, reads_of}
-
-consumes-none : (all : Option (List ℕ)) → Consumes all all []
-consumes-none None = tt
-consumes-none (Some xs) = refl
-
-consumes-more : (all rest new : Option (List ℕ)) (a b : List ℕ) → Consumes all rest a → Consumes rest new b
-    → Consumes all new (a ++ b)
-consumes-more None rest new a b h k = tt
-consumes-more (Some xs) None new a b h k = absurd h
-consumes-more (Some xs) (Some ys) None a b h k = absurd k
-consumes-more (Some xs) (Some ys) (Some zs) a b h k = h ∙ ap (λ (l : List ℕ). a ++ l) k ∙ sym (append_assoc a b zs)
+use Rattle.ratatui_reads.proofs.SourceLemmas.{gives-more}
+use Rattle.ratatui_reads.specs.Reads.{Between, Rules, after_read, after_reads, after_bytes, all_bytes, size_told, AreNonEmpty, IsNonEmpty}
+use Rattle.ratatui_reads.specs.Sources.{Coming, GivesRead, GivesReads, read_room}
+use Rattle.ratatui_reads.specs.Moments.{Moment, Stage, AreMoments, Ran, Steps, HasTyped, HasEnded, last_between, last_terminal, reads_of}
 
 bytes-append : (a b : List (List ℕ)) → all_bytes (a ++ b) ≡ all_bytes a ++ all_bytes b
 bytes-append [] b = refl
@@ -37,122 +26,138 @@ module _ {S T : Type 0} where
   reads-append [] ns = refl
   reads-append (m ∷ ms) ns = ap (λ (l : List (List ℕ)). m.bytes ∷ l) (reads-append ms ns)
 
-module _ {S T : Type 0} (u : S → Event → S) (o : S → Bool) (shows : S → T → Type 0) (moves : T → T → Type 0)
-    (takes_size : ℕ × ℕ → T → T → Type 0) where
-  are-append : (b : Between S) (t : T) (ms : List (Moment S T)) (m : Moment S T) → AreMoments u o shows moves takes_size b t ms
-      → m.between ≡ after_read u o (last_between b ms) m.bytes → moves (last_terminal t ms) m.terminal
-      → IfSome (size_told (last_between b ms).decoder m.bytes) (λ size. takes_size size (last_terminal t ms) m.terminal)
-      → shows m.between.state m.terminal
-      → AreMoments u o shows moves takes_size b t (ms ++ (m ∷ []))
+module _ {S T : Type 0} (u : Rules S) (stage : Stage S T) where
+  are-append : (b : Between S) (t : T) (ms : List (Moment S T)) (m : Moment S T) → AreMoments u stage b t ms
+      → m.between ≡ after_read u (last_between b ms) m.bytes → stage.moves (last_terminal t ms) m.terminal
+      → stage.takes_size (size_told (last_between b ms).decoder m.bytes) (last_terminal t ms) m.terminal
+      → stage.shows m.between.state m.terminal
+      → AreMoments u stage b t (ms ++ (m ∷ []))
   are-append b t [] m are e mv sz sh = (e, mv, sz, sh, tt)
   are-append b t (n ∷ ms) m are e mv sz sh = (are.0, are.1, are.2, are.3, are-append n.between n.terminal ms m are.4 e mv sz sh)
 
   -- the first frame was drawn
-  pub ran-start : (t0 : T) (first : Between S) (all : Option (List ℕ)) (t : T) → moves t0 t → shows first.state t
-      → Ran u o shows moves takes_size t0 first all first all t
-  ran-start t0 first all t mv sh = record {
+  pub ran-start : (t0 : T) (first : Between S) (all : Coming) (t : T) → stage.moves t0 t → stage.takes_size None t0 t
+      → stage.shows first.state t → Ran u stage t0 first all first all t
+  ran-start t0 first all t mv sz sh = record {
     begun = t;
     began = mv;
+    sized = sz;
     begins = sh;
     moments = [];
     are = tt;
     now_is = refl;
     terminal_is = refl;
-    consumed = consumes-none all;
+    given = refl;
   }
 
   -- one more read
-  pub ran-step : (t0 : T) (first : Between S) (all : Option (List ℕ)) (now : Between S) (rest : Option (List ℕ)) (t : T)
-      (next : Between S) (left : Option (List ℕ)) (t' : T) (came : Bool)
-      → Ran u o shows moves takes_size t0 first all now rest t → Steps u o shows moves takes_size now rest t next left t' came
-      → Ran u o shows moves takes_size t0 first all next left t'
+  pub ran-step : (t0 : T) (first : Between S) (all : Coming) (now : Between S) (rest : Coming) (t : T)
+      (next : Between S) (left : Coming) (t' : T) (came : Bool)
+      → Ran u stage t0 first all now rest t → Steps u stage now rest t next left t' came
+      → Ran u stage t0 first all next left t'
   ran-step t0 first all now rest t next left t' came ran step =
       let m : Moment S T = record { bytes = step.bytes; between = next; terminal = t' } in
       record {
         begun = ran.begun;
         began = ran.began;
+        sized = ran.sized;
         begins = ran.begins;
         moments = ran.moments ++ (m ∷ []);
         are = are-append first ran.begun ran.moments m ran.are (step.fed.taken
-            ∙ ap (λ (b : Between S). after_read u o b step.bytes) ran.now_is)
-            (subst (λ (x : T). moves x t') ran.terminal_is step.fed.moved)
-            (subst (λ (x : T). IfSome (size_told (last_between first ran.moments).decoder step.bytes)
-            (λ size. takes_size size x t')) ran.terminal_is
-            (subst (λ (b : Between S). IfSome (size_told b.decoder step.bytes) (λ size. takes_size size t t')) ran.now_is
+            ∙ ap (λ (b : Between S). after_read u b step.bytes) ran.now_is)
+            (subst (λ (x : T). stage.moves x t') ran.terminal_is step.fed.moved)
+            (subst (λ (x : T). stage.takes_size (size_told (last_between first ran.moments).decoder step.bytes) x t')
+            ran.terminal_is
+            (subst (λ (b : Between S). stage.takes_size (size_told b.decoder step.bytes) t t') ran.now_is
             step.fed.sized)) step.fed.shown;
         now_is = sym (last_between-append first ran.moments m);
         terminal_is = sym (last_terminal-append ran.begun ran.moments m);
-        consumed = subst (λ (l : List ℕ). Consumes all left l)
-            (sym (ap all_bytes (reads-append ran.moments (m ∷ [])) ∙ bytes-append (reads_of ran.moments) (step.bytes ∷ [])
-            ∙ ap (λ (l : List ℕ). all_bytes (reads_of ran.moments) ++ l) (append-nil step.bytes)))
-            (consumes-more all rest left (all_bytes (reads_of ran.moments)) step.bytes ran.consumed step.consumed);
+        given = subst (λ (l : List (List ℕ)). GivesReads all left l) (sym (reads-append ran.moments (m ∷ [])))
+            (gives-more all rest left (reads_of ran.moments) step.bytes ran.given step.given);
       }
 
   -- at a moment the terminal shows the state
-  shows-last : (b : Between S) (t : T) (ms : List (Moment S T)) → AreMoments u o shows moves takes_size b t ms → shows b.state t
-      → shows (last_between b ms).state (last_terminal t ms)
+  shows-last : (b : Between S) (t : T) (ms : List (Moment S T)) → AreMoments u stage b t ms → stage.shows b.state t
+      → stage.shows (last_between b ms).state (last_terminal t ms)
   shows-last b t [] are sh = sh
   shows-last b t (m ∷ ms) are sh = shows-last m.between m.terminal ms are.4 are.3
 
-  pub ran-shows : (t0 : T) (first : Between S) (all : Option (List ℕ)) (now : Between S) (rest : Option (List ℕ)) (t : T)
-      → Ran u o shows moves takes_size t0 first all now rest t → shows now.state t
+  pub ran-shows : (t0 : T) (first : Between S) (all : Coming) (now : Between S) (rest : Coming) (t : T)
+      → Ran u stage t0 first all now rest t → stage.shows now.state t
   ran-shows t0 first all now rest t ran =
-      subst (λ (b : Between S). shows b.state t) (sym ran.now_is)
-      (subst (λ (x : T). shows (last_between first ran.moments).state x) (sym ran.terminal_is)
+      subst (λ (b : Between S). stage.shows b.state t) (sym ran.now_is)
+      (subst (λ (x : T). stage.shows (last_between first ran.moments).state x) (sym ran.terminal_is)
       (shows-last first ran.begun ran.moments ran.are ran.begins))
 
-  kept-last : (f : T → ℕ) → ((s t : T) → moves s t → f t ≡ f s) → (b : Between S) (t : T) (ms : List (Moment S T))
-      → AreMoments u o shows moves takes_size b t ms → f (last_terminal t ms) ≡ f t
+  kept-last : (f : T → ℕ) → ((s t : T) → stage.moves s t → f t ≡ f s) → (b : Between S) (t : T) (ms : List (Moment S T))
+      → AreMoments u stage b t ms → f (last_terminal t ms) ≡ f t
   kept-last f keep b t [] are = refl
   kept-last f keep b t (m ∷ ms) are = kept-last f keep m.between m.terminal ms are.4 ∙ keep t m.terminal are.1
 
   -- what each move keeps, the run keeps
-  pub ran-kept : (f : T → ℕ) → ((s t : T) → moves s t → f t ≡ f s) → (t0 : T) (first : Between S) (all : Option (List ℕ))
-      (now : Between S) (rest : Option (List ℕ)) (t : T)
-      → Ran u o shows moves takes_size t0 first all now rest t → f t ≡ f t0
+  pub ran-kept : (f : T → ℕ) → ((s t : T) → stage.moves s t → f t ≡ f s) → (t0 : T) (first : Between S) (all : Coming)
+      (now : Between S) (rest : Coming) (t : T)
+      → Ran u stage t0 first all now rest t → f t ≡ f t0
   ran-kept f keep t0 first all now rest t ran = ap f ran.terminal_is ∙ kept-last f keep first ran.begun ran.moments ran.are
       ∙ keep t0 ran.begun ran.began
 
-module _ {S : Type 0} (u : S → Event → S) (o : S → Bool) where
-  pub typed-start : (first : Between S) (all : Option (List ℕ)) → HasTyped u o first all first all
-  typed-start first all = record { bytes = []; consumed = consumes-none all; now_is = bytes-none u o first }
+  reads-make : (b : Between S) (t : T) (ms : List (Moment S T)) → AreMoments u stage b t ms
+      → last_between b ms ≡ after_reads u b (reads_of ms)
+  reads-make b t [] are = refl
+  reads-make b t (m ∷ ms) are = reads-make m.between m.terminal ms are.4
+      ∙ ap (λ (x : Between S). after_reads u x (reads_of ms)) are.0
 
-  pub typed-step : {T : Type 0} (shows : S → T → Type 0) (moves : T → T → Type 0) (takes_size : ℕ × ℕ → T → T → Type 0)
-      (first : Between S) (all : Option (List ℕ)) (now : Between S) (rest : Option (List ℕ)) (t : T)
-      (next : Between S) (left : Option (List ℕ)) (t' : T) (came : Bool) → HasTyped u o first all now rest
-      → Steps u o shows moves takes_size now rest t next left t' came → came ≡ true → HasTyped u o first all next left
-  typed-step shows moves takes_size first all now rest t next left t' came typed step came_is = record {
-    bytes = typed.bytes ++ step.bytes;
-    consumed = consumes-more all rest left typed.bytes step.bytes typed.consumed step.consumed;
-    now_is = step.fed.taken ∙ ap (λ (b : Between S). after_read u o b step.bytes) typed.now_is
-        ∙ read-some u o (after_bytes u o first typed.bytes) step.bytes (step.some came_is)
-        ∙ sym (ReadLemmas.bytes-append u o first typed.bytes step.bytes);
+  -- a run makes what its reads make
+  pub ran-reads : (t0 : T) (first : Between S) (all : Coming) (now : Between S) (rest : Coming) (t : T)
+      (ran : Ran u stage t0 first all now rest t) → now ≡ after_reads u first (reads_of ran.moments)
+  ran-reads t0 first all now rest t ran = ran.now_is ∙ reads-make first ran.begun ran.moments ran.are
+
+some-more : (rs : List (List ℕ)) (r : List ℕ) → AreNonEmpty rs → IsNonEmpty r → AreNonEmpty (rs ++ (r ∷ []))
+some-more [] r all some = (some, tt)
+some-more (x ∷ rs) r all some = (all.0, some-more rs r all.1 some)
+
+module _ {S : Type 0} (u : Rules S) where
+  pub typed-start : (first : Between S) (all : Coming) → HasTyped u first all first all
+  typed-start first all = record { reads = []; given = refl; some = tt; now_is = bytes-none u first }
+
+  pub typed-step : {T : Type 0} (stage : Stage S T)
+      (first : Between S) (all : Coming) (now : Between S) (rest : Coming) (t : T)
+      (next : Between S) (left : Coming) (t' : T) (came : Bool) → HasTyped u first all now rest
+      → Steps u stage now rest t next left t' came → came ≡ true → HasTyped u first all next left
+  typed-step stage first all now rest t next left t' came typed step came_is = record {
+    reads = typed.reads ++ (step.bytes ∷ []);
+    given = gives-more all rest left typed.reads step.bytes typed.given step.given;
+    some = some-more typed.reads step.bytes typed.some (step.some came_is);
+    now_is = step.fed.taken ∙ ap (λ (b : Between S). after_read u b step.bytes) typed.now_is
+        ∙ read-some u (after_bytes u first (all_bytes typed.reads)) step.bytes (step.some came_is)
+        ∙ sym (ReadLemmas.bytes-append u first (all_bytes typed.reads) step.bytes)
+        ∙ ap (after_bytes u first) (ap (λ (l : List ℕ). all_bytes typed.reads ++ l) (sym (append-nil step.bytes))
+        ∙ sym (bytes-append typed.reads (step.bytes ∷ [])));
   }
 
   -- the application is over
-  pub ended-over : (first : Between S) (all : Option (List ℕ)) (d : Decoder) (s : S) (rest : Option (List ℕ))
-      → HasTyped u o first all (record { decoder = d; state = s }) rest → HasEnded u o first all s rest
+  pub ended-over : (first : Between S) (all : Coming) (d : Decoder) (s : S) (rest : Coming)
+      → HasTyped u first all (record { decoder = d; state = s }) rest → HasEnded u first all s rest
   ended-over first all d s rest typed = record {
-    bytes = typed.bytes;
-    consumed = typed.consumed;
-    state_is = inl (ap (λ (b : Between S). b.state) typed.now_is);
+    typed = record { decoder = d; state = s };
+    left = rest;
+    has_typed = typed;
+    ends = inl (refl, refl);
   }
 
   -- nothing more came
-  pub ended-empty : {T : Type 0} (shows : S → T → Type 0) (moves : T → T → Type 0) (takes_size : ℕ × ℕ → T → T → Type 0)
-      (first : Between S) (all : Option (List ℕ)) (now : Between S) (rest : Option (List ℕ)) (t : T)
-      (d : Decoder) (s : S) (left : Option (List ℕ)) (t' : T) (came : Bool) → HasTyped u o first all now rest
-      → Steps u o shows moves takes_size now rest t (record { decoder = d; state = s }) left t' came → came ≡ false
-      → IsAtEnd left
-      → HasEnded u o first all s left
-  ended-empty shows moves takes_size first all now rest t d s left t' came typed step no' end = record {
-    bytes = typed.bytes;
-    consumed = subst (λ (l : List ℕ). Consumes all left l) (ap (λ (l : List ℕ). typed.bytes ++ l) (step.none no')
-        ∙ append-nil typed.bytes) (consumes-more all rest left typed.bytes step.bytes typed.consumed step.consumed);
-    state_is = inr (
-      end,
-      ap (λ (b : Between S). b.state)
-          (step.fed.taken ∙ ap (λ (b : Between S). after_read u o b step.bytes) typed.now_is)
-          ∙ ap (λ (l : List ℕ). (after_read u o (after_bytes u o first typed.bytes) l).state) (step.none no'),
+  pub ended-empty : {T : Type 0} (stage : Stage S T)
+      (first : Between S) (all : Coming) (now : Between S) (rest : Coming) (t : T)
+      (d : Decoder) (s : S) (left : Coming) (t' : T) (came : Bool) → HasTyped u first all now rest
+      → Steps u stage now rest t (record { decoder = d; state = s }) left t' came → came ≡ false
+      → HasEnded u first all s left
+  ended-empty stage first all now rest t d s left t' came typed step no' = record {
+    typed = now;
+    left = rest;
+    has_typed = typed;
+    ends = inr (
+      subst (λ (l : List ℕ). GivesRead read_room rest left l) (step.none no') step.given,
+      ap (λ (b : Between S). b.state) step.fed.taken
+          ∙ ap (λ (l : List ℕ). (after_read u now l).state) (step.none no'),
     );
   }

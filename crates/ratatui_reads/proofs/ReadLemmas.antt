@@ -8,7 +8,7 @@ use Rattle.ratatui_events.specs.declared.event.Event.{Event}
 use Rattle.ratatui_input.specs.declared.decoder.Decoder.{Decoder}
 use Rattle.ratatui_input.specs.Decoding.{Told, some_list, byte_told, decoded, next_told}
 use Rattle.ratatui_input.proofs.DecodingLemmas.{decoded-append}
-use Rattle.ratatui_reads.specs.Reads.{Between, told_by, all_updated, after_read, after_reads, after_bytes, all_bytes, IsNonEmpty}
+use Rattle.ratatui_reads.specs.Reads.{Between, Rules, told_by, all_updated, after_read, after_reads, after_bytes, all_bytes, IsNonEmpty}
 use Rattle.ratatui_reads.specs.Reads.{AreNonEmpty, size_in, later, last_size, RefusesAmong}
 
 -- both lists are empty
@@ -38,42 +38,52 @@ pub front-nil : (a b : List Event) → a ++ b ≡ [] → a ≡ []
 front-nil [] b none = refl
 front-nil (e ∷ a) b none = absurd (search (rules, none))
 
-module _ {S : Type 0} (u : S → Event → S) (o : S → Bool) where
-  pub all_updated-append : (s : S) (a b : List Event) → all_updated u o s (a ++ b) ≡ all_updated u o (all_updated u o s a) b
-  all_updated-append s [] b = refl
-  all_updated-append s (e ∷ a) b = all_updated-append (if o s then s else u s e) a b
+joined : (a b : List ℕ) → IsNonEmpty a → IsNonEmpty (a ++ b)
+joined [] b h = absurd h
+joined (x ∷ a) b h = tt
 
-  pub bytes-append : (x : Between S) (a b : List ℕ) → after_bytes u o x (a ++ b) ≡ after_bytes u o (after_bytes u o x a) b
+next-byte : (told : List Event) (d : Decoder) (b : ℕ) (rest : List ℕ)
+    → next_told (told, d) (b ∷ rest) ≡ next_told (told ++ (byte_told d b).0, (byte_told d b).1) rest
+unfolding decoded
+next-byte told d b rest = ap (λ (es : List Event). (es, (decoded (byte_told d b).1 rest).1))
+    (sym (append_assoc told (byte_told d b).0 (decoded (byte_told d b).1 rest).0))
+
+none-left : (told : List Event) (d : Decoder) → next_told (told, d) [] ≡ (told, d)
+unfolding decoded
+none-left told d = ap (λ (es : List Event). (es, d)) (append-nil told)
+
+module _ {S : Type 0} (u : Rules S) where
+  pub all_updated-append : (s : S) (a b : List Event) → all_updated u s (a ++ b) ≡ all_updated u (all_updated u s a) b
+  all_updated-append s [] b = refl
+  all_updated-append s (e ∷ a) b = all_updated-append (if u.is_over s then s else u.updated s e) a b
+
+  pub bytes-append : (x : Between S) (a b : List ℕ) → after_bytes u x (a ++ b) ≡ after_bytes u (after_bytes u x a) b
   bytes-append x a b =
-      ap (λ (t : Told). record { decoder = t.1; state = all_updated u o x.state t.0 }) (decoded-append x.decoder a b)
+      ap (λ (t : Told). record { decoder = t.1; state = all_updated u x.state t.0 }) (decoded-append x.decoder a b)
       ∙ ap (λ (s : S). record { decoder = (decoded (decoded x.decoder a).1 b).1; state = s })
       (all_updated-append x.state (decoded x.decoder a).0 (decoded (decoded x.decoder a).1 b).0)
 
   -- a read of some bytes
-  pub read-some : (x : Between S) (r : List ℕ) → IsNonEmpty r → after_read u o x r ≡ after_bytes u o x r
-  read-some x r some = ap (λ (t : Told). record { decoder = t.1; state = all_updated u o x.state t.0 })
+  pub read-some : (x : Between S) (r : List ℕ) → IsNonEmpty r → after_read u x r ≡ after_bytes u x r
+  read-some x r some = ap (λ (t : Told). record { decoder = t.1; state = all_updated u x.state t.0 })
       (told-some x.decoder r some)
 
-  pub bytes-none : (x : Between S) → x ≡ after_bytes u o x []
+  pub bytes-none : (x : Between S) → x ≡ after_bytes u x []
   unfolding decoded
   bytes-none x = refl
 
   pub reads-whole : (x : Between S) (rs : List (List ℕ)) → AreNonEmpty rs
-      → after_reads u o x rs ≡ after_bytes u o x (all_bytes rs)
+      → after_reads u x rs ≡ after_bytes u x (all_bytes rs)
   reads-whole x [] all = bytes-none x
   reads-whole x (r ∷ rs) all =
-      ap (λ (y : Between S). after_reads u o y rs) (read-some x r all.0) ∙ reads-whole (after_bytes u o x r) rs all.1
+      ap (λ (y : Between S). after_reads u y rs) (read-some x r all.0) ∙ reads-whole (after_bytes u x r) rs all.1
       ∙ sym (bytes-append x r (all_bytes rs))
 
-  joined : (a b : List ℕ) → IsNonEmpty a → IsNonEmpty (a ++ b)
-  joined [] b h = absurd h
-  joined (x ∷ a) b h = tt
-
   pub two-reads : (x : Between S) (a b : List ℕ) (rs : List (List ℕ)) → IsNonEmpty a → IsNonEmpty b
-      → after_reads u o x (a ∷ b ∷ rs) ≡ after_reads u o x ((a ++ b) ∷ rs)
+      → after_reads u x (a ∷ b ∷ rs) ≡ after_reads u x ((a ++ b) ∷ rs)
   two-reads x a b rs na nb =
-      ap (λ (y : Between S). after_reads u o y rs)
-      (ap (λ (y : Between S). after_read u o y b) (read-some x a na) ∙ read-some (after_bytes u o x a) b nb
+      ap (λ (y : Between S). after_reads u y rs)
+      (ap (λ (y : Between S). after_read u y b) (read-some x a na) ∙ read-some (after_bytes u x a) b nb
       ∙ sym (bytes-append x a b) ∙ sym (read-some x (a ++ b) (joined a b na)))
 
   -- what is left of bytes, as a loop goes over them: what all give is what has been told, and then what the rest gives
@@ -81,24 +91,18 @@ module _ {S : Type 0} (u : S → Event → S) (o : S → Bool) where
       (rest : List ℕ) : Type 0 where
     pub told : List Event
     pub whole : decoded d bytes ≡ next_told (told, d') rest
-    pub state : s' ≡ all_updated u o s told
+    pub state : s' ≡ all_updated u s told
     pub quiet : any ≡ false → told ≡ []
     pub sized : size ≡ last_size None told
 
   pub left-all : (d : Decoder) (s : S) (bytes : List ℕ) → Left d s bytes d s false None bytes
   left-all d s bytes = record { told = []; whole = refl; state = refl; quiet = λ e. refl; sized = refl }
 
-  next-byte : (told : List Event) (d : Decoder) (b : ℕ) (rest : List ℕ)
-      → next_told (told, d) (b ∷ rest) ≡ next_told (told ++ (byte_told d b).0, (byte_told d b).1) rest
-  unfolding decoded
-  next-byte told d b rest = ap (λ (es : List Event). (es, (decoded (byte_told d b).1 rest).1))
-      (sym (append_assoc told (byte_told d b).0 (decoded (byte_told d b).1 rest).0))
-
   -- one more byte is fed
   pub left-fed : (d : Decoder) (s : S) (bytes : List ℕ) (d' : Decoder) (s' : S) (any : Bool) (i : ℕ) (cut event : Option Event)
       (d'' : Decoder) (s1 s2 : S) (first any' : Bool) (z z1 z2 : Option (ℕ × ℕ))
       → i < length bytes → (some_list cut ++ some_list event, d'') ≡ byte_told d' (get_or bytes i 0)
-      → s1 ≡ all_updated u o s' (some_list cut) → s2 ≡ all_updated u o s1 (some_list event)
+      → s1 ≡ all_updated u s' (some_list cut) → s2 ≡ all_updated u s1 (some_list event)
       → (first ≡ false → (any ≡ false) × (some_list cut ≡ [])) → (any' ≡ false → (first ≡ false) × (some_list event ≡ []))
       → z1 ≡ last_size z (some_list cut) → z2 ≡ last_size z1 (some_list event)
       → Left d s bytes d' s' any z (drop i bytes) → Left d s bytes d'' s2 any' z2 (drop (i + 1) bytes)
@@ -110,9 +114,9 @@ module _ {S : Type 0} (u : S → Event → S) (o : S → Bool) where
         told = h.told ++ es;
         whole = h.whole ∙ ap (next_told (h.told, d')) one ∙ next-byte h.told d' b (drop (i + 1) bytes)
             ∙ ap (λ (t : Told). next_told (h.told ++ t.0, t.1) (drop (i + 1) bytes)) (sym f);
-        state = e2 ∙ ap (λ (x : S). all_updated u o x (some_list event))
-            (e1 ∙ ap (λ (x : S). all_updated u o x (some_list cut)) h.state)
-            ∙ sym (all_updated-append (all_updated u o s h.told) (some_list cut) (some_list event))
+        state = e2 ∙ ap (λ (x : S). all_updated u x (some_list event))
+            (e1 ∙ ap (λ (x : S). all_updated u x (some_list cut)) h.state)
+            ∙ sym (all_updated-append (all_updated u s h.told) (some_list cut) (some_list event))
             ∙ sym (all_updated-append s h.told es);
         quiet = λ n. both-nil h.told es (h.quiet (qa (qb n).0).0) (both-nil (some_list cut) (some_list event)
             (qa (qb n).0).1 (qb n).1);
@@ -121,20 +125,16 @@ module _ {S : Type 0} (u : S → Event → S) (o : S → Bool) where
             ∙ sym (size-append (last_size None h.told) (some_list cut) (some_list event)) ∙ sym (size-append None h.told es);
       }
 
-  none-left : (told : List Event) (d : Decoder) → next_told (told, d) [] ≡ (told, d)
-  unfolding decoded
-  none-left told d = ap (λ (es : List Event). (es, d)) (append-nil told)
-
   -- at the end nothing is left
   pub left-end : (d : Decoder) (s : S) (bytes : List ℕ) (d' : Decoder) (s' : S) (any : Bool) (z : Option (ℕ × ℕ)) (i : ℕ)
       → length bytes ≤ i → Left d s bytes d' s' any z (drop i bytes)
-      → (d' ≡ (decoded d bytes).1) × (s' ≡ all_updated u o s (decoded d bytes).0) × (any ≡ false → (decoded d bytes).0 ≡ [])
+      → (d' ≡ (decoded d bytes).1) × (s' ≡ all_updated u s (decoded d bytes).0) × (any ≡ false → (decoded d bytes).0 ≡ [])
       × (z ≡ last_size None (decoded d bytes).0)
   left-end d s bytes d' s' any z i past h =
       let whole : decoded d bytes ≡ (h.told, d') = h.whole ∙ ap (next_told (h.told, d')) (drop_all i bytes past)
       ∙ none-left h.told d' in (
         ap (λ (t : Told). t.1) (sym whole),
-        h.state ∙ ap (λ (t : Told). all_updated u o s t.0) (sym whole),
+        h.state ∙ ap (λ (t : Told). all_updated u s t.0) (sym whole),
         λ n. ap (λ (t : Told). t.0) whole ∙ h.quiet n,
         h.sized ∙ ap (λ (t : Told). last_size None t.0) (sym whole),
       )
@@ -143,8 +143,8 @@ module _ {S : Type 0} (u : S → Event → S) (o : S → Bool) where
   pub left-refused : (d : Decoder) (s : S) (bytes : List ℕ) (d' : Decoder) (s' : S) (any : Bool) (z : Option (ℕ × ℕ)) (i : ℕ)
       (taken left : List Event) (after : S)
       → i < length bytes → (byte_told d' (get_or bytes i 0)).0 ≡ taken ++ left → (left ≡ [] → ⊥)
-      → after ≡ all_updated u o s' taken
-      → Left d s bytes d' s' any z (drop i bytes) → RefusesAmong u o (decoded d bytes).0 s after
+      → after ≡ all_updated u s' taken
+      → Left d s bytes d' s' any z (drop i bytes) → RefusesAmong u (decoded d bytes).0 s after
   left-refused d s bytes d' s' any z i taken left after lt told some e h =
       let b = get_or bytes i 0 in
       let rest = drop (i + 1) bytes in
@@ -159,5 +159,5 @@ module _ {S : Type 0} (u : S → Event → S) (o : S → Bool) where
         told_is = ap (λ (t : Told). t.0) whole ∙ ap (λ (es : List Event). (h.told ++ es) ++ more) told
             ∙ ap (λ (es : List Event). es ++ more) (sym (append_assoc h.told taken left))
             ∙ append_assoc (h.told ++ taken) left more;
-        after_is = e ∙ ap (λ (x : S). all_updated u o x taken) h.state ∙ sym (all_updated-append s h.told taken);
+        after_is = e ∙ ap (λ (x : S). all_updated u x taken) h.state ∙ sym (all_updated-append s h.told taken);
       }

@@ -1,10 +1,11 @@
 -- What reads make of a decoder and of the state of an application.
-use Rattle.std.specs.Prelude.{ℕ, Bool, if◌then◌else◌, List, [], ◌∷◌, ◌++◌}
+use Rattle.std.specs.Prelude.{ℕ, if◌then◌else◌, List, [], ◌∷◌, ◌++◌}
 use Rattle.ratatui_events.specs.declared.event.Event.{Event}
 use Rattle.ratatui_input.specs.declared.decoder.Decoder.{Decoder}
 use Rattle.std.specs.Prelude.{◌≡◌, ◌+◌, ◌*◌, min, nat_lt, nat_le, ◌&&◌, Option, Some, None}
 use Rattle.ratatui_events.specs.declared.event.Event.TheVariants.{Size, Position}
 use Rattle.ratatui_input.specs.Decoding.{Told, decoded, settled}
+use Rattle.ratatui_reads.specs.declared.updates.Updates.{Ghosts}
 
 -- what a read tells: the events of its bytes; where nothing came, what had come is taken as whole, as ESC is
 abbrev pub told_by : Decoder → List ℕ → Told
@@ -16,10 +17,14 @@ pub record Between (S : Type 0) : Type 0 where
   pub decoder : Decoder
   pub state : S
 
-module _ {S : Type 0} (updated : S → Event → S) (is_over : S → Bool) where
+-- what events make of a state, and which states take no more of them
+abbrev pub Rules : Type 0 → Type 1
+Rules = Ghosts
+
+module _ {S : Type 0} (rules : Rules S) where
   -- an event is taken, unless the state is over
   abbrev pub next_state : S → Event → S
-  next_state s e = if is_over s then s else updated s e
+  next_state s e = if rules.is_over s then s else rules.updated s e
 
   -- the state after events, one after the other
   abbrev pub all_updated : S → List Event → S

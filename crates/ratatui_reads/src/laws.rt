@@ -4,6 +4,7 @@ ghost use Rattle.std.specs.Prelude.{◌≡◌, ℕ, ◌++◌, ◌∷◌, Bool, L
 ghost use Rattle.ratatui_events.specs.declared.event.Event.{Event};
 ghost use Rattle.ratatui_reads.specs.Reads.{Between, after_read, after_reads, after_bytes, all_bytes};
 ghost use Rattle.ratatui_reads.specs.Reads.{IsNonEmpty, AreNonEmpty};
+ghost use Rattle.ratatui_reads.specs.Sources.{Coming, KnownBytes, KnownReads, GivesReads, AreWithinRoom};
 
 use crate::updates::Updates;
 
@@ -12,9 +13,20 @@ use crate::updates::Updates;
 pub fn pieces_make_the_same<A: Updates>()
     ensures whole { (b : Between A)
         (reads : List (List ℕ)) → AreNonEmpty reads
-        → after_reads A.updated A.is_over b reads ≡ after_bytes A.updated A.is_over b (all_bytes reads) }
+        → after_reads A.Updates b reads ≡ after_bytes A.Updates b (all_bytes reads) }
     ensures two { (b : Between A)
         (one two : List ℕ) (reads : List (List ℕ)) → IsNonEmpty one → IsNonEmpty two
-        → after_reads A.updated A.is_over b (one ∷ two ∷ reads)
-        ≡ after_reads A.updated A.is_over b ((one ++ two) ∷ reads) }
+        → after_reads A.Updates b (one ∷ two ∷ reads)
+        ≡ after_reads A.Updates b ((one ++ two) ∷ reads) }
+{}
+
+/// What is known of a source comes in order: each read that has room is given whole, also an empty
+/// one; and known bytes are given whole, in whatever reads.
+pub fn what_is_known_is_given()
+    ensures reads { (all reads : List (List ℕ)) (rest : Coming) → AreWithinRoom all
+        → GivesReads (KnownReads all) rest reads
+        → (left : List (List ℕ)) × (rest ≡ KnownReads left) × (all ≡ reads ++ left) }
+    ensures bytes { (all : List ℕ) (reads : List (List ℕ)) (rest : Coming)
+        → GivesReads (KnownBytes all) rest reads
+        → (left : List ℕ) × (rest ≡ KnownBytes left) × (all ≡ all_bytes reads ++ left) }
 {}

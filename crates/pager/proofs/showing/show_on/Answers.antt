@@ -1,16 +1,20 @@
-use Rattle.std.proofs.Common.{◌∙◌}
-use Rattle.ratatui_core.specs.Terminal.{Fullscreen}
+use Rattle.std.proofs.Common.{ℕ, ap₂}
+use Rattle.std.proofs.lemmas.Result.{IfOk-weaker}
 use Rattle.pager.proofs.showing.show_on.Goals as goal
 
-pub returns-clause-glass : goal.returns-clause-glass
-returns-clause-glass g c =
-    let rest = c.calls_leave_a_terminal_at_rest.ensures.started Fullscreen c.in-Ok.backend c.in-Ok-new.terminal tt
-    (record { at = λ a b a_in b_in. c.in-Ok.ensures.blank.grid a b }) c.in-Ok-new.ensures.starts in
-    let ran = c.in-Ok-run.ensures.runs rest in
-    c.the_glass_shows_the_page.ensures c.in-Ok-new.terminal _ _ _ _ ran.1 (c.in-Ok-new.ensures.count ∙ c.in-Ok.ensures.failures)
+pub returns-clause-paged : goal.returns-clause-paged
+returns-clause-paged g c =
+    let made = c.in-Ok.ensures in
+    let ran = c.run_and_leave.ensures.runs (record { at = λ a b a_in b_in. made.blank.grid a b }) made.failures in
+    IfOk-weaker c.run_and_leave.result _ _ (λ left whole. record {
+      backend = c.in-Ok.backend;
+      is_size = made.is_size;
+      screen_is = ap₂ (λ (w h : ℕ). record { width = w; height = h }) made.blank.width made.blank.height;
+      alternate = made.alternate;
+      opened = made.before;
+      blank = made.sent;
+      ran = whole;
+    }) ran
 
 pub returns-clause-typed : goal.returns-clause-typed
-returns-clause-typed g c =
-    let rest = c.calls_leave_a_terminal_at_rest.ensures.started Fullscreen c.in-Ok.backend c.in-Ok-new.terminal tt
-    (record { at = λ a b a_in b_in. c.in-Ok.ensures.blank.grid a b }) c.in-Ok-new.ensures.starts in
-    c.in-Ok-run.ensures.typed rest
+returns-clause-typed g c = c.run_and_leave.ensures.typed (record { at = λ a b a_in b_in. c.in-Ok.ensures.blank.grid a b })

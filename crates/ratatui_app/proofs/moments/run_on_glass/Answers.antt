@@ -1,6 +1,8 @@
-use Rattle.std.proofs.Common.{inl, inr, refl, ◌∙◌}
-use Rattle.ratatui_ansi.specs.Backend.{BackendState, shown_by, is_flushed}
-use Rattle.ratatui_app.proofs.RunLemmas.{runs-start, runs-step, runs-shows, keeps-known}
+use Rattle.std.proofs.Common.{rules, inl, inr, refl, ◌∙◌}
+use Rattle.ratatui_input.specs.Encodings.{fresh_decoder}
+use Rattle.ratatui_reads.proofs.MomentLemmas.{typed-start, typed-step, ended-over, ended-empty}
+use Rattle.ratatui_app.specs.Glass.{sender}
+use Rattle.ratatui_app.proofs.RunLemmas.{runs-start, runs-step, runs-shows, stays-known, came-if}
 use Rattle.ratatui_app.proofs.MomentLemmas.{glass-start, glass-step, run-unfailed}
 use Rattle.ratatui_app.proofs.moments.run_on_glass.Goals as goal
 
@@ -8,52 +10,63 @@ pub loop-init : goal.loop-init
 loop-init g c = λ rest.
     let drawn = c.in-Ok.ensures in
     let shows = drawn.shows (inl rest) in (
-      runs-start shown_by (λ (b : BackendState g.row.W.Denot). b.failures) is_flushed g.A.Application.paints g.A.Updates.updated
-          g.A.Updates.is_over _ _ _ _ _ c.new-decoder.ensures drawn.draws drawn.faults shows,
-      λ none. glass-start g.A.Application.paints g.A.Updates.updated g.A.Updates.is_over _ _ _ _ _ c.new-decoder.ensures
-          drawn.draws drawn.faults shows (c.shown_states_are_on_the_glass.ensures _ shows (drawn.faults ∙ none)),
+      runs-start sender _ _ _ _ _ _ c.new-decoder.ensures drawn.draws drawn.faults
+          (drawn.size (inl rest)) shows,
+      λ none. glass-start _ _ _ _ _ _ c.new-decoder.ensures
+          drawn.draws drawn.faults (drawn.size (inl rest)) shows (c.shown_states_are_on_the_glass.ensures _ shows (drawn.faults ∙ none)),
+      λ no'. rw c.new-decoder.ensures (typed-start _ (record {
+        decoder = fresh_decoder;
+        state = c.args.application.now;
+      }) (g.S.Source.coming c.args.source.now)),
     )
 
 pub loop-preserved : goal.loop-preserved
 loop-preserved g c = λ rest.
     let before = c.loop.invariant rest in
-    let step = c.in-Ok-step.ensures.steps (runs-shows shown_by (λ (b : BackendState g.row.W.Denot). b.failures) is_flushed
-    g.A.Application.paints g.A.Updates.updated g.A.Updates.is_over _ _ _ _ _ _ before.0) in (
-      runs-step shown_by (λ (b : BackendState g.row.W.Denot). b.failures) is_flushed g.A.Application.paints g.A.Updates.updated
-          g.A.Updates.is_over _ _ _ _ _ _ _ _ _ _ before.0 (λ shown. step),
-      λ none. glass-step g.A.Application.paints g.A.Updates.updated g.A.Updates.is_over _ _ _ _ _ _ _ _ _ _ (before.1 none) step
+    let step = c.in-Ok-step.ensures.steps (runs-shows sender _ _ _ _ _ _ _ before.0) in (
+      runs-step sender _ _ _ _ _ _ _ (record { decoder = c.step.new.decoder; state = c.step.new.application }) _ _ _ before.0 (λ shown. step),
+      λ none. glass-step _ _ _ _ _ _ _ (record { decoder = c.step.new.decoder; state = c.step.new.application }) _ _ _ (before.1 none) step
           (c.shown_states_are_on_the_glass-in-loop.ensures _ step.fed.shown (step.fed.moved.faults
-          ∙ run-unfailed g.A.Application.paints g.A.Updates.updated g.A.Updates.is_over _ _ _ _ _ _ before.0 none)),
+          ∙ run-unfailed _ _ _ _ _ _ _ before.0 none)),
+      λ no'. typed-step _ _ _ _ _ _ _ (record { decoder = c.step.new.decoder; state = c.step.new.application }) _ _ _ (before.2 no') step
+          (came-if c.in-Ok-step.came c.args.has_ticks no' c.else-not-came.either),
     )
 
 pub returns-then-not-has_ticks-clause-runs : goal.returns-then-not-has_ticks-clause-runs
 returns-then-not-has_ticks-clause-runs g c = λ rest none.
     let before = c.loop.invariant rest in
-    let step = c.in-Ok-step.ensures.steps (runs-shows shown_by (λ (b : BackendState g.row.W.Denot). b.failures) is_flushed
-    g.A.Application.paints g.A.Updates.updated g.A.Updates.is_over _ _ _ _ _ _ before.0) in (
+    let step = c.in-Ok-step.ensures.steps (runs-shows sender _ _ _ _ _ _ _ before.0) in (
       c.step.new.decoder,
-      glass-step g.A.Application.paints g.A.Updates.updated g.A.Updates.is_over _ _ _ _ _ _ _ _ _ _ (before.1 none) step
+      glass-step _ _ _ _ _ _ _ (record { decoder = c.step.new.decoder; state = c.step.new.application }) _ _ _ (before.1 none) step
           (c.shown_states_are_on_the_glass-in-loop.ensures _ step.fed.shown (step.fed.moved.faults
-          ∙ run-unfailed g.A.Application.paints g.A.Updates.updated g.A.Updates.is_over _ _ _ _ _ _ before.0 none)),
+          ∙ run-unfailed _ _ _ _ _ _ _ before.0 none)),
     )
+
+pub returns-then-not-has_ticks-clause-typed : goal.returns-then-not-has_ticks-clause-typed
+returns-then-not-has_ticks-clause-typed g c = λ rest no'.
+    let before = c.loop.invariant rest in
+    let step = c.in-Ok-step.ensures.steps (runs-shows sender _ _ _ _ _ _ _ before.0) in
+    ended-empty _ _ _ _ _ _ _ _ _ _ _ _ (before.2 no') step (search rules)
+
+pub returns-then-is_over-clause-typed : goal.returns-then-is_over-clause-typed
+returns-then-is_over-clause-typed g c = λ rest no'. ended-over _ _ _ _ _ _ ((c.loop.invariant rest).2 no')
 
 pub returns-clause-stops : goal.returns-clause-stops
 returns-clause-stops g c = λ rest. inr (record {
   now = record { decoder = c.loop.decoder; state = c.loop.application };
-  left = g.R.Read.remaining c.loop.reader;
+  left = g.S.Source.coming c.loop.source;
   terminal = c.loop.terminal;
   ran = (c.loop.invariant rest).0;
   decoder = c.loop.decoder;
-  stops = (refl, refl, keeps-known (g.R.Read.remaining c.loop.reader));
+  stops = (refl, refl, stays-known (g.S.Source.coming c.loop.source));
 })
 
 pub returns-in-Err-step-clause-stops : goal.returns-in-Err-step-clause-stops
 returns-in-Err-step-clause-stops g c = λ rest. inr (record {
   now = record { decoder = c.loop.decoder; state = c.loop.application };
-  left = g.R.Read.remaining c.loop.reader;
+  left = g.S.Source.coming c.loop.source;
   terminal = c.loop.terminal;
   ran = (c.loop.invariant rest).0;
   decoder = c.step.new.decoder;
-  stops = c.in-Err-step.ensures.stops (runs-shows shown_by (λ (b : BackendState g.row.W.Denot). b.failures) is_flushed
-      g.A.Application.paints g.A.Updates.updated g.A.Updates.is_over _ _ _ _ _ _ (c.loop.invariant rest).0);
+  stops = c.in-Err-step.ensures.stops (runs-shows sender _ _ _ _ _ _ _ (c.loop.invariant rest).0);
 })

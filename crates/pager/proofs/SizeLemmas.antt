@@ -1,0 +1,155 @@
+-- The size of the page, whatever comes.
+use Rattle.std.proofs.Common.{◌≡◌, ◌⊎◌, ℕ, ◌-◌, Bool, true, false, not, nat_lt, if◌then◌else◌, List, [], ◌∷◌, length, inl, inr}
+use Rattle.std.proofs.Common.{take, encode_utf8, Option, Some, None, IfSome, refl, ap, sym, subst, ◌∙◌, rules}
+use Rattle.std.specs.List.{flat_map}
+use Rattle.ratatui_core.specs.{Layout.Size, Backend.size_of, Terminal.TerminalData}
+use Rattle.ratatui_events.specs.declared.event.Event.{Event}
+use Rattle.ratatui_reads.specs.Reads.{Between, size_in, later, last_size, next_state, all_updated, told_by, size_told}
+use Rattle.ratatui_reads.specs.Moments.{Stage, Moment, AreMoments}
+use Rattle.ratatui_app.specs.Showing.{Device, TakesOrKeepsSize, rules_of}
+use Rattle.pager.specs.declared.pager.Pager.{Pager}
+use Rattle.pager.specs.declared.pager.Mode.{Mode}
+use Rattle.pager.specs.declared.pager.Mode.TheVariants.{Reading, Asking, Helping}
+use Rattle.pager.specs.declared.answer.Answer.{Answer}
+use Rattle.pager.specs.declared.answer.Answer.TheVariants.{Add, Erase, Search, Cancel, Ignore}
+use Rattle.pager.specs.declared.command.Command.{Command}
+use Rattle.pager.specs.declared.command.Command.TheVariants.{Nothing, Digit, Down, Up, PageDown, PageUp, HalfDown, HalfUp}
+use Rattle.pager.specs.declared.command.Command.TheVariants.{WheelDown, WheelUp}
+use Rattle.pager.specs.declared.command.Command.TheVariants.{ToStart, ToEnd, ToLeft, ToRight, Ask, Next, Previous, Numbers, Wrap}
+use Rattle.pager.specs.declared.command.Command.TheVariants.{Help, Quit}
+use Rattle.pager.specs.Search.{next_match, last_match}
+use Rattle.pager.specs.Moves.{found_at, sought_before, sought_from, before_found, after_found, sought_on, obeyed, with_pattern}
+use Rattle.pager.specs.Moves.{answered, acted, updated_by, updated}
+use Rattle.pager.specs.Keys.{event_command, event_answer, is_press}
+use Rattle.pager.specs.Paging.{paging, page_size, FillsScreen, FillsAlong, TakesAlong}
+
+found-same : (found : Option ℕ) (p : Pager) → page_size (found_at found p) ≡ page_size p
+found-same (Some k) p = refl
+found-same None p = refl
+
+sought-same : (is_back : Bool) (p : Pager) → page_size (sought_on is_back p) ≡ page_size p
+sought-same true p = found-same (last_match p.pattern p.document (before_found p.found p.top)) p
+sought-same false p = found-same (next_match p.pattern p.document (after_found p.found p.top)) p
+
+obeyed-same : (command : Command) (p : Pager) → page_size (obeyed command p) ≡ page_size p
+obeyed-same (Digit d) p = refl
+obeyed-same (Ask is_back) p = refl
+obeyed-same Next p = sought-same p.is_back p
+obeyed-same Previous p = sought-same (not p.is_back) p
+obeyed-same Nothing p = refl
+obeyed-same Down p = refl
+obeyed-same Up p = refl
+obeyed-same PageDown p = refl
+obeyed-same PageUp p = refl
+obeyed-same HalfDown p = refl
+obeyed-same HalfUp p = refl
+obeyed-same WheelDown p = refl
+obeyed-same WheelUp p = refl
+obeyed-same ToStart p = refl
+obeyed-same ToEnd p = refl
+obeyed-same ToLeft p = refl
+obeyed-same ToRight p = refl
+obeyed-same Numbers p = refl
+obeyed-same Wrap p = refl
+obeyed-same Help p = refl
+obeyed-same Quit p = refl
+
+first-same : (is_back : Bool) (p : Pager)
+    → page_size (if is_back then sought_before p.top p else sought_from p.top p) ≡ page_size p
+first-same true p = found-same (last_match p.pattern p.document p.top) p
+first-same false p = found-same (next_match p.pattern p.document p.top) p
+
+pattern-same : (b : Bool) (pattern : List ℕ) (p : Pager)
+    → page_size (if b then record p { pattern = pattern } else p) ≡ page_size p
+pattern-same true pattern p = refl
+pattern-same false pattern p = refl
+
+erased-same : (b : Bool) (typed : List ℕ) (p : Pager)
+    → page_size (if b then record p { typed = typed } else record p { mode = Reading }) ≡ page_size p
+erased-same true typed p = refl
+erased-same false typed p = refl
+
+answered-same : (answer : Answer) (p : Pager) → page_size (answered answer p) ≡ page_size p
+answered-same (Add c) p = refl
+answered-same Erase p = erased-same (nat_lt 0 (length p.typed)) (take (length p.typed - 1) p.typed) p
+answered-same Search p = first-same (with_pattern p).is_back (with_pattern p)
+    ∙ pattern-same (nat_lt 0 (length p.typed)) (flat_map encode_utf8 p.typed) p
+answered-same Cancel p = refl
+answered-same Ignore p = refl
+
+helped-same : (b : Bool) (p : Pager) → page_size (if b then record p { mode = Reading } else p) ≡ page_size p
+helped-same true p = refl
+helped-same false p = refl
+
+acted-same : (mode : Mode) (event : Event) (p : Pager) → page_size (acted mode event p) ≡ page_size p
+acted-same Reading event p = obeyed-same (event_command event) p
+acted-same Asking event p = answered-same (event_answer event) p
+acted-same Helping event p = helped-same (is_press event) p
+
+-- the size that was told, or else another one
+abbrev told_or : Option (ℕ × ℕ) → Size → Size
+told_or (Some z) s = record { width = z.0; height = z.1 }
+told_or None s = s
+
+sized-by : (told : Option (ℕ × ℕ)) (event : Event) (p : Pager) → page_size (updated_by told event p) ≡ told_or told (page_size p)
+sized-by (Some z) event p = refl
+sized-by None event p = acted-same p.mode event p
+
+later-or : (new known : Option (ℕ × ℕ)) (s : Size) → told_or new (told_or known s) ≡ told_or (later new known) s
+later-or (Some z) known s = refl
+later-or None known s = refl
+
+false-true : false ≡ true → ⊥
+false-true e = search rules
+
+-- over, or of the size that was told last
+abbrev IsOfSize : Option (ℕ × ℕ) → Size → Pager → Type 0
+IsOfSize told s p = (p.is_over ≡ true) ⊎ (page_size p ≡ told_or told s)
+
+next-sized : (over : Bool) (event : Event) (known : Option (ℕ × ℕ)) (s : Size) (p : Pager) → p.is_over ≡ over
+    → IsOfSize known s p → IsOfSize (later (size_in event) known) s (if over then p else updated p event)
+next-sized true event known s p is sized = inl is
+next-sized false event known s p is (inl over) = absurd (false-true (sym is ∙ over))
+next-sized false event known s p is (inr sized) = inr (sized-by (size_in event) event p ∙ ap (told_or (size_in event)) sized
+    ∙ later-or (size_in event) known s)
+
+all-sized : (events : List Event) (known : Option (ℕ × ℕ)) (s : Size) (p : Pager) → IsOfSize known s p
+    → IsOfSize (last_size known events) s (all_updated (rules_of paging) p events)
+all-sized [] known s p sized = sized
+all-sized (e ∷ events) known s p sized =
+    all-sized events (later (size_in e) known) s (next_state (rules_of paging) p e)
+    (next-sized p.is_over e known s p refl sized)
+
+module _ {B X : Type 0} (device : Device B X) where
+  -- the terminal has the size that it was told, or its own
+  taken : (told : Option (ℕ × ℕ)) (s t : TerminalData B) → TakesOrKeepsSize device told s t
+      → IfSome told (λ z. size_of (device.screen t.backend) ≡ record { width = z.0; height = z.1 })
+      → told_or told (size_of (device.screen s.backend)) ≡ size_of (device.screen t.backend)
+  taken None s t keeps has = sym keeps
+  taken (Some z) s t takes has = sym has
+
+  moved : (told : Option (ℕ × ℕ)) (p : Pager) (s t : TerminalData B)
+      → IsOfSize told (size_of (device.screen s.backend)) p
+      → told_or told (size_of (device.screen s.backend)) ≡ size_of (device.screen t.backend) → FillsScreen device p t
+  moved told p s t (inl over) same = inl over
+  moved told p s t (inr sized) same = inr (sized ∙ same)
+
+  pub fills : (stage : Stage Pager (TerminalData B))
+      → ((told : Option (ℕ × ℕ)) (s t : TerminalData B) → stage.takes_size told s t → TakesOrKeepsSize device told s t)
+      → (b : Between Pager) (s : TerminalData B) (ms : List (Moment Pager (TerminalData B)))
+      → AreMoments (rules_of paging) stage b s ms → FillsScreen device b.state s → TakesAlong device b ms
+      → FillsAlong device ms
+  fills stage takes b s [] are fits taken_all = tt
+  fills stage takes b s (m ∷ ms) are fits taken_all =
+      let told = size_told b.decoder m.bytes in
+      let sized = all-sized (told_by b.decoder m.bytes).0 None (size_of (device.screen s.backend)) b.state fits in
+      let here : FillsScreen device m.between.state m.terminal =
+      subst (λ (x : Between Pager). FillsScreen device x.state m.terminal) (sym are.0)
+      (moved told (all_updated (rules_of paging) b.state (told_by b.decoder m.bytes).0) s m.terminal sized (taken told s m.terminal (takes told s m.terminal are.2) taken_all.0)) in
+      (here, fills stage takes m.between m.terminal ms are.4 here taken_all.1)
+
+  -- the first frame keeps the size
+  pub fills-first : (p : Pager) (s t : TerminalData B) → size_of (device.screen t.backend) ≡ size_of (device.screen s.backend)
+      → FillsScreen device p s → FillsScreen device p t
+  fills-first p s t same (inl over) = inl over
+  fills-first p s t same (inr sized) = inr (sized ∙ sym same)

@@ -1,0 +1,8 @@
+use Rattle.ratatui_reads.proofs.SourceLemmas.{known-reads, known-bytes}
+use Rattle.ratatui_reads.proofs.laws.what_is_known_is_given.Goals as goal
+
+pub returns-clause-reads : goal.returns-clause-reads
+returns-clause-reads c = known-reads
+
+pub returns-clause-bytes : goal.returns-clause-bytes
+returns-clause-bytes c = known-bytes
