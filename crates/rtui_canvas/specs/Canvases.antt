@@ -1,6 +1,6 @@
 -- A canvas: what its dots and labels make of a buffer.
 use Rattle.std.specs.Prelude.{◌≡◌, ℕ, Bool, true, false, ◌+◌, ◌-◌, ◌*◌, ◌==◌, List, [], ◌∷◌, pos, length}
-use Rattle.std.specs.Prelude.{replicate, Option, None, slice_index_or, encode_utf8, ◌<◌, ◌≤◌, if◌then◌else◌}
+use Rattle.std.specs.Prelude.{replicate, None, slice_index_or, encode_utf8, ◌<◌, ◌≤◌, if◌then◌else◌}
 use Rattle.ratatui_core.specs.Layout.{Rect, Position}
 use Rattle.ratatui_core.specs.Text.{LineData}
 use Rattle.ratatui_core.specs.Style.{Reset, new_style, with_bg}

@@ -6,6 +6,7 @@
 
 mod canvas;
 mod label;
+pub mod laws;
 mod shown;
 
 pub use canvas::Canvas;

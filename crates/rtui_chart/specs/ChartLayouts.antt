@@ -30,8 +30,8 @@ left_of_axis Right has_axis n = 0
 
 -- the columns of the labels at the left: as many as the widest one has, or as that first one needs there; at
 -- most a third
-abbrev pub columns_left : Axis → Axis → ℕ → ℕ
-columns_left x y width =
+abbrev pub columns_beside : Axis → Axis → ℕ → ℕ
+columns_beside x y width =
     let below = left_of_axis x.labels_alignment (is_labelled y) (first_width x.labels.now) in
     min (max (widest_line y.labels.now) below) (width / 3)
 
@@ -49,7 +49,7 @@ label_rows x height = if is_labelled x && nat_lt 1 height then 1 else 0
 -- the area of the dots
 abbrev pub graph_of : Axis → Axis → Rect → Rect
 graph_of x y r =
-    let left = columns_left x y r.width in
+    let left = columns_beside x y r.width in
     let before = left + axis_columns y left r.width in
     let below = axis_rows x r.height + label_rows x r.height in
     record { x = r.x + before; y = r.y; width = r.width - before; height = r.height - below }
@@ -67,10 +67,10 @@ x_title_area title g =
     record { x = g.x + (g.width - n); y = g.y + (g.height - 1); width = n; height = 1 }
 
 -- the parts of a chart, each without columns or rows if it isn't shown: dots, labels, axes and titles
-abbrev pub layout_of : Axis → Axis → Rect → ChartLayout
-layout_of x y r =
+abbrev pub chart_layout : Axis → Axis → Rect → ChartLayout
+chart_layout x y r =
     let g = graph_of x y r in
-    let columns = axis_columns y (columns_left x y r.width) r.width in
+    let columns = axis_columns y (columns_beside x y r.width) r.width in
     let rows = axis_rows x r.height in
     record {
       graph = g;

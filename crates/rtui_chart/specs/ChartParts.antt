@@ -83,18 +83,18 @@ pub record RendersAxes (x y : Axis) (l : ChartLayout) (old new : BufferData) : T
   pub corner : ChangesEach l.corner (ruled_cell x.style (encode_utf8 0x2514)) ruled new
 
 -- what is drawn of a data set: its points, and lines between them or down from them if it is shown so
-abbrev pub color_of : Style → Color
-color_of s = unwrap_or s.fg Reset
+abbrev pub dots_color : Style → Color
+dots_color s = unwrap_or s.fg Reset
 
 abbrev pub drawings_of : GraphType → Dataset → List Drawing
-drawings_of Scatter d = PointsOf (record { coords = d.points; color = color_of d.style }) ∷ []
+drawings_of Scatter d = PointsOf (record { coords = d.points; color = dots_color d.style }) ∷ []
 drawings_of Line d =
-    PointsOf (record { coords = d.points; color = color_of d.style })
-    ∷ PathOf (record { coords = d.points; color = color_of d.style })
+    PointsOf (record { coords = d.points; color = dots_color d.style })
+    ∷ PathOf (record { coords = d.points; color = dots_color d.style })
     ∷ []
 drawings_of Bar d =
-    PointsOf (record { coords = d.points; color = color_of d.style })
-    ∷ BarsOf (record { coords = d.points; color = color_of d.style })
+    PointsOf (record { coords = d.points; color = dots_color d.style })
+    ∷ BarsOf (record { coords = d.points; color = dots_color d.style })
     ∷ []
 
 -- the canvas of a data set: over the bounds of the axes, in its marker, and over the chart's background

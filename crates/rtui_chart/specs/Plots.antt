@@ -3,7 +3,7 @@ use Rattle.ratatui_core.specs.{Layout.Rect, Layout.corner, Style.Style}
 use Rattle.ratatui_core.specs.Buffer.{BufferData, cell_in, style_of}
 use Rattle.rtui_boxes.specs.{Titles.InTurn, Framed.RendersInFrame}
 use Rattle.rtui_chart.specs.declared.{chart.Chart.Chart, layout.ChartLayout.ChartLayout}
-use Rattle.rtui_chart.specs.ChartLayouts.{layout_of}
+use Rattle.rtui_chart.specs.ChartLayouts.{chart_layout}
 use Rattle.rtui_chart.specs.ChartParts.{RendersAxes, RendersDatasets, RendersAxisTitle}
 use Rattle.rtui_chart.specs.Legends.{legend_names, legend_box, RendersLegend}
 
@@ -23,13 +23,13 @@ ShowsLegend c style l =
 pub record ShowsPlot (c : Chart) (r : Rect) (old new : BufferData) : Type 0 where
   pub ruled : BufferData
   pub drawn : BufferData
-  pub axes : RendersAxes c.x_axis c.y_axis (layout_of c.x_axis c.y_axis r) old ruled
-  pub datasets : RendersDatasets c (layout_of c.x_axis c.y_axis r).graph c.datasets.items ruled drawn
+  pub axes : RendersAxes c.x_axis c.y_axis (chart_layout c.x_axis c.y_axis r) old ruled
+  pub datasets : RendersDatasets c (chart_layout c.x_axis c.y_axis r).graph c.datasets.items ruled drawn
   pub titled : BufferData
   pub titles : let style = style_of (cell_in old (corner r)) in
-      ShowsTitles c style (layout_of c.x_axis c.y_axis r) drawn titled
+      ShowsTitles c style (chart_layout c.x_axis c.y_axis r) drawn titled
   pub legend : let style = style_of (cell_in old (corner r)) in
-      ShowsLegend c style (layout_of c.x_axis c.y_axis r) titled new
+      ShowsLegend c style (chart_layout c.x_axis c.y_axis r) titled new
 
 -- A chart over the part of an area that a buffer has: its style, its box, and inside its parts. Nothing
 -- outside the area changes.

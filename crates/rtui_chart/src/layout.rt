@@ -4,8 +4,8 @@ ghost use Rattle.std.specs.Prelude.{◌≡◌, ◌≤◌, ◌<◌, ◌+◌, ◌-
 ghost use Rattle.rtui_boxes.specs.Titles.{title_width};
 ghost use Rattle.rtui_boxes.specs.Boxes.{IsBoxArea};
 ghost use Rattle.rtui_chart.specs.ChartLayouts.{is_labelled, widest_line, first_width, left_of_axis};
-ghost use Rattle.rtui_chart.specs.ChartLayouts.{columns_left, axis_columns, axis_rows, label_rows, x_title_area};
-ghost use Rattle.rtui_chart.specs.ChartLayouts.{title_columns, layout_of};
+ghost use Rattle.rtui_chart.specs.ChartLayouts.{columns_beside, axis_columns, axis_rows, label_rows, x_title_area};
+ghost use Rattle.rtui_chart.specs.ChartLayouts.{title_columns, chart_layout};
 ghost use Rattle.rtui_chart.specs.Inner.{AreParts};
 
 use crate::axis::Axis;
@@ -66,8 +66,8 @@ fn left_of_axis(alignment: HorizontalAlignment, has_axis: bool, columns: u16) ->
 }
 
 // The columns of the labels at the left.
-fn columns_left(x: &Axis<'_>, y: &Axis<'_>, width: u16) -> u16
-    ensures value { result ≡ columns_left x.now y.now width }
+fn columns_beside(x: &Axis<'_>, y: &Axis<'_>, width: u16) -> u16
+    ensures value { result ≡ columns_beside x.now y.now width }
     ensures third { result * 3 ≤ width }
 {
     let first = first_width(x.labels);
@@ -170,10 +170,10 @@ fn x_title_area(title: &Option<Line<'_>>, graph: Rect) -> Rect
 // Where the parts of a chart stand.
 pub(crate) fn layout(x: &Axis<'_>, y: &Axis<'_>, area: Rect) -> ChartLayout
     requires { IsBoxArea area }
-    ensures value { result ≡ layout_of x.now y.now area }
+    ensures value { result ≡ chart_layout x.now y.now area }
     ensures parts { AreParts result area }
 {
-    let left = columns_left(x, y, area.width);
+    let left = columns_beside(x, y, area.width);
     let columns = y.axis_columns(left, area.width);
     let rows = x.axis_rows(area.height);
     let labels = x.label_rows(area.height);
