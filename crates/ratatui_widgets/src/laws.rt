@@ -1,6 +1,9 @@
 //! Laws of widgets that are no single call's clause.
 
-pub use rtui_bars::laws::{sparklines_have_this_default, sparklines_keep_cells_plain};
+pub use rtui_bars::laws::{
+    bar_charts_keep_cells_plain, sparklines_have_this_default, sparklines_keep_cells_plain,
+    values_are_narrow,
+};
 pub use rtui_boxes::laws::{
     boxes_of_short_symbols_take_no_memory, clearing_keeps_settled, plain_boxes_keep_cells_plain,
 };

@@ -1,2 +1,3 @@
 pub mod BarLemmas
 pub mod ChartLemmas
+pub mod NarrowChartLemmas

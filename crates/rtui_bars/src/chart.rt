@@ -1,21 +1,34 @@
 //! Bars in groups, with labels and values.
 
-ghost use Rattle.std.specs.Prelude.{◌≡◌, ◌≤◌, Some, OnOk};
+ghost use Rattle.std.specs.Prelude.{◌≡◌, ◌≤◌, Some, None, OnOk, IfOk, [], ◌∷◌};
 ghost use Rattle.ratatui_core.specs.Widgets.{ChangesWithin};
 ghost use Rattle.rtui_boxes.specs.Boxes.{IsBoxArea};
-ghost use Rattle.rtui_bars.specs.BarCharts.{IsNewBarChart, greatest_bar, greatest_of_chart, ShowsChart};
+ghost use Rattle.rtui_bars.specs.BarCharts.{IsNewBarChart, IsLyingBarChart, measures_of};
+ghost use Rattle.rtui_bars.specs.BarCharts.{greatest_bar, greatest_of_chart, ShowsChart, label_width};
+ghost use Rattle.rtui_bars.specs.BarCharts.{widest_bar_label, widest_label, label_columns};
 
+use crate::chart_part::columns_of;
 use crate::group::{Bar, BarGroup};
 use ratatui_core::buffer::Buffer;
-use ratatui_core::layout::Rect;
+use ratatui_core::layout::{Direction, Rect};
 use ratatui_core::style::Style;
 use ratatui_core::symbols::bar;
+use ratatui_core::text::Line;
 use ratatui_core::widgets::Widget;
 use rtui_boxes::{Block, render_frame};
-use std::alloc::AllocError;
+use std::alloc::{AllocError, Global};
 
-/// Bars side by side in groups, as high as their share of the greatest value, with their values on
-/// them and labels under them.
+// What a chart finds out before it renders: the value that fills it, and the columns of the labels
+// at its left.
+#[derive(Debug, Clone, Copy)]
+pub(crate) struct Measures {
+    pub(crate) greatest: u64,
+    pub(crate) labels: u16,
+}
+
+/// Bars in groups, each as long as its share of the greatest value: side by side from below, with
+/// labels under them and values on them, or one under the other from the left, with labels at the
+/// left and values over them.
 ///
 /// ```
 /// let mut bars = Vec::new(alloc);
@@ -38,6 +51,7 @@ pub struct BarChart<'a> {
     pub(crate) style: Style,
     pub(crate) groups: Vec<BarGroup<'a>>,
     max: Option<u64>,
+    pub(crate) direction: Direction,
 }
 
 impl<'a> BarChart<'a> {
@@ -58,7 +72,33 @@ impl<'a> BarChart<'a> {
             style: Style::new(),
             groups,
             max: None,
+            direction: Direction::Vertical,
         }
+    }
+
+    /// A chart of one group: bars of one column, a column apart. It takes memory for the group.
+    ///
+    /// # Errors
+    ///
+    /// `AllocError` if memory is refused.
+    pub fn vertical(alloc: Global, bars: Vec<Bar<'a>>) -> Result<BarChart<'a>, AllocError>
+        ensures { IfOk result (λ c. IsNewBarChart (record { label = None; bars = bars.entry } ∷ []) c) }
+    {
+        let mut groups = Vec::new(alloc);
+        groups.push(BarGroup::new(bars))?;
+        Ok(BarChart::new(groups))
+    }
+
+    /// A chart of one group of horizontal bars: bars of one row, a row apart. It takes memory for
+    /// the group.
+    ///
+    /// # Errors
+    ///
+    /// `AllocError` if memory is refused.
+    pub fn horizontal(alloc: Global, bars: Vec<Bar<'a>>) -> Result<BarChart<'a>, AllocError>
+        ensures { IfOk result (λ c. IsLyingBarChart (record { label = None; bars = bars.entry } ∷ []) c) }
+    {
+        Ok(BarChart::vertical(alloc, bars)?.direction(Direction::Horizontal))
     }
 
     /// The chart of other groups.
@@ -77,7 +117,8 @@ impl<'a> BarChart<'a> {
         self
     }
 
-    /// The chart with this value as high as the bars' rows; without one it is the greatest value.
+    /// The chart with bars as long as there is room for this value; without one it is the greatest
+    /// value.
     pub fn max(mut self, max: u64) -> BarChart<'a>
         ensures { result ≡ record self.entry { max = Some max } }
     {
@@ -93,7 +134,18 @@ impl<'a> BarChart<'a> {
         self
     }
 
-    /// The chart with bars of so many columns.
+    /// The chart with its bars from below, side by side, or from the left, one under the other.
+    /// From the left, a label stands in the first row of its bar as it is styled and aligned
+    /// itself, in as many columns as the widest one has, and a blank column follows; a group's
+    /// label stands in the row after its bars, if groups are apart.
+    pub fn direction(mut self, direction: Direction) -> BarChart<'a>
+        ensures { result ≡ record self.entry { direction = direction } }
+    {
+        self.direction = direction;
+        self
+    }
+
+    /// The chart with bars of so many columns; horizontal ones of so many rows.
     pub fn bar_width(mut self, width: u16) -> BarChart<'a>
         ensures { result ≡ record self.entry { bar_width = width } }
     {
@@ -101,7 +153,7 @@ impl<'a> BarChart<'a> {
         self
     }
 
-    /// The chart with so many columns between each two bars.
+    /// The chart with so many columns between each two bars; rows, if they are horizontal.
     pub fn bar_gap(mut self, gap: u16) -> BarChart<'a>
         ensures { result ≡ record self.entry { bar_gap = gap } }
     {
@@ -109,7 +161,7 @@ impl<'a> BarChart<'a> {
         self
     }
 
-    /// The chart with so many columns more between each two groups.
+    /// The chart with so many columns more between each two groups; rows, if bars are horizontal.
     pub fn group_gap(mut self, gap: u16) -> BarChart<'a>
         ensures { result ≡ record self.entry { group_gap = gap } }
     {
@@ -133,7 +185,7 @@ impl<'a> BarChart<'a> {
         self
     }
 
-    /// The chart with its labels in a style.
+    /// The chart with its labels in a style; those at the left of horizontal bars keep their own.
     pub fn label_style(mut self, style: Style) -> BarChart<'a>
         ensures { result ≡ record self.entry { label_style = style } }
     {
@@ -149,8 +201,18 @@ impl<'a> BarChart<'a> {
         self
     }
 
+    // What it finds out before it renders.
+    pub(crate) fn measures(&self) -> Measures
+        ensures { result ≡ measures_of self.now }
+    {
+        Measures {
+            greatest: self.greatest(),
+            labels: self.label_columns(),
+        }
+    }
+
     // The value that is as high as the bars' rows, at least 1.
-    pub(crate) fn greatest(&self) -> u64
+    fn greatest(&self) -> u64
         ensures { result ≡ greatest_of_chart self.now }
     {
         if let Some(max) = self.max {
@@ -161,6 +223,48 @@ impl<'a> BarChart<'a> {
             greatest = greatest_bar(group.bars.as_slice()).max(greatest);
         }
         greatest.max(1)
+    }
+
+    // The greatest number of columns of a bar's label.
+    fn widest_label(&self) -> u16
+        ensures { result ≡ widest_label self.now.groups.items }
+    {
+        let mut widest = 0;
+        for group in self.groups.as_slice() {
+            widest = widest_bar_label(group.bars.as_slice()).max(widest);
+        }
+        widest
+    }
+
+    // The columns of the labels at the left.
+    fn label_columns(&self) -> u16
+        ensures { result ≡ label_columns self.now }
+    {
+        match self.direction {
+            Direction::Vertical => 0,
+            Direction::Horizontal => self.widest_label(),
+        }
+    }
+}
+
+// The greatest number of columns of a label of some bars.
+fn widest_bar_label(bars: &[Bar<'_>]) -> u16
+    ensures { result ≡ widest_bar_label bars.now }
+{
+    let mut widest = 0;
+    for bar in bars {
+        widest = label_width(&bar.label).max(widest);
+    }
+    widest
+}
+
+// How many columns a label takes, at most 65535.
+fn label_width(label: &Option<Line<'_>>) -> u16
+    ensures { result ≡ label_width label.now }
+{
+    match label {
+        Some(line) => columns_of(line),
+        None => 0,
     }
 }
 

@@ -6,77 +6,37 @@ ghost use Rattle.ratatui_core.specs.Widgets.{ChangesWithin};
 ghost use Rattle.ratatui_core.specs.Layout.{IsInside};
 ghost use Rattle.ratatui_core.specs.Buffer.{ChangesEach, text_columns};
 ghost use Rattle.ratatui_core.specs.Style.{patch};
+ghost use Rattle.ratatui_core.specs.declared.layout.Direction.TheVariants.{Horizontal, Vertical};
 ghost use Rattle.rtui_boxes.specs.Boxes.{IsBoxArea};
 ghost use Rattle.rtui_boxes.specs.Titles.{first_columns, without_first, title_width, title_at, RendersTitle};
 ghost use Rattle.rtui_bars.specs.BarCharts.{greatest_of_chart, has_label, has_labelled_bar, has_bar_labels};
 ghost use Rattle.rtui_bars.specs.BarCharts.{bar_label_rows, has_group_labels, group_label_rows, bar_rows};
-ghost use Rattle.rtui_bars.specs.BarCharts.{rows_at, middle_columns, WritesText, RendersBarLabel, is_written};
-ghost use Rattle.rtui_bars.specs.BarCharts.{text_of_bar, DoesIf, chart_cell, RendersBar, RendersBars};
-ghost use Rattle.rtui_bars.specs.BarCharts.{after_bars, fitting_count, shown_bars, bars_columns};
-ghost use Rattle.rtui_bars.specs.BarCharts.{label_indent, RendersGroupLabel, RendersGroup, RendersGroups};
-ghost use Rattle.rtui_bars.specs.BarCharts.{ShowsChart};
-ghost use Rattle.rtui_bars.specs.Inner.{HasRows, BarsFit};
+ghost use Rattle.rtui_bars.specs.BarAreas.{cells_along, rows_at};
+ghost use Rattle.rtui_bars.specs.BarCharts.{WritesText, RendersBarLabel, is_written, measures_of, label_columns};
+ghost use Rattle.rtui_bars.specs.BarCharts.{text_of_bar, DoesIf, chart_cell, RendersTallBar, RendersBar};
+ghost use Rattle.rtui_bars.specs.BarCharts.{RendersBars, after_bars, fitting_count, shown_bars, bars_columns};
+ghost use Rattle.rtui_bars.specs.BarCharts.{label_indent, RendersGroupLabel, RendersLabelOf, RendersGroup};
+ghost use Rattle.rtui_bars.specs.BarCharts.{RendersGroups, ShowsChart};
+ghost use Rattle.rtui_bars.specs.Inner.{HasRoom, BarsFit};
 
-use crate::chart::BarChart;
+use crate::area::{
+    area_behind, bar_area, beside_labels, cells_along, first_columns, middle_columns, rows_at,
+    without_first,
+};
+use crate::chart::{BarChart, Measures};
 use crate::group::{Bar, BarGroup};
 use crate::level::{eighths_of, left_at, level_of};
 use itoa::Buffer as Digits;
 use ratatui_core::buffer::{Buffer, Cell, CellChange, change_area};
-use ratatui_core::layout::{HorizontalAlignment, Position, Rect};
+use ratatui_core::layout::{Direction, HorizontalAlignment, Position, Rect};
 use ratatui_core::style::Style;
 use ratatui_core::symbols::bar;
 use ratatui_core::text::{Line, text_columns};
 use ratatui_core::widgets::Widget;
 use std::alloc::{AllocError, Global};
 
-// So many rows of an area from one of them on.
-fn rows_at(y: u16, rows: u16, area: Rect) -> Rect
-    requires { area.y + y ≤ 65535 }
-    ensures { result ≡ rows_at y rows area }
-{
-    Rect {
-        y: area.y + y,
-        height: rows,
-        ..area
-    }
-}
-
-// The first columns of an area.
-fn first_columns(columns: u16, area: Rect) -> Rect
-    ensures { result ≡ first_columns columns area }
-{
-    Rect {
-        width: columns.min(area.width),
-        ..area
-    }
-}
-
-// An area without its first columns.
-fn without_first(columns: u16, area: Rect) -> Rect
-    ensures { result ≡ without_first columns area }
-{
-    Rect {
-        x: area.x.saturating_add(columns),
-        width: area.width.saturating_sub(columns),
-        ..area
-    }
-}
-
-// In the middle of an area, so many columns of it.
-fn middle_columns(columns: usize, area: Rect) -> Rect
-    requires { area.x + area.width ≤ 65535 }
-    ensures { result ≡ middle_columns columns area }
-{
-    let width = columns.min(usize::from(area.width)) as u16;
-    Rect {
-        x: area.x + (area.width - width) / 2,
-        width,
-        ..area
-    }
-}
-
 // How many columns a line takes, at most 65535.
-fn columns_of(line: &Line<'_>) -> u16
+pub(crate) fn columns_of(line: &Line<'_>) -> u16
     ensures { result ≡ title_width line.now }
 {
     line.width().min(65535) as u16
@@ -310,8 +270,8 @@ impl<'a> BarChart<'a> {
         change_area(buf, area, &filling)
     }
 
-    // Renders a bar in its columns of an area.
-    fn render_bar(
+    // Renders a vertical bar in its columns of an area.
+    fn render_tall_bar(
         &self,
         bar: &Bar<'a>,
         greatest: u64,
@@ -322,7 +282,7 @@ impl<'a> BarChart<'a> {
         requires some { IsBoxArea area }
         requires inside { IsInside area buf.old.area }
         ensures within { ChangesWithin area buf.old buf.new }
-        ensures ok { OnOk result (RendersBar self.now bar.now area buf.old buf.new) }
+        ensures ok { OnOk result (RendersTallBar self.now bar.now area buf.old buf.new) }
     {
         let rows = self.bar_rows(area.height);
         let eighths = eighths_of(bar.value, greatest, rows);
@@ -333,18 +293,38 @@ impl<'a> BarChart<'a> {
         self.render_value(bar, eighths, rows_at(rows - 1, 1, area), buf)
     }
 
-    // Renders bars from the left of an area on, and answers the columns after them.
+    // Renders a bar in its part of an area.
+    fn render_bar(
+        &self,
+        bar: &Bar<'a>,
+        measures: Measures,
+        area: Rect,
+        buf: &mut Buffer,
+    ) -> Result<(), AllocError>
+        requires measures { measures ≡ measures_of self.now }
+        requires some { IsBoxArea area }
+        requires inside { IsInside area buf.old.area }
+        ensures within { ChangesWithin area buf.old buf.new }
+        ensures ok { OnOk result (RendersBar self.now bar.now area buf.old buf.new) }
+    {
+        match self.direction {
+            Direction::Vertical => self.render_tall_bar(bar, measures.greatest, area, buf),
+            Direction::Horizontal => self.render_long_bar(bar, measures, area, buf),
+        }
+    }
+
+    // Renders bars from the left or the top of an area on, and answers what is left after them.
     fn render_bars(
         &self,
         bars: &[Bar<'a>],
-        greatest: u64,
+        measures: Measures,
         area: Rect,
         buf: &mut Buffer,
     ) -> Result<Rect, AllocError>
-        requires greatest { greatest ≡ greatest_of_chart self.now }
+        requires measures { measures ≡ measures_of self.now }
         requires wide { 0 < self.now.bar_width }
-        requires some { HasRows area }
-        requires fit { BarsFit self.now area.width bars.now }
+        requires some { HasRoom self.now.direction area }
+        requires fit { BarsFit self.now (cells_along self.now.direction area) bars.now }
         requires inside { IsInside area buf.old.area }
         ensures within { ChangesWithin area buf.old buf.new }
         ensures ok { OnOk result (RendersBars self.now area bars.now buf.old buf.new) }
@@ -353,13 +333,14 @@ impl<'a> BarChart<'a> {
         let step = self.bar_width.saturating_add(self.bar_gap);
         let mut left = area;
         for bar in bars {
-            self.render_bar(bar, greatest, first_columns(self.bar_width, left), buf)?;
-            left = without_first(step, left);
+            let part = bar_area(self.direction, self.bar_width, left);
+            self.render_bar(bar, measures, part, buf)?;
+            left = area_behind(self.direction, step, left);
         }
         Ok(left)
     }
 
-    // How many bars fit into so many columns.
+    // How many bars fit into so many cells.
     fn fitting_count(&self, width: u16) -> usize
         requires { 0 < self.now.bar_width }
         ensures value { result ≡ fitting_count self.now width }
@@ -381,28 +362,22 @@ impl<'a> BarChart<'a> {
         (count * (bar + gap)).saturating_sub(gap).min(65535) as u16
     }
 
-    // Renders the label of a group under so many bars, if there are any and a row for it.
+    // Renders the label of a group, aligned in so many columns, if it has one.
     fn render_group_label(
         &self,
-        is_shown: bool,
         label: &Option<Line<'a>>,
-        count: usize,
+        columns: u16,
         row: Rect,
         buf: &mut Buffer,
     ) -> Result<(), AllocError>
-        requires { count ≤ 131070 }
         ensures within { ChangesWithin row buf.old buf.new }
-        ensures ok { let columns = bars_columns self.now count in
-            let f = RendersGroupLabel self.now.label_style label.now columns row in
-            OnOk result (DoesIf (is_shown && nat_lt 0 count) f buf.old buf.new) }
+        ensures ok { let f = RendersGroupLabel self.now.label_style label.now columns row in
+            OnOk result (f buf.old buf.new) }
     {
-        if !is_shown || count == 0 {
-            return Ok(());
-        }
         match label {
             Some(line) => {
                 let width = columns_of(line);
-                let indent = label_indent(line.alignment, self.bars_columns(count), width);
+                let indent = label_indent(line.alignment, columns, width);
                 let area = first_columns(width, without_first(indent, row));
                 render_title(line, self.label_style, area, buf)
             }
@@ -410,17 +385,86 @@ impl<'a> BarChart<'a> {
         }
     }
 
-    // Renders a group from the left of an area on, and answers the columns after its bars.
+    // Renders the label of a group of so many vertical bars, if there are any and a row for it.
+    fn render_label_below(
+        &self,
+        group: &BarGroup<'a>,
+        count: usize,
+        area: Rect,
+        buf: &mut Buffer,
+    ) -> Result<(), AllocError>
+        requires count { count ≤ 131070 }
+        requires some { 0 < area.height }
+        requires down { area.y + area.height ≤ 65535 }
+        ensures within { ChangesWithin area buf.old buf.new }
+        ensures ok { let f = RendersLabelOf Vertical self.now group.now count area in
+            OnOk result (f buf.old buf.new) }
+    {
+        if !(self.has_group_labels(area.height) && 0 < count) {
+            return Ok(());
+        }
+        let row = rows_at(area.height - 1, 1, area);
+        self.render_group_label(&group.label, self.bars_columns(count), row, buf)
+    }
+
+    // Renders the label of a group of so many horizontal bars, if there are any and a row for it.
+    fn render_label_after(
+        &self,
+        group: &BarGroup<'a>,
+        count: usize,
+        labels: u16,
+        area: Rect,
+        buf: &mut Buffer,
+    ) -> Result<(), AllocError>
+        requires labels { labels ≡ label_columns self.now }
+        requires count { count ≤ 131070 }
+        requires down { area.y + area.height ≤ 65535 }
+        ensures within { ChangesWithin area buf.old buf.new }
+        ensures ok { let f = RendersLabelOf Horizontal self.now group.now count area in
+            OnOk result (f buf.old buf.new) }
+    {
+        let behind = self.bars_columns(count);
+        if !(0 < self.group_gap && behind < area.height && 0 < count) {
+            return Ok(());
+        }
+        let bars = beside_labels(labels, area);
+        self.render_group_label(&group.label, bars.width, rows_at(behind, 1, bars), buf)
+    }
+
+    // Renders the label of a group of so many bars, if there are any and a row for it.
+    fn render_label_of(
+        &self,
+        group: &BarGroup<'a>,
+        count: usize,
+        labels: u16,
+        area: Rect,
+        buf: &mut Buffer,
+    ) -> Result<(), AllocError>
+        requires labels { labels ≡ label_columns self.now }
+        requires count { count ≤ 131070 }
+        requires some { HasRoom self.now.direction area }
+        ensures within { ChangesWithin area buf.old buf.new }
+        ensures ok { let f = RendersLabelOf self.now.direction self.now group.now count area in
+            OnOk result (f buf.old buf.new) }
+    {
+        match self.direction {
+            Direction::Vertical => self.render_label_below(group, count, area, buf),
+            Direction::Horizontal => self.render_label_after(group, count, labels, area, buf),
+        }
+    }
+
+    // Renders a group from the left or the top of an area on, and answers what is left after its
+    // bars.
     fn render_group(
         &self,
         group: &BarGroup<'a>,
-        greatest: u64,
+        measures: Measures,
         area: Rect,
         buf: &mut Buffer,
     ) -> Result<Rect, AllocError>
-        requires greatest { greatest ≡ greatest_of_chart self.now }
+        requires measures { measures ≡ measures_of self.now }
         requires wide { 0 < self.now.bar_width }
-        requires some { HasRows area }
+        requires some { HasRoom self.now.direction area }
         requires inside { IsInside area buf.old.area }
         ensures within { ChangesWithin area buf.old buf.new }
         ensures ok { OnOk result (RendersGroup self.now group.now area buf.old buf.new) }
@@ -428,19 +472,23 @@ impl<'a> BarChart<'a> {
             IfOk result (λ rest. rest ≡ after_bars self.now area bars) }
     {
         let bars = group.bars.as_slice();
-        let count = self.fitting_count(area.width).min(bars.len());
-        let rest = self.render_bars(&bars[..count], greatest, area, buf)?;
-        let is_shown = self.has_group_labels(area.height);
-        let row = rows_at(area.height - 1, 1, area);
-        self.render_group_label(is_shown, &group.label, count, row, buf)?;
+        let along = cells_along(self.direction, area);
+        let count = self.fitting_count(along).min(bars.len());
+        let rest = self.render_bars(&bars[..count], measures, area, buf)?;
+        self.render_label_of(group, count, measures.labels, area, buf)?;
         Ok(rest)
     }
 
-    // Renders the groups from the left of an area on.
-    fn render_groups(&self, greatest: u64, area: Rect, buf: &mut Buffer) -> Result<(), AllocError>
-        requires greatest { greatest ≡ greatest_of_chart self.now }
+    // Renders the groups from the left or the top of an area on.
+    fn render_groups(
+        &self,
+        measures: Measures,
+        area: Rect,
+        buf: &mut Buffer,
+    ) -> Result<(), AllocError>
+        requires measures { measures ≡ measures_of self.now }
         requires wide { 0 < self.now.bar_width }
-        requires some { HasRows area }
+        requires some { HasRoom self.now.direction area }
         requires inside { IsInside area buf.old.area }
         ensures within { ChangesWithin area buf.old buf.new }
         ensures ok { let groups = self.now.groups.items in
@@ -448,8 +496,8 @@ impl<'a> BarChart<'a> {
     {
         let mut left = area;
         for group in self.groups.as_slice() {
-            let rest = self.render_group(group, greatest, left, buf)?;
-            left = without_first(self.group_gap, rest);
+            let rest = self.render_group(group, measures, left, buf)?;
+            left = area_behind(self.direction, self.group_gap, rest);
         }
         Ok(())
     }
@@ -464,7 +512,7 @@ impl<'a> BarChart<'a> {
         if self.bar_width == 0 {
             return Ok(());
         }
-        self.render_groups(self.greatest(), inner, buf)
+        self.render_groups(self.measures(), inner, buf)
     }
 }
 

@@ -2,14 +2,17 @@
 //!
 //! It stands on `ratatui_core` and `rtui_boxes`. `specs/Levels` says how high a value is in
 //! eighths of a cell and by which symbol a cell shows it, `specs/Sparklines` what each cell of a
-//! sparkline shows, and `specs/BarCharts` of which parts a bar chart is made.
+//! sparkline shows, `specs/BarAreas` where bars stand, and `specs/BarCharts` of which parts a bar
+//! chart is made.
 #![tactic(auto)]
 
+mod area;
 mod chart;
 mod chart_part;
 mod group;
 pub mod laws;
 mod level;
+mod long_bar;
 mod sparkline;
 mod styled;
 

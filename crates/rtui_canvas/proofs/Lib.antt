@@ -1,1 +1,2 @@
 pub mod CanvasLemmas
+pub mod NarrowCanvasLemmas

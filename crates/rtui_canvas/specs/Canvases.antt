@@ -1,10 +1,10 @@
 -- A canvas: what its dots and labels make of a buffer.
 use Rattle.std.specs.Prelude.{◌≡◌, ℕ, Bool, true, false, ◌+◌, ◌-◌, ◌*◌, ◌==◌, List, [], ◌∷◌, pos, length}
-use Rattle.std.specs.Prelude.{replicate, Option, None, slice_index_or, encode_utf8, if◌then◌else◌}
+use Rattle.std.specs.Prelude.{replicate, None, slice_index_or, encode_utf8, ◌<◌, ◌≤◌, if◌then◌else◌}
 use Rattle.ratatui_core.specs.Layout.{Rect, Position}
 use Rattle.ratatui_core.specs.Text.{LineData}
 use Rattle.ratatui_core.specs.Style.{Reset, new_style, with_bg}
-use Rattle.ratatui_core.specs.Buffer.{BufferData, Cell, with_symbol, ChangesEach, IsStyled}
+use Rattle.ratatui_core.specs.Buffer.{BufferData, Cell, with_symbol, ChangesEach, IsStyled, text_width}
 use Rattle.ratatui_core.specs.Widgets.{RendersLine}
 use Rattle.ratatui_core.specs.declared.symbols.Marker.{Marker}
 use Rattle.ratatui_core.specs.declared.symbols.Marker.TheVariants.{Braille, HalfBlock, Bar, Dot, Custom}
@@ -126,3 +126,7 @@ pub record IsNewCanvas (c : Canvas) : Type 0 where
   pub no_labels : c.labels.now ≡ []
   pub no_background : c.background_color ≡ Reset
   pub braille : c.marker ≡ Braille
+
+-- each character of a marker's dots takes at most one column
+abbrev pub HasNarrowDots : Marker → Type 0
+HasNarrowDots m = (n : ℕ) → n < 256 → text_width (encode_utf8 (dot_mark m n)) ≤ 1

@@ -6,8 +6,9 @@
 
 mod canvas;
 mod label;
+pub mod laws;
 mod shown;
 
 pub use canvas::Canvas;
 pub use label::Label;
-pub use rtui_dots::{Circle, Drawing, Line, Path, Points, Rectangle};
+pub use rtui_dots::{Bars, Circle, Drawing, Line, Path, Points, Rectangle};

@@ -1,11 +1,11 @@
 -- Dots one after the other.
 use Rattle.std.proofs.Common.{◌≡◌, ℕ, ◌+◌, ◌<◌, length, get_or, drop, ℤ, List, [], ◌∷◌, ◌++◌, refl, ◌∙◌, ap, ap₂, sym, subst}
-use Rattle.std.proofs.Common.{arith, zero, suc, replicate, set, cond, Bool, true, false}
+use Rattle.std.proofs.Common.{arith, pos, zero, suc, replicate, set, cond, Bool, true, false}
 use Rattle.rtui_dots.specs.{declared.scale.Scale.Scale, declared.painter.DotCell.DotCell, declared.painter.Painter.Painter}
 use Rattle.std.proofs.lemmas.List.{drop_more, length-set}
 use Rattle.rtui_style.specs.declared.color.Color.{Color}
 use Rattle.rtui_dots.specs.{declared.rectangle.Rectangle.Rectangle, Shapes.point_dots, Shapes.dots_between, Shapes.dots_on}
-use Rattle.rtui_dots.specs.{Shapes.far_end, Shapes.dots_of_rectangle}
+use Rattle.rtui_dots.specs.{Shapes.far_end, Shapes.dots_of_rectangle, Shapes.dots_of_columns}
 use Rattle.rtui_dots.specs.Grids.{Dot, no_dots, point_dot, has_dot, with_dot, with_dots, SetsDots}
 
 pub with_dots-append : (s : Scale) (ds es : List Dot) (cells : List DotCell)
@@ -71,6 +71,20 @@ next-line s color last cs k d old new all lt same paints was =
     (paints.cells ∙ ap (λ q. with_dots q (dots_between last.0 last.1 c.0 c.1 color q) old.cells.items) same)
     ∙ sym (with_dots-append s (dots_between last.0 last.1 c.0 c.1 color s) (dots_on c (drop (k + 1) cs) color s) old.cells.items)
     ∙ sym (ap (λ ps. with_dots s (dots_on last ps color s) old.cells.items) (drop_more cs k d lt)) ∙ was
+
+-- the line of a point is drawn, and the others are left
+pub next-bar : (s : Scale) (color : Color) (cs : List (ℤ × ℤ)) (k : ℕ) (d : ℤ × ℤ) (old new : Painter) (all : List DotCell)
+    → k < length cs → old.scale ≡ s
+    → SetsDots (dots_between (get_or cs k d).0 (pos 0) (get_or cs k d).0 (get_or cs k d).1 color old.scale) old new
+    → with_dots s (dots_of_columns (drop k cs) color s) old.cells.items ≡ all
+    → with_dots s (dots_of_columns (drop (k + 1) cs) color s) new.cells.items ≡ all
+next-bar s color cs k d old new all lt same paints was =
+    let c = get_or cs k d in
+    ap (with_dots s (dots_of_columns (drop (k + 1) cs) color s))
+    (paints.cells ∙ ap (λ q. with_dots q (dots_between c.0 (pos 0) c.0 c.1 color q) old.cells.items) same)
+    ∙ sym (with_dots-append s (dots_between c.0 (pos 0) c.0 c.1 color s) (dots_of_columns (drop (k + 1) cs) color s)
+    old.cells.items)
+    ∙ sym (ap (λ ps. with_dots s (dots_of_columns ps color s) old.cells.items) (drop_more cs k d lt)) ∙ was
 
 -- dots change no number of cells
 with_dot-length : (s : Scale) (d : Dot) (cells : List DotCell) → length (with_dot s d cells) ≡ length cells

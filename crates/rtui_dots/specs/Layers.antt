@@ -3,10 +3,11 @@ use Rattle.std.specs.Prelude.{Bool, true, false, List, [], ◌∷◌, ◌++◌, 
 use Rattle.rtui_dots.specs.declared.{scale.Scale.Scale, drawing.Drawing.Drawing}
 use Rattle.rtui_dots.specs.declared.drawing.Drawing.TheVariants.{Points as PointsOf, Line as LineOf}
 use Rattle.rtui_dots.specs.declared.drawing.Drawing.TheVariants.{Path as PathOf, Rectangle as RectangleOf}
-use Rattle.rtui_dots.specs.declared.drawing.Drawing.TheVariants.{Circle as CircleOf, Layer}
+use Rattle.rtui_dots.specs.declared.drawing.Drawing.TheVariants.{Circle as CircleOf, Bars as BarsOf, Layer}
 use Rattle.rtui_dots.specs.Grids.{Dot}
 use Rattle.rtui_dots.specs.Circles.{dots_of_circle}
 use Rattle.rtui_dots.specs.Shapes.{dots_of_points, dots_of_line, dots_of_path, dots_of_rectangle}
+use Rattle.rtui_dots.specs.Shapes.{dots_of_bars}
 
 -- whether what comes after it lies over what comes before it
 abbrev pub is_layer : Drawing → Bool
@@ -20,6 +21,7 @@ drawn_dots (LineOf l) s = dots_of_line l s
 drawn_dots (PathOf p) s = dots_of_path p s
 drawn_dots (RectangleOf r) s = dots_of_rectangle r s
 drawn_dots (CircleOf c) s = dots_of_circle c s
+drawn_dots (BarsOf b) s = dots_of_bars b s
 drawn_dots Layer s = []
 
 -- dots before those of the first layer

@@ -1,9 +1,9 @@
 -- The dots of each shape.
-use Rattle.std.specs.Prelude.{List, [], ◌∷◌, ◌++◌, ℤ, ◌+ℤ◌, if◌then◌else◌}
+use Rattle.std.specs.Prelude.{List, [], ◌∷◌, ◌++◌, ℤ, pos, ◌+ℤ◌, if◌then◌else◌}
 use Rattle.std.specs.Int.{saturate_signed, w64}
 use Rattle.rtui_style.specs.declared.color.Color.{Color}
 use Rattle.rtui_dots.specs.declared.{scale.Scale.Scale, points.Points.Points, line.Line.Line, path.Path.Path}
-use Rattle.rtui_dots.specs.declared.{rectangle.Rectangle.Rectangle}
+use Rattle.rtui_dots.specs.declared.{rectangle.Rectangle.Rectangle, bars.Bars.Bars}
 use Rattle.rtui_dots.specs.Grids.{Dot, is_open, dot_column, dot_row, point_dot}
 use Rattle.rtui_dots.specs.Lines.{run_of, run_dots}
 
@@ -37,6 +37,14 @@ dots_along (c ∷ cs) color s = dots_on c cs color s
 
 abbrev pub dots_of_path : Path → Scale → List Dot
 dots_of_path p = dots_along p.coords.now p.color
+
+-- those of the lines from the coordinate 0 to each of some points, up or down
+abbrev pub dots_of_columns : List (ℤ × ℤ) → Color → Scale → List Dot
+dots_of_columns [] color s = []
+dots_of_columns (c ∷ cs) color s = dots_between c.0 (pos 0) c.0 c.1 color s ++ dots_of_columns cs color s
+
+abbrev pub dots_of_bars : Bars → Scale → List Dot
+dots_of_bars b = dots_of_columns b.coords.now b.color
 
 -- the number that is so far from another one, at most the greatest one of 64 bits and at least the least one
 abbrev pub far_end : ℤ → ℤ → ℤ

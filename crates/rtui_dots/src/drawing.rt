@@ -3,6 +3,7 @@
 ghost use Rattle.std.specs.Prelude.{◌≡◌};
 ghost use Rattle.rtui_dots.specs.Layers.{is_layer};
 
+use crate::bars::Bars;
 use crate::circle::Circle;
 use crate::line::Line;
 use crate::painter::Painter;
@@ -24,6 +25,8 @@ pub enum Drawing<'a> {
     Rectangle(Rectangle),
     /// A circle.
     Circle(Circle),
+    /// A line for each point, from the coordinate 0 to it.
+    Bars(Bars<'a>),
     /// What comes after it lies over what comes before it: where both have dots in a cell, only
     /// those after it show.
     Layer,
@@ -53,6 +56,7 @@ impl<'a> Shape for Drawing<'a> {
             Drawing::Path(path) => path.draw(painter),
             Drawing::Rectangle(rectangle) => rectangle.draw(painter),
             Drawing::Circle(circle) => circle.draw(painter),
+            Drawing::Bars(bars) => bars.draw(painter),
             Drawing::Layer => {}
         }
     }

@@ -7,6 +7,7 @@
 //! layers. The crate above shows a grid's cells in a buffer.
 #![tactic(auto)]
 
+mod bars;
 mod circle;
 mod drawing;
 mod line;
@@ -17,6 +18,7 @@ mod rectangle;
 mod scale;
 mod shape;
 
+pub use bars::Bars;
 pub use circle::Circle;
 pub use drawing::Drawing;
 pub use line::Line;

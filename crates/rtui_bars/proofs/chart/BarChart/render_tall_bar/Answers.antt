@@ -1,6 +1,6 @@
 use Rattle.std.proofs.Common.{◌-◌, arith}
 use Rattle.rtui_bars.proofs.ChartLemmas.{rows-inside}
-use Rattle.rtui_bars.proofs.chart.BarChart.render_bar.Goals as goal
+use Rattle.rtui_bars.proofs.chart.BarChart.render_tall_bar.Goals as goal
 
 pub render_value-requires-clause-inside : goal.render_value-requires-clause-inside
 render_value-requires-clause-inside c = λ p h.

@@ -1,0 +1,104 @@
+-- The parts of a chart within its area.
+use Rattle.std.proofs.Common.{◌≡◌, ℕ, ◌+◌, ◌-◌, ◌*◌, ◌/◌, ◌<◌, ◌≤◌, max, List, [], ◌∷◌, length, drop, get_or, sym, ap}
+use Rattle.std.specs.{Char.encode_utf8}
+use Rattle.std.proofs.Common.{◌∙◌, arith, refl, ⊎_elim, Option, Some, None, Result, Ok, Err, OnOk, OnErr}
+use Rattle.std.specs.declared.alloc.AllocError.{AllocError}
+use Rattle.std.proofs.lemmas.{Bool.cases_lt}
+use Rattle.ratatui_core.specs.{Style.Style, Text.LineData, Buffer.BufferData, Buffer.IsStyled}
+use Rattle.ratatui_core.specs.Widgets.{ChangesWithin, RendersLine}
+use Rattle.ratatui_core.proofs.WidgetLemmas.{within-then, within-styled}
+use Rattle.rtui_chart.specs.{ChartLayouts.widest_line, Legends.with_name, Legends.name_count, Legends.name_columns}
+use Rattle.std.proofs.lemmas.List.{drop_more}
+use Rattle.std.proofs.Math.Nat.{mul-div-le, mul-le-mul_right, div-le_of_le-mul, mul-zero}
+use Rattle.ratatui_core.specs.Layout.{Rect, IsInside}
+use Rattle.ratatui_core.specs.declared.layout.HorizontalAlignment.{HorizontalAlignment}
+use Rattle.ratatui_core.specs.declared.layout.HorizontalAlignment.TheVariants.{Left, Center, Right}
+use Rattle.rtui_chart.specs.{ChartParts.first_label_area, Inner.AreLabelRows}
+
+-- the elements from one on
+pub element-next : {A : Type 0} (xs : List A) (k : ℕ) (x : A) → k < length xs → x ≡ get_or xs k x
+    → drop k xs ≡ x ∷ drop (k + 1) xs
+element-next xs k x lt is = drop_more xs k x lt ∙ ap (λ y. y ∷ drop (k + 1) xs) (sym is)
+
+-- n shares of so many columns: those before one of them and its own are among all of them
+pub share-fits : (i n g : ℕ) → i < n → i * (g / n) + g / n ≤ g
+share-fits i n g lt =
+    let whole : n * (g / n) ≤ g = mul-div-le g n in
+    let more : (i + 1) * (g / n) ≤ n * (g / n) = mul-le-mul_right (g / n) (omega arith) in
+    omega arith
+
+-- the rows over which labels stand: the last one is at most the first row
+pub rows-fit : (i n h : ℕ) → i < n → i * (h - 1) / max (n - 1) 1 ≤ h - 1
+rows-fit i n h lt =
+    let le : i * (h - 1) ≤ max (n - 1) 1 * (h - 1) = mul-le-mul_right (h - 1) (omega arith) in
+    div-le_of_le-mul (max (n - 1) 1) le
+
+-- where the first label stands
+pub first-in : (a : HorizontalAlignment) (n w : ℕ) (g r : Rect) → AreLabelRows g r → w ≤ g.width
+    → IsInside (first_label_area a n w g r) r
+first-in Left n w g r are le p h =
+    let l = are.left in let e = are.right in let left = h.left in let right = h.right in
+    record { left = left; right = omega arith; top = h.top; bottom = h.bottom }
+first-in Center n w g r are le p h =
+    let l = are.left in let e = are.right in let left = h.left in let right = h.right in
+    record { left = left; right = omega arith; top = h.top; bottom = h.bottom }
+first-in Right n w g r are le p h =
+    let l = are.left in let e = are.right in let left = h.left in let right = h.right in
+    record { left = omega arith; right = omega arith; top = h.top; bottom = h.bottom }
+
+pub last-in : (w : ℕ) (g r : Rect) → AreLabelRows g r → w ≤ g.width
+    → IsInside (record r { x = g.x + g.width - w; width = w }) r
+last-in w g r are le p h =
+    let l = are.left in let e = are.right in let left = h.left in let right = h.right in
+    record { left = omega arith; right = omega arith; top = h.top; bottom = h.bottom }
+
+pub middle-in : (from w : ℕ) (g r : Rect) → AreLabelRows g r → from + w ≤ g.width
+    → IsInside (record r { x = g.x + from + 1; width = w - 1 }) r
+middle-in from w g r are le p h =
+    let l = are.left in let e = are.right in let left = h.left in let right = h.right in
+    record { left = omega arith; right = omega arith; top = h.top; bottom = h.bottom }
+
+pub row-in : (up : ℕ) (r : Rect) → up < r.height → IsInside (record r { y = r.y + (r.height - 1 - up); height = 1 }) r
+row-in up r lt p h = let top = h.top in let bottom = h.bottom in
+    record { left = h.left; right = h.right; top = omega arith; bottom = omega arith }
+
+-- a place before the last one is less than all columns
+pub share-below : (i n g : ℕ) → i < n → 0 < g → i * (g / n) < g
+share-below i n g lt some =
+    let fits = share-fits i n g lt in
+    ⊎_elim (λ (wide : 0 < g / n). omega arith)
+    (λ (none : g / n ≤ 0). let e : g / n ≡ 0 = omega arith in rw (e, mul-zero i) some) (cases_lt 0 (g / n))
+
+-- a style and a line over it, or memory is refused
+pub titled-in : {A : Type 0} (result : Result A AllocError) (r : Rect) (style : Style) (line : LineData)
+    (old laid new : BufferData) → IsStyled r style old laid → OnOk result (RendersLine line r laid new)
+    → OnErr result (ChangesWithin r laid new)
+    → ChangesWithin r old new
+titled-in (Ok x) r style line old laid new is ok err =
+    within-then r old laid new (within-styled r r style old laid (λ p in_own h. h) is) ok.within
+titled-in (Err e) r style line old laid new is ok err =
+    within-then r old laid new (within-styled r r style old laid (λ p in_own h. h) is) err
+
+-- the name of a data set beside those of others
+pub name-widest : (name : Option LineData) (style : Style) (names : List LineData)
+    → widest_line (with_name name style names) ≡ max (name_columns name) (widest_line names)
+name-widest None style names = omega arith
+name-widest (Some line) style names = refl
+
+pub name-counted : (name : Option LineData) (style : Style) (names : List LineData)
+    → length (with_name name style names) ≡ name_count name + length names
+name-counted None style names = omega arith
+name-counted (Some line) style names = omega arith
+
+-- the bytes of the lines of axes
+pub level-mark : encode_utf8 0x2500 ≡ 226 ∷ 148 ∷ 128 ∷ []
+unfolding encode_utf8
+level-mark = refl
+
+pub upright-mark : encode_utf8 0x2502 ≡ 226 ∷ 148 ∷ 130 ∷ []
+unfolding encode_utf8
+upright-mark = refl
+
+pub corner-mark : encode_utf8 0x2514 ≡ 226 ∷ 148 ∷ 148 ∷ []
+unfolding encode_utf8
+corner-mark = refl

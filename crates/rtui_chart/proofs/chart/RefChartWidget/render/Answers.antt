@@ -1,0 +1,36 @@
+use Rattle.rtui_boxes.proofs.FrameLemmas.{framed-bare, framed-some, inner-within, inner-some, inner-none, inner-own, any-err}
+use Rattle.rtui_chart.specs.Plots.{ShowsPlot}
+use Rattle.rtui_chart.proofs.chart.RefChartWidget.render.Goals as goal
+
+pub returns-in_default-2-clause-ok : goal.returns-in_default-2-clause-ok
+returns-in_default-2-clause-ok c =
+    framed-bare c.args.self.now.style c.args.self.now.block (ShowsPlot c.args.self.now) c.args.area c.in-Some.part c.args.buf.now
+    c.render_frame.new.buf c.in-Some.ensures c.render_frame.ensures.within c.in_ok-inner.ensures.framed
+    (inner-none c.args.self.now.block c.in-Some.part c.in_ok-inner.field-0 c.in_default-2.is c.in_ok-inner.ensures.inner)
+
+pub render_plot-requires-clause-inside : goal.render_plot-requires-clause-inside
+render_plot-requires-clause-inside c =
+    inner-own c.args.self.now.block c.in-Some.part c.in-Some-2.inner c.args.area c.args.buf.now c.render_frame.new.buf
+    c.in-Some.ensures c.render_frame.ensures.within
+    (inner-some c.args.self.now.block c.in-Some.part c.in_ok-inner.field-0 c.in-Some-2.inner c.in-Some-2.is
+    c.in_ok-inner.ensures.inner)
+
+pub returns-clause-ok : goal.returns-clause-ok
+returns-clause-ok c =
+    framed-some c.args.self.now.style c.args.self.now.block (ShowsPlot c.args.self.now) c.args.area c.in-Some.part c.args.buf.now
+    c.render_frame.new.buf c.in-Some.ensures c.render_frame.ensures.within
+    c.render_plot.result c.in-Some-2.inner c.render_plot.new.buf c.in_ok-inner.ensures.framed
+    (inner-some c.args.self.now.block c.in-Some.part c.in_ok-inner.field-0 c.in-Some-2.inner c.in-Some-2.is
+    c.in_ok-inner.ensures.inner) c.render_plot.ensures.within c.render_plot.ensures.ok
+
+pub returns-clause-err : goal.returns-clause-err
+returns-clause-err c =
+    any-err c.render_plot.result
+    (inner-within c.args.self.now.style c.args.self.now.block (ShowsPlot c.args.self.now) c.args.area c.in-Some.part
+    c.args.buf.now c.render_frame.new.buf c.in-Some.ensures c.render_frame.ensures.within c.in-Some-2.inner
+    c.render_plot.new.buf
+    (inner-some c.args.self.now.block c.in-Some.part c.in_ok-inner.field-0 c.in-Some-2.inner c.in-Some-2.is
+    c.in_ok-inner.ensures.inner) c.render_plot.ensures.within)
+
+pub returns-clause-left : goal.returns-clause-left
+returns-clause-left c = any-err c.render_plot.result tt

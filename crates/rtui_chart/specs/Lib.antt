@@ -1,0 +1,6 @@
+pub mod Charts
+pub mod ChartLayouts
+pub mod ChartParts
+pub mod Legends
+pub mod Plots
+pub mod Inner

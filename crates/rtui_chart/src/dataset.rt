@@ -1,0 +1,88 @@
+//! Data sets.
+
+ghost use Rattle.std.specs.Prelude.{◌≡◌, Some};
+ghost use Rattle.rtui_chart.specs.Charts.{IsNewDataset};
+
+use ratatui_core::style::Style;
+use ratatui_core::symbols::Marker;
+use ratatui_core::text::Line;
+
+/// How the points of a data set are shown.
+#[derive(Debug, Default, Clone, Copy, PartialEq, Eq, Hash)]
+pub enum GraphType {
+    /// Each as a dot.
+    #[default]
+    Scatter,
+    /// Each as a dot, with a straight line to the next one.
+    Line,
+    /// Each as a dot, with a straight line to the coordinate 0 under it or over it.
+    Bar,
+}
+
+/// Points of a chart, which are shown in one colour and, if they have a name, in the legend.
+#[derive(Debug, Drop)]
+pub struct Dataset<'a> {
+    pub(crate) name: Option<Line<'a>>,
+    pub(crate) points: &'a [(i64, i64)],
+    pub(crate) marker: Marker,
+    pub(crate) graph_type: GraphType,
+    pub(crate) style: Style,
+}
+
+impl<'a> Dataset<'a> {
+    /// No points, without a name, each as a dot. Takes no memory.
+    pub fn new() -> Dataset<'a>
+        ensures { IsNewDataset result }
+    {
+        Dataset {
+            name: None,
+            points: &[],
+            marker: Marker::Dot,
+            graph_type: GraphType::Scatter,
+            style: Style::new(),
+        }
+    }
+
+    /// The data set with a name, by which the legend knows it.
+    pub fn name(mut self, name: Line<'a>) -> Dataset<'a>
+        ensures { result ≡ record self.entry { name = Some name.entry } }
+    {
+        self.name = Some(name);
+        self
+    }
+
+    /// The data set of other points: their coordinates from the left and from below.
+    pub fn data(self, data: &'a [(i64, i64)]) -> Dataset<'a>
+        ensures { result ≡ record self.entry { points = data.entry } }
+    {
+        Dataset {
+            points: data,
+            ..self
+        }
+    }
+
+    /// The data set with its dots marked so.
+    pub fn marker(mut self, marker: Marker) -> Dataset<'a>
+        ensures { result ≡ record self.entry { marker = marker } }
+    {
+        self.marker = marker;
+        self
+    }
+
+    /// The data set with its points shown so.
+    pub fn graph_type(mut self, graph_type: GraphType) -> Dataset<'a>
+        ensures { result ≡ record self.entry { graph_type = graph_type } }
+    {
+        self.graph_type = graph_type;
+        self
+    }
+
+    /// The data set in a style: its foreground is the colour of the dots, and all of it is over its
+    /// name in the legend.
+    pub fn style(mut self, style: Style) -> Dataset<'a>
+        ensures { result ≡ record self.entry { style = style } }
+    {
+        self.style = style;
+        self
+    }
+}

@@ -1,0 +1,19 @@
+//! A chart: the points of data sets by dots, in whole numbers, between two axes.
+//!
+//! It stands on `ratatui_core`, `rtui_boxes` and `rtui_canvas`, which shows the dots.
+//! `specs/ChartLayouts` says where the parts of a chart stand, `specs/ChartParts` what they make of
+//! a buffer, `specs/Legends` the same of the legend, and `specs/Plots` what a whole chart makes of
+//! one.
+#![tactic(auto)]
+
+mod axis;
+mod chart;
+mod dataset;
+mod layout;
+mod legend;
+mod parts;
+
+pub use axis::Axis;
+pub use chart::Chart;
+pub use dataset::{Dataset, GraphType};
+pub use legend::LegendPosition;
