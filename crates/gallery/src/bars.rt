@@ -1,8 +1,6 @@
-//! Bars, and a grid of dots.
-use ratatui_core::style::Color;
+//! Bars.
 use ratatui_core::terminal::Frame;
 use ratatui_core::text::Line;
-use ratatui_widgets::canvas::{Canvas, Circle, Drawing, Line as Segment};
 use ratatui_widgets::{Bar, BarChart, BarGroup, Sparkline, SparklineBar};
 use std::alloc::{AllocError, Global};
 
@@ -27,27 +25,13 @@ pub fn bar_chart(alloc: Global, frame: &mut Frame<'_>) -> Result<(), AllocError>
     frame.render_widget(BarChart::new(groups).bar_width(4).bar_gap(2), area)
 }
 
-/// A circle and a line, in dots of braille.
-pub fn canvas(frame: &mut Frame<'_>) -> Result<(), AllocError> {
+/// Bars that grow to the right.
+pub fn horizontal_bars(alloc: Global, frame: &mut Frame<'_>) -> Result<(), AllocError> {
     let area = frame.area();
-    let (x, y, radius, color) = (24, 12, 10, Color::Green);
-    let circle = Circle {
-        x,
-        y,
-        radius,
-        color,
-    };
-    let line = Segment {
-        x1: 0,
-        y1: 0,
-        x2: 47,
-        y2: 23,
-        color,
-    };
-    let drawings = [Drawing::Circle(circle), Drawing::Line(line)];
-    let canvas = Canvas::new()
-        .x_bounds([0, 47])
-        .y_bounds([0, 23])
-        .paint(&drawings);
-    frame.render_widget(canvas, area)
+    let mut bars = Vec::new(alloc);
+    for (name, value) in [("Mon", 3), ("Tue", 9), ("Wed", 6)] {
+        bars.push(Bar::with_label(Line::raw(alloc, name)?, value))?;
+    }
+    let chart = BarChart::horizontal(alloc, bars)?.bar_gap(0);
+    frame.render_widget(chart, area)
 }

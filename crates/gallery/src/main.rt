@@ -3,6 +3,7 @@
 
 mod bars;
 mod boxes;
+mod charts;
 mod lists;
 mod meters;
 
@@ -23,7 +24,9 @@ enum Picture {
     Scrollbar,
     Sparkline,
     BarChart,
+    HorizontalBars,
     Canvas,
+    Chart,
 }
 
 impl Picture {
@@ -39,7 +42,9 @@ impl Picture {
             Picture::Scrollbar => "Scrollbar",
             Picture::Sparkline => "Sparkline",
             Picture::BarChart => "BarChart",
+            Picture::HorizontalBars => "BarChart::horizontal",
             Picture::Canvas => "Canvas",
+            Picture::Chart => "Chart",
         }
     }
 
@@ -56,13 +61,15 @@ impl Picture {
             Picture::Scrollbar => meters::scrollbar(frame),
             Picture::Sparkline => bars::sparkline(alloc, frame),
             Picture::BarChart => bars::bar_chart(alloc, frame),
-            Picture::Canvas => bars::canvas(frame),
+            Picture::HorizontalBars => bars::horizontal_bars(alloc, frame),
+            Picture::Canvas => charts::canvas(frame),
+            Picture::Chart => charts::chart(alloc, frame),
         }
     }
 }
 
 // Each widget, with the columns and rows of its picture.
-static PICTURES: [(Picture, u16, u16); 11] = [
+static PICTURES: [(Picture, u16, u16); 13] = [
     (Picture::Block, 24, 4),
     (Picture::Paragraph, 24, 4),
     (Picture::List, 24, 3),
@@ -73,7 +80,9 @@ static PICTURES: [(Picture, u16, u16); 11] = [
     (Picture::Scrollbar, 1, 6),
     (Picture::Sparkline, 24, 2),
     (Picture::BarChart, 24, 6),
+    (Picture::HorizontalBars, 24, 3),
     (Picture::Canvas, 24, 6),
+    (Picture::Chart, 24, 8),
 ];
 
 // Draws a widget on a screen of its own, and prints its name and that screen.

@@ -1,4 +1,4 @@
-//! The third page: grids of dots.
+//! The third page: grids of dots, and a chart.
 
 ghost use Rattle.std.specs.Prelude.{◌≡◌};
 
@@ -9,7 +9,7 @@ use ratatui_core::symbols::Marker;
 use ratatui_core::text::Line;
 use ratatui_core::widgets::Widget;
 use ratatui_widgets::canvas::{Canvas, Circle, Drawing, Line as Segment, Rectangle};
-use ratatui_widgets::{Block, BorderType};
+use ratatui_widgets::{Axis, Block, BorderType, Chart, Dataset, GraphType};
 use std::alloc::{AllocError, Global};
 
 // A box with a title.
@@ -61,13 +61,64 @@ fn paint_shapes(
         .render(area, buf)
 }
 
-/// Paints the same shapes in dots of braille and in half blocks.
+// Two data sets between two axes.
+static SLOW: [(i64, i64); 6] = [(0, 5), (20, 12), (40, 22), (60, 35), (80, 48), (100, 60)];
+
+static FAST: [(i64, i64); 6] = [(0, 0), (20, 45), (40, 70), (60, 85), (80, 93), (100, 97)];
+
+// A data set with a name, in a colour.
+fn dataset<'a>(
+    alloc: Global,
+    name: &'a str,
+    data: &'a [(i64, i64)],
+    color: Color,
+) -> Result<Dataset<'a>, AllocError> {
+    Ok(
+        Dataset::new()
+            .name(Line::raw(alloc, name)?)
+            .data(data)
+            .marker(Marker::Braille)
+            .graph_type(GraphType::Line)
+            .style(Style::new().fg(color)),
+    )
+}
+
+// Paints a chart of them.
+fn paint_chart(alloc: Global, area: Rect, buf: &mut Buffer) -> Result<(), AllocError>
+    ensures { buf.new.area ≡ buf.old.area }
+{
+    let x_labels = [
+        Line::raw(alloc, "0")?,
+        Line::raw(alloc, "50")?,
+        Line::raw(alloc, "100")?,
+    ];
+    let y_labels = [Line::raw(alloc, "0")?, Line::raw(alloc, "100")?];
+    let datasets = vec![in alloc;
+        dataset(alloc, "slow", &SLOW, Color::LightRed)?,
+        dataset(alloc, "fast", &FAST, Color::Green)?,
+    ]?;
+    Chart::new(datasets)
+        .block(boxed(alloc, " Chart ")?)
+        .x_axis(Axis::new().bounds([0, 100]).labels(&x_labels))
+        .y_axis(Axis::new().bounds([0, 100]).labels(&y_labels))
+        .render(area, buf)
+}
+
+/// Paints the same shapes in dots of braille and in half blocks, and a chart under them.
 pub fn paint(alloc: Global, buf: &mut Buffer) -> Result<(), AllocError>
     ensures { buf.new.area ≡ buf.old.area }
 {
     let area = *buf.area();
     let halves = [Constraint::Fill(1), Constraint::Fill(1)];
-    let [left, right]: [Rect; 2] = Layout::horizontal(alloc, &halves)?.areas(area);
+    let [above, below]: [Rect; 2] = Layout::vertical(alloc, &halves)?.areas(area);
+    let [left, right]: [Rect; 2] = Layout::horizontal(alloc, &halves)?.areas(above);
     paint_shapes(alloc, " Canvas: braille ", Marker::Braille, left, buf)?;
-    paint_shapes(alloc, " Canvas: half blocks ", Marker::HalfBlock, right, buf)
+    paint_shapes(
+        alloc,
+        " Canvas: half blocks ",
+        Marker::HalfBlock,
+        right,
+        buf,
+    )?;
+    paint_chart(alloc, below, buf)
 }

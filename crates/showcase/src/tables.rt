@@ -31,7 +31,11 @@ fn paint_tabs(alloc: Global, area: Rect, buf: &mut Buffer) -> Result<(), AllocEr
     }
     Tabs::new(titles)
         .select(Some(1))
-        .highlight_style(Style::new().fg(Color::Yellow).add_modifier(Modifier::REVERSED))
+        .highlight_style(
+            Style::new()
+                .fg(Color::Yellow)
+                .add_modifier(Modifier::REVERSED),
+        )
         .render(area, buf)
 }
 
@@ -65,14 +69,18 @@ fn table<'a>(alloc: Global) -> Result<Table<'a>, AllocError> {
     let widths = vec![in alloc;
         Constraint::Length(14),
         Constraint::Fill(1),
-        Constraint::Length(9)
+        Constraint::Length(9),
     ]?;
-    let header = row(alloc, &["crate", "what", "functions"])?.bold().underlined();
-    Ok(Table::new(rows, widths)
-        .header(header)
-        .block(boxed(alloc, " Table ")?)
-        .highlight_symbol(Text::raw(alloc, "▶ ")?)
-        .row_highlight_style(Style::new().bg(Color::Rgb(40, 60, 110))))
+    let header = row(alloc, &["crate", "what", "functions"])?
+        .bold()
+        .underlined();
+    Ok(
+        Table::new(rows, widths)
+            .header(header)
+            .block(boxed(alloc, " Table ")?)
+            .highlight_symbol(Text::raw(alloc, "▶ ")?)
+            .row_highlight_style(Style::new().bg(Color::Rgb(40, 60, 110))),
+    )
 }
 
 // Paints numbers, a column each.
@@ -106,7 +114,11 @@ fn paint_chart(alloc: Global, area: Rect, buf: &mut Buffer) -> Result<(), AllocE
         .bar_width(3)
         .group_gap(3)
         .bar_style(Style::new().fg(Color::Magenta))
-        .value_style(Style::new().fg(Color::Magenta).add_modifier(Modifier::REVERSED))
+        .value_style(
+            Style::new()
+                .fg(Color::Magenta)
+                .add_modifier(Modifier::REVERSED),
+        )
         .render(area, buf)
 }
 
@@ -115,7 +127,11 @@ pub fn paint(alloc: Global, buf: &mut Buffer) -> Result<(), AllocError>
     ensures { buf.new.area ≡ buf.old.area }
 {
     let area = *buf.area();
-    let rows = [Constraint::Length(1), Constraint::Fill(1), Constraint::Length(9)];
+    let rows = [
+        Constraint::Length(1),
+        Constraint::Fill(1),
+        Constraint::Length(9),
+    ];
     let [head, body, foot]: [Rect; 3] = Layout::vertical(alloc, &rows)?.areas(area);
     let halves = [Constraint::Fill(1), Constraint::Fill(1)];
     let [left, right]: [Rect; 2] = Layout::horizontal(alloc, &halves)?.areas(foot);

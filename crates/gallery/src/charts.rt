@@ -1,0 +1,50 @@
+//! Grids of dots.
+use ratatui_core::style::{Color, Style};
+use ratatui_core::symbols::Marker;
+use ratatui_core::terminal::Frame;
+use ratatui_core::text::Line;
+use ratatui_widgets::canvas::{Canvas, Circle, Drawing, Line as Segment};
+use ratatui_widgets::{Axis, Chart, Dataset, GraphType};
+use std::alloc::{AllocError, Global};
+
+/// A circle and a line, in dots of braille.
+pub fn canvas(frame: &mut Frame<'_>) -> Result<(), AllocError> {
+    let area = frame.area();
+    let (x, y, radius, color) = (24, 12, 10, Color::Green);
+    let circle = Circle {
+        x,
+        y,
+        radius,
+        color,
+    };
+    let line = Segment {
+        x1: 0,
+        y1: 0,
+        x2: 47,
+        y2: 23,
+        color,
+    };
+    let drawings = [Drawing::Circle(circle), Drawing::Line(line)];
+    let canvas = Canvas::new()
+        .x_bounds([0, 47])
+        .y_bounds([0, 23])
+        .paint(&drawings);
+    frame.render_widget(canvas, area)
+}
+
+/// Points, each joined to the next one, between two axes.
+pub fn chart(alloc: Global, frame: &mut Frame<'_>) -> Result<(), AllocError> {
+    let area = frame.area();
+    let points = [(0, 2), (2, 5), (4, 4), (6, 9), (8, 6), (10, 10)];
+    let data = Dataset::new()
+        .data(&points)
+        .marker(Marker::Braille)
+        .graph_type(GraphType::Line)
+        .style(Style::new().fg(Color::Green));
+    let x_labels = [Line::raw(alloc, "0")?, Line::raw(alloc, "10")?];
+    let y_labels = [Line::raw(alloc, "0")?, Line::raw(alloc, "10")?];
+    let chart = Chart::new(vec![in alloc; data]?)
+        .x_axis(Axis::new().bounds([0, 10]).labels(&x_labels))
+        .y_axis(Axis::new().bounds([0, 10]).labels(&y_labels));
+    frame.render_widget(chart, area)
+}
