@@ -4,6 +4,7 @@
 
 mod buffers;
 mod canvases;
+mod charts;
 mod geometry;
 mod input;
 mod styles;
