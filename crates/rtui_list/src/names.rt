@@ -4,8 +4,7 @@ ghost use Rattle.std.specs.Prelude.{Some};
 ghost use Rattle.ratatui_core.specs.Layout.{ReadsName};
 ghost use Rattle.rtui_list.specs.Names.{list_direction_name, spacing_name};
 
-use crate::list::ListDirection;
-use crate::list::HighlightSpacing;
+use crate::list::{HighlightSpacing, ListDirection};
 use ratatui_core::layout::ParseError;
 use std::fmt;
 use std::str::FromStr;

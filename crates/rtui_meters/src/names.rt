@@ -4,8 +4,7 @@ ghost use Rattle.std.specs.Prelude.{Some};
 ghost use Rattle.ratatui_core.specs.Layout.{ReadsName};
 ghost use Rattle.rtui_meters.specs.Names.{orientation_name, scroll_name};
 
-use crate::scrollbar::ScrollbarOrientation;
-use crate::scrollbar::ScrollDirection;
+use crate::scrollbar::{ScrollDirection, ScrollbarOrientation};
 use ratatui_core::layout::ParseError;
 use std::fmt;
 use std::str::FromStr;
