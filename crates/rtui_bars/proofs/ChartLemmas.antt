@@ -15,9 +15,9 @@ use Rattle.ratatui_core.proofs.{WidgetLemmas.within-then, WidgetLemmas.within-st
 use Rattle.rtui_boxes.specs.{Boxes.IsBoxArea, Titles.first_columns, Titles.without_first}
 use Rattle.rtui_boxes.proofs.PaintLemmas.{paints-within}
 use Rattle.rtui_bars.specs.{declared.group.Bar.Bar, declared.chart.BarChart.BarChart}
-use Rattle.rtui_bars.specs.BarAreas.{rows_at, middle_columns, upper_rows, without_upper, cells_along, bar_area, area_behind}
+use Rattle.rtui_bars.specs.BarAreas.{rows_at, middle_columns, upper_rows, without_upper, cells_along, bar_part, area_behind}
 use Rattle.rtui_bars.specs.BarCharts.{beside_labels, bar_step, after_bars}
-use Rattle.rtui_bars.specs.Inner.{HasRoom, BarsFit}
+use Rattle.rtui_bars.specs.Inner.{HasRoomAcross, BarsFit}
 
 -- a change of a part, or memory is refused
 pub changed-in : {A : Type 0} (result : Result A AllocError) (part r : Rect) (f : Position → Cell → Cell) (old new : BufferData)
@@ -70,11 +70,11 @@ lower-in n r p h = let left = h.left in let right = h.right in let top = h.top i
     record { left = left; right = right; top = omega arith; bottom = omega arith }
 
 -- where a bar stands, and what is behind it
-pub bar-in : (d : Direction) (n : ℕ) (r : Rect) → IsInside (bar_area d n r) r
+pub bar-in : (d : Direction) (n : ℕ) (r : Rect) → IsInside (bar_part d n r) r
 bar-in Vertical n r = first-in n r
 bar-in Horizontal n r = upper-in n r
 
-pub bar-box : (d : Direction) (n : ℕ) (r : Rect) → HasRoom d r → 0 < n → n ≤ cells_along d r → IsBoxArea (bar_area d n r)
+pub bar-box : (d : Direction) (n : ℕ) (r : Rect) → HasRoomAcross d r → 0 < n → n ≤ cells_along d r → IsBoxArea (bar_part d n r)
 bar-box Vertical n r is some le = let a = is.across in let h = is.some in
     record { columns = omega arith; rows = h; across = omega arith; down = is.down }
 bar-box Horizontal n r is some le = let a = is.down in let w = is.some in
@@ -84,7 +84,7 @@ pub behind-in : (d : Direction) (n : ℕ) (r : Rect) → IsInside (area_behind d
 behind-in Vertical n r = rest-in n r
 behind-in Horizontal n r = lower-in n r
 
-pub behind-room : (d : Direction) (n : ℕ) (r : Rect) → HasRoom d r → HasRoom d (area_behind d n r)
+pub behind-room : (d : Direction) (n : ℕ) (r : Rect) → HasRoomAcross d r → HasRoomAcross d (area_behind d n r)
 behind-room Vertical n r is = let a = is.across in let h = is.some in
     record { some = h; across = omega arith; down = is.down }
 behind-room Horizontal n r is = let a = is.down in let w = is.some in
@@ -94,7 +94,7 @@ pub behind-along : (d : Direction) (n : ℕ) (r : Rect) → cells_along d (area_
 behind-along Vertical n r = refl
 behind-along Horizontal n r = refl
 
-pub box-room : (d : Direction) (r : Rect) → IsBoxArea r → HasRoom d r
+pub box-room : (d : Direction) (r : Rect) → IsBoxArea r → HasRoomAcross d r
 box-room Vertical r is = record { some = is.rows; across = is.across; down = is.down }
 box-room Horizontal r is = record { some = is.columns; across = is.across; down = is.down }
 
@@ -132,7 +132,7 @@ take-least n xs =
     (cases_lt n (length xs))
 
 -- what is left after bars
-pub after-room : (c : BarChart) (r : Rect) (bars : List Bar) → HasRoom c.direction r → HasRoom c.direction (after_bars c r bars)
+pub after-room : (c : BarChart) (r : Rect) (bars : List Bar) → HasRoomAcross c.direction r → HasRoomAcross c.direction (after_bars c r bars)
 after-room c r [] is = is
 after-room c r (bar ∷ bars) is =
     after-room c (area_behind c.direction (bar_step c) r) bars (behind-room c.direction (bar_step c) r is)

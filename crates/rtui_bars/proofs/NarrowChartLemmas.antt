@@ -1,12 +1,12 @@
 -- A bar chart of narrow texts keeps cells plain.
-use Rattle.std.proofs.Common.{◌≡◌, ℕ, ◌+◌, ◌-◌, ◌<◌, ◌≤◌, ◌⊎◌, ⊎_elim, inl, inr, Bool, true, false, if◌then◌else◌, nat_lt, ◌==◌}
-use Rattle.std.proofs.Common.{◌&&◌, ◌^◌, decimal, not, List, [], ◌∷◌, All, Option, Some, None, arith, lit<, length, take, min}
+use Rattle.std.proofs.Common.{◌≡◌, ℕ, ◌-◌, ◌<◌, ◌≤◌, ◌⊎◌, ⊎_elim, inl, inr, Bool, true, false, if◌then◌else◌, nat_lt, ◌==◌}
+use Rattle.std.proofs.Common.{◌&&◌, ◌^◌, decimal, not, List, [], ◌∷◌, All, Option, Some, None, arith, lit<, length, min}
 use Rattle.std.proofs.lemmas.{Bool.cases_lt, List.Elements.All-head, List.Elements.All-tail, List.Elements.All-take}
 use Rattle.ratatui_core.specs.Layout.{Rect, Position, intersected, corner}
-use Rattle.ratatui_core.specs.{Style.Style, Style.new_style, Style.patch, Symbols.bar_texts, Text.LineData}
-use Rattle.ratatui_core.specs.declared.{symbols.bar.Set.Set as BarSet, layout.Direction.Direction}
+use Rattle.ratatui_core.specs.{Style.Style, Style.new_style, Style.patch, Text.LineData}
+use Rattle.ratatui_core.specs.declared.{layout.Direction.Direction}
 use Rattle.ratatui_core.specs.declared.layout.Direction.TheVariants.{Horizontal, Vertical}
-use Rattle.ratatui_core.specs.Buffer.{BufferData, Cell, with_symbol, text_width, pieces_at, text_columns, IsStyled, PaintsPieces}
+use Rattle.ratatui_core.specs.Buffer.{BufferData, Cell, text_width, pieces_at, text_columns, IsStyled, PaintsPieces}
 use Rattle.ratatui_core.specs.Buffer.{IsPlain, IsPlainFrom, IsNarrowLine, HasNarrowGraphemes}
 use Rattle.ratatui_core.proofs.BufferLemmas.{plain-styled, plain-with_symbol, plain-changed, line-stays, pieces-narrow}
 use Rattle.ratatui_core.proofs.BufferLemmas.{pieces-plain, styled-plain, over-all, from-over}
@@ -15,10 +15,10 @@ use Rattle.rtui_boxes.specs.Titles.{RendersTitle, title_at, title_width, first_c
 use Rattle.rtui_boxes.proofs.InnerLemmas.{plain-framed}
 use Rattle.rtui_bars.specs.{declared.group.Bar.Bar, declared.group.BarGroup.BarGroup, declared.chart.BarChart.BarChart}
 use Rattle.rtui_bars.specs.{Levels.left_at, Sparklines.row_from_below}
-use Rattle.rtui_bars.specs.BarAreas.{rows_at, middle_columns, cells_along, bar_area, area_behind}
+use Rattle.rtui_bars.specs.BarAreas.{rows_at, middle_columns, cells_along, bar_part, area_behind}
 use Rattle.rtui_bars.specs.BarCharts.{chart_cell, long_cell, DoesIf, RendersBarLabel, RendersLongLabel, WritesText, WritesOver}
 use Rattle.rtui_bars.specs.BarCharts.{text_of_bar, RendersTallBar, RendersLongBar, RendersBarIn, RendersBars, RendersGroupLabel}
-use Rattle.rtui_bars.specs.BarCharts.{label_indent, RendersLabelOf, RendersGroup, RendersGroups, ShowsChart, RendersBarChart}
+use Rattle.rtui_bars.specs.BarCharts.{label_indent, RendersLabelOf, RendersGroups, ShowsChart, RendersBarChart}
 use Rattle.rtui_bars.specs.BarCharts.{bar_rows, bar_step, chart_eighths, beside_labels, label_columns, filled_cells}
 use Rattle.rtui_bars.specs.BarCharts.{greatest_of_chart, has_bar_labels, group_label_rows, is_written, has_group_labels}
 use Rattle.rtui_bars.specs.BarCharts.{bars_columns, shown_bars, fitting_count, after_bars}
@@ -129,7 +129,7 @@ module _ (c : BarChart) (narrow : HasNarrowGroups c) where
   bars-stay r [] old new texts plain same = rw same plain
   bars-stay r (bar ∷ bars) old new texts plain is =
       bars-stay (area_behind c.direction (bar_step c) r) bars is.between new (All-tail HasNarrowBarTexts bar bars texts)
-      (bar-stays c.direction bar (bar_area c.direction c.bar_width r) old is.between (All-head HasNarrowBarTexts bar bars texts)
+      (bar-stays c.direction bar (bar_part c.direction c.bar_width r) old is.between (All-head HasNarrowBarTexts bar bars texts)
       plain is.first) is.second
 
   label-of-stays : (d : Direction) (group : BarGroup) (n : ℕ) (r : Rect) (old new : BufferData) → IsNarrowLabel group.label

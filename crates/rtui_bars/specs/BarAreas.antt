@@ -31,9 +31,9 @@ cells_across Vertical r = r.height
 cells_across Horizontal r = r.width
 
 -- where a bar stands that is so many cells wide, and the area behind so many cells
-abbrev pub bar_area : Direction → ℕ → Rect → Rect
-bar_area Vertical n r = first_columns n r
-bar_area Horizontal n r = upper_rows n r
+abbrev pub bar_part : Direction → ℕ → Rect → Rect
+bar_part Vertical n r = first_columns n r
+bar_part Horizontal n r = upper_rows n r
 
 abbrev pub area_behind : Direction → ℕ → Rect → Rect
 area_behind Vertical n r = without_first n r

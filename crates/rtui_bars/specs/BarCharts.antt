@@ -21,7 +21,7 @@ use Rattle.rtui_bars.specs.{declared.group.Bar.Bar, declared.group.BarGroup.BarG
 use Rattle.rtui_bars.specs.{declared.chart.BarChart.BarChart, declared.chart.Measures.Measures}
 use Rattle.rtui_bars.specs.Levels.{eighths_of_value, left_at, level_text}
 use Rattle.rtui_bars.specs.Sparklines.{row_from_below}
-use Rattle.rtui_bars.specs.BarAreas.{rows_at, middle_columns, cells_along, bar_area, area_behind}
+use Rattle.rtui_bars.specs.BarAreas.{rows_at, middle_columns, cells_along, bar_part, area_behind}
 use Rattle.ratatui_core.specs.declared.symbols.bar.Set.{Set as BarSet}
 
 -- a bar of this value, with a label if there is one
@@ -142,13 +142,13 @@ pub record RendersTallBar (c : BarChart) (bar : Bar) (r : Rect) (old new : Buffe
       DoesIf written (WritesText (patch c.value_style bar.value_style) text row) labelled new
 
 -- the columns of the labels at the left of horizontal bars: as many as the widest label has
-abbrev pub label_width : Option LineData → ℕ
-label_width None = 0
-label_width (Some line) = title_width line
+abbrev pub bar_label_width : Option LineData → ℕ
+bar_label_width None = 0
+bar_label_width (Some line) = title_width line
 
 abbrev pub widest_bar_label : List Bar → ℕ
 widest_bar_label [] = 0
-widest_bar_label (bar ∷ bars) = max (label_width bar.label) (widest_bar_label bars)
+widest_bar_label (bar ∷ bars) = max (bar_label_width bar.label) (widest_bar_label bars)
 
 abbrev pub widest_label : List BarGroup → ℕ
 widest_label [] = 0
@@ -224,7 +224,7 @@ abbrev pub RendersBars : BarChart → Rect → List Bar → BufferData → Buffe
 RendersBars c r [] old new = new ≡ old
 RendersBars c r (bar ∷ bars) old new =
     let left = area_behind c.direction (bar_step c) r in
-    InTurn (RendersBar c bar (bar_area c.direction c.bar_width r)) (RendersBars c left bars) old new
+    InTurn (RendersBar c bar (bar_part c.direction c.bar_width r)) (RendersBars c left bars) old new
 
 abbrev pub after_bars : BarChart → Rect → List Bar → Rect
 after_bars c r [] = r

@@ -5,7 +5,7 @@ use Rattle.rtui_bars.specs.{declared.group.Bar.Bar, declared.chart.BarChart.BarC
 use Rattle.rtui_bars.specs.{BarCharts.bar_step, BarAreas.cells_across}
 
 -- an area with cells along a bar, whose edges are at most 65535
-pub record HasRoom (d : Direction) (r : Rect) : Type 0 where
+pub record HasRoomAcross (d : Direction) (r : Rect) : Type 0 where
   pub some : 0 < cells_across d r
   pub across : r.x + r.width ≤ 65535
   pub down : r.y + r.height ≤ 65535

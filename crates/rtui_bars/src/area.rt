@@ -3,7 +3,7 @@
 ghost use Rattle.std.specs.Prelude.{◌≡◌, ◌≤◌, ◌+◌};
 ghost use Rattle.rtui_boxes.specs.Titles.{first_columns, without_first};
 ghost use Rattle.rtui_bars.specs.BarAreas.{rows_at, middle_columns, upper_rows, without_upper, cells_along};
-ghost use Rattle.rtui_bars.specs.BarAreas.{bar_area, area_behind};
+ghost use Rattle.rtui_bars.specs.BarAreas.{bar_part, area_behind};
 ghost use Rattle.rtui_bars.specs.BarCharts.{beside_labels};
 
 use ratatui_core::layout::{Direction, Rect};
@@ -93,8 +93,8 @@ pub(crate) fn cells_along(direction: Direction, area: Rect) -> u16
 }
 
 // Where a bar stands that is so many cells wide.
-pub(crate) fn bar_area(direction: Direction, width: u16, area: Rect) -> Rect
-    ensures { result ≡ bar_area direction width area }
+pub(crate) fn bar_part(direction: Direction, width: u16, area: Rect) -> Rect
+    ensures { result ≡ bar_part direction width area }
 {
     match direction {
         Direction::Vertical => first_columns(width, area),

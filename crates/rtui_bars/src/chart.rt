@@ -4,7 +4,7 @@ ghost use Rattle.std.specs.Prelude.{◌≡◌, ◌≤◌, Some, None, OnOk, IfOk
 ghost use Rattle.ratatui_core.specs.Widgets.{ChangesWithin};
 ghost use Rattle.rtui_boxes.specs.Boxes.{IsBoxArea};
 ghost use Rattle.rtui_bars.specs.BarCharts.{IsNewBarChart, IsLyingBarChart, measures_of};
-ghost use Rattle.rtui_bars.specs.BarCharts.{greatest_bar, greatest_of_chart, ShowsChart, label_width};
+ghost use Rattle.rtui_bars.specs.BarCharts.{greatest_bar, greatest_of_chart, ShowsChart, bar_label_width};
 ghost use Rattle.rtui_bars.specs.BarCharts.{widest_bar_label, widest_label, label_columns};
 
 use crate::chart_part::columns_of;
@@ -253,14 +253,14 @@ fn widest_bar_label(bars: &[Bar<'_>]) -> u16
 {
     let mut widest = 0;
     for bar in bars {
-        widest = label_width(&bar.label).max(widest);
+        widest = bar_label_width(&bar.label).max(widest);
     }
     widest
 }
 
 // How many columns a label takes, at most 65535.
-fn label_width(label: &Option<Line<'_>>) -> u16
-    ensures { result ≡ label_width label.now }
+fn bar_label_width(label: &Option<Line<'_>>) -> u16
+    ensures { result ≡ bar_label_width label.now }
 {
     match label {
         Some(line) => columns_of(line),

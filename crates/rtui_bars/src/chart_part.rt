@@ -17,10 +17,10 @@ ghost use Rattle.rtui_bars.specs.BarCharts.{text_of_bar, DoesIf, chart_cell, Ren
 ghost use Rattle.rtui_bars.specs.BarCharts.{RendersBars, after_bars, fitting_count, shown_bars, bars_columns};
 ghost use Rattle.rtui_bars.specs.BarCharts.{label_indent, RendersGroupLabel, RendersLabelOf, RendersGroup};
 ghost use Rattle.rtui_bars.specs.BarCharts.{RendersGroups, ShowsChart};
-ghost use Rattle.rtui_bars.specs.Inner.{HasRoom, BarsFit};
+ghost use Rattle.rtui_bars.specs.Inner.{HasRoomAcross, BarsFit};
 
 use crate::area::{
-    area_behind, bar_area, beside_labels, cells_along, first_columns, middle_columns, rows_at,
+    area_behind, bar_part, beside_labels, cells_along, first_columns, middle_columns, rows_at,
     without_first,
 };
 use crate::chart::{BarChart, Measures};
@@ -323,7 +323,7 @@ impl<'a> BarChart<'a> {
     ) -> Result<Rect, AllocError>
         requires measures { measures ≡ measures_of self.now }
         requires wide { 0 < self.now.bar_width }
-        requires some { HasRoom self.now.direction area }
+        requires some { HasRoomAcross self.now.direction area }
         requires fit { BarsFit self.now (cells_along self.now.direction area) bars.now }
         requires inside { IsInside area buf.old.area }
         ensures within { ChangesWithin area buf.old buf.new }
@@ -333,7 +333,7 @@ impl<'a> BarChart<'a> {
         let step = self.bar_width.saturating_add(self.bar_gap);
         let mut left = area;
         for bar in bars {
-            let part = bar_area(self.direction, self.bar_width, left);
+            let part = bar_part(self.direction, self.bar_width, left);
             self.render_bar(bar, measures, part, buf)?;
             left = area_behind(self.direction, step, left);
         }
@@ -442,7 +442,7 @@ impl<'a> BarChart<'a> {
     ) -> Result<(), AllocError>
         requires labels { labels ≡ label_columns self.now }
         requires count { count ≤ 131070 }
-        requires some { HasRoom self.now.direction area }
+        requires some { HasRoomAcross self.now.direction area }
         ensures within { ChangesWithin area buf.old buf.new }
         ensures ok { let f = RendersLabelOf self.now.direction self.now group.now count area in
             OnOk result (f buf.old buf.new) }
@@ -464,7 +464,7 @@ impl<'a> BarChart<'a> {
     ) -> Result<Rect, AllocError>
         requires measures { measures ≡ measures_of self.now }
         requires wide { 0 < self.now.bar_width }
-        requires some { HasRoom self.now.direction area }
+        requires some { HasRoomAcross self.now.direction area }
         requires inside { IsInside area buf.old.area }
         ensures within { ChangesWithin area buf.old buf.new }
         ensures ok { OnOk result (RendersGroup self.now group.now area buf.old buf.new) }
@@ -488,7 +488,7 @@ impl<'a> BarChart<'a> {
     ) -> Result<(), AllocError>
         requires measures { measures ≡ measures_of self.now }
         requires wide { 0 < self.now.bar_width }
-        requires some { HasRoom self.now.direction area }
+        requires some { HasRoomAcross self.now.direction area }
         requires inside { IsInside area buf.old.area }
         ensures within { ChangesWithin area buf.old buf.new }
         ensures ok { let groups = self.now.groups.items in

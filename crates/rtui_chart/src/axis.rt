@@ -7,8 +7,8 @@ use ratatui_core::layout::HorizontalAlignment;
 use ratatui_core::style::Style;
 use ratatui_core::text::Line;
 
-/// An axis of a chart: the coordinates at its ends, and what stands beside it. It is shown if it has
-/// labels.
+/// An axis of a chart: the coordinates at its ends, and what stands beside it. It is shown if it
+/// has labels.
 ///
 /// ```
 /// let labels = [Line::raw(alloc, "0")?, Line::raw(alloc, "50")?, Line::raw(alloc, "100")?];
@@ -50,8 +50,8 @@ impl<'a> Axis<'a> {
         self
     }
 
-    /// The axis with these coordinates at its ends: from the left to the right, or from below up. No
-    /// points are shown unless the first one is less.
+    /// The axis with these coordinates at its ends: from the left to the right, or from below up.
+    /// No points are shown unless the first one is less.
     pub fn bounds(mut self, bounds: [i64; 2]) -> Axis<'a>
         ensures { let low = slice_index_or bounds 0 (pos 0) in
             let high = slice_index_or bounds 1 (pos 0) in

@@ -8,13 +8,13 @@ pub render_bar-requires-clause-some : goal.render_bar-requires-clause-some
 render_bar-requires-clause-some c =
     let item = element-next c.args.bars.now c.loop-bar.bar-index c.bar-item.result (omega arith) c.bar-item.is in
     let fit = rw item at c.loop-bar.invariant.fit in
-    rw c.bar_area-part.ensures
+    rw c.bar_part-part.ensures
     (bar-box c.args.self.now.direction c.args.self.now.bar_width c.loop-bar.left c.loop-bar.invariant.room c.requires.wide fit.0)
 
 pub render_bar-requires-clause-inside : goal.render_bar-requires-clause-inside
 render_bar-requires-clause-inside c = λ p h.
     rw c.loop-bar.invariant.within.same_area (c.requires.inside p (c.loop-bar.invariant.inside p
-    (bar-in c.args.self.now.direction c.args.self.now.bar_width c.loop-bar.left p (rw c.bar_area-part.ensures at h))))
+    (bar-in c.args.self.now.direction c.args.self.now.bar_width c.loop-bar.left p (rw c.bar_part-part.ensures at h))))
 
 pub loop-bar-preserved : goal.loop-bar-preserved
 loop-bar-preserved c =
@@ -28,15 +28,15 @@ loop-bar-preserved c =
       room = rw at (behind-room d (bar_step c.args.self.now) c.loop-bar.left c.loop-bar.invariant.room);
       inside = λ p h. c.loop-bar.invariant.inside p (behind-in d (bar_step c.args.self.now) c.loop-bar.left p (rw at at h));
       within = within-then c.args.area c.args.buf.now c.loop-bar.buf c.render_bar.new.buf c.loop-bar.invariant.within
-          (within-wider c.bar_area-part.result c.args.area c.loop-bar.buf c.render_bar.new.buf
+          (within-wider c.bar_part-part.result c.args.area c.loop-bar.buf c.render_bar.new.buf
           (λ p h. c.loop-bar.invariant.inside p (bar-in d c.args.self.now.bar_width c.loop-bar.left p
-          (rw c.bar_area-part.ensures at h))) c.in_ok-render_bar.ensures.within);
+          (rw c.bar_part-part.ensures at h))) c.in_ok-render_bar.ensures.within);
       fit = rw (at, behind-along d (bar_step c.args.self.now) c.loop-bar.left) fit.1;
       rest = λ new others.
           c.loop-bar.invariant.rest new
           (rw item (record {
             between = c.render_bar.new.buf;
-            first = rw c.bar_area-part.ensures at c.in_ok-render_bar.ensures.ok;
+            first = rw c.bar_part-part.ensures at c.in_ok-render_bar.ensures.ok;
             second = rw at at others;
           }));
       after = rw at (rw item at c.loop-bar.invariant.after);
@@ -45,6 +45,6 @@ loop-bar-preserved c =
 pub returns-in_err-render_bar-clause-within : goal.returns-in_err-render_bar-clause-within
 returns-in_err-render_bar-clause-within c =
     within-then c.args.area c.args.buf.now c.loop-bar.buf c.render_bar.new.buf c.loop-bar.invariant.within
-    (within-wider c.bar_area-part.result c.args.area c.loop-bar.buf c.render_bar.new.buf
+    (within-wider c.bar_part-part.result c.args.area c.loop-bar.buf c.render_bar.new.buf
     (λ p h. c.loop-bar.invariant.inside p (bar-in c.args.self.now.direction c.args.self.now.bar_width c.loop-bar.left p
-    (rw c.bar_area-part.ensures at h))) c.in_err-render_bar.ensures.within)
+    (rw c.bar_part-part.ensures at h))) c.in_err-render_bar.ensures.within)
