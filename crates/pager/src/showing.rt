@@ -25,13 +25,13 @@ const TELLING_NO_LONGER: &str = "\x1b[?2048l\x1b[?1006l\x1b[?1000l";
 /// Moves a pager by what a source gives, on the alternate screen of a terminal of this size that is
 /// sent bytes, until the pager is over or the source at its end; then the main screen is brought
 /// back. The terminal is asked for its size first. At each moment each terminal that has read what
-/// was sent shows the page that the reads so far lead to. Answers the writer, which has sent all on.
-/// Where reads that find nothing are ticks, the source has no end.
+/// was sent shows the page that the reads so far lead to. Answers the writer, which has sent all
+/// on. Where reads that find nothing are ticks, the source has no end.
 ///
 /// # Errors
 ///
-/// Those of `ratatui_app::run_and_leave`. The terminal is given back then, as far as the writer takes
-/// it.
+/// Those of `ratatui_app::run_and_leave`. The terminal is given back then, as far as the writer
+/// takes it.
 pub fn show_on<S: Source, W: Write + Drop>(
     alloc: Global,
     size: Size,
@@ -92,8 +92,8 @@ fn show_to<S: Source, W: Write>(
     }
 }
 
-/// Shows a text as [`show_on`] does, on a terminal that also tells of the mouse and of new sizes, and
-/// no longer does after that.
+/// Shows a text as [`show_on`] does, on a terminal that also tells of the mouse and of new sizes,
+/// and no longer does after that.
 ///
 /// No want of memory prevents that, and it is done after a fault, too.
 ///

@@ -43,8 +43,8 @@ module _ {S T : Type 0} (rules : Rules S) (stage : Stage S T) where
       × stage.shows m.between.state m.terminal
       × AreMoments m.between m.terminal ms
 
-  -- a run that is between two reads: its first frame on a terminal, at the size that this had, and each moment
-  -- up to now; what these read is what the source gave
+  -- a run that is between two reads: its first frame on a terminal, at the size that this had, and each
+  -- moment up to now; what these read is what the source gave
   pub record Ran (before : T) (first : Between S) (all : Coming) (now : Between S) (rest : Coming)
       (t : T) : Type 0 where
     pub begun : T

@@ -36,7 +36,7 @@ IsUsedUp NotKnown = ⊤
 IsUsedUp (KnownBytes all) = all ≡ []
 IsUsedUp (KnownReads all) = ⊤
 
--- the same, and no byte came only where none was left
+-- a read gave the first bytes so, and none only where none was left
 pub record GivesRead (room : ℕ) (all new : Coming) (bytes : List ℕ) : Type 0 where
   pub first : GivesFirst room all new bytes
   pub last : 0 < room → bytes ≡ [] → IsUsedUp new

@@ -4,7 +4,8 @@ ghost use Rattle.std.specs.Prelude.{◌≡◌, ℕ, ◌++◌, ◌∷◌, Bool, L
 ghost use Rattle.ratatui_events.specs.declared.event.Event.{Event};
 ghost use Rattle.ratatui_reads.specs.Reads.{Between, after_read, after_reads, after_bytes, all_bytes};
 ghost use Rattle.ratatui_reads.specs.Reads.{IsNonEmpty, AreNonEmpty};
-ghost use Rattle.ratatui_reads.specs.Sources.{Coming, KnownBytes, KnownReads, GivesReads, AreWithinRoom};
+ghost use Rattle.ratatui_reads.specs.Sources.{Coming, KnownBytes, KnownReads};
+ghost use Rattle.ratatui_reads.specs.Sources.{GivesReads, AreWithinRoom};
 
 use crate::updates::Updates;
 
