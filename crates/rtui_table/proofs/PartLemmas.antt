@@ -15,8 +15,8 @@ use Rattle.ratatui_core.proofs.{BufferLemmas.within-wider, BufferLemmas.within-s
 use Rattle.ratatui_core.proofs.{WidgetLemmas.within-styled}
 use Rattle.rtui_list.specs.Items.{is_selected_at}
 use Rattle.rtui_table.specs.{declared.table.Table.Table as TableData, declared.cell.Cell.Cell, declared.row.Row.Row}
-use Rattle.rtui_table.specs.Rows.{PlacedRow, stacked_rows, cells_area, below, full_height, IsTableArea}
-use Rattle.rtui_table.specs.Tables.{TablePart, text_part, style_part, RendersTablePart, RendersTableParts, cell_parts, in_column}
+use Rattle.rtui_table.specs.Rows.{PlacedRow, stacked_rows, cells_area, above, below, full_height, IsTableArea}
+use Rattle.rtui_table.specs.Tables.{TablePart, style_part, RendersTablePart, RendersTableParts, cell_parts, in_column}
 use Rattle.rtui_table.specs.Tables.{placed_row_parts, rows_parts, selected_row_area, selected_column_area, area_if}
 use Rattle.rtui_table.specs.Tables.{highlight_parts, RendersIfText}
 use Rattle.rtui_table.specs.Inner.{IsColumnOf, AreWithin}
@@ -99,6 +99,21 @@ below-area n r is = let d = is.down in record { columns = is.columns; across = i
 pub below-inside : (n : ℕ) (r : Rect) → IsInside (below n r) r
 below-inside n r p h = let l = h.left in let e = h.right in let t = h.top in let b = h.bottom in
     record { left = l; right = e; top = omega arith; bottom = omega arith }
+
+pub above-inside : (n : ℕ) (r : Rect) → IsInside (above n r) r
+above-inside n r p h = let l = h.left in let e = h.right in let t = h.top in let b = h.bottom in
+    record { left = l; right = e; top = t; bottom = omega arith }
+
+-- what changes over an area, then below its first rows and above its last ones, and then in the last ones
+pub table-parts-within : (m n k : ℕ) (r left area footer : Rect) (s0 s1 s2 s3 : BufferData) → left ≡ below m r
+    → area ≡ above n left → footer ≡ below k left → ChangesWithin r s0 s1 → ChangesWithin area s1 s2 → ChangesWithin footer s2 s3
+    → ChangesWithin r s0 s3
+table-parts-within m n k r left area footer s0 s1 s2 s3 l a f first second third =
+    let left_in : IsInside left r = subst (λ q. IsInside q r) (sym l) (below-inside m r) in
+    let area_in : IsInside area r = λ p h. left_in p (subst (λ q. IsInside q left) (sym a) (above-inside n left) p h) in
+    let footer_in : IsInside footer r = λ p h. left_in p (subst (λ q. IsInside q left) (sym f) (below-inside k left) p h) in
+    within-then r s0 s1 s3 first (within-then r s1 s2 s3 (within-wider area r s1 s2 area_in second)
+    (within-wider footer r s2 s3 footer_in third))
 
 pub cells-inside : (row : Row) (r : Rect) → IsInside (cells_area row r) r
 cells-inside row r p h = let l = h.left in let e = h.right in let t = h.top in let b = h.bottom in

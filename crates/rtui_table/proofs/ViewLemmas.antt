@@ -1,8 +1,8 @@
 -- How many rows of the screen the rows of a table take, and which of them fit.
-use Rattle.std.proofs.Common.{◌≡◌, ℕ, zero, suc, ◌+◌, ◌-◌, ◌<◌, ◌≤◌, ◌==◌, ⊎_elim, min, true, List, [], ◌∷◌, length, map, take}
-use Rattle.std.proofs.Common.{sum_by, Option, Some, None, refl, sym, ap, subst, ◌∙◌, arith}
+use Rattle.std.proofs.Common.{◌≡◌, ℕ, zero, suc, ◌+◌, ◌-◌, ◌<◌, ◌≤◌, ⊎_elim, min, List, [], ◌∷◌, length, map, take}
+use Rattle.std.proofs.Common.{sum_by, Option, Some, None, sym, ap, subst, ◌∙◌, arith}
 use Rattle.std.proofs.Math.ListN.{get_or, get_or-map}
-use Rattle.std.proofs.lemmas.{Bool.cases_lt, Bool.Decides.nat_tests, List.take-take, List.get_or_default, List.length-map}
+use Rattle.std.proofs.lemmas.{Bool.cases_lt, List.take-take, List.get_or_default, List.length-map}
 use Rattle.std.proofs.lemmas.{List.Sums.sum_by_more, List.Sums.sum_by-take-le}
 use Rattle.rtui_table.specs.declared.row.Row.{Row}
 use Rattle.rtui_table.specs.Tables.{within_count}

@@ -1,8 +1,14 @@
 use Rattle.std.proofs.Common.{◌≡◌, ◌++◌, is_some, refl}
 use Rattle.rtui_table.specs.Rows.{rows_area, footer_area}
 use Rattle.rtui_table.specs.Tables.{outer_parts, body_parts, symbol_columns}
-use Rattle.rtui_table.proofs.PartLemmas.{parts-then}
+use Rattle.rtui_table.proofs.PartLemmas.{parts-then, table-parts-within}
 use Rattle.rtui_table.proofs.table.Table.render_table.Goals as goal
+
+pub returns-clause-within : goal.returns-clause-within
+returns-clause-within c =
+    table-parts-within _ _ _ c.args.inner c.below-left.result c.above-area.result c.below-footer.result c.args.buf.now
+    c.render_outer.new.buf c.render_body.new.buf c.render_outer-2.new.buf c.below-left.ensures c.above-area.ensures
+    c.below-footer.ensures c.render_outer.ensures.within c.render_body.ensures.within c.render_outer-2.ensures.within
 
 pub returns-clause-ok : goal.returns-clause-ok
 returns-clause-ok c =
