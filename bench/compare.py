@@ -1,11 +1,11 @@
 #!/usr/bin/env python3
 """Measures two builds of the bench beside each other, by workload: a round's instructions and user time, and the bytes that it sends.
 
-    compare.py [--size WxH] [--also WxH] [--runs N] [--only WORKLOAD,..] [--write] NAME=PROGRAM NAME=PROGRAM
+    compare.py [--size WxH] [--also WxH] [--runs N] [--only WORKLOAD,..] [--jobs N] [--write] NAME=PROGRAM NAME=PROGRAM
 
 The instructions are valgrind's (callgrind), which don't change with the machine's load; a round's are those of a run less those of one
-with fewer rounds, so that the start of the process doesn't count. So is its time: the least user time of N runs with many rounds, less
-that with a tenth of them; the programs run in turns. Without runs (`--runs 0`) no time is measured. Another size adds the instructions at
+with fewer rounds, so that the start of the process doesn't count. `--jobs N` counts in N processes at a time. Its time is the least user
+time of N runs with many rounds, less that with a tenth of them; the programs run in turns. Without runs (`--runs 0`) no time is measured. Another size adds the instructions at
 it. A ratio is that of the second program to the first; `-` stands for a program that doesn't know the workload. With `--write` the table is also
 written to FIGURES.md beside this file.
 """
@@ -16,6 +16,7 @@ import re
 import resource
 import subprocess
 import sys
+from concurrent.futures import ThreadPoolExecutor
 
 HERE = os.path.dirname(os.path.abspath(__file__))
 sys.path.insert(0, f"{os.path.dirname(HERE)}/tools")
@@ -130,12 +131,21 @@ def version():
         return re.search(r"^## (\S+)", file.read(), re.M).group(1)
 
 
+def all_instructions(able, sizes, jobs):
+    """The instructions of a round of each program, by workload and size, counted so many at a time."""
+    asked = [(name, program, workload, size) for workload, programs in able.items() for name, program in programs for size in sizes]
+    with ThreadPoolExecutor(jobs) as pool:
+        found = pool.map(lambda each: instructions(*each[1:]), asked)
+        return {(workload, size, name): count for (name, _, workload, size), count in zip(asked, found)}
+
+
 def main():
     parser = argparse.ArgumentParser(description=__doc__, formatter_class=argparse.RawDescriptionHelpFormatter)
     parser.add_argument("--size", default="200x60")
     parser.add_argument("--also", default="")
     parser.add_argument("--runs", type=int, default=10)
     parser.add_argument("--only", default=",".join(WORKLOADS))
+    parser.add_argument("--jobs", type=int, default=1)
     parser.add_argument("--write", action="store_true")
     parser.add_argument("programs", nargs=2, metavar="NAME=PROGRAM")
     parser.error = refuse
@@ -150,18 +160,20 @@ def main():
         print(line, flush=True)
         table.append(line)
 
+    workloads = options.only.split(",")
+    able = {workload: [each for each in programs if knows(each[1], workload, sizes[0])] for workload in workloads}
+    counts = all_instructions(able, sizes, options.jobs)
     tell("| workload |" + "".join(heads(names, unit) for unit in units))
     tell("|---|" + "---|" * (3 * len(units)))
-    for workload in options.only.split(","):
-        able = [(name, program) for name, program in programs if knows(program, workload, sizes[0])]
-        results = {name: result(program, workload, sizes[0], 10) for name, program in able}
+    for workload in workloads:
+        results = {name: result(program, workload, sizes[0], 10) for name, program in able[workload]}
         if len({agreed for agreed, _ in results.values()}) != 1:
             raise SystemExit(f"{workload}: no program knows it, or they print different results: {results}")
-        row = cells(names, times(able, workload, sizes[0], options.runs), 1) if options.runs > 0 else ""
+        row = cells(names, times(able[workload], workload, sizes[0], options.runs), 1) if options.runs > 0 else ""
         sent = {name: count / 10 for name, (_, count) in results.items() if count}
         row += cells(names, sent, 0) if sent else " | | |"
         for size in sizes:
-            row += cells(names, {name: instructions(program, workload, size) for name, program in able}, 0)
+            row += cells(names, {name: counts[workload, size, name] for name, _ in able[workload]}, 0)
         tell(f"| `{workload}` |{row}")
     if options.write:
         write(table)
