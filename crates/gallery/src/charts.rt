@@ -32,19 +32,28 @@ pub fn canvas(frame: &mut Frame<'_>) -> Result<(), AllocError> {
     frame.render_widget(canvas, area)
 }
 
-/// Points, each joined to the next one, between two axes.
-pub fn chart(alloc: Global, frame: &mut Frame<'_>) -> Result<(), AllocError> {
+static POINTS: [(i64, i64); 6] = [(0, 2), (2, 5), (4, 4), (6, 9), (8, 6), (10, 10)];
+
+// Points, each joined to the next one, between two axes with these labels.
+fn chart_with(
+    alloc: Global,
+    labels: [Line<'static>; 2],
+    frame: &mut Frame<'_>,
+) -> Result<(), AllocError> {
     let area = frame.area();
-    let points = [(0, 2), (2, 5), (4, 4), (6, 9), (8, 6), (10, 10)];
     let data = Dataset::new()
-        .data(&points)
+        .data(&POINTS)
         .marker(Marker::Braille)
         .graph_type(GraphType::Line)
         .style(Style::new().fg(Color::Green));
-    let x_labels = [Line::raw(alloc, "0")?, Line::raw(alloc, "10")?];
-    let y_labels = [Line::raw(alloc, "0")?, Line::raw(alloc, "10")?];
     let chart = Chart::new(vec![in alloc; data]?)
-        .x_axis(Axis::new().bounds([0, 10]).labels(&x_labels))
-        .y_axis(Axis::new().bounds([0, 10]).labels(&y_labels));
+        .x_axis(Axis::new().bounds([0, 10]).labels(&labels))
+        .y_axis(Axis::new().bounds([0, 10]).labels(&labels));
     frame.render_widget(chart, area)
+}
+
+/// Points, each joined to the next one, between two axes with labels.
+pub fn chart(alloc: Global, frame: &mut Frame<'_>) -> Result<(), AllocError> {
+    let labels = [Line::raw(alloc, "0")?, Line::raw(alloc, "10")?];
+    chart_with(alloc, labels, frame)
 }

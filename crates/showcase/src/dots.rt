@@ -83,25 +83,36 @@ fn dataset<'a>(
     )
 }
 
-// Paints a chart of them.
-fn paint_chart(alloc: Global, area: Rect, buf: &mut Buffer) -> Result<(), AllocError>
+// Paints a chart of them, between axes with these labels.
+fn paint_chart_with(
+    alloc: Global,
+    labels: [Line<'static>; 3],
+    area: Rect,
+    buf: &mut Buffer,
+) -> Result<(), AllocError>
     ensures { buf.new.area ≡ buf.old.area }
 {
-    let x_labels = [
-        Line::raw(alloc, "0")?,
-        Line::raw(alloc, "50")?,
-        Line::raw(alloc, "100")?,
-    ];
-    let y_labels = [Line::raw(alloc, "0")?, Line::raw(alloc, "100")?];
     let datasets = vec![in alloc;
         dataset(alloc, "slow", &SLOW, Color::LightRed)?,
         dataset(alloc, "fast", &FAST, Color::Green)?,
     ]?;
     Chart::new(datasets)
         .block(boxed(alloc, " Chart ")?)
-        .x_axis(Axis::new().bounds([0, 100]).labels(&x_labels))
-        .y_axis(Axis::new().bounds([0, 100]).labels(&y_labels))
+        .x_axis(Axis::new().bounds([0, 100]).labels(&labels))
+        .y_axis(Axis::new().bounds([0, 100]).labels(&labels))
         .render(area, buf)
+}
+
+// Paints a chart of them.
+fn paint_chart(alloc: Global, area: Rect, buf: &mut Buffer) -> Result<(), AllocError>
+    ensures { buf.new.area ≡ buf.old.area }
+{
+    let labels = [
+        Line::raw(alloc, "0")?,
+        Line::raw(alloc, "50")?,
+        Line::raw(alloc, "100")?,
+    ];
+    paint_chart_with(alloc, labels, area, buf)
 }
 
 /// Paints the same shapes in dots of braille and in half blocks, and a chart under them.
