@@ -10,8 +10,8 @@ use std::io;
 /// How many times a recording is cut.
 const CUTS: u32 = 10;
 
-/// Every so many calls of the screen one is made to fail.
-const STEP: u64 = 10;
+/// Each call of the screen in so many reads is made to fail, one in each recording.
+const READS: usize = 10;
 
 // What came of a recording: whether it was played to its end, and the fault if not.
 fn played(
@@ -62,15 +62,16 @@ fn told_reads(stage: Stage<'_>, recording: &Recording) -> Option<(usize, usize)>
     Some((told, recording.ends.len()))
 }
 
-// How many calls of the screen that fail, one in each recording, are told as such, and how many do.
+// How many calls of the screen that fail, one in each recording, are told as such, and how many do:
+// each call that the first reads lead to.
 fn told_calls(stage: Stage<'_>, recording: &Recording) -> Option<(u64, u64)> {
     let mut told = 0u64;
-    for tries in 0..1000u64 {
-        let mut player = Player::new(recording, None, usize::MAX);
-        let (_, fault) = played(stage, &mut player, Some(tries.saturating_mul(STEP)))?;
+    for calls in 0..1000u64 {
+        let mut player = Player::new(recording, None, READS);
+        let (_, fault) = played(stage, &mut player, Some(calls))?;
         match fault {
             "draw" | "resize" => told = told.saturating_add(1),
-            _ => return Some((told, tries)),
+            _ => return Some((told, calls)),
         }
     }
     None
