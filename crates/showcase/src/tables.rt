@@ -52,7 +52,7 @@ static CRATES: [[&str; 3]; 8] = [
 ];
 
 // A row of texts.
-fn row<'a>(alloc: Global, texts: &[&'a str; 3]) -> Result<Row<'a>, AllocError> {
+fn row(alloc: Global, texts: &[&'static str; 3]) -> Result<Row<'static>, AllocError> {
     let mut cells = Vec::new(alloc);
     for text in texts {
         cells.push(Cell::raw(alloc, text)?)?;
@@ -61,7 +61,7 @@ fn row<'a>(alloc: Global, texts: &[&'a str; 3]) -> Result<Row<'a>, AllocError> {
 }
 
 // The table.
-fn table<'a>(alloc: Global) -> Result<Table<'a>, AllocError> {
+fn table(alloc: Global) -> Result<Table<'static>, AllocError> {
     let mut rows = Vec::new(alloc);
     for texts in &CRATES {
         rows.push(row(alloc, texts)?)?;
