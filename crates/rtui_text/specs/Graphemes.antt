@@ -34,7 +34,8 @@ line_graphemes base spans = flat_map (span_graphemes base) spans
 
 -- what the graphemes of a span have left
 abbrev pub span_graphemes_left : SpanGraphemes → List GraphemeData
-span_graphemes_left it = in_style it.style (singles it.front.now ++ graphemes_left it.graphemes)
+span_graphemes_left it =
+    in_style it.style (singles it.front.now ++ (graphemes true it.ahead.now ++ graphemes_left it.graphemes))
 
 -- what the graphemes of a line have left
 abbrev pub line_graphemes_left : LineGraphemes → List GraphemeData
