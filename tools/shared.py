@@ -1,6 +1,7 @@
 """What the tools share: the repository's top and its crates, `--help`, and errors of one line."""
 
 import os
+import subprocess
 import sys
 
 TOP = os.path.dirname(os.path.dirname(os.path.abspath(__file__)))
@@ -13,7 +14,7 @@ def refuse(why):
 
 
 def words(about, flags=(), most=None):
-    """The words of the command line. `--help` prints what the tool is; a flag that it doesn't have, or one word too many, is refused."""
+    """The words of the command line. `--help` prints what the tool is; a flag that it doesn't have, or more than `most` other words, is refused."""
     given = sys.argv[1:]
     if "--help" in given or "-h" in given:
         print(about.strip())
@@ -21,8 +22,9 @@ def words(about, flags=(), most=None):
     for word in given:
         if word.startswith("-") and word not in flags:
             refuse(f"no flag {word}; --help says which there are")
-    if most is not None and len(given) > most:
-        refuse(f"{given[most]!r} is one word too many; --help says which it takes")
+    others = [word for word in given if word not in flags]
+    if most is not None and len(others) > most:
+        refuse(f"{others[most]!r} is one word too many; --help says which it takes")
     return given
 
 
@@ -51,3 +53,42 @@ def known(names):
         if name not in crates():
             refuse(f"no crate {name} in crates.txt")
     return names
+
+
+E = b"\x1b"
+JUNK = E + b"[2J" + E + b"[H" + "".join(f"junk {n} 漢字 xxxxxxxx\r\n" for n in range(30)).encode()
+# What another program may have left on a terminal, by name.
+LEFT = {
+    "nothing": b"",
+    "rendition": E + b"[1;3;4;7;9;31;44mleft",
+    "margins": E + b"[2;4r" + E + b"[3;7Hover",
+    "hidden cursor": E + b"[?25l",
+    "contents": JUNK,
+    "wrap that waits": E + b"[999;999Hx",
+    "autowrap off": E + b"[?7l",
+    "insert": JUNK + E + b"[4h",
+    "origin": E + b"[2;4r" + E + b"[?6h",
+    "margins at the sides": E + b"[?69h" + E + b"[3;6s",
+    "ESC ( 0": E + b"(0",
+    "SO": E + b")0\x0e",
+    "ESC % @": E + b"%@",
+    "synchronized update": E + b"[?2026h",
+    "half ESC": E,
+    "half CSI": E + b"[3",
+    "half OSC": E + b"]0;title",
+    "half DCS": E + b"Pq",
+    "half APC": E + b"_Gabc",
+    "half character": b"\xe3\x81",
+}
+
+
+def built(crate, typed="/dev/null", arguments=()):
+    """The path of a program, which is proved and built first; with `--built` the one that `.ci/run` left."""
+    folder = f"{TOP}/crates/{crate}"
+    program = f"{folder}/out/{crate}"
+    if "--built" not in sys.argv:
+        with open(typed, "rb") as keys:
+            subprocess.run(["rt", "run", "--", *arguments], cwd=folder, stdin=keys, stdout=subprocess.DEVNULL, stderr=subprocess.DEVNULL)
+    if not os.path.exists(program):
+        refuse(f"{crate} isn't built")
+    return program
