@@ -23,14 +23,20 @@ pub struct Stage<'a> {
 }
 
 impl<'a> Stage<'a> {
-    /// A pager of the text, on a screen in memory.
-    pub fn open(&self) -> Option<(Terminal<TestBackend>, Pager<'a>)> {
+    /// A pager of the text.
+    pub fn pager(&self) -> Option<Pager<'a>> {
         let document = Document::new(self.alloc, self.text).ok()?;
         let name = OwnText::new(String::from_str(self.alloc, "text").ok()?);
         let pattern = OwnText::new(String::new(self.alloc));
+        Some(Pager::new(document, name, pattern, self.size))
+    }
+
+    /// A pager of the text, on a screen in memory.
+    pub fn open(&self) -> Option<(Terminal<TestBackend>, Pager<'a>)> {
+        let pager = self.pager()?;
         let backend = TestBackend::new(self.alloc, self.size.width, self.size.height).ok()?;
         let terminal = Terminal::new(self.alloc, backend).ok()?;
-        Some((terminal, Pager::new(document, name, pattern, self.size)))
+        Some((terminal, pager))
     }
 }
 

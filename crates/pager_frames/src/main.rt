@@ -6,14 +6,19 @@
 //! below what is shown reversed. Then it plays all bytes again, cut at random places, and compares
 //! the last screen; and with each read and each call of the screen failing in turn, and counts the
 //! faults that were told. With wrong words, or if a screen is another one, the status is 1.
+//!
+//! With a number as a fourth word it shows the same reads as bytes for a terminal while one request
+//! for memory is refused, and prints what came of it. `tools/refusals` has each request refused.
 #![tactic(auto)]
 
 mod frames;
 mod recording;
+mod refused;
 mod trials;
 
 use crate::frames::{Stage, print_frames};
 use crate::recording::Recording;
+use crate::refused::print_refused;
 use crate::trials::print_trials;
 use ratatui_core::layout::Size;
 use std::process::ExitCode;
@@ -39,6 +44,13 @@ fn play(rt: &HostRuntime, words: &[String]) -> anyhow::Result<bool> {
         text: text.as_str(),
         size,
     };
+    if let Some(number) = words.get(4) {
+        let Ok(number) = number.as_str().parse::<usize>() else {
+            return Ok(false);
+        };
+        print_refused(rt, stage, &recording, number)?;
+        return Ok(true);
+    }
     let frames = print_frames(rt, stage, script.as_str(), &recording)?;
     let trials = print_trials(rt, stage, &recording)?;
     Ok(frames && trials)

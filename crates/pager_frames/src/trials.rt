@@ -10,9 +10,6 @@ use std::io;
 /// How many times a recording is cut.
 const CUTS: u32 = 10;
 
-/// Each call of the screen in so many reads is made to fail, one in each recording.
-const READS: usize = 10;
-
 // What came of a recording: whether it was played to its end, and the fault if not.
 fn played(
     stage: Stage<'_>,
@@ -63,11 +60,11 @@ fn told_reads(stage: Stage<'_>, recording: &Recording) -> Option<(usize, usize)>
 }
 
 // How many calls of the screen that fail, one in each recording, are told as such, and how many do:
-// each call that the first reads lead to.
+// each call that the recording leads to.
 fn told_calls(stage: Stage<'_>, recording: &Recording) -> Option<(u64, u64)> {
     let mut told = 0u64;
     for calls in 0..1000u64 {
-        let mut player = Player::new(recording, None, READS);
+        let mut player = Player::new(recording, None, usize::MAX);
         let (_, fault) = played(stage, &mut player, Some(calls))?;
         match fault {
             "draw" | "resize" => told = told.saturating_add(1),

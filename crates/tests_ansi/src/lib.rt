@@ -9,6 +9,8 @@ mod columns;
 #[cfg(test)]
 mod failing;
 #[cfg(test)]
+mod halves;
+#[cfg(test)]
 mod parameters;
 #[cfg(test)]
 mod plays;
