@@ -18,8 +18,9 @@ pub use Rattle.rtui_layout.specs.Names.{ReadsName, direction_name, horizontal_na
 pub use Rattle.rtui_layout.specs.Names.{ReadsBack}
 pub use Rattle.rtui_layout.specs.Spacing.{spacing_from, cut_spacing_from}
 pub use Rattle.rtui_split.specs.Split.{inner, centered_layout, IsSplit, HasWish, WithinWish, FitWishes}
-pub use Rattle.rtui_split.specs.Split.{SharesRest, LeavesNothing, HasExactPlaces, IsLaidOut, AreExact, HasTaker}
-pub use Rattle.rtui_split.specs.Split.{total_weight, cells_of}
-pub use Rattle.rtui_split.specs.{Cut.IsSpace, Cut.IsPartAlong, Spaces.KeepsWishes, Spaces.IsPacked, Growth.HasGrown}
+pub use Rattle.rtui_split.specs.Split.{SharesRest, LeavesNothing, HasExactPlaces, IsLaidOut}
+pub use Rattle.rtui_split.specs.Split.{AreExact, HasTaker, total_weight, cells_of}
+pub use Rattle.rtui_split.specs.{Cut.IsSpace, Cut.IsPartAlong, Spaces.KeepsWishes}
+pub use Rattle.rtui_split.specs.{Spaces.IsPacked, Growth.HasGrown}
 pub use Rattle.rtui_split.specs.Flexed.{HasFlexedSpaces, LeavesNoSpace, SpacesAre, SpacesAfter}
 pub use Rattle.rtui_split.specs.Spacers.{IsSplitWithSpacers, AreSpacers}

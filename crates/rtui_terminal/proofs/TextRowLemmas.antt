@@ -128,7 +128,8 @@ module _ {B : Type 0} (screen : B → Screen) where
       let over : sheet.area ≡ row_area (screen s.backend).width 0 = ins.over ∙ ap (λ w. row_area w 0) may.width in
       let fills = only sheet ins.closure in
       let empty : IsEmptied sheet.area fills.before = subst (λ (r : Rect). IsEmptied r fills.before) (sym ins.over) fills.empty in
-      let renders = subst (λ (r : Rect). RendersRow (RendersStr text) r fills.before sheet) (fills.empty.area ∙ sym ins.over) fills.renders in
+      let renders = subst (λ (r : Rect). RendersRow (RendersStr text) r fills.before sheet)
+      (fills.empty.area ∙ sym ins.over) fills.renders in
       let painted : IsPaintedText text sheet =
       row-painted (RendersStr text) 0 (screen s.backend).width fills.before sheet over empty renders in
       let settled : IsSettledBuffer sheet = row-settled text sheet painted in

@@ -28,7 +28,8 @@ pub record IsRowOf (width : ℕ) (text : List ℕ) (row : List Look) : Type 0 wh
   pub agrees : RowAgrees width sheet.cells 0 row
 
 -- the grid shows what rendering over an area makes of an empty buffer
-pub record ShowsOver (renders : Rect → BufferData → BufferData → Type 0) (area : Rect) (g : Grid) : Type 0 where
+pub record ShowsOver (renders : Rect → BufferData → BufferData → Type 0) (area : Rect) (g : Grid)
+    : Type 0 where
   pub sheet : BufferData
   pub over : sheet.area ≡ area
   pub painted : IsRendered renders sheet

@@ -75,7 +75,8 @@ pub trait StatefulWidget {
     ghost reach: { Self → Rect → Rect } = { λ _ area. area };
 
     // what else holds of the state and the buffer if it is refused: nothing, unless it says more
-    ghost leaves: { Self → Self.State → Self.State → Rect → BufferData → BufferData → Type 0 } = { λ _ _ _ _ _ _. ⊤ };
+    ghost leaves: { Self → Self.State → Self.State → Rect → BufferData → BufferData
+        → Type 0 } = { λ _ _ _ _ _ _. ⊤ };
 
     // when it takes no memory: nowhere, unless it says otherwise
     ghost is_short: { Self → Self.State → Rect → BufferData → Type 0 } = { λ _ _ _ _. ⊥ };

@@ -25,9 +25,27 @@ use rtui_viewport::Viewport;
 use std::hash::{Hash, Hasher};
 
 impl<B: Backend + PartialEq> PartialEq for Terminal<B> {
-    ghost eq = { eq_of_both (eq_of_both (eq_of_both (eq_of_both (eq_of_both (eq_of_both (eq_of_both (eq_of_both (on (λ t. t.backend) B.eq) (on (λ t. t.current) ⟦<Buffer as PartialEq>⟧.eq)) (on (λ t. t.previous) ⟦<Buffer as PartialEq>⟧.eq)) (on (λ t. t.viewport) ⟦<Viewport as PartialEq>⟧.eq)) (on (λ t. t.viewport_area) ⟦<Rect as PartialEq>⟧.eq)) (on (λ t. t.last_known_area) ⟦<Rect as PartialEq>⟧.eq)) (on (λ t. t.last_known_cursor_pos) ⟦<Position as PartialEq>⟧.eq)) (on (λ t. t.hidden_cursor) beq)) (on (λ t. t.frame_count) nat_eq) };
+    ghost eq = { eq_of_both (eq_of_both (eq_of_both (eq_of_both (eq_of_both (eq_of_both (eq_of_both (eq_of_both
+        (on (λ t. t.backend) B.eq)
+        (on (λ t. t.current) ⟦<Buffer as PartialEq>⟧.eq))
+        (on (λ t. t.previous) ⟦<Buffer as PartialEq>⟧.eq))
+        (on (λ t. t.viewport) ⟦<Viewport as PartialEq>⟧.eq))
+        (on (λ t. t.viewport_area) ⟦<Rect as PartialEq>⟧.eq))
+        (on (λ t. t.last_known_area) ⟦<Rect as PartialEq>⟧.eq))
+        (on (λ t. t.last_known_cursor_pos) ⟦<Position as PartialEq>⟧.eq))
+        (on (λ t. t.hidden_cursor) beq))
+        (on (λ t. t.frame_count) nat_eq) };
 
-    ghost laws = { and_per (and_per (and_per (and_per (and_per (and_per (and_per (and_per (on_per (λ t. t.backend) B.PartialEq.laws) (on_per (λ t. t.current) (partial_equiv_from_equiv buffer_laws))) (on_per (λ t. t.previous) (partial_equiv_from_equiv buffer_laws))) (on_per (λ t. t.viewport) (partial_equiv_from_equiv viewport_laws))) (on_per (λ t. t.viewport_area) (partial_equiv_from_equiv rect_laws))) (on_per (λ t. t.last_known_area) (partial_equiv_from_equiv rect_laws))) (on_per (λ t. t.last_known_cursor_pos) (partial_equiv_from_equiv position_laws))) (on_per (λ t. t.hidden_cursor) (partial_equiv_from_equiv bool_eq_equiv))) (on_per (λ t. t.frame_count) (partial_equiv_from_equiv nat_eq_equiv)) };
+    ghost laws = { and_per (and_per (and_per (and_per (and_per (and_per (and_per (and_per
+        (on_per (λ t. t.backend) B.PartialEq.laws)
+        (on_per (λ t. t.current) (partial_equiv_from_equiv buffer_laws)))
+        (on_per (λ t. t.previous) (partial_equiv_from_equiv buffer_laws)))
+        (on_per (λ t. t.viewport) (partial_equiv_from_equiv viewport_laws)))
+        (on_per (λ t. t.viewport_area) (partial_equiv_from_equiv rect_laws)))
+        (on_per (λ t. t.last_known_area) (partial_equiv_from_equiv rect_laws)))
+        (on_per (λ t. t.last_known_cursor_pos) (partial_equiv_from_equiv position_laws)))
+        (on_per (λ t. t.hidden_cursor) (partial_equiv_from_equiv bool_eq_equiv)))
+        (on_per (λ t. t.frame_count) (partial_equiv_from_equiv nat_eq_equiv)) };
 
     fn eq(&self, other: &Self) -> bool {
         self.backend == other.backend
@@ -43,7 +61,16 @@ impl<B: Backend + PartialEq> PartialEq for Terminal<B> {
 }
 
 impl<B: Backend + Eq> Eq for Terminal<B> {
-    ghost laws = { and_equiv (and_equiv (and_equiv (and_equiv (and_equiv (and_equiv (and_equiv (and_equiv (on_equiv (λ t. t.backend) B.Eq.laws) (on_equiv (λ t. t.current) buffer_laws)) (on_equiv (λ t. t.previous) buffer_laws)) (on_equiv (λ t. t.viewport) viewport_laws)) (on_equiv (λ t. t.viewport_area) rect_laws)) (on_equiv (λ t. t.last_known_area) rect_laws)) (on_equiv (λ t. t.last_known_cursor_pos) position_laws)) (on_equiv (λ t. t.hidden_cursor) bool_eq_equiv)) (on_equiv (λ t. t.frame_count) nat_eq_equiv) };
+    ghost laws = { and_equiv (and_equiv (and_equiv (and_equiv (and_equiv (and_equiv (and_equiv (and_equiv
+        (on_equiv (λ t. t.backend) B.Eq.laws)
+        (on_equiv (λ t. t.current) buffer_laws))
+        (on_equiv (λ t. t.previous) buffer_laws))
+        (on_equiv (λ t. t.viewport) viewport_laws))
+        (on_equiv (λ t. t.viewport_area) rect_laws))
+        (on_equiv (λ t. t.last_known_area) rect_laws))
+        (on_equiv (λ t. t.last_known_cursor_pos) position_laws))
+        (on_equiv (λ t. t.hidden_cursor) bool_eq_equiv))
+        (on_equiv (λ t. t.frame_count) nat_eq_equiv) };
 }
 
 impl<B: Backend + Hash> Hash for Terminal<B> {
@@ -54,7 +81,16 @@ impl<B: Backend + Hash> Hash for Terminal<B> {
         ++ ⟦<Position as Hash>⟧.hash_input t.last_known_cursor_pos ++ fed.bool t.hidden_cursor
         ++ fed.usize t.frame_count };
 
-    ghost respects_eq = { (and-Alike (and-Alike (and-Alike (and-Alike (and-Alike (and-Alike (and-Alike (and-Alike (on_Alike (λ t. t.backend) (record { fed = B.Hash.respects_eq })) (on_Alike (λ t. t.current) (record { fed = buffer_hashes }))) (on_Alike (λ t. t.previous) (record { fed = buffer_hashes }))) (on_Alike (λ t. t.viewport) (record { fed = viewport_hashes }))) (on_Alike (λ t. t.viewport_area) (record { fed = rect_hashes }))) (on_Alike (λ t. t.last_known_area) (record { fed = rect_hashes }))) (on_Alike (λ t. t.last_known_cursor_pos) (record { fed = position_hashes }))) (on_Alike (λ t. t.hidden_cursor) (same_Alike fed.bool booleans_Decides))) (on_Alike (λ t. t.frame_count) (same_Alike fed.usize unsigned_Decides))).fed };
+    ghost respects_eq = { (and-Alike (and-Alike (and-Alike (and-Alike (and-Alike (and-Alike (and-Alike (and-Alike
+        (on_Alike (λ t. t.backend) (record { fed = B.Hash.respects_eq }))
+        (on_Alike (λ t. t.current) (record { fed = buffer_hashes })))
+        (on_Alike (λ t. t.previous) (record { fed = buffer_hashes })))
+        (on_Alike (λ t. t.viewport) (record { fed = viewport_hashes })))
+        (on_Alike (λ t. t.viewport_area) (record { fed = rect_hashes })))
+        (on_Alike (λ t. t.last_known_area) (record { fed = rect_hashes })))
+        (on_Alike (λ t. t.last_known_cursor_pos) (record { fed = position_hashes })))
+        (on_Alike (λ t. t.hidden_cursor) (same_Alike fed.bool booleans_Decides)))
+        (on_Alike (λ t. t.frame_count) (same_Alike fed.usize unsigned_Decides))).fed };
 
     fn hash<H: Hasher>(&self, state: &mut H) {
         self.backend.hash(state);
@@ -70,9 +106,15 @@ impl<B: Backend + Hash> Hash for Terminal<B> {
 }
 
 impl<B: Backend> PartialEq for CompletedFrame<'_, B> {
-    ghost eq = { eq_of_both (eq_of_both (on (λ f. f.terminal.now.previous) ⟦<Buffer as PartialEq>⟧.eq) (on (λ f. f.area) ⟦<Rect as PartialEq>⟧.eq)) (on (λ f. f.count) nat_eq) };
+    ghost eq = { eq_of_both (eq_of_both
+        (on (λ f. f.terminal.now.previous) ⟦<Buffer as PartialEq>⟧.eq)
+        (on (λ f. f.area) ⟦<Rect as PartialEq>⟧.eq))
+        (on (λ f. f.count) nat_eq) };
 
-    ghost laws = { partial_equiv_from_equiv (and_equiv (and_equiv (on_equiv (λ f. f.terminal.now.previous) buffer_laws) (on_equiv (λ f. f.area) rect_laws)) (on_equiv (λ f. f.count) nat_eq_equiv)) };
+    ghost laws = { partial_equiv_from_equiv (and_equiv (and_equiv
+        (on_equiv (λ f. f.terminal.now.previous) buffer_laws)
+        (on_equiv (λ f. f.area) rect_laws))
+        (on_equiv (λ f. f.count) nat_eq_equiv)) };
 
     fn eq(&self, other: &Self) -> bool {
         self.buffer() == other.buffer() && self.area == other.area && self.count == other.count
@@ -80,14 +122,21 @@ impl<B: Backend> PartialEq for CompletedFrame<'_, B> {
 }
 
 impl<B: Backend> Eq for CompletedFrame<'_, B> {
-    ghost laws = { and_equiv (and_equiv (on_equiv (λ f. f.terminal.now.previous) buffer_laws) (on_equiv (λ f. f.area) rect_laws)) (on_equiv (λ f. f.count) nat_eq_equiv) };
+    ghost laws = { and_equiv (and_equiv
+        (on_equiv (λ f. f.terminal.now.previous) buffer_laws)
+        (on_equiv (λ f. f.area) rect_laws))
+        (on_equiv (λ f. f.count) nat_eq_equiv) };
 }
 
 impl<B: Backend> Hash for CompletedFrame<'_, B> {
     ghost hash_input = { λ f. ⟦<Buffer as Hash>⟧.hash_input f.terminal.now.previous
         ++ ⟦<Rect as Hash>⟧.hash_input f.area ++ fed.usize f.count };
 
-    ghost respects_eq = { (and-Alike (and-Alike (on_Alike (λ f. f.terminal.now.previous) (record { fed = buffer_hashes })) (on_Alike (λ f. f.area) (record { fed = rect_hashes }))) (on_Alike (λ f. f.count) (same_Alike fed.usize unsigned_Decides))).fed };
+    ghost respects_eq = { (and-Alike (and-Alike
+        (on_Alike (λ f. f.terminal.now.previous) (record { fed = buffer_hashes }))
+        (on_Alike (λ f. f.area) (record { fed = rect_hashes })))
+        (on_Alike (λ f. f.count)
+        (same_Alike fed.usize unsigned_Decides))).fed };
 
     fn hash<H: Hasher>(&self, state: &mut H) {
         self.buffer().hash(state);
