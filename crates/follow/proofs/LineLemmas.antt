@@ -121,11 +121,3 @@ pub overrun : {W : Type 0} (first left : Option (List ℕ)) (u v : LogView (Back
 overrun None left u v read = tt
 overrun (Some text) None u v read = λ size view. absurd (none-some (read size view).rest_is)
 overrun (Some text) (Some rest) u v read = λ size view. stops-after size text rest v v Lines (read size view) refl
-
--- all was read that there was
-pub all-read : {W E : Type 0} (size : Size) (first now : Option (List ℕ)) (v w : LogView (BackendState W) E)
-    → IsViewOf shown_by size [] v
-    → IfSome first (λ text. (size : Size) → IsViewOf shown_by size [] v → (now ≡ Some []) × ShowsInput size text w)
-    → IfSome first (λ text. now ≡ Some [])
-all-read size None now v w view reads = tt
-all-read size (Some text) now v w view reads = (reads size view).0

@@ -29,7 +29,8 @@ head_and_body area inside (p ∷ q ∷ []) split filled x y w h some fits =
     let order = split.in_order tt in
     let Inside : Rect → Type 0 = IsPartAlong Vertical inside inside.y (bottom_edge inside) in
     let head : (p.x ≡ inside.x) × (p.width ≡ inside.width) = (All-head Inside p (q ∷ []) split.inside).across in
-    let body : (q.x ≡ inside.x) × (q.width ≡ inside.width) = (All-head Inside q [] (All-tail Inside p (q ∷ []) split.inside)).across in (
+    let body : (q.x ≡ inside.x) × (q.width ≡ inside.width) = (All-head Inside q []
+    (All-tail Inside p (q ∷ []) split.inside)).across in (
       record {
         across = (omega (arith, head.0, x), omega (arith, head.1, w));
         from = omega (arith, filled.0, order.0, y);

@@ -39,4 +39,5 @@ status-settled text sheet is =
     let wide : blank.area.width ≡ area.width = ap (λ (r : Rect). r.width) is.emptied.area in
     subst (λ (r : Rect). IsSettled r.width r.height sheet.cells) (sym is.rendered.area)
     (IsSettled-row blank area.x area.y (pieces_at blank.area area.x area.width status_style text) sheet.cells is.rendered.cells
-    (IsSettledBuffer-empty _ _ is.emptied) (IsPaintable-empty _ _ is.emptied _ _) (omega (arith, left)) (omega (arith, left, ends)))
+    (IsSettledBuffer-empty _ _ is.emptied) (IsPaintable-empty _ _ is.emptied _ _) (omega (arith, left))
+    (omega (arith, left, ends)))

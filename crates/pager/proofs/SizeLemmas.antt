@@ -145,7 +145,8 @@ module _ {B X : Type 0} (device : Device B X) where
       let sized = all-sized (told_by b.decoder m.bytes).0 None (size_of (device.screen s.backend)) b.state fits in
       let here : FillsScreen device m.between.state m.terminal =
       subst (λ (x : Between Pager). FillsScreen device x.state m.terminal) (sym are.0)
-      (moved told (all_updated (rules_of paging) b.state (told_by b.decoder m.bytes).0) s m.terminal sized (taken told s m.terminal (takes told s m.terminal are.2) taken_all.0)) in
+      (moved told (all_updated (rules_of paging) b.state (told_by b.decoder m.bytes).0) s m.terminal sized
+      (taken told s m.terminal (takes told s m.terminal are.2) taken_all.0)) in
       (here, fills stage takes m.between m.terminal ms are.4 here taken_all.1)
 
   -- the first frame keeps the size

@@ -15,7 +15,8 @@ use Rattle.ratatui_reads.specs.Sources.{Coming, NotKnown, KnownBytes, KnownReads
 use Rattle.ratatui_reads.proofs.ReadLemmas.{nonempty}
 use Rattle.ratatui_reads.proofs.MomentLemmas.{ran-start, ran-step, ran-shows}
 use Rattle.ratatui_app.specs.Showing
-use Rattle.ratatui_app.specs.Showing.{Device, App, rules_of, stage, ShowsState, Moves, StepsTo, RunsTo, MayDraw, HasNewSize, FeedsTo}
+use Rattle.ratatui_app.specs.Showing.{Device, App, rules_of, stage, ShowsState}
+use Rattle.ratatui_app.specs.Showing.{Moves, StepsTo, RunsTo, MayDraw, HasNewSize, FeedsTo}
 use Rattle.ratatui_app.specs.Showing.{TakesOrKeepsSize, LacksFrame, RefusesState, Stops, StopsFeeding, RestsUnfixed}
 use Rattle.ratatui_app.specs.declared.running.Fault.{Fault}
 use Rattle.ratatui_app.specs.declared.running.Fault.TheVariants.{Read, Memory, Draw, Resize}
@@ -198,12 +199,14 @@ module _ {B X : Type 0} (device : Device B X) where
       sized.1)) settled draws.applied
 
   -- and leaves the terminal at rest
-  pub may-rest : RestsApplied device.screen → RestsDrawn device.screen → RestsResized device.screen → (s t : TerminalData B) → MayDraw device s
+  pub may-rest : RestsApplied device.screen → RestsDrawn device.screen → RestsResized device.screen
+      → (s t : TerminalData B) → MayDraw device s
       → IsSettledBuffer t.previous → DrawsFrame device.screen s t → RestsUnfixed device.screen t
   may-rest applied drawn resized s t (inl rests) settled draws =
       rests-unfixed device.screen s.viewport t rests.free (drawn s.viewport s t rests.rest settled draws)
   may-rest applied drawn resized s t (inr new) settled draws =
-      rests-unfixed device.screen new.before.viewport t new.rest.free (new-rest applied resized s t new settled draws draws.autoresized.case)
+      rests-unfixed device.screen new.before.viewport t new.rest.free
+      (new-rest applied resized s t new settled draws draws.autoresized.case)
 
   -- the resize before a draw keeps the screen's size
   sized-size : (s t : TerminalData B) → (IsSized device.screen s × Stays device.screen s t)
@@ -273,12 +276,6 @@ module _ {B X : Type 0} (device : Device B X) where
   resizes-if s b w h (Ok x) other (inl size) same rests = resizes-new s b w h other size same rests
   resizes-if s b w h (Ok x) other (inr kept) same rests = resizes-kept s b w h kept same rests
   resizes-if s b w h (Err e) other size same rests = tt
-
--- a screen that stayed kept its size
-pub stays-sized : {B X : Type 0} (device : Device B X) (size : Option (ℕ × ℕ)) (t : TerminalData B)
-    → TakesOrKeepsSize device size t t
-stays-sized device None t = refl
-stays-sized device (Some z) t = inr refl
 
 -- something came, where an empty read would have ended the run
 pub came-if : (came ticks : Bool) → ticks ≡ false → ((came ≡ false) × (ticks ≡ true)) ⊎ (came ≡ true) → came ≡ true

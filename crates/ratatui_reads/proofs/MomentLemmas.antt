@@ -5,9 +5,11 @@ use Rattle.ratatui_input.specs.declared.decoder.Decoder.{Decoder}
 use Rattle.ratatui_reads.proofs.ReadLemmas
 use Rattle.ratatui_reads.proofs.ReadLemmas.{read-some, bytes-none}
 use Rattle.ratatui_reads.proofs.SourceLemmas.{gives-more}
-use Rattle.ratatui_reads.specs.Reads.{Between, Rules, after_read, after_reads, after_bytes, all_bytes, size_told, AreNonEmpty, IsNonEmpty}
+use Rattle.ratatui_reads.specs.Reads.{Between, Rules, after_read, after_reads}
+use Rattle.ratatui_reads.specs.Reads.{after_bytes, all_bytes, size_told, AreNonEmpty, IsNonEmpty}
 use Rattle.ratatui_reads.specs.Sources.{Coming, GivesRead, GivesReads, read_room}
-use Rattle.ratatui_reads.specs.Moments.{Moment, Stage, AreMoments, Ran, Steps, HasTyped, HasEnded, last_between, last_terminal, reads_of}
+use Rattle.ratatui_reads.specs.Moments.{Moment, Stage, AreMoments, Ran, Steps}
+use Rattle.ratatui_reads.specs.Moments.{HasTyped, HasEnded, last_between, last_terminal, reads_of}
 
 bytes-append : (a b : List (List ℕ)) → all_bytes (a ++ b) ≡ all_bytes a ++ all_bytes b
 bytes-append [] b = refl

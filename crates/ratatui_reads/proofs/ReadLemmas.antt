@@ -8,7 +8,8 @@ use Rattle.ratatui_events.specs.declared.event.Event.{Event}
 use Rattle.ratatui_input.specs.declared.decoder.Decoder.{Decoder}
 use Rattle.ratatui_input.specs.Decoding.{Told, some_list, byte_told, decoded, next_told}
 use Rattle.ratatui_input.proofs.DecodingLemmas.{decoded-append}
-use Rattle.ratatui_reads.specs.Reads.{Between, Rules, told_by, all_updated, after_read, after_reads, after_bytes, all_bytes, IsNonEmpty}
+use Rattle.ratatui_reads.specs.Reads.{Between, Rules, told_by, all_updated}
+use Rattle.ratatui_reads.specs.Reads.{after_read, after_reads, after_bytes, all_bytes, IsNonEmpty}
 use Rattle.ratatui_reads.specs.Reads.{AreNonEmpty, size_in, later, last_size, RefusesAmong}
 
 -- both lists are empty

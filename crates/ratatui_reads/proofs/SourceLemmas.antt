@@ -4,7 +4,8 @@ use Rattle.std.proofs.Common.{refl, ap, ap₂, sym, ◌∙◌, subst, append_ass
 use Rattle.std.proofs.lemmas.Bool.Decides.{nat_tests}
 use Rattle.std.proofs.lemmas.List.{take_all}
 use Rattle.ratatui_reads.specs.Reads.{all_bytes}
-use Rattle.ratatui_reads.specs.Sources.{Coming, KnownBytes, KnownReads, GivesRead, GivesReads, AreWithinRoom, read_room, later_reads}
+use Rattle.ratatui_reads.specs.Sources.{Coming, KnownBytes, KnownReads, GivesRead}
+use Rattle.ratatui_reads.specs.Sources.{GivesReads, AreWithinRoom, read_room, later_reads}
 
 -- one read more
 pub gives-more : (all rest new : Coming) (rs : List (List ℕ)) (r : List ℕ) → GivesReads all rest rs

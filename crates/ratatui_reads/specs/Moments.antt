@@ -1,6 +1,7 @@
 -- What stood after each read of a run.
 use Rattle.std.specs.Prelude.{◌≡◌, ◌⊎◌, ℕ, Bool, true, false, List, [], ◌∷◌, Option, None}
-use Rattle.ratatui_reads.specs.Reads.{Between, Rules, after_read, after_bytes, all_bytes, size_told, IsNonEmpty}
+use Rattle.ratatui_reads.specs.Reads.{Between, Rules, after_read}
+use Rattle.ratatui_reads.specs.Reads.{after_bytes, all_bytes, size_told, IsNonEmpty}
 use Rattle.ratatui_reads.specs.Reads.{AreNonEmpty}
 use Rattle.ratatui_reads.specs.Sources.{Coming, GivesRead, GivesReads, read_room}
 

@@ -7,8 +7,11 @@ use Rattle.pager.proofs.laws.the_page_fills_the_screen.Goals as goal
 
 pub returns-clause-runs : goal.returns-clause-runs
 returns-clause-runs g c = λ before t first now all rest ran fits taken.
-    let begun = fills-first g.B.Backend first.state before ran.begun ran.sized fits in
-    (begun, fills g.B.Backend (stage g.B.Backend paging) (λ told s t takes. takes) first ran.begun ran.moments ran.are begun taken)
+    let begun = fills-first g.B.Backend first.state before ran.begun ran.sized fits in (
+      begun,
+      fills g.B.Backend (stage g.B.Backend paging) (λ told s t takes. takes) first ran.begun ran.moments ran.are
+          begun taken,
+    )
 
 pub returns-clause-glass : goal.returns-clause-glass
 returns-clause-glass g c = λ before t first now all rest ran fits taken.

@@ -13,7 +13,8 @@ loop-init g c = λ rest.
       runs-start sender _ _ _ _ _ _ c.new-decoder.ensures drawn.draws drawn.faults
           (drawn.size (inl rest)) shows,
       λ none. glass-start _ _ _ _ _ _ c.new-decoder.ensures
-          drawn.draws drawn.faults (drawn.size (inl rest)) shows (c.shown_states_are_on_the_glass.ensures _ shows (drawn.faults ∙ none)),
+          drawn.draws drawn.faults (drawn.size (inl rest)) shows
+          (c.shown_states_are_on_the_glass.ensures _ shows (drawn.faults ∙ none)),
       λ no'. rw c.new-decoder.ensures (typed-start _ (record {
         decoder = fresh_decoder;
         state = c.args.application.now;
@@ -24,11 +25,14 @@ pub loop-preserved : goal.loop-preserved
 loop-preserved g c = λ rest.
     let before = c.loop.invariant rest in
     let step = c.in-Ok-step.ensures.steps (runs-shows sender _ _ _ _ _ _ _ before.0) in (
-      runs-step sender _ _ _ _ _ _ _ (record { decoder = c.step.new.decoder; state = c.step.new.application }) _ _ _ before.0 (λ shown. step),
-      λ none. glass-step _ _ _ _ _ _ _ (record { decoder = c.step.new.decoder; state = c.step.new.application }) _ _ _ (before.1 none) step
+      runs-step sender _ _ _ _ _ _ _ (record { decoder = c.step.new.decoder; state = c.step.new.application }) _ _ _
+          before.0 (λ shown. step),
+      λ none. glass-step _ _ _ _ _ _ _ (record { decoder = c.step.new.decoder; state = c.step.new.application }) _ _ _
+          (before.1 none) step
           (c.shown_states_are_on_the_glass-in-loop.ensures _ step.fed.shown (step.fed.moved.faults
           ∙ run-unfailed _ _ _ _ _ _ _ before.0 none)),
-      λ no'. typed-step _ _ _ _ _ _ _ (record { decoder = c.step.new.decoder; state = c.step.new.application }) _ _ _ (before.2 no') step
+      λ no'. typed-step _ _ _ _ _ _ _ (record { decoder = c.step.new.decoder; state = c.step.new.application }) _ _ _
+          (before.2 no') step
           (came-if c.in-Ok-step.came c.args.has_ticks no' c.else-not-came.either),
     )
 
@@ -37,7 +41,8 @@ returns-then-not-has_ticks-clause-runs g c = λ rest none.
     let before = c.loop.invariant rest in
     let step = c.in-Ok-step.ensures.steps (runs-shows sender _ _ _ _ _ _ _ before.0) in (
       c.step.new.decoder,
-      glass-step _ _ _ _ _ _ _ (record { decoder = c.step.new.decoder; state = c.step.new.application }) _ _ _ (before.1 none) step
+      glass-step _ _ _ _ _ _ _ (record { decoder = c.step.new.decoder; state = c.step.new.application }) _ _ _
+          (before.1 none) step
           (c.shown_states_are_on_the_glass-in-loop.ensures _ step.fed.shown (step.fed.moved.faults
           ∙ run-unfailed _ _ _ _ _ _ _ before.0 none)),
     )

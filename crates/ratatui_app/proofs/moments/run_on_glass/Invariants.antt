@@ -8,7 +8,11 @@ use Rattle.ratatui_app.proofs.moments.run_on_glass.Given as goal
 -- a run up to here
 abbrev pub invariant-loop : goal.invariant-loop
 invariant-loop g l = RestsUnfixed shown_by l.fn.terminal →
-    let app : App g.row.A.Denot = record { updated = g.A.Updates.updated; is_over = g.A.Updates.is_over; paints = g.A.Application.paints } in
+    let app : App g.row.A.Denot = record {
+      updated = g.A.Updates.updated;
+      is_over = g.A.Updates.is_over;
+      paints = g.A.Application.paints;
+    } in
     RunsTo sender app l.fn.terminal
     (record { decoder = fresh_decoder; state = l.fn.application }) (g.S.Source.coming l.fn.source)
     (record { decoder = l.decoder; state = l.application }) (g.S.Source.coming l.source) l.terminal

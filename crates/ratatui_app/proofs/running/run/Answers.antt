@@ -19,8 +19,10 @@ loop-preserved g c = λ rest.
     let before = c.loop.invariant rest in
     let step = c.in-Ok-step.ensures.steps
     (runs-shows g.B.Backend _ _ _ _ _ _ _ before.0) in (
-      runs-step g.B.Backend _ _ _ _ _ _ _ (record { decoder = c.step.new.decoder; state = c.step.new.application }) _ _ _ before.0 (λ shown. step),
-      λ no'. typed-step _ _ _ _ _ _ _ (record { decoder = c.step.new.decoder; state = c.step.new.application }) _ _ _ (before.1 no') step
+      runs-step g.B.Backend _ _ _ _ _ _ _ (record { decoder = c.step.new.decoder; state = c.step.new.application }) _ _ _
+          before.0 (λ shown. step),
+      λ no'. typed-step _ _ _ _ _ _ _ (record { decoder = c.step.new.decoder; state = c.step.new.application }) _ _ _
+          (before.1 no') step
           (came-if c.in-Ok-step.came c.args.has_ticks no' c.else-not-came.either),
     )
 

@@ -14,7 +14,8 @@ returns-in-Ok-clause-runs g c = λ free fits blank none.
     let ran = c.in-Ok.ensures.runs (rests-unfixed shown_by c.args.viewport c.in_ok-terminal.terminal free rest)
     (begins.faults ∙ none) in
     runs-whole _ g.W.Write.contents c.args.viewport c.args.backend
-    _ _ _ _ c.in_ok-terminal.terminal begins c.run_on_glass-ran.new.terminal ran.0 ran.1 c.leave-left.result c.leave-left.ensures none
+    _ _ _ _ c.in_ok-terminal.terminal begins c.run_on_glass-ran.new.terminal ran.0 ran.1 c.leave-left.result
+    c.leave-left.ensures none
 
 pub returns-in-Ok-clause-typed : goal.returns-in-Ok-clause-typed
 returns-in-Ok-clause-typed g c = λ free fits blank no'.

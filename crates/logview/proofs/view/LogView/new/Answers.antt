@@ -12,7 +12,8 @@ returns-clause-started g c = λ blank some.
     let w = c.draw_status.new.self in
     let drawn = c.in_ok-draw_status.ensures.ok (starts-over-row screen c.args.backend t blank some starts) in
     record {
-      starts = starts-and-draws screen (RendersStatus (status_text 0)) (end_place (status_text 0)) c.args.backend t w.terminal blank some starts drawn;
+      starts = starts-and-draws screen (RendersStatus (status_text 0)) (end_place (status_text 0)) c.args.backend t
+          w.terminal blank some starts drawn;
       status = subst (λ n. ShowsRow screen (RendersStatus (status_text n)) (end_place (status_text n)) w.terminal)
           (sym c.draw_status.ensures.count) drawn.shown;
     }
