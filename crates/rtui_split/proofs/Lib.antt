@@ -1,3 +1,4 @@
+pub mod CapLemmas
 pub mod CutLemmas
 pub mod FlexLemmas
 pub mod FlexedLemmas
@@ -6,3 +7,4 @@ pub mod LevelLemmas
 pub mod Lists
 pub mod ShareLemmas
 pub mod SplitLemmas
+pub mod TryLemmas

@@ -1,5 +1,5 @@
 -- What exact sizes make of the cells of a part.
-use Rattle.std.proofs.Common.{ℕ, ◌≡◌, ◌<◌, ◌≤◌, ◌+◌, ◌-◌, ◌*◌, ◌/◌, max, Bool, true, false, inl, inr, List, [], ◌∷◌, map, length}
+use Rattle.std.proofs.Common.{ℕ, ◌≡◌, ◌<◌, ◌≤◌, ◌+◌, ◌-◌, ◌*◌, ◌/◌, max, min, Bool, true, false, inl, inr, List, [], ◌∷◌, map, length}
 use Rattle.std.proofs.Common.{sum_by, All, refl, sym, ◌∙◌, ap, suc, nat_lt, if◌then◌else◌, subst, add-mul, mul-le-mul_right}
 use Rattle.std.proofs.Common.{arith, sum, ap₂, ◌==◌}
 use Rattle.std.proofs.Math.Nat.{suc-mul, mul_right_comm, div-mul-le_self, lt-div-mul-add}
@@ -21,7 +21,9 @@ use Rattle.rtui_split.specs.declared.flex.Room.{Room}
 use Rattle.rtui_split.specs.Split.{gap_units, FitWishes, IsLane, HasWish, WithinWish, IsGivenBefore, IsWithinWish, IsSplit}
 use Rattle.rtui_split.specs.Split.{AreExact, IsLevel, HasLeast}
 use Rattle.rtui_split.specs.Spaces.{IsFilledBeside, GivesWishes}
-use Rattle.rtui_split.proofs.Lists.{AllZip-unmapped}
+use Rattle.rtui_split.proofs.Lists.{AllZip-unmapped, AllZip-weaker}
+use Rattle.rtui_split.specs.Shares.{if_in, capped_in, HasAtLeast, IsLevelled}
+use Rattle.rtui_split.specs.Split.{least_wish, HasLevel, AreLevelled}
 use Rattle.rtui_split.specs.Split.{size_at, total_weight, NoneTakes, IsDeniedFrom, HasExactPlaces}
 use Rattle.rtui_split.specs.{Wishes.weight_in, Cut.AreEdges, Spaces.IsFlexed}
 use Rattle.rtui_split.specs.Shares.{IsDenied, TakeNothing, weights}
@@ -402,6 +404,36 @@ exact_places l start cells n parts units spaces o long flexed edges exact =
       },
     )
 
+-- what is levelled for parts is levelled for their constraints
+own_least : (cells n : ℕ) (c : Constraint) → min (if_in 0 (part_in cells c)) n ≡ min (least_wish cells c) n
+own_least cells n (Min m) = refl
+own_least cells n (Length m) = refl
+own_least cells n (Percentage m) = refl
+own_least cells n (Ratio m k) = refl
+own_least cells n (Max m) = refl
+own_least cells n (Fill m) = refl
+
+sum_least : (cells n : ℕ) (cs : List Constraint)
+    → capped_in 0 n (map (part_in cells) cs) ≡ sum_by (λ c. min (least_wish cells c) n) cs
+sum_least cells n [] = refl
+sum_least cells n (c ∷ cs) = omega (
+  arith,
+  own_least cells n c,
+  sum_least cells n cs,
+  sum_by-cons (λ (d : Constraint). min (least_wish cells d) n) c cs,
+  sum_by-cons (λ (p : Part). min (if_in 0 p) n) (part_in cells c) (map (part_in cells) cs),
+)
+
+levelled_at : (cells : ℕ) (cs : List Constraint) (units : List ℕ) → IsLevelled (map (part_in cells) cs) units
+    → AreLevelled cells cs units
+levelled_at cells cs units levelled = (
+  levelled.0,
+  AllZip-weaker (λ (c : Constraint) u. HasAtLeast 0 levelled.0 (part_in cells c) u) (HasLevel cells levelled.0)
+      (λ c u least. omega (arith, least, own_least cells levelled.0 c)) cs units
+      (AllZip-unmapped (HasAtLeast 0 levelled.0) (part_in cells) cs units levelled.1),
+  omega (arith, levelled.2, sum_least cells (levelled.0 + 1) cs),
+)
+
 -- parts that are cut from sizes at a level
 cut_all : (cells : ℕ) (even : Bool) (level : ℕ) (d : Direction) (cs : List Constraint) (ps : List Rect)
     → AllZip (IsCutTo AtMostCells d) (map (size_at cells even level) cs) ps
@@ -507,6 +539,8 @@ is_split l area units spaces parts cells o cells_are small long arranges placed 
                 ((arranged space (keeps k)).granted t last (fits t fit));
             later = λ t last misses. AllZip-unmapped (IsDenied t) (part_in cells) cs units
                 ((arranged space (keeps k)).later t last (fits 0 spaced) (λ f. misses (unfits t f)));
+            levelled = λ few. levelled_at cells cs units
+                ((arranged space (keeps k)).levelled (omega (arith, few, wanted_is_wished 1 cells cs)));
             rest = λ fit. levelled l cells (length cs) units o refl
                 ((arranged space (keeps k)).filled (omega (arith, cells_are, small)) (fits 5 fit)) long_cs;
           }));

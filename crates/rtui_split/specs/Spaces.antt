@@ -10,7 +10,7 @@ use Rattle.rtui_layout.specs.declared.flex.Flex.TheVariants.{Legacy, Start, End,
 use Rattle.rtui_layout.specs.declared.flex.Flex.TheVariants.{SpaceBetween, SpaceAround, SpaceEvenly}
 use Rattle.rtui_split.specs.declared.{flex.Spaces.Spaces, flex.Room.Room, part.Part.Part}
 use Rattle.rtui_split.specs.Shares.{wanted_before, sized, IsGranted, IsModest}
-use Rattle.rtui_split.specs.Shares.{IsDenied, TakeNothing, weights}
+use Rattle.rtui_split.specs.Shares.{IsDenied, TakeNothing, weights, IsLevelled}
 use Rattle.rtui_split.specs.Cut.{length_of}
 
 -- the sizes and the spaces before and between them fit
@@ -81,6 +81,7 @@ pub record IsArranged (parts : List Part) (room : Room) (sizes : List ℕ) (spac
   pub flexed : 0 < length parts → room.whole < 2 ^ 43 → FitsBefore 0 parts room
       → IsFlexedIn parts room sizes spaces
   pub filled : room.whole < 2 ^ 43 → FitsBefore 5 parts room → IsFilledBeside parts room sizes
+  pub levelled : sum sizes < wanted_before 1 parts → IsLevelled parts sizes
 
 -- how much of what is left comes before the first part, if the spaces between two have their size
 abbrev pub lead : Flex → ℕ → ℕ

@@ -1,5 +1,5 @@
 -- What a layout makes of an area.
-use Rattle.std.specs.Prelude.{ℕ, ◌≡◌, ◌+◌, ◌-◌, ◌*◌, ◌/◌, ◌<◌, ◌==◌, Bool, false, sum_by, ◌≤◌, max, List, [], ◌∷◌}
+use Rattle.std.specs.Prelude.{ℕ, ◌≡◌, ◌+◌, ◌-◌, ◌*◌, ◌/◌, ◌<◌, ◌==◌, Bool, false, sum_by, ◌≤◌, max, min, List, [], ◌∷◌}
 use Rattle.std.specs.Prelude.{sum, map, length, All, nat_le, if◌then◌else◌, ⊤}
 use Rattle.std.specs.List.{AllZip}
 use Rattle.rtui_geometry.specs.{Rect.doubled, Rect.shrunk, declared.margin.Margin.Margin}
@@ -148,14 +148,30 @@ IsGrantedAt t cells c units = turn c < t → wish cells c ≤ units
 abbrev pub IsDeniedAt : ℕ → ℕ → Constraint → ℕ → Type 0
 IsDeniedAt t cells c units = (units ≤ wish cells c) × (t ≤ turn c → units ≡ 0)
 
+-- what a `Min` wishes, and nothing of any other part
+abbrev pub least_wish : ℕ → Constraint → ℕ
+least_wish cells (Min n) = n * 5040000
+least_wish cells _ = 0
+
+-- a `Min` has its wish, or so much at least
+abbrev pub HasLevel : ℕ → ℕ → Constraint → ℕ → Type 0
+HasLevel cells level c units = min (least_wish cells c) level ≤ units
+
+-- `Min`s that come too short share by level: each has its wish, or the level at least, which is the highest
+-- that has room
+abbrev pub AreLevelled : ℕ → List Constraint → List ℕ → Type 0
+AreLevelled cells cs units = (level : ℕ) × AllZip (HasLevel cells level) cs units
+    × (sum units < sum_by (λ c. min (least_wish cells c) (level + 1)) cs)
+
 -- exact sizes: nobody has more than it wishes but of what is left, all whose wishes fit have theirs, if a
--- turn comes too short nobody at all has more, and those after it have nothing, and if all fit, they are the
--- sizes at one level
+-- turn comes too short nobody at all has more, those after it have nothing, and `Min`s share by level, and if
+-- all fit, they are the sizes at one level
 pub record AreExact (l : LayoutData) (cells : ℕ) (units : List ℕ) : Type 0 where
   pub within : AllZip (IsModestAt cells) l.constraints units
   pub given : (t : ℕ) → t ≤ 5 → FitWishes t l cells → AllZip (IsGrantedAt t cells) l.constraints units
   pub later : (t : ℕ) → t ≤ 5 → (FitWishes t l cells → ⊥)
       → AllZip (IsDeniedAt t cells) l.constraints units
+  pub levelled : sum units < wished_before 1 cells l.constraints → AreLevelled cells l.constraints units
   pub rest : FitWishes 5 l cells → (even : Bool) × (level : ℕ)
       × (units ≡ map (size_at cells even level) l.constraints) × IsLevel l cells even level
 
