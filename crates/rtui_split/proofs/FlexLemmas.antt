@@ -21,7 +21,7 @@ sum-plus m (x ∷ xs) = grind (arith, sum-plus m xs, sum_by-cons (λ s. s + m) x
 pub lt_or_le : (a b : ℕ) → (a < b) ⊎ (b ≤ a)
 lt_or_le a b = grind (arith, nat_tests)
 
-not_le : (a b : ℕ) → (a ≤ b → ⊥) → b < a
+pub not_le : (a b : ℕ) → (a ≤ b → ⊥) → b < a
 not_le a b misses = elim (lt_or_le b a) [ inl less ↦ less | inr more ↦ absurd (misses more) ]
 
 one_denied : (t : ℕ) (p : Part) (s : ℕ) → s ≤ if_before t p → IsDenied t p s

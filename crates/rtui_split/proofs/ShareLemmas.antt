@@ -1,15 +1,19 @@
 -- Sums of wishes, turn by turn, and what sizes keep to.
-use Rattle.std.proofs.Common.{ℕ, ◌≡◌, ◌<◌, ◌≤◌, ◌+◌, ◌-◌, ◌*◌, ◌^◌, ◌==◌, List, [], ◌∷◌, sum, sum_by, map, Bool, true, false, refl}
+use Rattle.std.proofs.Common.{ℕ, ◌≡◌, ◌<◌, ◌≤◌, ◌+◌, ◌-◌, ◌*◌, ◌^◌, ◌==◌, List, [], ◌∷◌, sum, sum_by, map, Bool, true, false}
+use Rattle.std.proofs.Common.{refl}
 use Rattle.std.proofs.Common.{subst, arith}
 use Rattle.std.proofs.lemmas.Bool.Decides.{nat_tests}
 use Rattle.std.proofs.lemmas.List.Sums.{sum_by-cons, sum_by-le-sum_by, sum-map}
 use Rattle.std.specs.List.{AllZip}
+use Rattle.std.proofs.lemmas.List.Elements.{All-weaker}
 use Rattle.rtui_layout.specs.declared.constraint.Constraint.{Constraint}
 use Rattle.rtui_layout.specs.declared.constraint.Constraint.TheVariants.{Min, Max, Length, Percentage, Ratio, Fill}
 use Rattle.rtui_split.specs.declared.{part.Part.Part, level.Takers.Takers}
 use Rattle.rtui_split.specs.Wishes.{turn}
-use Rattle.rtui_split.specs.Shares.{if_before, if_in, wanted_before, wanted_in, sized, size_of_constraint, TakesNothing, Settled}
-use Rattle.rtui_split.specs.Shares.{IsGranted, IsModest, IsDenied, IsShared, IsFilled, TakeNothing, weights, IsLevelled, ComeFirst}
+use Rattle.rtui_split.specs.Shares.{if_before, if_in, wanted_before, wanted_in, sized, size_of_constraint, TakesNothing}
+use Rattle.rtui_split.specs.Shares.{TakesNothingIn, Settled}
+use Rattle.rtui_split.specs.Shares.{IsGranted, IsModest, IsDenied, IsShared, IsFilled, TakeNothingIn, TakeNothing, weights}
+use Rattle.rtui_split.specs.Shares.{IsLevelled, ComeFirst}
 use Rattle.rtui_split.proofs.Lists.{AllZip-weaker, AllZip-mapped}
 
 one_before_next : (t : ℕ) (p : Part) → if_before (t + 1) p ≡ if_before t p + if_in t p
@@ -69,6 +73,20 @@ granted_le t (p ∷ ps) [] all = absurd all
 granted_le t (p ∷ ps) (s ∷ ss) all =
     omega (arith, one_granted t p s all.0, granted_le t ps ss all.1, sum_by-cons (if_before t) p ps, sum_by-cons (λ n. n) s ss)
 
+-- parts that take nothing of what is left take nothing with `Flex::Legacy` either
+modest_in : (legacy : Bool) (c : Constraint) → TakesNothing c → TakesNothingIn legacy c
+modest_in legacy (Min n) modest = absurd modest
+modest_in legacy (Length n) modest = tt
+modest_in legacy (Percentage n) modest = tt
+modest_in legacy (Ratio m n) modest = tt
+modest_in legacy (Max n) modest = tt
+modest_in legacy (Fill n) modest = absurd modest
+
+pub all_modest_in : (legacy : Bool) (ps : List Part) → TakeNothing ps → TakeNothingIn legacy ps
+all_modest_in legacy ps modest = All-weaker (λ (p : Part). TakesNothing p.constraint)
+    (λ (p : Part). TakesNothingIn legacy p.constraint)
+    (λ p nothing. modest_in legacy p.constraint nothing) ps modest
+
 -- sizes that are settled for a turn that comes too short are shared
 pub settled_share : (legacy : Bool) (ps : List Part) (room : ℕ) (sizes : List ℕ) (t : ℕ) → t < 5
     → AllZip (Settled t) ps sizes → sum sizes ≡ room → wanted_before t ps ≤ room → room < wanted_before (t + 1) ps
@@ -121,7 +139,7 @@ modest_at takers level wanted (Fill n) modest = absurd modest
 -- sizes at a level are shared, if all wishes fit and the sizes do
 pub filled_share : (legacy : Bool) (ps : List Part) (room : ℕ) (takers : Takers) (level over : ℕ) → takers.legacy ≡ legacy
     → wanted_before 5 ps ≤ room → sum_by (sized takers level) ps ≤ room → over ≤ room - sum (map (sized takers level) ps)
-    → (room < 2 ^ 43 → TakeNothing ps → over ≡ room - sum (map (sized takers level) ps))
+    → (room < 2 ^ 43 → TakeNothingIn legacy ps → over ≡ room - sum (map (sized takers level) ps))
     → takers.even ≡ (weights takers.legacy ps == 0)
     → (room < 2 ^ 43 → level < (room + 1) * 1048576 → room < sum_by (sized takers (level + 1048576)) ps)
     → IsShared legacy ps room (map (sized takers level) ps) over

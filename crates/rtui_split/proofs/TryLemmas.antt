@@ -1,5 +1,6 @@
 -- What parts try and get whose turn comes too short.
-use Rattle.std.proofs.Common.{ℕ, ◌≡◌, ◌<◌, ◌≤◌, ◌+◌, ◌-◌, min, List, [], ◌∷◌, ◌++◌, All, sum, take, drop, length, get_or, sym, ◌∙◌}
+use Rattle.std.proofs.Common.{ℕ, ◌≡◌, ◌<◌, ◌≤◌, ◌+◌, ◌-◌, min, List, [], ◌∷◌, ◌++◌, All, sum, take, drop, length, get_or, sym}
+use Rattle.std.proofs.Common.{◌∙◌}
 use Rattle.std.proofs.Common.{ap, ap₂, subst, arith, zero, suc}
 use Rattle.std.specs.List.{AllZip}
 use Rattle.std.proofs.Math.ListN.{set, drop_of_length-le}
@@ -8,7 +9,8 @@ use Rattle.std.proofs.lemmas.Bool.Decides.{nat_tests}
 use Rattle.std.proofs.lemmas.List.Sums.{sum_by-cons}
 use Rattle.std.proofs.lemmas.List.Elements.{All-head, All-tail}
 use Rattle.rtui_split.specs.declared.{part.Part.Part, draft.Draft.Draft}
-use Rattle.rtui_split.specs.Shares.{if_in, wanted_in, capped_in, tries_in, HasAtLeast, HaveTried, ComeFirst, IsOfTurn, TriesItsWish}
+use Rattle.rtui_split.specs.Shares.{if_in, wanted_in, capped_in, tries_in, HasAtLeast, HaveTried, ComeFirst, IsOfTurn}
+use Rattle.rtui_split.specs.Shares.{TriesItsWish}
 use Rattle.rtui_split.specs.Shares.{wanted_before, IsLevelled}
 use Rattle.rtui_split.proofs.ShareLemmas.{before-first}
 use Rattle.rtui_split.proofs.Lists.{drop_cons}

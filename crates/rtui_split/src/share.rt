@@ -3,8 +3,10 @@ ghost use Rattle.std.specs.Prelude.{◌≡◌, ◌-◌, ◌≤◌, ◌<◌, ◌+
 ghost use Rattle.std.specs.Prelude.{length, sum, sum_by, map, min, All, IsTrue, IsFalse};
 ghost use Rattle.std.specs.List.{AllZip};
 ghost use Rattle.rtui_split.specs.declared.draft.Draft.{Draft};
+ghost use Rattle.rtui_split.specs.Wishes.{patience};
 ghost use Rattle.rtui_split.specs.Shares.{if_before, if_in, wanted_before, wanted_in, capped_in, tries_in};
-ghost use Rattle.rtui_split.specs.Shares.{IsOfTurn, TriesItsWish, HaveTried, ComeFirst};
+ghost use Rattle.rtui_split.specs.Shares.{IsOfTurn, IsStretchableAt, IsStretched, constraints_of};
+ghost use Rattle.rtui_split.specs.Shares.{TriesItsWish, HaveTried, ComeFirst};
 ghost use Rattle.rtui_split.specs.Shares.{sized, IsAtMost, Settled, IsShared};
 
 use crate::cap::highest_level;
@@ -220,7 +222,9 @@ pub(crate) fn rest_of(whole: u64, sizes: &[u64]) -> u64
 }
 
 // How little a part minds to be stretched.
-fn patience_of(constraint: Constraint) -> u8 {
+fn patience_of(constraint: Constraint) -> u8
+    ensures { result ≡ patience constraint }
+{
     match constraint {
         Constraint::Fill(_) => 5,
         Constraint::Min(_) => 4,
@@ -232,7 +236,10 @@ fn patience_of(constraint: Constraint) -> u8 {
 }
 
 // The last part of the kind that minds least to be stretched.
-fn stretched(parts: &[Part]) -> usize {
+fn stretched(parts: &[Part]) -> usize
+    ensures { 0 < length parts.now
+        → (most : ℕ) × IsStretchableAt (constraints_of parts.now) result most }
+{
     let mut most: u8 = 0;
     let mut at: usize = 0;
     for (i, part) in parts.iter().enumerate() {
@@ -249,6 +256,8 @@ fn stretched(parts: &[Part]) -> usize {
 pub(crate) fn stretch(parts: &[Part], left: u64, sizes: &mut [u64])
     ensures more { AllZip IsAtMost sizes.old sizes.new }
     ensures all { sum sizes.new ≤ sum sizes.old + left }
+    ensures one { 0 < length parts.now → length sizes.old ≡ length parts.now
+        → sum sizes.old + left < 2 ^ 64 → IsStretched parts.now sizes.old sizes.new left }
 {
     let at = stretched(parts);
     if at < sizes.len() {

@@ -4,7 +4,8 @@ use Rattle.rtui_layout.specs.declared.constraint.Constraint.TheVariants.{Min}
 use Rattle.rtui_split.specs.declared.{part.Part.Part, draft.Draft.Draft}
 use Rattle.rtui_split.specs.Shares.{wanted_in, if_before, if_in, tries_in, Settled, HaveTried, ComeFirst}
 use Rattle.rtui_split.proofs.Lists.{AllZip-written, sum-written}
-use Rattle.rtui_split.proofs.TryLemmas.{tries-drop, tries_few, tries_wishes, written_on, tried_on, first_on, wishes_at, tried_out, first_out}
+use Rattle.rtui_split.proofs.TryLemmas.{tries-drop, tries_few, tries_wishes, written_on, tried_on, first_on, wishes_at, tried_out}
+use Rattle.rtui_split.proofs.TryLemmas.{first_out}
 use Rattle.rtui_split.proofs.share.settle.Goals as goal
 
 pub loop-i-init : goal.loop-i-init
@@ -64,7 +65,8 @@ loop-i-preserved c =
                 let P : List ℕ → Type 0 = λ ss. ComeFirst t c.args.short.left parts ss in
                 let Q : ℕ → Type 0 = λ left. ComeFirst t left (drop (i + 1) parts) others in
                 subst P (sym (written_on sizes i grant.size others (omega arith)))
-                ((inv.first wish).1 (grant.size ∷ others) (first_on t c.loop-i.left parts i grant.size others p c.loop-i-test.true own.0
+                ((inv.first wish).1 (grant.size ∷ others)
+                (first_on t c.loop-i.left parts i grant.size others p c.loop-i-test.true own.0
                 (subst Q own.1 holds))),
           );
     }
