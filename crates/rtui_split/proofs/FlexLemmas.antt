@@ -11,29 +11,18 @@ use Rattle.rtui_split.specs.declared.{flex.Spaces.Spaces, flex.Room.Room, part.P
 use Rattle.rtui_split.specs.Shares.{wanted_before, if_before, IsAtMost, IsGranted, IsDenied, IsShared}
 use Rattle.rtui_split.specs.Spaces.{FitsBefore, IsArranged, IsPacked, IsSpread, KeepsWishes, least_spaces}
 use Rattle.rtui_split.specs.Spaces.{IsFlexed, IsFlexedIn, GivesWishes, lead, first_share, middle_share}
-use Rattle.rtui_split.proofs.ShareLemmas.{before-later}
+use Rattle.rtui_split.proofs.ShareLemmas.{before-later, one_granted, granted_le}
 
 -- so much more for each
 pub sum-plus : (m : ℕ) (xs : List ℕ) → sum_by (λ s. s + m) xs ≡ sum xs + length xs * m
 sum-plus m [] = omega arith
 sum-plus m (x ∷ xs) = grind (arith, sum-plus m xs, sum_by-cons (λ s. s + m) x xs, sum_by-cons (λ s. s) x xs)
 
-one_granted : (t : ℕ) (p : Part) (s : ℕ) → IsGranted t p s → if_before t p ≤ s
-one_granted t p s granted = grind (arith, nat_tests, granted)
-
 pub lt_or_le : (a b : ℕ) → (a < b) ⊎ (b ≤ a)
 lt_or_le a b = grind (arith, nat_tests)
 
-not_le : (a b : ℕ) → (a ≤ b → ⊥) → b < a
+pub not_le : (a b : ℕ) → (a ≤ b → ⊥) → b < a
 not_le a b misses = elim (lt_or_le b a) [ inl less ↦ less | inr more ↦ absurd (misses more) ]
-
--- sizes of at least the wishes before a turn
-granted_le : (t : ℕ) (ps : List Part) (sizes : List ℕ) → AllZip (IsGranted t) ps sizes → wanted_before t ps ≤ sum sizes
-granted_le t [] [] all = omega arith
-granted_le t [] (s ∷ ss) all = absurd all
-granted_le t (p ∷ ps) [] all = absurd all
-granted_le t (p ∷ ps) (s ∷ ss) all =
-    omega (arith, one_granted t p s all.0, granted_le t ps ss all.1, sum_by-cons (if_before t) p ps, sum_by-cons (λ n. n) s ss)
 
 one_denied : (t : ℕ) (p : Part) (s : ℕ) → s ≤ if_before t p → IsDenied t p s
 one_denied t p s few = (grind (arith, nat_tests), λ from. grind (arith, nat_tests))
@@ -159,6 +148,7 @@ arranged parts room sizes left for_parts spaces shared within fits beside fit sp
         | inr few ↦ omega (arith, shared.total, enough, before-later 1 5 parts (omega arith))
       ] in
       (filled.0, filled.1, filled.2, λ some. omega (arith, filled.3 some, beside 5 enough), filled.4, all);
+  levelled = shared.levelled refl;
 }
 
 pub packed_least : (flex : Flex) (n : ℕ) → IsPacked flex → least_spaces flex n ≡ n - 1

@@ -1,13 +1,13 @@
 -- Sizes at levels.
 use Rattle.std.proofs.Common.{ℕ, ◌≤◌, ◌*◌, ◌/◌, Bool, true, false, max, List, [], ◌∷◌, sum_by, if◌then◌else◌, arith}
-use Rattle.std.proofs.Common.{mul-le-mul_left}
+use Rattle.std.proofs.Common.{mul-le-mul_left, IsTrue}
 use Rattle.std.proofs.lemmas.List.Sums.{sum_by-le-sum_by}
 use Rattle.rtui_layout.specs.declared.constraint.Constraint.{Constraint}
 use Rattle.rtui_layout.specs.declared.constraint.Constraint.TheVariants.{Min, Max, Length, Percentage, Ratio, Fill}
 use Rattle.rtui_split.specs.declared.{part.Part.Part, level.Takers.Takers}
 use Rattle.std.proofs.lemmas.List.Sums.{sum_by-cons}
 use Rattle.std.proofs.lemmas.List.Elements.{All-head, All-tail}
-use Rattle.rtui_split.specs.Shares.{sized, size_of_constraint, TakesNothing, TakeNothing, if_before, wanted_before}
+use Rattle.rtui_split.specs.Shares.{sized, size_of_constraint, TakesNothingIn, TakeNothingIn, if_before, wanted_before}
 
 -- a share at a higher level is no smaller
 share_later : (k l m : ℕ) → l ≤ m → k * l / 1048576 ≤ k * m / 1048576
@@ -32,22 +32,27 @@ sizes_later takers l m ps later = sum_by-le-sum_by (sized takers l) (sized taker
     (λ p. size_later takers l m p.wanted p.constraint later)
 
 -- the size of a part that takes nothing of what is left is the same at each level
-flat_size : (takers : Takers) (l m wanted : ℕ) (c : Constraint) → TakesNothing c
+min_flat : (legacy : Bool) (wanted l m : ℕ) → IsTrue legacy → (if legacy then wanted else max wanted (l / 1048576)) ≤
+    (if legacy then wanted else max wanted (m / 1048576))
+min_flat true wanted l m legacy = omega arith
+min_flat false wanted l m legacy = grind (arith, legacy)
+
+flat_size : (takers : Takers) (l m wanted : ℕ) (c : Constraint) → TakesNothingIn takers.legacy c
     → size_of_constraint takers l wanted c ≤ size_of_constraint takers m wanted c
-flat_size takers l m wanted (Min n) modest = absurd modest
+flat_size takers l m wanted (Min n) modest = min_flat takers.legacy wanted l m modest
 flat_size takers l m wanted (Length n) modest = omega arith
 flat_size takers l m wanted (Percentage n) modest = omega arith
 flat_size takers l m wanted (Ratio x y) modest = omega arith
 flat_size takers l m wanted (Max n) modest = omega arith
 flat_size takers l m wanted (Fill n) modest = absurd modest
 
-pub flat_sizes : (takers : Takers) (l m : ℕ) (ps : List Part) → TakeNothing ps
+pub flat_sizes : (takers : Takers) (l m : ℕ) (ps : List Part) → TakeNothingIn takers.legacy ps
     → sum_by (sized takers l) ps ≤ sum_by (sized takers m) ps
 flat_sizes takers l m [] modest = omega arith
 flat_sizes takers l m (p ∷ ps) modest = omega (
   arith,
-  flat_size takers l m p.wanted p.constraint (All-head (λ (q : Part). TakesNothing q.constraint) p ps modest),
-  flat_sizes takers l m ps (All-tail (λ (q : Part). TakesNothing q.constraint) p ps modest),
+  flat_size takers l m p.wanted p.constraint (All-head (λ (q : Part). TakesNothingIn takers.legacy q.constraint) p ps modest),
+  flat_sizes takers l m ps (All-tail (λ (q : Part). TakesNothingIn takers.legacy q.constraint) p ps modest),
   sum_by-cons (sized takers l) p ps,
   sum_by-cons (sized takers m) p ps,
 )

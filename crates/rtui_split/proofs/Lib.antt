@@ -1,8 +1,12 @@
+pub mod CapLemmas
 pub mod CutLemmas
 pub mod FlexLemmas
 pub mod FlexedLemmas
 pub mod GrowthLemmas
+pub mod LegacyLemmas
 pub mod LevelLemmas
 pub mod Lists
 pub mod ShareLemmas
 pub mod SplitLemmas
+pub mod StretchLemmas
+pub mod TryLemmas

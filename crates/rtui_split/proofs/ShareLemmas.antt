@@ -1,15 +1,19 @@
 -- Sums of wishes, turn by turn, and what sizes keep to.
-use Rattle.std.proofs.Common.{ℕ, ◌≡◌, ◌<◌, ◌≤◌, ◌+◌, ◌-◌, ◌*◌, ◌^◌, ◌==◌, List, [], ◌∷◌, sum, sum_by, map, Bool, refl}
+use Rattle.std.proofs.Common.{ℕ, ◌≡◌, ◌<◌, ◌≤◌, ◌+◌, ◌-◌, ◌*◌, ◌^◌, ◌==◌, List, [], ◌∷◌, sum, sum_by, map, Bool, true, false}
+use Rattle.std.proofs.Common.{refl}
 use Rattle.std.proofs.Common.{subst, arith}
 use Rattle.std.proofs.lemmas.Bool.Decides.{nat_tests}
 use Rattle.std.proofs.lemmas.List.Sums.{sum_by-cons, sum_by-le-sum_by, sum-map}
 use Rattle.std.specs.List.{AllZip}
+use Rattle.std.proofs.lemmas.List.Elements.{All-weaker}
 use Rattle.rtui_layout.specs.declared.constraint.Constraint.{Constraint}
 use Rattle.rtui_layout.specs.declared.constraint.Constraint.TheVariants.{Min, Max, Length, Percentage, Ratio, Fill}
 use Rattle.rtui_split.specs.declared.{part.Part.Part, level.Takers.Takers}
 use Rattle.rtui_split.specs.Wishes.{turn}
-use Rattle.rtui_split.specs.Shares.{if_before, if_in, wanted_before, wanted_in, sized, size_of_constraint, TakesNothing, Settled}
-use Rattle.rtui_split.specs.Shares.{IsGranted, IsModest, IsDenied, IsShared, IsFilled, TakeNothing, weights}
+use Rattle.rtui_split.specs.Shares.{if_before, if_in, wanted_before, wanted_in, sized, size_of_constraint, TakesNothing}
+use Rattle.rtui_split.specs.Shares.{TakesNothingIn, Settled}
+use Rattle.rtui_split.specs.Shares.{IsGranted, IsModest, IsDenied, IsShared, IsFilled, TakeNothingIn, TakeNothing, weights}
+use Rattle.rtui_split.specs.Shares.{IsLevelled, ComeFirst}
 use Rattle.rtui_split.proofs.Lists.{AllZip-weaker, AllZip-mapped}
 
 one_before_next : (t : ℕ) (p : Part) → if_before (t + 1) p ≡ if_before t p + if_in t p
@@ -45,6 +49,12 @@ before-later t u ps later = sum_by-le-sum_by (if_before t) (if_before u) ps (one
 pub not_after : (u t : ℕ) → (t + 1 ≤ u → ⊥) → u ≤ t
 not_after u t not_later = grind (arith, nat_tests, not_later)
 
+zero_of : (t : ℕ) → (1 ≤ t → ⊥) → t ≡ 0
+zero_of t not_later = grind (arith, nat_tests, not_later)
+
+between : (t u : ℕ) → (t + 1 ≤ u → ⊥) → (u + 1 ≤ t → ⊥) → t ≡ u
+between t u not_later not_before = grind (arith, nat_tests, not_later, not_before)
+
 -- what is left after all turns
 pub all_left : (ps : List Part) (room t left : ℕ) → t ≡ 5 → left + wanted_before t ps ≡ room → left + wanted_before 5 ps ≡ room
 all_left ps room t left last whole = let P : ℕ → Type 0 = λ u. left + wanted_before u ps ≡ room in subst P last whole
@@ -52,11 +62,38 @@ all_left ps room t left last whole = let P : ℕ → Type 0 = λ u. left + wante
 pub all_fit : (ps : List Part) (room t left : ℕ) → t ≡ 5 → left + wanted_before t ps ≡ room → wanted_before 5 ps ≤ room
 all_fit ps room t left last whole = omega (arith, all_left ps room t left last whole)
 
+pub one_granted : (t : ℕ) (p : Part) (s : ℕ) → IsGranted t p s → if_before t p ≤ s
+one_granted t p s granted = grind (arith, nat_tests, granted)
+
+-- sizes of at least the wishes before a turn
+pub granted_le : (t : ℕ) (ps : List Part) (sizes : List ℕ) → AllZip (IsGranted t) ps sizes → wanted_before t ps ≤ sum sizes
+granted_le t [] [] all = omega arith
+granted_le t [] (s ∷ ss) all = absurd all
+granted_le t (p ∷ ps) [] all = absurd all
+granted_le t (p ∷ ps) (s ∷ ss) all =
+    omega (arith, one_granted t p s all.0, granted_le t ps ss all.1, sum_by-cons (if_before t) p ps, sum_by-cons (λ n. n) s ss)
+
+-- parts that take nothing of what is left take nothing with `Flex::Legacy` either
+modest_in : (legacy : Bool) (c : Constraint) → TakesNothing c → TakesNothingIn legacy c
+modest_in legacy (Min n) modest = absurd modest
+modest_in legacy (Length n) modest = tt
+modest_in legacy (Percentage n) modest = tt
+modest_in legacy (Ratio m n) modest = tt
+modest_in legacy (Max n) modest = tt
+modest_in legacy (Fill n) modest = absurd modest
+
+pub all_modest_in : (legacy : Bool) (ps : List Part) → TakeNothing ps → TakeNothingIn legacy ps
+all_modest_in legacy ps modest = All-weaker (λ (p : Part). TakesNothing p.constraint)
+    (λ (p : Part). TakesNothingIn legacy p.constraint)
+    (λ p nothing. modest_in legacy p.constraint nothing) ps modest
+
 -- sizes that are settled for a turn that comes too short are shared
 pub settled_share : (legacy : Bool) (ps : List Part) (room : ℕ) (sizes : List ℕ) (t : ℕ) → t < 5
     → AllZip (Settled t) ps sizes → sum sizes ≡ room → wanted_before t ps ≤ room → room < wanted_before (t + 1) ps
+    → (legacy ≡ false → t ≡ 0 → IsLevelled ps sizes)
+    → (legacy ≡ true → ComeFirst t (room - wanted_before t ps) ps sizes)
     → IsShared legacy ps room sizes 0
-settled_share legacy ps room sizes t short each all fits misses = record {
+settled_share legacy ps room sizes t short each all fits misses levelled come = record {
   total = omega arith;
   granted = λ u last enough. AllZip-weaker (Settled t) (IsGranted u) (λ p s settled first.
       let within : u ≤ t = not_after u t (λ later. absurd (omega (arith, misses, before-later (t + 1) u ps later))) in
@@ -71,6 +108,13 @@ settled_share legacy ps room sizes t short each all fits misses = record {
       ps sizes each;
   rest = λ small modest. omega arith;
   filled = λ small enough. absurd (omega (arith, misses, before-later (t + 1) 5 ps (omega arith)));
+  levelled = λ level few. levelled level (zero_of t (λ later. omega (arith, few, fits, before-later 1 t ps later)));
+  first_come = λ legacy u last enough missing.
+      let same : t ≡ u = between t u
+      (λ later. omega (arith, misses, enough, before-later (t + 1) u ps later))
+      (λ later. omega (arith, missing, fits, before-later (u + 1) t ps later)) in
+      let P : ℕ → Type 0 = λ n. ComeFirst n (room - wanted_before n ps) ps sizes in
+      subst P same (come legacy);
 }
 
 -- a size at a level is a wish, or more if the part takes something of what is left
@@ -95,7 +139,7 @@ modest_at takers level wanted (Fill n) modest = absurd modest
 -- sizes at a level are shared, if all wishes fit and the sizes do
 pub filled_share : (legacy : Bool) (ps : List Part) (room : ℕ) (takers : Takers) (level over : ℕ) → takers.legacy ≡ legacy
     → wanted_before 5 ps ≤ room → sum_by (sized takers level) ps ≤ room → over ≤ room - sum (map (sized takers level) ps)
-    → (room < 2 ^ 43 → TakeNothing ps → over ≡ room - sum (map (sized takers level) ps))
+    → (room < 2 ^ 43 → TakeNothingIn legacy ps → over ≡ room - sum (map (sized takers level) ps))
     → takers.even ≡ (weights takers.legacy ps == 0)
     → (room < 2 ^ 43 → level < (room + 1) * 1048576 → room < sum_by (sized takers (level + 1048576)) ps)
     → IsShared legacy ps room (map (sized takers level) ps) over
@@ -109,5 +153,12 @@ filled_share legacy ps room takers level over same fits within rest all even mos
       short = λ u last misses. absurd (omega (arith, before-later u 5 ps last));
       later = λ u last misses. absurd (omega (arith, before-later u 5 ps last));
       rest = λ small modest. omega (arith, all small modest, within, sum-map (sized takers level) ps);
+      levelled = λ _ few. absurd (omega (
+        arith,
+        few,
+        granted_le 1 ps (map (sized takers level) ps) (AllZip-mapped (IsGranted 1) (sized takers level)
+            (λ p first. granted_at takers level p.wanted p.constraint (omega arith)) ps),
+      ));
+      first_come = λ _ u last enough missing. absurd (omega (arith, missing, fits, before-later (u + 1) 5 ps (omega arith)));
       filled = λ small _. subst P same (takers.even, level, refl, λ some. most small (omega (arith, some, within)), even);
     }

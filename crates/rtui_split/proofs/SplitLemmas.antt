@@ -1,7 +1,8 @@
 -- What exact sizes make of the cells of a part.
-use Rattle.std.proofs.Common.{ℕ, ◌≡◌, ◌<◌, ◌≤◌, ◌+◌, ◌-◌, ◌*◌, ◌/◌, max, Bool, true, false, inl, inr, List, [], ◌∷◌, map, length}
+use Rattle.std.proofs.Common.{ℕ, ◌≡◌, ◌<◌, ◌≤◌, ◌+◌, ◌-◌, ◌*◌, ◌/◌, max, min, Bool, true, false, inl, inr, List, [], ◌∷◌, map}
+use Rattle.std.proofs.Common.{length}
 use Rattle.std.proofs.Common.{sum_by, All, refl, sym, ◌∙◌, ap, suc, nat_lt, if◌then◌else◌, subst, add-mul, mul-le-mul_right}
-use Rattle.std.proofs.Common.{arith, sum, ap₂, ◌==◌}
+use Rattle.std.proofs.Common.{arith, sum, ap₂, ◌==◌, ◌++◌, get_or}
 use Rattle.std.proofs.Math.Nat.{suc-mul, mul_right_comm, div-mul-le_self, lt-div-mul-add}
 use Rattle.std.proofs.lemmas.List.Sums.{sum_by-cons}
 use Rattle.std.specs.List.{AllZip}
@@ -20,8 +21,13 @@ use Rattle.rtui_split.specs.Split.{IsCutFrom, LeavesNothing}
 use Rattle.rtui_split.specs.declared.flex.Room.{Room}
 use Rattle.rtui_split.specs.Split.{gap_units, FitWishes, IsLane, HasWish, WithinWish, IsGivenBefore, IsWithinWish, IsSplit}
 use Rattle.rtui_split.specs.Split.{AreExact, IsLevel, HasLeast}
-use Rattle.rtui_split.specs.Spaces.{IsFilledBeside, GivesWishes}
-use Rattle.rtui_split.proofs.Lists.{AllZip-unmapped}
+use Rattle.rtui_split.specs.Spaces.{IsFilledBeside, GivesWishes, IsLegacy}
+use Rattle.rtui_split.specs.Shares.{constraints_of, IsStretched, ComeFirst, TakesNothingIn, TakeNothingIn}
+use Rattle.rtui_split.specs.Split.{TakeInOrder, HaveNoFill, StretchOne, HasPlacesInOrder}
+use Rattle.std.proofs.Math.ListN.{set}
+use Rattle.rtui_split.proofs.Lists.{AllZip-unmapped, AllZip-weaker}
+use Rattle.rtui_split.specs.Shares.{if_in, capped_in, HasAtLeast, IsLevelled}
+use Rattle.rtui_split.specs.Split.{least_wish, HasLevel, AreLevelled}
 use Rattle.rtui_split.specs.Split.{size_at, total_weight, NoneTakes, IsDeniedFrom, HasExactPlaces}
 use Rattle.rtui_split.specs.{Wishes.weight_in, Cut.AreEdges, Spaces.IsFlexed}
 use Rattle.rtui_split.specs.Shares.{IsDenied, TakeNothing, weights}
@@ -165,6 +171,7 @@ pub record Arranges (units : List ℕ) (spaces : Spaces) (parts : List Part) (ro
   pub alone : room.flex ≡ SpaceBetween → length parts ≡ 1
       → (units ≡ room.whole ∷ []) × (spaces.first ≡ 0) × (spaces.middle ≡ 0)
   pub arranged : KeepsWishes room.flex (length parts) → IsArranged parts room units spaces
+  pub legacy : room.flex ≡ Legacy → IsLegacy parts room units spaces
 
 -- the same of another room, and of other parts
 pub rearranged : (ps qs : List Part) (units : List ℕ) (spaces : Spaces) (w w' g g' o : ℕ) (f f' : Flex) → ps ≡ qs → w ≡ w'
@@ -402,6 +409,36 @@ exact_places l start cells n parts units spaces o long flexed edges exact =
       },
     )
 
+-- what is levelled for parts is levelled for their constraints
+own_least : (cells n : ℕ) (c : Constraint) → min (if_in 0 (part_in cells c)) n ≡ min (least_wish cells c) n
+own_least cells n (Min m) = refl
+own_least cells n (Length m) = refl
+own_least cells n (Percentage m) = refl
+own_least cells n (Ratio m k) = refl
+own_least cells n (Max m) = refl
+own_least cells n (Fill m) = refl
+
+sum_least : (cells n : ℕ) (cs : List Constraint)
+    → capped_in 0 n (map (part_in cells) cs) ≡ sum_by (λ c. min (least_wish cells c) n) cs
+sum_least cells n [] = refl
+sum_least cells n (c ∷ cs) = omega (
+  arith,
+  own_least cells n c,
+  sum_least cells n cs,
+  sum_by-cons (λ (d : Constraint). min (least_wish cells d) n) c cs,
+  sum_by-cons (λ (p : Part). min (if_in 0 p) n) (part_in cells c) (map (part_in cells) cs),
+)
+
+levelled_at : (cells : ℕ) (cs : List Constraint) (units : List ℕ) → IsLevelled (map (part_in cells) cs) units
+    → AreLevelled cells cs units
+levelled_at cells cs units levelled = (
+  levelled.0,
+  AllZip-weaker (λ (c : Constraint) u. HasAtLeast 0 levelled.0 (part_in cells c) u) (HasLevel cells levelled.0)
+      (λ c u least. omega (arith, least, own_least cells levelled.0 c)) cs units
+      (AllZip-unmapped (HasAtLeast 0 levelled.0) (part_in cells) cs units levelled.1),
+  omega (arith, levelled.2, sum_least cells (levelled.0 + 1) cs),
+)
+
 -- parts that are cut from sizes at a level
 cut_all : (cells : ℕ) (even : Bool) (level : ℕ) (d : Direction) (cs : List Constraint) (ps : List Rect)
     → AllZip (IsCutTo AtMostCells d) (map (size_at cells even level) cs) ps
@@ -436,6 +473,96 @@ cut_from d [] (p ∷ ps) most least = absurd most
 cut_from d (u ∷ us) [] most least = absurd most
 cut_from d (u ∷ us) (p ∷ ps) most least =
     (record { at_most = most.0; at_least = least.0 }, cut_from d us ps most.1 least.1)
+
+-- what comes first for parts comes first for their constraints
+take_in_order : (t cells room : ℕ) (cs : List Constraint) (us : List ℕ) → ComeFirst t room (map (part_in cells) cs) us
+    → TakeInOrder t cells room cs us
+take_in_order t cells room [] [] come = tt
+take_in_order t cells room [] (u ∷ us) come = absurd come
+take_in_order t cells room (c ∷ cs) [] come = absurd come
+take_in_order t cells room (c ∷ cs) (u ∷ us) come =
+    (come.0, take_in_order t cells (room - if_in t (part_in cells c)) cs us come.1)
+
+-- parts of constraints are these, and wish this
+same_constraints : (cells : ℕ) (cs : List Constraint) → constraints_of (map (part_in cells) cs) ≡ cs
+same_constraints cells [] = refl
+same_constraints cells (c ∷ cs) = ap (λ ds. c ∷ ds) (same_constraints cells cs)
+
+same_wishes : (cells : ℕ) (cs : List Constraint) → map (λ (p : Part). p.wanted) (map (part_in cells) cs) ≡ map (wish cells) cs
+same_wishes cells [] = refl
+same_wishes cells (c ∷ cs) = ap (λ ws. wish cells c ∷ ws) (same_wishes cells cs)
+
+wish_more : (cells left : ℕ) (before : List Constraint) (c : Constraint) (after : List Constraint)
+    → set (map (wish cells) (before ++ c ∷ after)) (length before)
+    (get_or (map (wish cells) (before ++ c ∷ after)) (length before) 0 + left)
+    ≡ map (wish cells) before ++ (wish cells c + left) ∷ map (wish cells) after
+wish_more cells left [] c after = refl
+wish_more cells left (b ∷ bs) c after = ap (λ us. wish cells b ∷ us) (wish_more cells left bs c after)
+
+stretch_one : (cells left : ℕ) (cs : List Constraint) (units : List ℕ)
+    → IsStretched (map (part_in cells) cs) (map (λ (p : Part). p.wanted) (map (part_in cells) cs)) units left
+    → StretchOne cells cs units left
+stretch_one cells left cs units stretched =
+    let at = stretched.0 in
+    let s = stretched.2 in
+    let whole : cs ≡ s.before ++ s.one ∷ s.after = sym (same_constraints cells cs) ∙ s.whole in
+    let more : List ℕ → ℕ → List ℕ = λ ws k. set ws k (get_or ws k 0 + left) in (
+      s.before,
+      s.one,
+      s.after,
+      whole,
+      s.minds,
+      stretched.3 ∙ ap (λ ws. more ws at) (same_wishes cells cs ∙ ap (map (wish cells)) whole)
+          ∙ ap (more (map (wish cells) (s.before ++ s.one ∷ s.after))) (sym s.place)
+          ∙ wish_more cells left s.before s.one s.after,
+    )
+
+-- no constraint is a `Fill`, and so no part
+no_fill : (cells : ℕ) (cs : List Constraint) → HaveNoFill cs → TakeNothingIn true (map (part_in cells) cs)
+no_fill cells cs none = All-map (λ (p : Part). TakesNothingIn true p.constraint) (part_in cells) cs none
+
+-- parts at places one after the other
+in_order : (l : LayoutData) (start cells : ℕ) (parts : List Rect) (units : List ℕ) (spaces : Spaces) (o : ℕ)
+    → IsLegacy (map (part_in cells) l.constraints) (record
+    { whole = cells * 5040000; flex = l.flex; gap = gap_units l.spacing; overlap = o }) units spaces
+    → length (map (part_in cells) l.constraints) ≡ length l.constraints → 0 < length l.constraints → cells ≤ 65535
+    → FitWishes 0 l cells
+    → ((rounding : ℕ) × (2520000 ≤ rounding) × (rounding ≤ 2557800)
+    × AreEdges l.direction start rounding spaces.middle spaces.first units parts)
+    → HasPlacesInOrder l start cells parts
+in_order l start cells parts units spaces o legacy long some small spaced edges =
+    let cs = l.constraints in
+    let ps = map (part_in cells) cs in
+    let room : Room = record { whole = cells * 5040000; flex = l.flex; gap = gap_units l.spacing; overlap = o } in
+    let least : least_spaces l.flex (length ps) * gap_units l.spacing ≡ least_spaces l.flex (length cs) * gap_units l.spacing =
+    ap (λ n. least_spaces l.flex n * gap_units l.spacing) long in
+    let fits : (t : ℕ) → FitWishes t l cells → FitsBefore t ps room =
+    λ t f. omega (arith, f, wanted_is_wished t cells cs, least) in
+    let unfits : (t : ℕ) → FitsBefore t ps room → FitWishes t l cells =
+    λ t f. omega (arith, f, wanted_is_wished t cells cs, least) in
+    let within = legacy.within (fits 0 spaced) in
+    let last : ℕ = cells * 5040000 - (sum units + least_spaces l.flex (length cs) * gap_units l.spacing) in
+    let E : ℕ → Type 0 = λ n. AreEdges l.direction start edges.0 n spaces.first units parts in
+    let F : ℕ → Type 0 = λ n. AreEdges l.direction start edges.0 (gap_units l.spacing) n units parts in (
+      units,
+      last,
+      edges.0,
+      record {
+        whole = omega (arith, within, least);
+        first_come = λ t few fit misses. let P : ℕ → Type 0 = λ n. TakeInOrder t cells n cs units in
+            subst P (omega (arith, wanted_is_wished t cells cs, least))
+            (take_in_order t cells
+            (cells * 5040000 - (wanted_before t ps + least_spaces l.flex (length ps) * gap_units l.spacing)) cs units
+            (legacy.first_come t few (fits t fit) (λ f. misses (unfits (t + 1) f))));
+        later = λ t few misses. AllZip-unmapped (IsDenied t) (part_in cells) cs units
+            (legacy.later t few (fits 0 spaced) (λ f. misses (unfits t f)));
+        stretched = λ fit none.
+            let s = legacy.stretched (omega (arith, some, long)) (omega (arith, small)) (fits 5 fit) (no_fill cells cs none) in
+            (s.0, stretch_one cells s.0 cs units s.1, omega (arith, s.2, least));
+        half = (edges.1, edges.2);
+        edges = subst F legacy.gaps.0 (subst E legacy.gaps.1 edges.3);
+      },
+    )
 
 -- parts that are placed as they are arranged split the area
 pub is_split : (l : LayoutData) (area : Rect) (units : List ℕ) (spaces : Spaces) (parts : List Rect) (cells o : ℕ)
@@ -507,9 +634,15 @@ is_split l area units spaces parts cells o cells_are small long arranges placed 
                 ((arranged space (keeps k)).granted t last (fits t fit));
             later = λ t last misses. AllZip-unmapped (IsDenied t) (part_in cells) cs units
                 ((arranged space (keeps k)).later t last (fits 0 spaced) (λ f. misses (unfits t f)));
+            levelled = λ few. levelled_at cells cs units
+                ((arranged space (keeps k)).levelled (omega (arith, few, wanted_is_wished 1 cells cs)));
             rest = λ fit. levelled l cells (length cs) units o refl
                 ((arranged space (keeps k)).filled (omega (arith, cells_are, small)) (fits 5 fit)) long_cs;
           }));
+      legacy = λ space flex some. let H : ℕ → Type 0 = λ n. FitWishes 0 l n → HasPlacesInOrder l (first_cell d area) n parts in
+          subst H cells_are (λ spaced. in_order l (first_cell d area) cells parts units spaces o ((arranges space).legacy flex)
+          long_cs some (omega (arith, cells_are, small)) spaced
+          (placed.edges space (omega (arith, (arranges space).given.fit 0 (fits 0 spaced), cells_are))));
       rest = λ space k. let H : ℕ → Type 0 = λ n. FitWishes 5 l n → SharesRest l n parts in
           subst H cells_are (λ fit.
           shares_rest_of l cells units parts

@@ -1,12 +1,14 @@
 -- Parts with what they wish, and the sizes that they get, in units.
 use Rattle.std.specs.Prelude.{ℕ, ◌≡◌, ◌==◌, ◌+◌, ◌*◌, ◌/◌, ◌<◌, ◌≤◌, max, List, Bool, sum_by, nat_lt}
-use Rattle.std.specs.Prelude.{if◌then◌else◌, sum, map, All, ◌^◌, ⊤}
+use Rattle.std.specs.Prelude.{true, false, IsTrue, if◌then◌else◌, sum, map, All, ◌^◌, ⊤, ◌-◌, min, [], ◌∷◌}
+use Rattle.std.specs.Prelude.{length, ◌++◌, slice_set, slice_index_or}
 use Rattle.std.specs.List.{AllZip}
 use Rattle.rtui_layout.specs.declared.constraint.Constraint.{Constraint}
 use Rattle.rtui_layout.specs.declared.constraint.Constraint.TheVariants.{Min, Fill}
 use Rattle.rtui_split.specs.declared.part.Part.{Part}
+use Rattle.rtui_split.specs.declared.draft.Draft.{Draft}
 use Rattle.rtui_split.specs.declared.level.Takers.{Takers}
-use Rattle.rtui_split.specs.Wishes.{turn, wish, weight_in}
+use Rattle.rtui_split.specs.Wishes.{turn, wish, weight_in, patience, IsStretchable}
 
 -- the part of a constraint in an area of so many columns or rows
 abbrev pub part_in : ℕ → Constraint → Part
@@ -25,6 +27,68 @@ wanted_before t ps = sum_by (if_before t) ps
 
 abbrev pub wanted_in : ℕ → List Part → ℕ
 wanted_in t ps = sum_by (if_in t) ps
+
+-- what they have together, if each has its wish, but at most so much
+abbrev pub capped_in : ℕ → ℕ → List Part → ℕ
+capped_in t most ps = sum_by (λ p. min (if_in t p) most) ps
+
+-- a part of this turn has so much at least, or its wish
+abbrev pub HasAtLeast : ℕ → ℕ → Part → ℕ → Type 0
+HasAtLeast t level p size = min (if_in t p) level ≤ size
+
+-- parts of the first turn that come too short share by level: each has its wish, or the level at least, which
+-- is the highest that has room
+abbrev pub IsLevelled : List Part → List ℕ → Type 0
+IsLevelled ps sizes = (level : ℕ) × AllZip (HasAtLeast 0 level) ps sizes
+    × (sum sizes < capped_in 0 (level + 1) ps)
+
+-- the part's turn is this one
+abbrev pub IsOfTurn : ℕ → Part → Type 0
+IsOfTurn t p = turn p.constraint ≡ t
+
+-- parts of this turn take their wishes one after the other, as far as there is room
+abbrev pub ComeFirst : ℕ → ℕ → List Part → List ℕ → Type 0
+ComeFirst t room [] [] = ⊤
+ComeFirst t room [] (s ∷ ss) = ⊥
+ComeFirst t room (p ∷ ps) [] = ⊥
+ComeFirst t room (p ∷ ps) (s ∷ ss) = (IsOfTurn t p → s ≡ min p.wanted room)
+    × ComeFirst t (room - if_in t p) ps ss
+
+-- what the parts of this turn try together, each at most its wish
+abbrev pub tries_in : ℕ → List Part → List Draft → ℕ
+tries_in t [] ds = 0
+tries_in t (p ∷ ps) [] = 0
+tries_in t (p ∷ ps) (d ∷ ds) = min (if_in t p) d.tried + tries_in t ps ds
+
+-- each of them has what it tries, or its wish
+abbrev pub HaveTried : ℕ → List Part → List Draft → List ℕ → Type 0
+HaveTried t [] ds [] = ⊤
+HaveTried t [] ds (s ∷ ss) = ⊥
+HaveTried t (p ∷ ps) [] ss = ⊥
+HaveTried t (p ∷ ps) (d ∷ ds) [] = ⊥
+HaveTried t (p ∷ ps) (d ∷ ds) (s ∷ ss) = (min (if_in t p) d.tried ≤ s) × HaveTried t ps ds ss
+
+abbrev pub TriesItsWish : Part → Draft → Type 0
+TriesItsWish p d = d.tried ≡ p.wanted
+
+-- what the parts are
+abbrev pub constraints_of : List Part → List Constraint
+constraints_of ps = map (λ p. p.constraint) ps
+
+-- the part at this place is the last of the kind that minds least to be stretched
+pub record IsStretchableAt (cs : List Constraint) (at most : ℕ) : Type 0 where
+  pub before : List Constraint
+  pub one : Constraint
+  pub after : List Constraint
+  pub whole : cs ≡ before ++ one ∷ after
+  pub place : length before ≡ at
+  pub minds : IsStretchable before one after
+  pub kind : patience one ≡ most
+
+-- so much is added to the size of that part
+abbrev pub IsStretched : List Part → List ℕ → List ℕ → ℕ → Type 0
+IsStretched ps old new left = (at : ℕ) × (most : ℕ) × IsStretchableAt (constraints_of ps) at most
+    × (new ≡ slice_set old at (slice_index_or old at 0 + left))
 
 -- a size at a level of what is left, in 1048576ths of a unit: the wish, or at least the share
 abbrev pub size_of_constraint : Takers → ℕ → ℕ → Constraint → ℕ
@@ -68,6 +132,15 @@ IsDenied t p size = (size ≤ p.wanted) × (t ≤ turn p.constraint → size ≡
 abbrev pub TakeNothing : List Part → Type 0
 TakeNothing ps = All (λ p. TakesNothing p.constraint) ps
 
+-- the same, if with `Flex::Legacy` a `Min` takes nothing either
+abbrev pub TakesNothingIn : Bool → Constraint → Type 0
+TakesNothingIn legacy (Fill n) = ⊥
+TakesNothingIn legacy (Min n) = IsTrue legacy
+TakesNothingIn legacy _ = ⊤
+
+abbrev pub TakeNothingIn : Bool → List Part → Type 0
+TakeNothingIn legacy ps = All (λ p. TakesNothingIn legacy p.constraint) ps
+
 -- what all weigh together
 abbrev pub weights : Bool → List Part → ℕ
 weights legacy ps = sum_by (λ p. weight_in legacy p.constraint) ps
@@ -89,5 +162,8 @@ pub record IsShared (legacy : Bool) (parts : List Part) (room : ℕ) (sizes : Li
   pub at_most : AllZip IsModest parts sizes
   pub short : (t : ℕ) → t ≤ 5 → room < wanted_before t parts → sum sizes ≡ room
   pub later : (t : ℕ) → t ≤ 5 → room < wanted_before t parts → AllZip (IsDenied t) parts sizes
-  pub rest : room < 2 ^ 43 → TakeNothing parts → sum sizes + left ≡ room
+  pub rest : room < 2 ^ 43 → TakeNothingIn legacy parts → sum sizes + left ≡ room
   pub filled : room < 2 ^ 43 → wanted_before 5 parts ≤ room → IsFilled legacy parts room sizes
+  pub levelled : legacy ≡ false → sum sizes < wanted_before 1 parts → IsLevelled parts sizes
+  pub first_come : legacy ≡ true → (t : ℕ) → t < 5 → wanted_before t parts ≤ room
+      → room < wanted_before (t + 1) parts → ComeFirst t (room - wanted_before t parts) parts sizes

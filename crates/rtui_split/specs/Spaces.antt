@@ -1,5 +1,6 @@
 -- The spaces of a layout, in units.
-use Rattle.std.specs.Prelude.{ℕ, ◌≡◌, ◌==◌, ◌<◌, ◌+◌, ◌-◌, ◌*◌, ◌/◌, ◌^◌, ◌≤◌, Bool, false, List, length, map}
+use Rattle.std.specs.Prelude.{ℕ, ◌≡◌, ◌==◌, ◌<◌, ◌+◌, ◌-◌, ◌*◌, ◌/◌, ◌^◌, ◌≤◌, Bool, true, false, List}
+use Rattle.std.specs.Prelude.{length, map}
 use Rattle.std.specs.Prelude.{nat_lt, sum_by, if◌then◌else◌, ⊤}
 use Rattle.std.specs.Prelude.{sum}
 use Rattle.std.specs.List.{AllZip}
@@ -10,7 +11,8 @@ use Rattle.rtui_layout.specs.declared.flex.Flex.TheVariants.{Legacy, Start, End,
 use Rattle.rtui_layout.specs.declared.flex.Flex.TheVariants.{SpaceBetween, SpaceAround, SpaceEvenly}
 use Rattle.rtui_split.specs.declared.{flex.Spaces.Spaces, flex.Room.Room, part.Part.Part}
 use Rattle.rtui_split.specs.Shares.{wanted_before, sized, IsGranted, IsModest}
-use Rattle.rtui_split.specs.Shares.{IsDenied, TakeNothing, weights}
+use Rattle.rtui_split.specs.Shares.{IsDenied, TakeNothing, TakeNothingIn, weights, IsLevelled, ComeFirst}
+use Rattle.rtui_split.specs.Shares.{IsStretched}
 use Rattle.rtui_split.specs.Cut.{length_of}
 
 -- the sizes and the spaces before and between them fit
@@ -81,6 +83,23 @@ pub record IsArranged (parts : List Part) (room : Room) (sizes : List ℕ) (spac
   pub flexed : 0 < length parts → room.whole < 2 ^ 43 → FitsBefore 0 parts room
       → IsFlexedIn parts room sizes spaces
   pub filled : room.whole < 2 ^ 43 → FitsBefore 5 parts room → IsFilledBeside parts room sizes
+  pub levelled : sum sizes < wanted_before 1 parts → IsLevelled parts sizes
+
+-- with `Flex::Legacy`, sizes and spaces in so much room: where a turn comes too short its parts take their
+-- wishes one after the other, and those after it have nothing; if all fit and none is a `Fill`, one part is
+-- stretched over what is left
+pub record IsLegacy (parts : List Part) (room : Room) (sizes : List ℕ) (spaces : Spaces) : Type 0 where
+  pub gaps : (spaces.first ≡ 0) × (spaces.middle ≡ room.gap)
+  pub within : FitsBefore 0 parts room
+      → sum sizes + least_spaces room.flex (length parts) * room.gap ≤ room.whole
+  pub first_come : (t : ℕ) → t < 5 → FitsBefore t parts room → (FitsBefore (t + 1) parts room → ⊥)
+      → ComeFirst t (room.whole - (wanted_before t parts
+      + least_spaces room.flex (length parts) * room.gap)) parts sizes
+  pub later : (t : ℕ) → t ≤ 5 → FitsBefore 0 parts room → (FitsBefore t parts room → ⊥)
+      → AllZip (IsDenied t) parts sizes
+  pub stretched : 0 < length parts → room.whole < 2 ^ 43 → FitsBefore 5 parts room → TakeNothingIn true parts
+      → (left : ℕ) × IsStretched parts (map (λ p. p.wanted) parts) sizes left
+      × (sum sizes + least_spaces room.flex (length parts) * room.gap ≡ room.whole)
 
 -- how much of what is left comes before the first part, if the spaces between two have their size
 abbrev pub lead : Flex → ℕ → ℕ

@@ -1,6 +1,7 @@
 -- What a layout makes of an area.
-use Rattle.std.specs.Prelude.{ℕ, ◌≡◌, ◌+◌, ◌-◌, ◌*◌, ◌/◌, ◌<◌, ◌==◌, Bool, false, sum_by, ◌≤◌, max, List, [], ◌∷◌}
-use Rattle.std.specs.Prelude.{sum, map, length, All, nat_le, if◌then◌else◌, ⊤}
+use Rattle.std.specs.Prelude.{ℕ, ◌≡◌, ◌+◌, ◌-◌, ◌*◌, ◌/◌, ◌<◌, ◌==◌, Bool, false, sum_by, ◌≤◌, max, min, List}
+use Rattle.std.specs.Prelude.{[], ◌∷◌}
+use Rattle.std.specs.Prelude.{sum, map, length, All, nat_le, if◌then◌else◌, ⊤, true, ◌++◌}
 use Rattle.std.specs.List.{AllZip}
 use Rattle.rtui_geometry.specs.{Rect.doubled, Rect.shrunk, declared.margin.Margin.Margin}
 use Rattle.rtui_geometry.specs.{declared.rect.Rect.Rect}
@@ -16,7 +17,9 @@ use Rattle.rtui_split.specs.declared.{place.Lane.Lane, lane.Rule.Rule}
 use Rattle.rtui_split.specs.{Cut.first_cell, Cut.area_end, Cut.length_of, Cut.IsPartAlong, Cut.InOrder}
 use Rattle.rtui_split.specs.{Cut.IsSpace}
 use Rattle.rtui_split.specs.{Cut.AtMostCells, Cut.AtLeastCells, Wishes.turn, Wishes.wish}
+use Rattle.rtui_split.specs.{Wishes.IsStretchable}
 use Rattle.rtui_split.specs.{Wishes.wished_before, Wishes.weight_in, Cut.AreEdges, Shares.TakesNothing}
+use Rattle.rtui_split.specs.{Shares.TakesNothingIn}
 use Rattle.rtui_split.specs.Spaces.{least_spaces, KeepsWishes, IsFlexed}
 
 -- no area, at the corner
@@ -148,14 +151,30 @@ IsGrantedAt t cells c units = turn c < t → wish cells c ≤ units
 abbrev pub IsDeniedAt : ℕ → ℕ → Constraint → ℕ → Type 0
 IsDeniedAt t cells c units = (units ≤ wish cells c) × (t ≤ turn c → units ≡ 0)
 
+-- what a `Min` wishes, and nothing of any other part
+abbrev pub least_wish : ℕ → Constraint → ℕ
+least_wish cells (Min n) = n * 5040000
+least_wish cells _ = 0
+
+-- a `Min` has its wish, or so much at least
+abbrev pub HasLevel : ℕ → ℕ → Constraint → ℕ → Type 0
+HasLevel cells level c units = min (least_wish cells c) level ≤ units
+
+-- `Min`s that come too short share by level: each has its wish, or the level at least, which is the highest
+-- that has room
+abbrev pub AreLevelled : ℕ → List Constraint → List ℕ → Type 0
+AreLevelled cells cs units = (level : ℕ) × AllZip (HasLevel cells level) cs units
+    × (sum units < sum_by (λ c. min (least_wish cells c) (level + 1)) cs)
+
 -- exact sizes: nobody has more than it wishes but of what is left, all whose wishes fit have theirs, if a
--- turn comes too short nobody at all has more, and those after it have nothing, and if all fit, they are the
--- sizes at one level
+-- turn comes too short nobody at all has more, those after it have nothing, and `Min`s share by level, and if
+-- all fit, they are the sizes at one level
 pub record AreExact (l : LayoutData) (cells : ℕ) (units : List ℕ) : Type 0 where
   pub within : AllZip (IsModestAt cells) l.constraints units
   pub given : (t : ℕ) → t ≤ 5 → FitWishes t l cells → AllZip (IsGrantedAt t cells) l.constraints units
   pub later : (t : ℕ) → t ≤ 5 → (FitWishes t l cells → ⊥)
       → AllZip (IsDeniedAt t cells) l.constraints units
+  pub levelled : sum units < wished_before 1 cells l.constraints → AreLevelled cells l.constraints units
   pub rest : FitWishes 5 l cells → (even : Bool) × (level : ℕ)
       × (units ≡ map (size_at cells even level) l.constraints) × IsLevel l cells even level
 
@@ -175,11 +194,50 @@ abbrev pub HasExactPlaces : LayoutData → ℕ → ℕ → List Rect → Type 0
 HasExactPlaces l start cells parts = (units : List ℕ) × (first : ℕ) × (middle : ℕ) × (last : ℕ)
     × (rounding : ℕ) × IsLaidOut l start cells parts units first middle last rounding
 
--- a part for each constraint, inside and in order. Without overlap, all whose wishes fit have at least theirs,
--- and a part alone takes all if spaces stand between parts only. If no part is stretched: nobody has more
--- than it wishes, all whose wishes fit have theirs, if a turn comes too short nothing is left over and those
--- after it have nothing, if all fit, what is left is shared by weight, and what no part takes goes to the
--- spaces as the flex says
+-- parts of this turn take their wishes one after the other, as far as there is room
+abbrev pub TakeInOrder : ℕ → ℕ → ℕ → List Constraint → List ℕ → Type 0
+TakeInOrder t cells room [] [] = ⊤
+TakeInOrder t cells room [] (u ∷ us) = ⊥
+TakeInOrder t cells room (c ∷ cs) [] = ⊥
+TakeInOrder t cells room (c ∷ cs) (u ∷ us) = (turn c ≡ t → u ≡ min (wish cells c) room)
+    × TakeInOrder t cells (room - (if turn c == t then wish cells c else 0)) cs us
+
+-- no part is a `Fill`
+abbrev pub HaveNoFill : List Constraint → Type 0
+HaveNoFill cs = All (TakesNothingIn true) cs
+
+-- each part has its wish, and one so much beside it: the last of the kind that minds least to be stretched
+abbrev pub StretchOne : ℕ → List Constraint → List ℕ → ℕ → Type 0
+StretchOne cells cs units left = (before : List Constraint) × (c : Constraint) × (after : List Constraint)
+    × (cs ≡ before ++ c ∷ after) × IsStretchable before c after
+    × (units ≡ map (wish cells) before ++ (wish cells c + left) ∷ map (wish cells) after)
+
+-- exact sizes with `Flex::Legacy`, one after the other with the same space between two: where a turn comes
+-- too short its parts take their wishes in order, and those after it have nothing; if all fit and none is a
+-- `Fill`, one part has all that is left
+pub record AreInOrder (l : LayoutData) (start cells : ℕ) (parts : List Rect) (units : List ℕ)
+    (last rounding : ℕ) : Type 0 where
+  pub whole : sum units + least_spaces l.flex (length l.constraints) * gap_units l.spacing + last
+      ≡ cells * 5040000
+  pub first_come : (t : ℕ) → t < 5 → FitWishes t l cells → (FitWishes (t + 1) l cells → ⊥)
+      → TakeInOrder t cells (cells * 5040000 - (wished_before t cells l.constraints
+      + least_spaces l.flex (length l.constraints) * gap_units l.spacing)) l.constraints units
+  pub later : (t : ℕ) → t ≤ 5 → (FitWishes t l cells → ⊥)
+      → AllZip (IsDeniedAt t cells) l.constraints units
+  pub stretched : FitWishes 5 l cells → HaveNoFill l.constraints
+      → (left : ℕ) × StretchOne cells l.constraints units left × (last ≡ 0)
+  pub half : (2520000 ≤ rounding) × (rounding ≤ 2557800)
+  pub edges : AreEdges l.direction start rounding (gap_units l.spacing) 0 units parts
+
+abbrev pub HasPlacesInOrder : LayoutData → ℕ → ℕ → List Rect → Type 0
+HasPlacesInOrder l start cells parts = (units : List ℕ) × (last : ℕ) × (rounding : ℕ)
+    × AreInOrder l start cells parts units last rounding
+
+-- a part for each constraint, inside and in order. Without overlap, all whose wishes fit have at least
+-- theirs, and a part alone takes all if spaces stand between parts only. If no part is stretched: nobody has
+-- more than it wishes, all whose wishes fit have theirs, if a turn comes too short nothing is left over and
+-- those after it have nothing, if all fit, what is left is shared by weight, and what no part takes goes to the
+-- spaces as the flex says. With `Flex::Legacy` parts come in order, and one is stretched
 pub record IsSplit (l : LayoutData) (area : Rect) (parts : List Rect) : Type 0 where
   pub count : length parts ≡ length l.constraints
   pub inside : All (IsPartAlong l.direction area (first_cell l.direction area)
@@ -205,6 +263,9 @@ pub record IsSplit (l : LayoutData) (area : Rect) (parts : List Rect) : Type 0 w
   pub flexed : IsSpace l.spacing → KeepsWishes l.flex (length l.constraints) → 0 < length l.constraints
       → FitWishes 0 l (cells_of l.direction area)
       → HasExactPlaces l (first_cell l.direction area) (cells_of l.direction area) parts
+  pub legacy : IsSpace l.spacing → l.flex ≡ flex.Legacy → 0 < length l.constraints
+      → FitWishes 0 l (cells_of l.direction area)
+      → HasPlacesInOrder l (first_cell l.direction area) (cells_of l.direction area) parts
   pub rest : IsSpace l.spacing → KeepsWishes l.flex (length l.constraints)
       → FitWishes 5 l (cells_of l.direction area) → SharesRest l (cells_of l.direction area) parts
 

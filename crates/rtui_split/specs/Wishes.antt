@@ -1,6 +1,7 @@
 -- What each part of a layout wishes, and whose wishes come first. Exact sizes are counted in units, of which
 -- 5040000 make one column or row.
-use Rattle.std.specs.Prelude.{ℕ, ◌*◌, ◌/◌, ◌-◌, ◌^◌, min, max, Bool, List, sum_by, nat_lt, if◌then◌else◌}
+use Rattle.std.specs.Prelude.{ℕ, ◌*◌, ◌/◌, ◌-◌, ◌^◌, ◌<◌, ◌≤◌, min, max, Bool, List, All, sum_by, nat_lt}
+use Rattle.std.specs.Prelude.{if◌then◌else◌}
 use Rattle.rtui_layout.specs.declared.constraint.Constraint.{Constraint}
 use Rattle.rtui_layout.specs.declared.constraint.Constraint.TheVariants.{Min, Max, Length, Percentage, Ratio}
 use Rattle.rtui_layout.specs.declared.constraint.Constraint.TheVariants.{Fill}
@@ -32,3 +33,17 @@ weight_in legacy _ = 0
 -- what all wish whose turn comes before this one
 abbrev pub wished_before : ℕ → ℕ → List Constraint → ℕ
 wished_before t cells cs = sum_by (λ c. if nat_lt (turn c) t then wish cells c else 0) cs
+
+-- how little a part minds to be stretched, if `Flex::Legacy` leaves room that no part takes
+abbrev pub patience : Constraint → ℕ
+patience (Max n) = 0
+patience (Length n) = 1
+patience (Percentage n) = 2
+patience (Ratio m n) = 3
+patience (Min n) = 4
+patience (Fill n) = 5
+
+-- of the parts before it, it, and those after it, this one is the last of the kind that minds least
+pub record IsStretchable (before : List Constraint) (c : Constraint) (after : List Constraint) : Type 0 where
+  pub no_less : All (λ d. patience d ≤ patience c) before
+  pub less : All (λ d. patience d < patience c) after

@@ -1,8 +1,9 @@
 //! Where the room goes that no part takes.
-ghost use Rattle.std.specs.Prelude.{◌≡◌, ◌≤◌, ◌+◌, ◌*◌, ◌-◌, ◌^◌, ◌<◌, ℕ, false, [], ◌∷◌, length};
-ghost use Rattle.rtui_split.specs.Spaces.{IsArranged, KeepsWishes, IsPacked, IsSpread, least_spaces};
+ghost use Rattle.std.specs.Prelude.{◌≡◌, ◌≤◌, ◌+◌, ◌*◌, ◌-◌, ◌^◌, ◌<◌, ℕ, true, false, [], ◌∷◌, length};
+ghost use Rattle.rtui_split.specs.Spaces.{IsArranged, IsLegacy, KeepsWishes, IsPacked, IsSpread};
+ghost use Rattle.rtui_split.specs.Spaces.{least_spaces};
 ghost use Rattle.rtui_split.specs.Spaces.{lead, first_share, middle_share, GivesWishes};
-ghost use Rattle.rtui_layout.specs.declared.flex.Flex.TheVariants.{SpaceBetween};
+ghost use Rattle.rtui_layout.specs.declared.flex.Flex.TheVariants.{Legacy, SpaceBetween};
 ghost use Rattle.rtui_split.specs.Shares.{wanted_before};
 
 use crate::draft::Draft;
@@ -30,7 +31,8 @@ pub(crate) struct Room {
 }
 
 fn is_legacy(flex: Flex) -> bool
-    ensures { (n : ℕ) → KeepsWishes flex n → result ≡ false }
+    ensures keeps { (n : ℕ) → KeepsWishes flex n → result ≡ false }
+    ensures legacy { flex ≡ Legacy → result ≡ true }
 {
     matches!(flex, Flex::Legacy)
 }
@@ -54,12 +56,13 @@ fn arrange_packed(parts: &[Part], room: Room, drafts: &mut [Draft], sizes: &mut 
     ensures given { GivesWishes parts.now room sizes.new result }
     ensures arranged { KeepsWishes room.flex (length parts.now)
         → IsArranged parts.now room sizes.new result }
+    ensures legacy { room.flex ≡ Legacy → IsLegacy parts.now room sizes.new result }
 {
     let inner = (parts.len() as u64).saturating_sub(1);
     let legacy = is_legacy(room.flex);
     let for_parts = room.whole.saturating_sub(room.gap.saturating_mul(inner));
     let left = share(parts, legacy, for_parts, drafts, sizes);
-    if legacy && left > 0 {
+    if legacy {
         stretch(parts, left, sizes);
         return Spaces {
             first: 0,
@@ -168,6 +171,8 @@ pub(crate) fn arrange(parts: &[Part], room: Room, drafts: &mut [Draft], sizes: &
         → (sizes.new ≡ room.whole ∷ []) × (result.first ≡ 0) × (result.middle ≡ 0) }
     ensures arranged { room.overlap ≡ 0 → KeepsWishes room.flex (length parts.now)
         → IsArranged parts.now room sizes.new result }
+    ensures legacy { room.overlap ≡ 0 → room.flex ≡ Legacy
+        → IsLegacy parts.now room sizes.new result }
 {
     let inner = (parts.len() as u64).saturating_sub(1);
     if room.overlap > 0 && inner > 0 {

@@ -2,7 +2,7 @@
 ghost use Rattle.std.specs.Prelude.{◌≡◌, ◌≤◌, ◌<◌, ◌+◌, ◌*◌, ◌/◌, ◌^◌, ◌==◌, sum_by};
 ghost use Rattle.std.specs.Prelude.{unwrap_or, IsTrue, IsFalse};
 ghost use Rattle.rtui_split.specs.Wishes.{weight_in};
-ghost use Rattle.rtui_split.specs.Shares.{sized, wanted_before, weights, TakeNothing};
+ghost use Rattle.rtui_split.specs.Shares.{sized, wanted_before, weights, TakeNothingIn};
 
 use crate::part::{FILL, Part, turn_of};
 use rtui_layout::Constraint;
@@ -157,7 +157,8 @@ pub(crate) fn level_of(parts: &[Part], takers: Takers, room: u64) -> u64
     ensures fits { sum_by (sized takers result) parts.now ≤ room }
     ensures most { room < 2 ^ 43 → result < (room + 1) * 1048576
         → room < sum_by (sized takers (result + 1048576)) parts.now }
-    ensures top { room < 2 ^ 43 → TakeNothing parts.now → result ≡ (room + 1) * 1048576 }
+    ensures top { room < 2 ^ 43 → TakeNothingIn takers.legacy parts.now
+        → result ≡ (room + 1) * 1048576 }
 {
     let top = top_of(room);
     let near = near_level(parts, takers, room).min(top);

@@ -2,6 +2,7 @@
 #![tactic(auto)]
 
 mod calls;
+mod cap;
 mod draft;
 mod edge;
 mod flex;

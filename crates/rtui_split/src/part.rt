@@ -1,7 +1,7 @@
 //! What each part of a layout wishes, and in which turn.
-ghost use Rattle.std.specs.Prelude.{◌≡◌, ◌+◌, ◌<◌, map, length, min, MatchOption};
+ghost use Rattle.std.specs.Prelude.{◌≡◌, ◌+◌, ◌<◌, map, length, MatchOption};
 ghost use Rattle.rtui_split.specs.Wishes.{turn, wish};
-ghost use Rattle.rtui_split.specs.Shares.{part_in, wanted_before, wanted_in};
+ghost use Rattle.rtui_split.specs.Shares.{part_in, wanted_before};
 
 use rtui_layout::Constraint;
 
@@ -84,17 +84,4 @@ pub(crate) fn left_before(parts: &[Part], turn: usize, room: u64) -> Option<u64>
         }
     }
     Some(left)
-}
-
-/// What all wish together whose turn this is, at most the largest number.
-pub(crate) fn total_in(parts: &[Part], turn: usize) -> u64
-    ensures { result ≡ min (wanted_in turn parts.now) u64.MAX }
-{
-    let mut total: u64 = 0;
-    for part in parts {
-        if turn_of(part.constraint) == turn {
-            total = total.saturating_add(part.wanted);
-        }
-    }
-    total
 }

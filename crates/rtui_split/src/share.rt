@@ -1,13 +1,18 @@
 //! Shares room among the parts.
 ghost use Rattle.std.specs.Prelude.{◌≡◌, ◌-◌, ◌≤◌, ◌<◌, ◌+◌, ◌*◌, ◌^◌, ℕ};
-ghost use Rattle.std.specs.Prelude.{length, sum, sum_by, map, min};
+ghost use Rattle.std.specs.Prelude.{length, sum, sum_by, map, min, All, IsTrue, IsFalse};
 ghost use Rattle.std.specs.List.{AllZip};
-ghost use Rattle.rtui_split.specs.Shares.{if_before, if_in, wanted_before, wanted_in};
+ghost use Rattle.rtui_split.specs.declared.draft.Draft.{Draft};
+ghost use Rattle.rtui_split.specs.Wishes.{patience};
+ghost use Rattle.rtui_split.specs.Shares.{if_before, if_in, wanted_before, wanted_in, capped_in, tries_in};
+ghost use Rattle.rtui_split.specs.Shares.{IsOfTurn, IsStretchableAt, IsStretched, constraints_of};
+ghost use Rattle.rtui_split.specs.Shares.{TriesItsWish, HaveTried, ComeFirst};
 ghost use Rattle.rtui_split.specs.Shares.{sized, IsAtMost, Settled, IsShared};
 
+use crate::cap::highest_level;
 use crate::draft::Draft;
 use crate::level::{Takers, level_of, size_at, takers_of, top_of};
-use crate::part::{FILL, Part, left_before, total_in, turn_of};
+use crate::part::{FILL, Part, left_before, turn_of};
 use crate::smooth::smooth;
 use rtui_layout::Constraint;
 
@@ -33,89 +38,106 @@ pub(crate) fn first_short(parts: &[Part], room: u64) -> Short
     Short { turn: FILL, left }
 }
 
-// All try the same size, but none more than it wishes.
-fn level_down(parts: &[Part], turn: usize, room: u64, drafts: &mut [Draft]) {
-    let mut cap: u64 = 0;
-    for _ in parts {
-        let mut left = room;
-        let mut others: u64 = 0;
-        for part in parts {
-            if turn_of(part.constraint) == turn {
-                if part.wanted <= cap {
-                    left = left.saturating_sub(part.wanted);
-                } else {
-                    others = others.saturating_add(1);
-                }
-            }
-        }
-        if others == 0 || left / others <= cap {
-            break;
-        }
-        cap = left / others;
-    }
+// All try the same size.
+fn try_all(size: u64, drafts: &mut [Draft])
+    ensures { All (λ (d : Draft). d.tried ≡ size) drafts.new }
+{
     for draft in drafts.iter_mut() {
-        draft.tried = cap;
+        draft.tried = size;
+    }
+}
+
+// Each tries what it wishes.
+fn try_wishes(parts: &[Part], drafts: &mut [Draft])
+    requires { length drafts.old ≡ length parts.now }
+    ensures { AllZip TriesItsWish parts.now drafts.new }
+{
+    for (i, part) in parts.iter().enumerate() {
+        drafts[i].tried = part.wanted;
     }
 }
 
 // What the parts try whose turn comes too short: first come, first served; or all the same; or so
 // that neighbours differ least.
-fn try_short(parts: &[Part], short: Short, legacy: bool, drafts: &mut [Draft]) {
+fn try_short(parts: &[Part], short: Short, legacy: bool, drafts: &mut [Draft])
+    requires drafts { length drafts.old ≡ length parts.now }
+    requires left { short.left < wanted_in short.turn parts.now }
+    ensures first { IsTrue legacy → AllZip TriesItsWish parts.now drafts.new }
+    ensures level { IsFalse legacy → short.turn ≡ 0 → (level : ℕ)
+        × All (λ (d : Draft). d.tried ≡ level) drafts.new
+        × (capped_in 0 level parts.now ≤ short.left)
+        × (short.left < capped_in 0 (level + 1) parts.now) }
+{
     if legacy {
-        for draft in drafts.iter_mut() {
-            draft.tried = u64::MAX;
-        }
+        try_wishes(parts, drafts);
     } else if short.turn == 0 {
-        level_down(parts, short.turn, short.left, drafts);
+        let level = highest_level(parts, short.turn, short.left);
+        try_all(level, drafts);
     } else {
         smooth(parts, short.turn, short.left, drafts);
     }
 }
 
-// What the parts of a turn have to go without, where so much is left for them.
-fn excess_of(parts: &[Part], short: Short) -> u64
-    requires { short.left ≤ wanted_in short.turn parts.now }
-    ensures { short.left + result ≤ wanted_in short.turn parts.now }
+// What is left of so much, when each part of a turn gets what it tries, but at most its wish.
+fn spare_of(parts: &[Part], short: Short, drafts: &[Draft]) -> u64
+    requires { length drafts.now ≡ length parts.now }
+    ensures { result ≡ short.left - tries_in short.turn parts.now drafts.now }
 {
-    total_in(parts, short.turn).saturating_sub(short.left)
+    let mut left = short.left;
+    for (i, part) in parts.iter().enumerate() {
+        if turn_of(part.constraint) == short.turn {
+            left = left.saturating_sub(part.wanted.min(drafts[i].tried));
+        }
+    }
+    left
 }
 
-// What a part gets, and what is left after it to get and to go without.
+// What a part gets, what is left after it, and how much of that nobody tries.
 #[derive(Debug, Clone, Copy, Drop)]
 struct Grant {
     size: u64,
     left: u64,
-    excess: u64,
+    spare: u64,
 }
 
-// A part before a turn gets its wish. One of the turn gets what it tried, as far as it leaves nothing
-// over.
-fn grant_of(part: &Part, turn: usize, tried: u64, left: u64, excess: u64) -> Grant
+// A part before a turn gets its wish. One of the turn gets what it tries, and of what nobody tries
+// as much as it still wishes.
+fn grant_of(part: &Part, turn: usize, tried: u64, left: u64, spare: u64) -> Grant
     ensures settled { Settled turn part.now result.size }
     ensures given { result.size + result.left ≡ if_before turn part.now + left }
-    ensures wished { (rest : ℕ) → (0 < left → left + excess ≤ if_in turn part.now + rest)
-        → 0 < result.left → result.left + result.excess ≤ rest }
+    ensures bound { (rest : ℕ) → left ≤ min (if_in turn part.now) tried + rest + spare
+        → result.left ≤ rest + result.spare }
+    ensures wished { (rest wishes : ℕ) → rest ≤ wishes
+        → min (if_in turn part.now) tried + rest + spare ≤ if_in turn part.now + wishes
+        → rest + result.spare ≤ wishes }
+    ensures tried { (rest : ℕ) → min (if_in turn part.now) tried + rest + spare ≤ left
+        → (min (if_in turn part.now) tried ≤ result.size)
+        × (rest + result.spare ≤ result.left) }
+    ensures first { if_in turn part.now ≤ tried → spare ≡ 0 →
+        (IsOfTurn turn part.now → result.size ≡ min part.now.wanted left)
+        × (result.left ≡ left - if_in turn part.now) × (result.spare ≡ 0) }
 {
     let own = turn_of(part.constraint);
     if own < turn {
         Grant {
             size: part.wanted,
             left,
-            excess,
+            spare,
         }
     } else if own == turn {
-        let denied = part.wanted.saturating_sub(tried).min(excess);
-        let size = (part.wanted - denied).min(left);
+        let least = part.wanted.min(tried);
+        let more = (part.wanted - least).min(spare);
+        let size = (least + more).min(left);
         Grant {
             size,
             left: left - size,
-            excess: excess - denied,
+            spare: spare - more,
         }
     } else {
         Grant {
             size: 0,
             left,
-            excess,
+            spare,
         }
     }
 }
@@ -127,14 +149,18 @@ fn settle(parts: &[Part], short: Short, drafts: &[Draft], sizes: &mut [u64])
     requires left { short.left ≤ wanted_in short.turn parts.now }
     ensures each { AllZip (Settled short.turn) parts.now sizes.new }
     ensures all { sum sizes.new ≡ wanted_before short.turn parts.now + short.left }
+    ensures tried { tries_in short.turn parts.now drafts.now ≤ short.left
+        → HaveTried short.turn parts.now drafts.now sizes.new }
+    ensures first { AllZip TriesItsWish parts.now drafts.now
+        → ComeFirst short.turn short.left parts.now sizes.new }
 {
-    let mut excess = excess_of(parts, short);
+    let mut spare = spare_of(parts, short, drafts);
     let mut left = short.left;
     for (i, part) in parts.iter().enumerate() {
-        let grant = grant_of(part, short.turn, drafts[i].tried, left, excess);
+        let grant = grant_of(part, short.turn, drafts[i].tried, left, spare);
         sizes[i] = grant.size;
         left = grant.left;
-        excess = grant.excess;
+        spare = grant.spare;
     }
 }
 
@@ -196,7 +222,9 @@ pub(crate) fn rest_of(whole: u64, sizes: &[u64]) -> u64
 }
 
 // How little a part minds to be stretched.
-fn patience_of(constraint: Constraint) -> u8 {
+fn patience_of(constraint: Constraint) -> u8
+    ensures { result ≡ patience constraint }
+{
     match constraint {
         Constraint::Fill(_) => 5,
         Constraint::Min(_) => 4,
@@ -208,7 +236,10 @@ fn patience_of(constraint: Constraint) -> u8 {
 }
 
 // The last part of the kind that minds least to be stretched.
-fn stretched(parts: &[Part]) -> usize {
+fn stretched(parts: &[Part]) -> usize
+    ensures { 0 < length parts.now
+        → (most : ℕ) × IsStretchableAt (constraints_of parts.now) result most }
+{
     let mut most: u8 = 0;
     let mut at: usize = 0;
     for (i, part) in parts.iter().enumerate() {
@@ -225,6 +256,8 @@ fn stretched(parts: &[Part]) -> usize {
 pub(crate) fn stretch(parts: &[Part], left: u64, sizes: &mut [u64])
     ensures more { AllZip IsAtMost sizes.old sizes.new }
     ensures all { sum sizes.new ≤ sum sizes.old + left }
+    ensures one { 0 < length parts.now → length sizes.old ≡ length parts.now
+        → sum sizes.old + left < 2 ^ 64 → IsStretched parts.now sizes.old sizes.new left }
 {
     let at = stretched(parts);
     if at < sizes.len() {

@@ -24,6 +24,7 @@ returns c = λ l is_lane is_rule.
       given = c.arrange-spaces.ensures.given (is_rule.overlap space);
       alone = c.arrange-spaces.ensures.alone (is_rule.overlap space);
       arranged = c.arrange-spaces.ensures.arranged (is_rule.overlap space);
+      legacy = c.arrange-spaces.ensures.legacy (is_rule.overlap space);
     }))
     (moved (IsSpace l.spacing) area units spaces rects lane.direction l.direction lane.start lane.end _ _ is_lane.direction
     is_lane.start is_lane.end

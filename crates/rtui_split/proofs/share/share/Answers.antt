@@ -1,7 +1,17 @@
-use Rattle.std.proofs.Common.{ℕ, ◌≡◌, ◌≤◌, ◌-◌, ◌==◌, ◌∙◌, map, sum, ap, subst, sym, arith, List}
-use Rattle.rtui_split.specs.Shares.{wanted_before, sized, IsShared, weights}
+use Rattle.std.proofs.Common.{ℕ, Bool, ◌≡◌, ◌≤◌, ◌-◌, ◌==◌, ◌∙◌, map, sum, ap, subst, sym, arith, List}
+use Rattle.rtui_split.specs.Shares.{wanted_before, sized, IsShared, weights, ComeFirst, TakeNothingIn}
 use Rattle.rtui_split.proofs.ShareLemmas.{before-next, all_fit, settled_share, filled_share}
+use Rattle.rtui_split.proofs.TryLemmas.{levelled_share}
 use Rattle.rtui_split.proofs.share.share.Goals as goal
+
+pub try_short-requires-clause-left : goal.try_short-requires-clause-left
+try_short-requires-clause-left c =
+    omega (
+      arith,
+      c.first_short-short.ensures.short (omega arith),
+      c.first_short-short.ensures.left,
+      before-next c.first_short-short.result.turn c.args.parts.now,
+    )
 
 pub settle-requires-clause-left : goal.settle-requires-clause-left
 settle-requires-clause-left c =
@@ -15,6 +25,11 @@ returns-then-short-lt-FILL c =
     (omega (arith, c.settle.ensures.all, c.first_short-short.ensures.left))
     (omega (arith, c.first_short-short.ensures.left))
     (c.first_short-short.ensures.short c.if-short-lt-FILL.true)
+    (λ other first. levelled_share short.turn short.left c.args.parts.now c.try_short.new.drafts c.settle.new.sizes first
+    (omega (arith, c.settle.ensures.all))
+    (c.try_short.ensures.level other first) c.settle.ensures.tried)
+    (λ legacy. let P : ℕ → Type 0 = λ n. ComeFirst short.turn n c.args.parts.now c.settle.new.sizes in
+    subst P (omega (arith, c.first_short-short.ensures.left)) (c.settle.ensures.first (c.try_short.ensures.first legacy)))
 
 pub returns : goal.returns
 returns c =
@@ -33,7 +48,8 @@ returns c =
     c.level_of-level.ensures.fits rest
     (λ small modest. omega (
       arith,
-      c.left_at.ensures.top small (c.level_of-level.ensures.top small modest),
+      c.left_at.ensures.top small (c.level_of-level.ensures.top small (let Q : Bool → Type 0 = λ b. TakeNothingIn b parts in
+          subst Q (sym c.takers_of-takers.ensures.legacy) modest)),
       ap sum c.fill.ensures,
     ))
     (c.takers_of-takers.ensures.even ∙ ap (λ legacy. weights legacy parts == 0) (sym c.takers_of-takers.ensures.legacy))

@@ -1,0 +1,9 @@
+use Rattle.std.proofs.Common.{◌≡◌, ◌<◌, take}
+use Rattle.rtui_split.specs.Shares.{constraints_of, IsStretchableAt}
+use Rattle.rtui_split.proofs.share.stretched.Given as goal
+
+abbrev pub invariant-loop-i : goal.invariant-loop-i
+invariant-loop-i l = record {
+  none : l.i ≡ 0 → l.most ≡ 0;
+  some : 0 < l.i → IsStretchableAt (constraints_of (take l.i l.parts)) l.at l.most;
+}
