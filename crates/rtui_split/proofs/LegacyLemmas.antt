@@ -7,13 +7,13 @@ use Rattle.std.proofs.lemmas.List.{set-get_or, nil_from_length, length-append, l
 use Rattle.std.proofs.lemmas.List.Elements.{All-head, All-tail}
 use Rattle.rtui_layout.specs.declared.constraint.Constraint.{Constraint}
 use Rattle.rtui_layout.specs.declared.constraint.Constraint.TheVariants.{Min, Max, Length, Percentage, Ratio, Fill}
-use Rattle.rtui_split.specs.declared.{flex.Room.Room, part.Part.Part}
+use Rattle.rtui_split.specs.declared.{flex.Room.Room, part.Part.Part, level.Takers.Takers}
 use Rattle.rtui_split.specs.Shares.{wanted_before, sized, size_of_constraint, constraints_of, ComeFirst, IsDenied, IsShared}
 use Rattle.rtui_split.specs.Shares.{IsFilled}
 use Rattle.rtui_split.specs.Shares.{TakesNothingIn, TakeNothingIn, IsStretched, IsStretchableAt}
 use Rattle.rtui_split.specs.Spaces.{FitsBefore, IsLegacy, least_spaces}
 use Rattle.rtui_split.proofs.FlexLemmas.{lt_or_le, not_le}
-use Rattle.rtui_split.proofs.ShareLemmas.{before-later}
+use Rattle.rtui_split.proofs.{ShareLemmas.before-later, LevelLemmas.fill_le}
 use Rattle.std.proofs.lemmas.List.Sums.{sum_by-set}
 
 -- the place of the stretched part is one of the parts
@@ -116,5 +116,16 @@ legacy_arranged legacy parts room shared sizes left for_parts is is_shared long 
               is_shared.rest (omega arith) (subst Q (sym is) modest),
               whole 5 fits,
             ),
+          );
+      filled = λ small fits some.
+          let P : Bool → Type 0 = λ b. IsFilled b parts for_parts shared in
+          let filled = subst P is (is_shared.filled (omega arith) (omega (arith, whole 5 fits, fits))) in
+          let left_over = is_shared.spent is (omega arith) (omega (arith, whole 5 fits, fits)) some in
+          let takers : Takers = record { legacy = true; even = filled.0 } in (
+            filled.0,
+            filled.1,
+            same left_over ∙ filled.2,
+            omega (arith, filled.3 (fill_le takers filled.1 parts filled.4 some), whole 5 fits),
+            filled.4,
           );
     }

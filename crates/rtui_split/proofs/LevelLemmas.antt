@@ -1,13 +1,15 @@
 -- Sizes at levels.
 use Rattle.std.proofs.Common.{ℕ, ◌≤◌, ◌*◌, ◌/◌, Bool, true, false, max, List, [], ◌∷◌, sum_by, if◌then◌else◌, arith}
-use Rattle.std.proofs.Common.{mul-le-mul_left, IsTrue}
+use Rattle.std.proofs.Common.{mul-le-mul_left, mul-le-mul_right, IsTrue, ◌≡◌, ◌<◌, ◌==◌, ◌⊎◌, inl, inr, refl, sym, ◌∙◌, subst}
+use Rattle.std.proofs.lemmas.{Bool.cases_lt, Bool.Decides.nat_tests}
 use Rattle.std.proofs.lemmas.List.Sums.{sum_by-le-sum_by}
 use Rattle.rtui_layout.specs.declared.constraint.Constraint.{Constraint}
 use Rattle.rtui_layout.specs.declared.constraint.Constraint.TheVariants.{Min, Max, Length, Percentage, Ratio, Fill}
 use Rattle.rtui_split.specs.declared.{part.Part.Part, level.Takers.Takers}
 use Rattle.std.proofs.lemmas.List.Sums.{sum_by-cons}
-use Rattle.std.proofs.lemmas.List.Elements.{All-head, All-tail}
-use Rattle.rtui_split.specs.Shares.{sized, size_of_constraint, TakesNothingIn, TakeNothingIn, if_before, wanted_before}
+use Rattle.std.proofs.lemmas.List.Elements.{All-head, All-tail, All-nil, All-cons}
+use Rattle.rtui_split.specs.Shares.{sized, size_of_constraint, TakesNothingIn, TakeNothingIn, if_before, wanted_before, weights}
+use Rattle.rtui_split.specs.Wishes.{weight_in}
 
 -- a share at a higher level is no smaller
 share_later : (k l m : ℕ) → l ≤ m → k * l / 1048576 ≤ k * m / 1048576
@@ -73,3 +75,76 @@ size_at_first takers wanted (Fill n) = omega arith
 
 pub sizes_at_first : (takers : Takers) (ps : List Part) → sum_by (sized takers 0) ps ≤ wanted_before 5 ps
 sizes_at_first takers ps = sum_by-le-sum_by (sized takers 0) (if_before 5) ps (λ p. size_at_first takers p.wanted p.constraint)
+
+-- a weight above 0 takes at least the level
+pub one_weight : (k level : ℕ) → 0 < k → level / 1048576 ≤ k * level / 1048576
+one_weight k level some = let more : 1 * level ≤ k * level = mul-le-mul_right level some in omega (arith, more)
+
+-- so does a `Fill` that weighs something, or counts as if it did
+fill_own : (even : Bool) (n level : ℕ) → (even ≡ false → 0 < n)
+    → level / 1048576 ≤ (if even then max n 1 else n) * level / 1048576
+fill_own true n level some = one_weight (max n 1) level (omega arith)
+fill_own false n level some = one_weight n level (some refl)
+
+weight_own : (takers : Takers) (level wanted : ℕ) (c : Constraint) → 0 < weight_in true c
+    → level / 1048576 ≤ size_of_constraint takers level wanted c
+weight_own takers level wanted (Min n) some = absurd (omega (arith, some))
+weight_own takers level wanted (Length n) some = absurd (omega (arith, some))
+weight_own takers level wanted (Percentage n) some = absurd (omega (arith, some))
+weight_own takers level wanted (Ratio m n) some = absurd (omega (arith, some))
+weight_own takers level wanted (Max n) some = absurd (omega (arith, some))
+weight_own takers level wanted (Fill n) some = fill_own takers.even n level (λ odd. some)
+
+weights_own : (takers : Takers) (level : ℕ) (ps : List Part) → 0 < weights true ps
+    → level / 1048576 ≤ sum_by (sized takers level) ps
+weights_own takers level [] some = absurd (omega (arith, some))
+weights_own takers level (p ∷ ps) some = elim (cases_lt 0 (weight_in true p.constraint)) [
+  | inl own ↦ omega (
+    arith,
+    sum_by-cons (sized takers level) p ps,
+    weight_own takers level p.wanted p.constraint own,
+  )
+  | inr none ↦ omega (
+    arith,
+    sum_by-cons (sized takers level) p ps,
+    weights_own takers level ps (omega (
+      arith,
+      some,
+      none,
+      sum_by-cons (λ (q : Part). weight_in true q.constraint) p ps,
+    )),
+  )
+]
+
+-- a `Fill`, or a part that takes nothing
+fill_or_none : (c : Constraint) → ((n : ℕ) × (c ≡ Fill n)) ⊎ TakesNothingIn true c
+fill_or_none (Min n) = inr refl
+fill_or_none (Length n) = inr tt
+fill_or_none (Percentage n) = inr tt
+fill_or_none (Ratio m n) = inr tt
+fill_or_none (Max n) = inr tt
+fill_or_none (Fill n) = inl (n, refl)
+
+fills_own : (takers : Takers) (level : ℕ) (ps : List Part) → takers.even ≡ true → (TakeNothingIn true ps → ⊥)
+    → level / 1048576 ≤ sum_by (sized takers level) ps
+fills_own takers level [] even some = absurd (some (All-nil (λ (q : Part). TakesNothingIn true q.constraint)))
+fills_own takers level (p ∷ ps) even some = elim (fill_or_none p.constraint) [
+  | inl fill ↦
+      let P : Constraint → Type 0 = λ c. level / 1048576 ≤ size_of_constraint takers level p.wanted c in
+      let own : P p.constraint = subst P (sym fill.1) (fill_own takers.even fill.0 level
+      (λ odd. absurd (let no : false ≡ true = sym odd ∙ even in cc))) in
+      omega (arith, own, sum_by-cons (sized takers level) p ps)
+  | inr none ↦ omega (
+    arith,
+    sum_by-cons (sized takers level) p ps,
+    fills_own takers level ps even (λ rest. some (All-cons (λ (q : Part). TakesNothingIn true q.constraint) p ps none rest)),
+  )
+]
+
+-- if some part is a `Fill`, all sizes together are at least the level
+pub fill_le : (takers : Takers) (level : ℕ) (ps : List Part) → takers.even ≡ (weights true ps == 0)
+    → (TakeNothingIn true ps → ⊥) → level / 1048576 ≤ sum_by (sized takers level) ps
+fill_le takers level ps same some = elim (cases_lt 0 (weights true ps)) [
+  | inl more ↦ weights_own takers level ps more
+  | inr none ↦ fills_own takers level ps (grind (arith, nat_tests, same, none)) some
+]

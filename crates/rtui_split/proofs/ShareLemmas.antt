@@ -1,7 +1,7 @@
 -- Sums of wishes, turn by turn, and what sizes keep to.
 use Rattle.std.proofs.Common.{ℕ, ◌≡◌, ◌<◌, ◌≤◌, ◌+◌, ◌-◌, ◌*◌, ◌^◌, ◌==◌, List, [], ◌∷◌, sum, sum_by, map, Bool, true, false}
 use Rattle.std.proofs.Common.{refl}
-use Rattle.std.proofs.Common.{subst, arith}
+use Rattle.std.proofs.Common.{subst, arith, ◌∙◌}
 use Rattle.std.proofs.lemmas.Bool.Decides.{nat_tests}
 use Rattle.std.proofs.lemmas.List.Sums.{sum_by-cons, sum_by-le-sum_by, sum-map}
 use Rattle.std.specs.List.{AllZip}
@@ -14,7 +14,7 @@ use Rattle.rtui_split.specs.Shares.{if_before, if_in, wanted_before, wanted_in, 
 use Rattle.rtui_split.specs.Shares.{TakesNothingIn, Settled}
 use Rattle.rtui_split.specs.Shares.{IsGranted, IsModest, IsDenied, IsShared, IsFilled, TakeNothingIn, TakeNothing, weights}
 use Rattle.rtui_split.specs.Shares.{IsLevelled, ComeFirst}
-use Rattle.rtui_split.proofs.Lists.{AllZip-weaker, AllZip-mapped}
+use Rattle.rtui_split.proofs.{Lists.AllZip-weaker, Lists.AllZip-mapped, LevelLemmas.fill_le}
 
 one_before_next : (t : ℕ) (p : Part) → if_before (t + 1) p ≡ if_before t p + if_in t p
 one_before_next t p = grind (arith, nat_tests)
@@ -108,6 +108,7 @@ settled_share legacy ps room sizes t short each all fits misses levelled come = 
       ps sizes each;
   rest = λ small modest. omega arith;
   filled = λ small enough. absurd (omega (arith, misses, before-later (t + 1) 5 ps (omega arith)));
+  spent = λ _ _ enough _. refl;
   levelled = λ level few. levelled level (zero_of t (λ later. omega (arith, few, fits, before-later 1 t ps later)));
   first_come = λ legacy u last enough missing.
       let same : t ≡ u = between t u
@@ -142,8 +143,9 @@ pub filled_share : (legacy : Bool) (ps : List Part) (room : ℕ) (takers : Taker
     → (room < 2 ^ 43 → TakeNothingIn legacy ps → over ≡ room - sum (map (sized takers level) ps))
     → takers.even ≡ (weights takers.legacy ps == 0)
     → (room < 2 ^ 43 → level < (room + 1) * 1048576 → room < sum_by (sized takers (level + 1048576)) ps)
+    → (room < 2 ^ 43 → level < (room + 1) * 1048576 → over ≡ 0)
     → IsShared legacy ps room (map (sized takers level) ps) over
-filled_share legacy ps room takers level over same fits within rest all even most =
+filled_share legacy ps room takers level over same fits within rest all even most none =
     let P : Bool → Type 0 = λ b. IsFilled b ps room (map (sized takers level) ps) in
     record {
       total = omega (arith, sum-map (sized takers level) ps);
@@ -153,6 +155,10 @@ filled_share legacy ps room takers level over same fits within rest all even mos
       short = λ u last misses. absurd (omega (arith, before-later u 5 ps last));
       later = λ u last misses. absurd (omega (arith, before-later u 5 ps last));
       rest = λ small modest. omega (arith, all small modest, within, sum-map (sized takers level) ps);
+      spent = λ is small _ some.
+          let Q : Bool → Type 0 = λ b. takers.even ≡ (weights b ps == 0) in
+          let filled = fill_le takers level ps (subst Q (same ∙ is) even) some in
+          none small (omega (arith, filled, within));
       levelled = λ _ few. absurd (omega (
         arith,
         few,

@@ -23,7 +23,7 @@ use Rattle.rtui_split.specs.Split.{gap_units, FitWishes, IsLane, HasWish, Within
 use Rattle.rtui_split.specs.Split.{AreExact, IsLevel, HasLeast}
 use Rattle.rtui_split.specs.Spaces.{IsFilledBeside, GivesWishes, IsLegacy}
 use Rattle.rtui_split.specs.Shares.{constraints_of, IsStretched, ComeFirst, TakesNothingIn, TakeNothingIn}
-use Rattle.rtui_split.specs.Split.{TakeInOrder, HaveNoFill, StretchOne, HasPlacesInOrder}
+use Rattle.rtui_split.specs.Split.{TakeInOrder, HaveNoFill, StretchOne, HasPlacesInOrder, fill_size}
 use Rattle.std.proofs.Math.ListN.{set}
 use Rattle.rtui_split.proofs.Lists.{AllZip-unmapped, AllZip-weaker}
 use Rattle.rtui_split.specs.Shares.{if_in, capped_in, HasAtLeast, IsLevelled}
@@ -31,7 +31,7 @@ use Rattle.rtui_split.specs.Split.{least_wish, HasLevel, AreLevelled}
 use Rattle.rtui_split.specs.Split.{size_at, total_weight, NoneTakes, IsDeniedFrom, HasExactPlaces}
 use Rattle.rtui_split.specs.{Wishes.weight_in, Cut.AreEdges, Spaces.IsFlexed}
 use Rattle.rtui_split.specs.Shares.{IsDenied, TakeNothing, weights}
-use Rattle.rtui_split.proofs.FlexLemmas.{lt_or_le, sum-plus}
+use Rattle.rtui_split.proofs.{LevelLemmas.one_weight, FlexLemmas.lt_or_le, FlexLemmas.sum-plus}
 use Rattle.rtui_layout.specs.declared.flex.Flex.TheVariants.{Legacy, Start, End, Center, SpaceBetween, SpaceAround, SpaceEvenly}
 use Rattle.std.proofs.lemmas.Bool.Decides.{nat_tests}
 use Rattle.std.proofs.lemmas.List.Elements.{All-map, All-nil, All-cons}
@@ -250,10 +250,6 @@ all_sized_are : (cells : ℕ) (even : Bool) (level : ℕ) (cs : List Constraint)
 all_sized_are cells even level [] = refl
 all_sized_are cells even level (c ∷ cs) =
     ap₂ (λ x xs. x ∷ xs) (sized_is cells even level c) (all_sized_are cells even level cs)
-
--- a weight above 0 takes at least the level
-one_weight : (k level : ℕ) → 0 < k → level / 1048576 ≤ k * level / 1048576
-one_weight k level some = let more : 1 * level ≤ k * level = mul-le-mul_right level some in omega (arith, more)
 
 -- a part that takes something of what is left takes at least the level
 weight_le : (cells level : ℕ) (c : Constraint) → 0 < weight_in false c → level / 1048576 ≤ size_at cells false level c
@@ -521,6 +517,39 @@ stretch_one cells left cs units stretched =
 no_fill : (cells : ℕ) (cs : List Constraint) → HaveNoFill cs → TakeNothingIn true (map (part_in cells) cs)
 no_fill cells cs none = All-map (λ (p : Part). TakesNothingIn true p.constraint) (part_in cells) cs none
 
+-- the size of a part at a level is that of its constraint
+fill_is : (cells : ℕ) (even : Bool) (level : ℕ) (c : Constraint)
+    → sized (record { legacy = true; even = even }) level (part_in cells c) ≡ fill_size cells even level c
+fill_is cells even level (Min n) = refl
+fill_is cells even level (Length n) = refl
+fill_is cells even level (Percentage n) = refl
+fill_is cells even level (Ratio m n) = refl
+fill_is cells even level (Max n) = refl
+fill_is cells even level (Fill n) = refl
+
+fills_are : (cells : ℕ) (even : Bool) (level : ℕ) (cs : List Constraint)
+    → map (sized (record { legacy = true; even = even }) level) (map (part_in cells) cs) ≡ map (fill_size cells even level) cs
+fills_are cells even level [] = refl
+fills_are cells even level (c ∷ cs) = ap₂ (λ x xs. x ∷ xs) (fill_is cells even level c) (fills_are cells even level cs)
+
+legacy_weights : (cells : ℕ) (cs : List Constraint) → weights true (map (part_in cells) cs) ≡ sum_by (weight_in true) cs
+legacy_weights cells [] = refl
+legacy_weights cells (c ∷ cs) =
+    omega (
+      arith,
+      legacy_weights cells cs,
+      sum_by-cons (λ (p : Part). weight_in true p.constraint) (part_in cells c) (map (part_in cells) cs),
+      sum_by-cons (weight_in true) c cs,
+    )
+
+-- a part that takes nothing is of a constraint that takes nothing
+none_of_parts : (cells : ℕ) (cs : List Constraint) → TakeNothingIn true (map (part_in cells) cs) → HaveNoFill cs
+none_of_parts cells [] none = All-nil (TakesNothingIn true)
+none_of_parts cells (c ∷ cs) none =
+    let P : Part → Type 0 = λ p. TakesNothingIn true p.constraint in
+    All-cons (TakesNothingIn true) c cs (All-head P (part_in cells c) (map (part_in cells) cs) none)
+    (none_of_parts cells cs (All-tail P (part_in cells c) (map (part_in cells) cs) none))
+
 -- parts at places one after the other
 in_order : (l : LayoutData) (start cells : ℕ) (parts : List Rect) (units : List ℕ) (spaces : Spaces) (o : ℕ)
     → IsLegacy (map (part_in cells) l.constraints) (record
@@ -559,6 +588,21 @@ in_order l start cells parts units spaces o legacy long some small spaced edges 
         stretched = λ fit none.
             let s = legacy.stretched (omega (arith, some, long)) (omega (arith, small)) (fits 5 fit) (no_fill cells cs none) in
             (s.0, stretch_one cells s.0 cs units s.1, omega (arith, s.2, least));
+        filled = λ fit some.
+            let f = legacy.filled (omega (arith, small)) (fits 5 fit) (λ none. some (none_of_parts cells cs none)) in (
+              f.0,
+              f.1,
+              f.2 ∙ fills_are cells f.0 f.1 cs,
+              omega (
+                arith,
+                f.3,
+                ap sum (fills_are cells f.0 (f.1 + 1048576) cs),
+                sum-map (fill_size cells f.0 (f.1 + 1048576)) cs,
+                sum-map (sized (record { legacy = true; even = f.0 }) (f.1 + 1048576)) ps,
+                least,
+              ),
+              f.4 ∙ ap (λ n. n == 0) (legacy_weights cells cs),
+            );
         half = (edges.1, edges.2);
         edges = subst F legacy.gaps.0 (subst E legacy.gaps.1 edges.3);
       },

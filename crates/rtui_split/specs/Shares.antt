@@ -164,6 +164,8 @@ pub record IsShared (legacy : Bool) (parts : List Part) (room : ℕ) (sizes : Li
   pub later : (t : ℕ) → t ≤ 5 → room < wanted_before t parts → AllZip (IsDenied t) parts sizes
   pub rest : room < 2 ^ 43 → TakeNothingIn legacy parts → sum sizes + left ≡ room
   pub filled : room < 2 ^ 43 → wanted_before 5 parts ≤ room → IsFilled legacy parts room sizes
+  pub spent : legacy ≡ true → room < 2 ^ 43 → wanted_before 5 parts ≤ room → (TakeNothingIn true parts → ⊥)
+      → left ≡ 0
   pub levelled : legacy ≡ false → sum sizes < wanted_before 1 parts → IsLevelled parts sizes
   pub first_come : legacy ≡ true → (t : ℕ) → t < 5 → wanted_before t parts ≤ room
       → room < wanted_before (t + 1) parts → ComeFirst t (room - wanted_before t parts) parts sizes

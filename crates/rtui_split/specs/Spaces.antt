@@ -86,8 +86,8 @@ pub record IsArranged (parts : List Part) (room : Room) (sizes : List ℕ) (spac
   pub levelled : sum sizes < wanted_before 1 parts → IsLevelled parts sizes
 
 -- with `Flex::Legacy`, sizes and spaces in so much room: where a turn comes too short its parts take their
--- wishes one after the other, and those after it have nothing; if all fit and none is a `Fill`, one part is
--- stretched over what is left
+-- wishes one after the other, and those after it have nothing; if all fit, `Fill`s share what is left, and if
+-- there are none, one part is stretched over it
 pub record IsLegacy (parts : List Part) (room : Room) (sizes : List ℕ) (spaces : Spaces) : Type 0 where
   pub gaps : (spaces.first ≡ 0) × (spaces.middle ≡ room.gap)
   pub within : FitsBefore 0 parts room
@@ -100,6 +100,12 @@ pub record IsLegacy (parts : List Part) (room : Room) (sizes : List ℕ) (spaces
   pub stretched : 0 < length parts → room.whole < 2 ^ 43 → FitsBefore 5 parts room → TakeNothingIn true parts
       → (left : ℕ) × IsStretched parts (map (λ p. p.wanted) parts) sizes left
       × (sum sizes + least_spaces room.flex (length parts) * room.gap ≡ room.whole)
+  pub filled : room.whole < 2 ^ 43 → FitsBefore 5 parts room → (TakeNothingIn true parts → ⊥)
+      → (even : Bool) × (level : ℕ)
+      × (sizes ≡ map (sized (record { legacy = true; even = even }) level) parts)
+      × (room.whole < sum_by (sized (record { legacy = true; even = even }) (level + 1048576)) parts
+      + least_spaces room.flex (length parts) * room.gap)
+      × (even ≡ (weights true parts == 0))
 
 -- how much of what is left comes before the first part, if the spaces between two have their size
 abbrev pub lead : Flex → ℕ → ℕ

@@ -212,9 +212,22 @@ StretchOne cells cs units left = (before : List Constraint) × (c : Constraint) 
     × (cs ≡ before ++ c ∷ after) × IsStretchable before c after
     × (units ≡ map (wish cells) before ++ (wish cells c + left) ∷ map (wish cells) after)
 
+-- the exact size of a part at a level of what is left, if only `Fill`s take it
+abbrev pub fill_size : ℕ → Bool → ℕ → Constraint → ℕ
+fill_size cells even level (Fill n) = (if even then max n 1 else n) * level / 1048576
+fill_size cells even level c = wish cells c
+
+-- `Fill`s share what is left, with no room for a unit more for each weight; these count as even if all are 0
+abbrev pub FillsShare : LayoutData → ℕ → List ℕ → Type 0
+FillsShare l cells units = (even : Bool) × (level : ℕ)
+    × (units ≡ map (fill_size cells even level) l.constraints)
+    × (cells * 5040000 < sum_by (fill_size cells even (level + 1048576)) l.constraints
+    + least_spaces l.flex (length l.constraints) * gap_units l.spacing)
+    × (even ≡ (sum_by (weight_in true) l.constraints == 0))
+
 -- exact sizes with `Flex::Legacy`, one after the other with the same space between two: where a turn comes
--- too short its parts take their wishes in order, and those after it have nothing; if all fit and none is a
--- `Fill`, one part has all that is left
+-- too short its parts take their wishes in order, and those after it have nothing; if all fit, `Fill`s share
+-- what is left, and if there are none, one part has it all
 pub record AreInOrder (l : LayoutData) (start cells : ℕ) (parts : List Rect) (units : List ℕ)
     (last rounding : ℕ) : Type 0 where
   pub whole : sum units + least_spaces l.flex (length l.constraints) * gap_units l.spacing + last
@@ -226,6 +239,7 @@ pub record AreInOrder (l : LayoutData) (start cells : ℕ) (parts : List Rect) (
       → AllZip (IsDeniedAt t cells) l.constraints units
   pub stretched : FitWishes 5 l cells → HaveNoFill l.constraints
       → (left : ℕ) × StretchOne cells l.constraints units left × (last ≡ 0)
+  pub filled : FitWishes 5 l cells → (HaveNoFill l.constraints → ⊥) → FillsShare l cells units
   pub half : (2520000 ≤ rounding) × (rounding ≤ 2557800)
   pub edges : AreEdges l.direction start rounding (gap_units l.spacing) 0 units parts
 
@@ -236,8 +250,8 @@ HasPlacesInOrder l start cells parts = (units : List ℕ) × (last : ℕ) × (ro
 -- a part for each constraint, inside and in order. Without overlap, all whose wishes fit have at least
 -- theirs, and a part alone takes all if spaces stand between parts only. If no part is stretched: nobody has
 -- more than it wishes, all whose wishes fit have theirs, if a turn comes too short nothing is left over and
--- those after it have nothing, if all fit, what is left is shared by weight, and what no part takes goes to the
--- spaces as the flex says. With `Flex::Legacy` parts come in order, and one is stretched
+-- those after it have nothing, if all fit, what is left is shared by weight, and what no part takes goes to
+-- the spaces as the flex says. With `Flex::Legacy` parts come in order, and one is stretched
 pub record IsSplit (l : LayoutData) (area : Rect) (parts : List Rect) : Type 0 where
   pub count : length parts ≡ length l.constraints
   pub inside : All (IsPartAlong l.direction area (first_cell l.direction area)

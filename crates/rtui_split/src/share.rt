@@ -202,6 +202,7 @@ pub(crate) fn share(
 fn left_at(level: u64, room: u64, sizes: &[u64]) -> u64
     ensures most { result ≤ room - sum sizes.now }
     ensures top { room < 2 ^ 43 → level ≡ (room + 1) * 1048576 → result ≡ room - sum sizes.now }
+    ensures below { room < 2 ^ 43 → level < (room + 1) * 1048576 → result ≡ 0 }
 {
     if level < top_of(room) {
         0

@@ -53,4 +53,4 @@ returns c =
       ap sum c.fill.ensures,
     ))
     (c.takers_of-takers.ensures.even ∙ ap (λ legacy. weights legacy parts == 0) (sym c.takers_of-takers.ensures.legacy))
-    c.level_of-level.ensures.most)
+    c.level_of-level.ensures.most c.left_at.ensures.below)
