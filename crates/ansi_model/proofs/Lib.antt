@@ -12,6 +12,7 @@ pub mod EraseLemmas
 pub mod DrawLemmas
 pub mod PaintLemmas
 pub mod DisputeLemmas
+pub mod PlaceLemmas
 pub mod HistoryLemmas
 pub mod WindowLemmas
 pub mod PutLemmas

@@ -10,6 +10,7 @@ pub mod Sequences
 pub mod Windows
 pub mod Sends
 pub mod Drawing
+pub mod Places
 pub mod Screens
 pub mod Beginnings
 pub mod Commands

@@ -290,9 +290,9 @@ impl<W: Write + Drop> AnsiBackend<W> {
         self.tracker.has_underline_colors = has_underline_colors;
     }
 
-    /// From now on a move follows each symbol but ASCII, or none does, as at first: some terminals
-    /// are set to take ambiguous characters, such as lines and letters with accents, as wide, and
-    /// would shift what comes after them.
+    /// From now on a draw sends a move between each symbol but ASCII and the next one, or none, as
+    /// at first: some terminals are set to take ambiguous characters, such as lines and letters with
+    /// accents, as wide, and would shift what comes after them.
     pub fn set_ambiguous_is_wide(&mut self, ambiguous_is_wide: bool)
         ensures { self.new ≡ record self.old { ambiguous_is_wide = ambiguous_is_wide } }
     {

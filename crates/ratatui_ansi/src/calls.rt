@@ -7,6 +7,7 @@ ghost use Rattle.ratatui_core.specs.Buffer.{update_by};
 ghost use Rattle.ratatui_core.specs.Backend.{Counts, IsOnGrid, Draws, Appends, Clears, ScrollsUp};
 ghost use Rattle.ratatui_core.specs.Backend.{ScrollsDown, with_visible, with_cursor, cursor_of, size_of, All};
 ghost use Rattle.ansi_model.specs.Sends.{IsWithinUpdate};
+ghost use Rattle.ansi_model.specs.Places.{PlacesEach};
 ghost use Rattle.ratatui_ansi.specs.Backend.{shown_by, is_flushed};
 ghost use Rattle.ratatui_ansi.specs.Frame.{is_sendable_on};
 ghost use Rattle.ratatui_ansi.specs.Refusals.{Answers, StopsBy, IsOfWriting, IsOfFlushing, IsOfClearing};
@@ -47,6 +48,8 @@ impl<W: Write + Drop> Backend for AnsiBackend<W> {
             self.old.has_underline_colors) (map (update_by C.cell) items) ≡ true)) }
         ensures within { OnOk result (self.old.is_synchronized ≡ true
             → IsWithinUpdate self.old.sent self.new.sent) }
+        ensures placed { OnOk result (self.old.ambiguous_is_wide ≡ true
+            → PlacesEach self.old.sent self.new.sent) }
         ensures stopped { IfErr result (StopsBy I.next_gives content (update_by C.cell)
             self.old.has_underline_colors (shown_by self.old)) }
         ensures state { Answers result self.old self.new }

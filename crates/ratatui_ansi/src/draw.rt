@@ -11,6 +11,7 @@ ghost use Rattle.ansi_model.specs.Sgr.{default_sgr, sgr_of};
 ghost use Rattle.ansi_model.specs.Parameters.{is_sendable_by};
 ghost use Rattle.ansi_model.specs.Symbols.{printed_columns, IsGlyphOf};
 ghost use Rattle.ansi_model.specs.Drawing.{blanked, ChangesSgr, Paints, Prints};
+ghost use Rattle.ansi_model.specs.Places.{PlacesOn, PlacesEach};
 ghost use Rattle.ratatui_ansi.specs.Frame.{is_fit, is_sendable_on, IsGlyph, IsVacant, IsUnsendableSgr};
 ghost use Rattle.ratatui_ansi.specs.Frame.{RefusesUpdate, Covers, SendsUpdates, SendsDraw};
 ghost use Rattle.ratatui_ansi.specs.Refusals.{has_place, StopsWithin, StopsDraw};
@@ -127,6 +128,8 @@ fn put_blanks(out: &mut String, pen: &mut Pen, x: u16, y: u16, end: u16) -> Resu
     ensures paints { OnOk result ((w h : ℕ) → end ≤ w → y < h → Paints w h (string_bytes out.old)
         pen.old (blanked x y (end - x)) (string_bytes out.new) pen.new) }
     ensures sgr { OnOk result (pen.new.sgr ≡ default_sgr) }
+    ensures places { OnOk result
+        (PlacesOn (string_bytes out.old) pen.old (string_bytes out.new) pen.new) }
 {
     change_sgr(out, pen, &Sgr::DEFAULT)?;
     put_spaces(out, pen, x, y, end)
@@ -147,8 +150,10 @@ fn cover(
     requires fits { place.x + columns ≤ width }
     requires row { place.y * width + width ≤ length continuations.old }
     requires uncut { slice_index_or continuations.old (place.y * width + place.x) false ≡ false }
-    ensures { IfOk result (λ end. Covers width place.x place.y columns (string_bytes out.old)
+    ensures covers { IfOk result (λ end. Covers width place.x place.y columns (string_bytes out.old)
         continuations.old pen.old end (string_bytes out.new) continuations.new pen.new) }
+    ensures places { OnOk result
+        (PlacesOn (string_bytes out.old) pen.old (string_bytes out.new) pen.new) }
 {
     let Position { x, y } = place;
     let start = usize::from(y) * usize::from(width);
@@ -184,6 +189,8 @@ fn put(
         pen.old place.x place.y pen.old.sgr (symbol_text cell.now.symbol)
         (string_bytes out.new) pen.new) }
     ensures sgr { OnOk result (pen.new.sgr ≡ pen.old.sgr) }
+    ensures places { OnOk result
+        (PlacesOn (string_bytes out.old) pen.old (string_bytes out.new) pen.new) }
 {
     let Position { x, y } = place;
     match glyph {
@@ -266,6 +273,8 @@ fn draw_glyph(
         (is_sendable_by target.has_underline_colors (sgr_of cell.now) ≡ true) }
     ensures sgr { OnOk result
         (is_sendable_by target.has_underline_colors drawing.new.pen.sgr ≡ true) }
+    ensures places { OnOk result (PlacesOn (string_bytes out.old) drawing.old.pen
+        (string_bytes out.new) drawing.new.pen) }
     ensures refused { IfErr result
         (IsUnsendableSgr target.has_underline_colors place (sgr_of cell.now)) }
 {
@@ -324,6 +333,8 @@ pub fn draw_cell(
         (record { x = place.x; y = place.y; cell = cell.now }) ≡ true) }
     ensures sgr { OnOk result
         (is_sendable_by target.has_underline_colors drawing.new.pen.sgr ≡ true) }
+    ensures places { OnOk result (PlacesOn (string_bytes out.old) drawing.old.pen
+        (string_bytes out.new) drawing.new.pen) }
     ensures refused { IfErr result
         (RefusesUpdate target.width target.height target.has_underline_colors continuations.old
         (record { x = place.x; y = place.y; cell = cell.now })) }
@@ -370,6 +381,8 @@ fn draw_all<C: AsCell, I: Iterator<Item = (u16, u16, C)>>(
         continuations.new
         × (list_all (is_sendable_on target.width target.height target.has_underline_colors)
         (map (update_by C.cell) items) ≡ true)) }
+    ensures places { OnOk result (PlacesOn (string_bytes out.old) drawing.old.pen
+        (string_bytes out.new) drawing.new.pen) }
     ensures refused { IfErr result (StopsWithin I.next_gives content (update_by C.cell)
         target.width target.height target.has_underline_colors (string_bytes out.old) drawing.old
         continuations.old) }
@@ -414,6 +427,8 @@ pub fn draw_cells<C: AsCell, I: Iterator<Item = (u16, u16, C)>>(
         continuations.new
         × (list_all (is_sendable_on target.width target.height target.has_underline_colors)
         (map (update_by C.cell) items) ≡ true)) }
+    ensures placed { OnOk result (ambiguous_is_wide ≡ true
+        → PlacesEach (string_bytes out.old) (string_bytes out.new)) }
     ensures refused { IfErr result (λ refusal. IsTrue (has_place refusal)
         → StopsDraw I.next_gives content (update_by C.cell) target.width target.height
         target.has_underline_colors cursor written continuations.old refusal) }

@@ -12,6 +12,7 @@ ghost use Rattle.ratatui_ansi.specs.declared.tracker.Call.TheVariants as Called;
 ghost use Rattle.ansi_model.specs.Flags.{is_cut, is_clear_cut};
 ghost use Rattle.ansi_model.specs.Commands.{command_bytes, title_bytes, AsksSize};
 ghost use Rattle.ansi_model.specs.Sends.{IsWithinUpdate};
+ghost use Rattle.ansi_model.specs.Places.{PlacesEach};
 ghost use Rattle.ratatui_ansi.specs.Frame.{is_sendable_on, Drafts};
 ghost use Rattle.ratatui_ansi.specs.Refusals.{has_place, StopsDraw, RefusesTracker};
 ghost use Rattle.ratatui_ansi.specs.Tracker.{IsTracker, KeepsTracked, Collects, CallDoes, IsCommanded};
@@ -346,6 +347,8 @@ impl Tracker {
             × Drafts self.old (map (update_by C.cell) items) after.0 after.1 self.new
             × (list_all (is_sendable_on self.old.size.width self.old.size.height
             self.old.has_underline_colors) (map (update_by C.cell) items) ≡ true)) }
+        ensures placed { OnOk result (self.old.ambiguous_is_wide ≡ true
+            → PlacesEach (string_bytes self.old.out) (string_bytes self.new.out)) }
         ensures kept { KeepsTracked self.old self.new }
         ensures stopped { IfErr result (λ refusal. IsTrue (has_place refusal)
             → StopsDraw I.next_gives content (update_by C.cell) self.old.size.width
@@ -385,6 +388,8 @@ impl Tracker {
             self.old.has_underline_colors) (map (update_by C.cell) items) ≡ true)) }
         ensures within { OnOk result
             (IsWithinUpdate (string_bytes self.old.out) (string_bytes self.new.out)) }
+        ensures placed { OnOk result (self.old.ambiguous_is_wide ≡ true
+            → PlacesEach (string_bytes self.old.out) (string_bytes self.new.out)) }
         ensures kept { KeepsTracked self.old self.new }
         ensures stopped { IfErr result (λ refusal. IsTrue (has_place refusal)
             → StopsDraw I.next_gives content (update_by C.cell) self.old.size.width
@@ -412,6 +417,8 @@ impl Tracker {
             self.old.has_underline_colors) (map (update_by C.cell) items) ≡ true)) }
         ensures within { OnOk result (self.old.is_synchronized ≡ true
             → IsWithinUpdate (string_bytes self.old.out) (string_bytes self.new.out)) }
+        ensures placed { OnOk result (self.old.ambiguous_is_wide ≡ true
+            → PlacesEach (string_bytes self.old.out) (string_bytes self.new.out)) }
         ensures kept { KeepsTracked self.old self.new }
         ensures stopped { IfErr result (λ refusal. IsTrue (has_place refusal)
             → StopsDraw I.next_gives content (update_by C.cell) self.old.size.width
@@ -441,6 +448,8 @@ impl Tracker {
             self.old.has_underline_colors) (map (update_by C.cell) items) ≡ true)) }
         ensures within { OnOk result (self.old.is_synchronized ≡ true
             → IsWithinUpdate (string_bytes self.old.out) (string_bytes self.new.out)) }
+        ensures placed { OnOk result (self.old.ambiguous_is_wide ≡ true
+            → PlacesEach (string_bytes self.old.out) (string_bytes self.new.out)) }
         ensures err { OnErr result (KeepsTracked self.old self.new) }
         ensures stopped { IfErr result (λ refusal. IsTrue (has_place refusal)
             → StopsDraw I.next_gives content (update_by C.cell) self.old.size.width

@@ -2,11 +2,12 @@ use Rattle.std.proofs.Common.{◌+◌, ◌-◌, ◌*◌, inl, inr, refl, arith}
 use Rattle.ansi_model.specs.Sgr.{default_sgr}
 use Rattle.ansi_model.proofs.PaintLemmas.{blanks-none}
 use Rattle.ratatui_ansi.proofs.LayLemmas.{one-marked}
+use Rattle.ansi_model.proofs.PlaceLemmas.{places-on}
 use Rattle.ratatui_ansi.proofs.draw.cover.Goals.{then-past_it-end+in_ok-put_blanks, else-past_it-end}
 use Rattle.ratatui_ansi.proofs.draw.cover.Goals as goal
 
-pub returns-after-past_it-end : goal.returns-after-past_it-end
-returns-after-past_it-end c = record {
+pub returns-after-past_it-end-clause-covers : goal.returns-after-past_it-end-clause-covers
+returns-after-past_it-end-clause-covers c = record {
   ordered = c.tail_end-end.ensures.low;
   inside = c.tail_end-end.ensures.high;
   set = λ k low high. rw (c.from.ensures, c.from-2.ensures) at (c.tail_end-end.ensures.continuations k low high);
@@ -34,8 +35,8 @@ returns-after-past_it-end c = record {
   };
 }
 
-pub returns-else-x-end : goal.returns-else-x-end
-returns-else-x-end c = record {
+pub returns-else-x-end-clause-covers : goal.returns-else-x-end-clause-covers
+returns-else-x-end-clause-covers c = record {
   ordered = c.tail_end-end.ensures.low;
   inside = c.tail_end-end.ensures.high;
   set = λ k low high. rw (c.from.ensures, c.from-2.ensures) at (c.tail_end-end.ensures.continuations k low high);
@@ -50,3 +51,12 @@ returns-else-x-end c = record {
         (c.args.place.y * c.args.width + c.tail_end-end.result) c.args.continuations.now c.requires.uncut (omega arith);
   };
 }
+
+pub returns-after-past_it-end-clause-places : goal.returns-after-past_it-end-clause-places
+returns-after-past_it-end-clause-places c = elim c.if-past_it-end.branch [
+  | then-past_it-end+in_ok-put_blanks v ↦ rw (v.out-is, v.pen-is) v.in_ok-put_blanks.ensures.places
+  | else-past_it-end v ↦ rw (v.out-is, v.pen-is) (places-on _ _)
+]
+
+pub returns-else-x-end-clause-places : goal.returns-else-x-end-clause-places
+returns-else-x-end-clause-places c = places-on _ _

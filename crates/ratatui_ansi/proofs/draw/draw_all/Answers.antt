@@ -2,6 +2,7 @@ use Rattle.std.proofs.Common.{map, rules, refl}
 use Rattle.std.proofs.lemmas.List.{map-append}
 use Rattle.ratatui_core.specs.Buffer.{update_by}
 use Rattle.ratatui_ansi.proofs.{FrameLemmas.sends-none, FrameLemmas.sends-push, FrameLemmas.sendable-push, RefusalLemmas.if-error}
+use Rattle.ansi_model.proofs.PlaceLemmas.{places-on, places-on-then}
 use Rattle.ratatui_ansi.proofs.draw.draw_all.Goals as goal
 
 pub loop-x-init : goal.loop-x-init
@@ -10,6 +11,7 @@ loop-x-init g c = record {
   is_finite = search rules;
   sends = sends-none _ _ _ _ _;
   sent = refl;
+  places = places-on _ _;
   sgr = c.requires.sgr;
 }
 
@@ -23,6 +25,7 @@ loop-x-preserved g c = record {
       (map (update_by g.C.AsCell.cell) c.loop-x.yielded)
       (update_by g.C.AsCell.cell (c.in-Some.x, c.in-Some.y, c.in-Some.cell)) c.loop-x.invariant.sent
       (rw c.as_cell.ensures at c.in_ok-draw_cell.ensures.sent));
+  places = places-on-then c.loop-x.invariant.places c.in_ok-draw_cell.ensures.places;
   sgr = c.in_ok-draw_cell.ensures.sgr;
 }
 

@@ -1,6 +1,7 @@
 use Rattle.std.proofs.Common.{◌≡◌, ◌&&◌, nat_lt, false, refl, arith}
 use Rattle.std.proofs.lemmas.{Bool.Decides.nat_tests, Result.on_ok_weaker}
 use Rattle.ratatui_ansi.proofs.FrameLemmas.{still-sends, put-off, put-vacant, sendable-off, sendable-vacant}
+use Rattle.ansi_model.proofs.PlaceLemmas.{places-on}
 use Rattle.ratatui_ansi.proofs.draw.draw_cell.Goals.{then-x-width-via-then-x-width, then-x-width-via-else-x-width+then-y-height}
 use Rattle.ratatui_ansi.proofs.draw.draw_cell.Goals as goal
 
@@ -47,3 +48,9 @@ pub returns-clause-drawn : goal.returns-clause-drawn
 returns-clause-drawn c =
     on_ok_weaker c.draw_glyph-2.result (λ drawn. drawn c.args.target.height c.args.drawing.now.written
     (omega arith) c.saturating_add-drawing.ensures) c.draw_glyph-2.ensures.drawn
+
+pub returns-then-x-width-clause-places : goal.returns-then-x-width-clause-places
+returns-then-x-width-clause-places c = places-on _ _
+
+pub returns-then-is_vacant-clause-places : goal.returns-then-is_vacant-clause-places
+returns-then-is_vacant-clause-places c = places-on _ _

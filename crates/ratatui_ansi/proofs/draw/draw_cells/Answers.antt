@@ -1,5 +1,6 @@
 use Rattle.std.proofs.Common.{refl}
 use Rattle.ratatui_ansi.proofs.{FrameLemmas.draw-sends, RefusalLemmas.if-error, RefusalLemmas.stops-draw}
+use Rattle.ansi_model.proofs.PlaceLemmas.{places-sgr, places-on-then, places-each}
 use Rattle.ratatui_ansi.proofs.draw.draw_cells.Goals as goal
 
 pub returns-clause-drawn : goal.returns-clause-drawn
@@ -15,3 +16,7 @@ pub returns-in_err-draw_all-clause-refused : goal.returns-in_err-draw_all-clause
 returns-in_err-draw_all-clause-refused g c =
     if-error _ _ _ c.from_residual.ensures
     (λ named. stops-draw _ _ _ _ _ _ _ _ _ _ _ _ refl refl refl refl c.in_err-draw_all.ensures.refused)
+
+pub returns-clause-placed : goal.returns-clause-placed
+returns-clause-placed g c = places-each _ _ refl (places-on-then c.in_ok-draw_all.ensures.places
+    (places-sgr c.draw_all.new.drawing.pen _ _ _ c.in_ok-change_sgr.ensures.changes))

@@ -1,7 +1,9 @@
-use Rattle.std.proofs.Common.{◌-◌, string_bytes, ap, subst, arith}
+use Rattle.std.proofs.Common.{◌-◌, string_bytes, ap, sym, subst, arith}
 use Rattle.ansi_model.specs.{declared.pen.Pen.Pen, Drawing.blanked_in, Drawing.Paints}
+use Rattle.ansi_model.specs.{Places.PlacesOn, Sgr.default_sgr}
 use Rattle.std.proofs.lemmas.Result.{on_ok_weaker}
 use Rattle.ratatui_ansi.proofs.LayLemmas.{blanks-own}
+use Rattle.ansi_model.proofs.PlaceLemmas.{places-sgr, places-on-then}
 use Rattle.ratatui_ansi.proofs.draw.put_blanks.Goals as goal
 
 pub returns-clause-paints : goal.returns-clause-paints
@@ -13,3 +15,10 @@ returns-clause-paints c =
     (subst (λ sgr. Paints w h (string_bytes c.change_sgr.new.out) c.change_sgr.new.pen
     (blanked_in sgr c.args.x c.args.y (c.args.end - c.args.x)) (string_bytes c.put_spaces.new.out) c.put_spaces.new.pen) own
     (paints w h inside row)) (omega arith)) c.put_spaces.ensures.paints
+
+pub returns-clause-places : goal.returns-clause-places
+returns-clause-places c =
+    on_ok_weaker c.put_spaces.result (λ places. places-on-then
+    (subst (PlacesOn (string_bytes c.args.out.now) c.args.pen.now (string_bytes c.change_sgr.new.out))
+    (sym c.in_ok-change_sgr.ensures.sgr)
+    (places-sgr c.args.pen.now default_sgr _ _ c.in_ok-change_sgr.ensures.changes)) places) c.put_spaces.ensures.places

@@ -2,6 +2,7 @@ use Rattle.std.proofs.Common.{ap, refl, ◌∙◌, ◌++◌}
 use Rattle.ratatui_ansi.specs.Backend.{reader}
 use Rattle.ratatui_ansi.proofs.{RefusalLemmas.if-error, RefusalLemmas.named-place, BackendLemmas.in-order-on}
 use Rattle.ratatui_ansi.proofs.{BackendLemmas.shown-on, BackendLemmas.tracked-from, UpdateLemmas.within-sent}
+use Rattle.ansi_model.proofs.PlaceLemmas.{each-sent}
 use Rattle.ratatui_ansi.proofs.calls.AnsiBackendBackend.draw.Goals as goal
 
 pub invariant_of-self-2 : goal.invariant_of-self-2
@@ -44,3 +45,10 @@ returns-clause-within g c =
     let sent = c.in_ok-send_draw.ensures.sent ∙ ap (λ s. s.sent.bytes ++ c.as_str-text.result.now) c.begin.ensures.rest
     ∙ ap (λ xs. b.sender.sent.bytes ++ xs) c.as_str-text.ensures.value in
     rw (← c.self.view_is) (λ told. within-sent _ _ _ _ (c.in_ok-draw.ensures.within told) c.clear.ensures.bytes sent)
+
+pub returns-clause-placed : goal.returns-clause-placed
+returns-clause-placed g c =
+    let b = c.self.inside in
+    let sent = c.in_ok-send_draw.ensures.sent ∙ ap (λ s. s.sent.bytes ++ c.as_str-text.result.now) c.begin.ensures.rest
+    ∙ ap (λ xs. b.sender.sent.bytes ++ xs) c.as_str-text.ensures.value in
+    rw (← c.self.view_is) (λ wide. each-sent _ _ _ _ (c.in_ok-draw.ensures.placed wide) c.clear.ensures.bytes sent)
