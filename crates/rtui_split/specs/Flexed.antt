@@ -26,8 +26,8 @@ SpacesAre d a b First Middle Last [] = ⊤
 SpacesAre d a b First Middle Last (p ∷ ps) = First (first_cell d p - a)
     × SpacesAfter d (after_of d p) b Middle Last ps
 
--- where the rest goes, in cells, if no part takes it: all of it after the last part, before the first, or half
--- and half; or the spaces share it, each with the whole number of cells below or above its share
+-- where the rest goes, in cells, if no part takes it: all of it after the last part, before the first, or
+-- half and half; or the spaces share it, each with the whole number of cells below or above its share
 abbrev pub FlexedSpaces : Flex → Type 0 → ℕ → Direction → ℕ → ℕ → List Rect → Type 0
 FlexedSpaces Legacy none gap d a b ps = ⊤
 FlexedSpaces Start none gap d a b ps = SpacesAre d a b (λ s. s ≡ 0) (λ s. s ≡ gap) (λ s. ⊤) ps
