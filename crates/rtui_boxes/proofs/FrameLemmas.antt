@@ -8,13 +8,13 @@ use Rattle.ratatui_core.specs.{Style.Style, Buffer.BufferData, Buffer.IsStyled, 
 use Rattle.ratatui_core.proofs.{BufferLemmas.within-wider, WidgetLemmas.within-then, WidgetLemmas.OnPart-clipped}
 use Rattle.rtui_boxes.specs.declared.block.Block.{Block}
 use Rattle.rtui_boxes.specs.Boxes.{IsBoxArea, IsShortBlock, inner_of, is_in}
-use Rattle.rtui_boxes.specs.Framed.{inner_if, IsFramed, IsBare, IsInner, InFrame, RendersInFrame, IsUntitledShort, IsShortFrame}
+use Rattle.rtui_boxes.specs.Framed.{inner_if, IsFramed, IsBare, IsInner, InFrame, RendersInFrame, IsShortIfBox, IsShortFrame}
 use Rattle.rtui_boxes.proofs.{BoxLemmas.is_in-true, BoxLemmas.is_in-has, BoxLemmas.test-cases, ShortLemmas.short-box}
 
 pub if-short : (o : Option Block) (b : Block) (area : Rect) (s : BufferData) → o ≡ Some b → IsShortFrame o s
     → IsShortBlock b area s
 if-short o b area s e short =
-    let box : IsUntitledShort (Some b) = subst IsUntitledShort e short.box in
+    let box : IsShortIfBox (Some b) = subst IsShortIfBox e short.box in
     short-box b area s box.0 box.1 short.cells
 
 -- a style changes no symbol

@@ -1,11 +1,14 @@
 -- A box of short symbols takes no memory.
-use Rattle.std.proofs.Common.{◌≡◌, Bool, true, false, if◌then◌else◌, List, [], ◌∷◌, lit<}
+use Rattle.std.proofs.Common.{◌≡◌, ℕ, ◌<◌, Bool, true, false, if◌then◌else◌, List, [], ◌∷◌, All, length, slice_index_or, lit<}
+use Rattle.std.proofs.Common.{sym, ap, subst, arith}
+use Rattle.std.proofs.lemmas.List.Elements.{All-nil}
+use Rattle.ratatui_core.specs.declared.layout.HorizontalAlignment.TheVariants.{Center}
 use Rattle.ratatui_core.specs.Layout.{Rect, Position, intersected}
 use Rattle.ratatui_core.specs.Buffer.{BufferData, Cell, cell_in, symbol_text, styled, IsShort}
 use Rattle.ratatui_core.proofs.BufferLemmas.{joined-short}
-use Rattle.rtui_boxes.specs.declared.block.Block.{Block}
+use Rattle.rtui_boxes.specs.{declared.block.Block.Block, declared.title.Title.Title, Titles.titles_width}
 use Rattle.rtui_boxes.specs.Boxes.{Stroke, strokes, strikes, drawn, is_in, IsShortUnder, IsShortBlock, HasShortSymbols}
-use Rattle.rtui_boxes.specs.Boxes.{AreShortCells}
+use Rattle.rtui_boxes.specs.Boxes.{AreShortCells, lines_placed, IsShortTitle, HasShortTitles, AreShortTitles, AreShortAnywhere}
 
 abbrev AreShortStrokes : List Stroke → Type 0
 AreShortStrokes [] = Unit {0}
@@ -38,11 +41,32 @@ short-strokes b r is = (
   ),
 )
 
--- a box of short symbols on cells with short ones
-pub short-box : (b : Block) (area : Rect) (s : BufferData) → b.titles.items ≡ [] → HasShortSymbols b → AreShortCells s
+-- titles that are short in a row of any width
+short-titles : (b : Block) (r : Rect) → AreShortAnywhere b → AreShortTitles b r
+short-titles b r is = record {
+  titles = is.titles;
+  uncut = λ position. let none = is.uncentred position in omega arith;
+}
+
+pub no-title-short : (b : Block) → b.titles.items ≡ [] → AreShortAnywhere b
+no-title-short b none = record {
+  titles = subst (All (λ (t : Title). IsShortTitle t.line)) (sym none) (All-nil (λ (t : Title). IsShortTitle t.line));
+  uncentred = λ position. ap (λ ts. titles_width (lines_placed b position Center ts)) none;
+}
+
+-- a title of a box with short ones
+pub short-at : (b : Block) (titles : List Title) (i : ℕ) (title : Title) → titles ≡ b.titles.items → i < length titles
+    → title ≡ slice_index_or titles i title → HasShortTitles b → IsShortTitle title.line
+short-at b titles i title same lt at short =
+    let all : All (λ (t : Title). IsShortTitle t.line) titles =
+    subst (All (λ (t : Title). IsShortTitle t.line)) (sym same) short in
+    subst (λ (t : Title). IsShortTitle t.line) (sym at) (all i title lt)
+
+-- a box of short symbols and titles on cells with short symbols
+pub short-box : (b : Block) (area : Rect) (s : BufferData) → AreShortAnywhere b → HasShortSymbols b → AreShortCells s
     → IsShortBlock b area s
-short-box b area s none symbols_ cells = record {
-  untitled = none;
+short-box b area s titles symbols_ cells = record {
+  titles = short-titles b (intersected area s.area) titles;
   short = λ p has.
       short-under b (strokes b (intersected area s.area)) p (if is_in (intersected area s.area) p then styled b.style
       (cell_in s p) else cell_in s p) (short-strokes b (intersected area s.area) symbols_)

@@ -8,7 +8,7 @@ use Rattle.ratatui_core.specs.Symbols.{border_texts, plain_border}
 use Rattle.ratatui_core.specs.{Style.Style, Style.new_style, Text.LineData}
 use Rattle.ratatui_core.specs.{declared.layout.HorizontalAlignment.HorizontalAlignment}
 use Rattle.ratatui_core.specs.declared.layout.HorizontalAlignment.TheVariants.{Left, Center, Right}
-use Rattle.ratatui_core.specs.{Widgets.ChangesWithin, Widgets.OnPart}
+use Rattle.ratatui_core.specs.{Widgets.ChangesWithin, Widgets.OnPart, Widgets.RendersShortLine}
 use Rattle.ratatui_core.specs.{declared.symbols.merge.MergeStrategy.MergeStrategy}
 use Rattle.ratatui_core.specs.Buffer.{BufferData, Cell, MakesEach, place_at, position_of, cell_in, styled}
 use Rattle.ratatui_core.specs.Buffer.{with_symbol, joined, symbol_text, text_width, IsShort, IsNarrowLine}
@@ -19,7 +19,7 @@ use Rattle.rtui_boxes.specs.declared.title.TitlePosition.{TitlePosition}
 use Rattle.rtui_boxes.specs.{declared.title.TitlePosition.TheVariants.Top}
 use Rattle.rtui_boxes.specs.{declared.title.TitlePosition.TheVariants.Bottom, Borders.sides_of}
 use Rattle.rtui_boxes.specs.Titles.{PlacedTitle, RendersTitles, is_same_alignment, from_left, from_centre}
-use Rattle.rtui_boxes.specs.Titles.{from_right}
+use Rattle.rtui_boxes.specs.Titles.{from_right, titles_width}
 
 -- a box with these sides and plain lines, without titles, styles and padding
 pub record IsNewBlock (sides : ℕ) (b : Block) : Type 0 where
@@ -273,12 +273,33 @@ pub record RendersBlock (b : Block) (area : Rect) (old new : BufferData) : Type 
   pub within : ChangesWithin area old new
   pub titled : OnPart (RendersTitled b) area old new
 
--- a box without titles takes no memory if no symbol does that comes of it
+-- a title takes no memory, wherever it stands
+abbrev pub IsShortTitle : LineData → Type 0
+IsShortTitle line = (area : Rect) (s : BufferData) → RendersShortLine line area s
+
+abbrev pub HasShortTitles : Block → Type 0
+HasShortTitles b = All (λ title. IsShortTitle title.line) b.titles.items
+
+-- how many columns the titles in the centre of a row take
+abbrev pub centre_width : Block → TitlePosition → ℕ
+centre_width b position = titles_width (lines_placed b position Center b.titles.items)
+
+-- titles over a rectangle that take no memory: none of those in the centre of a row is cut
+pub record AreShortTitles (b : Block) (r : Rect) : Type 0 where
+  pub titles : HasShortTitles b
+  pub uncut : (position : TitlePosition) → centre_width b position ≤ (titles_area b r position).width
+
+-- a box takes no memory if no symbol does that comes of it, and no title
 pub record IsShortBlock (b : Block) (area : Rect) (s : BufferData) : Type 0 where
-  pub untitled : b.titles.items ≡ []
+  pub titles : AreShortTitles b (intersected area s.area)
   pub short : (p : Position) → HasPosition s.area p
       → IsShortUnder b (strokes b (intersected area s.area)) p
       (if is_in (intersected area s.area) p then styled b.style (cell_in s p) else cell_in s p)
+
+-- titles that take no memory in a row of any width: none of any columns stands in the centre
+pub record AreShortAnywhere (b : Block) : Type 0 where
+  pub titles : HasShortTitles b
+  pub uncentred : (position : TitlePosition) → centre_width b position ≡ 0
 
 -- each symbol of the border takes no memory
 abbrev pub HasShortSymbols : Block → Type 0

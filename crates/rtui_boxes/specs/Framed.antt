@@ -1,10 +1,10 @@
 -- A style and a box over a part of a buffer, and what is left to a widget inside.
-use Rattle.std.specs.Prelude.{◌≡◌, ℕ, ◌⊎◌, ◌<◌, [], Option, Some, None, ⊤}
+use Rattle.std.specs.Prelude.{◌≡◌, ℕ, ◌⊎◌, ◌<◌, Option, Some, None, ⊤}
 use Rattle.ratatui_core.specs.{Layout.Rect, Layout.IsInside, Style.Style, Buffer.BufferData, Buffer.IsStyled}
 use Rattle.ratatui_core.specs.{Widgets.ChangesWithin, Widgets.OnPart}
 use Rattle.rtui_boxes.specs.declared.block.Block.{Block}
 use Rattle.rtui_boxes.specs.Boxes.{inner_of, rows_around, RendersBlock, IsBoxArea, HasShortSymbols}
-use Rattle.rtui_boxes.specs.Boxes.{AreShortCells}
+use Rattle.rtui_boxes.specs.Boxes.{AreShortCells, AreShortAnywhere}
 
 -- what is inside the box, if there is one
 abbrev pub inner_if : Option Block → Rect → Rect
@@ -53,13 +53,12 @@ pub record RendersInFrame (style : Style) (block : Option Block) (f : Rect → B
   pub within : ChangesWithin area old new
   pub parts : OnPart (InFrame style block f) area old new
 
--- no titles, and no symbol that takes memory
-abbrev pub IsUntitledShort : Option Block → Type 0
-IsUntitledShort None = ⊤
-IsUntitledShort (Some b) = (b.titles.items ≡ []) × HasShortSymbols b
+-- neither a title nor a symbol takes memory, wherever the box stands
+abbrev pub IsShortIfBox : Option Block → Type 0
+IsShortIfBox None = ⊤
+IsShortIfBox (Some b) = AreShortAnywhere b × HasShortSymbols b
 
--- the box takes no memory, if there is one: it has no titles, its symbols are short, and so are those of the
--- cells
+-- the box takes no memory, if there is one, nor do the symbols of the cells
 pub record IsShortFrame (block : Option Block) (s : BufferData) : Type 0 where
-  pub box : IsUntitledShort block
+  pub box : IsShortIfBox block
   pub cells : AreShortCells s

@@ -6,7 +6,7 @@ ghost use Rattle.ratatui_core.specs.Buffer.{BufferData, IsPlainFrom, IsSettledBu
 ghost use Rattle.ratatui_core.specs.Layout.{Rect};
 ghost use Rattle.rtui_boxes.specs.declared.block.Block.{Block};
 ghost use Rattle.rtui_boxes.specs.Boxes.{RendersBlock, IsPlainBox, inner_of, HasShortSymbols, AreShortCells};
-ghost use Rattle.rtui_boxes.specs.Boxes.{IsShortBlock};
+ghost use Rattle.rtui_boxes.specs.Boxes.{IsShortBlock, AreShortAnywhere};
 ghost use Rattle.rtui_boxes.specs.Clears.{RendersClear};
 ghost use Rattle.rtui_boxes.specs.declared.border_type.BorderType.{BorderType};
 ghost use Rattle.rtui_boxes.specs.declared.border_type.BorderType.TheVariants.{Plain};
@@ -24,10 +24,12 @@ pub fn plain_boxes_keep_cells_plain()
         → RendersBlock b area old new → IsPlainFrom 0 new }
 {}
 
-/// A box without titles takes no memory if its symbols and those of the cells take none.
+/// A box takes no memory if its symbols, its titles and those of the cells take none, and no title
+/// of any columns stands in the centre.
 pub fn boxes_of_short_symbols_take_no_memory()
-    ensures { (b : Block) (area : Rect) (s : BufferData) → b.titles.items ≡ [] → HasShortSymbols b
+    ensures short { (b : Block) (area : Rect) (s : BufferData) → AreShortAnywhere b → HasShortSymbols b
         → AreShortCells s → IsShortBlock b area s }
+    ensures untitled { (b : Block) → b.titles.items ≡ [] → AreShortAnywhere b }
 {}
 
 /// A cleared buffer is settled if it was settled before.

@@ -1,13 +1,14 @@
 //! The titles of a box.
 
-ghost use Rattle.std.specs.Prelude.{◌≡◌, ◌+◌, ◌≤◌, ◌<◌, false, OnOk, reverse};
+ghost use Rattle.std.specs.Prelude.{◌≡◌, ◌+◌, ◌≤◌, ◌<◌, false, IsOk, OnOk, reverse};
 ghost use Rattle.ratatui_core.specs.Widgets.{ChangesWithin};
 ghost use Rattle.ratatui_core.specs.declared.layout.HorizontalAlignment.TheVariants.{Left, Center, Right};
 ghost use Rattle.rtui_boxes.specs.Titles.{side_of, title_width, titles_width, title_at, without_first};
 ghost use Rattle.rtui_boxes.specs.Titles.{from_left, from_right, from_outside, from_centre, RendersTitle};
 ghost use Rattle.rtui_boxes.specs.Titles.{RendersTitles};
 ghost use Rattle.rtui_boxes.specs.Boxes.{has_title, titles_area, is_placed, lines_placed, row_titles};
-ghost use Rattle.rtui_boxes.specs.Boxes.{placed_titles, IsBoxArea, KeepsOffTitles};
+ghost use Rattle.rtui_boxes.specs.Boxes.{placed_titles, IsBoxArea, KeepsOffTitles, IsShortTitle};
+ghost use Rattle.rtui_boxes.specs.Boxes.{HasShortTitles, centre_width, AreShortTitles};
 
 use crate::block::{Block, is_in_row, one_if};
 use crate::borders::Borders;
@@ -55,6 +56,7 @@ impl<'a> Block<'a> {
         ensures keeps { KeepsOffTitles self.now area buf.old buf.new }
         ensures ok { let ts = placed_titles self.now area in
             OnOk result (RendersTitles self.now.titles_style ts buf.old buf.new) }
+        ensures short { AreShortTitles self.now area → IsOk result }
     {
         self.render_title_position(TitlePosition::Top, area, buf)?;
         self.render_title_position(TitlePosition::Bottom, area, buf)
@@ -72,6 +74,7 @@ impl<'a> Block<'a> {
         ensures none { has_title self.now position ≡ false → buf.new ≡ buf.old }
         ensures ok { let ts = row_titles self.now (titles_area self.now area position) position in
             OnOk result (RendersTitles self.now.titles_style ts buf.old buf.new) }
+        ensures short { AreShortTitles self.now area → IsOk result }
     {
         if !self.has_title_at_position(position) {
             return Ok(());
@@ -119,6 +122,7 @@ impl<'a> Block<'a> {
         ensures within { ChangesWithin area buf.old buf.new }
         ensures ok { let t = title_at line.now area in
             OnOk result (RendersTitle self.now.titles_style t buf.old buf.new) }
+        ensures short { IsShortTitle line.now → IsOk result }
     {
         buf.set_style(area, self.titles_style);
         line.render(area, buf)
@@ -137,6 +141,7 @@ impl<'a> Block<'a> {
         ensures ok { let lines = lines_placed self.now position alignment self.now.titles.items in
             OnOk result
             (RendersTitles self.now.titles_style (from_left row lines) buf.old buf.new) }
+        ensures short { HasShortTitles self.now → IsOk result }
     {
         let mut left = row;
         for title in self.titles.as_slice() {
@@ -169,6 +174,7 @@ impl<'a> Block<'a> {
         ensures ok { let titles = reverse self.now.titles.items in
             let ts = from_right row (lines_placed self.now position Right titles) in
             OnOk result (RendersTitles self.now.titles_style ts buf.old buf.new) }
+        ensures short { HasShortTitles self.now → IsOk result }
     {
         let titles = self.titles.as_slice();
         let mut left = row;
@@ -220,6 +226,8 @@ impl<'a> Block<'a> {
         ensures ok { let lines = lines_placed self.now position Center self.now.titles.items in
             OnOk result
             (RendersTitles self.now.titles_style (from_centre row lines) buf.old buf.new) }
+        ensures short { HasShortTitles self.now
+            → centre_width self.now position ≤ row.width → IsOk result }
     {
         let columns = self.centered_columns(position);
         if columns <= row.width {

@@ -1,6 +1,7 @@
-use Rattle.std.proofs.Common.{◌+◌, ◌∙◌, sym, refl, drop, arith}
+use Rattle.std.proofs.Common.{◌≡◌, false, true, ◌+◌, ◌∙◌, sym, refl, drop, arith}
 use Rattle.rtui_boxes.specs.{Titles.from_left, Boxes.lines_placed}
 use Rattle.rtui_boxes.proofs.TitleLemmas.{lines-next, left-next, rest-inside, title-within}
+use Rattle.rtui_boxes.proofs.ShortLemmas.{short-at}
 use Rattle.rtui_boxes.proofs.block.Block.render_from_left.Goals as goal
 
 pub loop-title-preserved : goal.loop-title-preserved
@@ -24,3 +25,16 @@ loop-title-preserved c =
           (rw (c.min.ensures, c.columns_of-columns.ensures) refl) (c.after_title-left.ensures
           ∙ rw c.columns_of-columns.ensures refl) c.loop-title.invariant.rest c.in_ok-render_title.ensures.ok;
     }
+
+pub returns-in_err-render_title-clause-short : goal.returns-in_err-render_title-clause-short
+returns-in_err-render_title-clause-short c = λ short.
+    let no : false ≡ true = c.in_err-render_title.ensures.short
+    (short-at c.args.self.now c.as_slice-title-items.result.now c.loop-title.title-index c.title-item.result
+    c.as_slice-title-items.ensures.value c.loop-title-test.true c.title-item.is short) in
+    absurd (cc)
+
+pub returns-in_err-render_title-clause-within : goal.returns-in_err-render_title-clause-within
+returns-in_err-render_title-clause-within c =
+    title-within c.args.row c.loop-title.left c.min.result c.args.buf.now c.loop-title.buf c.render_title.new.buf
+    (omega (arith, c.min.ensures)) c.loop-title.invariant.inside c.loop-title.invariant.within
+    c.in_err-render_title.ensures.within

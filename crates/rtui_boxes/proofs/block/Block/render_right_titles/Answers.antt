@@ -1,8 +1,9 @@
-use Rattle.std.proofs.Common.{◌≡◌, ◌+◌, ◌-◌, ◌∙◌, ◌∷◌, sym, ap, refl, subst, take, reverse, arith}
+use Rattle.std.proofs.Common.{◌≡◌, false, true, ◌+◌, ◌-◌, ◌∙◌, ◌∷◌, sym, ap, refl, subst, take, reverse, arith}
 use Rattle.ratatui_core.specs.declared.layout.HorizontalAlignment.TheVariants.{Right}
 use Rattle.ratatui_core.proofs.{BufferLemmas.within-wider, WidgetLemmas.within-then}
 use Rattle.rtui_boxes.specs.{Titles.title_width, Titles.from_right, Titles.last_columns, Boxes.lines_placed}
 use Rattle.rtui_boxes.proofs.TitleLemmas.{lines-before, right-next, last-inside, front-inside}
+use Rattle.rtui_boxes.proofs.ShortLemmas.{short-at}
 use Rattle.rtui_boxes.proofs.block.Block.render_right_titles.Goals as goal
 
 pub loop-k-preserved : goal.loop-k-preserved
@@ -35,3 +36,17 @@ loop-k-preserved c =
           (rw (c.min-width.ensures, c.columns_of-columns.ensures) refl)
           (ap (λ w. record c.loop-k.left { width = w }) less) c.loop-k.invariant.rest c.in_ok-render_title.ensures.ok;
     }
+
+pub returns-in_err-render_title-clause-short : goal.returns-in_err-render_title-clause-short
+returns-in_err-render_title-clause-short c = λ short.
+    let no : false ≡ true = c.in_err-render_title.ensures.short
+    (short-at c.args.self.now c.as_slice-titles.result.now (c.loop-k.k - 1) c.index-titles-k.result
+    c.as_slice-titles.ensures.value (omega (arith, c.as_slice-titles.ensures.len)) c.index-titles-k.is short) in
+    absurd (cc)
+
+pub returns-in_err-render_title-clause-within : goal.returns-in_err-render_title-clause-within
+returns-in_err-render_title-clause-within c =
+    within-then c.args.row c.args.buf.now c.loop-k.buf c.render_title.new.buf c.loop-k.invariant.within
+    (within-wider (last_columns c.columns_of-columns.result c.loop-k.left) c.args.row c.loop-k.buf c.render_title.new.buf
+    (λ p h. c.loop-k.invariant.inside p (last-inside c.columns_of-columns.result c.loop-k.left p h))
+    (rw c.min-width.ensures at c.in_err-render_title.ensures.within))

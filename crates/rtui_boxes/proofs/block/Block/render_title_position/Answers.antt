@@ -1,6 +1,7 @@
 use Rattle.std.proofs.Common.{◌++◌, ◌∙◌, sym, refl, subst, OnOk, reverse}
 use Rattle.ratatui_core.specs.declared.layout.HorizontalAlignment.TheVariants.{Left, Center, Right}
-use Rattle.ratatui_core.proofs.BufferLemmas.{on-ok}
+use Rattle.ratatui_core.specs.Widgets.{ChangesWithin}
+use Rattle.ratatui_core.proofs.{BufferLemmas.on-ok, WidgetLemmas.within-then}
 use Rattle.rtui_boxes.specs.Titles.{RendersTitles, from_left, from_centre, from_right}
 use Rattle.rtui_boxes.specs.Boxes.{row_titles, titles_area, lines_placed}
 use Rattle.rtui_boxes.proofs.TitleLemmas.{titles-then, row-none}
@@ -28,3 +29,16 @@ returns-clause-ok c =
     (titles-then c.args.self.now.titles_style centre right c.render_from_left.new.buf c.render_center_titles.new.buf
     c.render_right_titles.new.buf c.in_ok-render_center_titles.ensures.ok last))
     c.render_right_titles.ensures.ok)
+
+pub returns-in_err-render_center_titles-clause-within : goal.returns-in_err-render_center_titles-clause-within
+returns-in_err-render_center_titles-clause-within c =
+    subst (λ r. ChangesWithin r c.args.buf.now c.render_center_titles.new.buf) c.titles_area-row.ensures
+    (within-then c.titles_area-row.result c.args.buf.now c.render_from_left.new.buf c.render_center_titles.new.buf
+    c.render_from_left.ensures.within c.render_center_titles.ensures.within)
+
+pub returns-clause-within : goal.returns-clause-within
+returns-clause-within c =
+    subst (λ r. ChangesWithin r c.args.buf.now c.render_right_titles.new.buf) c.titles_area-row.ensures
+    (within-then c.titles_area-row.result c.args.buf.now c.render_center_titles.new.buf c.render_right_titles.new.buf
+    (within-then c.titles_area-row.result c.args.buf.now c.render_from_left.new.buf c.render_center_titles.new.buf
+    c.render_from_left.ensures.within c.render_center_titles.ensures.within) c.render_right_titles.ensures.within)

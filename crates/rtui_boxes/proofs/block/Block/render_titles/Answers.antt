@@ -1,4 +1,5 @@
-use Rattle.ratatui_core.proofs.BufferLemmas.{on-ok}
+use Rattle.std.proofs.Common.{refl}
+use Rattle.ratatui_core.proofs.BufferLemmas.{on-ok, within-same}
 use Rattle.rtui_boxes.specs.{declared.title.TitlePosition.TheVariants.Top, declared.title.TitlePosition.TheVariants.Bottom}
 use Rattle.rtui_boxes.specs.{Boxes.row_titles, Boxes.titles_area}
 use Rattle.rtui_boxes.proofs.{BoxLemmas.titles-keep, TitleLemmas.titles-then}
@@ -17,3 +18,9 @@ returns-clause-ok c =
     (row_titles c.args.self.now (titles_area c.args.self.now c.args.area Bottom) Bottom)
     c.args.buf.now c.render_title_position.new.buf c.render_title_position-2.new.buf c.in_ok-render_title_position.ensures.ok)
     c.render_title_position-2.ensures.ok
+
+pub returns-in_err-render_title_position-clause-keeps : goal.returns-in_err-render_title_position-clause-keeps
+returns-in_err-render_title_position-clause-keeps c =
+    titles-keep c.args.self.now c.args.area c.args.buf.now c.render_title_position.new.buf c.render_title_position.new.buf
+    c.render_title_position.ensures.within c.render_title_position.ensures.none
+    (within-same (titles_area c.args.self.now c.args.area Bottom) c.render_title_position.new.buf) (λ none. refl)

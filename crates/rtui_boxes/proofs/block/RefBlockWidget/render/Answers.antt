@@ -1,4 +1,5 @@
-use Rattle.std.proofs.Common.{rules, sym, ◌∙◌}
+use Rattle.std.proofs.Common.{rules, sym, subst, ◌∙◌}
+use Rattle.rtui_boxes.specs.Boxes.{AreShortTitles}
 use Rattle.ratatui_core.proofs.BufferLemmas.{on-ok}
 use Rattle.rtui_boxes.proofs.BoxLemmas.{block-none, block-within, block-short, block-renders, titled-within, titles-same}
 use Rattle.rtui_boxes.proofs.TitleLemmas.{titles-none, no-titles}
@@ -41,3 +42,7 @@ returns-clause-err c =
     c.in-Some.ensures c.set_style.ensures c.render_borders.result c.render_titles.new.buf
     c.render_borders.ensures c.render_titles.ensures.keeps in
     search rules
+
+pub returns-clause-short : goal.returns-clause-short
+returns-clause-short c = λ short. c.render_titles.ensures.short
+    (subst (AreShortTitles c.args.self.now) (sym c.in-Some.ensures.value) short.titles)
