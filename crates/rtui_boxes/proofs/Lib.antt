@@ -1,5 +1,6 @@
 pub mod TitleLemmas
 pub mod BoxLemmas
+pub mod CloneLemmas
 pub mod ClearLemmas
 pub mod PlainBoxLemmas
 pub mod ShortLemmas

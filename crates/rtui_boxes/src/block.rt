@@ -22,6 +22,7 @@ use ratatui_core::text::Line;
 use ratatui_core::widgets::Widget;
 use std::alloc::{AllocError, Global};
 
+mod clone;
 mod sides;
 mod titles;
 
@@ -32,7 +33,7 @@ mod titles;
 /// let inside = block.inner(area);
 /// block.render(area, buf)?;
 /// ```
-#[derive(Debug, Drop)]
+#[derive(Debug, PartialEq, Eq, Drop)]
 pub struct Block<'a> {
     titles: Vec<Title<'a>>,
     titles_style: Style,

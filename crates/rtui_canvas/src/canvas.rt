@@ -1,6 +1,6 @@
 //! A canvas.
 
-ghost use Rattle.std.specs.Prelude.{◌≡◌, Some, OnOk, slice_index_or, pos};
+ghost use Rattle.std.specs.Prelude.{◌≡◌, Some, OnOk, IfOk, slice_index_or, pos, true};
 ghost use Rattle.ratatui_core.specs.Widgets.{ChangesWithin};
 ghost use Rattle.rtui_boxes.specs.Boxes.{IsBoxArea};
 ghost use Rattle.rtui_canvas.specs.Canvases.{IsNewCanvas, scale_of, ShowsLayers, DrawsNext, RendersLabels};
@@ -14,9 +14,9 @@ use ratatui_core::layout::Rect;
 use ratatui_core::style::{Color, Style};
 use ratatui_core::symbols::Marker;
 use ratatui_core::widgets::Widget;
-use rtui_boxes::{Block, render_frame};
+use rtui_boxes::{Block, cloned_block, render_frame};
 use rtui_dots::{Drawing, Painter, Scale, Shape};
-use std::alloc::AllocError;
+use std::alloc::{AllocError, Global};
 
 /// Shapes by dots, over a range of coordinates, and labels over them.
 ///
@@ -118,6 +118,30 @@ impl<'a> Canvas<'a> {
     {
         self.marker = marker;
         self
+    }
+
+    /// A canvas of the same shapes and labels, in an equal box.
+    ///
+    /// # Errors
+    ///
+    /// `AllocError` if memory is refused.
+    pub fn clone(&self, alloc: Global) -> Result<Canvas<'a>, AllocError>
+        ensures block { let same = ⟦<Option<Block<'a>> as PartialEq>⟧.eq in
+            IfOk result (λ canvas. same self.now.block canvas.block ≡ true) }
+        ensures others { IfOk result
+            (λ canvas. canvas ≡ record self.now { block = canvas.block }) }
+    {
+        Ok(Canvas {
+            block: cloned_block(alloc, &self.block)?,
+            left: self.left,
+            right: self.right,
+            bottom: self.bottom,
+            top: self.top,
+            drawings: self.drawings,
+            labels: self.labels,
+            background_color: self.background_color,
+            marker: self.marker,
+        })
     }
 
     // The bounds over the cells of an area.

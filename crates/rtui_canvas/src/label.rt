@@ -1,6 +1,6 @@
 //! Labels of a canvas.
 
-ghost use Rattle.std.specs.Prelude.{◌≡◌, ◌≤◌, ◌-◌, OnOk, IsTrue};
+ghost use Rattle.std.specs.Prelude.{◌≡◌, ◌≤◌, ◌-◌, OnOk, IfOk, IsTrue};
 ghost use Rattle.ratatui_core.specs.Layout.{IsInside};
 ghost use Rattle.ratatui_core.specs.Widgets.{ChangesWithin};
 ghost use Rattle.rtui_boxes.specs.Boxes.{IsBoxArea};
@@ -13,10 +13,10 @@ use ratatui_core::layout::Rect;
 use ratatui_core::text::Line;
 use ratatui_core::widgets::Widget;
 use rtui_dots::Scale;
-use std::alloc::AllocError;
+use std::alloc::{AllocError, Global};
 
 /// A line of text at a point of a canvas, over its dots.
-#[derive(Debug, Drop)]
+#[derive(Debug, PartialEq, Eq, Drop)]
 pub struct Label<'a> {
     pub(crate) x: i64,
     pub(crate) y: i64,
@@ -29,6 +29,21 @@ impl<'a> Label<'a> {
         ensures { result ≡ record { x = x; y = y; line = line.entry } }
     {
         Label { x, y, line }
+    }
+
+    /// An equal label.
+    ///
+    /// # Errors
+    ///
+    /// `AllocError` if memory is refused.
+    pub fn clone(&self, alloc: Global) -> Result<Label<'a>, AllocError>
+        ensures { IfOk result (λ label. label ≡ self.now) }
+    {
+        Ok(Label {
+            x: self.x,
+            y: self.y,
+            line: self.line.clone(alloc)?,
+        })
     }
 
     // Where the label stands from a cell of an area on.

@@ -1,64 +1,50 @@
 -- An item of a list over its part, and items one after the other.
-use Rattle.std.proofs.Common.{◌≡◌, ℕ, ◌+◌, ◌-◌, ◌<◌, ◌≤◌, Bool, List, length, Option, refl, sym, ◌∙◌, arith, Result, is_some}
+use Rattle.std.proofs.Common.{◌≡◌, ℕ, ◌+◌, ◌-◌, ◌<◌, ◌≤◌, Bool, List, length, Option, refl, sym, ◌∙◌, arith, is_some}
 use Rattle.std.proofs.Math.ListN.{get_or}
 use Rattle.std.proofs.lemmas.List.{get_or_default}
-use Rattle.std.specs.declared.alloc.AllocError.{AllocError}
 use Rattle.ratatui_core.specs.Layout.{Rect, Position, HasPosition, IsInside}
-use Rattle.ratatui_core.specs.{Style.Style, Widgets.ChangesWithin}
-use Rattle.ratatui_core.specs.Buffer.{BufferData, pieces_at, PaintsOrRefuses, MakesParts, position_of}
-use Rattle.ratatui_core.proofs.BufferLemmas.{within-wider, text-keeps, Parts-next, Parts-within}
+use Rattle.ratatui_core.specs.{Text.LineData, Widgets.ChangesWithin, Buffer.BufferData, Buffer.MakesParts}
+use Rattle.ratatui_core.proofs.BufferLemmas.{within-wider, Parts-next, Parts-within}
 use Rattle.ratatui_core.proofs.WidgetLemmas.{within-then}
 use Rattle.rtui_boxes.specs.Boxes.{IsBoxArea}
-use Rattle.rtui_boxes.proofs.PaintLemmas.{paints-within}
 use Rattle.rtui_list.specs.{declared.list.List.List as ListData, declared.list.ListDirection.ListDirection}
 use Rattle.rtui_list.specs.declared.list.ListDirection.TheVariants.{TopToBottom, BottomToTop}
 use Rattle.rtui_list.specs.{declared.item.ListItem.ListItem, Windows.item_rows, Windows.rows_before, Windows.Fit}
-use Rattle.rtui_list.specs.Items.{item_part, without_columns, part_row, MarksRow, is_marked, RendersItem, nth_item, part_of_item}
-use Rattle.rtui_list.specs.Items.{ShowsItems, is_selected_at, has_mark_columns, shown_as}
+use Rattle.rtui_list.specs.Items.{item_part, without_columns, part_row, mark_part, MarksRow, is_marked, RendersItem, nth_item}
+use Rattle.rtui_list.specs.Items.{part_of_item, ShowsItems, is_selected_at, has_mark_columns, shown_as}
 use Rattle.rtui_list.proofs.WindowLemmas.{rows-next, rows-grow}
-
--- a part with columns, whose edges fit
-pub record IsItemArea (r : Rect) : Type 0 where
-  pub columns : 0 < r.width
-  pub across : r.x + r.width ≤ 65535
-  pub down : r.y + r.height ≤ 65535
 
 pub rows-apart : (r : Rect) (k j : ℕ) → k < j → (p : Position) → HasPosition (part_row r k) p → HasPosition (part_row r j) p → ⊥
 rows-apart r k j lt p one two = let b = one.bottom in let t = two.top in omega arith
 
--- the symbol or blanks in a row
-pub mark-within : {A : Type 0} (res : Result A AllocError) (symbol : List ℕ) (style : Style) (r : Rect) (old new : BufferData)
-    → IsBoxArea r → IsInside r old.area
-    → PaintsOrRefuses (position_of (r.x, r.y)) (pieces_at old.area r.x r.width style symbol) res old new → ChangesWithin r old new
-mark-within res symbol style r old new box inside paints =
-    let keeps = text-keeps old.area r.x r.width style symbol in let high = box.rows in
-    paints-within res r r.x r.y (pieces_at old.area r.x r.width style symbol) old new box inside (omega arith) (omega arith)
-    (omega arith) (omega arith) paints
+-- the columns of the symbol or of blanks in a row
+pub mark-in : (symbol : Option LineData) (r : Rect) → IsInside (mark_part symbol r) r
+mark-in symbol r p h = let left = h.left in let right = h.right in let top = h.top in let bottom = h.bottom in
+    record { left = left; right = omega arith; top = top; bottom = bottom }
 
 -- one row more
-pub marks-next : (l : ListData) (is_selected : Bool) (style : Style) (r : Rect) (j : ℕ) (old mid new : BufferData)
-    → MakesParts j (part_row r) (λ i. MarksRow l.highlight_symbol.now style (is_marked l is_selected i) (part_row r i)) old mid
-    → MarksRow l.highlight_symbol.now style (is_marked l is_selected j) (part_row r j) mid new
+pub marks-next : (l : ListData) (is_selected : Bool) (r : Rect) (j : ℕ) (old mid new : BufferData)
+    → MakesParts j (part_row r) (λ i. MarksRow l.highlight_symbol (is_marked l is_selected i) (part_row r i)) old mid
+    → MarksRow l.highlight_symbol (is_marked l is_selected j) (part_row r j) mid new
     → ChangesWithin (part_row r j) mid new
-    → MakesParts (j + 1) (part_row r) (λ i. MarksRow l.highlight_symbol.now style (is_marked l is_selected i)
-    (part_row r i)) old new
-marks-next l is_selected style r j old mid new so_far made within =
-    Parts-next j (part_row r) (λ i. MarksRow l.highlight_symbol.now style (is_marked l is_selected i)
-    (part_row r i)) old mid new so_far (λ k lt p one two. rows-apart r k j lt p one two) made within
+    → MakesParts (j + 1) (part_row r) (λ i. MarksRow l.highlight_symbol (is_marked l is_selected i) (part_row r i)) old new
+marks-next l is_selected r j old mid new so_far made within =
+    Parts-next j (part_row r) (λ i. MarksRow l.highlight_symbol (is_marked l is_selected i) (part_row r i)) old mid new so_far
+    (λ k lt p one two. rows-apart r k j lt p one two) made within
 
 row-in : (r : Rect) (k : ℕ) → k < r.height → IsInside (part_row r k) r
 row-in r k lt p h = let left = h.left in let right = h.right in let top = h.top in let bottom = h.bottom in
     record { left = left; right = right; top = omega arith; bottom = omega arith }
 
 -- a row after others, refused
-pub marks-within : (l : ListData) (is_selected : Bool) (style : Style) (r : Rect) (j : ℕ) (old mid new : BufferData)
-    → j < r.height → MakesParts j (part_row r) (λ i. MarksRow l.highlight_symbol.now style (is_marked l is_selected i)
-    (part_row r i)) old mid
+pub marks-within : (l : ListData) (is_selected : Bool) (r : Rect) (j : ℕ) (old mid new : BufferData)
+    → j < r.height
+    → MakesParts j (part_row r) (λ i. MarksRow l.highlight_symbol (is_marked l is_selected i) (part_row r i)) old mid
     → ChangesWithin (part_row r j) mid new → ChangesWithin r old new
-marks-within l is_selected style r j old mid new lt so_far within =
+marks-within l is_selected r j old mid new lt so_far within =
     within-then r old mid new
-    (Parts-within j (part_row r) (λ i. MarksRow l.highlight_symbol.now style (is_marked l is_selected i)
-    (part_row r i)) r old mid so_far (λ k less p h. row-in r k (omega arith) p h))
+    (Parts-within j (part_row r) (λ i. MarksRow l.highlight_symbol (is_marked l is_selected i) (part_row r i)) r old mid so_far
+    (λ k less p h. row-in r k (omega arith) p h))
     (within-wider (part_row r j) r mid new (row-in r j lt) within)
 
 -- the text beside the symbol's columns
@@ -76,12 +62,11 @@ item-in BottomToTop r used rows box fits p h =
     let d = box.down in let left = h.left in let right = h.right in let top = h.top in let bottom = h.bottom in
     record { left = left; right = right; top = omega arith; bottom = omega arith }
 
-pub item-area : (d : ListDirection) (r : Rect) (used rows : ℕ) → IsBoxArea r → used + rows ≤ r.height
-    → IsItemArea (item_part d r used rows)
-item-area TopToBottom r used rows box fits = let w = box.columns in let a = box.across in let d = box.down in
-    record { columns = w; across = a; down = omega arith }
-item-area BottomToTop r used rows box fits = let w = box.columns in let a = box.across in let d = box.down in
-    record { columns = w; across = a; down = omega arith }
+-- its edges fit
+pub item-down : (d : ListDirection) (r : Rect) (used rows : ℕ) → IsBoxArea r → used + rows ≤ r.height
+    → (item_part d r used rows).y + (item_part d r used rows).height ≤ 65535
+item-down TopToBottom r used rows box fits = let d = box.down in omega arith
+item-down BottomToTop r used rows box fits = let d = box.down in omega arith
 
 pub items-apart : (d : ListDirection) (r : Rect) (used rows later more : ℕ) → used + rows ≤ later → later + more ≤ r.height
     → (p : Position) → HasPosition (item_part d r used rows) p → HasPosition (item_part d r later more) p → ⊥

@@ -1,17 +1,19 @@
 -- A list of narrow texts keeps cells plain.
 use Rattle.std.proofs.Common.{◌≡◌, ℕ, zero, suc, ◌+◌, ◌<◌, ◌≤◌, ◌⊎◌, ⊎_elim, inl, inr, Bool, true, false, if◌then◌else◌, List, []}
-use Rattle.std.proofs.Common.{◌∷◌, length, slice_index_or, All, refl, ap, ◌∙◌, arith, codes, is_some}
+use Rattle.std.proofs.Common.{◌∷◌, length, slice_index_or, All, Option, Some, None, refl, ap, ◌∙◌, arith, codes, is_some}
 use Rattle.std.proofs.lemmas.{Bool.cases_lt, List.Elements.All-nil, List.Elements.All-head, List.Elements.All-tail}
-use Rattle.ratatui_core.specs.{Layout.Rect, Layout.intersected, Layout.corner, Style.Style, Style.patch}
-use Rattle.ratatui_core.specs.Buffer.{BufferData, Cell, with_symbol, width_of, text_width, pieces_at, IsStyled, IsPlain}
-use Rattle.ratatui_core.specs.Buffer.{IsPlainOver, IsPlainFrom, IsNarrowLine, IsNarrowText, HasNarrowGraphemes}
-use Rattle.ratatui_core.proofs.BufferLemmas.{width-empty, plain-styled, text-plain, pieces-narrow, pieces-plain, changed-plain}
-use Rattle.ratatui_core.proofs.BufferLemmas.{styled-plain, parts-plain, over-all, from-over}
+use Rattle.ratatui_core.specs.{Layout.Rect, Layout.intersected, Style.Style, Style.patch, Text.LineData}
+use Rattle.ratatui_core.specs.Buffer.{BufferData, Cell, width_of, text_width, IsStyled, IsPlain}
+use Rattle.ratatui_core.specs.Buffer.{IsPlainOver, IsPlainFrom, IsNarrowLine, IsNarrowText}
+use Rattle.rtui_changes.proofs.NarrowTextLemmas.{line-plain}
+use Rattle.ratatui_core.proofs.BufferLemmas.{width-empty, text-plain, changed-plain, styled-plain, parts-plain}
+use Rattle.ratatui_core.proofs.BufferLemmas.{over-all, from-over}
 use Rattle.rtui_boxes.specs.{Boxes.IsPlainIfBox, Framed.inner_if, Framed.IsBare}
 use Rattle.rtui_boxes.proofs.InnerLemmas.{plain-framed}
 use Rattle.rtui_list.specs.{declared.list.List.List as ListData, declared.item.ListItem.ListItem}
 use Rattle.rtui_list.specs.{declared.state.ListState.ListState}
-use Rattle.rtui_list.specs.Items.{mark_width, without_columns, part_row, with_blank, MarksRow, MarksRows, is_marked, If}
+use Rattle.rtui_list.specs.Items.{mark_width, mark_part, without_columns, part_row, blanked, MarksRow, MarksRows, is_marked, If}
+use Rattle.rtui_list.specs.Items.{IsNarrowMark}
 use Rattle.rtui_list.specs.Items.{RendersItem, nth_item, part_of_item, shown_as, is_selected_at, has_mark_columns, HasNarrowItems}
 use Rattle.rtui_list.specs.Items.{ShowsList, RendersList}
 
@@ -19,49 +21,50 @@ blank-one : text_width (codes " ") ≡ 1
 unfolding width_of
 blank-one = width-empty
 
-plain-blank : (style : Style) (c : Cell) → IsPlain c → IsPlain (with_blank style c)
+plain-blank : (c : Cell) → IsPlain c → IsPlain (blanked c)
 unfolding width_of
-plain-blank style c is =
+plain-blank c is =
     let e = is.unmarked.option in
-    plain-styled style (with_symbol (codes " ") c) (record {
+    record {
       narrow = rw (e, blank-one) (omega arith);
       unmarked = record { option = is.unmarked.option; flag = is.unmarked.flag };
-    })
+    }
 
 -- what keeps an area plain
 abbrev StaysPlain : Rect → BufferData → BufferData → Type 0
 StaysPlain r old new = (new.area ≡ old.area) × IsPlainOver r new
 
-mark-plain : (symbol : List ℕ) (style : Style) (t : Bool) (row r : Rect) (old new : BufferData) → HasNarrowGraphemes symbol
-    → IsPlainOver r old → MarksRow symbol style t row old new → StaysPlain r old new
-mark-plain symbol style true row r old new narrow plain is = (
-  is.area,
-  pieces-plain (corner row) (pieces_at old.area row.x row.width style symbol) r old new
-      (pieces-narrow old.area row.x row.width style symbol narrow) plain is,
+mark-plain : (symbol : Option LineData) (t : Bool) (row : Rect) (old new : BufferData) → IsNarrowMark symbol
+    → IsPlainOver row old → MarksRow symbol t row old new → StaysPlain row old new
+mark-plain None true row old new narrow plain same = (ap (λ s. s.area) same, rw same plain)
+mark-plain (Some line) true row old new narrow plain is = (
+  is.within.same_area,
+  line-plain (mark_part (Some line) row) row old new
+      (λ p in_own h. let left = h.left in let right = h.right in let top = h.top in let bottom = h.bottom in
+      record { left = left; right = omega arith; top = top; bottom = bottom })
+      plain line narrow is,
 )
-mark-plain symbol style false row r old new narrow plain is = (
+mark-plain symbol false row old new narrow plain is = (
   is.area,
-  changed-plain (record row { width = mark_width symbol row }) r (λ _. with_blank style) old new
-      (λ p c cell. plain-blank style c cell) plain is,
+  changed-plain (mark_part symbol row) row (λ _. blanked) old new (λ p c cell. plain-blank c cell) plain is,
 )
 
 module _ (l : ListData) (narrow : HasNarrowItems l) (r : Rect) where
-  marks-plain : (is_selected : Bool) (style : Style) (old new : BufferData) → IsPlainOver r old
-      → MarksRows l is_selected style r old new → StaysPlain r old new
-  marks-plain is_selected style old new plain is = (
+  marks-plain : (is_selected : Bool) (old new : BufferData) → IsPlainOver r old → MarksRows l is_selected r old new
+      → StaysPlain r old new
+  marks-plain is_selected old new plain is = (
     is.area,
-    parts-plain r.height (part_row r) (λ j. MarksRow l.highlight_symbol.now style (is_marked l is_selected j)
-        (part_row r j)) r old new is
+    parts-plain r.height (part_row r) (λ j. MarksRow l.highlight_symbol (is_marked l is_selected j) (part_row r j)) r old new is
         (λ k lt p in_own h. let left = h.left in let right = h.right in let top = h.top in let bottom = h.bottom in
         record { left = left; right = right; top = omega arith; bottom = omega arith })
-        (λ k lt before after same made was. mark-plain l.highlight_symbol.now style (is_marked l is_selected k) (part_row r k)
-        (part_row r k) before after narrow.symbol was made) plain,
+        (λ k lt before after same made was. mark-plain l.highlight_symbol (is_marked l is_selected k) (part_row r k) before after
+        narrow.symbol was made) plain,
   )
 
-  marks-if : (t is_selected : Bool) (style : Style) (old new : BufferData) → IsPlainOver r old
-      → If t (MarksRows l is_selected style r) old new → StaysPlain r old new
-  marks-if true is_selected style old new plain is = marks-plain is_selected style old new plain is
-  marks-if false is_selected style old new plain same = (ap (λ s. s.area) same, rw same plain)
+  marks-if : (t is_selected : Bool) (old new : BufferData) → IsPlainOver r old → If t (MarksRows l is_selected r) old new
+      → StaysPlain r old new
+  marks-if true is_selected old new plain is = marks-plain is_selected old new plain is
+  marks-if false is_selected old new plain same = (ap (λ s. s.area) same, rw same plain)
 
   styled-if : (t : Bool) (style : Style) (old new : BufferData) → IsPlainOver r old → If t (IsStyled r style) old new
       → StaysPlain r old new
@@ -71,15 +74,15 @@ module _ (l : ListData) (narrow : HasNarrowItems l) (r : Rect) where
   item-plain : (i : ListItem) (is_selected has_columns : Bool) (old new : BufferData) → IsNarrowText i.content → IsPlainOver r old
       → RendersItem l i is_selected has_columns r old new → StaysPlain r old new
   item-plain i is_selected has_columns old new texts plain is =
-      let n = if has_columns then mark_width l.highlight_symbol.now r else 0 in
+      let n = if has_columns then mark_width l.highlight_symbol r else 0 in
       let laid = styled-plain r r (patch l.style i.style) old is.laid plain is.style in
       let text = text-plain (without_columns n r) r is.laid is.texted
       (λ p in_own h. let left = h.left in let right = h.right in let top = h.top in let bottom = h.bottom in
       record { left = omega arith; right = omega arith; top = top; bottom = bottom })
       laid i.content texts is.text in
-      let marks = marks-if has_columns is_selected (patch l.style i.style) is.texted is.marked text is.marks in
-      let last = styled-if is_selected l.highlight_style is.marked new marks.1 is.highlight in
-      (last.0 ∙ marks.0 ∙ is.text.within.same_area ∙ is.style.area, last.1)
+      let lit = styled-if is_selected l.highlight_style is.texted is.lit text is.highlight in
+      let last = marks-if has_columns is_selected is.lit new lit.1 is.marks in
+      (last.0 ∙ lit.0 ∙ is.text.within.same_area ∙ is.style.area, last.1)
 
 -- each item is narrow, and so is one that isn't there
 nth-narrow : (items : List ListItem) (k : ℕ) (d : ListItem) → IsNarrowText d.content

@@ -5,7 +5,7 @@ use Rattle.std.proofs.lemmas.Bool.{cases_lt}
 use Rattle.ratatui_core.specs.{Layout.Rect, Buffer.BufferData}
 use Rattle.rtui_list.specs.{declared.item.ListItem.ListItem, declared.list.List.List as ListData}
 use Rattle.rtui_list.specs.{declared.state.ListState.ListState}
-use Rattle.rtui_list.specs.Windows.{rows_before, Fit, IsCount, IsPadding, IsScrolled, KeepsInView, first_kept, last_kept}
+use Rattle.rtui_list.specs.Windows.{rows_before, Fit, IsCount, IsPadding, IsScrolled, first_kept, last_kept}
 use Rattle.rtui_list.specs.Windows.{last_item}
 use Rattle.rtui_list.specs.Items.{ShowsList, at_most}
 use Rattle.rtui_list.proofs.WindowLemmas.{rows-grow}

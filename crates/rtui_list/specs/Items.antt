@@ -1,12 +1,12 @@
 -- What a list makes of a buffer and of its state.
 use Rattle.std.specs.Prelude.{◌≡◌, ℕ, Bool, true, false, ◌+◌, ◌-◌, ◌<◌, ◌==◌, ◌&&◌, ◌||◌, min, List, []}
-use Rattle.std.specs.Prelude.{length, codes, Option, Some, None, is_some, if◌then◌else◌, slice_index_or, All}
-use Rattle.ratatui_core.specs.{Layout.Rect, Layout.corner, Layout.intersected, Style.Style, Style.new_style}
-use Rattle.ratatui_core.specs.{Style.patch, Text.text_of}
-use Rattle.ratatui_core.specs.Buffer.{BufferData, Cell, styled, with_symbol, pieces_at, text_columns}
-use Rattle.ratatui_core.specs.Buffer.{IsStyled, PaintsPieces, ChangesEach, MakesParts, HasShortGraphemes}
-use Rattle.ratatui_core.specs.Buffer.{HasNarrowGraphemes, IsNarrowText}
-use Rattle.ratatui_core.specs.Widgets.{RendersText, RendersShortText, ChangesWithin, OnPart}
+use Rattle.std.specs.Prelude.{length, codes, Option, Some, None, is_some, if◌then◌else◌, slice_index_or, All, ⊤}
+use Rattle.ratatui_core.specs.{Layout.Rect, Layout.intersected, Style.new_style, Style.patch}
+use Rattle.ratatui_core.specs.Text.{LineData, text_of, line_width}
+use Rattle.ratatui_core.specs.Buffer.{BufferData, Cell, with_symbol, IsStyled, ChangesEach, MakesParts}
+use Rattle.ratatui_core.specs.Buffer.{IsNarrowLine, IsNarrowText}
+use Rattle.ratatui_core.specs.Widgets.{RendersLine, RendersText, RendersShortLine, RendersShortText}
+use Rattle.ratatui_core.specs.Widgets.{ChangesWithin, OnPart}
 use Rattle.rtui_boxes.specs.Framed.{IsFramed, IsBare, IsShortFrame, inner_if}
 use Rattle.rtui_list.specs.{declared.list.List.List as ListData, declared.list.ListDirection.ListDirection}
 use Rattle.rtui_list.specs.declared.list.ListDirection.TheVariants.{TopToBottom, BottomToTop}
@@ -22,7 +22,7 @@ pub record IsNewList (items : List ListItem) (l : ListData) : Type 0 where
   pub plain : l.style ≡ new_style
   pub from_above : l.direction ≡ TopToBottom
   pub plain_highlight : l.highlight_style ≡ new_style
-  pub no_symbol : l.highlight_symbol.now ≡ []
+  pub no_symbol : l.highlight_symbol ≡ None
   pub once : l.repeat_highlight_symbol ≡ false
   pub spaced : l.highlight_spacing ≡ WhenSelected
   pub unpadded : l.scroll_padding ≡ 0
@@ -33,9 +33,17 @@ has_mark_columns Always is_selected = true
 has_mark_columns WhenSelected is_selected = is_selected
 has_mark_columns Never is_selected = false
 
--- how many columns of a part a symbol takes
-abbrev pub mark_width : List ℕ → Rect → ℕ
-mark_width symbol r = min (text_columns symbol) r.width
+-- how many columns a symbol has, and how many of a part it takes
+abbrev pub symbol_width : Option LineData → ℕ
+symbol_width None = 0
+symbol_width (Some line) = line_width line.spans
+
+abbrev pub mark_width : Option LineData → Rect → ℕ
+mark_width symbol r = min (symbol_width symbol) r.width
+
+-- these columns
+abbrev pub mark_part : Option LineData → Rect → Rect
+mark_part symbol r = record r { width = mark_width symbol r }
 
 -- where an item stands that takes so many rows, after others that take so many
 abbrev pub item_part : ListDirection → Rect → ℕ → ℕ → Rect
@@ -50,43 +58,46 @@ without_columns n r = record r { x = r.x + n; width = r.width - n }
 abbrev pub part_row : Rect → ℕ → Rect
 part_row r j = record r { y = r.y + j; height = 1 }
 
--- a cell with a blank in a style
-abbrev pub with_blank : Style → Cell → Cell
-with_blank style c = styled style (with_symbol (codes " ") c)
+-- a cell with a blank, in the style that it has
+abbrev pub blanked : Cell → Cell
+blanked = with_symbol (codes " ")
 
--- in a row the symbol from its start on, or blanks in the symbol's columns
-abbrev pub MarksRow : List ℕ → Style → Bool → Rect → BufferData → BufferData → Type 0
-MarksRow symbol style true r old new = PaintsPieces (corner r)
-    (pieces_at old.area r.x r.width style symbol) old new
-MarksRow symbol style false r old new = ChangesEach (record r { width = mark_width symbol r })
-    (λ _. with_blank style) old new
+-- a line over an area, if there is one
+abbrev pub RendersIfLine : Option LineData → Rect → BufferData → BufferData → Type 0
+RendersIfLine None r old new = new ≡ old
+RendersIfLine (Some line) r old new = RendersLine line r old new
+
+-- in a symbol's columns of a row the symbol, in its own styles over what stands there, or blanks
+abbrev pub MarksRow : Option LineData → Bool → Rect → BufferData → BufferData → Type 0
+MarksRow symbol true r = RendersIfLine symbol (mark_part symbol r)
+MarksRow symbol false r = ChangesEach (mark_part symbol r) (λ _. blanked)
 
 -- the symbol stands in a row of an item: in the first one of the selected one, or in each
 abbrev pub is_marked : ListData → Bool → ℕ → Bool
 is_marked l is_selected j = is_selected && ((j == 0) || l.repeat_highlight_symbol)
 
 -- the symbol or blanks in each row of an item
-abbrev pub MarksRows : ListData → Bool → Style → Rect → BufferData → BufferData → Type 0
-MarksRows l is_selected style r = MakesParts r.height (part_row r)
-    (λ j. MarksRow l.highlight_symbol.now style (is_marked l is_selected j) (part_row r j))
+abbrev pub MarksRows : ListData → Bool → Rect → BufferData → BufferData → Type 0
+MarksRows l is_selected r = MakesParts r.height (part_row r)
+    (λ j. MarksRow l.highlight_symbol (is_marked l is_selected j) (part_row r j))
 
 -- an effect, or none
 abbrev pub If : Bool → (BufferData → BufferData → Type 0) → BufferData → BufferData → Type 0
 If true f old new = f old new
 If false f old new = new ≡ old
 
--- An item over its part: its style over the list's, its text beside the symbol's columns, the symbol, and the
--- highlight if it is selected.
+-- An item over its part: its style over the list's, its text beside the symbol's columns, the highlight if it
+-- is selected, and over it the symbol.
 pub record RendersItem (l : ListData) (i : ListItem) (is_selected has_columns : Bool) (r : Rect)
     (old new : BufferData) : Type 0 where
   pub laid : BufferData
   pub texted : BufferData
-  pub marked : BufferData
+  pub lit : BufferData
   pub style : IsStyled r (patch l.style i.style) old laid
   pub text : RendersText i.content
-      (without_columns (if has_columns then mark_width l.highlight_symbol.now r else 0) r) laid texted
-  pub marks : If has_columns (MarksRows l is_selected (patch l.style i.style) r) texted marked
-  pub highlight : If is_selected (IsStyled r l.highlight_style) marked new
+      (without_columns (if has_columns then mark_width l.highlight_symbol r else 0) r) laid texted
+  pub highlight : If is_selected (IsStyled r l.highlight_style) texted lit
+  pub marks : If has_columns (MarksRows l is_selected r) lit new
 
 -- the number is the one that is selected
 abbrev pub is_selected_at : Option ℕ → ℕ → Bool
@@ -122,9 +133,14 @@ at_most last (Some n) = Some (min n last)
 abbrev pub IsShortItem : ListItem → Type 0
 IsShortItem i = (area : Rect) (s : BufferData) → RendersShortText i.content area s
 
+-- a symbol takes no memory, in however many columns
+abbrev pub IsShortMark : Option LineData → Type 0
+IsShortMark None = ⊤
+IsShortMark (Some line) = (area : Rect) (s : BufferData) → RendersShortLine line area s
+
 -- nothing that a list shows inside its box takes memory
 pub record HasShortItems (l : ListData) : Type 0 where
-  pub symbol : HasShortGraphemes l.highlight_symbol.now
+  pub symbol : IsShortMark l.highlight_symbol
   pub items : All IsShortItem l.items.items
 
 -- a list takes no memory if its box takes none and all that it shows is short
@@ -132,9 +148,14 @@ pub record IsShortList (l : ListData) (s : BufferData) : Type 0 where
   pub frame : IsShortFrame l.block s
   pub shown : HasShortItems l
 
+-- each grapheme of a symbol takes one column
+abbrev pub IsNarrowMark : Option LineData → Type 0
+IsNarrowMark None = ⊤
+IsNarrowMark (Some line) = IsNarrowLine line
+
 -- each grapheme that a list shows inside its box takes one column
 pub record HasNarrowItems (l : ListData) : Type 0 where
-  pub symbol : HasNarrowGraphemes l.highlight_symbol.now
+  pub symbol : IsNarrowMark l.highlight_symbol
   pub items : All (λ item. IsNarrowText item.content) l.items.items
 
 -- The items of a list over an area, from the state's first one on, as many as fit whole. The selection is at

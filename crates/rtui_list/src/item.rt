@@ -10,7 +10,7 @@ use ratatui_core::text::Text;
 use std::alloc::{AllocError, Global};
 
 /// An item of a list: a text in a style, which takes a row for each of its lines.
-#[derive(Debug, Drop)]
+#[derive(Debug, PartialEq, Eq, Drop)]
 pub struct ListItem<'a> {
     pub(crate) content: Text<'a>,
     pub(crate) style: Style,
@@ -45,6 +45,20 @@ impl<'a> ListItem<'a> {
         ensures { result ≡ record self.entry { style = style } }
     {
         ListItem { style, ..self }
+    }
+
+    /// An equal item.
+    ///
+    /// # Errors
+    ///
+    /// `AllocError` if memory is refused.
+    pub fn clone(&self, alloc: Global) -> Result<ListItem<'a>, AllocError>
+        ensures { IfOk result (λ item. item ≡ self.now) }
+    {
+        Ok(ListItem {
+            content: self.content.clone(alloc)?,
+            style: self.style,
+        })
     }
 
     /// How many rows it takes.

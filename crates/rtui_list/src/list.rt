@@ -1,15 +1,16 @@
 //! A list of items.
 
-ghost use Rattle.std.specs.Prelude.{◌≡◌, ◌==◌, ◌≤◌, ◌<◌, ◌+◌, if◌then◌else◌, Some, OnOk, OnErr, IsOk, IfSome};
-ghost use Rattle.std.specs.Prelude.{length};
+ghost use Rattle.std.specs.Prelude.{◌≡◌, ◌==◌, ◌≤◌, ◌<◌, ◌+◌, if◌then◌else◌, Some, OnOk, OnErr, IsOk, IfOk};
+ghost use Rattle.std.specs.Prelude.{length, IfSome, true};
 ghost use Rattle.ratatui_core.specs.Layout.{IsInside};
 ghost use Rattle.ratatui_core.specs.Widgets.{ChangesWithin};
-ghost use Rattle.ratatui_core.specs.Buffer.{IsStyled, HasShortGraphemes};
+ghost use Rattle.ratatui_core.specs.Buffer.{IsStyled};
 ghost use Rattle.rtui_boxes.specs.Boxes.{IsBoxArea};
 ghost use Rattle.rtui_list.specs.Windows.{Fit};
-ghost use Rattle.rtui_list.specs.Items.{If, is_marked, has_mark_columns, mark_width, item_part, MarksRows};
-ghost use Rattle.rtui_list.specs.Items.{MarksRow, RendersItem, ShowsItems, ShowsList, is_selected_at};
-ghost use Rattle.rtui_list.specs.Items.{at_most, IsNewList, IsShortItem, HasShortItems};
+ghost use Rattle.rtui_list.specs.Items.{If, is_marked, has_mark_columns, mark_width, mark_part, item_part};
+ghost use Rattle.rtui_list.specs.Items.{MarksRow, MarksRows, RendersItem, ShowsItems, ShowsList};
+ghost use Rattle.rtui_list.specs.Items.{is_selected_at, at_most, IsNewList, IsShortItem, IsShortMark};
+ghost use Rattle.rtui_list.specs.Items.{HasShortItems, RendersIfLine};
 
 use crate::item::ListItem;
 use crate::state::ListState;
@@ -17,9 +18,9 @@ use crate::window::{count_from, offset_for};
 use ratatui_core::buffer::{Buffer, Cell, CellChange, change_area};
 use ratatui_core::layout::{Position, Rect};
 use ratatui_core::style::Style;
-use ratatui_core::text::text_columns;
+use ratatui_core::text::Line;
 use ratatui_core::widgets::{StatefulWidget, Widget};
-use rtui_boxes::{Block, render_frame};
+use rtui_boxes::{Block, cloned_block, cloned_line, render_frame};
 use std::alloc::{AllocError, Global};
 
 /// From where the items stand one after the other.
@@ -60,17 +61,19 @@ impl HighlightSpacing {
 /// Items one below the other, of which one may be selected: the one that a state says.
 ///
 /// ```
-/// let list = List::new(items).highlight_symbol("> ").highlight_style(Style::new().bg(Color::Blue));
+/// let list = List::new(items)
+///     .highlight_symbol(Line::raw(alloc, "> ")?)
+///     .highlight_style(Style::new().bg(Color::Blue));
 /// StatefulWidget::render(&list, area, buf, &mut state)?;
 /// ```
-#[derive(Debug, Drop)]
+#[derive(Debug, PartialEq, Eq, Drop)]
 pub struct List<'a> {
     block: Option<Block<'a>>,
     items: Vec<ListItem<'a>>,
     pub(crate) style: Style,
     direction: ListDirection,
     highlight_style: Style,
-    highlight_symbol: &'a str,
+    highlight_symbol: Option<Line<'a>>,
     repeat_highlight_symbol: bool,
     highlight_spacing: HighlightSpacing,
     scroll_padding: usize,
@@ -87,7 +90,7 @@ impl<'a> List<'a> {
             style: Style::new(),
             direction: ListDirection::TopToBottom,
             highlight_style: Style::new(),
-            highlight_symbol: "",
+            highlight_symbol: None,
             repeat_highlight_symbol: false,
             highlight_spacing: HighlightSpacing::WhenSelected,
             scroll_padding: 0,
@@ -134,11 +137,12 @@ impl<'a> List<'a> {
         self
     }
 
-    /// The list with a symbol before its selected item.
-    pub fn highlight_symbol(mut self, symbol: &'a str) -> List<'a>
-        ensures { result ≡ record self.entry { highlight_symbol = symbol.entry } }
+    /// The list with a symbol before its selected item, in the symbol's own styles over the
+    /// item's and the highlight's.
+    pub fn highlight_symbol(mut self, symbol: Line<'a>) -> List<'a>
+        ensures { result ≡ record self.entry { highlight_symbol = Some symbol.entry } }
     {
-        self.highlight_symbol = symbol;
+        self.highlight_symbol = Some(symbol);
         self
     }
 
@@ -164,6 +168,28 @@ impl<'a> List<'a> {
     {
         self.scroll_padding = padding;
         self
+    }
+
+    /// An equal list.
+    ///
+    /// # Errors
+    ///
+    /// `AllocError` if memory is refused.
+    pub fn clone(&self, alloc: Global) -> Result<List<'a>, AllocError>
+        ensures { let same = ⟦<List<'a> as PartialEq>⟧.eq in
+            IfOk result (λ list. same self.now list ≡ true) }
+    {
+        Ok(List {
+            block: cloned_block(alloc, &self.block)?,
+            items: cloned_items(alloc, self.items.as_slice())?,
+            style: self.style,
+            direction: self.direction,
+            highlight_style: self.highlight_style,
+            highlight_symbol: cloned_line(alloc, &self.highlight_symbol)?,
+            repeat_highlight_symbol: self.repeat_highlight_symbol,
+            highlight_spacing: self.highlight_spacing,
+            scroll_padding: self.scroll_padding,
+        })
     }
 
     /// How many items there are.
@@ -199,10 +225,13 @@ impl<'a> List<'a> {
 
     // How many columns of a part the symbol takes.
     fn mark_width(&self, part: Rect) -> u16
-        ensures value { result ≡ mark_width self.now.highlight_symbol.now part }
+        ensures value { result ≡ mark_width self.now.highlight_symbol part }
         ensures within { result ≤ part.width }
     {
-        text_columns(self.highlight_symbol).min(usize::from(part.width)) as u16
+        match &self.highlight_symbol {
+            Some(symbol) => symbol.width().min(usize::from(part.width)) as u16,
+            None => 0,
+        }
     }
 
     // Whether the symbol stands in a row of an item.
@@ -212,36 +241,39 @@ impl<'a> List<'a> {
         is_selected && (j == 0 || self.repeat_highlight_symbol)
     }
 
+    // Renders the symbol over an area, if there is one.
+    fn render_symbol(&self, area: Rect, buf: &mut Buffer) -> Result<(), AllocError>
+        ensures within { ChangesWithin area buf.old buf.new }
+        ensures ok { OnOk result
+            (RendersIfLine self.now.highlight_symbol area buf.old buf.new) }
+        ensures short { IsShortMark self.now.highlight_symbol → IsOk result }
+    {
+        if let Some(symbol) = &self.highlight_symbol {
+            symbol.render(area, buf)?;
+        }
+        Ok(())
+    }
+
     // Renders the symbol in a row of the selected item, or blanks in its columns.
-    fn render_mark(
-        &self,
-        is_marked: bool,
-        style: Style,
-        row: Rect,
-        buf: &mut Buffer,
-    ) -> Result<(), AllocError>
-        requires some { IsBoxArea row }
-        requires inside { IsInside row buf.old.area }
+    fn render_mark(&self, is_marked: bool, row: Rect, buf: &mut Buffer) -> Result<(), AllocError>
         ensures within { ChangesWithin row buf.old buf.new }
         ensures ok { OnOk result
-            (MarksRow self.now.highlight_symbol.now style is_marked row buf.old buf.new) }
-        ensures short { HasShortGraphemes self.now.highlight_symbol.now → IsOk result }
+            (MarksRow self.now.highlight_symbol is_marked row buf.old buf.new) }
+        ensures short { IsShortMark self.now.highlight_symbol → IsOk result }
     {
-        if is_marked {
-            let symbol = self.highlight_symbol;
-            buf.set_stringn(row.x, row.y, symbol, usize::from(row.width), style)?;
-            return Ok(());
-        }
-        let blanks = Rect {
+        let columns = Rect {
             width: self.mark_width(row),
             ..row
         };
-        change_area(buf, blanks, &Blank { style })
+        if is_marked {
+            return self.render_symbol(columns, buf);
+        }
+        change_area(buf, columns, &Blank)
     }
 
     // How many columns the symbol takes, if they stay free.
     fn mark_columns(&self, has_columns: bool, part: Rect) -> u16
-        ensures value { let width = mark_width self.now.highlight_symbol.now part in
+        ensures value { let width = mark_width self.now.highlight_symbol part in
             result ≡ (if has_columns then width else 0) }
         ensures within { result ≤ part.width }
     {
@@ -257,23 +289,19 @@ impl<'a> List<'a> {
         &self,
         has_columns: bool,
         is_selected: bool,
-        style: Style,
         part: Rect,
         buf: &mut Buffer,
     ) -> Result<(), AllocError>
-        requires width { 0 < part.width }
-        requires across { part.x + part.width ≤ 65535 }
         requires down { part.y + part.height ≤ 65535 }
-        requires inside { IsInside part buf.old.area }
         ensures within { ChangesWithin part buf.old buf.new }
         ensures ok { OnOk result
-            (If has_columns (MarksRows self.now is_selected style part) buf.old buf.new) }
-        ensures short { HasShortGraphemes self.now.highlight_symbol.now → IsOk result }
+            (If has_columns (MarksRows self.now is_selected part) buf.old buf.new) }
+        ensures short { IsShortMark self.now.highlight_symbol → IsOk result }
     {
         if !has_columns {
             return Ok(());
         }
-        self.render_marks(is_selected, style, part, buf)
+        self.render_marks(is_selected, part, buf)
     }
 
     // Lays the highlight's style over the selected item.
@@ -290,17 +318,13 @@ impl<'a> List<'a> {
     fn render_marks(
         &self,
         is_selected: bool,
-        style: Style,
         part: Rect,
         buf: &mut Buffer,
     ) -> Result<(), AllocError>
-        requires width { 0 < part.width }
-        requires across { part.x + part.width ≤ 65535 }
         requires down { part.y + part.height ≤ 65535 }
-        requires inside { IsInside part buf.old.area }
         ensures within { ChangesWithin part buf.old buf.new }
-        ensures ok { OnOk result (MarksRows self.now is_selected style part buf.old buf.new) }
-        ensures short { HasShortGraphemes self.now.highlight_symbol.now → IsOk result }
+        ensures ok { OnOk result (MarksRows self.now is_selected part buf.old buf.new) }
+        ensures short { IsShortMark self.now.highlight_symbol → IsOk result }
     {
         for j in 0..part.height {
             let is_marked = self.is_marked(is_selected, j);
@@ -309,13 +333,13 @@ impl<'a> List<'a> {
                 height: 1,
                 ..part
             };
-            self.render_mark(is_marked, style, row, buf)?;
+            self.render_mark(is_marked, row, buf)?;
         }
         Ok(())
     }
 
-    // Renders an item: its style, its text beside the symbol's columns, the symbol, and the
-    // highlight.
+    // Renders an item: its style, its text beside the symbol's columns, the highlight, and over it
+    // the symbol.
     fn render_item(
         &self,
         item: &ListItem<'a>,
@@ -324,18 +348,15 @@ impl<'a> List<'a> {
         part: Rect,
         buf: &mut Buffer,
     ) -> Result<(), AllocError>
-        requires width { 0 < part.width }
         requires across { part.x + part.width ≤ 65535 }
         requires down { part.y + part.height ≤ 65535 }
-        requires inside { IsInside part buf.old.area }
         ensures within { ChangesWithin part buf.old buf.new }
         ensures ok { OnOk result
             (RendersItem self.now item.now is_selected has_columns part buf.old buf.new) }
-        ensures short { let symbol = self.now.highlight_symbol.now in
-            HasShortGraphemes symbol → IsShortItem item.now → IsOk result }
+        ensures short { let symbol = self.now.highlight_symbol in
+            IsShortMark symbol → IsShortItem item.now → IsOk result }
     {
-        let style = self.style.patch(item.style);
-        buf.set_style(part, style);
+        buf.set_style(part, self.style.patch(item.style));
         let mark = self.mark_columns(has_columns, part);
         let text = Rect {
             x: part.x + mark,
@@ -343,8 +364,8 @@ impl<'a> List<'a> {
             ..part
         };
         (&item.content).render(text, buf)?;
-        self.render_marks_if(has_columns, is_selected, style, part, buf)?;
         self.highlight_if(is_selected, part, buf);
+        self.render_marks_if(has_columns, is_selected, part, buf)?;
         Ok(())
     }
 
@@ -432,25 +453,32 @@ fn at_most(number: Option<usize>, last: usize) -> Option<usize>
     }
 }
 
-// A blank in a style.
-#[derive(Drop)]
-pub(crate) struct Blank {
-    style: Style,
+// Equal items.
+fn cloned_items<'a>(alloc: Global, items: &[ListItem<'a>]) -> Result<Vec<ListItem<'a>>, AllocError>
+    ensures { IfOk result (λ cloned. cloned.items ≡ items.now) }
+{
+    let mut cloned = Vec::with_capacity(alloc, items.len())?;
+    for item in items {
+        cloned.push(item.clone(alloc)?)?;
+    }
+    Ok(cloned)
 }
+
+// A blank in the style that stands there.
+#[derive(Drop)]
+struct Blank;
 
 impl CellChange for Blank {
     ghost use Rattle.std.specs.Prelude.{⊤};
-    ghost use Rattle.rtui_list.specs.Items.{with_blank};
+    ghost use Rattle.rtui_list.specs.Items.{blanked};
 
-    ghost made = { λ b _. with_blank b.style };
+    ghost made = { λ _ _. blanked };
 
     ghost is_light = { λ _ _ _. ⊤ };
 
     fn change(&self, alloc: Global, position: Position, cell: &mut Cell) -> Result<(), AllocError> {
         let _ = position;
-        cell.set_symbol(alloc, " ")?;
-        cell.set_style(self.style);
-        Ok(())
+        cell.set_symbol(alloc, " ")
     }
 }
 

@@ -1,7 +1,8 @@
 //! What a list keeps from one rendering to the next.
 
 ghost use Rattle.std.specs.Prelude.{◌≡◌, ◌-◌, ◌+◌, min, unwrap_or, Some, None, Option, ℕ};
-ghost use Rattle.rtui_list.specs.States.{selecting, next_of, previous_of};
+ghost use Rattle.std.specs.Borrow.{sem};
+ghost use Rattle.rtui_list.specs.States.{selecting, next_of, previous_of, LendsOffset, LendsSelected};
 
 /// Which item is selected, and which is the first one shown.
 #[derive(Debug, Default, Clone, Copy, PartialEq, Eq, Hash)]
@@ -34,11 +35,28 @@ impl ListState {
         self.offset
     }
 
+    /// The first item that is shown, to be written.
+    pub fn offset_mut(&mut self) -> &mut usize
+        ensures* writes_back { sem 𝓛 (LendsOffset self.entry result) }
+        ensures value { result.now ≡ self.old.offset }
+    {
+        &mut self.offset
+    }
+
     /// The selected item.
     pub fn selected(&self) -> Option<usize>
         ensures { result ≡ self.now.selected }
     {
         self.selected
+    }
+
+    /// The selected item, to be written. The first item that is shown stays, also if none is
+    /// selected.
+    pub fn selected_mut(&mut self) -> &mut Option<usize>
+        ensures* writes_back { sem 𝓛 (LendsSelected self.entry result) }
+        ensures value { result.now ≡ self.old.selected }
+    {
+        &mut self.selected
     }
 
     /// Selects an item, or none: then the list begins with its first one again.

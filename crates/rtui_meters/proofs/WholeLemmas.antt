@@ -1,14 +1,14 @@
 -- All of a whole: a full gauge, and a thumb at an end of its track.
-use Rattle.std.proofs.Common.{◌≡◌, ℕ, ◌+◌, ◌-◌, ◌*◌, ◌/◌, ◌<◌, ◌≤◌, Bool, true, false, ◌&&◌, ◌==◌, if◌then◌else◌, min, max}
-use Rattle.std.proofs.Common.{nat_le, nat_lt, List, refl, sym, ap, subst, ◌∙◌, arith}
-use Rattle.std.proofs.lemmas.{Nat.div-mul-add, Bool.Decides.nat_tests, Bool.cases_lt}
+use Rattle.std.proofs.Common.{◌≡◌, ℕ, ◌+◌, ◌-◌, ◌*◌, ◌/◌, ◌<◌, ◌≤◌, Bool, true, false, if◌then◌else◌, min, max}
+use Rattle.std.proofs.Common.{nat_lt, List, refl, ap, ◌∙◌, arith}
+use Rattle.std.proofs.lemmas.{Nat.div-mul-add, Bool.Decides.nat_tests}
 use Rattle.std.proofs.Math.Nat.{mul-div_cancel}
-use Rattle.ratatui_core.specs.{Layout.Rect, Layout.Position, Layout.HasPosition, Buffer.Cell, Style.Style}
+use Rattle.ratatui_core.specs.{Layout.Rect, Layout.Position, Layout.HasPosition, Buffer.Cell}
 use Rattle.rtui_meters.specs.declared.scrollbar.state.ScrollbarState.{ScrollbarState}
 use Rattle.rtui_meters.specs.{declared.gauge.Gauge.Gauge, declared.gauge.Fill.Fill, declared.share.Share.Share}
 use Rattle.rtui_meters.specs.Shares.{is_full, parts_of, whole_of, filled_part, rounded_part, rounded_quotient}
 use Rattle.rtui_meters.specs.Gauges.{IsFillOf, filled_cell, full_cell, full_columns}
-use Rattle.rtui_meters.specs.Scrollbars.{seen_rows, first_seen, whole_length, thumb_start, thumb_end, thumb_length}
+use Rattle.rtui_meters.specs.Scrollbars.{seen_rows, first_seen, whole_length, thumb_start, thumb_length}
 
 -- so many wholes, and nothing, rounded
 whole-rounded : (n d : ℕ) → 0 < d → (2 * (d * n) + d) / (2 * d) ≡ n

@@ -1,6 +1,6 @@
 //! A bar that fills a share of an area.
 
-ghost use Rattle.std.specs.Prelude.{◌≡◌, ◌≤◌, Some, OnOk, OnErr, IsOk};
+ghost use Rattle.std.specs.Prelude.{◌≡◌, ◌≤◌, Some, OnOk, OnErr, IsOk, IfOk, true};
 ghost use Rattle.ratatui_core.specs.Layout.{IsInside};
 ghost use Rattle.ratatui_core.specs.Buffer.{AreShort, IsShort};
 ghost use Rattle.ratatui_core.specs.Widgets.{ChangesWithin};
@@ -16,7 +16,7 @@ use ratatui_core::style::{Color, Style};
 use ratatui_core::symbols::block;
 use ratatui_core::text::{Span, text_columns};
 use ratatui_core::widgets::Widget;
-use rtui_boxes::{Block, render_frame};
+use rtui_boxes::{Block, cloned_block, render_frame};
 use std::alloc::{AllocError, Global};
 
 /// A bar that fills a share of an area from the left, with a label in the middle.
@@ -24,7 +24,7 @@ use std::alloc::{AllocError, Global};
 /// ```
 /// Gauge::new().ratio(sent, total).gauge_style(Style::new().fg(Color::Green)).render(area, buf)?;
 /// ```
-#[derive(Debug, Drop)]
+#[derive(Debug, PartialEq, Eq, Drop)]
 pub struct Gauge<'a> {
     block: Option<Block<'a>>,
     share: Share,
@@ -103,6 +103,25 @@ impl<'a> Gauge<'a> {
     {
         self.gauge_style = style;
         self
+    }
+
+    /// An equal gauge.
+    ///
+    /// # Errors
+    ///
+    /// `AllocError` if memory is refused.
+    pub fn clone(&self, alloc: Global) -> Result<Gauge<'a>, AllocError>
+        ensures { let same = ⟦<Gauge<'a> as PartialEq>⟧.eq in
+            IfOk result (λ gauge. same self.now gauge ≡ true) }
+    {
+        Ok(Gauge {
+            block: cloned_block(alloc, &self.block)?,
+            share: self.share,
+            label: cloned_span(alloc, &self.label)?,
+            use_unicode: self.use_unicode,
+            style: self.style,
+            gauge_style: self.gauge_style,
+        })
     }
 
     // Renders the bar and its label inside the box.
@@ -194,6 +213,16 @@ pub static TIPS: [&str; 9] = [
     block::SEVEN_EIGHTHS,
     FULL_BLOCK,
 ];
+
+// An equal span, if there is one.
+fn cloned_span<'a>(alloc: Global, span: &Option<Span<'a>>) -> Result<Option<Span<'a>>, AllocError>
+    ensures { IfOk result (λ cloned. cloned ≡ span.now) }
+{
+    match span {
+        Some(span) => Ok(Some(span.clone(alloc)?)),
+        None => Ok(None),
+    }
+}
 
 // How a bar fills an area: up to which column, by which symbol in the next one, where the label
 // stands, and in which style.

@@ -1,6 +1,6 @@
 //! A line that is filled by a share of a row.
 
-ghost use Rattle.std.specs.Prelude.{◌≡◌, ◌≤◌, ◌<◌, ◌+◌, Some, OnOk, IfOk, IsOk};
+ghost use Rattle.std.specs.Prelude.{◌≡◌, ◌≤◌, ◌<◌, ◌+◌, Some, OnOk, IfOk, IsOk, true};
 ghost use Rattle.ratatui_core.specs.Layout.{IsInside, corner};
 ghost use Rattle.ratatui_core.specs.Buffer.{columns, AreShort, PaintsOrRefuses, IsShort};
 ghost use Rattle.ratatui_core.specs.Widgets.{ChangesWithin};
@@ -15,7 +15,7 @@ use ratatui_core::style::Style;
 use ratatui_core::symbols::line;
 use ratatui_core::text::Line;
 use ratatui_core::widgets::Widget;
-use rtui_boxes::{Block, render_frame};
+use rtui_boxes::{Block, cloned_block, cloned_line, render_frame};
 use std::alloc::{AllocError, Global};
 
 /// The line that a gauge is made of if it says nothing else.
@@ -26,7 +26,7 @@ pub const PLAIN_LINE: &str = line::HORIZONTAL;
 /// ```
 /// LineGauge::new().percent(40).filled_style(Style::new().fg(Color::Green)).render(area, buf)?;
 /// ```
-#[derive(Debug, Drop)]
+#[derive(Debug, PartialEq, Eq, Drop)]
 pub struct LineGauge<'a> {
     block: Option<Block<'a>>,
     share: Share,
@@ -134,6 +134,27 @@ impl<'a> LineGauge<'a> {
     {
         self.unfilled_style = style;
         self
+    }
+
+    /// An equal gauge.
+    ///
+    /// # Errors
+    ///
+    /// `AllocError` if memory is refused.
+    pub fn clone(&self, alloc: Global) -> Result<LineGauge<'a>, AllocError>
+        ensures { let same = ⟦<LineGauge<'a> as PartialEq>⟧.eq in
+            IfOk result (λ gauge. same self.now gauge ≡ true) }
+    {
+        Ok(LineGauge {
+            block: cloned_block(alloc, &self.block)?,
+            share: self.share,
+            label: cloned_line(alloc, &self.label)?,
+            filled_symbol: self.filled_symbol,
+            unfilled_symbol: self.unfilled_symbol,
+            style: self.style,
+            filled_style: self.filled_style,
+            unfilled_style: self.unfilled_style,
+        })
     }
 
     // Paints the label, and answers the column after it.

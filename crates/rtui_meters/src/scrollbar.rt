@@ -51,7 +51,7 @@ impl ScrollbarOrientation {
 /// let mut state = ScrollbarState::new(lines).position(first);
 /// Scrollbar::new(ScrollbarOrientation::VerticalRight).render(area, buf, &mut state)?;
 /// ```
-#[derive(Debug, Clone, Copy)]
+#[derive(Debug, Clone, Copy, PartialEq, Eq, Hash)]
 pub struct Scrollbar<'a> {
     orientation: ScrollbarOrientation,
     thumb_style: Style,

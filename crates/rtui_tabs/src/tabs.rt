@@ -1,6 +1,7 @@
 //! Titles in a row.
 
-ghost use Rattle.std.specs.Prelude.{◌≡◌, ◌+◌, ◌-◌, ◌≤◌, ◌<◌, ◌==◌, [], ◌∷◌, ◌++◌, length, Some, OnOk, IsOk};
+ghost use Rattle.std.specs.Prelude.{◌≡◌, ◌+◌, ◌-◌, ◌≤◌, ◌<◌, ◌==◌, [], ◌∷◌, ◌++◌, length, Some, OnOk, IsOk, IfOk};
+ghost use Rattle.std.specs.Prelude.{true};
 ghost use Rattle.ratatui_core.specs.Layout.{IsInside};
 ghost use Rattle.ratatui_core.specs.Widgets.{ChangesWithin};
 ghost use Rattle.rtui_boxes.specs.Boxes.{IsBoxArea};
@@ -14,10 +15,10 @@ use ratatui_core::buffer::Buffer;
 use ratatui_core::layout::Rect;
 use ratatui_core::style::{Modifier, Style};
 use ratatui_core::symbols::line;
-use ratatui_core::text::{Line, Span};
+use ratatui_core::text::{Line, Lines, Span};
 use ratatui_core::widgets::Widget;
-use rtui_boxes::{Block, render_frame};
-use std::alloc::AllocError;
+use rtui_boxes::{Block, cloned_block, cloned_line, render_frame};
+use std::alloc::{AllocError, Global};
 
 /// Titles one after the other in a row, with a divider between each two, of which one may be
 /// selected.
@@ -28,7 +29,7 @@ use std::alloc::AllocError;
 /// titles.push(Line::raw(alloc, "Log")?)?;
 /// Tabs::new(titles).select(Some(1)).render(area, buf)?; // " Files │ Log ", "Log" reversed
 /// ```
-#[derive(Debug, Drop)]
+#[derive(Debug, PartialEq, Eq, Drop)]
 pub struct Tabs<'a> {
     block: Option<Block<'a>>,
     titles: Vec<Line<'a>>,
@@ -131,6 +132,27 @@ impl<'a> Tabs<'a> {
     {
         self.padding_right = Some(padding);
         self
+    }
+
+    /// Equal tabs.
+    ///
+    /// # Errors
+    ///
+    /// `AllocError` if memory is refused.
+    pub fn clone(&self, alloc: Global) -> Result<Tabs<'a>, AllocError>
+        ensures { let same = ⟦<Tabs<'a> as PartialEq>⟧.eq in
+            IfOk result (λ tabs. same self.now tabs ≡ true) }
+    {
+        Ok(Tabs {
+            block: cloned_block(alloc, &self.block)?,
+            titles: Lines::from_slice(alloc, self.titles.as_slice())?.into_vec(),
+            selected: self.selected,
+            style: self.style,
+            highlight_style: self.highlight_style,
+            divider: self.divider.clone(alloc)?,
+            padding_left: cloned_line(alloc, &self.padding_left)?,
+            padding_right: cloned_line(alloc, &self.padding_right)?,
+        })
     }
 
     // Whether the title of this number is selected.

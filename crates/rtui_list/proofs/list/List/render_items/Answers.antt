@@ -1,7 +1,7 @@
 use Rattle.std.proofs.Common.{◌≡◌, ◌+◌, false, true, sym, subst, arith}
 use Rattle.ratatui_core.proofs.{BufferLemmas.within-wider, WidgetLemmas.within-then}
 use Rattle.rtui_list.proofs.WindowLemmas.{rows-next}
-use Rattle.rtui_list.proofs.ItemLemmas.{item-fits, item-in, item-area, items-next, items-within}
+use Rattle.rtui_list.proofs.ItemLemmas.{item-fits, item-in, item-down, items-next, items-within}
 use Rattle.rtui_list.specs.Items.{IsShortItem}
 use Rattle.rtui_list.proofs.list.List.render_items.Goals as goal
 
@@ -30,21 +30,12 @@ overflow_add-used c =
 
 pub render_item-requires-clause-down : goal.render_item-requires-clause-down
 render_item-requires-clause-down c =
-    rw c.item_part-part.ensures (item-area c.args.self.now.direction c.args.inner c.loop-k.used c.height-rows.result
+    rw c.item_part-part.ensures (item-down c.args.self.now.direction c.args.inner c.loop-k.used c.height-rows.result
     c.requires.some
     (let fit = item-fits c.args.self.now.items.items c.args.inner.height c.args.offset c.args.count c.loop-k.k c.loop-k.used
     c.index-items-offset.result c.requires.items c.requires.fits (omega arith)
     (rw c.as_slice-items.ensures.value at c.index-items-offset.is) c.loop-k.invariant.used in
-    omega (arith, c.height-rows.ensures))).down
-
-pub render_item-requires-clause-inside : goal.render_item-requires-clause-inside
-render_item-requires-clause-inside c = λ p h.
-    rw c.loop-k.invariant.shown.area (c.requires.inside p
-    (item-in c.args.self.now.direction c.args.inner c.loop-k.used c.height-rows.result c.requires.some
-    (let fit = item-fits c.args.self.now.items.items c.args.inner.height c.args.offset c.args.count c.loop-k.k c.loop-k.used
-    c.index-items-offset.result c.requires.items c.requires.fits (omega arith)
-    (rw c.as_slice-items.ensures.value at c.index-items-offset.is) c.loop-k.invariant.used in
-    omega (arith, c.height-rows.ensures)) p (rw c.item_part-part.ensures at h)))
+    omega (arith, c.height-rows.ensures)))
 
 pub returns-in_err-render_item-clause-within : goal.returns-in_err-render_item-clause-within
 returns-in_err-render_item-clause-within c =

@@ -5,5 +5,4 @@ use Rattle.rtui_list.proofs.list.List.render_marks.Given as goal
 abbrev pub invariant-loop-j : goal.invariant-loop-j
 invariant-loop-j l =
     MakesParts l.j (part_row l.fn.part)
-    (λ j. MarksRow l.fn.self.highlight_symbol.now l.fn.style (is_marked l.fn.self l.fn.is_selected j)
-    (part_row l.fn.part j)) l.fn.buf l.buf
+    (λ j. MarksRow l.fn.self.highlight_symbol (is_marked l.fn.self l.fn.is_selected j) (part_row l.fn.part j)) l.fn.buf l.buf
