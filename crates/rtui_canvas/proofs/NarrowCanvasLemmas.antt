@@ -21,8 +21,8 @@ use Rattle.rtui_dots.specs.Grids.{Dot as GridDot, has_point, has_dot, far, dot_n
 use Rattle.rtui_dots.specs.Grids.{no_dots, with_dot, with_dots, empty_grid, braille_dots}
 use Rattle.rtui_dots.specs.Layers.{layers_of}
 use Rattle.rtui_canvas.specs.{declared.canvas.Canvas.Canvas, declared.label.Label.Label}
-use Rattle.rtui_canvas.specs.Canvases.{dot_mark, in_color, under_dots, shown_at, ShowsLayers, RendersIf, RendersLabels, label_area}
-use Rattle.rtui_canvas.specs.Canvases.{scale_of, ShowsCanvas, RendersCanvas, HasNarrowDots}
+use Rattle.rtui_canvas.specs.Canvases.{dot_mark, in_color, under_dots, shown_at, ShowsLayers, RendersIf}
+use Rattle.rtui_canvas.specs.Canvases.{RendersLabels, label_area, scale_of, ShowsCanvas, RendersCanvas, HasNarrowDots}
 
 -- each Braille character takes at most one column
 abbrev is_narrow_braille : ℕ → Bool
@@ -84,7 +84,9 @@ or-next base n all below to = ⊎_elim below (λ (from : base ≤ n). at-run bas
 pub braille-narrow : HasNarrowDots Braille
 braille-narrow n lt =
     let e : is_narrow_braille n ≡ true =
-    or-next 224 n run-7 (or-next 192 n run-6 (or-next 160 n run-5 (or-next 128 n run-4 (or-next 96 n run-3 (or-next 64 n run-2 (or-next 32 n run-1 (or-next 0 n run-0 (λ (none : n < 0). absurd (omega arith))))))))) (omega arith)
+    or-next 224 n run-7 (or-next 192 n run-6 (or-next 160 n run-5 (or-next 128 n run-4
+    (or-next 96 n run-3 (or-next 64 n run-2 (or-next 32 n run-1 (or-next 0 n run-0
+    (λ (none : n < 0). absurd (omega arith))))))))) (omega arith)
     in grind (arith, nat_tests, e)
 
 -- and each other mark

@@ -13,10 +13,6 @@ use Rattle.rtui_dots.proofs.GridLemmas.{with_dots-append}
 pub quotient : (whole n r total : ℕ) → r < whole → r + whole * n ≡ total → total / whole ≡ n
 quotient whole n r total lt e = grind arith
 
--- a line goes across by at most as many places as along
-pub gone-few : (long short k : ℕ) → short ≤ long → 0 < long → gone_after long short k ≤ k
-gone-few long short k le some = grind arith
-
 -- a step more
 pub dots_from-more : (f : ℕ → Dot) (k n m : ℕ) → n ≡ suc m → dots_from f k n ≡ f k ∷ dots_from f (k + 1) m
 dots_from-more f k n m e = ap (dots_from f k) e
