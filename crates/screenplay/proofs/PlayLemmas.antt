@@ -1,6 +1,6 @@
 -- A terminal in the middle of a play: its start, its sizes, its frames and its clears.
 use Rattle.std.proofs.Common.{◌≡◌, ℕ, ◌+◌, ◌-◌, ◌<◌, min, nat_lt, List, [], ◌++◌, map, Option, Some, None, refl, sym, ap, ap₂}
-use Rattle.std.proofs.Common.{subst, ◌∙◌, inl, inr, arith, ◌||◌}
+use Rattle.std.proofs.Common.{subst, ◌∙◌, inl, inr, arith, ◌||◌, ◌∷◌, zero, suc, replicate, true, false, if◌then◌else◌}
 use Rattle.std.specs.List.{range_with_len}
 use Rattle.std.proofs.lemmas.{Bool.cases_lt, Bool.Decides.nat_tests}
 use Rattle.rtui_geometry.specs.{declared.rect.Rect.Rect, declared.size.Size.Size}
@@ -8,12 +8,13 @@ use Rattle.rtui_text.specs.Text.{TextData}
 use Rattle.rtui_buffer.specs.{BufferData.BufferData, Shown.IsSettledBuffer, Shown.ShowsBuffer}
 use Rattle.rtui_backend.proofs.ScrollLemmas.{above_kept, above_same}
 use Rattle.rtui_backend.specs.Screen.{Screen, IsBlankScreen, TakesSize, IsOnScreen, IsWithin, row_of, rows_above, screen_area}
-use Rattle.rtui_backend.specs.Screen.{size_of}
+use Rattle.rtui_backend.specs.Screen.{size_of, seen}
 use Rattle.rtui_backend.specs.{CellGrid.AreUnmarked, TestBackend.screen_of, declared.test.TestBackend.TestBackend}
 use Rattle.rtui_viewport.specs.declared.viewport.Viewport.{Viewport}
 use Rattle.rtui_viewport.specs.declared.viewport.Viewport.TheVariants.{Fullscreen, Inline, Fixed}
 use Rattle.rtui_viewport.specs.{Viewports.IsFixed, Viewports.IsInline, Areas.KeepsOutside, Areas.IsBlankOver, Areas.Empties}
-use Rattle.rtui_viewport.specs.Placing.{area_in, raised, inline_area, rows_scrolled}
+use Rattle.rtui_viewport.specs.Placing.{area_in, raised, inline_area, inline_top, rows_scrolled}
+use Rattle.rtui_viewport.specs.Sizing.{first_area}
 use Rattle.rtui_viewport.specs.{Clearing.HasPlace, Clearing.ClearsArea, Clearing.is_emptied, Lying.FitsSize, Lying.MayLie}
 use Rattle.rtui_viewport.specs.{Lying.at_corner}
 use Rattle.rtui_viewport.proofs.ClearLemmas.{blank_over}
@@ -23,6 +24,9 @@ use Rattle.rtui_terminal.proofs.RestLemmas.{rests-started, rests-applied, rests-
 use Rattle.rtui_terminal.proofs.RestLemmas.{rests-known, rests-takes, rests-inserted}
 use Rattle.rtui_terminal.specs.{Insertion.inserted_area, Writing.Applies, Clearing.ClearsViewport, Resizing.Resizes}
 use Rattle.screenplay.specs.Run.{stage_size, GoesOn, plain_screen, rows_above_view, IsGoodStage, IsFrame, IsStart}
+use Rattle.screenplay.specs.Run.{first_viewport, first_rows}
+use Rattle.rtui_cell.specs.Look.{empty_look}
+use Rattle.rtui_geometry.specs.declared.position.Position.{Position}
 use Rattle.screenplay.specs.Run.{KeepsSurroundings, size_after, IsCauseOfStep, View, row_count, text_area}
 use Rattle.screenplay.proofs.FrameLemmas.{AreUnmarked-emptied, AreUnmarked-frame, shown_again}
 use Rattle.screenplay.specs.Playing.{IsPlaying, view_in, TakesNewSize, IsSizedFor, InsertsBuffer, Plays}
@@ -31,14 +35,52 @@ use Rattle.screenplay.specs.{declared.scene.PlayCause.TheVariants.Unsettled}
 use Rattle.screenplay.specs.declared.scene.Stage.{Stage}
 use Rattle.screenplay.specs.declared.scene.Step.TheVariants as steps
 
--- the start
+-- ---- the start
+
+-- a list of one value
+all_same : {X : Type 0} (f : ℕ → X) (x : X) (a n : ℕ) → ((i : ℕ) → f i ≡ x) → map f (range_with_len a n) ≡ replicate n x
+all_same f x a zero same = refl
+all_same f x a (suc n) same = ap₂ (λ y ys. y ∷ ys) (same a) (all_same f x (a + 1) n same)
+
+module _ (w h : ℕ) (s : Screen) (blank : IsBlankScreen w h s) where
+  corner_y : s.cursor_y ≡ 0
+  corner_y = ap (λ (p : Position). p.y) blank.cursor
+
+  started_area : (kind : Viewport) → area_in kind (first_area kind s) 0 s.cursor_y ≡ first_viewport kind (size_of s)
+  started_area Fullscreen = refl
+  started_area (Inline n) = ap (λ y. record { x = 0; y = y; width = s.width; height = min n s.height }) (top s.cursor_y corner_y)
+    where
+      top : (r : ℕ) → r ≡ 0 → inline_top n s.height 0 r ≡ 0
+      top r e = omega arith
+  started_area (Fixed r) = refl
+
+  started_rows : (kind : Viewport) → 0 < h → FitsSize kind (record { width = w; height = h })
+      → rows_scrolled kind 0 s ≡ first_rows kind (record { width = w; height = h })
+  started_rows Fullscreen some good = refl
+  started_rows (Inline n) some good = let e = corner_y in let f = blank.height in grind (arith, nat_tests)
+  started_rows (Fixed r) some good = refl
+
+  seen_blank : (a b : ℕ) → seen s a b ≡ empty_look
+  seen_blank a b = elim (nat_lt b s.height) as (λ t. (if t then s.grid a b else empty_look) ≡ empty_look) [
+    | true ↦ blank.grid a b
+    | false ↦ refl
+  ]
+
+  blank_rows : (k : ℕ) → rows_above s k ≡ replicate k (replicate w empty_look)
+  blank_rows k =
+      ap (λ xs. xs ++ map (row_of s) (range_with_len 0 k)) blank.history
+      ∙ all_same (row_of s) (replicate w empty_look) 0 k
+      (λ b. all_same (λ a. seen s a b) empty_look 0 s.width (λ a. seen_blank a b)
+      ∙ ap (λ n. replicate n empty_look) blank.width)
+
 pub IsPlaying-started : (stage : Stage) (b : TestBackend) (t : TerminalData TestBackend) → IsGoodStage stage
     → IsBlankScreen stage.width stage.height (screen_of b) → Starts screen_of stage.viewport b t
     → IsPlaying stage t × IsStart stage (view_in t)
 IsPlaying-started stage b t good blank starts =
     let s : Screen = screen_of b in
+    let u : Screen = screen_of t.backend in
     let kind = stage.viewport in
-    let scrolls = starts.scrolls in
+    let moved = starts.scrolls in
     let own : size_of s ≡ stage_size stage = rw (blank.width, blank.height) refl in (
       record {
         rest = rests-started screen_of kind b t (subst (FitsSize kind) (sym own) good.viewport)
@@ -46,17 +88,14 @@ IsPlaying-started stage b t good blank starts =
         plain = AreUnmarked-emptied t.viewport_area t.previous starts.previous;
       },
       record {
-        blank = s;
-        is_blank = blank;
-        viewport = starts.viewport_area ∙ ap (λ r. area_in kind r 0 s.cursor_y) starts.last_known_area;
-        scrolls = record {
-          history = scrolls.history;
-          width = scrolls.width;
-          height = scrolls.height;
-          grid = scrolls.grid;
-          visible = sym blank.visible;
-          written = sym blank.written;
-        };
+        size = ap₂ (λ m n. record { width = m; height = n }) (moved.width ∙ blank.width) (moved.height ∙ blank.height);
+        viewport = starts.viewport_area ∙ ap (λ r. area_in kind r 0 s.cursor_y) starts.last_known_area
+            ∙ started_area stage.width stage.height s blank kind ∙ ap (first_viewport kind) own;
+        history = moved.history ∙ blank_rows stage.width stage.height s blank _
+            ∙ ap (λ k. replicate k (replicate stage.width empty_look))
+            (started_rows stage.width stage.height s blank kind good.height good.viewport);
+        blank = λ a c a_in c_in. moved.grid a c (omega (arith, a_in, blank.width)) (omega (arith, c_in, blank.height))
+            ∙ seen_blank stage.width stage.height s blank a _;
       },
     )
 

@@ -1,7 +1,7 @@
 -- From the bytes of a script to what is printed, or to a fault.
 use Rattle.std.specs.Prelude.{◌≡◌, ℕ, List, [], ◌∷◌, ◌++◌, Option, Some, codes, MatchOption}
 use Rattle.std.specs.{Fmt.decimal, Str.IsUtf8, Str.Lines.lines, Io.KnownBytes.Appends}
-use Rattle.screenplay.specs.{Script.IsFirstBadLine, Script.script_of, Run.IsRun, Run.EndsEarly}
+use Rattle.screenplay.specs.{Script.IsFirstBadLine, Script.IsScriptOf, Run.IsRun, Run.EndsEarly}
 use Rattle.screenplay.specs.{Run.view_of_scene, Print.printed_from, Print.steps_of}
 use Rattle.screenplay.specs.{declared.act.Act.Act, declared.script.Script.Script, declared.scene.Scene.Scene}
 use Rattle.screenplay.specs.{declared.scene.Stage.Stage}
@@ -14,7 +14,7 @@ use Rattle.screenplay.specs.declared.fault.RunFault.TheVariants.{Write}
 -- the bytes are this script
 pub record IsScript (bytes : List ℕ) (script : Script) : Type 0 where
   pub text : IsUtf8 bytes
-  pub is : script_of (lines bytes) ≡ Some script
+  pub is : IsScriptOf (lines bytes) script
 
 -- a run of the acts prints this text
 abbrev pub PrintsActs : Stage → List Act → List ℕ → Type 0

@@ -1,4 +1,5 @@
 pub mod Script
+pub mod Inner
 pub mod Puts
 pub mod Run
 pub mod Appending

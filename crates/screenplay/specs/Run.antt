@@ -1,20 +1,19 @@
 -- Runs: a scene at the start and one after each step.
-use Rattle.std.specs.Prelude.{◌≡◌, ℕ, ◌+◌, ◌-◌, ◌<◌, min, true, List, [], ◌∷◌, ◌++◌, map, length, Option}
-use Rattle.std.specs.Prelude.{None, Some}
+use Rattle.std.specs.Prelude.{◌≡◌, ℕ, ◌+◌, ◌-◌, ◌<◌, min, true, List, [], ◌∷◌, ◌++◌, map, length, replicate}
+use Rattle.std.specs.Prelude.{Option, None, Some}
 use Rattle.rtui_geometry.specs.{declared.rect.Rect.Rect, declared.size.Size.Size, Rect.EdgesFit}
-use Rattle.rtui_cell.specs.Look.{Look, look_of}
+use Rattle.rtui_cell.specs.Look.{Look, look_of, empty_look}
 use Rattle.rtui_text.specs.Text.{TextData}
 use Rattle.rtui_buffer.specs.{BufferData.BufferData, BufferData.IsEmptied, Shown.IsSettledBuffer}
 use Rattle.rtui_buffer.specs.{Shown.ShowsBuffer}
 use Rattle.rtui_widgets.specs.Rendering.{RendersText}
-use Rattle.rtui_backend.specs.Screen.{Screen, IsBlankScreen, KeepsSizeAndHistory, IsOnScreen, Scrolls}
+use Rattle.rtui_backend.specs.Screen.{Screen, KeepsSizeAndHistory, IsOnScreen}
 use Rattle.rtui_backend.specs.Screen.{TakesSize, size_of, screen_area, rows_above}
 use Rattle.rtui_backend.specs.CellGrid.{grid_of, AreUnmarked, AreUnmarkedRows}
 use Rattle.rtui_viewport.specs.declared.viewport.Viewport.{Viewport}
-use Rattle.rtui_viewport.specs.declared.viewport.Viewport.TheVariants.{Fixed}
+use Rattle.rtui_viewport.specs.declared.viewport.Viewport.TheVariants.{Fullscreen, Inline, Fixed}
 use Rattle.rtui_viewport.specs.{Viewports.IsInline, Lying.FitsSize, Lying.MayLie, Areas.KeepsOutside}
 use Rattle.rtui_viewport.specs.{Areas.IsBlankOver, Areas.IsBlankBelow}
-use Rattle.rtui_viewport.specs.{Sizing.first_area, Placing.area_in, Placing.rows_scrolled}
 use Rattle.rtui_insert.specs.Insertion.{AppendsRows}
 use Rattle.screenplay.specs.{Puts.with_puts, declared.scene.Stage.Stage, declared.scene.Scene.Scene}
 use Rattle.screenplay.specs.{declared.scene.Step.Step}
@@ -80,13 +79,24 @@ pub record IsFrame (area : Rect) (text : TextData) (puts : List (ℕ × ℕ × �
   pub renders : RendersText text area blank rendered
   pub painted : frame ≡ with_puts puts rendered
 
--- at the start: the viewport was placed on a new screen of the stage's size, off which the rows scrolled that
--- an inline one has no room for
+-- where the viewport is at the start: in the corner, unless it is fixed
+abbrev pub first_viewport : Viewport → Size → Rect
+first_viewport Fullscreen size = record { x = 0; y = 0; width = size.width; height = size.height }
+first_viewport (Inline n) size = record { x = 0; y = 0; width = size.width; height = min n size.height }
+first_viewport (Fixed r) size = r
+
+-- how many blank rows scrolled off then: those that an inline viewport wants and the screen hasn't
+abbrev pub first_rows : Viewport → Size → ℕ
+first_rows (Inline n) size = n - size.height
+first_rows other size = 0
+
+-- at the start all is blank
 pub record IsStart (stage : Stage) (s : View) : Type 0 where
-  pub blank : Screen
-  pub is_blank : IsBlankScreen stage.width stage.height blank
-  pub viewport : s.viewport ≡ area_in stage.viewport (first_area stage.viewport blank) 0 blank.cursor_y
-  pub scrolls : Scrolls blank (rows_scrolled stage.viewport 0 blank) s.screen
+  pub size : view_size s ≡ stage_size stage
+  pub viewport : s.viewport ≡ first_viewport stage.viewport (stage_size stage)
+  pub history : s.screen.history
+      ≡ replicate (first_rows stage.viewport (stage_size stage)) (replicate stage.width empty_look)
+  pub blank : (a b : ℕ) → a < stage.width → b < stage.height → s.screen.grid a b ≡ empty_look
 
 -- the size, the viewport, the history and all columns outside the viewport stay
 pub record KeepsSurroundings (old new : View) : Type 0 where

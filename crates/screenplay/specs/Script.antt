@@ -1,11 +1,11 @@
 -- The script grammar: what a line commands, what stands after it, and which line is the first bad one.
-use Rattle.std.specs.Prelude.{◌≡◌, ℕ, ◌+◌, Bool, true, false, ◌&&◌, ◌==◌, not, nat_lt, nat_le, if◌then◌else◌}
-use Rattle.std.specs.Prelude.{List, [], ◌∷◌, ◌++◌, length, codes, chars, Option, Some, None, option_map}
-use Rattle.std.specs.Prelude.{option_and_then, slice_get, encode_utf8}
-use Rattle.std.specs.{Char.is_control, List.fold, Str.bytes_eq}
+use Rattle.std.specs.Prelude.{◌≡◌, ℕ, ◌+◌, Bool, true, false, ◌&&◌, ◌||◌, ◌==◌, not, nat_lt, nat_le}
+use Rattle.std.specs.Prelude.{zero, suc, if◌then◌else◌, List, [], ◌∷◌, ◌++◌, length, reverse, codes, chars}
+use Rattle.std.specs.Prelude.{Option, Some, None, option_map, option_and_then, slice_get, encode_utf8}
+use Rattle.std.specs.{Char.is_control, List.filter_map, List.list_any, Option.option_map_or, Str.bytes_eq}
 use Rattle.rtui_geometry.specs.{declared.rect.Rect.Rect, declared.size.Size.Size}
 use Rattle.rtui_cell.specs.Width.{text_width}
-use Rattle.rtui_text.specs.Text.{raw_line, text_of}
+use Rattle.rtui_text.specs.Text.{LineData, raw_line, text_of}
 use Rattle.rtui_viewport.specs.declared.viewport.Viewport.{Viewport}
 use Rattle.rtui_viewport.specs.declared.viewport.Viewport.TheVariants.{Fullscreen, Inline, Fixed}
 use Rattle.script_words.specs.Words.{first_word, after_word, parsed_number, parsed_size, size_by}
@@ -17,7 +17,6 @@ use Rattle.screenplay.specs.declared.script.Command.TheVariants.{Insert, Clear, 
 use Rattle.screenplay.specs.declared.script.ScriptError.{ScriptError}
 use Rattle.screenplay.specs.{declared.script.ScriptError.TheVariants.Line}
 use Rattle.screenplay.specs.{declared.script.ScriptError.TheVariants.Memory, declared.scene.Stage.Stage}
-use Rattle.screenplay.specs.declared.scene.Step.{Step}
 use Rattle.screenplay.specs.declared.scene.Step.TheVariants as steps
 
 -- the first character of a text, if it is all of it, takes one column and isn't a control character
@@ -25,6 +24,11 @@ unfoldable pub char_of : List ℕ → Option ℕ
 char_of text =
     option_and_then (λ c. if (length text == length (encode_utf8 c)) && (text_width text == 1) && not
     (is_control c) then Some c else None) (slice_get (chars text) 0)
+
+-- the first n words of a text, and what comes after them
+abbrev pub fields : ℕ → List ℕ → List (List ℕ)
+fields zero text = text ∷ []
+fields (suc n) text = first_word text ∷ fields n (after_word text)
 
 -- four numbers as a rectangle
 abbrev pub rect_by : Option ℕ → Option ℕ → Option ℕ → Option ℕ → Option Rect
@@ -58,31 +62,37 @@ fixed_by (Some size) (Some r) =
     (SetStage (stage_with size (Fixed r))) else None
 fixed_by a b = None
 
+abbrev pub inline_in : List (List ℕ) → Option Command
+inline_in (w ∷ h ∷ rows ∷ []) = inline_by (size_by (parsed_number w) (parsed_number h)) (parsed_number rows)
+inline_in other = None
+
+abbrev pub rect_in : List (List ℕ) → Option Rect
+rect_in (x ∷ y ∷ w ∷ h ∷ []) = rect_by (parsed_number x) (parsed_number y) (parsed_number w) (parsed_number h)
+rect_in other = None
+
+abbrev pub put_in : List (List ℕ) → Option Command
+put_in (x ∷ y ∷ c ∷ []) = put_by (parsed_number x) (parsed_number y) (char_of c)
+put_in other = None
+
 -- `W H N`
 unfoldable pub inline_of : List ℕ → Option Command
-inline_of arguments =
-    inline_by (size_by (parsed_number (first_word arguments))
-    (parsed_number (first_word (after_word arguments))))
-    (parsed_number (after_word (after_word arguments)))
+inline_of arguments = inline_in (fields 2 arguments)
 
 -- `x y w h`
 unfoldable pub rect_of : List ℕ → Option Rect
-rect_of arguments =
-    let rest = after_word (after_word arguments) in
-    rect_by (parsed_number (first_word arguments)) (parsed_number (first_word (after_word arguments)))
-    (parsed_number (first_word rest)) (parsed_number (after_word rest))
+rect_of arguments = rect_in (fields 3 arguments)
+
+abbrev pub fixed_in : List (List ℕ) → Option Command
+fixed_in (w ∷ h ∷ area ∷ []) = fixed_by (size_by (parsed_number w) (parsed_number h)) (rect_of area)
+fixed_in other = None
 
 -- `W H x y w h`
 unfoldable pub fixed_of : List ℕ → Option Command
-fixed_of arguments =
-    fixed_by (size_by (parsed_number (first_word arguments))
-    (parsed_number (first_word (after_word arguments)))) (rect_of (after_word (after_word arguments)))
+fixed_of arguments = fixed_in (fields 2 arguments)
 
 -- `X Y C`, where C is the rest of the line
 unfoldable pub put_of : List ℕ → Option Command
-put_of arguments =
-    put_by (parsed_number (first_word arguments)) (parsed_number (first_word (after_word arguments)))
-    (char_of (after_word (after_word arguments)))
+put_of arguments = put_in (fields 2 arguments)
 
 -- the command of a line with arguments
 unfoldable pub command_with : List ℕ → List ℕ → Option Command
@@ -109,63 +119,119 @@ abbrev pub IsGoodCommand : Command → Type 0
 IsGoodCommand (SetStage stage) = IsGoodStage stage
 IsGoodCommand other = Unit {0}
 
--- a script of no lines
-abbrev pub nothing : Script
-nothing = record { stage = None; acts = []; size = None; text = text_of []; puts = [] }
+-- ---- the list of commands
 
--- the draw of what waits
-abbrev pub draw_of : Script → Step
-draw_of s = steps.Draw s.size s.text s.puts
+-- the commands of some lines, in order
+abbrev pub commands_of : List (List ℕ) → List Command
+commands_of lines = filter_map command_of lines
 
--- the script, of which no text waits
-abbrev pub without_text : Script → Script
-without_text s = record s { text = text_of [] }
+-- the commands after the last one of a kind
+abbrev pub since : (Command → Bool) → List Command → List Command
+since is [] = []
+since is (c ∷ cs) = if list_any is cs then since is cs else (if is c then cs else c ∷ cs)
 
--- the script with one act more
-abbrev pub with_act : Act → Script → Script
-with_act act s = record s { acts = s.acts ++ act ∷ [] }
+abbrev pub is_draw : Command → Bool
+is_draw Draw = true
+is_draw other = false
+
+-- whether a command takes the text that waits
+abbrev pub takes_text : Command → Bool
+takes_text Draw = true
+takes_text Insert = true
+takes_text other = false
+
+abbrev pub size_in : Command → Option Size
+size_in (TakeSize size) = Some size
+size_in other = None
+
+abbrev pub line_in : Command → Option LineData
+line_in (AddText line) = Some (raw_line line)
+line_in other = None
+
+abbrev pub place_in : Command → Option (ℕ × ℕ × ℕ)
+place_in (Put x y c) = Some (x, y, c)
+place_in other = None
+
+-- the last size since the last draw, if one was given
+abbrev pub size_waiting : List Command → Option Size
+size_waiting cs = slice_get (reverse (filter_map size_in (since is_draw cs))) 0
+
+-- the lines of text since the last draw or insertion
+abbrev pub lines_waiting : List Command → List LineData
+lines_waiting cs = filter_map line_in (since takes_text cs)
+
+-- the puts since the last draw
+abbrev pub puts_waiting : List Command → List (ℕ × ℕ × ℕ)
+puts_waiting cs = filter_map place_in (since is_draw cs)
+
+abbrev pub stage_in : Command → Option Stage
+stage_in (SetStage stage) = Some stage
+stage_in other = None
+
+-- the stage: the first command sets it
+abbrev pub stage_of : List Command → Option Stage
+stage_of [] = None
+stage_of (c ∷ cs) = stage_in c
 
 abbrev pub is_fixed : Viewport → Bool
 is_fixed (Fixed r) = true
 is_fixed other = false
 
--- the script after a command, if the command may stand on its stage: one that sets it on none, and any other
--- on one, but a size only if the viewport isn't fixed, and an insertion of at most 65535 lines
-abbrev pub after_on : Option Stage → Command → Script → Option Script
-after_on None (SetStage stage) s = Some (record s { stage = Some stage })
-after_on None other s = None
-after_on (Some stage) (SetStage other) s = None
-after_on (Some stage) (TakeSize size) s = if is_fixed stage.viewport then None else Some
-    (record s { size = Some size })
-after_on (Some stage) (Put x y c) s = Some (record s { puts = s.puts ++ (x, y, c) ∷ [] })
-after_on (Some stage) (AddText line) s =
-    Some (record s { text = record s.text { lines = s.text.lines ++ raw_line line ∷ [] } })
-after_on (Some stage) Draw s =
-    Some (with_act (acts.Play (draw_of s)) (record (without_text s) { size = None; puts = [] }))
-after_on (Some stage) Insert s = if nat_le (length s.text.lines) 65535 then Some
-    (with_act (acts.Play (steps.Insert s.text)) (without_text s)) else None
-after_on (Some stage) Clear s = Some (with_act (acts.Play steps.Clear) s)
-after_on (Some stage) Show s = Some (with_act acts.Show s)
+-- whether a stage's viewport stands still
+abbrev pub stands_still : Option Stage → Bool
+stands_still (Some stage) = is_fixed stage.viewport
+stands_still None = false
 
--- the script after a line, if that is good: it is empty, or a command that may stand there
-abbrev pub after_line : List ℕ → Script → Option Script
-after_line line s = if length line == 0 then Some s else option_and_then (λ c. after_on s.stage c s)
-    (command_of line)
+-- whether a command may stand after these: the first one sets the stage, and no other does; a size is given
+-- only to a viewport that isn't fixed, and at most 65535 lines are inserted
+abbrev pub may_follow : List Command → Command → Bool
+may_follow before (SetStage stage) = length before == 0
+may_follow before (TakeSize size) = nat_lt 0 (length before) && not (stands_still (stage_of before))
+may_follow before Insert = nat_lt 0 (length before) && nat_le (length (lines_waiting before)) 65535
+may_follow before other = nat_lt 0 (length before)
 
--- the script that some lines are, if all of them are good
-abbrev pub script_of : List (List ℕ) → Option Script
-script_of lines = fold (λ s line. option_and_then (after_line line) s) (Some nothing) lines
+-- the act that a command makes of what waits
+abbrev pub act_after : List Command → Command → List Act
+act_after before Draw =
+    acts.Play (steps.Draw (size_waiting before) (text_of (lines_waiting before)) (puts_waiting before)) ∷ []
+act_after before Insert = acts.Play (steps.Insert (text_of (lines_waiting before))) ∷ []
+act_after before Clear = acts.Play steps.Clear ∷ []
+act_after before Show = acts.Show ∷ []
+act_after before other = []
+
+-- the acts of commands that stand after others
+abbrev pub acts_after : List Command → List Command → List Act
+acts_after before [] = []
+acts_after before (c ∷ cs) = act_after before c ++ acts_after (before ++ c ∷ []) cs
+
+-- ---- lines
+
+-- a line is good after others: it is empty, or a command that may stand there
+abbrev pub is_good_line : List (List ℕ) → List ℕ → Bool
+is_good_line before line =
+    (length line == 0) || option_map_or (may_follow (commands_of before)) (command_of line) false
+
+-- each of these lines is good after those before it
+abbrev pub AreGoodAfter : List (List ℕ) → List (List ℕ) → Type 0
+AreGoodAfter before [] = Unit {0}
+AreGoodAfter before (line ∷ lines) = (is_good_line before line ≡ true)
+    × AreGoodAfter (before ++ line ∷ []) lines
+
+-- the lines are good, and the script has their stage and their acts
+pub record IsScriptOf (lines : List (List ℕ)) (s : Script) : Type 0 where
+  pub good : AreGoodAfter [] lines
+  pub stage : s.stage ≡ stage_of (commands_of lines)
+  pub acts : s.acts ≡ acts_after [] (commands_of lines)
 
 -- line n, counted from 1, is bad, and those before it are good
 pub record IsFirstBadLine (lines : List (List ℕ)) (n : ℕ) : Type 0 where
-  pub good : List (List ℕ)
+  pub before : List (List ℕ)
   pub bad : List ℕ
   pub rest : List (List ℕ)
-  pub parts : lines ≡ good ++ bad ∷ rest
-  pub count : n ≡ length good + 1
-  pub before : Script
-  pub read : script_of good ≡ Some before
-  pub refused : after_line bad before ≡ None
+  pub parts : lines ≡ before ++ bad ∷ rest
+  pub count : n ≡ length before + 1
+  pub good : AreGoodAfter [] before
+  pub refused : is_good_line before bad ≡ false
 
 -- a script is refused at its first bad line, or for want of memory
 abbrev pub IsRefusedScript : List (List ℕ) → ScriptError → Type 0

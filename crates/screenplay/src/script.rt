@@ -9,8 +9,8 @@ ghost use Rattle.rtui_text.specs.Text.{raw_line};
 ghost use Rattle.screenplay.specs.Run.{IsGoodStage};
 ghost use Rattle.screenplay.specs.Script.{char_of, rect_of, screen_command, inline_of, fixed_of, put_of};
 ghost use Rattle.screenplay.specs.Script.{command_with, command_of, IsGoodCommand};
-ghost use Rattle.screenplay.specs.Script.{nothing, draw_of, without_text, after_on, after_line, script_of};
-ghost use Rattle.screenplay.specs.Script.{IsRefusedScript};
+ghost use Rattle.screenplay.specs.Script.{IsScriptOf, IsRefusedScript};
+ghost use Rattle.screenplay.specs.Inner.{nothing, draw_of, without_text, after_on, after_line};
 
 use crate::act::{Act, Acts};
 use crate::scene::{Puts, Stage, Step};
@@ -378,7 +378,7 @@ impl<'a> Script<'a> {
 /// - `Line`: this line is the first bad one.
 /// - `Memory`: memory was refused.
 pub fn read_script(alloc: Global, text: &str) -> Result<Script<'_>, ScriptError>
-    ensures ok { IfOk result (λ script. script_of (lines text.now) ≡ Some script) }
+    ensures ok { IfOk result (IsScriptOf (lines text.now)) }
     ensures stage { IfOk result (λ script. IfSome script.stage IsGoodStage) }
     ensures err { IfErr result (IsRefusedScript (lines text.now)) }
 {

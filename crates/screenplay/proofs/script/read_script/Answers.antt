@@ -3,7 +3,7 @@ use Rattle.std.proofs.lemmas.{Grind.common_steps, List.map-append}
 use Rattle.std.proofs.lemmas.Iterator.Consumers.{YieldsList-so_far, YieldsList-turn, YieldsList-end}
 use Rattle.std.proofs.lemmas.Iterator.Splits.{YieldsList-from_lines}
 use Rattle.std.specs.{Borrow.Bor, Str.Lines.lines}
-use Rattle.screenplay.proofs.ScriptLemmas.{script_of-push, IsFirstBadLine-read}
+use Rattle.screenplay.proofs.ScriptLemmas.{line-read, read-all, IsFirstBadLine-read}
 use Rattle.screenplay.proofs.script.read_script.Goals as goal
 
 pub loop-line-preserved : goal.loop-line-preserved
@@ -12,8 +12,7 @@ loop-line-preserved c =
     let done = map (λ (line : Bor (List ℕ)). line.now) c.loop-line.yielded in
     record {
       count = grind (arith, common_steps);
-      read = rw map-append (script_of-push done c.in-Some.line.now _ _ c.loop-line.invariant.read
-          (rw c.if-not-branch.false at taken));
+      read = rw map-append (line-read done c.in-Some.line.now _ _ c.loop-line.invariant.read (rw c.if-not-branch.false at taken));
       stage = c.in_ok-take_line.ensures.stage c.loop-line.invariant.stage;
     }
 
@@ -33,4 +32,4 @@ pub returns-clause-ok : goal.returns-clause-ok
 returns-clause-ok c =
     let road = YieldsList-from_lines c.args.text.now (cc) in
     let end = YieldsList-end road c.loop-line.yielded _ c.loop-line.yielded_by _ _ c.in-None.is c.next.ensures.steps in
-    rw end.0 at c.loop-line.invariant.read
+    rw end.0 at (read-all _ _ c.loop-line.invariant.read)

@@ -1,0 +1,51 @@
+-- A script as it is read, a line at a time: what stands after each.
+use Rattle.std.specs.Prelude.{◌==◌, nat_le, if◌then◌else◌, ℕ, List, [], ◌∷◌, ◌++◌, length, Option, Some, None}
+use Rattle.std.specs.Prelude.{option_and_then}
+use Rattle.rtui_text.specs.Text.{raw_line, text_of}
+use Rattle.screenplay.specs.{declared.act.Act.Act, declared.script.Command.Command}
+use Rattle.screenplay.specs.{declared.script.Script.Script}
+use Rattle.screenplay.specs.declared.act.Act.TheVariants as acts
+use Rattle.screenplay.specs.declared.script.Command.TheVariants.{SetStage, TakeSize, Put, AddText, Draw}
+use Rattle.screenplay.specs.declared.script.Command.TheVariants.{Insert, Clear, Show}
+use Rattle.screenplay.specs.{declared.scene.Stage.Stage, declared.scene.Step.Step}
+use Rattle.screenplay.specs.declared.scene.Step.TheVariants as steps
+use Rattle.screenplay.specs.Script.{command_of, is_fixed}
+
+-- a script of no lines
+abbrev pub nothing : Script
+nothing = record { stage = None; acts = []; size = None; text = text_of []; puts = [] }
+
+-- the draw of what waits
+abbrev pub draw_of : Script → Step
+draw_of s = steps.Draw s.size s.text s.puts
+
+-- the script, of which no text waits
+abbrev pub without_text : Script → Script
+without_text s = record s { text = text_of [] }
+
+-- the script with one act more
+abbrev pub with_act : Act → Script → Script
+with_act act s = record s { acts = s.acts ++ act ∷ [] }
+
+-- the script after a command, if the command may stand on its stage: one that sets it on none, and any other
+-- on one, but a size only if the viewport isn't fixed, and an insertion of at most 65535 lines
+abbrev pub after_on : Option Stage → Command → Script → Option Script
+after_on None (SetStage stage) s = Some (record s { stage = Some stage })
+after_on None other s = None
+after_on (Some stage) (SetStage other) s = None
+after_on (Some stage) (TakeSize size) s = if is_fixed stage.viewport then None else Some
+    (record s { size = Some size })
+after_on (Some stage) (Put x y c) s = Some (record s { puts = s.puts ++ (x, y, c) ∷ [] })
+after_on (Some stage) (AddText line) s =
+    Some (record s { text = record s.text { lines = s.text.lines ++ raw_line line ∷ [] } })
+after_on (Some stage) Draw s =
+    Some (with_act (acts.Play (draw_of s)) (record (without_text s) { size = None; puts = [] }))
+after_on (Some stage) Insert s = if nat_le (length s.text.lines) 65535 then Some
+    (with_act (acts.Play (steps.Insert s.text)) (without_text s)) else None
+after_on (Some stage) Clear s = Some (with_act (acts.Play steps.Clear) s)
+after_on (Some stage) Show s = Some (with_act acts.Show s)
+
+-- the script after a line, if that is good: it is empty, or a command that may stand there
+abbrev pub after_line : List ℕ → Script → Option Script
+after_line line s = if length line == 0 then Some s else option_and_then (λ c. after_on s.stage c s)
+    (command_of line)
