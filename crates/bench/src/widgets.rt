@@ -64,7 +64,7 @@ fn lists(alloc: Global, size: Size, count: u32) -> Done {
     let area = Rect::new(0, 0, size.width, size.height);
     let mut buffer = Buffer::empty(alloc, area)?;
     let list = List::new(items(alloc, count)?)
-        .highlight_symbol("> ")
+        .highlight_symbol(Line::raw(alloc, "> ")?)
         .highlight_style(Style::new().bg(Color::Blue));
     let mut state = ListState::default();
     for round in 0..size.count {

@@ -14,7 +14,7 @@ pub fn list(alloc: Global, frame: &mut Frame<'_>) -> Result<(), AllocError> {
     for fruit in ["apples", "cherries", "figs"] {
         items.push(ListItem::raw(alloc, fruit)?)?;
     }
-    let list = List::new(items).highlight_symbol("> ");
+    let list = List::new(items).highlight_symbol(Line::raw(alloc, "> ")?);
     let mut state = ListState::default().with_selected(Some(1));
     frame.render_stateful_widget(list, area, &mut state)
 }

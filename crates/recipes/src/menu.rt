@@ -3,6 +3,7 @@
 use ratatui_core::backend::Backend;
 use ratatui_core::style::{Modifier, Style};
 use ratatui_core::terminal::{Terminal, TerminalError};
+use ratatui_core::text::Line;
 use ratatui_widgets::{List, ListItem, ListState};
 use std::alloc::{AllocError, Global};
 
@@ -14,7 +15,7 @@ fn fruits(alloc: Global) -> Result<List<'static>, AllocError> {
     for fruit in FRUITS {
         items.push(ListItem::raw(alloc, fruit)?)?;
     }
-    Ok(List::new(items).highlight_symbol("> "))
+    Ok(List::new(items).highlight_symbol(Line::raw(alloc, "> ")?))
 }
 
 /// Draws the list over the whole viewport; the state says which item is selected, and keeps which

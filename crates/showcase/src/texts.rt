@@ -102,7 +102,7 @@ fn paint_list(alloc: Global, area: Rect, buf: &mut Buffer) -> Result<(), AllocEr
     let mut state = ListState::default().with_selected(Some(20));
     let list = List::new(items(alloc)?)
         .block(right_box(alloc)?)
-        .highlight_symbol("▶ ")
+        .highlight_symbol(Line::raw(alloc, "▶ ")?)
         .highlight_style(
             Style::new()
                 .bg(Color::Rgb(40, 60, 110))
