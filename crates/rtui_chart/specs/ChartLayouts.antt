@@ -5,11 +5,11 @@ use Rattle.ratatui_core.specs.{Layout.Rect, Text.LineData}
 use Rattle.ratatui_core.specs.declared.layout.HorizontalAlignment.{HorizontalAlignment}
 use Rattle.ratatui_core.specs.declared.layout.HorizontalAlignment.TheVariants.{Left, Center, Right}
 use Rattle.rtui_boxes.specs.Titles.{title_width}
-use Rattle.rtui_chart.specs.declared.{axis.Axis.Axis, layout.ChartLayout.ChartLayout}
+use Rattle.rtui_chart.specs.{declared.axis.Axis.Axis, declared.layout.ChartLayout.ChartLayout, Charts.axis_labels}
 
 -- whether an axis has labels; one without them isn't shown
 abbrev pub is_labelled : Axis → Bool
-is_labelled a = nat_lt 0 (length a.labels.now)
+is_labelled a = nat_lt 0 (length (axis_labels a))
 
 -- the columns of the widest of some lines, and of the first one
 abbrev pub widest_line : List LineData → ℕ
@@ -32,8 +32,8 @@ left_of_axis Right has_axis n = 0
 -- most a third
 abbrev pub columns_beside : Axis → Axis → ℕ → ℕ
 columns_beside x y width =
-    let below = left_of_axis x.labels_alignment (is_labelled y) (first_width x.labels.now) in
-    min (max (widest_line y.labels.now) below) (width / 3)
+    let below = left_of_axis x.labels_alignment (is_labelled y) (first_width (axis_labels x)) in
+    min (max (widest_line (axis_labels y)) below) (width / 3)
 
 -- the column of the axis at the left, the row of the axis below and that of its labels, if there is room for
 -- them

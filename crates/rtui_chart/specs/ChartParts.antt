@@ -12,6 +12,7 @@ use Rattle.rtui_dots.specs.declared.{drawing.Drawing.Drawing}
 use Rattle.rtui_dots.specs.declared.drawing.Drawing.TheVariants.{Points as PointsOf, Path as PathOf}
 use Rattle.rtui_dots.specs.declared.drawing.Drawing.TheVariants.{Bars as BarsOf}
 use Rattle.rtui_canvas.specs.{declared.canvas.Canvas.Canvas, Canvases.RendersCanvas}
+use Rattle.rtui_chart.specs.Charts.{axis_labels}
 use Rattle.rtui_chart.specs.declared.{axis.Axis.Axis, dataset.Dataset.Dataset, dataset.GraphType.GraphType}
 use Rattle.rtui_chart.specs.declared.{chart.Chart.Chart, layout.ChartLayout.ChartLayout}
 use Rattle.rtui_chart.specs.declared.dataset.GraphType.TheVariants.{Scatter, Line, Bar}
@@ -58,11 +59,11 @@ RendersUnless false f old new = f old new
 
 abbrev pub RendersXLabels : Axis → Rect → Rect → BufferData → BufferData → Type 0
 RendersXLabels a g r =
-    let n = length a.labels.now in
-    RendersUnless (nat_lt n 2) (RendersNumbered (x_label_at a g r n) 0 a.labels.now)
+    let n = length (axis_labels a) in
+    RendersUnless (nat_lt n 2) (RendersNumbered (x_label_at a g r n) 0 (axis_labels a))
 
 abbrev pub RendersYLabels : Axis → Rect → Rect → BufferData → BufferData → Type 0
-RendersYLabels a g r = RendersNumbered (y_label_at a g r (length a.labels.now)) 0 a.labels.now
+RendersYLabels a g r = RendersNumbered (y_label_at a g r (length (axis_labels a))) 0 (axis_labels a)
 
 -- a cell of an axis
 abbrev pub ruled_cell : Style → List ℕ → Position → Cell → Cell

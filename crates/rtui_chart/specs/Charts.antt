@@ -1,6 +1,6 @@
 -- Axes, data sets and charts, as they begin.
-use Rattle.std.specs.Prelude.{◌≡◌, List, [], Some, None, pos}
-use Rattle.ratatui_core.specs.Style.{new_style}
+use Rattle.std.specs.Prelude.{◌≡◌, List, [], Some, None, unwrap_or, pos}
+use Rattle.ratatui_core.specs.{Style.new_style, Text.LineData}
 use Rattle.ratatui_core.specs.declared.layout.HorizontalAlignment.TheVariants.{Left}
 use Rattle.ratatui_core.specs.declared.symbols.Marker.TheVariants.{Dot}
 use Rattle.rtui_chart.specs.declared.{axis.Axis.Axis, dataset.Dataset.Dataset, chart.Chart.Chart}
@@ -13,9 +13,13 @@ pub record IsNewAxis (a : Axis) : Type 0 where
   pub no_title : a.title ≡ None
   pub low : a.low ≡ pos 0
   pub high : a.high ≡ pos 0
-  pub no_labels : a.labels.now ≡ []
+  pub no_labels : a.labels ≡ None
   pub at_left : a.labels_alignment ≡ Left
   pub plain : a.style ≡ new_style
+
+-- the labels of an axis; one that was given none has none
+abbrev pub axis_labels : Axis → List LineData
+axis_labels a = unwrap_or a.labels []
 
 -- a data set of no points, without a name, as dots
 pub record IsNewDataset (d : Dataset) : Type 0 where

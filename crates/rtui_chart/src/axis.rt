@@ -1,25 +1,27 @@
 //! Axes.
 
-ghost use Rattle.std.specs.Prelude.{◌≡◌, Some, slice_index_or, pos};
-ghost use Rattle.rtui_chart.specs.Charts.{IsNewAxis};
+ghost use Rattle.std.specs.Prelude.{◌≡◌, Some, IfOk, slice_index_or, pos};
+ghost use Rattle.rtui_chart.specs.Charts.{IsNewAxis, axis_labels};
 
 use ratatui_core::layout::HorizontalAlignment;
 use ratatui_core::style::Style;
-use ratatui_core::text::Line;
+use ratatui_core::text::{Line, Lines};
+use rtui_boxes::cloned_line;
+use std::alloc::{AllocError, Global};
 
 /// An axis of a chart: the coordinates at its ends, and what stands beside it. It is shown if it
 /// has labels.
 ///
 /// ```
-/// let labels = [Line::raw(alloc, "0")?, Line::raw(alloc, "50")?, Line::raw(alloc, "100")?];
-/// let axis = Axis::new().bounds([0, 100]).labels(&labels);
+/// let labels = vec![in alloc; Line::raw(alloc, "0")?, Line::raw(alloc, "100")?]?;
+/// let axis = Axis::new().bounds([0, 100]).labels(labels);
 /// ```
-#[derive(Debug, Drop)]
+#[derive(Debug, PartialEq, Eq, Drop)]
 pub struct Axis<'a> {
     pub(crate) title: Option<Line<'a>>,
     pub(crate) low: i64,
     pub(crate) high: i64,
-    pub(crate) labels: &'a [Line<'a>],
+    labels: Option<Lines<'a>>,
     pub(crate) labels_alignment: HorizontalAlignment,
     pub(crate) style: Style,
 }
@@ -34,7 +36,7 @@ impl<'a> Axis<'a> {
             title: None,
             low: 0,
             high: 0,
-            labels: &[],
+            labels: None,
             labels_alignment: HorizontalAlignment::Left,
             style: Style::new(),
         }
@@ -43,46 +45,86 @@ impl<'a> Axis<'a> {
     /// The axis with a title, which stands over the dots: that of the axis below at its right end,
     /// that of the axis at the left in the first row. It is shown if there are more columns and at
     /// least three rows of them.
-    pub fn title(mut self, title: Line<'a>) -> Axis<'a>
+    pub fn title(self, title: Line<'a>) -> Axis<'a>
         ensures { result ≡ record self.entry { title = Some title.entry } }
     {
-        self.title = Some(title);
-        self
+        Axis {
+            title: Some(title),
+            ..self
+        }
     }
 
     /// The axis with these coordinates at its ends: from the left to the right, or from below up.
     /// No points are shown unless the first one is less.
-    pub fn bounds(mut self, bounds: [i64; 2]) -> Axis<'a>
+    pub fn bounds(self, bounds: [i64; 2]) -> Axis<'a>
         ensures { let low = slice_index_or bounds 0 (pos 0) in
             let high = slice_index_or bounds 1 (pos 0) in
             result ≡ record self.entry { low = low; high = high } }
     {
-        self.low = bounds[0];
-        self.high = bounds[1];
-        self
+        Axis {
+            low: bounds[0],
+            high: bounds[1],
+            ..self
+        }
     }
 
     /// The axis with these labels: from the left to the right, or from below up.
-    pub fn labels(self, labels: &'a [Line<'a>]) -> Axis<'a>
-        ensures { result ≡ record self.entry { labels = labels.entry } }
+    pub fn labels(self, labels: Vec<Line<'a>>) -> Axis<'a>
+        ensures { result ≡ record self.entry { labels = Some labels.entry.items } }
     {
-        Axis { labels, ..self }
+        Axis {
+            labels: Some(Lines::from(labels)),
+            ..self
+        }
     }
 
     /// The axis with its labels aligned so. Of the axis below only the first label goes by it: it
     /// ends left of the dots, is centred at their first column, or begins at the axis at the left.
-    pub fn labels_alignment(mut self, alignment: HorizontalAlignment) -> Axis<'a>
+    pub fn labels_alignment(self, alignment: HorizontalAlignment) -> Axis<'a>
         ensures { result ≡ record self.entry { labels_alignment = alignment } }
     {
-        self.labels_alignment = alignment;
-        self
+        Axis {
+            labels_alignment: alignment,
+            ..self
+        }
     }
 
     /// The axis with its line in a style.
-    pub fn style(mut self, style: Style) -> Axis<'a>
+    pub fn style(self, style: Style) -> Axis<'a>
         ensures { result ≡ record self.entry { style = style } }
     {
-        self.style = style;
-        self
+        Axis { style, ..self }
+    }
+
+    /// An equal axis.
+    ///
+    /// # Errors
+    ///
+    /// `AllocError` if memory is refused.
+    pub fn clone(&self, alloc: Global) -> Result<Axis<'a>, AllocError>
+        ensures { IfOk result (λ axis. axis ≡ self.now) }
+    {
+        let labels = match &self.labels {
+            Some(labels) => Some(labels.clone(alloc)?),
+            None => None,
+        };
+        Ok(Axis {
+            title: cloned_line(alloc, &self.title)?,
+            low: self.low,
+            high: self.high,
+            labels,
+            labels_alignment: self.labels_alignment,
+            style: self.style,
+        })
+    }
+
+    // Its labels.
+    pub(crate) fn lines(&self) -> &[Line<'a>]
+        ensures { result.now ≡ axis_labels self.now }
+    {
+        match &self.labels {
+            Some(labels) => labels.as_slice(),
+            None => &[],
+        }
     }
 }

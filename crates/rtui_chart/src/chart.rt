@@ -1,6 +1,6 @@
 //! A chart.
 
-ghost use Rattle.std.specs.Prelude.{◌≡◌, Some, OnOk};
+ghost use Rattle.std.specs.Prelude.{◌≡◌, Some, OnOk, IfOk, true};
 ghost use Rattle.ratatui_core.specs.Layout.{IsInside, corner};
 ghost use Rattle.ratatui_core.specs.Widgets.{ChangesWithin};
 ghost use Rattle.ratatui_core.specs.Buffer.{cell_in, style_of};
@@ -20,9 +20,9 @@ use ratatui_core::buffer::Buffer;
 use ratatui_core::layout::{Constraint, Position, Rect};
 use ratatui_core::style::{Color, Style};
 use ratatui_core::widgets::Widget;
-use rtui_boxes::{Block, render_frame};
+use rtui_boxes::{Block, cloned_block, render_frame};
 use rtui_canvas::{Bars, Canvas, Drawing, Path, Points};
-use std::alloc::AllocError;
+use std::alloc::{AllocError, Global};
 
 /// Points of data sets by dots, between an axis below and one at the left.
 ///
@@ -34,7 +34,7 @@ use std::alloc::AllocError;
 /// let y = Axis::new().bounds([0, 10]);
 /// Chart::new(datasets).x_axis(x).y_axis(y).render(area, buf)?;
 /// ```
-#[derive(Debug, Drop)]
+#[derive(Debug, PartialEq, Eq, Drop)]
 pub struct Chart<'a> {
     block: Option<Block<'a>>,
     x_axis: Axis<'a>,
@@ -113,6 +113,26 @@ impl<'a> Chart<'a> {
     {
         self.hidden_legend_constraints = constraints;
         self
+    }
+
+    /// An equal chart.
+    ///
+    /// # Errors
+    ///
+    /// `AllocError` if memory is refused.
+    pub fn clone(&self, alloc: Global) -> Result<Chart<'a>, AllocError>
+        ensures { let same = ⟦<Chart<'a> as PartialEq>⟧.eq in
+            IfOk result (λ chart. same self.now chart ≡ true) }
+    {
+        Ok(Chart {
+            block: cloned_block(alloc, &self.block)?,
+            x_axis: self.x_axis.clone(alloc)?,
+            y_axis: self.y_axis.clone(alloc)?,
+            datasets: cloned_datasets(alloc, self.datasets.as_slice())?,
+            style: self.style,
+            legend_position: self.legend_position,
+            hidden_legend_constraints: self.hidden_legend_constraints,
+        })
     }
 
     // Shows what is drawn over the area of the dots.
@@ -236,6 +256,20 @@ fn first_style(area: Rect, buf: &Buffer) -> Style
         Some(cell) => cell.style(),
         None => Style::new(),
     }
+}
+
+// Equal data sets.
+fn cloned_datasets<'a>(
+    alloc: Global,
+    datasets: &[Dataset<'a>],
+) -> Result<Vec<Dataset<'a>>, AllocError>
+    ensures { IfOk result (λ cloned. cloned.items ≡ datasets.now) }
+{
+    let mut cloned = Vec::with_capacity(alloc, datasets.len())?;
+    for dataset in datasets {
+        cloned.push(dataset.clone(alloc)?)?;
+    }
+    Ok(cloned)
 }
 
 /// Over the area, as far as the buffer has it: the style, the box, and inside the labels, the axes,

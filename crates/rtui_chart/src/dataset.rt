@@ -1,11 +1,13 @@
 //! Data sets.
 
-ghost use Rattle.std.specs.Prelude.{◌≡◌, Some};
+ghost use Rattle.std.specs.Prelude.{◌≡◌, Some, IfOk};
 ghost use Rattle.rtui_chart.specs.Charts.{IsNewDataset};
 
 use ratatui_core::style::Style;
 use ratatui_core::symbols::Marker;
 use ratatui_core::text::Line;
+use rtui_boxes::cloned_line;
+use std::alloc::{AllocError, Global};
 
 /// How the points of a data set are shown.
 #[derive(Debug, Default, Clone, Copy, PartialEq, Eq, Hash)]
@@ -20,7 +22,7 @@ pub enum GraphType {
 }
 
 /// Points of a chart, which are shown in one colour and, if they have a name, in the legend.
-#[derive(Debug, Drop)]
+#[derive(Debug, PartialEq, Eq, Drop)]
 pub struct Dataset<'a> {
     pub(crate) name: Option<Line<'a>>,
     pub(crate) points: &'a [(i64, i64)],
@@ -84,5 +86,22 @@ impl<'a> Dataset<'a> {
     {
         self.style = style;
         self
+    }
+
+    /// A data set of the same points, with an equal name.
+    ///
+    /// # Errors
+    ///
+    /// `AllocError` if memory is refused.
+    pub fn clone(&self, alloc: Global) -> Result<Dataset<'a>, AllocError>
+        ensures { IfOk result (λ dataset. dataset ≡ self.now) }
+    {
+        Ok(Dataset {
+            name: cloned_line(alloc, &self.name)?,
+            points: self.points,
+            marker: self.marker,
+            graph_type: self.graph_type,
+            style: self.style,
+        })
     }
 }

@@ -70,9 +70,9 @@ fn columns_beside(x: &Axis<'_>, y: &Axis<'_>, width: u16) -> u16
     ensures value { result ≡ columns_beside x.now y.now width }
     ensures third { result * 3 ≤ width }
 {
-    let first = first_width(x.labels);
+    let first = first_width(x.lines());
     let below = left_of_axis(x.labels_alignment, y.is_labelled(), first);
-    widest_line(y.labels).max(below).min(width / 3)
+    widest_line(y.lines()).max(below).min(width / 3)
 }
 
 // The columns of a title over the dots, if there is room for it and some columns more.
@@ -95,7 +95,7 @@ impl<'a> Axis<'a> {
     fn is_labelled(&self) -> bool
         ensures { result ≡ is_labelled self.now }
     {
-        0 < self.labels.len()
+        0 < self.lines().len()
     }
 
     // The columns of the axis at the left.

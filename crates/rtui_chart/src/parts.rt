@@ -6,6 +6,7 @@ ghost use Rattle.ratatui_core.specs.Widgets.{ChangesWithin, RendersLine};
 ghost use Rattle.ratatui_core.specs.Buffer.{ChangesEach};
 ghost use Rattle.rtui_boxes.specs.Boxes.{IsBoxArea};
 ghost use Rattle.rtui_boxes.specs.Titles.{aligned, title_width};
+ghost use Rattle.rtui_chart.specs.Charts.{axis_labels};
 ghost use Rattle.rtui_chart.specs.ChartParts.{other_side, first_label_area, x_label_at, y_label_at};
 ghost use Rattle.rtui_chart.specs.ChartParts.{RendersXLabels, RendersYLabels, ruled_cell, RendersAxes};
 ghost use Rattle.rtui_chart.specs.ChartParts.{RendersLabelsOf, RendersAxisTitle};
@@ -119,12 +120,12 @@ impl<'a> Axis<'a> {
         buf: &mut Buffer,
     ) -> Result<(), AllocError>
         requires rows { AreLabelRows graph row }
-        requires one { i < length self.now.labels.now }
+        requires one { i < length (axis_labels self.now) }
         ensures within { ChangesWithin row buf.old buf.new }
-        ensures ok { let t = x_label_at self.now graph row (length self.now.labels.now) i label.now in
+        ensures ok { let t = x_label_at self.now graph row (length (axis_labels self.now)) i label.now in
             OnOk result (RendersLine t.line t.area buf.old buf.new) }
     {
-        let n = self.labels.len();
+        let n = self.lines().len();
         let w = (usize::from(graph.width) / n) as u16;
         let alignment = self.labels_alignment;
         if i == 0 {
@@ -145,10 +146,10 @@ impl<'a> Axis<'a> {
         ensures within { ChangesWithin row buf.old buf.new }
         ensures ok { OnOk result (RendersXLabels self.now graph row buf.old buf.new) }
     {
-        if self.labels.len() < 2 {
+        if self.lines().len() < 2 {
             return Ok(());
         }
-        for (i, label) in self.labels.iter().enumerate() {
+        for (i, label) in self.lines().iter().enumerate() {
             self.render_x_label(i, label, graph, row, buf)?;
         }
         Ok(())
@@ -157,12 +158,12 @@ impl<'a> Axis<'a> {
     // How far over the last row of so many the label of this number stands.
     fn rows_above(&self, i: usize, height: u16) -> u16
         requires rows { 0 < height }
-        requires one { i < length self.now.labels.now }
-        ensures value { let n = length self.now.labels.now in
+        requires one { i < length (axis_labels self.now) }
+        ensures value { let n = length (axis_labels self.now) in
             result ≡ i * (height - 1) / max (n - 1) 1 }
         ensures within { result < height }
     {
-        let between = self.labels.len().saturating_sub(1).max(1) as u128;
+        let between = self.lines().len().saturating_sub(1).max(1) as u128;
         (i as u128 * u128::from(height - 1) / between) as u16
     }
 
@@ -178,9 +179,9 @@ impl<'a> Axis<'a> {
         requires rows { 0 < graph.height }
         requires same { (area.y ≡ graph.y) × (area.height ≡ graph.height) }
         requires down { area.y + area.height ≤ 65535 }
-        requires one { i < length self.now.labels.now }
+        requires one { i < length (axis_labels self.now) }
         ensures within { ChangesWithin area buf.old buf.new }
-        ensures ok { let t = y_label_at self.now graph area (length self.now.labels.now) i label.now in
+        ensures ok { let t = y_label_at self.now graph area (length (axis_labels self.now)) i label.now in
             OnOk result (RendersLine t.line t.area buf.old buf.new) }
     {
         let row = Rect {
@@ -199,7 +200,7 @@ impl<'a> Axis<'a> {
         ensures within { ChangesWithin area buf.old buf.new }
         ensures ok { OnOk result (RendersYLabels self.now graph area buf.old buf.new) }
     {
-        for (i, label) in self.labels.iter().enumerate() {
+        for (i, label) in self.lines().iter().enumerate() {
             self.render_y_label(i, label, graph, area, buf)?;
         }
         Ok(())

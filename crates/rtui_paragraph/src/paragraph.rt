@@ -25,6 +25,8 @@ use ratatui_core::widgets::Widget;
 use rtui_boxes::{Block, render_frame};
 use std::alloc::{AllocError, Global};
 
+mod clone;
+
 /// How lines are broken that don't fit.
 #[derive(Debug, Default, Clone, Copy, PartialEq, Eq, Hash)]
 pub struct Wrap {
@@ -41,7 +43,7 @@ pub struct Wrap {
 ///     .block(Block::bordered(alloc));
 /// frame.render_widget(paragraph, area)?;
 /// ```
-#[derive(Debug, Drop)]
+#[derive(Debug, PartialEq, Eq, Drop)]
 pub struct Paragraph<'a> {
     block: Option<Block<'a>>,
     pub(crate) style: Style,

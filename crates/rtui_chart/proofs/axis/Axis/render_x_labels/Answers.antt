@@ -5,7 +5,8 @@ use Rattle.rtui_chart.proofs.axis.Axis.render_x_labels.Goals as goal
 
 pub loop-i-preserved : goal.loop-i-preserved
 loop-i-preserved c =
-    let item = element-next c.args.self.now.labels.now c.loop-i.i c.label-item.result (omega arith) c.label-item.is in
+    let item = rw c.lines-label-items.ensures at (element-next c.lines-label-items.result.now c.loop-i.i c.label-item.result
+    (omega arith) c.label-item.is) in
     record {
       within = within-then c.args.row c.args.buf.now c.loop-i.buf c.render_x_label.new.buf c.loop-i.invariant.within
           c.in_ok-render_x_label.ensures.within;

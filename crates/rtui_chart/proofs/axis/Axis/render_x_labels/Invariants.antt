@@ -1,11 +1,12 @@
 use Rattle.std.proofs.Common.{length, drop}
 use Rattle.ratatui_core.specs.{Buffer.BufferData, Widgets.ChangesWithin}
+use Rattle.rtui_chart.specs.{Charts.axis_labels}
 use Rattle.rtui_chart.specs.ChartParts.{x_label_at, RendersNumbered}
 use Rattle.rtui_chart.proofs.axis.Axis.render_x_labels.Given as goal
 
 abbrev pub invariant-loop-i : goal.invariant-loop-i
 invariant-loop-i l =
-    let ls = l.fn.self.labels.now in
+    let ls = axis_labels l.fn.self in
     let place = x_label_at l.fn.self l.fn.graph l.fn.row (length ls) in
     record {
       within : ChangesWithin l.fn.row l.fn.buf l.buf;
