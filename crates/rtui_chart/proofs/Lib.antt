@@ -1,1 +1,2 @@
+pub mod NarrowPlotLemmas
 pub mod PlotLemmas

@@ -2,13 +2,14 @@
 //!
 //! It stands on `ratatui_core`, `rtui_boxes` and `rtui_canvas`, which shows the dots.
 //! `specs/ChartLayouts` says where the parts of a chart stand, `specs/ChartParts` what they make of
-//! a buffer, `specs/Legends` the same of the legend, and `specs/Plots` what a whole chart makes of
-//! one.
+//! a buffer, `specs/Legends` the same of the legend, `specs/Plots` what a whole chart makes of one,
+//! and `specs/NarrowCharts` which charts have texts and marks of one column.
 #![tactic(auto)]
 
 mod axis;
 mod chart;
 mod dataset;
+pub mod laws;
 mod layout;
 mod legend;
 mod parts;

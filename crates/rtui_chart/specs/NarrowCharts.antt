@@ -1,0 +1,26 @@
+-- A chart whose texts and marks take one column each.
+use Rattle.std.specs.Prelude.{Option, Some, None, ⊤, All}
+use Rattle.ratatui_core.specs.{Text.LineData, Buffer.IsNarrowLine}
+use Rattle.rtui_canvas.specs.Canvases.{HasNarrowDots}
+use Rattle.rtui_chart.specs.declared.{axis.Axis.Axis, dataset.Dataset.Dataset, chart.Chart.Chart}
+
+-- the graphemes of the line take one column each, if there is one
+abbrev pub IsNarrowIfLine : Option LineData → Type 0
+IsNarrowIfLine None = ⊤
+IsNarrowIfLine (Some line) = IsNarrowLine line
+
+-- so do those of an axis's title and of its labels
+pub record HasNarrowTexts (a : Axis) : Type 0 where
+  pub title : IsNarrowIfLine a.title
+  pub labels : All IsNarrowLine a.labels.now
+
+-- so do those of a data set's name, and its marks
+pub record IsNarrowDataset (d : Dataset) : Type 0 where
+  pub name : IsNarrowIfLine d.name
+  pub marks : HasNarrowDots d.marker
+
+-- all of them do
+pub record IsNarrowChart (c : Chart) : Type 0 where
+  pub x_axis : HasNarrowTexts c.x_axis
+  pub y_axis : HasNarrowTexts c.y_axis
+  pub datasets : All IsNarrowDataset c.datasets.items
