@@ -60,12 +60,12 @@ fn axis_of<'a>(
     alloc: Global,
     bounds: [i64; 2],
     title: &'a str,
-    labels: &'a [Line<'a>],
+    labels: &'a str,
     alignment: HorizontalAlignment,
 ) -> Result<Axis<'a>, AllocError> {
     let axis = Axis::new()
         .bounds(bounds)
-        .labels(labels)
+        .labels(lines_of(alloc, labels)?)
         .labels_alignment(alignment);
     if title.is_empty() {
         return Ok(axis);
@@ -129,27 +129,26 @@ fn render_chart(
     }
 }
 
-// Renders a chart of these points, texts and labels.
+// A chart of these points and texts.
 fn chart_with<'a>(
     alloc: Global,
     case: &Case<'_>,
     points: &'a [Vec<(i64, i64)>],
     texts: &'a Texts,
-    labels: (&'a [Line<'a>], &'a [Line<'a>]),
 ) -> Result<Chart<'a>, AllocError> {
     let datasets = datasets_of(alloc, case, points, texts.names.as_str())?;
     let x = axis_of(
         alloc,
         case.bounds("x"),
         texts.x_title.as_str(),
-        labels.0,
+        texts.x_labels.as_str(),
         alignment_of(case.option("xalign")),
     )?;
     let y = axis_of(
         alloc,
         case.bounds("y"),
         texts.y_title.as_str(),
-        labels.1,
+        texts.y_labels.as_str(),
         alignment_of(case.option("yalign")),
     )?;
     Ok(Chart::new(datasets).x_axis(x).y_axis(y))
@@ -164,9 +163,6 @@ pub fn chart(
 ) -> Result<(), AllocError> {
     let points = all_points(alloc, case.texts)?;
     let texts = texts_of(alloc, case)?;
-    let below = lines_of(alloc, texts.x_labels.as_str())?;
-    let beside = lines_of(alloc, texts.y_labels.as_str())?;
-    let labels = (below.as_slice(), beside.as_slice());
-    let chart = chart_with(alloc, case, points.as_slice(), &texts, labels)?;
+    let chart = chart_with(alloc, case, points.as_slice(), &texts)?;
     render_chart(alloc, case, chart, area, buffer)
 }

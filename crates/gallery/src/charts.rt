@@ -34,12 +34,14 @@ pub fn canvas(frame: &mut Frame<'_>) -> Result<(), AllocError> {
 
 static POINTS: [(i64, i64); 6] = [(0, 2), (2, 5), (4, 4), (6, 9), (8, 6), (10, 10)];
 
-// Points, each joined to the next one, between two axes with these labels.
-fn chart_with(
-    alloc: Global,
-    labels: [Line<'static>; 2],
-    frame: &mut Frame<'_>,
-) -> Result<(), AllocError> {
+// An axis from 0 to 10, with labels.
+fn axis(alloc: Global) -> Result<Axis<'static>, AllocError> {
+    let labels = vec![in alloc; Line::raw(alloc, "0")?, Line::raw(alloc, "10")?]?;
+    Ok(Axis::new().bounds([0, 10]).labels(labels))
+}
+
+/// Points, each joined to the next one, between two axes with labels.
+pub fn chart(alloc: Global, frame: &mut Frame<'_>) -> Result<(), AllocError> {
     let area = frame.area();
     let data = Dataset::new()
         .data(&POINTS)
@@ -47,13 +49,7 @@ fn chart_with(
         .graph_type(GraphType::Line)
         .style(Style::new().fg(Color::Green));
     let chart = Chart::new(vec![in alloc; data]?)
-        .x_axis(Axis::new().bounds([0, 10]).labels(&labels))
-        .y_axis(Axis::new().bounds([0, 10]).labels(&labels));
+        .x_axis(axis(alloc)?)
+        .y_axis(axis(alloc)?);
     frame.render_widget(chart, area)
-}
-
-/// Points, each joined to the next one, between two axes with labels.
-pub fn chart(alloc: Global, frame: &mut Frame<'_>) -> Result<(), AllocError> {
-    let labels = [Line::raw(alloc, "0")?, Line::raw(alloc, "10")?];
-    chart_with(alloc, labels, frame)
 }

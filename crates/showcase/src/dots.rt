@@ -83,13 +83,18 @@ fn dataset<'a>(
     )
 }
 
-// Paints a chart of them, between axes with these labels.
-fn paint_chart_with(
-    alloc: Global,
-    labels: [Line<'static>; 3],
-    area: Rect,
-    buf: &mut Buffer,
-) -> Result<(), AllocError>
+// An axis in per cent.
+fn axis(alloc: Global) -> Result<Axis<'static>, AllocError> {
+    let labels = vec![in alloc;
+        Line::raw(alloc, "0")?,
+        Line::raw(alloc, "50")?,
+        Line::raw(alloc, "100")?,
+    ]?;
+    Ok(Axis::new().bounds([0, 100]).labels(labels))
+}
+
+// Paints a chart of them.
+fn paint_chart(alloc: Global, area: Rect, buf: &mut Buffer) -> Result<(), AllocError>
     ensures { buf.new.area ≡ buf.old.area }
 {
     let datasets = vec![in alloc;
@@ -98,21 +103,9 @@ fn paint_chart_with(
     ]?;
     Chart::new(datasets)
         .block(boxed(alloc, " Chart ")?)
-        .x_axis(Axis::new().bounds([0, 100]).labels(&labels))
-        .y_axis(Axis::new().bounds([0, 100]).labels(&labels))
+        .x_axis(axis(alloc)?)
+        .y_axis(axis(alloc)?)
         .render(area, buf)
-}
-
-// Paints a chart of them.
-fn paint_chart(alloc: Global, area: Rect, buf: &mut Buffer) -> Result<(), AllocError>
-    ensures { buf.new.area ≡ buf.old.area }
-{
-    let labels = [
-        Line::raw(alloc, "0")?,
-        Line::raw(alloc, "50")?,
-        Line::raw(alloc, "100")?,
-    ];
-    paint_chart_with(alloc, labels, area, buf)
 }
 
 /// Paints the same shapes in dots of braille and in half blocks, and a chart under them.
