@@ -1,16 +1,16 @@
 -- A row at the front of a line: where it ends, and what it keeps.
-use Rattle.std.proofs.Common.{◌≡◌, ℕ, suc, ◌+◌, ◌-◌, ◌<◌, ◌≤◌, ◌++◌, ◌&&◌, ⊎_elim, Bool, true, false, nat_lt, nat_le}
-use Rattle.std.proofs.Common.{if◌then◌else◌, List, [], ◌∷◌, filter, take, drop, length, refl, sym, ap, ap₂, subst, ◌∙◌, arith}
+use Rattle.std.proofs.Common.{◌≡◌, ℕ, suc, ◌+◌, ◌-◌, ◌<◌, ◌≤◌, ◌++◌, ⊎_elim, Bool, true, false, nat_lt}
+use Rattle.std.proofs.Common.{if◌then◌else◌, List, [], ◌∷◌, take, drop, length, refl, sym, ap, ap₂, subst, ◌∙◌, arith}
 use Rattle.std.proofs.Common.{slice_index_or}
 use Rattle.std.specs.List.{list_all, prefix_len}
-use Rattle.std.proofs.lemmas.Bool.{cases_lt, and_parts, and_right, cases_Bool}
+use Rattle.std.proofs.lemmas.Bool.{cases_lt, and_parts, cases_Bool}
 use Rattle.std.proofs.lemmas.{Bool.Decides.nat_tests, List.Elements.filter-append, List.Folds.list_all-append}
 use Rattle.std.proofs.lemmas.{List.Sums.sum_by-cons, List.Sums.sum_by-take-le}
 use Rattle.std.proofs.lemmas.List.{take-append-drop, take-take, drop-take, take_all, length-drop, length-take, length-map}
-use Rattle.std.proofs.lemmas.List.{take-map, drop-map, drop_more, drop_all, append_assoc, append-nil}
+use Rattle.std.proofs.lemmas.List.{take-map, drop-map, drop_more, drop_all, append-nil}
 use Rattle.ratatui_core.specs.{Text.GraphemeData, Text.grapheme_data, declared.text.StyledGrapheme.StyledGrapheme}
 use Rattle.rtui_paragraph.specs.Reflow.{data_of, is_break, is_of_word, grapheme_columns, columns_taken, words_of, fits_row}
-use Rattle.rtui_paragraph.specs.Reflow.{AllFit, count_fitting, fitting_front, after_columns, last_end, leading_word}
+use Rattle.rtui_paragraph.specs.Reflow.{AllFit, count_fitting, last_end, leading_word}
 use Rattle.rtui_paragraph.specs.Reflow.{break_at_blank, break_in_word, break_before, row_break, trimmed_start, split_row}
 
 -- ---- graphemes one by one
@@ -403,38 +403,3 @@ module _ (gs : List StyledGrapheme) (width : ℕ) (trim : Bool) (start : ℕ) (b
         ap length (tail-is start gs),
         length-drop start gs,
       )
-
-after-none : (gs : List GraphemeData) → after_columns 0 gs ≡ gs
-after-none [] = refl
-after-none (g ∷ gs) = refl
-
--- one grapheme more of a line that is cut
-pub cut-turn : (width used offset w : ℕ) (d : GraphemeData) (left others_left row more_row all : List GraphemeData)
-    → left ≡ d ∷ others_left → more_row ≡ row ++ d ∷ [] → w ≡ grapheme_columns d → w ≤ width → w ≤ width - used
-    → (0 < offset → offset < w)
-    → row ++ fitting_front (width - used) (after_columns offset (filter (fits_row width) left)) ≡ all
-    → more_row ++ fitting_front (width - (used + w)) (after_columns 0 (filter (fits_row width) others_left)) ≡ all
-cut-turn width used offset w d left others_left row more_row all is pushed columns fits room stops so_far =
-    let others = filter (fits_row width) others_left in
-    let kept : filter (fits_row width) left ≡ d ∷ others = ap (filter (fits_row width)) is
-    ∙ (let yes_fits : fits_row width d ≡ true = grind (arith, nat_tests) in rw yes_fits refl) in
-    let here : after_columns offset (d ∷ others) ≡ d ∷ others =
-    (let off : (nat_lt 0 offset && nat_le (grapheme_columns d) offset) ≡ false = skip-not offset (grapheme_columns d)
-    (λ some. (let lt = stops some in omega arith)) in rw off refl) in
-    let more : fitting_front (width - used) (d ∷ others) ≡ d ∷ fitting_front (width - used - w) others =
-    ap (λ n. take n (d ∷ others)) (count-next (width - used) d others (omega arith))
-    ∙ ap (λ k. d ∷ fitting_front (width - used - k) others) (sym columns) in
-    let room_left : width - used - w ≡ width - (used + w) = omega arith in
-    ap (λ gs. gs ++ fitting_front (width - (used + w)) (after_columns 0 others)) pushed
-    ∙ (append_assoc row (d ∷ []) (fitting_front (width - (used + w)) (after_columns 0 others))
-    ∙ (ap (λ gs. row ++ d ∷ fitting_front (width - (used + w)) gs) (after-none others)
-    ∙ (ap (λ n. row ++ d ∷ fitting_front n others) (sym room_left)
-    ∙ (ap (λ gs. row ++ gs) (sym (ap (λ gs. fitting_front (width - used) gs) (ap (after_columns offset) kept ∙ here) ∙ more))
-    ∙ so_far))))
-  where
-    skip-not : (n m : ℕ) → (0 < n → n < m) → (nat_lt 0 n && nat_le m n) ≡ false
-    skip-not n m lt = ⊎_elim
-        (λ (some : 0 < n). let less = lt some in let f : nat_le m n ≡ false = grind (arith, nat_tests) in
-        and_right (nat_lt 0 n) (nat_le m n) f)
-        (λ (le : n ≤ 0). let f : nat_lt 0 n ≡ false = grind (arith, nat_tests) in rw f refl)
-        (cases_lt 0 n)

@@ -1,3 +1,4 @@
 pub mod Ahead
+pub mod Cut
 pub mod Paragraphs
 pub mod Reflow

@@ -1,15 +1,16 @@
 -- A paragraph: its rows, and what it changes.
 use Rattle.std.specs.Prelude.{◌≡◌, ℕ, ◌+◌, ◌-◌, ◌/◌, ◌==◌, min, length, if◌then◌else◌, nat_lt, false, List}
-use Rattle.std.specs.Prelude.{[], ◌∷◌, ◌++◌, map, filter, take, drop, Option, Some, None, unwrap_or}
+use Rattle.std.specs.Prelude.{[], ◌∷◌, ◌++◌, map, filter, take, drop, Option, Some, None, unwrap_or, All}
 use Rattle.std.specs.List.{flat_map}
-use Rattle.ratatui_core.specs.{Layout.Rect, Layout.EdgesFit, Style.new_style, Style.patch}
+use Rattle.ratatui_core.specs.{Layout.Rect, Layout.EdgesFit, Style.Style, Style.new_style, Style.patch}
 use Rattle.ratatui_core.specs.{declared.layout.HorizontalAlignment.HorizontalAlignment}
 use Rattle.ratatui_core.specs.Text.{GraphemeData, LineData, TextData, line_graphemes, has_control}
 use Rattle.ratatui_core.specs.declared.layout.HorizontalAlignment.TheVariants.{Left, Center, Right}
 use Rattle.ratatui_core.specs.Buffer.{BufferData, IsPlainFrom, IsSettledBuffer, IsOneGrapheme, Piece}
-use Rattle.ratatui_core.specs.Buffer.{piece_of, PaintsPieces, text_pieces, position_of}
+use Rattle.ratatui_core.specs.Buffer.{piece_of, PaintsPieces, text_pieces, position_of, HaveShortGraphemes}
 use Rattle.rtui_paragraph.specs.{declared.paragraph.Paragraph.Paragraph, declared.paragraph.Wrap.Wrap}
 use Rattle.rtui_boxes.specs.{Boxes.IsPlainIfBox, Titles.InTurn, Framed.RendersInFrame, Framed.rows_around_if}
+use Rattle.rtui_boxes.specs.{Framed.IsShortFrame}
 use Rattle.rtui_paragraph.specs.Reflow.{grapheme_columns, columns_taken, fits_row, cut_row, broken_rows}
 
 -- a text without a box, from its first row and column on, cut and aligned to the left
@@ -79,6 +80,10 @@ indent_of Left width room = 0
 indent_of Center width room = room / 2 - width / 2
 indent_of Right width room = room - width
 
+-- a grapheme in a style
+abbrev pub grapheme_in : Style → List ℕ → GraphemeData
+grapheme_in style symbol = record { symbol = symbol; style = style }
+
 -- a grapheme painted in the columns that it takes
 abbrev pub PaintsGrapheme : ℕ → ℕ → GraphemeData → BufferData → BufferData → Type 0
 PaintsGrapheme x y g old new = PaintsPieces (position_of (x, y))
@@ -130,3 +135,13 @@ FillsText p r old new = PaintsRows r r.y (rows_shown r.height p.scroll.y (paragr
 pub record RendersParagraph (paragraph : Paragraph) (area : Rect) (old new : BufferData) : Type 0 where
   pub frame : RendersInFrame paragraph.style paragraph.block (FillsText paragraph) area old new
   pub settled : EdgesFit old.area → IsPlainFrom 0 old → IsPlainIfBox paragraph.block → IsSettledBuffer new
+
+-- no grapheme of a paragraph's lines takes memory
+abbrev pub HasShortText : Paragraph → Type 0
+HasShortText p = All (λ line. HaveShortGraphemes line.spans) p.text.lines
+
+-- a paragraph of which no line is broken takes no memory if none of its graphemes does, nor its box
+pub record IsShortParagraph (p : Paragraph) (s : BufferData) : Type 0 where
+  pub frame : IsShortFrame p.block s
+  pub cut : p.wrap ≡ None
+  pub text : HasShortText p

@@ -6,6 +6,7 @@
 #![tactic(auto)]
 
 mod ahead;
+mod cut;
 pub mod laws;
 mod paragraph;
 mod reflow;

@@ -1,9 +1,11 @@
 //! A text in an area.
 
-ghost use Rattle.std.specs.Prelude.{◌≡◌, ◌+◌, ◌<◌, ◌≤◌, ◌∷◌, [], min, length, Some, None, IfOk, OnOk};
+ghost use Rattle.std.specs.Prelude.{◌≡◌, ◌+◌, ◌<◌, ◌≤◌, ◌∷◌, [], min, length, Some, None, IsOk, IfOk, OnOk};
+ghost use Rattle.std.specs.Prelude.{All};
 ghost use Rattle.ratatui_core.specs.Layout.{IsInside};
 ghost use Rattle.ratatui_core.specs.Buffer.{IsSettledBuffer, IsReadyAt, IsReadyFrom, position_of};
-ghost use Rattle.ratatui_core.specs.Text.{grapheme_data, raw_text};
+ghost use Rattle.ratatui_core.specs.Buffer.{IsShort, HaveShortGraphemes, text_width};
+ghost use Rattle.ratatui_core.specs.Text.{raw_text};
 ghost use Rattle.ratatui_core.specs.Widgets.{ChangesWithin};
 ghost use Rattle.ratatui_core.specs.declared.layout.HorizontalAlignment.TheVariants.{Left, Center, Right};
 ghost use Rattle.rtui_boxes.specs.Boxes.{IsBoxArea};
@@ -11,12 +13,17 @@ ghost use Rattle.rtui_boxes.specs.Framed.{rows_around_if};
 ghost use Rattle.rtui_paragraph.specs.Paragraphs.{IsNewParagraph, aligned_row, aligned_rows};
 ghost use Rattle.rtui_paragraph.specs.Paragraphs.{columns_scrolled, cut_line, broken_line, rows_of_lines};
 ghost use Rattle.rtui_paragraph.specs.Paragraphs.{paragraph_rows, rows_taken, rows_shown, indent_of};
-ghost use Rattle.rtui_paragraph.specs.Paragraphs.{PaintsGrapheme, PaintsRow, PaintsRows, PaintsOn, FillsText};
+ghost use Rattle.rtui_paragraph.specs.Paragraphs.{graphemes_of, grapheme_in, HasShortText};
+ghost use Rattle.rtui_paragraph.specs.Paragraphs.{PaintsGrapheme, PaintsGraphemes, PaintsRow, PaintsRows};
+ghost use Rattle.rtui_paragraph.specs.Paragraphs.{PaintsOn, FillsText};
 ghost use Rattle.rtui_paragraph.specs.Ahead.{left_of, IsAhead};
-ghost use Rattle.rtui_paragraph.specs.Reflow.{data_of, grapheme_columns, columns_taken, AllFit, broken_rows};
+ghost use Rattle.rtui_paragraph.specs.Cut.{left_of_cut, IsCut};
+ghost use Rattle.rtui_paragraph.specs.Reflow.{data_of, columns_taken, AllFit, broken_rows};
+ghost use Rattle.rtui_paragraph.specs.Reflow.{cut_row};
 
 use crate::ahead::Ahead;
-use crate::reflow::{columns_of, truncated};
+use crate::cut::Cut;
+use crate::reflow::columns_of;
 use ratatui_core::buffer::{Buffer, CellWidth};
 use ratatui_core::layout::{HorizontalAlignment, Position, Rect};
 use ratatui_core::style::Style;
@@ -152,7 +159,8 @@ impl<'a> Paragraph<'a> {
     ///
     /// `AllocError` if memory is refused.
     pub fn line_count(&self, alloc: Global, width: u16) -> Result<usize, AllocError>
-        ensures { IfOk result (λ n. n ≡ rows_taken self.now width) }
+        ensures rows { IfOk result (λ n. n ≡ rows_taken self.now width) }
+        ensures short { self.now.wrap ≡ None → IsOk result }
     {
         if width < 1 {
             return Ok(0);
@@ -163,8 +171,9 @@ impl<'a> Paragraph<'a> {
 
     // How many rows the text takes in so many columns.
     fn count_rows(&self, alloc: Global, width: u16) -> Result<usize, AllocError>
-        ensures { IfOk result (λ n.
+        ensures rows { IfOk result (λ n.
             n ≡ min (length (paragraph_rows self.now width)) 18446744073709551615) }
+        ensures short { self.now.wrap ≡ None → IsOk result }
     {
         match self.wrap {
             None => Ok(self.text.height()),
@@ -216,6 +225,7 @@ impl<'a> Paragraph<'a> {
         ensures within { ChangesWithin part buf.old buf.new }
         ensures ok { OnOk result (FillsText self.now part buf.old buf.new) }
         ensures settled { IsReadyFrom part.y buf.old → OnOk result (IsSettledBuffer buf.new) }
+        ensures short { self.now.wrap ≡ None → HasShortText self.now → IsOk result }
     {
         match self.wrap {
             Some(wrap) => self.render_wrapped(part, wrap, buf),
@@ -232,6 +242,7 @@ impl<'a> Paragraph<'a> {
             let shown = rows_shown part.height self.now.scroll.y rows in
             OnOk result (PaintsRows part part.y shown buf.old buf.new) }
         ensures settled { IsReadyFrom part.y buf.old → OnOk result (IsSettledBuffer buf.new) }
+        ensures short { HasShortText self.now → IsOk result }
     {
         let lines = self.text.lines.as_slice();
         for k in 0..part.height {
@@ -241,6 +252,29 @@ impl<'a> Paragraph<'a> {
             self.render_cut(line, part, k, buf)?;
         }
         Ok(())
+    }
+
+    // The row of a line that is cut, of which so many columns are left out.
+    fn cut<'s>(&'s self, line: &'s Line<'a>, width: u16, columns: u16) -> Cut<'s, 'a>
+        ensures cut { IsCut result }
+        ensures left { left_of_cut result
+            ≡ cut_row width columns (graphemes_of self.now line.now) }
+        ensures width { result.width ≡ width }
+        ensures used { result.used ≡ 0 }
+    {
+        Cut::new(line.styled_graphemes(self.text.style), width, columns)
+    }
+
+    // The column in which a line that is cut begins: of one at the left the width doesn't matter.
+    fn cut_indent(&self, line: &Line<'a>, alignment: HorizontalAlignment, width: u16) -> u16
+        ensures { let columns = columns_scrolled alignment self.now.scroll.x in
+            let row = cut_row width columns (graphemes_of self.now line.now) in
+            result ≡ indent_of alignment (columns_taken row) width }
+    {
+        match alignment {
+            HorizontalAlignment::Left => 0,
+            _ => indent(self.cut(line, width, 0).columns(), width, alignment),
+        }
     }
 
     // A line cut, in row k of a part.
@@ -259,15 +293,12 @@ impl<'a> Paragraph<'a> {
             OnOk result (PaintsRow part (part.y + k) row buf.old buf.new) }
         ensures ready { IsReadyFrom (part.y + k) buf.old
             → OnOk result (IsReadyFrom (part.y + k + 1) buf.new) }
+        ensures short { HaveShortGraphemes line.now.spans → IsOk result }
     {
         let alignment = line.alignment.unwrap_or(self.alignment);
-        let row = truncated(
-            buf.allocator(),
-            line.styled_graphemes(self.text.style),
-            part.width,
-            columns_scrolled(alignment, self.scroll.x),
-        )?;
-        render_row(row.as_slice(), alignment, part, k, buf)
+        let start = self.cut_indent(line, alignment, part.width);
+        let columns = columns_scrolled(alignment, self.scroll.x);
+        render_cut_row(self.cut(line, part.width, columns), start, part, k, buf)
     }
 
     // Each line broken into rows.
@@ -435,7 +466,8 @@ fn indent(width: u16, room: u16, alignment: HorizontalAlignment) -> u16
 
 // Paints a grapheme in a place of a part, in at most so many columns.
 fn put_grapheme(
-    grapheme: &StyledGrapheme<'_>,
+    symbol: &str,
+    style: Style,
     columns: u16,
     part: Rect,
     x: u16,
@@ -448,13 +480,52 @@ fn put_grapheme(
     requires right { x + columns ≤ part.x + part.width }
     requires top { part.y ≤ y }
     requires bottom { y < part.y + part.height }
-    requires width { columns ≡ grapheme_columns (grapheme_data grapheme.now) }
+    requires width { columns ≡ text_width symbol.now }
     ensures within { ChangesWithin part buf.old buf.new }
-    ensures ok { let g = grapheme_data grapheme.now in
+    ensures ok { let g = grapheme_in style symbol.now in
         OnOk result (PaintsGrapheme x y g buf.old buf.new) }
     ensures ready { IsReadyAt x y buf.old → OnOk result (IsReadyAt (x + columns) y buf.new) }
+    ensures short { IsShort symbol.now → IsOk result }
 {
-    buf.set_stringn(x, y, grapheme.symbol, usize::from(columns), grapheme.style)?;
+    buf.set_stringn(x, y, symbol, usize::from(columns), style)?;
+    Ok(())
+}
+
+// Renders a row that is cut in row k of a part, from a column of the part on.
+fn render_cut_row(
+    cut: Cut<'_, '_>,
+    start: u16,
+    part: Rect,
+    k: u16,
+    buf: &mut Buffer,
+) -> Result<(), AllocError>
+    requires some { IsBoxArea part }
+    requires inside { IsInside part buf.old.area }
+    requires row { k < part.height }
+    requires cut { IsCut cut }
+    requires fits { start + columns_taken (left_of_cut cut) ≤ part.width }
+    ensures within { ChangesWithin part buf.old buf.new }
+    ensures ok { let gs = left_of_cut cut.entry in
+        OnOk result (PaintsGraphemes (part.x + start) (part.y + k) gs buf.old buf.new) }
+    ensures ready { IsReadyFrom (part.y + k) buf.old
+        → OnOk result (IsReadyFrom (part.y + k + 1) buf.new) }
+    ensures short { All (λ g. IsShort g.symbol) (left_of_cut cut.entry) → IsOk result }
+{
+    let mut cut = cut;
+    let mut used = start;
+    while let Some(grapheme) = cut.next() {
+        let columns = grapheme.symbol.cell_width();
+        put_grapheme(
+            grapheme.symbol,
+            grapheme.style,
+            columns,
+            part,
+            part.x + used,
+            part.y + k,
+            buf,
+        )?;
+        used += columns;
+    }
     Ok(())
 }
 
@@ -480,7 +551,16 @@ fn render_row(
     let mut used = indent(columns_of(row), part.width, alignment);
     for grapheme in row {
         let columns = grapheme.symbol.cell_width();
-        put_grapheme(grapheme, columns, part, part.x + used, part.y + k, buf)?;
+        let x = part.x + used;
+        put_grapheme(
+            grapheme.symbol,
+            grapheme.style,
+            columns,
+            part,
+            x,
+            part.y + k,
+            buf,
+        )?;
         used += columns;
     }
     Ok(())
@@ -488,9 +568,11 @@ fn render_row(
 
 /// Over the area, as far as the buffer has it: the style, the box, and the text inside it.
 impl<'b, 'a> Widget for &'b Paragraph<'a> {
-    ghost use Rattle.rtui_paragraph.specs.Paragraphs.{RendersParagraph};
+    ghost use Rattle.rtui_paragraph.specs.Paragraphs.{RendersParagraph, IsShortParagraph};
 
     ghost renders = { λ p. RendersParagraph p.now };
+
+    ghost is_short = { λ p _. IsShortParagraph p.now };
 
     fn render(self, area: Rect, buf: &mut Buffer) -> Result<(), AllocError> {
         let Some(part) = buf.part(area) else {
@@ -504,9 +586,11 @@ impl<'b, 'a> Widget for &'b Paragraph<'a> {
 }
 
 impl<'a> Widget for Paragraph<'a> {
-    ghost use Rattle.rtui_paragraph.specs.Paragraphs.{RendersParagraph};
+    ghost use Rattle.rtui_paragraph.specs.Paragraphs.{RendersParagraph, IsShortParagraph};
 
     ghost renders = { RendersParagraph };
+
+    ghost is_short = { λ p _. IsShortParagraph p };
 
     fn render(self, area: Rect, buf: &mut Buffer) -> Result<(), AllocError> {
         (&self).render(area, buf)

@@ -1,17 +1,14 @@
 //! Lines of graphemes cut, or broken into rows.
 
 ghost use Rattle.std.specs.Prelude.{◌≡◌, ◌+◌, ◌≤◌, ◌<◌, [], ◌∷◌, min, length, filter, take, drop};
-ghost use Rattle.std.specs.Prelude.{IfOk};
 ghost use Rattle.std.specs.List.{prefix_len};
-ghost use Rattle.ratatui_core.specs.Text.{line_graphemes_left};
 ghost use Rattle.rtui_paragraph.specs.Reflow.{data_of, is_break, is_of_word, columns_taken, words_of};
-ghost use Rattle.rtui_paragraph.specs.Reflow.{fits_row, AllFit, count_fitting, cut_row, last_end};
+ghost use Rattle.rtui_paragraph.specs.Reflow.{fits_row, AllFit, count_fitting, last_end};
 ghost use Rattle.rtui_paragraph.specs.Reflow.{break_at_blank, break_in_word, row_break};
 ghost use Rattle.rtui_paragraph.specs.Reflow.{trimmed_start, split_row};
 
 use ratatui_core::buffer::CellWidth;
-use ratatui_core::text::{LineGraphemes, StyledGrapheme};
-use std::alloc::{AllocError, Global};
+use ratatui_core::text::StyledGrapheme;
 
 // Graphemes one after the other.
 pub(crate) type Row<'t> = Vec<StyledGrapheme<'t>>;
@@ -25,39 +22,6 @@ pub(crate) fn columns_of(row: &[StyledGrapheme<'_>]) -> u16
         columns = columns.saturating_add(grapheme.symbol.cell_width());
     }
     columns
-}
-
-// The graphemes of a line from a column on, as many as fit the width; a line that isn't moved
-// begins at its first one.
-pub(crate) fn truncated<'t, 'a>(
-    alloc: Global,
-    graphemes: LineGraphemes<'t, 'a>,
-    width: u16,
-    offset: u16,
-) -> Result<Row<'t>, AllocError>
-    ensures { IfOk result (λ row.
-        data_of row.items ≡ cut_row width offset (line_graphemes_left graphemes.entry)) }
-{
-    let mut row = Vec::new(alloc);
-    let mut used = 0u16;
-    let mut offset = offset;
-    for grapheme in graphemes {
-        let columns = grapheme.symbol.cell_width();
-        if columns > width {
-            continue;
-        }
-        if columns > width.saturating_sub(used) {
-            return Ok(row);
-        }
-        if offset > 0 && columns <= offset {
-            offset -= columns;
-            continue;
-        }
-        offset = 0;
-        used += columns;
-        row.push(grapheme)?;
-    }
-    Ok(row)
 }
 
 // How many blanks stand first.

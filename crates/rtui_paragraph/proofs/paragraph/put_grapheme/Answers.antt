@@ -1,8 +1,9 @@
-use Rattle.std.proofs.Common.{arith, Ok}
-use Rattle.ratatui_core.specs.{Buffer.pieces_at, Text.grapheme_data}
+use Rattle.std.proofs.Common.{◌≡◌, false, true, arith, Ok}
+use Rattle.ratatui_core.specs.Buffer.{pieces_at, room_at}
+use Rattle.rtui_paragraph.specs.Paragraphs.{grapheme_in}
 use Rattle.ratatui_core.proofs.{BufferLemmas.text-keeps, BufferLemmas.put-ready}
 use Rattle.rtui_boxes.proofs.PaintLemmas.{part-has_row, part-starts, part-right, paints-within}
-use Rattle.rtui_paragraph.proofs.ParagraphLemmas.{grapheme-painted}
+use Rattle.rtui_paragraph.proofs.{ParagraphLemmas.grapheme-painted, CutLemmas.short-painted}
 use Rattle.rtui_paragraph.proofs.paragraph.put_grapheme.Goals as goal
 
 pub set_stringn-requires-clause-row : goal.set_stringn-requires-clause-row
@@ -15,25 +16,25 @@ set_stringn-requires-clause-column c = part-starts c.args.part c.args.buf.now.ar
 
 pub returns-in_err-set_stringn-clause-within : goal.returns-in_err-set_stringn-clause-within
 returns-in_err-set_stringn-clause-within c =
-    let keeps = text-keeps c.args.buf.now.area c.args.x c.from.result c.args.grapheme.now.style c.args.grapheme.now.symbol.now in
+    let keeps = text-keeps c.args.buf.now.area c.args.x c.from.result c.args.style c.args.symbol.now in
     paints-within c.set_stringn.result c.args.part c.args.x c.args.y
-    (pieces_at c.args.buf.now.area c.args.x c.from.result c.args.grapheme.now.style c.args.grapheme.now.symbol.now)
+    (pieces_at c.args.buf.now.area c.args.x c.from.result c.args.style c.args.symbol.now)
     c.args.buf.now c.set_stringn.new.self
     c.requires.some c.requires.inside c.requires.left (omega arith) c.requires.top c.requires.bottom c.set_stringn.ensures.paints
 
 pub returns-clause-within : goal.returns-clause-within
 returns-clause-within c =
-    let keeps = text-keeps c.args.buf.now.area c.args.x c.from.result c.args.grapheme.now.style c.args.grapheme.now.symbol.now in
+    let keeps = text-keeps c.args.buf.now.area c.args.x c.from.result c.args.style c.args.symbol.now in
     paints-within c.set_stringn.result c.args.part c.args.x c.args.y
-    (pieces_at c.args.buf.now.area c.args.x c.from.result c.args.grapheme.now.style c.args.grapheme.now.symbol.now)
+    (pieces_at c.args.buf.now.area c.args.x c.from.result c.args.style c.args.symbol.now)
     c.args.buf.now c.set_stringn.new.self
     c.requires.some c.requires.inside c.requires.left (omega arith) c.requires.top c.requires.bottom c.set_stringn.ensures.paints
 
 pub returns-clause-ready : goal.returns-clause-ready
 returns-clause-ready c = λ ready.
-    let keeps = text-keeps c.args.buf.now.area c.args.x c.from.result c.args.grapheme.now.style c.args.grapheme.now.symbol.now in
+    let keeps = text-keeps c.args.buf.now.area c.args.x c.from.result c.args.style c.args.symbol.now in
     put-ready (Ok c.in_ok-set_stringn.field-0) c.args.x c.args.y c.args.columns
-    (pieces_at c.args.buf.now.area c.args.x c.from.result c.args.grapheme.now.style c.args.grapheme.now.symbol.now)
+    (pieces_at c.args.buf.now.area c.args.x c.from.result c.args.style c.args.symbol.now)
     c.args.buf.now c.set_stringn.new.self ready
     (part-has_row c.args.part c.args.buf.now.area c.args.y c.requires.some c.requires.inside c.requires.top c.requires.bottom)
     (part-starts c.args.part c.args.buf.now.area c.args.x c.requires.some c.requires.inside c.requires.left)
@@ -45,7 +46,15 @@ returns-clause-ok c =
     let box = c.requires.some in
     let across = box.across in
     let right = c.requires.right in
-    grapheme-painted c.args.x c.args.y c.from.result (grapheme_data c.args.grapheme.now) c.args.buf.now c.set_stringn.new.self
+    grapheme-painted c.args.x c.args.y c.from.result (grapheme_in c.args.style c.args.symbol.now) c.args.buf.now
+    c.set_stringn.new.self
     (omega (arith, c.requires.width))
     (part-right c.args.part c.args.buf.now.area c.args.x c.from.result c.requires.some c.requires.inside (omega arith))
     (omega arith) c.in_ok-set_stringn.ensures.paints.ok
+
+pub returns-in_err-set_stringn-clause-short : goal.returns-in_err-set_stringn-clause-short
+returns-in_err-set_stringn-clause-short c = λ short.
+    let no : false ≡ true = c.in_err-set_stringn.ensures.paints.short
+    (short-painted (room_at c.args.buf.now.area c.args.x c.from.result) c.args.style
+    c.args.symbol.now c.utf8.symbol short) in
+    absurd (cc)

@@ -1,9 +1,21 @@
-use Rattle.std.proofs.Common.{◌≤◌, ◌∙◌, ap, sym, subst}
-use Rattle.rtui_paragraph.specs.Reflow.{data_of, columns_taken}
-use Rattle.rtui_paragraph.proofs.RowsLemmas.{cut-fits}
+use Rattle.std.proofs.Common.{All, sym, subst}
+use Rattle.ratatui_core.specs.{Buffer.IsShort, Text.GraphemeData, Style.patch}
+use Rattle.rtui_paragraph.specs.Reflow.{columns_taken, cut_row}
+use Rattle.rtui_paragraph.specs.{Paragraphs.graphemes_of}
+use Rattle.rtui_paragraph.proofs.{RowsLemmas.cut-fits, RowsLemmas.indent-fits, CutLemmas.short-cut, CutLemmas.short-line}
 use Rattle.rtui_paragraph.proofs.paragraph.Paragraph.render_cut.Goals as goal
 
-pub render_row-requires-clause-fits : goal.render_row-requires-clause-fits
-render_row-requires-clause-fits c =
-    subst (λ gs. columns_taken gs ≤ c.args.part.width) (sym (ap data_of c.as_slice.ensures.value ∙ c.in_ok-row.ensures))
-    (cut-fits c.args.part.width c.columns_scrolled.result _)
+pub render_cut_row-requires-clause-fits : goal.render_cut_row-requires-clause-fits
+render_cut_row-requires-clause-fits c =
+    let gs = graphemes_of c.args.self.now c.args.line.now in
+    let row = cut_row c.args.part.width c.columns_scrolled-columns.result gs in
+    rw (c.cut.ensures.left, c.cut_indent-start.ensures, ← c.columns_scrolled-columns.ensures)
+    (indent-fits c.unwrap_or-alignment.result (columns_taken row) c.args.part.width
+    (cut-fits c.args.part.width c.columns_scrolled-columns.result gs))
+
+pub returns-clause-short : goal.returns-clause-short
+returns-clause-short c = λ short.
+    let gs = graphemes_of c.args.self.now c.args.line.now in
+    c.render_cut_row.ensures.short (subst (All (λ (d : GraphemeData). IsShort d.symbol)) (sym c.cut.ensures.left)
+    (short-cut c.args.part.width c.columns_scrolled-columns.result gs
+    (short-line (patch c.args.self.now.text.style c.args.line.now.style) c.args.line.now.spans short)))

@@ -1,5 +1,6 @@
-use Rattle.std.proofs.Common.{rules, ◌≡◌, ◌<◌, ◌+◌, ◌∙◌, ◌∷◌, None, length, drop, slice_index_or, arith, ap, subst}
-use Rattle.ratatui_core.specs.Buffer.{IsReadyFrom}
+use Rattle.std.proofs.Common.{rules, ◌≡◌, ◌<◌, ◌+◌, ◌∙◌, ◌∷◌, None, length, drop, slice_index_or, arith, ap, sym, subst}
+use Rattle.std.proofs.Common.{false, true}
+use Rattle.ratatui_core.specs.{Buffer.IsReadyFrom, Buffer.HaveShortGraphemes, Text.LineData}
 use Rattle.ratatui_core.proofs.WidgetLemmas.{within-then}
 use Rattle.rtui_boxes.proofs.BoxLemmas.{inside-within}
 use Rattle.rtui_paragraph.specs.Paragraphs.{cut_line, rows_of_lines}
@@ -28,3 +29,12 @@ loop-k-preserved c =
           c.loop-k-test.true next i.paints c.in_ok-render_cut.ensures.ok;
       ready = λ from. subst (λ y. IsReadyFrom y c.render_cut.new.buf) place (c.in_ok-render_cut.ensures.ready (i.ready from));
     }
+
+pub returns-in_err-render_cut-clause-short : goal.returns-in_err-render_cut-clause-short
+returns-in_err-render_cut-clause-short c = λ all.
+    let k = c.args.self.now.scroll.y + c.loop-k.k in
+    let lt : k < length c.args.self.now.text.lines = search rules in
+    let at : c.in-Some.line.now ≡ slice_index_or c.args.self.now.text.lines k c.in-Some.line.now = search rules in
+    let no : false ≡ true = c.in_err-render_cut.ensures.short
+    (subst (λ (l : LineData). HaveShortGraphemes l.spans) (sym at) (all k c.in-Some.line.now lt)) in
+    absurd (cc)

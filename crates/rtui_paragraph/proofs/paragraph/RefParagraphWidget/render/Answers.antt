@@ -54,3 +54,6 @@ returns-clause-err c =
 
 pub returns-clause-left : goal.returns-clause-left
 returns-clause-left c = any-err c.render_text.result tt
+
+pub returns-clause-short : goal.returns-clause-short
+returns-clause-short c = λ short. c.render_text.ensures.short short.cut short.text
