@@ -20,10 +20,7 @@ fn charted(alloc: Global, area: Rect, buf: &mut Buffer) -> Result<(), AllocError
 
 // A chart with an axis that has labels.
 fn labelled(alloc: Global, area: Rect, buf: &mut Buffer) -> Result<(), AllocError> {
-    let mut labels = Vec::new(alloc);
-    labels.push(Line::raw(alloc, "0")?)?;
-    labels.push(Line::raw(alloc, "50")?)?;
-    labels.push(Line::raw(alloc, "100")?)?;
+    let labels = vec![in alloc; Line::raw(alloc, "0")?, Line::raw(alloc, "100")?]?;
     let axis = Axis::new().bounds([0, 100]).labels(labels);
     Chart::new(Vec::new(alloc)).x_axis(axis).render(area, buf)?;
     Ok(())

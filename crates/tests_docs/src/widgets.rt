@@ -47,7 +47,7 @@ fn items(alloc: Global) -> Result<Vec<ListItem<'static>>, AllocError> {
 fn listed(alloc: Global, area: Rect, buf: &mut Buffer) -> Result<(), AllocError> {
     let items = items(alloc)?;
     let list = List::new(items)
-        .highlight_symbol("> ")
+        .highlight_symbol(Line::raw(alloc, "> ")?)
         .highlight_style(Style::new().bg(Color::Blue));
     let mut state = ListState::default();
     state.select(Some(1));
