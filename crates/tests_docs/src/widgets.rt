@@ -6,6 +6,7 @@ use ratatui_core::buffer::Buffer;
 use ratatui_core::layout::Rect;
 use ratatui_core::style::{Color, Style};
 use ratatui_core::terminal::{Frame, Terminal};
+use ratatui_core::text::Line;
 use ratatui_core::widgets::{StatefulWidget, Widget};
 use ratatui_widgets::{
     Block, BorderType, Gauge, LineGauge, List, ListItem, ListState, Paragraph, Scrollbar,
