@@ -1,6 +1,7 @@
 //! Bars in groups, with labels and values.
 
-ghost use Rattle.std.specs.Prelude.{◌≡◌, ◌≤◌, Some, None, OnOk, IfOk, [], ◌∷◌};
+ghost use Rattle.std.specs.Prelude.{◌≡◌, ◌≤◌, Some, None, OnOk, IfOk, [], ◌∷◌, true};
+ghost use Rattle.std.specs.Cmp.Lexicographic.{pointwise};
 ghost use Rattle.ratatui_core.specs.Widgets.{ChangesWithin};
 ghost use Rattle.rtui_boxes.specs.Boxes.{IsBoxArea};
 ghost use Rattle.rtui_bars.specs.BarCharts.{IsNewBarChart, IsLyingBarChart, measures_of};
@@ -15,7 +16,7 @@ use ratatui_core::style::Style;
 use ratatui_core::symbols::bar;
 use ratatui_core::text::Line;
 use ratatui_core::widgets::Widget;
-use rtui_boxes::{Block, render_frame};
+use rtui_boxes::{Block, cloned_block, render_frame};
 use std::alloc::{AllocError, Global};
 
 // What a chart finds out before it renders: the value that fills it, and the columns of the labels
@@ -38,7 +39,7 @@ pub(crate) struct Measures {
 /// groups.push(BarGroup::new(bars))?;
 /// BarChart::new(groups).bar_width(3).render(area, buf)?;
 /// ```
-#[derive(Debug, Drop)]
+#[derive(Debug, PartialEq, Eq, Drop)]
 pub struct BarChart<'a> {
     block: Option<Block<'a>>,
     pub(crate) bar_width: u16,
@@ -201,6 +202,31 @@ impl<'a> BarChart<'a> {
         self
     }
 
+    /// An equal chart.
+    ///
+    /// # Errors
+    ///
+    /// `AllocError` if memory is refused.
+    pub fn clone(&self, alloc: Global) -> Result<BarChart<'a>, AllocError>
+        ensures { let same = ⟦<BarChart<'a> as PartialEq>⟧.eq in
+            IfOk result (λ chart. same self.now chart ≡ true) }
+    {
+        Ok(BarChart {
+            block: cloned_block(alloc, &self.block)?,
+            bar_width: self.bar_width,
+            bar_gap: self.bar_gap,
+            group_gap: self.group_gap,
+            bar_set: self.bar_set.clone()?,
+            bar_style: self.bar_style,
+            value_style: self.value_style,
+            label_style: self.label_style,
+            style: self.style,
+            groups: cloned_groups(alloc, self.groups.as_slice())?,
+            max: self.max,
+            direction: self.direction,
+        })
+    }
+
     // What it finds out before it renders.
     pub(crate) fn measures(&self) -> Measures
         ensures { result ≡ measures_of self.now }
@@ -277,6 +303,21 @@ fn greatest_bar(bars: &[Bar<'_>]) -> u64
         greatest = bar.value.max(greatest);
     }
     greatest
+}
+
+// Equal groups.
+fn cloned_groups<'a>(
+    alloc: Global,
+    groups: &[BarGroup<'a>],
+) -> Result<Vec<BarGroup<'a>>, AllocError>
+    ensures { let same = ⟦<BarGroup<'a> as PartialEq>⟧.eq in
+        IfOk result (λ cloned. pointwise same groups.now cloned.items ≡ true) }
+{
+    let mut cloned = Vec::with_capacity(alloc, groups.len())?;
+    for group in groups {
+        cloned.push(group.clone(alloc)?)?;
+    }
+    Ok(cloned)
 }
 
 /// Over the area, as far as the buffer has it: the style, the box, and inside the groups from the

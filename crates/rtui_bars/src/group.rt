@@ -1,14 +1,16 @@
 //! The bars of a chart, in groups.
 
-ghost use Rattle.std.specs.Prelude.{◌≡◌, Some, None};
+ghost use Rattle.std.specs.Prelude.{◌≡◌, Some, None, IfOk, true};
 ghost use Rattle.ratatui_core.specs.Style.{new_style};
 ghost use Rattle.rtui_bars.specs.BarCharts.{new_bar};
 
 use ratatui_core::style::Style;
 use ratatui_core::text::Line;
+use rtui_boxes::cloned_line;
+use std::alloc::{AllocError, Global};
 
 /// A bar of a chart: a value, a label and styles of its own, if it has them.
-#[derive(Debug, Drop)]
+#[derive(Debug, PartialEq, Eq, Drop)]
 pub struct Bar<'a> {
     pub(crate) value: u64,
     pub(crate) label: Option<Line<'a>>,
@@ -77,10 +79,27 @@ impl<'a> Bar<'a> {
         self.text_value = Some(text);
         self
     }
+
+    /// An equal bar.
+    ///
+    /// # Errors
+    ///
+    /// `AllocError` if memory is refused.
+    pub fn clone(&self, alloc: Global) -> Result<Bar<'a>, AllocError>
+        ensures { IfOk result (λ bar. bar ≡ self.now) }
+    {
+        Ok(Bar {
+            value: self.value,
+            label: cloned_line(alloc, &self.label)?,
+            style: self.style,
+            value_style: self.value_style,
+            text_value: self.text_value,
+        })
+    }
 }
 
 /// Bars side by side, with a label for all of them, if they have one.
-#[derive(Debug, Drop)]
+#[derive(Debug, PartialEq, Eq, Drop)]
 pub struct BarGroup<'a> {
     pub(crate) label: Option<Line<'a>>,
     pub(crate) bars: Vec<Bar<'a>>,
@@ -120,4 +139,30 @@ impl<'a> BarGroup<'a> {
     {
         BarGroup { bars, ..self }
     }
+
+    /// An equal group.
+    ///
+    /// # Errors
+    ///
+    /// `AllocError` if memory is refused.
+    pub fn clone(&self, alloc: Global) -> Result<BarGroup<'a>, AllocError>
+        ensures { let same = ⟦<BarGroup<'a> as PartialEq>⟧.eq in
+            IfOk result (λ group. same self.now group ≡ true) }
+    {
+        Ok(BarGroup {
+            label: cloned_line(alloc, &self.label)?,
+            bars: cloned_bars(alloc, self.bars.as_slice())?,
+        })
+    }
+}
+
+// Equal bars.
+fn cloned_bars<'a>(alloc: Global, bars: &[Bar<'a>]) -> Result<Vec<Bar<'a>>, AllocError>
+    ensures { IfOk result (λ cloned. cloned.items ≡ bars.now) }
+{
+    let mut cloned = Vec::with_capacity(alloc, bars.len())?;
+    for bar in bars {
+        cloned.push(bar.clone(alloc)?)?;
+    }
+    Ok(cloned)
 }

@@ -1,6 +1,6 @@
 //! Bars of one column each.
 
-ghost use Rattle.std.specs.Prelude.{◌≡◌, ◌≤◌, ◌<◌, ◌+◌, ◌-◌, Some, OnOk, IsOk};
+ghost use Rattle.std.specs.Prelude.{◌≡◌, ◌≤◌, ◌<◌, ◌+◌, ◌-◌, Some, OnOk, IsOk, IfOk, true};
 ghost use Rattle.ratatui_core.specs.Style.{new_style, patch};
 ghost use Rattle.ratatui_core.specs.Buffer.{IsShort};
 ghost use Rattle.ratatui_core.specs.Widgets.{ChangesWithin};
@@ -15,7 +15,7 @@ use ratatui_core::layout::{Position, Rect};
 use ratatui_core::style::Style;
 use ratatui_core::symbols::{bar, shade};
 use ratatui_core::widgets::Widget;
-use rtui_boxes::{Block, render_frame};
+use rtui_boxes::{Block, cloned_block, render_frame};
 use std::alloc::{AllocError, Global};
 
 /// From which side bars stand one after the other.
@@ -60,7 +60,7 @@ impl SparklineBar {
 /// }
 /// Sparkline::new(bars).render(area, buf)?; // "▄▁▆▁█" in one row
 /// ```
-#[derive(Debug, Drop)]
+#[derive(Debug, PartialEq, Eq, Drop)]
 pub struct Sparkline<'a> {
     block: Option<Block<'a>>,
     pub(crate) style: Style,
@@ -152,6 +152,27 @@ impl<'a> Sparkline<'a> {
     {
         self.direction = direction;
         self
+    }
+
+    /// An equal sparkline.
+    ///
+    /// # Errors
+    ///
+    /// `AllocError` if memory is refused.
+    pub fn clone(&self, alloc: Global) -> Result<Sparkline<'a>, AllocError>
+        ensures { let same = ⟦<Sparkline<'a> as PartialEq>⟧.eq in
+            IfOk result (λ sparkline. same self.now sparkline ≡ true) }
+    {
+        Ok(Sparkline {
+            block: cloned_block(alloc, &self.block)?,
+            style: self.style,
+            absent_value_style: self.absent_value_style,
+            absent_value_symbol: self.absent_value_symbol,
+            bars: Vec::from_slice(alloc, self.bars.as_slice())?,
+            max: self.max,
+            bar_set: self.bar_set.clone()?,
+            direction: self.direction,
+        })
     }
 
     // The value that is as high as the area.

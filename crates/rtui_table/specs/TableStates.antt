@@ -1,6 +1,8 @@
 -- The state of a table.
 use Rattle.std.specs.Prelude.{ℕ, Option, Some, None}
-use Rattle.rtui_table.specs.declared.state.TableState.{TableState}
+use Rattle.std.specs.Borrow.{Lends, MutBor, Fml, usize}
+use Rattle.std.specs.contracts.option.Option as option
+use Rattle.rtui_table.specs.{declared.state.TableState.TableState, contracts.state.TableState.the_row}
 
 -- the state in which a row is selected, or none: then it begins with the first one
 abbrev pub selecting_row : Option ℕ → TableState → TableState
@@ -21,3 +23,15 @@ both_of (Some row) (Some column) = Some (row, column)
 -- the selected row and column, if both are
 abbrev pub cell_of_state : TableState → Option (ℕ × ℕ)
 cell_of_state s = both_of s.selected s.selected_column
+
+-- what is lent of a state is its field: the state ends with the last value of what is lent, all else as it was
+abbrev pub LendsRowOffset : MutBor TableState → MutBor ℕ → Fml
+LendsRowOffset state lent = Lends the_row usize state lent (λ offset. record state.now { offset = offset })
+
+abbrev pub LendsSelectedRow : MutBor TableState → MutBor (Option ℕ) → Fml
+LendsSelectedRow state lent = Lends the_row (option.the_row usize) state lent
+    (λ selected. record state.now { selected = selected })
+
+abbrev pub LendsSelectedColumn : MutBor TableState → MutBor (Option ℕ) → Fml
+LendsSelectedColumn state lent = Lends the_row (option.the_row usize) state lent
+    (λ selected. record state.now { selected_column = selected })

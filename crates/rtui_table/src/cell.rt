@@ -14,7 +14,7 @@ use ratatui_core::widgets::Widget;
 use std::alloc::{AllocError, Global};
 
 /// A cell of a table: a text in a style.
-#[derive(Debug, Drop)]
+#[derive(Debug, PartialEq, Eq, Drop)]
 pub struct Cell<'a> {
     pub(crate) content: Text<'a>,
     pub(crate) style: Style,
@@ -55,6 +55,20 @@ impl<'a> Cell<'a> {
         ensures { result ≡ record self.entry { style = style } }
     {
         Cell { style, ..self }
+    }
+
+    /// An equal cell.
+    ///
+    /// # Errors
+    ///
+    /// `AllocError` if memory is refused.
+    pub fn clone(&self, alloc: Global) -> Result<Cell<'a>, AllocError>
+        ensures { IfOk result (λ cell. cell ≡ self.now) }
+    {
+        Ok(Cell {
+            content: self.content.clone(alloc)?,
+            style: self.style,
+        })
     }
 
     // Renders the cell: its style, and its text over it.

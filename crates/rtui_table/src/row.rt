@@ -1,16 +1,17 @@
 //! The rows of a table.
 
-ghost use Rattle.std.specs.Prelude.{◌≡◌, ◌≤◌, ◌<◌, ◌+◌, min};
+ghost use Rattle.std.specs.Prelude.{◌≡◌, ◌≤◌, ◌<◌, ◌+◌, min, IfOk, true};
 ghost use Rattle.ratatui_core.specs.Style.{new_style};
 ghost use Rattle.rtui_table.specs.Rows.{full_height, upper_height, cells_area, below, above, IsTableArea};
 
 use crate::cell::Cell;
 use ratatui_core::layout::Rect;
 use ratatui_core::style::Style;
+use std::alloc::{AllocError, Global};
 
 /// A row of a table: cells from left to right, in so many rows of the screen, with rows that stay
 /// free above and below.
-#[derive(Debug, Drop)]
+#[derive(Debug, PartialEq, Eq, Drop)]
 pub struct Row<'a> {
     pub(crate) cells: Vec<Cell<'a>>,
     pub(crate) height: u16,
@@ -75,6 +76,24 @@ impl<'a> Row<'a> {
         Row { style, ..self }
     }
 
+    /// An equal row.
+    ///
+    /// # Errors
+    ///
+    /// `AllocError` if memory is refused.
+    pub fn clone(&self, alloc: Global) -> Result<Row<'a>, AllocError>
+        ensures { let same = ⟦<Row<'a> as PartialEq>⟧.eq in
+            IfOk result (λ row. same self.now row ≡ true) }
+    {
+        Ok(Row {
+            cells: cloned_cells(alloc, self.cells.as_slice())?,
+            height: self.height,
+            top_margin: self.top_margin,
+            bottom_margin: self.bottom_margin,
+            style: self.style,
+        })
+    }
+
     /// How many rows of the screen it takes, with its margins.
     pub fn height_with_margin(&self) -> usize
         ensures value { result ≡ full_height self.now }
@@ -102,6 +121,17 @@ impl<'a> Row<'a> {
             ..left
         }
     }
+}
+
+// Equal cells.
+fn cloned_cells<'a>(alloc: Global, cells: &[Cell<'a>]) -> Result<Vec<Cell<'a>>, AllocError>
+    ensures { IfOk result (λ cloned. cloned.items ≡ cells.now) }
+{
+    let mut cloned = Vec::with_capacity(alloc, cells.len())?;
+    for cell in cells {
+        cloned.push(cell.clone(alloc)?)?;
+    }
+    Ok(cloned)
 }
 
 // An area without its first rows.

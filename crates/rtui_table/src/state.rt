@@ -1,8 +1,10 @@
 //! What a table keeps from one rendering to the next.
 
 ghost use Rattle.std.specs.Prelude.{◌≡◌, ◌-◌, ◌+◌, min, unwrap_or, Some, None, Option, ℕ};
+ghost use Rattle.std.specs.Borrow.{sem};
 ghost use Rattle.rtui_list.specs.States.{next_of, previous_of};
 ghost use Rattle.rtui_table.specs.TableStates.{selecting_row, selecting_cell, cell_of_state};
+ghost use Rattle.rtui_table.specs.TableStates.{LendsRowOffset, LendsSelectedRow, LendsSelectedColumn};
 
 /// Which row and which column are selected, and which row is the first one shown.
 #[derive(Debug, Default, Clone, Copy, PartialEq, Eq, Hash)]
@@ -55,6 +57,14 @@ impl TableState {
         self.offset
     }
 
+    /// The first row that is shown, to be written.
+    pub fn offset_mut(&mut self) -> &mut usize
+        ensures* writes_back { sem 𝓛 (LendsRowOffset self.entry result) }
+        ensures value { result.now ≡ self.old.offset }
+    {
+        &mut self.offset
+    }
+
     /// The selected row.
     pub fn selected(&self) -> Option<usize>
         ensures { result ≡ self.now.selected }
@@ -62,11 +72,27 @@ impl TableState {
         self.selected
     }
 
+    /// The selected row, to be written. The first row that is shown stays, also if none is selected.
+    pub fn selected_mut(&mut self) -> &mut Option<usize>
+        ensures* writes_back { sem 𝓛 (LendsSelectedRow self.entry result) }
+        ensures value { result.now ≡ self.old.selected }
+    {
+        &mut self.selected
+    }
+
     /// The selected column.
     pub fn selected_column(&self) -> Option<usize>
         ensures { result ≡ self.now.selected_column }
     {
         self.selected_column
+    }
+
+    /// The selected column, to be written.
+    pub fn selected_column_mut(&mut self) -> &mut Option<usize>
+        ensures* writes_back { sem 𝓛 (LendsSelectedColumn self.entry result) }
+        ensures value { result.now ≡ self.old.selected_column }
+    {
+        &mut self.selected_column
     }
 
     /// The selected row and column, if both are.

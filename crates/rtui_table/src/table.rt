@@ -1,6 +1,7 @@
 //! A table of rows in columns.
 
-ghost use Rattle.std.specs.Prelude.{◌≡◌, ◌≤◌, ◌<◌, ◌+◌, Some, OnOk, OnErr, IfOk, is_some, length};
+ghost use Rattle.std.specs.Prelude.{◌≡◌, ◌≤◌, ◌<◌, ◌+◌, Some, OnOk, OnErr, IfOk, is_some, length, true};
+ghost use Rattle.std.specs.Cmp.Lexicographic.{pointwise};
 ghost use Rattle.ratatui_core.specs.Layout.{inner, IsSplit};
 ghost use Rattle.ratatui_core.specs.Widgets.{ChangesWithin};
 ghost use Rattle.rtui_boxes.specs.Boxes.{IsBoxArea};
@@ -16,7 +17,7 @@ use ratatui_core::layout::{Constraint, Flex, Layout, Rect, Spacing, Split};
 use ratatui_core::style::Style;
 use ratatui_core::text::Text;
 use ratatui_core::widgets::StatefulWidget;
-use rtui_boxes::{Block, render_frame};
+use rtui_boxes::{Block, cloned_block, render_frame};
 use rtui_list::HighlightSpacing;
 use std::alloc::{AllocError, Global};
 
@@ -27,7 +28,7 @@ use std::alloc::{AllocError, Global};
 /// let table = Table::new(rows, widths).header(names).row_highlight_style(Style::new().bg(Color::Blue));
 /// StatefulWidget::render(&table, area, buf, &mut state)?;
 /// ```
-#[derive(Debug, Drop)]
+#[derive(Debug, PartialEq, Eq, Drop)]
 pub struct Table<'a> {
     pub(crate) rows: Vec<Row<'a>>,
     header: Option<Row<'a>>,
@@ -171,6 +172,32 @@ impl<'a> Table<'a> {
         self
     }
 
+    /// An equal table.
+    ///
+    /// # Errors
+    ///
+    /// `AllocError` if memory is refused.
+    pub fn clone(&self, alloc: Global) -> Result<Table<'a>, AllocError>
+        ensures { let same = ⟦<Table<'a> as PartialEq>⟧.eq in
+            IfOk result (λ table. same self.now table ≡ true) }
+    {
+        Ok(Table {
+            rows: cloned_rows(alloc, self.rows.as_slice())?,
+            header: cloned_row(alloc, &self.header)?,
+            footer: cloned_row(alloc, &self.footer)?,
+            widths: Vec::from_slice(alloc, self.widths.as_slice())?,
+            column_spacing: self.column_spacing,
+            block: cloned_block(alloc, &self.block)?,
+            style: self.style,
+            row_highlight_style: self.row_highlight_style,
+            column_highlight_style: self.column_highlight_style,
+            cell_highlight_style: self.cell_highlight_style,
+            highlight_symbol: cloned_text(alloc, &self.highlight_symbol)?,
+            highlight_spacing: self.highlight_spacing,
+            flex: self.flex,
+        })
+    }
+
     // How many columns it has: as many as the row, header or footer of most cells has cells.
     fn column_count(&self) -> usize
         ensures { result ≡ column_count self.now }
@@ -271,6 +298,39 @@ impl<'a> Table<'a> {
         self.render_outer(&self.footer, columns, footer, buf)?;
         *state = next;
         Ok(())
+    }
+}
+
+// Equal rows.
+fn cloned_rows<'a>(alloc: Global, rows: &[Row<'a>]) -> Result<Vec<Row<'a>>, AllocError>
+    ensures { let same = ⟦<Row<'a> as PartialEq>⟧.eq in
+        IfOk result (λ cloned. pointwise same rows.now cloned.items ≡ true) }
+{
+    let mut cloned = Vec::with_capacity(alloc, rows.len())?;
+    for row in rows {
+        cloned.push(row.clone(alloc)?)?;
+    }
+    Ok(cloned)
+}
+
+// An equal row, if there is one.
+fn cloned_row<'a>(alloc: Global, row: &Option<Row<'a>>) -> Result<Option<Row<'a>>, AllocError>
+    ensures { let same = ⟦<Option<Row<'a>> as PartialEq>⟧.eq in
+        IfOk result (λ cloned. same row.now cloned ≡ true) }
+{
+    match row {
+        Some(row) => Ok(Some(row.clone(alloc)?)),
+        None => Ok(None),
+    }
+}
+
+// An equal text, if there is one.
+fn cloned_text<'a>(alloc: Global, text: &Option<Text<'a>>) -> Result<Option<Text<'a>>, AllocError>
+    ensures { IfOk result (λ cloned. cloned ≡ text.now) }
+{
+    match text {
+        Some(text) => Ok(Some(text.clone(alloc)?)),
+        None => Ok(None),
     }
 }
 
