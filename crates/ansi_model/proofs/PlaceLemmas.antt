@@ -9,8 +9,8 @@ use Rattle.ansi_model.specs.{Drawing.is_at, Drawing.is_place, Drawing.ChangesSgr
 use Rattle.ansi_model.specs.Emulator.{holding}
 use Rattle.ansi_model.specs.Drawing.ChangesSgr.{Stays, Sets}
 use Rattle.ansi_model.specs.Sends.{Sends, Performs, typed}
-use Rattle.ansi_model.specs.Places.{Places, PlacesEach, PlacesOn}
-use Rattle.ansi_model.specs.Places.Places.{Begins, Moves, Prints, Types, Inks, Holds}
+use Rattle.ansi_model.specs.Places.{Placed, PlacesEach, PlacesOn}
+use Rattle.ansi_model.specs.Places.Placed.{Begins, Moves, Prints, Types, Inks, Holds}
 use Rattle.ansi_model.proofs.SymbolLemmas.{plain-printed}
 
 -- ---- bytes before those
@@ -24,8 +24,8 @@ later before old new effect sends = record {
   read = sends.read;
 }
 
-pub places-later : (before : List ℕ) {first : List ℕ} {known : Bool} {new : List ℕ} → Places first known new
-    → Places (before ++ first) known (before ++ new)
+pub places-later : (before : List ℕ) {first : List ℕ} {known : Bool} {new : List ℕ} → Placed first known new
+    → Placed (before ++ first) known (before ++ new)
 places-later before Begins = Begins
 places-later before (Moves x y placed does) = Moves x y (places-later before placed) (later before _ _ _ does)
 places-later before (Prints symbol is placed does) = Prints symbol is (places-later before placed) (later before _ _ _ does)
@@ -34,8 +34,8 @@ places-later before (Inks sgr placed does) = Inks sgr (places-later before place
 places-later before (Holds on placed does) = Holds on (places-later before placed) (later before _ _ _ does)
 
 -- symbols are placed, and then others from a place that isn't known
-pub places-then : {first mid : List ℕ} {known : Bool} {new : List ℕ} → Places first false mid → Places mid known new
-    → Places first known new
+pub places-then : {first mid : List ℕ} {known : Bool} {new : List ℕ} → Placed first false mid → Placed mid known new
+    → Placed first known new
 places-then start Begins = start
 places-then start (Moves x y placed does) = Moves x y (places-then start placed) does
 places-then start (Prints symbol is placed does) = Prints symbol is (places-then start placed) does
@@ -59,7 +59,7 @@ pub places-sgr : (before : Pen) (sgr : Sgr) (old new : List ℕ) → ChangesSgr 
     → PlacesOn old before new (record before { sgr = sgr })
 places-sgr before sgr old new (Stays same none) = record {
   kept = refl;
-  places = λ wide first placed. subst (Places first (is_some before.at)) (sym none) placed;
+  places = λ wide first placed. subst (Placed first (is_some before.at)) (sym none) placed;
 }
 places-sgr before sgr old new (Sets does) = record {
   kept = refl;
@@ -72,7 +72,7 @@ pub places-moved : (x y : ℕ) (place : Position) (before after : Pen) (old new 
     → after.at ≡ Some place → PlacesOn old before new after
 places-moved x y place before after old new does kept at = record {
   kept = kept;
-  places = λ wide first placed. subst (λ o. Places first (is_some o) new) (sym at) (Moves x y placed does);
+  places = λ wide first placed. subst (λ o. Placed first (is_some o) new) (sym at) (Moves x y placed does);
 }
 
 -- a symbol after which no place is known
@@ -81,7 +81,7 @@ pub places-symbol : (x y : ℕ) (symbol : List ℕ) (before after : Pen) (old mi
     → after.ambiguous_is_wide ≡ before.ambiguous_is_wide → PlacesOn old before new after
 places-symbol x y symbol before after old mid new does sends is none kept = record {
   kept = kept;
-  places = λ wide first placed. subst (λ o. Places first (is_some o) new) (sym none)
+  places = λ wide first placed. subst (λ o. Placed first (is_some o) new) (sym none)
       (Prints symbol is (Moves x y placed does) sends);
 }
 
@@ -97,13 +97,13 @@ module _ (c : ℕ) (before after : Pen) (mid new : List ℕ) (place : Position) 
     (sends : Sends mid new (typed (encode_utf8 c)))
     (at : after.at ≡ then_some (not before.ambiguous_is_wide || nat_le c 126) place) where
   typed-by : (wide small : Bool) → before.ambiguous_is_wide ≡ wide → nat_le c 126 ≡ small → wide ≡ true → (first : List ℕ)
-      → Places first true mid → Places first (is_some after.at) new
+      → Placed first true mid → Placed first (is_some after.at) new
   typed-by true true flag is w first placed = rw (at, flag, is) (Types c (grind (arith, nat_tests)) placed sends)
   typed-by true false flag is w first placed = rw (at, flag, is)
       (Prints (encode_utf8 c) (plain-printed c plain) placed sends)
   typed-by false small flag is w first placed = let h : ⊥ = cc in absurd h
 
-  typed-on : before.ambiguous_is_wide ≡ true → (first : List ℕ) → Places first true mid → Places first (is_some after.at) new
+  typed-on : before.ambiguous_is_wide ≡ true → (first : List ℕ) → Placed first true mid → Placed first (is_some after.at) new
   typed-on wide first placed = typed-by true (nat_le c 126) wide refl refl first placed
 
   pub places-here : (x y : ℕ) → is_at x y before ≡ true → after.ambiguous_is_wide ≡ before.ambiguous_is_wide
@@ -111,7 +111,7 @@ module _ (c : ℕ) (before after : Pen) (mid new : List ℕ) (place : Position) 
   places-here x y here kept = record {
     kept = kept;
     places = λ wide first placed. typed-on wide first
-        (subst (λ known. Places first known mid) (known-at x y before.at here) placed);
+        (subst (λ known. Placed first known mid) (known-at x y before.at here) placed);
   }
 
   pub places-there : (x y : ℕ) (old : List ℕ) → Performs old mid (cursor_moved x y)
@@ -128,7 +128,7 @@ pub places-each : {old new : List ℕ} (before after : Pen) → before.at ≡ No
     → before.ambiguous_is_wide ≡ true → PlacesEach old new
 places-each {old} before after none on wide = record {
   known = is_some after.at;
-  places = on.places wide old (subst (λ o. Places old (is_some o) old) (sym none) Begins);
+  places = on.places wide old (subst (λ o. Placed old (is_some o) old) (sym none) Begins);
 }
 
 -- the same within a synchronized update
@@ -144,7 +144,7 @@ pub each-sent : (before out more after : List ℕ) → PlacesEach out more → o
     → PlacesEach before after
 each-sent before out more after each none e = record {
   known = each.known;
-  places = subst (λ xs. Places before each.known xs) (sym e)
-      (subst (λ xs. Places xs each.known (before ++ more)) (ap (λ xs. before ++ xs) none ∙ append-nil before)
+  places = subst (λ xs. Placed before each.known xs) (sym e)
+      (subst (λ xs. Placed xs each.known (before ++ more)) (ap (λ xs. before ++ xs) none ∙ append-nil before)
       (places-later before each.places));
 }

@@ -94,10 +94,6 @@ pub behind-along : (d : Direction) (n : ℕ) (r : Rect) → cells_along d (area_
 behind-along Vertical n r = refl
 behind-along Horizontal n r = refl
 
-pub box-room : (d : Direction) (r : Rect) → IsBoxArea r → HasRoomAcross d r
-box-room Vertical r is = record { some = is.rows; across = is.across; down = is.down }
-box-room Horizontal r is = record { some = is.columns; across = is.across; down = is.down }
-
 -- a row of the area right of labels
 pub beside-row : (n y : ℕ) (r : Rect) → y < r.height → IsInside (rows_at y 1 (beside_labels n r)) r
 beside-row n y r lt p h = let left = h.left in let right = h.right in let top = h.top in let bottom = h.bottom in
@@ -132,7 +128,8 @@ take-least n xs =
     (cases_lt n (length xs))
 
 -- what is left after bars
-pub after-room : (c : BarChart) (r : Rect) (bars : List Bar) → HasRoomAcross c.direction r → HasRoomAcross c.direction (after_bars c r bars)
+pub after-room : (c : BarChart) (r : Rect) (bars : List Bar) → HasRoomAcross c.direction r
+    → HasRoomAcross c.direction (after_bars c r bars)
 after-room c r [] is = is
 after-room c r (bar ∷ bars) is =
     after-room c (area_behind c.direction (bar_step c) r) bars (behind-room c.direction (bar_step c) r is)

@@ -97,7 +97,8 @@ module _ (c : BarChart) (narrow : HasNarrowGroups c) where
       let m = middle_columns (text_columns text) (rows_at (bar_rows c r.height - 1) 1 r) in
       does-stay (is_written bar.value (text_columns text) r.width eighths) (WritesText (patch c.value_style bar.value_style) text
       (rows_at (bar_rows c r.height - 1) 1 r)) is.labelled new labelled
-      (pieces-stay (corner m) m.x m.width (patch c.value_style bar.value_style) text is.labelled new texts.value labelled) is.value
+      (pieces-stay (corner m) m.x m.width (patch c.value_style bar.value_style) text is.labelled new texts.value labelled)
+      is.value
 
   over-stays : (style : Style) (text : List ℕ) (n : ℕ) (r : Rect) (old new : BufferData) → HasNarrowGraphemes text
       → IsPlainFrom 0 old → WritesOver style text n r old new → IsPlainFrom 0 new

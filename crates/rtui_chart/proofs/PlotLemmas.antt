@@ -9,11 +9,9 @@ use Rattle.ratatui_core.specs.Widgets.{ChangesWithin, RendersLine}
 use Rattle.ratatui_core.proofs.WidgetLemmas.{within-then, within-styled}
 use Rattle.rtui_chart.specs.{ChartLayouts.widest_line, Legends.with_name, Legends.name_count, Legends.name_columns}
 use Rattle.std.proofs.lemmas.List.{drop_more}
-use Rattle.std.proofs.Math.Nat.{mul-div-le, mul-le-mul_right, div-le_of_le-mul, mul-zero}
+use Rattle.std.proofs.Math.Nat.{mul-div-le, mul-le-mul_right, mul-zero}
 use Rattle.ratatui_core.specs.Layout.{Rect, IsInside}
-use Rattle.ratatui_core.specs.declared.layout.HorizontalAlignment.{HorizontalAlignment}
-use Rattle.ratatui_core.specs.declared.layout.HorizontalAlignment.TheVariants.{Left, Center, Right}
-use Rattle.rtui_chart.specs.{ChartParts.first_label_area, Inner.AreLabelRows}
+use Rattle.rtui_chart.specs.{Inner.AreLabelRows}
 
 -- the elements from one on
 pub element-next : {A : Type 0} (xs : List A) (k : ℕ) (x : A) → k < length xs → x ≡ get_or xs k x
@@ -27,40 +25,11 @@ share-fits i n g lt =
     let more : (i + 1) * (g / n) ≤ n * (g / n) = mul-le-mul_right (g / n) (omega arith) in
     omega arith
 
--- the rows over which labels stand: the last one is at most the first row
-pub rows-fit : (i n h : ℕ) → i < n → i * (h - 1) / max (n - 1) 1 ≤ h - 1
-rows-fit i n h lt =
-    let le : i * (h - 1) ≤ max (n - 1) 1 * (h - 1) = mul-le-mul_right (h - 1) (omega arith) in
-    div-le_of_le-mul (max (n - 1) 1) le
-
--- where the first label stands
-pub first-in : (a : HorizontalAlignment) (n w : ℕ) (g r : Rect) → AreLabelRows g r → w ≤ g.width
-    → IsInside (first_label_area a n w g r) r
-first-in Left n w g r are le p h =
-    let l = are.left in let e = are.right in let left = h.left in let right = h.right in
-    record { left = left; right = omega arith; top = h.top; bottom = h.bottom }
-first-in Center n w g r are le p h =
-    let l = are.left in let e = are.right in let left = h.left in let right = h.right in
-    record { left = left; right = omega arith; top = h.top; bottom = h.bottom }
-first-in Right n w g r are le p h =
-    let l = are.left in let e = are.right in let left = h.left in let right = h.right in
-    record { left = omega arith; right = omega arith; top = h.top; bottom = h.bottom }
-
-pub last-in : (w : ℕ) (g r : Rect) → AreLabelRows g r → w ≤ g.width
-    → IsInside (record r { x = g.x + g.width - w; width = w }) r
-last-in w g r are le p h =
-    let l = are.left in let e = are.right in let left = h.left in let right = h.right in
-    record { left = omega arith; right = omega arith; top = h.top; bottom = h.bottom }
-
 pub middle-in : (from w : ℕ) (g r : Rect) → AreLabelRows g r → from + w ≤ g.width
     → IsInside (record r { x = g.x + from + 1; width = w - 1 }) r
 middle-in from w g r are le p h =
     let l = are.left in let e = are.right in let left = h.left in let right = h.right in
     record { left = omega arith; right = omega arith; top = h.top; bottom = h.bottom }
-
-pub row-in : (up : ℕ) (r : Rect) → up < r.height → IsInside (record r { y = r.y + (r.height - 1 - up); height = 1 }) r
-row-in up r lt p h = let top = h.top in let bottom = h.bottom in
-    record { left = h.left; right = h.right; top = omega arith; bottom = omega arith }
 
 -- a place before the last one is less than all columns
 pub share-below : (i n g : ℕ) → i < n → 0 < g → i * (g / n) < g

@@ -47,7 +47,8 @@ y_label_at a g r n i l =
     title_at (aligned a.labels_alignment l) (record r { y = g.y + (g.height - 1 - up); height = 1 })
 
 -- labels, each where it stands by its number, one after the other
-abbrev pub RendersNumbered : (ℕ → LineData → PlacedTitle) → ℕ → List LineData → BufferData → BufferData → Type 0
+abbrev pub RendersNumbered : (ℕ → LineData → PlacedTitle) → ℕ → List LineData → BufferData → BufferData
+    → Type 0
 RendersNumbered place i [] old new = new ≡ old
 RendersNumbered place i (l ∷ ls) old new =
     InTurn (RendersLine (place i l).line (place i l).area) (RendersNumbered place (i + 1) ls) old new

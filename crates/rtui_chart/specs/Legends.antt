@@ -4,7 +4,8 @@ use Rattle.std.specs.Prelude.{[], ◌∷◌, length, Option, Some, None, if◌th
 use Rattle.ratatui_core.specs.{Layout.Rect, Text.LineData, Style.Style, Style.patch}
 use Rattle.ratatui_core.specs.Buffer.{BufferData, IsStyled}
 use Rattle.ratatui_core.specs.declared.layout.Constraint.{Constraint}
-use Rattle.ratatui_core.specs.declared.layout.Constraint.TheVariants.{Min, Max, Length, Percentage, Ratio, Fill}
+use Rattle.ratatui_core.specs.declared.layout.Constraint.TheVariants.{Min, Max, Length}
+use Rattle.ratatui_core.specs.declared.layout.Constraint.TheVariants.{Percentage, Ratio, Fill}
 use Rattle.rtui_boxes.specs.{declared.block.Block.Block, Boxes.RendersBlock, Boxes.IsNewBlock}
 use Rattle.rtui_boxes.specs.Titles.{PlacedTitle, title_at, title_width}
 use Rattle.rtui_chart.specs.declared.{dataset.Dataset.Dataset, legend.LegendPosition.LegendPosition}
@@ -70,7 +71,8 @@ legend_row AtLeft w h g tx ty = g.y + ((g.height - h) / 2 + min ty 1 - min tx 1)
 legend_row AtRight w h g tx ty = g.y + ((g.height - h) / 2 + min ty 1 - min tx 1)
 legend_row BottomLeft w h g tx ty = g.y + (g.height - h - one_row_if (nat_lt g.width (w + tx)))
 legend_row BottomRight w h g tx ty = g.y + (g.height - h - min tx 1)
-legend_row Bottom w h g tx ty = g.y + (g.height - h - one_row_if (nat_lt (g.width - tx) ((g.width - w) / 2 + w)))
+legend_row Bottom w h g tx ty =
+    g.y + (g.height - h - one_row_if (nat_lt (g.width - tx) ((g.width - w) / 2 + w)))
 
 -- the box of the legend around the names; without columns, if there is none: no place for it, no names, or no
 -- room
@@ -91,7 +93,8 @@ abbrev pub name_at : Rect → ℕ → LineData → PlacedTitle
 name_at r i line = title_at line (record { x = r.x + 1; y = r.y + 1 + i; width = r.width - 2; height = 1 })
 
 -- a legend over an area, if it has columns: a style, a box with borders, and the names
-pub record RendersLegendIn (style : Style) (names : List LineData) (r : Rect) (old new : BufferData) : Type 0 where
+pub record RendersLegendIn (style : Style) (names : List LineData) (r : Rect) (old new : BufferData)
+    : Type 0 where
   pub laid : BufferData
   pub boxed : BufferData
   pub block : Block

@@ -12,7 +12,8 @@ use Rattle.rtui_boxes.specs.{Boxes.IsPlainIfBox, Framed.inner_if, Framed.IsBare}
 use Rattle.rtui_boxes.proofs.InnerLemmas.{plain-framed}
 use Rattle.rtui_list.specs.{declared.list.List.List as ListData, declared.item.ListItem.ListItem}
 use Rattle.rtui_list.specs.{declared.state.ListState.ListState}
-use Rattle.rtui_list.specs.Items.{mark_width, mark_part, without_columns, part_row, blanked, MarksRow, MarksRows, is_marked, If}
+use Rattle.rtui_list.specs.Items.{mark_width, mark_part, without_columns, part_row, left_blank}
+use Rattle.rtui_list.specs.Items.{MarksRow, MarksRows, is_marked, If}
 use Rattle.rtui_list.specs.Items.{IsNarrowMark}
 use Rattle.rtui_list.specs.Items.{RendersItem, nth_item, part_of_item, shown_as, is_selected_at, has_mark_columns, HasNarrowItems}
 use Rattle.rtui_list.specs.Items.{ShowsList, RendersList}
@@ -21,7 +22,7 @@ blank-one : text_width (codes " ") ≡ 1
 unfolding width_of
 blank-one = width-empty
 
-plain-blank : (c : Cell) → IsPlain c → IsPlain (blanked c)
+plain-blank : (c : Cell) → IsPlain c → IsPlain (left_blank c)
 unfolding width_of
 plain-blank c is =
     let e = is.unmarked.option in
@@ -46,7 +47,7 @@ mark-plain (Some line) true row old new narrow plain is = (
 )
 mark-plain symbol false row old new narrow plain is = (
   is.area,
-  changed-plain (mark_part symbol row) row (λ _. blanked) old new (λ p c cell. plain-blank c cell) plain is,
+  changed-plain (mark_part symbol row) row (λ _. left_blank) old new (λ p c cell. plain-blank c cell) plain is,
 )
 
 module _ (l : ListData) (narrow : HasNarrowItems l) (r : Rect) where

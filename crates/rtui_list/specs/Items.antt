@@ -1,6 +1,7 @@
 -- What a list makes of a buffer and of its state.
 use Rattle.std.specs.Prelude.{◌≡◌, ℕ, Bool, true, false, ◌+◌, ◌-◌, ◌<◌, ◌==◌, ◌&&◌, ◌||◌, min, List, []}
-use Rattle.std.specs.Prelude.{length, codes, Option, Some, None, is_some, if◌then◌else◌, slice_index_or, All, ⊤}
+use Rattle.std.specs.Prelude.{length, codes, Option, Some, None}
+use Rattle.std.specs.Prelude.{is_some, if◌then◌else◌, slice_index_or, All, ⊤}
 use Rattle.ratatui_core.specs.{Layout.Rect, Layout.intersected, Style.new_style, Style.patch}
 use Rattle.ratatui_core.specs.Text.{LineData, text_of, line_width}
 use Rattle.ratatui_core.specs.Buffer.{BufferData, Cell, with_symbol, IsStyled, ChangesEach, MakesParts}
@@ -34,12 +35,12 @@ has_mark_columns WhenSelected is_selected = is_selected
 has_mark_columns Never is_selected = false
 
 -- how many columns a symbol has, and how many of a part it takes
-abbrev pub symbol_width : Option LineData → ℕ
-symbol_width None = 0
-symbol_width (Some line) = line_width line.spans
+abbrev pub columns_of_mark : Option LineData → ℕ
+columns_of_mark None = 0
+columns_of_mark (Some line) = line_width line.spans
 
 abbrev pub mark_width : Option LineData → Rect → ℕ
-mark_width symbol r = min (symbol_width symbol) r.width
+mark_width symbol r = min (columns_of_mark symbol) r.width
 
 -- these columns
 abbrev pub mark_part : Option LineData → Rect → Rect
@@ -59,8 +60,8 @@ abbrev pub part_row : Rect → ℕ → Rect
 part_row r j = record r { y = r.y + j; height = 1 }
 
 -- a cell with a blank, in the style that it has
-abbrev pub blanked : Cell → Cell
-blanked = with_symbol (codes " ")
+abbrev pub left_blank : Cell → Cell
+left_blank = with_symbol (codes " ")
 
 -- a line over an area, if there is one
 abbrev pub RendersIfLine : Option LineData → Rect → BufferData → BufferData → Type 0
@@ -70,7 +71,7 @@ RendersIfLine (Some line) r old new = RendersLine line r old new
 -- in a symbol's columns of a row the symbol, in its own styles over what stands there, or blanks
 abbrev pub MarksRow : Option LineData → Bool → Rect → BufferData → BufferData → Type 0
 MarksRow symbol true r = RendersIfLine symbol (mark_part symbol r)
-MarksRow symbol false r = ChangesEach (mark_part symbol r) (λ _. blanked)
+MarksRow symbol false r = ChangesEach (mark_part symbol r) (λ _. left_blank)
 
 -- the symbol stands in a row of an item: in the first one of the selected one, or in each
 abbrev pub is_marked : ListData → Bool → ℕ → Bool

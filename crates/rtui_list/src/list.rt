@@ -470,9 +470,9 @@ struct Blank;
 
 impl CellChange for Blank {
     ghost use Rattle.std.specs.Prelude.{⊤};
-    ghost use Rattle.rtui_list.specs.Items.{blanked};
+    ghost use Rattle.rtui_list.specs.Items.{left_blank};
 
-    ghost made = { λ _ _. blanked };
+    ghost made = { λ _ _. left_blank };
 
     ghost is_light = { λ _ _ _. ⊤ };
 

@@ -68,7 +68,8 @@ none-first zero gs d first none = refl
 none-first (suc n) [] d first none = refl
 none-first (suc n) (g ∷ gs) d first none =
     let word : is_of_word g ≡ true = ap not first in
-    let some : g ∷ words_of (take n gs) ≡ [] = sym (ap (λ b. if b then g ∷ words_of (take n gs) else words_of (take n gs)) word) ∙ none in
+    let some : g ∷ words_of (take n gs) ≡ [] = sym
+    (ap (λ b. if b then g ∷ words_of (take n gs) else words_of (take n gs)) word) ∙ none in
     let no : ⊥ = cc in absurd no
 
 -- a front without blanks is the front of the first word
@@ -128,7 +129,8 @@ module _ (width : ℕ) (gs : List GraphemeData) (d : GraphemeData) where
       let behind : last_end is_break (take (n - word) (drop word gs)) ≡ 0 =
       ap (last_end is_break) (sym part) ∙ none-behind is_break (take n gs) in
       let front = word-front (n - word) (drop word gs) behind in
-      let past : drop (n - word) (drop word gs) ≡ drop n gs = drop-drop (n - word) word gs ∙ ap (λ k. drop k gs) (omega (arith, le)) in
+      let past : drop (n - word) (drop word gs) ≡ drop n gs = drop-drop (n - word) word gs
+      ∙ ap (λ k. drop k gs) (omega (arith, le)) in
       let rest : columns_taken (leading_word (drop (n - word) (drop word gs))) ≡ grapheme_columns (slice_index_or gs n d)
       + columns_taken (leading_word (drop (n + 1) gs)) =
       ap (λ xs. columns_taken (leading_word xs)) (past ∙ next) ∙ word-next (slice_index_or gs n d) (drop (n + 1) gs) is.after in
@@ -179,7 +181,8 @@ module _ (width : ℕ) (gs : List GraphemeData) (d : GraphemeData) where
   broken-alone is = (broken-wide is).alone
 
   pub broken-blanks : IsWithinWord gs (row_break width gs).1 d
-      → width < columns_taken (take (word_start gs (row_break width gs).1) gs) + columns_taken (word_around gs (row_break width gs).1)
+      → width < columns_taken (take (word_start gs (row_break width gs).1) gs)
+      + columns_taken (word_around gs (row_break width gs).1)
   broken-blanks is = (broken-wide is).wide
 
   pub broken-first : IsWithinWord gs (row_break width gs).1 d → is_break (slice_index_or gs 0 d) ≡ false

@@ -24,7 +24,7 @@ use Rattle.rtui_terminal.proofs.RestLemmas.{rests-started, rests-applied, rests-
 use Rattle.rtui_terminal.proofs.RestLemmas.{rests-known, rests-takes, rests-inserted}
 use Rattle.rtui_terminal.specs.{Insertion.inserted_area, Writing.Applies, Clearing.ClearsViewport, Resizing.Resizes}
 use Rattle.screenplay.specs.Run.{stage_size, GoesOn, plain_screen, rows_above_view, IsGoodStage, IsFrame, IsStart}
-use Rattle.screenplay.specs.Run.{first_viewport, first_rows}
+use Rattle.screenplay.specs.Run.{first_viewport, rows_at_start}
 use Rattle.rtui_cell.specs.Look.{empty_look}
 use Rattle.rtui_geometry.specs.declared.position.Position.{Position}
 use Rattle.screenplay.specs.Run.{KeepsSurroundings, size_after, IsCauseOfStep, View, row_count, text_area}
@@ -55,7 +55,7 @@ module _ (w h : ℕ) (s : Screen) (blank : IsBlankScreen w h s) where
   started_area (Fixed r) = refl
 
   started_rows : (kind : Viewport) → 0 < h → FitsSize kind (record { width = w; height = h })
-      → rows_scrolled kind 0 s ≡ first_rows kind (record { width = w; height = h })
+      → rows_scrolled kind 0 s ≡ rows_at_start kind (record { width = w; height = h })
   started_rows Fullscreen some good = refl
   started_rows (Inline n) some good = let e = corner_y in let f = blank.height in grind (arith, nat_tests)
   started_rows (Fixed r) some good = refl

@@ -13,7 +13,8 @@ use Rattle.screenplay.specs.{declared.scene.Stage.Stage}
 use Rattle.screenplay.specs.declared.act.Act.TheVariants as acts
 use Rattle.screenplay.specs.declared.scene.Step.TheVariants as steps
 use Rattle.screenplay.specs.declared.script.Command.TheVariants.{SetStage, TakeSize, Put, AddText, Draw, Insert, Clear, Show}
-use Rattle.screenplay.specs.Script.{command_of, command_with, commands_of, since, is_draw, takes_text, size_in, line_in, place_in, size_waiting}
+use Rattle.screenplay.specs.Script.{command_of, command_with, commands_of, since, is_draw}
+use Rattle.screenplay.specs.Script.{takes_text, new_size_in, line_in, letter_in, size_waiting}
 use Rattle.screenplay.specs.Script.{lines_waiting, puts_waiting, stage_of, is_fixed, may_follow, act_after, acts_after}
 use Rattle.screenplay.specs.Script.{is_good_line, AreGoodAfter, IsScriptOf, IsFirstBadLine}
 use Rattle.screenplay.specs.Inner.{nothing, draw_of, without_text, with_act, after_on, after_line}
@@ -114,18 +115,18 @@ module _ (cs : List Command) (s : Script) (is : IsReadTo cs s) (some : 0 < lengt
   acts-stay : (c : Command) → act_after cs c ≡ [] → s.acts ≡ acts_after [] (cs ++ c ∷ [])
   acts-stay c none = sym (append-nil s.acts) ∙ ap (λ xs. s.acts ++ xs) (sym none) ∙ acts-are c
 
-  size-stays : (c : Command) → is_draw c ≡ false → filter_map size_in (c ∷ []) ≡ [] → s.size ≡ size_waiting (cs ++ c ∷ [])
-  size-stays c draws none = is.size ∙ ap (λ xs. slice_get (reverse xs) 0) (sym (waits-kept is_draw c size_in draws cs
-      ∙ ap (λ xs. filter_map size_in (since is_draw cs) ++ xs) none ∙ append-nil (filter_map size_in (since is_draw cs))))
+  size-stays : (c : Command) → is_draw c ≡ false → filter_map new_size_in (c ∷ []) ≡ [] → s.size ≡ size_waiting (cs ++ c ∷ [])
+  size-stays c draws none = is.size ∙ ap (λ xs. slice_get (reverse xs) 0) (sym (waits-kept is_draw c new_size_in draws cs
+      ∙ ap (λ xs. filter_map new_size_in (since is_draw cs) ++ xs) none ∙ append-nil (filter_map new_size_in (since is_draw cs))))
 
   text-stays : (c : Command) → takes_text c ≡ false → filter_map line_in (c ∷ []) ≡ []
       → s.text ≡ text_of (lines_waiting (cs ++ c ∷ []))
   text-stays c takes none = is.text ∙ ap text_of (sym (waits-kept takes_text c line_in takes cs
       ∙ ap (λ xs. filter_map line_in (since takes_text cs) ++ xs) none ∙ append-nil (filter_map line_in (since takes_text cs))))
 
-  puts-stay : (c : Command) → is_draw c ≡ false → filter_map place_in (c ∷ []) ≡ [] → s.puts ≡ puts_waiting (cs ++ c ∷ [])
-  puts-stay c draws none = is.puts ∙ sym (waits-kept is_draw c place_in draws cs
-      ∙ ap (λ xs. filter_map place_in (since is_draw cs) ++ xs) none ∙ append-nil (filter_map place_in (since is_draw cs)))
+  puts-stay : (c : Command) → is_draw c ≡ false → filter_map letter_in (c ∷ []) ≡ [] → s.puts ≡ puts_waiting (cs ++ c ∷ [])
+  puts-stay c draws none = is.puts ∙ sym (waits-kept is_draw c letter_in draws cs
+      ∙ ap (λ xs. filter_map letter_in (since is_draw cs) ++ xs) none ∙ append-nil (filter_map letter_in (since is_draw cs)))
 
   stage-stays : (c : Command) → s.stage ≡ stage_of (cs ++ c ∷ [])
   stage-stays c = is.stage ∙ sym (stage-more cs c some)
@@ -142,9 +143,9 @@ module _ (cs : List Command) (s : Script) (is : IsReadTo cs s) (some : 0 < lengt
   draw-taken = record {
     stage = stage-stays Draw;
     acts = ap (λ xs. s.acts ++ xs) (sym draw-is) ∙ acts-are Draw;
-    size = sym (ap (λ xs. slice_get (reverse xs) 0) (waits-taken is_draw Draw size_in refl cs));
+    size = sym (ap (λ xs. slice_get (reverse xs) 0) (waits-taken is_draw Draw new_size_in refl cs));
     text = sym (ap text_of (waits-taken takes_text Draw line_in refl cs));
-    puts = sym (waits-taken is_draw Draw place_in refl cs);
+    puts = sym (waits-taken is_draw Draw letter_in refl cs);
     first = not-first Draw;
   }
 
@@ -182,8 +183,8 @@ module _ (cs : List Command) (s : Script) (is : IsReadTo cs s) (some : 0 < lengt
   size-taken size = record {
     stage = stage-stays (TakeSize size);
     acts = acts-stay (TakeSize size) refl;
-    size = sym (ap (λ xs. slice_get (reverse xs) 0) (waits-kept is_draw (TakeSize size) size_in refl cs)
-        ∙ ap (λ xs. slice_get xs 0) (reverse-append (filter_map size_in (since is_draw cs)) (size ∷ [])));
+    size = sym (ap (λ xs. slice_get (reverse xs) 0) (waits-kept is_draw (TakeSize size) new_size_in refl cs)
+        ∙ ap (λ xs. slice_get xs 0) (reverse-append (filter_map new_size_in (since is_draw cs)) (size ∷ [])));
     text = text-stays (TakeSize size) refl refl;
     puts = puts-stay (TakeSize size) refl refl;
     first = not-first (TakeSize size);
@@ -195,7 +196,7 @@ module _ (cs : List Command) (s : Script) (is : IsReadTo cs s) (some : 0 < lengt
     acts = acts-stay (Put x y c) refl;
     size = size-stays (Put x y c) refl refl;
     text = text-stays (Put x y c) refl refl;
-    puts = ap (λ xs. xs ++ (x, y, c) ∷ []) is.puts ∙ sym (waits-kept is_draw (Put x y c) place_in refl cs);
+    puts = ap (λ xs. xs ++ (x, y, c) ∷ []) is.puts ∙ sym (waits-kept is_draw (Put x y c) letter_in refl cs);
     first = not-first (Put x y c);
   }
 

@@ -86,16 +86,16 @@ first_viewport (Inline n) size = record { x = 0; y = 0; width = size.width; heig
 first_viewport (Fixed r) size = r
 
 -- how many blank rows scrolled off then: those that an inline viewport wants and the screen hasn't
-abbrev pub first_rows : Viewport → Size → ℕ
-first_rows (Inline n) size = n - size.height
-first_rows other size = 0
+abbrev pub rows_at_start : Viewport → Size → ℕ
+rows_at_start (Inline n) size = n - size.height
+rows_at_start other size = 0
 
 -- at the start all is blank
 pub record IsStart (stage : Stage) (s : View) : Type 0 where
   pub size : view_size s ≡ stage_size stage
   pub viewport : s.viewport ≡ first_viewport stage.viewport (stage_size stage)
   pub history : s.screen.history
-      ≡ replicate (first_rows stage.viewport (stage_size stage)) (replicate stage.width empty_look)
+      ≡ replicate (rows_at_start stage.viewport (stage_size stage)) (replicate stage.width empty_look)
   pub blank : (a b : ℕ) → a < stage.width → b < stage.height → s.screen.grid a b ≡ empty_look
 
 -- the size, the viewport, the history and all columns outside the viewport stay

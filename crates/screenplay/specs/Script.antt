@@ -140,21 +140,21 @@ takes_text Draw = true
 takes_text Insert = true
 takes_text other = false
 
-abbrev pub size_in : Command → Option Size
-size_in (TakeSize size) = Some size
-size_in other = None
+abbrev pub new_size_in : Command → Option Size
+new_size_in (TakeSize size) = Some size
+new_size_in other = None
 
 abbrev pub line_in : Command → Option LineData
 line_in (AddText line) = Some (raw_line line)
 line_in other = None
 
-abbrev pub place_in : Command → Option (ℕ × ℕ × ℕ)
-place_in (Put x y c) = Some (x, y, c)
-place_in other = None
+abbrev pub letter_in : Command → Option (ℕ × ℕ × ℕ)
+letter_in (Put x y c) = Some (x, y, c)
+letter_in other = None
 
 -- the last size since the last draw, if one was given
 abbrev pub size_waiting : List Command → Option Size
-size_waiting cs = slice_get (reverse (filter_map size_in (since is_draw cs))) 0
+size_waiting cs = slice_get (reverse (filter_map new_size_in (since is_draw cs))) 0
 
 -- the lines of text since the last draw or insertion
 abbrev pub lines_waiting : List Command → List LineData
@@ -162,7 +162,7 @@ lines_waiting cs = filter_map line_in (since takes_text cs)
 
 -- the puts since the last draw
 abbrev pub puts_waiting : List Command → List (ℕ × ℕ × ℕ)
-puts_waiting cs = filter_map place_in (since is_draw cs)
+puts_waiting cs = filter_map letter_in (since is_draw cs)
 
 abbrev pub stage_in : Command → Option Stage
 stage_in (SetStage stage) = Some stage
