@@ -5,7 +5,8 @@ use Rattle.ratatui_core.specs.{Layout.Rect, Text.LineData}
 use Rattle.ratatui_core.specs.declared.layout.HorizontalAlignment.{HorizontalAlignment}
 use Rattle.ratatui_core.specs.declared.layout.HorizontalAlignment.TheVariants.{Left, Center, Right}
 use Rattle.rtui_boxes.specs.Titles.{title_width}
-use Rattle.rtui_chart.specs.{declared.axis.Axis.Axis, declared.layout.ChartLayout.ChartLayout, Charts.axis_labels}
+use Rattle.rtui_chart.specs.Charts.{axis_labels}
+use Rattle.rtui_chart.specs.declared.{axis.Axis.Axis, layout.ChartLayout.ChartLayout}
 
 -- whether an axis has labels; one without them isn't shown
 abbrev pub is_labelled : Axis → Bool

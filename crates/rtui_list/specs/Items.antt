@@ -1,6 +1,7 @@
 -- What a list makes of a buffer and of its state.
 use Rattle.std.specs.Prelude.{◌≡◌, ℕ, Bool, true, false, ◌+◌, ◌-◌, ◌<◌, ◌==◌, ◌&&◌, ◌||◌, min, List, []}
-use Rattle.std.specs.Prelude.{length, codes, Option, Some, None, is_some, if◌then◌else◌, slice_index_or, All, ⊤}
+use Rattle.std.specs.Prelude.{length, codes, Option, Some, None, is_some, if◌then◌else◌, slice_index_or}
+use Rattle.std.specs.Prelude.{All, ⊤}
 use Rattle.ratatui_core.specs.{Layout.Rect, Layout.intersected, Style.new_style, Style.patch}
 use Rattle.ratatui_core.specs.Text.{LineData, text_of, line_width}
 use Rattle.ratatui_core.specs.Buffer.{BufferData, Cell, with_symbol, IsStyled, ChangesEach, MakesParts}

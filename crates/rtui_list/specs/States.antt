@@ -19,7 +19,8 @@ abbrev pub previous_of : Option ℕ → ℕ
 previous_of None = 18446744073709551615
 previous_of (Some index) = index - 1
 
--- what is lent of a state is its field: the state ends with the last value of what is lent, all else as it was
+-- what is lent of a state is its field: the state ends with the last value of what is lent, all else as
+-- before
 abbrev pub LendsOffset : MutBor ListState → MutBor ℕ → Fml
 LendsOffset state lent = Lends the_row usize state lent (λ offset. record state.now { offset = offset })
 

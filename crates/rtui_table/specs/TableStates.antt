@@ -24,7 +24,8 @@ both_of (Some row) (Some column) = Some (row, column)
 abbrev pub cell_of_state : TableState → Option (ℕ × ℕ)
 cell_of_state s = both_of s.selected s.selected_column
 
--- what is lent of a state is its field: the state ends with the last value of what is lent, all else as it was
+-- what is lent of a state is its field: the state ends with the last value of what is lent, all else as
+-- before
 abbrev pub LendsRowOffset : MutBor TableState → MutBor ℕ → Fml
 LendsRowOffset state lent = Lends the_row usize state lent (λ offset. record state.now { offset = offset })
 
