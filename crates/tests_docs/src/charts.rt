@@ -18,24 +18,10 @@ fn charted(alloc: Global, area: Rect, buf: &mut Buffer) -> Result<(), AllocError
     Ok(())
 }
 
-// The labels of an axis.
-fn labels(alloc: Global) -> Result<[Line<'static>; 3], AllocError> {
-    let labels = [
-        Line::raw(alloc, "0")?,
-        Line::raw(alloc, "50")?,
-        Line::raw(alloc, "100")?,
-    ];
-    Ok(labels)
-}
-
 // An axis with labels.
-fn labelled(
-    alloc: Global,
-    labels: [Line<'static>; 3],
-    area: Rect,
-    buf: &mut Buffer,
-) -> Result<(), AllocError> {
-    let axis = Axis::new().bounds([0, 100]).labels(&labels);
+fn labelled(alloc: Global, area: Rect, buf: &mut Buffer) -> Result<(), AllocError> {
+    let labels = vec![in alloc; Line::raw(alloc, "0")?, Line::raw(alloc, "100")?]?;
+    let axis = Axis::new().bounds([0, 100]).labels(labels);
     Chart::new(Vec::new(alloc)).x_axis(axis).render(area, buf)?;
     Ok(())
 }
@@ -56,7 +42,7 @@ fn an_axis_has_its_labels(rt: HostRuntime) -> Result<(), AllocError> {
     let alloc = rt.alloc();
     let area = Rect::new(0, 0, 12, 4);
     let mut buffer = Buffer::empty(alloc, area)?;
-    labelled(alloc, labels(alloc)?, area, &mut buffer)?;
+    labelled(alloc, area, &mut buffer)?;
     assert!(rt; symbol_at(&buffer, 1, 2) == "─");
     assert!(rt; symbol_at(&buffer, 0, 3) == "0");
     assert!(rt; symbol_at(&buffer, 11, 3) == "0");
