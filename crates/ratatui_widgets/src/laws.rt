@@ -8,6 +8,7 @@ pub use rtui_boxes::laws::{
     boxes_of_short_symbols_take_no_memory, clearing_keeps_settled, plain_boxes_keep_cells_plain,
 };
 pub use rtui_canvas::laws::{canvases_keep_cells_plain, marks_are_narrow};
+pub use rtui_chart::laws::charts_keep_cells_plain;
 pub use rtui_list::laws::lists_of_narrow_texts_keep_cells_plain;
 pub use rtui_meters::laws::{
     gauges_on_plain_cells_are_settled, line_gauges_on_plain_cells_are_settled,

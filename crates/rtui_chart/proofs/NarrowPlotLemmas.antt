@@ -21,7 +21,7 @@ use Rattle.rtui_boxes.proofs.{InnerLemmas.plain-framed, PlainBoxLemmas.plain-box
 use Rattle.rtui_canvas.specs.{declared.label.Label.Label, Canvases.HasNarrowDots}
 use Rattle.rtui_canvas.proofs.NarrowCanvasLemmas.{canvas-plain}
 use Rattle.rtui_chart.specs.declared.{axis.Axis.Axis, dataset.Dataset.Dataset, chart.Chart.Chart, layout.ChartLayout.ChartLayout}
-use Rattle.rtui_chart.specs.ChartLayouts.{chart_layout}
+use Rattle.rtui_chart.specs.{Charts.axis_labels, ChartLayouts.chart_layout}
 use Rattle.rtui_chart.specs.ChartParts.{RendersNumbered, RendersUnless, x_label_at, y_label_at, ruled_cell, RendersLabelsOf}
 use Rattle.rtui_chart.specs.ChartParts.{RendersAxes, RendersDatasets, RendersAxisTitle}
 use Rattle.rtui_chart.specs.Legends.{legend_names, with_name, name_at, RendersLegendIn}
@@ -60,11 +60,13 @@ x-narrow a g r n i l narrow = by_tests (i == 0) (i + 1 == n) _ _ _ narrow narrow
 labels-stay : (x y : Axis) (l : ChartLayout) (old new : BufferData) → HasNarrowTexts x → HasNarrowTexts y → IsPlainFrom 0 old
     → RendersLabelsOf x y l old new → IsPlainFrom 0 new
 labels-stay x y l old new below beside plain is =
-    let place = x_label_at x l.graph l.x_labels (length x.labels.now) in
-    let first = unless-stays _ (RendersNumbered place 0 x.labels.now) old is.between plain
-    (numbered-stay place (x-narrow x l.graph l.x_labels (length x.labels.now)) 0 x.labels.now old is.between below.labels plain)
+    let place = x_label_at x l.graph l.x_labels (length (axis_labels x)) in
+    let first = unless-stays _ (RendersNumbered place 0 (axis_labels x)) old is.between plain
+    (numbered-stay place (x-narrow x l.graph l.x_labels (length (axis_labels x))) 0 (axis_labels x) old is.between
+    below.labels plain)
     is.first in
-    numbered-stay (y_label_at y l.graph l.y_labels (length y.labels.now)) (λ i line narrow. narrow) 0 y.labels.now is.between new
+    numbered-stay (y_label_at y l.graph l.y_labels (length (axis_labels y))) (λ i line narrow. narrow) 0
+    (axis_labels y) is.between new
     beside.labels first is.second
 
 -- each symbol of the axes takes a column

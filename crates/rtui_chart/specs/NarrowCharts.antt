@@ -2,6 +2,7 @@
 use Rattle.std.specs.Prelude.{Option, Some, None, ⊤, All}
 use Rattle.ratatui_core.specs.{Text.LineData, Buffer.IsNarrowLine}
 use Rattle.rtui_canvas.specs.Canvases.{HasNarrowDots}
+use Rattle.rtui_chart.specs.Charts.{axis_labels}
 use Rattle.rtui_chart.specs.declared.{axis.Axis.Axis, dataset.Dataset.Dataset, chart.Chart.Chart}
 
 -- the graphemes of the line take one column each, if there is one
@@ -12,7 +13,7 @@ IsNarrowIfLine (Some line) = IsNarrowLine line
 -- so do those of an axis's title and of its labels
 pub record HasNarrowTexts (a : Axis) : Type 0 where
   pub title : IsNarrowIfLine a.title
-  pub labels : All IsNarrowLine a.labels.now
+  pub labels : All IsNarrowLine (axis_labels a)
 
 -- so do those of a data set's name, and its marks
 pub record IsNarrowDataset (d : Dataset) : Type 0 where

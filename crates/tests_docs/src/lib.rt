@@ -5,6 +5,7 @@
 mod buffers;
 mod canvases;
 mod charts;
+mod clones;
 mod geometry;
 mod input;
 mod styles;

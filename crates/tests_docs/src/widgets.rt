@@ -3,8 +3,8 @@ use crate::symbol_at;
 use logview::LogView;
 use ratatui_core::backend::TestBackend;
 use ratatui_core::buffer::Buffer;
-use ratatui_core::layout::Rect;
-use ratatui_core::style::{Color, Style};
+use ratatui_core::layout::{Position, Rect};
+use ratatui_core::style::{Color, Style, Stylize};
 use ratatui_core::terminal::{Frame, Terminal};
 use ratatui_core::text::Line;
 use ratatui_core::widgets::{StatefulWidget, Widget};
@@ -63,6 +63,40 @@ fn a_list_shows_what_is_selected(rt: HostRuntime) -> Result<(), AllocError> {
     let mut buffer = Buffer::empty(alloc, area)?;
     listed(alloc, area, &mut buffer)?;
     assert!(rt; symbol_at(&buffer, 0, 1) == ">");
+    Ok(())
+}
+
+// The colours of the letters of a cell.
+fn color_at(buffer: &Buffer, x: u16, y: u16) -> Option<Color> {
+    match buffer.cell(Position { x, y }) {
+        Some(cell) => Some(cell.fg),
+        None => None,
+    }
+}
+
+// A list of one item, with a green symbol and a blue highlight.
+fn marked(alloc: Global, area: Rect, buf: &mut Buffer) -> Result<ListState, AllocError> {
+    let mut items = Vec::new(alloc);
+    items.push(ListItem::raw(alloc, "one")?)?;
+    let list = List::new(items)
+        .highlight_symbol(Line::raw(alloc, "> ")?.green())
+        .highlight_style(Style::new().fg(Color::Blue));
+    let mut state = ListState::default();
+    *state.selected_mut() = Some(0);
+    *state.offset_mut() = 3;
+    StatefulWidget::render(&list, area, buf, &mut state)?;
+    Ok(state)
+}
+
+#[test]
+fn a_symbol_keeps_its_colour(rt: HostRuntime) -> Result<(), AllocError> {
+    let alloc = rt.alloc();
+    let area = Rect::new(0, 0, 6, 1);
+    let mut buffer = Buffer::empty(alloc, area)?;
+    let state = marked(alloc, area, &mut buffer)?;
+    assert!(rt; state.offset() == 0);
+    assert!(rt; color_at(&buffer, 0, 0) == Some(Color::Green));
+    assert!(rt; color_at(&buffer, 2, 0) == Some(Color::Blue));
     Ok(())
 }
 
