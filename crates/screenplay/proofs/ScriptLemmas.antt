@@ -13,7 +13,8 @@ use Rattle.screenplay.specs.{declared.scene.Stage.Stage}
 use Rattle.screenplay.specs.declared.act.Act.TheVariants as acts
 use Rattle.screenplay.specs.declared.scene.Step.TheVariants as steps
 use Rattle.screenplay.specs.declared.script.Command.TheVariants.{SetStage, TakeSize, Put, AddText, Draw, Insert, Clear, Show}
-use Rattle.screenplay.specs.Script.{command_of, command_with, commands_of, since, is_draw, takes_text, size_in, line_in, place_in, size_waiting}
+use Rattle.screenplay.specs.Script.{command_of, command_with, commands_of, since, is_draw, takes_text, size_in, line_in}
+use Rattle.screenplay.specs.Script.{place_in, size_waiting}
 use Rattle.screenplay.specs.Script.{lines_waiting, puts_waiting, stage_of, is_fixed, may_follow, act_after, acts_after}
 use Rattle.screenplay.specs.Script.{is_good_line, AreGoodAfter, IsScriptOf, IsFirstBadLine}
 use Rattle.screenplay.specs.Inner.{nothing, draw_of, without_text, with_act, after_on, after_line}
