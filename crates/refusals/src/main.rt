@@ -21,6 +21,7 @@ mod painting;
 mod scripts;
 mod terminals;
 mod texts;
+mod widgets;
 
 use crate::outcome::Outcome;
 use std::alloc::{AllocError, Global};
@@ -31,7 +32,7 @@ use std::{env, io};
 const LAST: usize = 1500;
 
 // The cases by name, a group for each module.
-static NAMES: [&str; 85] = [
+static NAMES: [&str; 93] = [
     "set_string",
     "set_stringn",
     "set_span",
@@ -112,11 +113,19 @@ static NAMES: [&str; 85] = [
     "push to a log view that scrolls",
     "run of a log",
     "run of a log to a writer that grows",
+    "render of a paragraph",
+    "render of a wrapped paragraph",
+    "line_count of a wrapped paragraph",
     "clone of a span that borrows its text: no memory",
     "clone of a masked text that borrows its own: no memory",
     "set_symbol of 18 bytes: no memory",
     "set_symbol of 22 bytes: no memory",
     "set_string of two wide characters: no memory",
+    "render of a paragraph of short symbols: no memory",
+    "render of a paragraph at the right: no memory",
+    "render of a paragraph in a box: no memory",
+    "line_count of a paragraph: no memory",
+    "render of a box with titles: no memory",
 ];
 
 fn outcome_of(alloc: Global, number: usize) -> Result<Outcome, AllocError> {
@@ -132,7 +141,9 @@ fn outcome_of(alloc: Global, number: usize) -> Result<Outcome, AllocError> {
         73 => scripts::played(alloc),
         74 => scripts::run_over_memory(alloc),
         75..=79 => logs::outcome_of(alloc, number - 75),
-        _ => borrowed::outcome_of(alloc, number - 80),
+        80..=82 => widgets::outcome_of(alloc, number - 80),
+        83..=87 => borrowed::outcome_of(alloc, number - 83),
+        _ => widgets::free_outcome_of(alloc, number - 88),
     }
 }
 
