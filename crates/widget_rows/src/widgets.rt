@@ -36,7 +36,7 @@ fn list(alloc: Global, case: &Case<'_>, area: Rect, buffer: &mut Buffer) -> Resu
     }
     let mut list = List::new(items_of(alloc, case.texts)?)
         .highlight_style(Style::new().add_modifier(Modifier::REVERSED))
-        .highlight_symbol(Line::raw(alloc, symbol.as_str())?)
+        .highlight_symbol(Line::raw_string(alloc, symbol)?)
         .scroll_padding(case.number("padding").unwrap_or(0));
     if case.option("corner") == Some("bottom") {
         list = list.direction(ListDirection::BottomToTop);
