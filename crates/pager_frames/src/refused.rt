@@ -1,4 +1,5 @@
-//! A recording shown while one request for memory is refused.
+//! A recording shown as bytes for a terminal, which is given back whatever fails: a request for
+//! memory, a read, or a call of the writer.
 
 use crate::frames::Stage;
 use crate::recording::{Player, Recording};
@@ -7,7 +8,7 @@ use ratatui_ansi::AnsiError;
 use ratatui_app::Fault;
 use ratatui_core::terminal::TerminalError;
 use std::alloc::Global;
-use std::io::{self, Write};
+use std::io::{self, ErrorKind, Write};
 
 /// The request of the program that is refused.
 const LAST: usize = 3000;
@@ -26,9 +27,31 @@ struct Owned {
     is_hidden: bool,
     /// It tells of the mouse.
     is_telling: bool,
+    /// How many calls it takes before one fails; those after that don't.
+    calls: usize,
+    /// The call that failed was to give it back.
+    is_lost: bool,
 }
 
 impl Owned {
+    fn new(calls: usize) -> Owned {
+        Owned {
+            last: [0; KEPT],
+            is_away: false,
+            is_hidden: false,
+            is_telling: false,
+            calls,
+            is_lost: false,
+        }
+    }
+
+    // Whether this call fails.
+    fn fails(&mut self) -> bool {
+        let is_last = self.calls == 1;
+        self.calls = self.calls.saturating_sub(1);
+        is_last
+    }
+
     fn is_given_back(&self) -> bool {
         !self.is_away && !self.is_hidden && !self.is_telling
     }
@@ -49,6 +72,10 @@ impl Owned {
 
 impl Write for Owned {
     fn write(&mut self, buf: &[u8]) -> io::Result<usize> {
+        if self.fails() {
+            self.is_lost = buf.ends_with(b"[?1049l\x1b[0m") || buf.ends_with(b"[?1000l");
+            return Err(ErrorKind::BrokenPipe.into());
+        }
         for byte in buf {
             self.read(*byte);
         }
@@ -56,6 +83,9 @@ impl Write for Owned {
     }
 
     fn flush(&mut self) -> io::Result<()> {
+        if self.fails() {
+            return Err(ErrorKind::BrokenPipe.into());
+        }
         Ok(())
     }
 }
@@ -73,27 +103,49 @@ fn name_of(fault: &Fault<AnsiError>) -> &'static str {
 }
 
 // What came of a recording, and whether the terminal was given back.
-fn shown(stage: Stage<'_>, recording: &Recording) -> Option<(&'static str, bool)> {
+fn shown(
+    stage: Stage<'_>,
+    player: &mut Player<'_>,
+    terminal: &mut Owned,
+) -> Option<(&'static str, bool)> {
     let mut pager = stage.pager()?;
-    let mut player = Player::new(recording, None, usize::MAX);
-    let mut terminal = Owned {
-        last: [0; KEPT],
-        is_away: false,
-        is_hidden: false,
-        is_telling: false,
-    };
-    let told = match show(
-        stage.alloc,
-        stage.size,
-        &mut player,
-        true,
-        &mut terminal,
-        &mut pager,
-    ) {
+    let told = match show(stage.alloc, stage.size, player, true, terminal, &mut pager) {
         Ok(()) => "over",
         Err(fault) => name_of(&fault),
     };
     Some((told, terminal.is_given_back()))
+}
+
+/// How many of the reads, of which one fails in each recording, leave the terminal given back.
+pub fn reads_given_back(stage: Stage<'_>, recording: &Recording) -> usize {
+    let mut count = 0usize;
+    for calls in 0..recording.ends.len() {
+        let mut player = Player::new(recording, None, calls);
+        let mut terminal = Owned::new(usize::MAX);
+        if let Some(("no more reads", true)) = shown(stage, &mut player, &mut terminal) {
+            count = count.saturating_add(1);
+        }
+    }
+    count
+}
+
+/// How many of the writer's calls, of which one fails in each recording of so many reads, leave the
+/// terminal given back or were to give it back, and how many calls there are.
+pub fn writes_given_back(stage: Stage<'_>, recording: &Recording, reads: usize) -> (usize, usize) {
+    let mut count = 0usize;
+    for calls in 1..1000usize {
+        let mut player = Player::new(recording, None, reads);
+        let mut terminal = Owned::new(calls);
+        let told = shown(stage, &mut player, &mut terminal);
+        if terminal.calls > 0 {
+            return (count, calls.saturating_sub(1));
+        }
+        let is_given_back = told.is_some_and(|(_, is_given_back)| is_given_back);
+        if is_given_back || terminal.is_lost {
+            count = count.saturating_add(1);
+        }
+    }
+    (count, 1000)
 }
 
 // Makes so many requests; whether one was refused.
@@ -116,7 +168,9 @@ pub fn print_refused(
     if request(stage.alloc, LAST.saturating_sub(number)) {
         return println!(rt; "before the reads");
     }
-    match shown(stage, recording) {
+    let mut player = Player::new(recording, None, usize::MAX);
+    let mut terminal = Owned::new(usize::MAX);
+    match shown(stage, &mut player, &mut terminal) {
         Some((told, true)) => println!(rt; "{told}, and the terminal is given back")?,
         Some((told, false)) => println!(rt; "{told}, and the terminal isn't given back")?,
         None => println!(rt; "no pager")?,

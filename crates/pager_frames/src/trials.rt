@@ -2,10 +2,14 @@
 
 use crate::frames::Stage;
 use crate::recording::{Player, Recording};
+use crate::refused::{reads_given_back, writes_given_back};
 use ratatui_app::{Fault, run};
 use ratatui_core::backend::TestBackend;
 use ratatui_core::terminal::Terminal;
 use std::io;
+
+/// Each call of a writer in so many reads is made to fail, one in each recording.
+const READS: usize = 10;
 
 /// How many times a recording is cut.
 const CUTS: u32 = 10;
@@ -82,5 +86,10 @@ pub fn print_trials(rt: &HostRuntime, stage: Stage<'_>, recording: &Recording) -
     println!(rt; "reads: {told} of {reads} that fail are told")?;
     let (calls_told, calls) = told_calls(stage, recording).unwrap_or((0, 1));
     println!(rt; "calls: {calls_told} of {calls} that fail are told")?;
-    Ok(same == CUTS && told == reads && calls_told == calls)
+    let given_back = reads_given_back(stage, recording);
+    println!(rt; "reads: {given_back} of {reads} that fail give the terminal back")?;
+    let (wrote, writes) = writes_given_back(stage, recording, READS);
+    println!(rt; "writes: {wrote} of {writes} that fail give the terminal back, or were to")?;
+    let are_told = told == reads && calls_told == calls;
+    Ok(same == CUTS && are_told && given_back == reads && wrote == writes)
 }
