@@ -1,6 +1,7 @@
 -- The graphemes of the empty text, and those of a front of printable characters.
 use Rattle.unicode_segmentation.proofs.Computing.{unicode_segmentation}
-use Rattle.std.proofs.Common.{◌≡◌, ℕ, ◌<◌, true, false, List, [], ◌∷◌, ◌++◌, length, take, drop, ◌==◌, refl, sym, ◌∙◌, ap, append-nil, append_assoc, arith, eqb-true}
+use Rattle.std.proofs.Common.{◌≡◌, ℕ, ◌<◌, true, false, List, [], ◌∷◌, ◌++◌, length, take, drop, ◌==◌}
+use Rattle.std.proofs.Common.{refl, sym, ◌∙◌, ap, append-nil, append_assoc, arith, eqb-true}
 use Rattle.std.proofs.lemmas.{Bool.false≢true}
 use Rattle.unicode_segmentation.specs.Grapheme.{graphemes}
 use Rattle.rtui_style.specs.declared.Style.{Style}

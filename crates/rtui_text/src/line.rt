@@ -432,9 +432,13 @@ impl<'b, 'a> IntoIterator for &'b mut Line<'a> {
 impl<'a> PartialEq for Line<'a> {
     ghost use Rattle.rtui_text.specs.LineHead.{line_head};
 
-    ghost eq = { eq_of_both (on line_head ⟦<LineHead as PartialEq>⟧.eq) (on (λ l. l.spans) ⟦<Spans<'a> as PartialEq>⟧.eq) };
+    ghost eq = { eq_of_both
+        (on line_head ⟦<LineHead as PartialEq>⟧.eq)
+        (on (λ l. l.spans) ⟦<Spans<'a> as PartialEq>⟧.eq) };
 
-    ghost laws = { partial_equiv_from_equiv (and_equiv (on_equiv line_head head_laws) (on_equiv (λ l. l.spans) spans_laws)) };
+    ghost laws = { partial_equiv_from_equiv (and_equiv
+        (on_equiv line_head head_laws)
+        (on_equiv (λ l. l.spans) spans_laws)) };
 
     fn eq(&self, other: &Self) -> bool {
         self.head() == other.head() && self.spans == other.spans
@@ -450,9 +454,12 @@ impl<'a> Eq for Line<'a> {
 impl<'a> Hash for Line<'a> {
     ghost use Rattle.rtui_text.specs.LineHead.{line_head};
 
-    ghost hash_input = { λ l. ⟦<LineHead as Hash>⟧.hash_input (line_head l) ++ ⟦<Spans<'a> as Hash>⟧.hash_input l.spans };
+    ghost hash_input = { λ l. ⟦<LineHead as Hash>⟧.hash_input (line_head l)
+        ++ ⟦<Spans<'a> as Hash>⟧.hash_input l.spans };
 
-    ghost respects_eq = { (and-Alike (on_Alike line_head (record { fed = head_hashes })) (on_Alike (λ l. l.spans) (record { fed = spans_hashes }))).fed };
+    ghost respects_eq = { (and-Alike
+        (on_Alike line_head (record { fed = head_hashes }))
+        (on_Alike (λ l. l.spans) (record { fed = spans_hashes }))).fed };
 
     fn hash<H: Hasher>(&self, state: &mut H) {
         self.head().hash(state);

@@ -122,9 +122,13 @@ impl<'a> Masked<'a> {
 }
 
 impl PartialEq for Masked<'_> {
-    ghost eq = { eq_of_both (on (λ m. m.content) (pointwise nat_eq)) (on (λ m. m.mask_char) nat_eq) };
+    ghost eq = { eq_of_both
+        (on (λ m. m.content) (pointwise nat_eq))
+        (on (λ m. m.mask_char) nat_eq) };
 
-    ghost laws = { partial_equiv_from_equiv (and_equiv (on_equiv (λ m. m.content) nat_list_eq_equiv) (on_equiv (λ m. m.mask_char) nat_eq_equiv)) };
+    ghost laws = { partial_equiv_from_equiv (and_equiv
+        (on_equiv (λ m. m.content) nat_list_eq_equiv)
+        (on_equiv (λ m. m.mask_char) nat_eq_equiv)) };
 
     fn eq(&self, other: &Self) -> bool {
         self.inner.as_str() == other.inner.as_str() && self.mask_char == other.mask_char
@@ -132,13 +136,17 @@ impl PartialEq for Masked<'_> {
 }
 
 impl Eq for Masked<'_> {
-    ghost laws = { and_equiv (on_equiv (λ m. m.content) nat_list_eq_equiv) (on_equiv (λ m. m.mask_char) nat_eq_equiv) };
+    ghost laws = { and_equiv
+        (on_equiv (λ m. m.content) nat_list_eq_equiv)
+        (on_equiv (λ m. m.mask_char) nat_eq_equiv) };
 }
 
 impl Hash for Masked<'_> {
     ghost hash_input = { λ m. fed.str m.content ++ fed.char m.mask_char };
 
-    ghost respects_eq = { (and-Alike (on_Alike (λ m. m.content) text_Alike) (on_Alike (λ m. m.mask_char) char_Alike)).fed };
+    ghost respects_eq = { (and-Alike
+        (on_Alike (λ m. m.content) text_Alike)
+        (on_Alike (λ m. m.mask_char) char_Alike)).fed };
 
     fn hash<H: Hasher>(&self, state: &mut H) {
         self.inner.as_str().hash(state);

@@ -222,9 +222,13 @@ impl<'a> Span<'a> {
 }
 
 impl PartialEq for Span<'_> {
-    ghost eq = { eq_of_both (on (λ s. s.style) ⟦<Style as PartialEq>⟧.eq) (on (λ s. s.content) (pointwise nat_eq)) };
+    ghost eq = { eq_of_both
+        (on (λ s. s.style) ⟦<Style as PartialEq>⟧.eq)
+        (on (λ s. s.content) (pointwise nat_eq)) };
 
-    ghost laws = { partial_equiv_from_equiv (and_equiv (on_equiv (λ s. s.style) style_laws) (on_equiv (λ s. s.content) nat_list_eq_equiv)) };
+    ghost laws = { partial_equiv_from_equiv (and_equiv
+        (on_equiv (λ s. s.style) style_laws)
+        (on_equiv (λ s. s.content) nat_list_eq_equiv)) };
 
     fn eq(&self, other: &Self) -> bool {
         self.style == other.style && self.text() == other.text()
@@ -232,13 +236,17 @@ impl PartialEq for Span<'_> {
 }
 
 impl Eq for Span<'_> {
-    ghost laws = { and_equiv (on_equiv (λ s. s.style) style_laws) (on_equiv (λ s. s.content) nat_list_eq_equiv) };
+    ghost laws = { and_equiv
+        (on_equiv (λ s. s.style) style_laws)
+        (on_equiv (λ s. s.content) nat_list_eq_equiv) };
 }
 
 impl Hash for Span<'_> {
     ghost hash_input = { λ s. ⟦<Style as Hash>⟧.hash_input s.style ++ fed.str s.content };
 
-    ghost respects_eq = { (and-Alike (on_Alike (λ s. s.style) (record { fed = style_hashes })) (on_Alike (λ s. s.content) text_Alike)).fed };
+    ghost respects_eq = { (and-Alike
+        (on_Alike (λ s. s.style) (record { fed = style_hashes }))
+        (on_Alike (λ s. s.content) text_Alike)).fed };
 
     fn hash<H: Hasher>(&self, state: &mut H) {
         self.style.hash(state);

@@ -426,9 +426,13 @@ impl<'b, 'a> IntoIterator for &'b mut Text<'a> {
 impl<'a> PartialEq for Text<'a> {
     ghost use Rattle.rtui_text.specs.LineHead.{text_head};
 
-    ghost eq = { eq_of_both (on text_head ⟦<LineHead as PartialEq>⟧.eq) (on (λ t. t.lines) ⟦<Lines<'a> as PartialEq>⟧.eq) };
+    ghost eq = { eq_of_both
+        (on text_head ⟦<LineHead as PartialEq>⟧.eq)
+        (on (λ t. t.lines) ⟦<Lines<'a> as PartialEq>⟧.eq) };
 
-    ghost laws = { partial_equiv_from_equiv (and_equiv (on_equiv text_head head_laws) (on_equiv (λ t. t.lines) lines_laws)) };
+    ghost laws = { partial_equiv_from_equiv (and_equiv
+        (on_equiv text_head head_laws)
+        (on_equiv (λ t. t.lines) lines_laws)) };
 
     fn eq(&self, other: &Self) -> bool {
         self.head() == other.head() && self.lines == other.lines
@@ -444,9 +448,12 @@ impl<'a> Eq for Text<'a> {
 impl<'a> Hash for Text<'a> {
     ghost use Rattle.rtui_text.specs.LineHead.{text_head};
 
-    ghost hash_input = { λ t. ⟦<LineHead as Hash>⟧.hash_input (text_head t) ++ ⟦<Lines<'a> as Hash>⟧.hash_input t.lines };
+    ghost hash_input = { λ t. ⟦<LineHead as Hash>⟧.hash_input (text_head t)
+        ++ ⟦<Lines<'a> as Hash>⟧.hash_input t.lines };
 
-    ghost respects_eq = { (and-Alike (on_Alike text_head (record { fed = head_hashes })) (on_Alike (λ t. t.lines) (record { fed = lines_hashes }))).fed };
+    ghost respects_eq = { (and-Alike
+        (on_Alike text_head (record { fed = head_hashes }))
+        (on_Alike (λ t. t.lines) (record { fed = lines_hashes }))).fed };
 
     fn hash<H: Hasher>(&self, state: &mut H) {
         self.head().hash(state);

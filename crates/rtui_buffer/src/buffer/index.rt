@@ -71,9 +71,13 @@ impl IndexMut<(u16, u16)> for Buffer {
 }
 
 impl PartialEq for Buffer {
-    ghost eq = { eq_of_both (on (λ b. b.area) ⟦<Rect as PartialEq>⟧.eq) (on (λ b. b.cells) (pointwise ⟦<Cell as PartialEq>⟧.eq)) };
+    ghost eq = { eq_of_both
+        (on (λ b. b.area) ⟦<Rect as PartialEq>⟧.eq)
+        (on (λ b. b.cells) (pointwise ⟦<Cell as PartialEq>⟧.eq)) };
 
-    ghost laws = { partial_equiv_from_equiv (and_equiv (on_equiv (λ b. b.area) rect_laws) (on_equiv (λ b. b.cells) (lists_equiv cell_laws))) };
+    ghost laws = { partial_equiv_from_equiv (and_equiv
+        (on_equiv (λ b. b.area) rect_laws)
+        (on_equiv (λ b. b.cells) (lists_equiv cell_laws))) };
 
     fn eq(&self, other: &Buffer) -> bool {
         self.area == other.area && self.content.as_slice() == other.content.as_slice()
@@ -81,14 +85,18 @@ impl PartialEq for Buffer {
 }
 
 impl Eq for Buffer {
-    ghost laws = { and_equiv (on_equiv (λ b. b.area) rect_laws) (on_equiv (λ b. b.cells) (lists_equiv cell_laws)) };
+    ghost laws = { and_equiv
+        (on_equiv (λ b. b.area) rect_laws)
+        (on_equiv (λ b. b.cells) (lists_equiv cell_laws)) };
 }
 
 impl Hash for Buffer {
     ghost hash_input = { λ b. ⟦<Rect as Hash>⟧.hash_input b.area
         ++ fed.slice ⟦<Cell as Hash>⟧.hash_input b.cells };
 
-    ghost respects_eq = { (and-Alike (on_Alike (λ b. b.area) (record { fed = rect_hashes })) (on_Alike (λ b. b.cells) (items_Alike (record { fed = cell_hashes })))).fed };
+    ghost respects_eq = { (and-Alike
+        (on_Alike (λ b. b.area) (record { fed = rect_hashes }))
+        (on_Alike (λ b. b.cells) (items_Alike (record { fed = cell_hashes })))).fed };
 
     fn hash<H: Hasher>(&self, state: &mut H) {
         self.area.hash(state);

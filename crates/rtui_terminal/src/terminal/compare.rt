@@ -25,7 +25,8 @@ use rtui_viewport::Viewport;
 use std::hash::{Hash, Hasher};
 
 impl<B: Backend + PartialEq> PartialEq for Terminal<B> {
-    ghost eq = { eq_of_both (eq_of_both (eq_of_both (eq_of_both (eq_of_both (eq_of_both (eq_of_both (eq_of_both
+    ghost eq = { eq_of_both (eq_of_both (eq_of_both (eq_of_both
+        (eq_of_both (eq_of_both (eq_of_both (eq_of_both
         (on (λ t. t.backend) B.eq)
         (on (λ t. t.current) ⟦<Buffer as PartialEq>⟧.eq))
         (on (λ t. t.previous) ⟦<Buffer as PartialEq>⟧.eq))
@@ -81,7 +82,8 @@ impl<B: Backend + Hash> Hash for Terminal<B> {
         ++ ⟦<Position as Hash>⟧.hash_input t.last_known_cursor_pos ++ fed.bool t.hidden_cursor
         ++ fed.usize t.frame_count };
 
-    ghost respects_eq = { (and-Alike (and-Alike (and-Alike (and-Alike (and-Alike (and-Alike (and-Alike (and-Alike
+    ghost respects_eq = { (and-Alike (and-Alike (and-Alike (and-Alike
+        (and-Alike (and-Alike (and-Alike (and-Alike
         (on_Alike (λ t. t.backend) (record { fed = B.Hash.respects_eq }))
         (on_Alike (λ t. t.current) (record { fed = buffer_hashes })))
         (on_Alike (λ t. t.previous) (record { fed = buffer_hashes })))

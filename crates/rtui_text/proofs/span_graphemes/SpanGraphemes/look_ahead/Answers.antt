@@ -3,7 +3,8 @@ use Rattle.rtui_text.proofs.PrintableLemmas.{front-bytes}
 use Rattle.rtui_text.specs.Printable.{ArePrintable}
 use Rattle.rtui_text.proofs.GraphemeLemmas.{none-left, some-left, looked-front, looked-none}
 use Rattle.rtui_text.proofs.span_graphemes.SpanGraphemes.look_ahead.Goals as goal
-use Rattle.rtui_text.proofs.span_graphemes.SpanGraphemes.look_ahead.Goals.{then-not-is_empty-via-then-not-is_empty, then-not-is_empty-via-else-not-is_empty+then-is_empty}
+use Rattle.rtui_text.proofs.span_graphemes.SpanGraphemes.look_ahead.Goals.{then-not-is_empty-via-then-not-is_empty}
+use Rattle.rtui_text.proofs.span_graphemes.SpanGraphemes.look_ahead.Goals.{then-not-is_empty-via-else-not-is_empty+then-is_empty}
 
 pub returns-then-not-is_empty-clause-looked : goal.returns-then-not-is_empty-clause-looked
 returns-then-not-is_empty-clause-looked c = elim c.then-not-is_empty.branch [
