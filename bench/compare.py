@@ -1,13 +1,13 @@
 #!/usr/bin/env python3
 """Measures two builds of the bench beside each other, by workload: a round's instructions and user time, and the bytes that it sends.
 
-    compare.py [--size WxH] [--also WxH] [--runs N] [--only WORKLOAD,..] [--jobs N] [--write] NAME=PROGRAM NAME=PROGRAM
+    compare.py [--size WxH] [--also WxH] [--runs N] [--only WORKLOAD,..] [--jobs N] [--write] NAME=PROGRAM[,PROGRAM..] NAME=PROGRAM[,PROGRAM..]
 
 The instructions are valgrind's (callgrind), which don't change with the machine's load; a round's are those of a run less those of one
 with fewer rounds, so that the start of the process doesn't count. `--jobs N` counts in N processes at a time. Its time is the least user
 time of N runs with many rounds, less that with a tenth of them; the programs run in turns. Without runs (`--runs 0`) no time is measured. Another size adds the instructions at
-it. A ratio is that of the second program to the first; `-` stands for a program that doesn't know the workload. With `--write` the table is also
-written to FIGURES.md beside this file.
+it. A ratio is that of the second program to the first; `-` stands for a program that doesn't know the workload. Of several programs under a
+name the first that knows a workload runs it. With `--write` the table is also written to FIGURES.md beside this file.
 """
 import argparse
 import datetime
@@ -23,9 +23,9 @@ sys.path.insert(0, f"{os.path.dirname(HERE)}/tools")
 sys.dont_write_bytecode = True
 from shared import refuse
 
-# All workloads that README.md names. The twin has the widgets of tui 0.19, and no keys and areas.
+# All workloads that README.md names. The twin has the widgets of tui 0.19, and the peers have keys and areas.
 WORKLOADS = (
-    "app_text app_boxes app_colors app_wide app_few app_scroll "
+    "app_text app_boxes app_colors app_wide app_few app_scroll app_keys "
     "draw_all draw_dots draw_none draw_wide inline_all inline_few insert_kept insert_1 insert_10 insert_1000 "
     "text_ascii text_wide line_ascii text_widget text_raw line_center line_right line_cut span_marks spans_2000 "
     "widths_letters widths_wide boxes_exact boxes_fuzzy diff_letters diff_empty diff_wide style reset sets fill_reset "
@@ -44,11 +44,12 @@ def size_of(word):
 
 
 def named(word):
-    """The name and the program that a word says."""
-    name, _, program = word.partition("=")
-    if not os.access(program, os.X_OK):
+    """The name and the programs that a word says."""
+    name, _, said = word.partition("=")
+    programs = said.split(",")
+    if not all(os.access(program, os.X_OK) for program in programs):
         refuse(f"{word!r} is no NAME=PROGRAM, or there is no such program")
-    return name, program
+    return name, programs
 
 
 def run(program, workload, size, rounds):
@@ -61,6 +62,12 @@ def run(program, workload, size, rounds):
 def knows(program, workload, size):
     """Whether the program has the workload."""
     return subprocess.run([program, workload, *map(str, size), "1"], capture_output=True).returncode == 0
+
+
+def able_ones(programs, workload, size):
+    """Each name with the first of its programs that knows a workload, if one does."""
+    found = [(name, next((each for each in known if knows(each, workload, size)), None)) for name, known in programs]
+    return [(name, program) for name, program in found if program]
 
 
 def result(program, workload, size, rounds):
@@ -161,7 +168,7 @@ def main():
         table.append(line)
 
     workloads = options.only.split(",")
-    able = {workload: [each for each in programs if knows(each[1], workload, sizes[0])] for workload in workloads}
+    able = {workload: able_ones(programs, workload, sizes[0]) for workload in workloads}
     counts = all_instructions(able, sizes, options.jobs)
     tell("| workload |" + "".join(heads(names, unit) for unit in units))
     tell("|---|" + "---|" * (3 * len(units)))

@@ -66,9 +66,8 @@ pub fn push_lines(view: &mut LogView<TestBackend>, text: &str) -> Result<(), Log
     let mut number = 1usize;
     for line in text.lines().skip(1) {
         number += 1;
-        match view.push(line) {
-            Ok(()) => {}
-            Err(_) => return Err(LogFault::Refused(number)),
+        if view.push(line).is_err() {
+            return Err(LogFault::Refused(number));
         }
     }
     Ok(())
@@ -87,10 +86,8 @@ fn view_of_text(alloc: Global, text: &str) -> Result<LogView<TestBackend>, LogFa
     let Some(mut view) = open(alloc, size) else {
         return Err(LogFault::Refused(1));
     };
-    match push_lines(&mut view, text) {
-        Ok(()) => Ok(view),
-        Err(fault) => Err(fault),
-    }
+    push_lines(&mut view, text)?;
+    Ok(view)
 }
 
 /// The view of the log that these bytes are: a line `W H` of columns and rows, both from 1 to
@@ -142,8 +139,5 @@ pub fn run<R: Read, W: Write>(alloc: Global, reader: &mut R, writer: &mut W) -> 
 {
     let bytes = read_bytes(alloc, reader)?;
     let view = view_of(alloc, bytes.as_slice())?;
-    match write_view(writer, &view) {
-        Ok(()) => Ok(()),
-        Err(_) => Err(LogFault::Write),
-    }
+    write_view(writer, &view).map_err(|_| LogFault::Write)
 }

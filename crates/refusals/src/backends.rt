@@ -11,10 +11,7 @@ fn call(backend: &mut TestBackend, cell: &Cell, number: usize) -> Result<(), Tes
         0 => backend.draw(iter::once((0, 0, cell))),
         1 => backend.append_lines(5),
         2 => backend.scroll_region_up(0..2, 3),
-        _ => match backend.resize(7, 5) {
-            Ok(()) => Ok(()),
-            Err(_) => Err(TestError::Memory),
-        },
+        _ => backend.resize(7, 5).map_err(|_| TestError::Memory),
     }
 }
 

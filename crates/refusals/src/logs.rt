@@ -122,11 +122,8 @@ fn writer(alloc: Global, grows: bool) -> Result<Vec<u8>, AllocError> {
 // Whether a run over the log printed all, or why it failed.
 fn print(alloc: Global, written: &mut Vec<u8>) -> Result<bool, LogFault> {
     let mut reader = LOG.as_bytes();
-    let answer = run(alloc, &mut reader, written);
-    match answer {
-        Ok(()) => Ok(written.as_slice() == PRINTED.as_bytes()),
-        Err(fault) => Err(fault),
-    }
+    run(alloc, &mut reader, written)?;
+    Ok(written.as_slice() == PRINTED.as_bytes())
 }
 
 // A run over a log, to a writer that has room for all that is printed or grows.

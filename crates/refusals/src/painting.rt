@@ -51,18 +51,11 @@ fn paint(buffer: &mut Buffer, painted: &Painted) -> Result<(), AllocError> {
     };
     match painted {
         Painted::Str => buffer.set_string(x, area.y, LONG, Style::new()),
-        Painted::StrN => match buffer.set_stringn(x, area.y, LONG, 4, Style::new()) {
-            Ok(_) => Ok(()),
-            Err(error) => Err(error),
-        },
-        Painted::Span(span) => match buffer.set_span(x, area.y, span, 4) {
-            Ok(_) => Ok(()),
-            Err(error) => Err(error),
-        },
-        Painted::Line(line) => match buffer.set_line(x, area.y, line, 4) {
-            Ok(_) => Ok(()),
-            Err(error) => Err(error),
-        },
+        Painted::StrN => buffer
+            .set_stringn(x, area.y, LONG, 4, Style::new())
+            .map(|_| ()),
+        Painted::Span(span) => buffer.set_span(x, area.y, span, 4).map(|_| ()),
+        Painted::Line(line) => buffer.set_line(x, area.y, line, 4).map(|_| ()),
         Painted::RenderedStr => LONG.render(part, buffer),
         Painted::RenderedString(text) => text.as_str().render(part, buffer),
         Painted::RenderedSpan(span) => span.render(part, buffer),

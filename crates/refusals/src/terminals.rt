@@ -24,13 +24,12 @@ fn started(alloc: Global, viewport: Viewport) -> Result<Terminal<TestBackend>, A
     requires { FitsEdges viewport }
 {
     let backend = screen(alloc)?;
-    match Terminal::with_options(alloc, backend, TerminalOptions { viewport }) {
-        Ok(mut terminal) => {
-            terminal.backend_mut().fail_after(10000);
-            Ok(terminal)
-        }
-        Err(_) => Err(AllocError),
-    }
+    let Ok(mut terminal) = Terminal::with_options(alloc, backend, TerminalOptions { viewport })
+    else {
+        return Err(AllocError);
+    };
+    terminal.backend_mut().fail_after(10000);
+    Ok(terminal)
 }
 
 // A start that is refused memory for its buffers, or for rows that scroll off, answers so.

@@ -233,10 +233,8 @@ fn put_written(backend: &TestBackend, alloc: Global, answer: &mut Answer) -> Res
     if backend.write_to(&mut written).is_err() {
         return Err(Fault::Memory);
     }
-    match String::from_utf8(written) {
-        Ok(text) => answer.add(text.as_str()),
-        Err(_) => Err(Fault::Unread),
-    }
+    let text = String::from_utf8(written).map_err(|_| Fault::Unread)?;
+    answer.add(text.as_str())
 }
 
 fn made(args: &mut Args<'_>) -> Result<TestBackend, Fault> {

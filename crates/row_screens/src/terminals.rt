@@ -107,18 +107,13 @@ impl Picture<'_> {
     }
 
     fn try_paint(&self, alloc: Global, frame: &mut Frame<'_>) -> Result<(), TestError> {
-        match self.paint(alloc, frame) {
-            Ok(()) => Ok(()),
-            Err(AllocError) => Err(TestError::Memory),
-        }
+        self.paint(alloc, frame).map_err(|_| TestError::Memory)
     }
 }
 
 fn draw(alloc: Global, terminal: &mut Terminal<TestBackend>, picture: &Picture<'_>) -> Outcome {
-    match terminal.draw(|frame| picture.paint(alloc, frame)) {
-        Ok(_) => Ok(()),
-        Err(error) => Err(error),
-    }
+    terminal.draw(|frame| picture.paint(alloc, frame))?;
+    Ok(())
 }
 
 fn draw_anew(
@@ -126,21 +121,16 @@ fn draw_anew(
     terminal: &mut Terminal<TestBackend>,
     picture: &Picture<'_>,
 ) -> Outcome {
-    let drawn = terminal.draw(|frame| {
+    terminal.draw(|frame| {
         frame.buffer_mut().reset();
         picture.paint(alloc, frame)
-    });
-    match drawn {
-        Ok(_) => Ok(()),
-        Err(error) => Err(error),
-    }
+    })?;
+    Ok(())
 }
 
 fn try_draw(alloc: Global, terminal: &mut Terminal<TestBackend>, picture: &Picture<'_>) -> Outcome {
-    match terminal.try_draw(|frame| picture.try_paint(alloc, frame)) {
-        Ok(_) => Ok(()),
-        Err(error) => Err(error),
-    }
+    terminal.try_draw(|frame| picture.try_paint(alloc, frame))?;
+    Ok(())
 }
 
 // Has the first cell of a buffer drawn each time.
@@ -151,36 +141,27 @@ fn set_always(buffer: &mut Buffer) {
 }
 
 fn draw_always(terminal: &mut Terminal<TestBackend>) -> Outcome {
-    let drawn = terminal.draw(|frame| {
+    terminal.draw(|frame| {
         set_always(frame.buffer_mut());
         Ok(())
-    });
-    match drawn {
-        Ok(_) => Ok(()),
-        Err(error) => Err(error),
-    }
+    })?;
+    Ok(())
 }
 
 fn draw_resized(terminal: &mut Terminal<TestBackend>, width: u16, height: u16) -> Outcome {
     let area = Rect::new(0, 0, width, height);
-    match terminal.draw(|frame| frame.buffer_mut().resize(area)) {
-        Ok(_) => Ok(()),
-        Err(error) => Err(error),
-    }
+    terminal.draw(|frame| frame.buffer_mut().resize(area))?;
+    Ok(())
 }
 
 fn draw_told(terminal: &mut Terminal<TestBackend>) -> Outcome {
-    match terminal.try_draw(|_| Err(TestError::Told)) {
-        Ok(_) => Ok(()),
-        Err(error) => Err(error),
-    }
+    terminal.try_draw(|_| Err(TestError::Told))?;
+    Ok(())
 }
 
 fn draw_refused(terminal: &mut Terminal<TestBackend>) -> Outcome {
-    match terminal.draw(|_| Err(AllocError)) {
-        Ok(_) => Ok(()),
-        Err(error) => Err(error),
-    }
+    terminal.draw(|_| Err(AllocError))?;
+    Ok(())
 }
 
 fn apply(terminal: &mut Terminal<TestBackend>, cursor: Option<Position>) -> Outcome {
@@ -188,10 +169,8 @@ fn apply(terminal: &mut Terminal<TestBackend>, cursor: Option<Position>) -> Outc
         Some(_) => terminal.apply_buffer_with_cursor(cursor),
         None => terminal.apply_buffer(),
     };
-    match drawn {
-        Ok(_) => Ok(()),
-        Err(error) => Err(error),
-    }
+    drawn?;
+    Ok(())
 }
 
 // Inserts so many rows with this content.
@@ -424,19 +403,15 @@ fn prepare(backend: &mut TestBackend, args: &mut Args<'_>) -> Result<(), Fault> 
 fn fill_screen(backend: &mut TestBackend, args: &mut Args<'_>) -> Result<(), Fault> {
     let symbol = Cell::new(args.alloc, args.text()?)?;
     args.skip_comma();
-    match fill(backend, &symbol) {
-        Ok(()) => Ok(()),
-        Err(_) => Err(Fault::Memory),
-    }
+    fill(backend, &symbol).map_err(|_| Fault::Memory)
 }
 
 fn place_cursor(backend: &mut TestBackend, args: &mut Args<'_>) -> Result<(), Fault> {
     let position = args.position()?;
     args.skip_comma();
-    match backend.set_cursor_position(position) {
-        Ok(()) => Ok(()),
-        Err(_) => Err(Fault::Memory),
-    }
+    backend
+        .set_cursor_position(position)
+        .map_err(|_| Fault::Memory)
 }
 
 // Makes calls on a terminal; what is seen of its screen at the end, and its viewport.

@@ -113,10 +113,7 @@ impl<'a> Args<'a> {
     where
         T::Err: Drop,
     {
-        match self.word()?.parse::<T>() {
-            Ok(value) => Ok(value),
-            Err(_) => Err(Fault::Unread),
-        }
+        self.word()?.parse::<T>().map_err(|_| Fault::Unread)
     }
 
     pub fn u16(&mut self) -> Result<u16, Fault> {

@@ -5,3 +5,4 @@ pub mod RunLemmas
 pub mod AppendLemmas
 pub mod SceneLemmas
 pub mod ActLemmas
+pub mod FrontLemmas

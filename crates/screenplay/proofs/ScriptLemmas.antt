@@ -11,13 +11,13 @@ use Rattle.rtui_text.specs.Text.{TextData, raw_line, text_of}
 use Rattle.screenplay.specs.{declared.script.Command.Command, declared.script.Script.Script}
 use Rattle.screenplay.specs.{declared.scene.Stage.Stage}
 use Rattle.screenplay.specs.declared.act.Act.TheVariants as acts
-use Rattle.screenplay.specs.declared.scene.Step.TheVariants as steps
+use Rattle.screenplay.specs.declared.act.Plan.TheVariants as plans
 use Rattle.screenplay.specs.declared.script.Command.TheVariants.{SetStage, TakeSize, Put, AddText, Draw, Insert, Clear, Show}
 use Rattle.screenplay.specs.Script.{command_of, command_with, commands_of, since, is_draw}
 use Rattle.screenplay.specs.Script.{takes_text, new_size_in, line_in, letter_in, size_waiting}
 use Rattle.screenplay.specs.Script.{lines_waiting, puts_waiting, stage_of, is_fixed, may_follow, act_after, acts_after}
 use Rattle.screenplay.specs.Script.{is_good_line, AreGoodAfter, IsScriptOf, IsFirstBadLine}
-use Rattle.screenplay.specs.Inner.{nothing, draw_of, without_text, with_act, after_on, after_line}
+use Rattle.screenplay.specs.Inner.{draw_of, without_text, with_act, after_on, after_line}
 use Rattle.screenplay.proofs.RunLemmas.{left_next}
 
 -- ---- one command more
@@ -80,9 +80,6 @@ pub record IsReadTo (cs : List Command) (s : Script) : Type 0 where
   pub text : s.text ≡ text_of (lines_waiting cs)
   pub puts : s.puts ≡ puts_waiting cs
   pub first : s.stage ≡ None → cs ≡ []
-
-pub nothing-read : IsReadTo [] nothing
-nothing-read = record { stage = refl; acts = refl; size = refl; text = refl; puts = refl; first = λ _. refl }
 
 -- a command was taken, and may stand there, or wasn't, and may not
 abbrev pub Follows : List Command → Command → Option Script → Type 0
@@ -149,17 +146,17 @@ module _ (cs : List Command) (s : Script) (is : IsReadTo cs s) (some : 0 < lengt
     first = not-first Draw;
   }
 
-  pub insert-taken : IsReadTo (cs ++ Insert ∷ []) (with_act (acts.Play (steps.Insert s.text)) (without_text s))
+  pub insert-taken : IsReadTo (cs ++ Insert ∷ []) (with_act (acts.Play (plans.Insert s.text)) (without_text s))
   insert-taken = record {
     stage = stage-stays Insert;
-    acts = ap (λ t. s.acts ++ acts.Play (steps.Insert t) ∷ []) is.text ∙ acts-are Insert;
+    acts = ap (λ t. s.acts ++ acts.Play (plans.Insert t) ∷ []) is.text ∙ acts-are Insert;
     size = size-stays Insert refl refl;
     text = sym (ap text_of (waits-taken takes_text Insert line_in refl cs));
     puts = puts-stay Insert refl refl;
     first = not-first Insert;
   }
 
-  pub clear-taken : IsReadTo (cs ++ Clear ∷ []) (with_act (acts.Play steps.Clear) s)
+  pub clear-taken : IsReadTo (cs ++ Clear ∷ []) (with_act (acts.Play plans.Clear) s)
   clear-taken = record {
     stage = stage-stays Clear;
     acts = acts-are Clear;
@@ -229,7 +226,7 @@ module _ (cs : List Command) (s : Script) (is : IsReadTo cs s) (some : 0 < lengt
   follow-on stage e Insert = by (nat_le (length s.text.lines) 65535) refl
     where
       by : (few : Bool) → nat_le (length s.text.lines) 65535 ≡ few
-          → Follows cs Insert (if few then Some (with_act (acts.Play (steps.Insert s.text)) (without_text s)) else None)
+          → Follows cs Insert (if few then Some (with_act (acts.Play (plans.Insert s.text)) (without_text s)) else None)
       by true f = (rw (counted, ← ap (λ t. length t.lines) is.text, f) refl, insert-taken)
       by false f = rw (counted, ← ap (λ t. length t.lines) is.text, f) refl
   follow-on stage e Clear = (counted, clear-taken)
@@ -312,9 +309,6 @@ line-taken lines line s is = by (length line == 0) (command_of line) refl refl
     }
     by false None e f = rw (e, f) refl
     by false (Some c) e f = taken c (after_on s.stage c s) e f (follow (commands_of lines) c s is.read)
-
-pub nothing-read-yet : IsRead [] nothing
-nothing-read-yet = record { good = tt; read = nothing-read }
 
 pub read-all : (lines : List (List ℕ)) (s : Script) → IsRead lines s → IsScriptOf lines s
 read-all lines s is = record { good = is.good; stage = is.read.stage; acts = is.read.acts }

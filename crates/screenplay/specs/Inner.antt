@@ -1,14 +1,14 @@
--- A script as it is read, a line at a time: what stands after each.
-use Rattle.std.specs.Prelude.{◌==◌, nat_le, if◌then◌else◌, ℕ, List, [], ◌∷◌, ◌++◌, length, Option, Some, None}
+-- A script as it is read, a line at a time: what stands after each; and what is made of its text.
+use Rattle.std.specs.Prelude.{◌==◌, nat_le, if◌then◌else◌, ℕ, List, [], ◌∷◌, ◌++◌, length, take, Option, Some, None}
 use Rattle.std.specs.Prelude.{option_and_then}
-use Rattle.rtui_text.specs.Text.{raw_line, text_of}
+use Rattle.rtui_text.specs.Text.{TextData, raw_line, text_of}
 use Rattle.screenplay.specs.{declared.act.Act.Act, declared.script.Command.Command}
 use Rattle.screenplay.specs.{declared.script.Script.Script}
 use Rattle.screenplay.specs.declared.act.Act.TheVariants as acts
 use Rattle.screenplay.specs.declared.script.Command.TheVariants.{SetStage, TakeSize, Put, AddText, Draw}
 use Rattle.screenplay.specs.declared.script.Command.TheVariants.{Insert, Clear, Show}
-use Rattle.screenplay.specs.{declared.scene.Stage.Stage, declared.scene.Step.Step}
-use Rattle.screenplay.specs.declared.scene.Step.TheVariants as steps
+use Rattle.screenplay.specs.{declared.scene.Stage.Stage, declared.act.Plan.Plan}
+use Rattle.screenplay.specs.declared.act.Plan.TheVariants as plans
 use Rattle.screenplay.specs.Script.{command_of, is_fixed}
 
 -- a script of no lines
@@ -16,8 +16,8 @@ abbrev pub nothing : Script
 nothing = record { stage = None; acts = []; size = None; text = text_of []; puts = [] }
 
 -- the draw of what waits
-abbrev pub draw_of : Script → Step
-draw_of s = steps.Draw s.size s.text s.puts
+abbrev pub draw_of : Script → Plan
+draw_of s = plans.Draw s.size s.text s.puts
 
 -- the script, of which no text waits
 abbrev pub without_text : Script → Script
@@ -41,11 +41,15 @@ after_on (Some stage) (AddText line) s =
 after_on (Some stage) Draw s =
     Some (with_act (acts.Play (draw_of s)) (record (without_text s) { size = None; puts = [] }))
 after_on (Some stage) Insert s = if nat_le (length s.text.lines) 65535 then Some
-    (with_act (acts.Play (steps.Insert s.text)) (without_text s)) else None
-after_on (Some stage) Clear s = Some (with_act (acts.Play steps.Clear) s)
+    (with_act (acts.Play (plans.Insert s.text)) (without_text s)) else None
+after_on (Some stage) Clear s = Some (with_act (acts.Play plans.Clear) s)
 after_on (Some stage) Show s = Some (with_act acts.Show s)
 
 -- the script after a line, if that is good: it is empty, or a command that may stand there
 abbrev pub after_line : List ℕ → Script → Option Script
 after_line line s = if length line == 0 then Some s else option_and_then (λ c. after_on s.stage c s)
     (command_of line)
+
+-- the lines of a text that a screen can have rows for
+abbrev pub front_of : TextData → TextData
+front_of text = record text { lines = take 65535 text.lines }

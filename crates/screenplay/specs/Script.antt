@@ -17,7 +17,7 @@ use Rattle.screenplay.specs.declared.script.Command.TheVariants.{Insert, Clear, 
 use Rattle.screenplay.specs.declared.script.ScriptError.{ScriptError}
 use Rattle.screenplay.specs.{declared.script.ScriptError.TheVariants.Line}
 use Rattle.screenplay.specs.{declared.script.ScriptError.TheVariants.Memory, declared.scene.Stage.Stage}
-use Rattle.screenplay.specs.declared.scene.Step.TheVariants as steps
+use Rattle.screenplay.specs.declared.act.Plan.TheVariants as plans
 
 -- the first character of a text, if it is all of it, takes one column and isn't a control character
 unfoldable pub char_of : List ℕ → Option ℕ
@@ -193,9 +193,9 @@ may_follow before other = nat_lt 0 (length before)
 -- the act that a command makes of what waits
 abbrev pub act_after : List Command → Command → List Act
 act_after before Draw =
-    acts.Play (steps.Draw (size_waiting before) (text_of (lines_waiting before)) (puts_waiting before)) ∷ []
-act_after before Insert = acts.Play (steps.Insert (text_of (lines_waiting before))) ∷ []
-act_after before Clear = acts.Play steps.Clear ∷ []
+    acts.Play (plans.Draw (size_waiting before) (text_of (lines_waiting before)) (puts_waiting before)) ∷ []
+act_after before Insert = acts.Play (plans.Insert (text_of (lines_waiting before))) ∷ []
+act_after before Clear = acts.Play plans.Clear ∷ []
 act_after before Show = acts.Show ∷ []
 act_after before other = []
 

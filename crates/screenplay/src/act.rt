@@ -2,15 +2,32 @@
 
 ghost use Rattle.std.specs.Prelude.{◌≡◌, ◌++◌, ◌∷◌, [], OnOk, OnErr};
 
-use crate::scene::Step;
+use crate::raw_lines::RawLines;
+use crate::scene::Puts;
+use rtui_geometry::Size;
 use std::alloc::{AllocError, Global};
 use std::marker::Model;
+
+/// A step of a script, whose text is made when it is played.
+#[derive(Debug, Drop)]
+pub enum Plan<'a> {
+    /// A frame, as `Step::Draw`.
+    Draw {
+        size: Option<Size>,
+        text: RawLines<'a>,
+        puts: Puts,
+    },
+    /// Rows above an inline viewport, as `Step::Insert`.
+    Insert(RawLines<'a>),
+    /// An empty viewport.
+    Clear,
+}
 
 /// One act of a script.
 #[derive(Debug, Drop)]
 pub enum Act<'a> {
     /// A step is played.
-    Play(Step<'a>),
+    Play(Plan<'a>),
     /// The scene is printed.
     Show,
 }

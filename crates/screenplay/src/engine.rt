@@ -12,7 +12,7 @@ ghost use Rattle.screenplay.specs.declared.fault.RunFault.TheVariants.{Step as A
 
 use crate::act::Act;
 use crate::fault::RunFault;
-use crate::playing::{open, play_step};
+use crate::playing::{open, play_plan};
 use crate::scene::{PlayCause, Stage, StepError};
 use crate::script::{Script, ScriptError, read_script};
 use rtui_backend::TestBackend;
@@ -55,11 +55,10 @@ fn script_of(alloc: Global, bytes: &[u8]) -> Result<Script<'_>, RunFault>
     let Ok(text) = str::from_utf8(bytes) else {
         return Err(RunFault::NotText);
     };
-    match read_script(alloc, text) {
-        Ok(script) => Ok(script),
-        Err(ScriptError::Line(number)) => Err(RunFault::Line(number)),
-        Err(ScriptError::Memory) => Err(RunFault::Memory),
-    }
+    read_script(alloc, text).map_err(|error| match error {
+        ScriptError::Line(number) => RunFault::Line(number),
+        ScriptError::Memory => RunFault::Memory,
+    })
 }
 
 // Adds the printed text of what the screen shows.
@@ -68,10 +67,10 @@ fn show(text: &mut Vec<u8>, terminal: &Terminal<TestBackend>) -> Result<(), RunF
         ≡ text.old.items ++ printed_screen (screen_of terminal.now.backend)) }
     ensures err { IfErr result (λ fault. fault ≡ Memory) }
 {
-    match terminal.backend().write_to(text) {
-        Ok(()) => Ok(()),
-        Err(_) => Err(RunFault::Memory),
-    }
+    terminal
+        .backend()
+        .write_to(text)
+        .map_err(|_| RunFault::Memory)
 }
 
 fn step_fault(step: usize, cause: PlayCause) -> RunFault
@@ -88,17 +87,15 @@ fn play_acts(alloc: Global, stage: Stage, acts: &[Act<'_>]) -> Result<Vec<u8>, R
 {
     let mut text = Vec::new(alloc);
     let mut steps = 0usize;
-    let mut terminal = match open(alloc, stage) {
-        Ok(terminal) => terminal,
-        Err(_) => return Err(step_fault(0, PlayCause::Memory)),
+    let Ok(mut terminal) = open(alloc, stage) else {
+        return Err(step_fault(0, PlayCause::Memory));
     };
     for act in acts {
         match act {
-            Act::Play(step) => {
+            Act::Play(plan) => {
                 steps += 1;
-                match play_step(alloc, &mut terminal, stage.viewport, step) {
-                    Ok(()) => {}
-                    Err(cause) => return Err(step_fault(steps, cause)),
+                if let Err(cause) = play_plan(alloc, &mut terminal, stage.viewport, plan) {
+                    return Err(step_fault(steps, cause));
                 }
             }
             Act::Show => show(&mut text, &terminal)?,
@@ -147,8 +144,5 @@ pub fn run<R: Read, W: Write>(alloc: Global, reader: &mut R, writer: &mut W) -> 
 {
     let bytes = read_bytes(alloc, reader)?;
     let text = printed_text(alloc, bytes.as_slice())?;
-    match write_text(writer, text.as_slice()) {
-        Ok(()) => Ok(()),
-        Err(_) => Err(RunFault::Write),
-    }
+    write_text(writer, text.as_slice()).map_err(|_| RunFault::Write)
 }

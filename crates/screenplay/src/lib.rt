@@ -15,6 +15,7 @@ mod fault;
 pub mod laws;
 mod playing;
 mod printing;
+mod raw_lines;
 mod scene;
 mod script;
 

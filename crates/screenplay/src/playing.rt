@@ -13,12 +13,14 @@ ghost use Rattle.screenplay.specs.Run.{IsGoodStage, IsFrame, text_area, IsCauseO
 ghost use Rattle.screenplay.specs.Run.{IsStart};
 ghost use Rattle.screenplay.specs.Playing.{IsPlaying, IsSceneOf, TakesNewSize, IsSizedFor, InsertsBuffer};
 ghost use Rattle.screenplay.specs.Playing.{Plays, view_in};
+ghost use Rattle.screenplay.specs.Print.{step_of};
 ghost use Rattle.rtui_geometry.specs.declared.rect.Rect.{Rect};
 ghost use Rattle.screenplay.specs.declared.scene.Scene.{Scene};
 ghost use Rattle.screenplay.specs.declared.scene.Stage.{Stage};
 ghost use Rattle.screenplay.specs.declared.scene.Step.{Step};
 ghost use Rattle.screenplay.specs.declared.scene.Step.TheVariants.{Draw, Insert, Clear};
 
+use crate::act::Plan;
 use crate::scene::{PlayCause, PlayFault, Puts, Scene, Stage, Step};
 use rtui_backend::{TestBackend, TestError};
 use rtui_buffer::{Buffer, Cell};
@@ -79,10 +81,7 @@ pub fn open(alloc: Global, stage: Stage) -> Result<Terminal<TestBackend>, Termin
     requires { IsGoodStage stage }
     ensures { IfOk result (λ t. IsPlaying stage t × IsStart stage (view_in t)) }
 {
-    let backend = match TestBackend::new(alloc, stage.width, stage.height) {
-        Ok(backend) => backend,
-        Err(_) => return Err(TerminalError::Memory),
-    };
+    let backend = TestBackend::new(alloc, stage.width, stage.height)?;
     let options = TerminalOptions {
         viewport: stage.viewport,
     };
@@ -93,17 +92,13 @@ pub fn open(alloc: Global, stage: Stage) -> Result<Terminal<TestBackend>, Termin
 fn resize(terminal: &mut Terminal<TestBackend>, size: Size) -> Result<(), TerminalError<TestError>>
     ensures { OnOk result (TakesNewSize size terminal.old terminal.new) }
 {
-    match terminal.backend_mut().resize(size.width, size.height) {
-        Ok(()) => {}
-        Err(_) => return Err(TerminalError::Memory),
-    }
+    terminal.backend_mut().resize(size.width, size.height)?;
     terminal.resize(Rect {
         x: 0,
         y: 0,
         width: size.width,
         height: size.height,
-    })?;
-    Ok(())
+    })
 }
 
 // Gives the screen a size, if there is one, and the viewport isn't fixed.
@@ -133,10 +128,8 @@ fn apply(terminal: &mut Terminal<TestBackend>) -> Result<(), PlayCause>
     ensures ok { OnOk result (Applies screen_of None terminal.old terminal.new) }
     ensures err { IfErr result (λ cause. cause ≡ Memory) }
 {
-    match terminal.apply_buffer() {
-        Ok(_) => Ok(()),
-        Err(_) => Err(PlayCause::Memory),
-    }
+    terminal.apply_buffer()?;
+    Ok(())
 }
 
 // Paints a frame of a text and puts, and draws it if it is settled: a draw that gives no size.
@@ -152,15 +145,10 @@ fn draw_frame(
         → IsCauseOfStep stage (Draw None text.now puts.now) (view_in terminal.old) cause) }
 {
     let area = terminal.viewport_area();
-    match paint(alloc, terminal.current_buffer_mut(), text, puts) {
-        Ok(true) => {}
-        Ok(false) => return Err(PlayCause::Unsettled(area)),
-        Err(_) => return Err(PlayCause::Memory),
+    if !paint(alloc, terminal.current_buffer_mut(), text, puts)? {
+        return Err(PlayCause::Unsettled(area));
     }
-    match apply(terminal) {
-        Ok(()) => Ok(()),
-        Err(cause) => Err(cause),
-    }
+    apply(terminal)
 }
 
 // Draws a frame on a screen that takes a size before, if there is one.
@@ -179,10 +167,7 @@ fn draw(
         → IsPlaying stage terminal.old
         → IsCauseOfStep stage (Draw size text.now puts.now) (view_in terminal.old) cause) }
 {
-    match take_size(terminal, viewport, size) {
-        Ok(()) => {}
-        Err(_) => return Err(PlayCause::Memory),
-    }
+    take_size(terminal, viewport, size)?;
     draw_frame(alloc, terminal, text, puts)
 }
 
@@ -215,10 +200,7 @@ fn insert_rows(terminal: &mut Terminal<TestBackend>, rows: Buffer) -> Result<(),
         *buffer = rows;
         Ok(())
     });
-    match inserted {
-        Ok(()) => Ok(()),
-        Err(_) => Err(PlayCause::Memory),
-    }
+    Ok(inserted?)
 }
 
 // Inserts the rows of a text above an inline viewport, if they are settled.
@@ -235,17 +217,11 @@ fn insert_text(
         → IsCauseOfStep stage (Insert text.now) (view_in terminal.old) cause) }
 {
     let area = terminal.viewport_area();
-    let (rows, settled) = match text_rows(alloc, area.width, text) {
-        Ok(rows) => rows,
-        Err(_) => return Err(PlayCause::Memory),
-    };
+    let (rows, settled) = text_rows(alloc, area.width, text)?;
     if !settled {
         return Err(PlayCause::Unsettled(area));
     }
-    match insert_rows(terminal, rows) {
-        Ok(()) => Ok(()),
-        Err(cause) => Err(cause),
-    }
+    insert_rows(terminal, rows)
 }
 
 // Inserts the rows of a text above an inline viewport; on another nothing changes.
@@ -270,13 +246,11 @@ fn insert(
 
 // Empties the viewport.
 fn clear(terminal: &mut Terminal<TestBackend>) -> Result<(), PlayCause>
-    ensures { OnOk result ((stage : Stage) → IsGoodStage stage → IsPlaying stage terminal.old
+    ensures ok { OnOk result ((stage : Stage) → IsGoodStage stage → IsPlaying stage terminal.old
         → Plays stage Clear terminal.old terminal.new) }
+    ensures err { IfErr result (λ cause. cause ≡ Memory) }
 {
-    match terminal.clear() {
-        Ok(()) => Ok(()),
-        Err(_) => Err(PlayCause::Memory),
-    }
+    Ok(terminal.clear()?)
 }
 
 /// Plays a step.
@@ -300,10 +274,37 @@ pub fn play_step(
     match step {
         Step::Draw { size, text, puts } => draw(alloc, terminal, viewport, *size, text, puts),
         Step::Insert(text) => insert(alloc, terminal, viewport, text),
-        Step::Clear => match clear(terminal) {
-            Ok(()) => Ok(()),
-            Err(_) => Err(PlayCause::Memory),
-        },
+        Step::Clear => clear(terminal),
+    }
+}
+
+/// Plays a step whose text is made now.
+///
+/// # Errors
+///
+/// Those of `play_step`.
+pub fn play_plan(
+    alloc: Global,
+    terminal: &mut Terminal<TestBackend>,
+    viewport: Viewport,
+    plan: &Plan<'_>,
+) -> Result<(), PlayCause>
+    ensures ok { OnOk result ((stage : Stage) → stage.viewport ≡ viewport → IsGoodStage stage
+        → IsPlaying stage terminal.old → Plays stage (step_of plan.now) terminal.old terminal.new) }
+    ensures err { IfErr result (λ cause. (stage : Stage) → stage.viewport ≡ viewport
+        → IsPlaying stage terminal.old
+        → IsCauseOfStep stage (step_of plan.now) (view_in terminal.old) cause) }
+{
+    match plan {
+        Plan::Draw { size, text, puts } => {
+            let text = text.to_text(alloc)?;
+            draw(alloc, terminal, viewport, *size, &text, puts)
+        }
+        Plan::Insert(text) => {
+            let text = text.to_text(alloc)?;
+            insert(alloc, terminal, viewport, &text)
+        }
+        Plan::Clear => clear(terminal),
     }
 }
 
@@ -371,22 +372,18 @@ pub fn play(alloc: Global, stage: Stage, steps: &[Step<'_>]) -> Result<Vec<Scene
         EndsEarly stage steps.now fault.scenes.items fault.step fault.cause) }
 {
     let mut scenes = Vec::new(alloc);
-    let mut terminal = match open(alloc, stage) {
-        Ok(terminal) => terminal,
-        Err(_) => return Err(fault(0, PlayCause::Memory, scenes)),
+    let Ok(mut terminal) = open(alloc, stage) else {
+        return Err(fault(0, PlayCause::Memory, scenes));
     };
-    match add_scene(alloc, &terminal, &mut scenes) {
-        Ok(()) => {}
-        Err(_) => return Err(fault(0, PlayCause::Memory, scenes)),
+    if add_scene(alloc, &terminal, &mut scenes).is_err() {
+        return Err(fault(0, PlayCause::Memory, scenes));
     }
     for (index, step) in steps.iter().enumerate() {
-        match play_step(alloc, &mut terminal, stage.viewport, step) {
-            Ok(()) => {}
-            Err(cause) => return Err(fault(index + 1, cause, scenes)),
+        if let Err(cause) = play_step(alloc, &mut terminal, stage.viewport, step) {
+            return Err(fault(index + 1, cause, scenes));
         }
-        match add_scene(alloc, &terminal, &mut scenes) {
-            Ok(()) => {}
-            Err(_) => return Err(fault(index + 1, PlayCause::Memory, scenes)),
+        if add_scene(alloc, &terminal, &mut scenes).is_err() {
+            return Err(fault(index + 1, PlayCause::Memory, scenes));
         }
     }
     Ok(scenes)

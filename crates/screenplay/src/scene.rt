@@ -2,8 +2,10 @@
 
 ghost use Rattle.std.specs.Prelude.{◌≡◌, ◌++◌, ◌∷◌, [], OnOk, OnErr};
 
+use rtui_backend::TestError;
 use rtui_buffer::{Buffer, Cell};
 use rtui_geometry::{Rect, Size};
+use rtui_terminal::TerminalError;
 use rtui_text::Text;
 use rtui_viewport::Viewport;
 use std::alloc::{AllocError, Global};
@@ -118,6 +120,27 @@ pub enum PlayCause {
     /// The frame over this area, or what was to be inserted above it, can't be shown as it is;
     /// nothing of it was written.
     Unsettled(Rect),
+}
+
+impl From<AllocError> for PlayCause {
+    ghost use Rattle.screenplay.specs.declared.scene.PlayCause.TheVariants.{Memory};
+
+    ghost from_gives = { λ _ cause. cause ≡ Memory };
+
+    fn from(_: AllocError) -> PlayCause {
+        PlayCause::Memory
+    }
+}
+
+// A backend in memory fails for want of memory alone, unless it is told to.
+impl From<TerminalError<TestError>> for PlayCause {
+    ghost use Rattle.screenplay.specs.declared.scene.PlayCause.TheVariants.{Memory};
+
+    ghost from_gives = { λ _ cause. cause ≡ Memory };
+
+    fn from(_: TerminalError<TestError>) -> PlayCause {
+        PlayCause::Memory
+    }
 }
 
 /// A step that couldn't be played, by its number, counted from 1, or 0 for the start.

@@ -5,56 +5,22 @@ ghost use Rattle.std.specs.Prelude.{if◌then◌else◌};
 ghost use Rattle.screenplay.specs.declared.script.Command.TheVariants.{TakeSize};
 ghost use Rattle.std.specs.Str.Lines.{lines};
 ghost use Rattle.script_words.specs.Words.{parsed_size};
-ghost use Rattle.rtui_text.specs.Text.{raw_line};
+ghost use Rattle.rtui_text.specs.Text.{text_of};
 ghost use Rattle.screenplay.specs.Run.{IsGoodStage};
 ghost use Rattle.screenplay.specs.Script.{char_of, rect_of, screen_command, inline_of, fixed_of, put_of};
 ghost use Rattle.screenplay.specs.Script.{command_with, command_of, IsGoodCommand};
 ghost use Rattle.screenplay.specs.Script.{IsScriptOf, IsRefusedScript};
 ghost use Rattle.screenplay.specs.Inner.{nothing, draw_of, without_text, after_on, after_line};
 
-use crate::act::{Act, Acts};
-use crate::scene::{Puts, Stage, Step};
+use crate::act::{Act, Acts, Plan};
+use crate::raw_lines::{LineRest, RawLines};
+use crate::scene::{Puts, Stage};
 use rtui_cell::CellWidth;
 use rtui_geometry::{Rect, Size};
-use rtui_text::{Line, Text};
 use rtui_viewport::Viewport;
 use script_words::{read_number, read_size, size_by, split_word};
 use std::alloc::{AllocError, Global};
-use std::marker::Model;
 use std::mem;
-
-/// The rest of a line.
-#[derive(Debug, Drop)]
-pub struct LineRest<'a> {
-    text: &'a str,
-}
-
-impl<'a> Model for LineRest<'a> {
-    ghost use Rattle.std.specs.Prelude.{List, ℕ};
-
-    ghost Value = { List ℕ };
-
-    ghost view = { λ rest. rest.text.now };
-}
-
-impl<'a> LineRest<'a> {
-    fn new(text: &'a str) -> LineRest<'a>
-        ensures { result ≡ text.now }
-    {
-        LineRest { text }
-    }
-
-    /// A line of this text.
-    ///
-    /// # Errors
-    ///
-    /// `AllocError` if memory is refused.
-    pub fn to_line(&self, alloc: Global) -> Result<Line<'a>, AllocError>
-        ensures { IfOk result (λ line. line ≡ raw_line self.now) }
-    {
-        Line::raw(alloc, self.text)
-    }
-}
 
 /// What a line of a script commands.
 #[derive(Debug, Drop)]
@@ -229,7 +195,7 @@ pub struct Script<'a> {
     pub stage: Option<Stage>,
     pub acts: Acts<'a>,
     pub size: Option<Size>,
-    pub text: Text<'a>,
+    pub text: RawLines<'a>,
     pub puts: Puts,
 }
 
@@ -262,25 +228,25 @@ impl<'a> Script<'a> {
             stage: None,
             acts: Acts::new(alloc),
             size: None,
-            text: Text::default_in(alloc),
+            text: RawLines::new(alloc),
             puts: Puts::new(alloc),
         }
     }
 
     // Takes the text that waits, after which none does.
-    fn take_text(&mut self, alloc: Global) -> Text<'a>
+    fn take_text(&mut self, alloc: Global) -> RawLines<'a>
         ensures text { result ≡ self.old.text }
         ensures rest { self.new ≡ without_text self.old }
     {
-        mem::replace(&mut self.text, Text::default_in(alloc))
+        mem::replace(&mut self.text, RawLines::new(alloc))
     }
 
     // Makes a draw of what waits, after which nothing does.
-    fn take_draw(&mut self, alloc: Global) -> Step<'a>
-        ensures step { result ≡ draw_of self.old }
+    fn take_draw(&mut self, alloc: Global) -> Plan<'a>
+        ensures plan { result ≡ draw_of self.old }
         ensures rest { self.new ≡ record (without_text self.old) { size = None; puts = [] } }
     {
-        Step::Draw {
+        Plan::Draw {
             size: self.size.take(),
             text: self.take_text(alloc),
             puts: mem::replace(&mut self.puts, Puts::new(alloc)),
@@ -323,19 +289,19 @@ impl<'a> Script<'a> {
                 self.size = Some(*size);
             }
             Command::Put(x, y, ch) => self.puts.push(*x, *y, *ch)?,
-            Command::AddText(line) => self.text.push_line(line.to_line(alloc)?)?,
+            Command::AddText(line) => self.text.push(*line)?,
             Command::Draw => {
-                let step = self.take_draw(alloc);
-                self.acts.push(Act::Play(step))?;
+                let plan = self.take_draw(alloc);
+                self.acts.push(Act::Play(plan))?;
             }
             Command::Insert => {
-                if self.text.height() > 65535 {
+                if self.text.len() > 65535 {
                     return Ok(false);
                 }
                 let text = self.take_text(alloc);
-                self.acts.push(Act::Play(Step::Insert(text)))?;
+                self.acts.push(Act::Play(Plan::Insert(text)))?;
             }
-            Command::Clear => self.acts.push(Act::Play(Step::Clear))?,
+            Command::Clear => self.acts.push(Act::Play(Plan::Clear))?,
             Command::Show => self.acts.push(Act::Show)?,
         }
         Ok(true)
