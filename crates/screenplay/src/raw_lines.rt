@@ -9,7 +9,7 @@ use std::alloc::{AllocError, Global};
 use std::marker::Model;
 
 /// The rest of a line.
-#[derive(Debug, Clone, Copy, Drop)]
+#[derive(Debug, Drop)]
 pub struct LineRest<'a> {
     text: &'a str,
 }
@@ -27,6 +27,13 @@ impl<'a> LineRest<'a> {
         ensures { result ≡ text.now }
     {
         LineRest { text }
+    }
+
+    /// The same rest.
+    pub fn copied(&self) -> LineRest<'a>
+        ensures { result ≡ self.now }
+    {
+        LineRest { text: self.text }
     }
 
     /// A line of this text.

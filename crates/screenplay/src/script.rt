@@ -289,7 +289,7 @@ impl<'a> Script<'a> {
                 self.size = Some(*size);
             }
             Command::Put(x, y, ch) => self.puts.push(*x, *y, *ch)?,
-            Command::AddText(line) => self.text.push(*line)?,
+            Command::AddText(line) => self.text.push(line.copied())?,
             Command::Draw => {
                 let plan = self.take_draw(alloc);
                 self.acts.push(Act::Play(plan))?;
