@@ -13,7 +13,7 @@ use Rattle.ansi_model.specs.Columns.{Column, Columns, is_met, overwritten}
 use Rattle.ansi_model.specs.Columns.Column.{Shows, Unknown}
 use Rattle.ansi_model.specs.Emulator.{Emulator, rested, run, prints_disputed, is_blank_in, are_blank, cursor_moved}
 use Rattle.ansi_model.specs.Drawing.{printed_at, disputed_at, drawn_at, blanked_in, WritesAt, IsDrawnBy, Paints, Prints}
-use Rattle.ansi_model.proofs.{ReadLemmas.Sends-then, TextLemmas.blank-one, TextLemmas.and-true, MotionLemmas.not_met}
+use Rattle.ansi_model.proofs.{ReadLemmas.Sends-then, TextLemmas.blank-one, ReadLemmas.and-true, MotionLemmas.not_met}
 use Rattle.ansi_model.proofs.{PutLemmas.none_between, SymbolLemmas.alone-disputed}
 use Rattle.ansi_model.proofs.{DrawLemmas.at-drawn, DrawLemmas.moved-drawn, PaintLemmas.Paints-then, PaintLemmas.blanked-only}
 use Rattle.ansi_model.proofs.{PaintLemmas.blanked-width, PaintLemmas.blanked-height, PaintLemmas.blanked-keeps}

@@ -23,7 +23,7 @@ use Rattle.ansi_model.specs.declared.command.SetCursorStyle.TheVariants.{Blinkin
 use Rattle.ansi_model.specs.declared.command.SetCursorStyle.TheVariants.{SteadyBar}
 use Rattle.ansi_model.specs.{Endings.left_below, Beginnings.without_modes, Sgr.default_sgr, Sgr.inks, Sgr.are_known}
 
-and-true : (b : Bool) → (b && true) ≡ b
+pub and-true : (b : Bool) → (b && true) ≡ b
 and-true true = refl
 and-true false = refl
 

@@ -19,7 +19,7 @@ use Rattle.ansi_model.specs.Parameters.{color_parameters, underline_parameters, 
 use Rattle.ansi_model.specs.Parameters.{modifier_numbers, semicolons, led, is_underline, is_sendable, AddsParameters, color_count}
 use Rattle.ansi_model.specs.Parameters.{lead_of, count_with, is_joined}
 use Rattle.ansi_model.proofs.ReadLemmas.{feed-append, number-read, first-read, begun, within, after-those}
-use Rattle.ansi_model.proofs.TextLemmas.{and-true}
+use Rattle.ansi_model.proofs.ReadLemmas.{and-true}
 
 fits : (p : ℕ) → nat_lt p 256 ≡ true → p < 2 ^ 64
 fits p small =

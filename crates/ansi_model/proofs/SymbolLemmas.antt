@@ -14,7 +14,7 @@ use Rattle.ansi_model.specs.Symbols.{is_plain_char, is_shown, is_symbol, is_sing
 use Rattle.ansi_model.specs.Symbols.{is_disputed, printed_columns}
 use Rattle.ansi_model.specs.Sends.{typed}
 use Rattle.ansi_model.specs.Modes.{Modes, no_modes, has_none}
-use Rattle.ansi_model.proofs.TextLemmas.{and-true, one-single}
+use Rattle.ansi_model.proofs.{ReadLemmas.and-true, TextLemmas.one-single}
 
 -- how plain characters are printed one after the other
 types-append : (xs ys : List ℕ) (t : Emulator) → types (xs ++ ys) t ≡ types ys (types xs t)

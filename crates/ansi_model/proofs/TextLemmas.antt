@@ -16,7 +16,7 @@ use Rattle.ansi_model.specs.Symbols.{is_single, begins_anew}
 use Rattle.ansi_model.specs.{Emulator.Emulator, Emulator.rested, Emulator.Phase.Ground, Emulator.Phase.Told, Sequences.feed}
 use Rattle.ansi_model.specs.{Sequences.reads_in, Sequences.is_text, Sends.typed, Commands.shown_char, Commands.shown_text}
 use Rattle.ansi_model.specs.{Commands.title_bytes}
-use Rattle.ansi_model.proofs.ReadLemmas.{feed-append}
+use Rattle.ansi_model.proofs.ReadLemmas.{feed-append, and-true}
 
 one-text : (b : ℕ) → is_text b ≡ true → (t : Emulator) → reads_in Ground b t ≡ typed (b ∷ []) t
 one-text b is t =
@@ -105,10 +105,6 @@ title-read title t ground =
     let s : Emulator = record (rested t) { phase = Told } in
     ap (λ p. feed (93 ∷ 50 ∷ 59 ∷ (text ++ 27 ∷ 92 ∷ [])) (reads_in p 27 t)) ground
     ∙ feed-append text (27 ∷ 92 ∷ []) s ∙ ap (feed (27 ∷ 92 ∷ [])) (told-read text (shown-all (chars title)) s refl)
-
-pub and-true : (b : Bool) → (b && true) ≡ b
-and-true true = refl
-and-true false = refl
 
 -- a symbol's bytes are bytes of text
 pub symbol-text : (text : List ℕ) → IsTrue (is_symbol text) → list_all is_text text ≡ true

@@ -1,5 +1,5 @@
 -- Spans, lines and their columns.
-pub use Rattle.rtui_text.specs.Text.{SpanData, plain, LineData, line_of, raw_line, TextData, text_of}
+pub use Rattle.rtui_text.specs.Text.{SpanData, unstyled, LineData, line_of, raw_line, TextData, text_of}
 pub use Rattle.rtui_text.specs.Text.{raw_text, with_span, with_last_span}
 pub use Rattle.rtui_text.specs.Widths.{span_width, line_width, widest}
 pub use Rattle.rtui_text.specs.Graphemes.{GraphemeData, grapheme_data, has_control, span_graphemes}

@@ -3,7 +3,7 @@ use Rattle.std.proofs.Common.{◌≡◌, ℕ, ◌+◌, ◌<◌, List, [], ◌∷
 use mathlib.Core.List.{map-map}
 use Rattle.std.proofs.lemmas.List.{length-map, get_or-map, map_more, ext_get_or}
 use Rattle.rtui_cell.specs.{declared.cell.Cell.Cell, Cell.empty_cell, Look.look_of, Symbol.blank}
-use Rattle.rtui_text.specs.Text.{line_of, plain}
+use Rattle.rtui_text.specs.Text.{line_of, unstyled}
 use Rattle.rtui_buffer.specs.Line.{line_row}
 use Rattle.rtui_backend.specs.{ScreenLines.symbols_of_line, Inner.symbol_in, Inner.HasLine}
 use Rattle.rtui_backend.proofs.LineLemmas.{look_at-cell}
@@ -21,20 +21,20 @@ count cells = length-map cells (λ (cell : Cell). (look_of cell).symbol)
 
 module _ (w : ℕ) (ts : List (List ℕ)) (cells : List Cell) where
   abbrev shown : List Cell
-  shown = line_row w (line_of (map plain ts))
+  shown = line_row w (line_of (map unstyled ts))
 
-  pub row-shows : length cells ≡ w → HasLine (line_of (map plain ts)) w (symbol_in cells)
-      → symbols cells ≡ symbols_of_line w (line_of (map plain ts))
+  pub row-shows : length cells ≡ w → HasLine (line_of (map unstyled ts)) w (symbol_in cells)
+      → symbols cells ≡ symbols_of_line w (line_of (map unstyled ts))
   row-shows wide told =
-      let n = length-row w (line_of (map plain ts)) in
+      let n = length-row w (line_of (map unstyled ts)) in
       ext_get_or blank (symbols cells) (symbols shown) (count cells ∙ wide ∙ sym (count shown ∙ n)) (λ a a_in.
       let inside : a < w = omega (arith, count cells) in
       symbol-at cells a (omega arith) ∙ told a inside ∙ sym (symbol-at shown a (omega arith)))
 
-  pub row-shown : symbols cells ≡ symbols_of_line w (line_of (map plain ts))
-      → (length cells ≡ w) × HasLine (line_of (map plain ts)) w (symbol_in cells)
+  pub row-shown : symbols cells ≡ symbols_of_line w (line_of (map unstyled ts))
+      → (length cells ≡ w) × HasLine (line_of (map unstyled ts)) w (symbol_in cells)
   row-shown same =
-      let n = length-row w (line_of (map plain ts)) in
+      let n = length-row w (line_of (map unstyled ts)) in
       let m : length cells ≡ w = sym (count cells) ∙ ap length same ∙ count shown ∙ n in
       (m, λ a a_in. sym (symbol-at cells a (omega arith)) ∙ ap (λ xs. get_or xs a blank) same ∙ symbol-at shown a (omega arith))
 

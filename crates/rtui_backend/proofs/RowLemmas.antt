@@ -6,7 +6,7 @@ use Rattle.rtui_style.specs.Style.{new_style}
 use Rattle.rtui_cell.specs.{declared.cell.Cell.Cell, Cell.empty_cell, Look.look_of, Symbol.blank}
 use Rattle.rtui_cell.proofs.CellLemmas.{look-empty}
 use Rattle.rtui_diff.specs.Cells.{cell}
-use Rattle.rtui_text.specs.Text.{line_of, plain}
+use Rattle.rtui_text.specs.Text.{line_of, unstyled}
 use Rattle.rtui_buffer.specs.{BufferData.empty_cells, Line.line_pieces, Line.line_row}
 use Rattle.rtui_buffer.specs.Painting.{Piece, piece_width, piece_at, place_of, columns, AreWide, shown, HasPieces}
 use Rattle.rtui_buffer.proofs.{EmptyLemmas.cell-empty, RowLemmas.HasPieces-row, LineLemmas.columns-line, LineLemmas.AreWide-line}
@@ -76,22 +76,22 @@ shown-symbol p c = refl
 
 module _ (w : ℕ) (ts : List (List ℕ)) where
   abbrev line : List Piece
-  line = line_pieces w new_style (map plain ts)
+  line = line_pieces w new_style (map unstyled ts)
 
   abbrev cells : List Cell
-  cells = line_row w (line_of (map plain ts))
+  cells = line_row w (line_of (map unstyled ts))
 
   abbrev symbols : ℕ → List ℕ
   symbols = symbol_in cells
 
   wide : AreWide line
-  wide = AreWide-line w new_style (map plain ts)
+  wide = AreWide-line w new_style (map unstyled ts)
 
   by-cells : (a : ℕ) → symbols a ≡ (look_of (cell cells a)).symbol
   by-cells a = ap (λ l. l.symbol) (look_at-cell cells a)
 
   has : HasPieces 0 line (empty_cells w) cells
-  has = HasPieces-row w (line_of (map plain ts))
+  has = HasPieces-row w (line_of (map unstyled ts))
 
   blank-at : (a : ℕ) → cell cells a ≡ empty_cell → symbols a ≡ blank
   blank-at a e = by-cells a ∙ ap (λ c. (look_of c).symbol) e ∙ ap (λ l. l.symbol) look-empty
@@ -106,15 +106,15 @@ module _ (w : ℕ) (ts : List (List ℕ)) where
   line-blank : (c : ℕ) → columns line ≤ c → symbols c ≡ blank
   line-blank c le = blank-at c (has.outside.behind c (omega arith) ∙ cell-empty w c)
 
-  pub has-line : (row : ℕ → List ℕ) → Stand row 0 line → AreBlank row (columns line) w → HasLine (line_of (map plain ts)) w row
+  pub has-line : (row : ℕ → List ℕ) → Stand row 0 line → AreBlank row (columns line) w → HasLine (line_of (map unstyled ts)) w row
   has-line row stand blanks a lt = elim (cases_lt a (columns line)) [
     | inl before ↦ (stand-agree row symbols line 0 wide line-stands).0 stand a (omega arith) (omega arith)
     | inr past ↦ blanks a past lt ∙ sym (line-blank a past)
   ]
 
-  pub line-had : (row : ℕ → List ℕ) → HasLine (line_of (map plain ts)) w row → Stand row 0 line × AreBlank row (columns line) w
+  pub line-had : (row : ℕ → List ℕ) → HasLine (line_of (map unstyled ts)) w row → Stand row 0 line × AreBlank row (columns line) w
   line-had row same =
-      let le = columns-line w new_style (map plain ts) in (
+      let le = columns-line w new_style (map unstyled ts) in (
         (stand-agree row symbols line 0 wide line-stands).1 (λ c _ lt. same c (omega arith)),
         λ c past lt. same c lt
             ∙ line-blank c past,

@@ -4,7 +4,7 @@ use Rattle.std.proofs.Common.{◌∙◌, arith, append_assoc}
 use Rattle.std.specs.Borrow.{Bor}
 use Rattle.std.proofs.lemmas.{List.map-append, List.append-nil, List.Sums.sum_by-cons}
 use Rattle.rtui_style.specs.Style.{new_style}
-use Rattle.rtui_text.specs.Text.{plain, line_of}
+use Rattle.rtui_text.specs.Text.{unstyled, line_of}
 use Rattle.rtui_cell.specs.Width.{text_width}
 use Rattle.rtui_buffer.specs.Painting.{painted_width, kept, Piece, piece_of, pieces, piece_width, columns, text_pieces}
 use Rattle.rtui_buffer.proofs.PaintLemmas.{kept-nil, kept-skip, kept-take, kept-full, painted_width-painted}
@@ -73,21 +73,21 @@ module _ (row : ℕ → List ℕ) (room at end : ℕ) (all : List Piece) (left :
         (ends-cons row end (piece_of new_style g) (pieces new_style (kept (room - end - text_width g) gs)) o has
         (rw (rest, width-text some) at e)))
 
--- the pieces of plain texts and one more after them
-line-push : (w : ℕ) (ts : List (List ℕ)) (t : List ℕ) → line_pieces w new_style (map plain (ts ++ t ∷ []))
-    ≡ line_pieces w new_style (map plain ts) ++ text_pieces (w - columns (line_pieces w new_style (map plain ts))) new_style t
+-- the pieces of unstyled texts and one more after them
+line-push : (w : ℕ) (ts : List (List ℕ)) (t : List ℕ) → line_pieces w new_style (map unstyled (ts ++ t ∷ []))
+    ≡ line_pieces w new_style (map unstyled ts) ++ text_pieces (w - columns (line_pieces w new_style (map unstyled ts))) new_style t
 line-push w [] t =
     let none = line_pieces-nil w new_style in
     let all : w - columns [] ≡ w = omega arith in
-    line_pieces-cons w new_style (plain t) [] ∙ ap (λ qs. text_pieces w new_style t ++ qs)
+    line_pieces-cons w new_style (unstyled t) [] ∙ ap (λ qs. text_pieces w new_style t ++ qs)
     (line_pieces-nil (w - columns (text_pieces w new_style t)) new_style) ∙ append-nil (text_pieces w new_style t)
     ∙ sym (ap (λ ps. ps ++ text_pieces (w - columns ps) new_style t) none ∙ ap (λ n. text_pieces n new_style t) all)
 line-push w (u ∷ ts) t =
     let ps : List Piece = text_pieces w new_style u in
-    let rest : List Piece = line_pieces (w - columns ps) new_style (map plain ts) in
-    let whole = line_pieces-cons w new_style (plain u) (map plain ts) in
+    let rest : List Piece = line_pieces (w - columns ps) new_style (map unstyled ts) in
+    let whole = line_pieces-cons w new_style (unstyled u) (map unstyled ts) in
     let left : w - columns (ps ++ rest) ≡ w - columns ps - columns rest = omega (arith, columns-append ps rest) in
-    line_pieces-cons w new_style (plain u) (map plain (ts ++ t ∷ [])) ∙ ap (λ qs. ps ++ qs) (line-push (w - columns ps) ts t)
+    line_pieces-cons w new_style (unstyled u) (map unstyled (ts ++ t ∷ [])) ∙ ap (λ qs. ps ++ qs) (line-push (w - columns ps) ts t)
     ∙ sym (ap (λ qs. qs ++ text_pieces (w - columns qs) new_style t) whole ∙ append_assoc ps rest _
     ∙ ap (λ n. ps ++ (rest ++ text_pieces n new_style t)) left)
 
@@ -97,33 +97,33 @@ module _ (row : ℕ → List ℕ) (w : ℕ) (texts : List (Bor (List ℕ))) (tex
   now ts = map (λ (t : Bor (List ℕ)). t.now) ts
 
   abbrev former : List Piece
-  former = line_pieces w new_style (map plain (now texts))
+  former = line_pieces w new_style (map unstyled (now texts))
 
-  pushed : line_pieces w new_style (map plain (now (texts ++ text ∷ []))) ≡ former ++ text_pieces
+  pushed : line_pieces w new_style (map unstyled (now (texts ++ text ∷ []))) ≡ former ++ text_pieces
       (w - columns former) new_style text.now
-  pushed = ap (λ (ts : List (List ℕ)). line_pieces w new_style (map plain ts))
+  pushed = ap (λ (ts : List (List ℕ)). line_pieces w new_style (map unstyled ts))
       (map-append (λ (t : Bor (List ℕ)). t.now) texts (text ∷ [])) ∙ line-push w (now texts) text.now
 
   pub line-turn : (x : ℕ) (end o : Option ℕ) → EndsAfter row 0 former end → end ≡ Some x
       → EndsAfter row x (text_pieces (w - x) new_style text.now) o
-      → EndsAfter row 0 (line_pieces w new_style (map plain (now (texts ++ text ∷ [])))) o
+      → EndsAfter row 0 (line_pieces w new_style (map unstyled (now (texts ++ text ∷ [])))) o
   line-turn x end o done is more =
       let at = rw is at done in
       let here : x ≡ columns former = omega (arith, at.0) in
       rw pushed (ends-append row 0 (columns former) former _ o (omega arith) at.1 (rw here at more))
 
   pub line-over : (end : Option ℕ) → EndsAfter row 0 former end → end ≡ None
-      → EndsAfter row 0 (line_pieces w new_style (map plain (now (texts ++ text ∷ [])))) None
+      → EndsAfter row 0 (line_pieces w new_style (map unstyled (now (texts ++ text ∷ [])))) None
   line-over end done is = let off = rw is at done in
       λ h. off ((stand-append row former (text_pieces (w - columns former) new_style text.now) 0).0 (rw pushed at h)).0
 
 -- where its texts end, a row has a line if blanks are after them, and not if they don't stand
 module _ (row : ℕ → List ℕ) (w : ℕ) (ts : List (List ℕ)) where
-  pub line-if : (end : ℕ) (b : Bool) → EndsAfter row 0 (line_pieces w new_style (map plain ts)) (Some end)
-      → ((b ≡ true) ↔ AreBlank row end w) → (b ≡ true) ↔ HasLine (line_of (map plain ts)) w row
+  pub line-if : (end : ℕ) (b : Bool) → EndsAfter row 0 (line_pieces w new_style (map unstyled ts)) (Some end)
+      → ((b ≡ true) ↔ AreBlank row end w) → (b ≡ true) ↔ HasLine (line_of (map unstyled ts)) w row
   line-if end b at blank =
-      let here : end ≡ columns (line_pieces w new_style (map plain ts)) = omega (arith, at.0) in
+      let here : end ≡ columns (line_pieces w new_style (map unstyled ts)) = omega (arith, at.0) in
       (λ t. has-line w ts row at.1 (rw here at (blank.0 t)), λ h. blank.1 (rw here (line-had w ts row h).1))
 
-  pub no-line : EndsAfter row 0 (line_pieces w new_style (map plain ts)) None → HasLine (line_of (map plain ts)) w row → ⊥
+  pub no-line : EndsAfter row 0 (line_pieces w new_style (map unstyled ts)) None → HasLine (line_of (map unstyled ts)) w row → ⊥
   no-line off h = off (line-had w ts row h).0

@@ -47,6 +47,6 @@ pub record IsOfLines (ls : List LineData) (s : BufferData) : Type 0 where
   pub cells : s.cells ≡ line_rows (widest ls) ls
   pub rows : ShowsLines (widest ls) ls s.cells
 
--- a plain line for each text
+-- an unstyled line for each text
 abbrev pub raw_lines : List (Bor (List ℕ)) → List LineData
 raw_lines texts = map (λ text. raw_line text.now) texts

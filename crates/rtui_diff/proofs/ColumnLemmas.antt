@@ -9,14 +9,14 @@ use Rattle.rtui_cell.specs.{Cell.is_skipped}
 use Rattle.rtui_cell.specs.Equality.{is_same}
 use Rattle.rtui_diff.specs.Cells.{has_fe0f, is_forced, shows_on_blank, cell}
 use Rattle.rtui_diff.specs.Settled.{IsBlankOrSkipped}
-use Rattle.rtui_diff.specs.DiffRule.{Walk, start, gives, gives_visited, gives_plain, step, give, given}
+use Rattle.rtui_diff.specs.DiffRule.{Walk, start, gives, gives_visited, gives_other, step, give, given}
 use Rattle.rtui_cell.proofs.CellLemmas.{same_look, same_width, same_skipped, look-empty, width-empty}
-use Rattle.rtui_diff.proofs.WalkLemmas.{step_cases, plain_same, unskipped}
+use Rattle.rtui_diff.proofs.WalkLemmas.{step_cases, other_same, unskipped}
 
 -- the unskipped cell at j covers the place k after it
 pub record Covers (cells : List Cell) (j k : ℕ) : Type 0 where
   pub before : j < k
-  pub plain : is_skipped (cell cells j) ≡ false
+  pub unskipped : is_skipped (cell cells j) ≡ false
   pub reaches : k < j + width_of (cell cells j)
 
 -- settled, with the rows joined to one
@@ -93,9 +93,9 @@ abbrev pub next_place : List Cell → ℕ → ℕ
 next_place ns i = i + max 1 (width_of (cell ns i))
 
 -- a wide cell is not skipped
-pub wide_plain : (len : ℕ) (ns : List Cell) (i : ℕ) → Settled len ns → i < len → 1 < width_of (cell ns i)
+pub wide_unskipped : (len : ℕ) (ns : List Cell) (i : ℕ) → Settled len ns → i < len → 1 < width_of (cell ns i)
     → is_skipped (cell ns i) ≡ false
-wide_plain len ns i st lt wide = false_from_ne_true (is_skipped (cell ns i)) (λ e. omega (arith, st.skipped i lt e))
+wide_unskipped len ns i st lt wide = false_from_ne_true (is_skipped (cell ns i)) (λ e. omega (arith, st.skipped i lt e))
 
 -- what stands after an unskipped wide cell takes at most one column, and shows the empty look if it is not skipped
 pub behind_width : (len : ℕ) (ns : List Cell) (j k : ℕ) → Settled len ns → k < len → Covers ns j k → width_of (cell ns k) ≤ 1
@@ -106,14 +106,14 @@ behind_width len ns j k st lt x = elim (st.behind j k lt x) [
 
 pub behind_look : (len : ℕ) (ns : List Cell) (j k : ℕ) → Settled len ns → k < len → Covers ns j k → is_skipped (cell ns k) ≡ false
     → look_of (cell ns k) ≡ empty_look
-behind_look len ns j k st lt x plain = elim (st.behind j k lt x) [
+behind_look len ns j k st lt x unskipped = elim (st.behind j k lt x) [
   | inl e ↦ same_look (cell ns k) empty_cell e ∙ look-empty
-  | inr e ↦ absurd (false≢true (sym plain ∙ e))
+  | inr e ↦ absurd (false≢true (sym unskipped ∙ e))
 ]
 
 -- a cell covers the places up to the next one
 pub next_covers : (len : ℕ) (ns : List Cell) (i k : ℕ) → Settled len ns → i < len → i < k → k < next_place ns i → Covers ns i k
-next_covers len ns i k st lt a b = record { before = a; plain = wide_plain len ns i st lt (omega arith); reaches = omega arith }
+next_covers len ns i k st lt a b = record { before = a; unskipped = wide_unskipped len ns i st lt (omega arith); reaches = omega arith }
 
 pub next_bound : (len : ℕ) (ns : List Cell) (i : ℕ) → Settled len ns → i < len → next_place ns i ≤ len
 next_bound len ns i st lt = elim (cases_Bool (is_skipped (cell ns i))) [
@@ -125,7 +125,7 @@ pub next_closed : (len : ℕ) (ns : List Cell) (i : ℕ) → Settled len ns → 
 next_closed len ns i st lt c = record {
   closed = λ j x. elim (cases_order j i) [
     | inl same ↦ let w = ap (λ x. width_of (cell ns x)) same in omega (arith, x.reaches)
-    | inr (inl less) ↦ c.closed j (record { before = less; plain = x.plain; reaches = omega (arith, x.reaches) })
+    | inr (inl less) ↦ c.closed j (record { before = less; unskipped = x.unskipped; reaches = omega (arith, x.reaches) })
     | inr (inr more) ↦
         let e : next_place ns i ≤ len = next_bound len ns i st lt in
         omega (
@@ -145,7 +145,7 @@ pub next_splits : (len : ℕ) (F : Look → Type 0) (ns : List Cell) (i k : ℕ)
 next_splits len F ns i k l m st lt klt c sp mv = record {
   shown = λ in_r. elim (cases_order k i) [
     | inl same ↦ record {
-      look = λ plain. mv.here same (subst (λ x. is_skipped (cell ns x) ≡ false) same plain) ∙ ap (λ x. look_of (cell ns x))
+      look = λ unskipped. mv.here same (subst (λ x. is_skipped (cell ns x) ≡ false) same unskipped) ∙ ap (λ x. look_of (cell ns x))
           (sym same);
       behind = λ j x. absurd (c.closed j (subst (Covers ns j) same x));
     }
@@ -153,7 +153,7 @@ next_splits len F ns i k l m st lt klt c sp mv = record {
     | inr (inr more) ↦
         let blank : m ≡ empty_look = mv.covered (next_covers len ns i k st lt more in_r) in
         record {
-          look = λ plain. blank ∙ sym (behind_look len ns i k st klt (next_covers len ns i k st lt more in_r) plain);
+          look = λ unskipped. blank ∙ sym (behind_look len ns i k st klt (next_covers len ns i k st lt more in_r) unskipped);
           behind = λ _ _. blank;
         }
   ];
@@ -171,7 +171,7 @@ moves_put ns i k l = record {
 moves_skip : (ns : List Cell) (i k : ℕ) (l : Look) → is_skipped (cell ns i) ≡ true → Moves ns i k l l
 moves_skip ns i k l e = record {
   here = λ _ p. absurd (false≢true (sym p ∙ e));
-  covered = λ x. absurd (false≢true (sym x.plain ∙ e));
+  covered = λ x. absurd (false≢true (sym x.unskipped ∙ e));
   before = λ _. refl;
   past = λ _. refl;
 }
@@ -183,7 +183,7 @@ moves_same ps ns i k l sp e = record {
       ∙ ap (λ x. look_of (cell ps x)) same ∙ same_look (cell ps i) (cell ns i) e;
   covered = λ x. (sp.former (omega (arith, x.before))).behind i (record {
     before = x.before;
-    plain = skips ∙ x.plain;
+    unskipped = skips ∙ x.unskipped;
     reaches = omega (arith, x.reaches, same_width (cell ps i) (cell ns i) e);
   });
   before = λ _. refl;
@@ -203,12 +203,12 @@ pub after-give : (g : Bool) (ns : List Cell) (i : ℕ) (is : List ℕ) (k : ℕ)
 after-give true ns i is k l = refl
 after-give false ns i is k l = refl
 
-plain_moves : (ps ns : List Cell) (i k : ℕ) (l : Look) (g : Bool) → g ≡ gives_plain (cell ps i) (cell ns i)
+other_moves : (ps ns : List Cell) (i k : ℕ) (l : Look) (g : Bool) → g ≡ gives_other (cell ps i) (cell ns i)
     → Splits (ShowsPlace ps k) ns i k l → Moves ns i k l (step_look g ns i k l)
-plain_moves ps ns i k l true e sp = moves_put ns i k l
-plain_moves ps ns i k l false e sp = elim (cases_Bool (is_skipped (cell ns i))) [
+other_moves ps ns i k l true e sp = moves_put ns i k l
+other_moves ps ns i k l false e sp = elim (cases_Bool (is_skipped (cell ns i))) [
   | inl skip ↦ moves_skip ns i k l skip
-  | inr plain ↦ moves_same ps ns i k l sp (plain_same (cell ps i) (cell ns i) (sym e) plain)
+  | inr unskipped ↦ moves_same ps ns i k l sp (other_same (cell ps i) (cell ns i) (sym e) unskipped)
 ]
 
 -- each unskipped cell is put
@@ -220,14 +220,14 @@ forced_moves ns i k l false e = moves_skip ns i k l (not-false (is_skipped (cell
 -- a visited blank after a wide cell changes nothing
 pub blank_kept : (len : ℕ) (ns : List Cell) (j i k : ℕ) (l : Look) (g : Bool) → Settled len ns → i < len → Covers ns j i →
     (g ≡ true → is_skipped (cell ns i) ≡ false) → (k ≡ i → l ≡ empty_look) → step_look g ns i k l ≡ l
-blank_kept len ns j i k l true st lt x plain blank =
+blank_kept len ns j i k l true st lt x unskipped blank =
     let w : width_of (cell ns i) ≤ 1 = behind_width len ns j i st lt x in
-    let look : look_of (cell ns i) ≡ empty_look = behind_look len ns j i st lt x (plain refl) in
+    let look : look_of (cell ns i) ≡ empty_look = behind_look len ns j i st lt x (unskipped refl) in
     elim (cases_Bool (nat_eq k i)) [
       | inl same ↦ rw same (look ∙ sym (blank (grind (arith, nat_tests))))
       | inr away ↦ grind (arith, nat_tests)
     ]
-blank_kept len ns j i k l false st lt x plain blank = refl
+blank_kept len ns j i k l false st lt x unskipped blank = refl
 
 -- a step at place i to the state t, with the split at r
 abbrev Goes : ℕ → List Cell → List Cell → (ℕ → Type 0) → Walk → ℕ → ℕ → Bool → Type 0
@@ -317,40 +317,40 @@ column_step len ps ns Q zero zero force i sp st lt q stands =
     step_cases (λ t. Goes len ps ns Q t i (i + max 0 (if force then 0 else 0)) g) (cell ps i) (cell ns i)
     (λ skip. let w : width_of (cell ns i) ≤ 1 = st.skipped i lt skip in
     to start (omega arith) (none_visited ps ns Q start (i + 1) refl))
-    (λ plain. to (record { over = width_of (cell ns i) - 1; left = 0; force = false }) (omega arith)
+    (λ unskipped. to (record { over = width_of (cell ns i) - 1; left = 0; force = false }) (omega arith)
     (none_visited ps ns Q _ (i + 1) refl))
-    (λ plain unforced gave wide fe. let w : 1 < width_of (cell ns i) = grind (arith, nat_tests) in
+    (λ unskipped unforced gave wide fe. let w : 1 < width_of (cell ns i) = grind (arith, nat_tests) in
     to (record { over = 0; left = width_of (cell ns i) - 1; force = false }) (omega arith) (record {
       unforced = λ _ c a b. record {
         j = i;
-        covers = record { before = omega arith; plain = plain; reaches = omega arith };
+        covers = record { before = omega arith; unskipped = unskipped; reaches = omega arith };
         given = q gave;
         unforced = unforced;
         variation = fe;
       };
       forced = λ f. absurd (false≢true f);
     }))
-    (λ plain gave narrow vis. let w : width_of (cell ns i) ≤ 1 = grind (arith, nat_tests) in
+    (λ unskipped gave narrow vis. let w : width_of (cell ns i) ≤ 1 = grind (arith, nat_tests) in
     to (record { over = 0; left = width_of (cell ps i) - 1; force = true }) (omega arith) (record {
       unforced = λ f. absurd (false≢true (sym f));
       forced = λ _ c a b. record {
         j = i;
-        covers = record { before = omega arith; plain = wide_plain len ps i sp lt (omega arith); reaches = omega arith };
+        covers = record { before = omega arith; unskipped = wide_unskipped len ps i sp lt (omega arith); reaches = omega arith };
         visible = (and_parts (nat_lt (width_of (cell ns i)) (width_of (cell ps i))) (shows_on_blank (cell ps i)) vis).1;
         given = q gave;
         narrow = w;
       };
     }))
-    (λ plain narrow. let w : width_of (cell ns i) ≤ 1 = grind (arith, nat_tests) in
+    (λ unskipped narrow. let w : width_of (cell ns i) ≤ 1 = grind (arith, nat_tests) in
     to start (omega arith) (none_visited ps ns Q start (i + 1) refl))
   where
     g : Bool
-    g = gives_plain (cell ps i) (cell ns i)
+    g = gives_other (cell ps i) (cell ns i)
 
     to : (t : Walk) → reach t (i + 1) ≡ next_place ns i → Origins ps ns Q t (i + 1)
-        → Goes len ps ns Q t i (i + max 0 (if force then 0 else 0)) (gives_plain (cell ps i) (cell ns i))
-    to t e o = advance len ps ns Q t i _ (gives_plain (cell ps i) (cell ns i)) st lt stands.closed (reach-none force i)
-        (λ k l. plain_moves ps ns i k l (gives_plain (cell ps i) (cell ns i)) refl) e o
+        → Goes len ps ns Q t i (i + max 0 (if force then 0 else 0)) (gives_other (cell ps i) (cell ns i))
+    to t e o = advance len ps ns Q t i _ (gives_other (cell ps i) (cell ns i)) st lt stands.closed (reach-none force i)
+        (λ k l. other_moves ps ns i k l (gives_other (cell ps i) (cell ns i)) refl) e o
 
 -- from any state that stands, the places that are given leave column k showing the next frame
 pub replay_from : (len : ℕ) (ps ns : List Cell) (n : ℕ) (s : Walk) (i k : ℕ) (l : Look) → Settled len ps → Settled len ns

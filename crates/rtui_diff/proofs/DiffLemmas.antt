@@ -3,7 +3,7 @@ use Rattle.std.proofs.Common.{◌≡◌, ℕ, zero, suc, ◌+◌, ◌-◌, ◌<�
 use Rattle.std.proofs.lemmas.Bool.{false≢true}
 use Rattle.rtui_cell.specs.{declared.cell.Cell.Cell, Cell.width_of}
 use Rattle.rtui_diff.specs.{Cells.cell, Remaining.updates_left, declared.diff.DiffWalk.DiffWalk}
-use Rattle.rtui_diff.specs.DiffRule.{start, gives_plain, gives_visited, step_plain, give, given}
+use Rattle.rtui_diff.specs.DiffRule.{start, gives_other, gives_visited, step_other, give, given}
 use Rattle.rtui_diff.proofs.WalkLemmas.{step_cases}
 
 -- what is left, with its numbers written otherwise
@@ -46,8 +46,8 @@ given-visited ps ns len at end to force g p n lt visited is former here e =
 
 -- any other place
 pub given-plain : (ps ns : List Cell) (len at end over left : ℕ) (force g f : Bool) (p n : Cell) → at < len → end ≤ at
-    → g ≡ gives_plain p n →
-    record { over = over; left = left; force = f } ≡ step_plain p n → p ≡ cell ps at → n ≡ cell ns at →
+    → g ≡ gives_other p n →
+    record { over = over; left = left; force = f } ≡ step_other p n → p ≡ cell ps at → n ≡ cell ns at →
     given ps ns (len - at) (record { over = 0; left = end - at; force = force }) at
     ≡ give g at (given ps ns (len - (at + 1 + over)) (record { over = 0; left = at + 1 + left - (at + 1 + over); force = f })
     (at + 1 + over))
@@ -55,14 +55,14 @@ unfolding given
 given-plain ps ns len at end over left force g f p n lt past is turns former here =
     rw (is, former, here)
     (given-same ps ns (len - at) (suc (len - at - 1)) (end - at) 0 at at force (omega arith) (omega arith) refl
-    ∙ ap (λ t. give (gives_plain (cell ps at) (cell ns at)) at (given ps ns (len - at - 1) t (at + 1)))
+    ∙ ap (λ t. give (gives_other (cell ps at) (cell ns at)) at (given ps ns (len - at - 1) t (at + 1)))
     (sym (turns ∙ rw (former, here) refl))
-    ∙ ap (give (gives_plain (cell ps at) (cell ns at)) at) (given-over ps ns (len - at - 1) over left f (at + 1)
+    ∙ ap (give (gives_other (cell ps at) (cell ns at)) at) (given-over ps ns (len - at - 1) over left f (at + 1)
     ∙ given-same ps ns (len - at - 1 - over) (len - (at + 1 + over)) (left - over) (at + 1 + left - (at + 1 + over))
     (at + 1 + over) (at + 1 + over) f (omega arith) (omega arith) refl))
 
 -- nothing follows a cell of one column if there was one of one column
-narrow_step : (p n : Cell) → width_of p ≡ 1 → width_of n ≡ 1 → start ≡ step_plain p n
+narrow_step : (p n : Cell) → width_of p ≡ 1 → width_of n ≡ 1 → start ≡ step_other p n
 narrow_step p n former narrow =
     sym (step_cases (λ s. s ≡ start) p n (λ _. refl) (λ _. rw narrow refl) (λ _ _ _ _ _. rw narrow refl)
     (λ _ _ _ wider. absurd (false≢true (rw (former, narrow) at wider))) (λ _ _. refl))
@@ -78,7 +78,7 @@ unfolding given
 given-unvisited ps ns zero force other i = refl
 given-unvisited ps ns (suc k) force other i = refl
 
-pub given-narrow : (ps ns : List Cell) (len at end : ℕ) (force g : Bool) (p n : Cell) → at < len → end ≤ at → g ≡ gives_plain p n
+pub given-narrow : (ps ns : List Cell) (len at end : ℕ) (force g : Bool) (p n : Cell) → at < len → end ≤ at → g ≡ gives_other p n
     → width_of p ≡ 1 → width_of n ≡ 1 →
     p ≡ cell ps at → n ≡ cell ns at →
     given ps ns (len - at) (record { over = 0; left = end - at; force = force }) at

@@ -9,7 +9,7 @@ use Rattle.rtui_cell.specs.{declared.cell.Cell.Cell, Cell.empty_cell, Cell.width
 use Rattle.rtui_cell.specs.{Equality.is_same_symbol}
 use Rattle.rtui_cell.proofs.CellLemmas.{same_symbol, symbol_beside}
 use Rattle.rtui_diff.specs.Cells.{has_fe0f, is_forced, is_always, shows_on_blank, cell}
-use Rattle.rtui_diff.specs.DiffRule.{Walk, start, gives, gives_plain, step, step_plain, give, given}
+use Rattle.rtui_diff.specs.DiffRule.{Walk, start, gives, gives_other, step, step_other, give, given}
 use Rattle.rtui_diff.specs.{Updates.update_at, Updates.updates, Settled.IsSettled}
 use Rattle.rtui_diff.specs.Completeness.{differing, AreNarrow, IsGiven, CoversColumn, Uncovers, IsInFrame, IsMinimal}
 use Rattle.rtui_diff.proofs.{WalkLemmas.step_cases, WalkLemmas.unskipped, WalkLemmas.give_cond, WalkLemmas.places}
@@ -22,7 +22,7 @@ use Rattle.rtui_diff.proofs.ColumnLemmas.{behind_width}
 abbrev differs : List Cell → List Cell → ℕ → Bool
 differs ps ns i = not (is_skipped (cell ns i)) && not (is_same (cell ps i) (cell ns i))
 
-gives_differs : (p n : Cell) → is_always n ≡ false → gives_plain p n ≡ (not (is_skipped n) && not (is_same p n))
+gives_differs : (p n : Cell) → is_always n ≡ false → gives_other p n ≡ (not (is_skipped n) && not (is_same p n))
 gives_differs p n e = rw e refl
 
 narrow_from : (len : ℕ) (ps ns : List Cell) (n : ℕ) (s : Walk) (i : ℕ) → AreNarrow len ps ns → i + n ≡ len → s.over ≡ 0
@@ -35,15 +35,15 @@ narrow_from len ps ns (suc n) s i narrow e o l =
     let c : Cell = cell ns i in
     let wp : width_of (cell ps i) ≤ 1 = narrow.former i (omega arith) in
     let wn : width_of (cell ns i) ≤ 1 = narrow.next i (omega arith) in
-    let g : gives s p c ≡ gives_plain p c = rw (o, l) refl in
-    let t : step s p c ≡ step_plain p c = rw (o, l) refl in
-    let d : gives_plain p c ≡ differs ps ns i = gives_differs p c (narrow.changing i (omega arith)) in
-    let none : ((step_plain p c).over ≡ 0) × ((step_plain p c).left ≡ 0) =
+    let g : gives s p c ≡ gives_other p c = rw (o, l) refl in
+    let t : step s p c ≡ step_other p c = rw (o, l) refl in
+    let d : gives_other p c ≡ differs ps ns i = gives_differs p c (narrow.changing i (omega arith)) in
+    let none : ((step_other p c).over ≡ 0) × ((step_other p c).left ≡ 0) =
     step_cases (λ t. (t.over ≡ 0) × (t.left ≡ 0)) p c (λ _. (refl, refl)) (λ _. (omega arith, refl))
     (λ _ _ _ _ _. (refl, omega arith)) (λ _ _ _ _. (refl, omega arith)) (λ _ _. (refl, refl)) in
     ap (λ g. give g i (given ps ns n (step s p c) (i + 1))) (g ∙ d)
     ∙ ap (λ t. give (differs ps ns i) i (given ps ns n t (i + 1))) t
-    ∙ ap (give (differs ps ns i) i) (narrow_from len ps ns n (step_plain p c) (i + 1) narrow (omega arith) none.0 none.1)
+    ∙ ap (give (differs ps ns i) i) (narrow_from len ps ns n (step_other p c) (i + 1) narrow (omega arith) none.0 none.1)
     ∙ give_cond (differs ps ns i) i (filter (differs ps ns) (range_with_len (i + 1) n))
 
 -- where all cells are narrow, exactly the unskipped ones that differ are given
@@ -104,7 +104,7 @@ one_cover len ns j k c st lt x y = elim (cases_order j k) [
   where
     first : (j k : ℕ) → j < k → Covers ns j c → Covers ns k c → ⊥
     first j k less x y =
-        let b : Covers ns j k = record { before = less; plain = x.plain; reaches = omega (arith, x.reaches, y.before) } in
+        let b : Covers ns j k = record { before = less; unskipped = x.unskipped; reaches = omega (arith, x.reaches, y.before) } in
         omega (arith, y.before, y.reaches, behind_width len ns j k st (omega (arith, y.before)) b)
 
 -- why it is given where a cell of next covers it, and where its cell is the former one
@@ -187,7 +187,7 @@ module _ (x0 y0 w h : ℕ) (ps ns : List Cell) where
           subst (Contains (places w h ps ns)) (let e : i ≡ b * w + a = omega arith in e) c
 
   pub flat : (cells : List Cell) (j a b : ℕ) → CoversColumn w cells j a b → Covers cells (b * w + j) (b * w + a)
-  flat cells j a b x = record { before = omega (arith, x.before); plain = x.plain; reaches = omega (arith, x.reaches) }
+  flat cells j a b x = record { before = omega (arith, x.before); unskipped = x.unskipped; reaches = omega (arith, x.reaches) }
 
   pub gives_little : IsSettled w h ps → IsSettled w h ns → IsMinimal x0 y0 w h ps ns (updates x0 y0 w h ps ns)
   gives_little sp st = record {
@@ -217,7 +217,7 @@ module _ (x0 y0 w h : ℕ) (ps ns : List Cell) where
           record {
             j = o.j % w;
             before = q.1.before;
-            former = q.1.plain;
+            former = q.1.unskipped;
             covers = q.1.reaches;
             visible = subst (λ x. shows_on_blank (cell ps x) ≡ true) q.0 o.visible;
             given = given_at (o.j % w) b (omega (arith, q.1.before, inside.column))

@@ -50,7 +50,7 @@ module _ (x0 y0 w h : ℕ) (ps ns : List Cell) where
     x = refl;
     y = refl;
     own = ap (cell ns) (sym (row_start w h i));
-    plain = p;
+    unskipped = p;
   }
 
   -- the updates rise strictly row by row within the common rows, and each is next's own and not skipped

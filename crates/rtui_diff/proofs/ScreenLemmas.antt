@@ -37,11 +37,11 @@ module _ (W H x0 y0 w h : ℕ) (x_fits : x0 + w ≤ W) (y_fits : y0 + h ≤ H) (
   -- a put on the screen, seen at a column of the area
   put_inside : (i a b : ℕ) (g : Grid) → i < w * h → Plain ns i → a < w → b < h →
       put W H (update_at x0 y0 w ns i) g (x0 + a) (y0 + b) ≡ put_at ns i (b * w + a) (g (x0 + a) (y0 + b))
-  put_inside i a b g lt plain a_in b_in =
+  put_inside i a b g lt unskipped a_in b_in =
       let p : i / w * w + i % w ≡ i = row_start w h i in
       let x_in : i % w < w = column_in w h i lt in
       let y_in : i / w < h = row_in w h i lt in
-      let fits : i % w + width_of (cell ns i) ≤ w = (settled_at w h ns i lt st).within plain in
+      let fits : i % w + width_of (cell ns i) ≤ w = (settled_at w h ns i lt st).within unskipped in
       elim (cases_order (i / w) b) [
         | inl same ↦ let start : i / w * w ≡ b * w = ap (λ q. q * w) same in grind (arith, nat_tests)
         | inr (inl above) ↦ let e : i / w * w + w ≤ b * w = row_fits (i / w) w b w above (omega arith) in grind (arith, nat_tests)
@@ -51,10 +51,10 @@ module _ (W H x0 y0 w h : ℕ) (x_fits : x0 + w ≤ W) (y_fits : y0 + h ≤ H) (
   -- and outside the area nothing changes
   put_outside : (i a b : ℕ) (g : Grid) → i < w * h → Plain ns i → (a < x0) ⊎ (x0 + w ≤ a) ⊎ (b < y0) ⊎ (y0 + h ≤ b)
       → put W H (update_at x0 y0 w ns i) g a b ≡ g a b
-  put_outside i a b g lt plain out =
+  put_outside i a b g lt unskipped out =
       let x_in : i % w < w = column_in w h i lt in
       let y_in : i / w < h = row_in w h i lt in
-      let fits : i % w + width_of (cell ns i) ≤ w = (settled_at w h ns i lt st).within plain in
+      let fits : i % w + width_of (cell ns i) ≤ w = (settled_at w h ns i lt st).within unskipped in
       grind (arith, nat_tests)
 
   puts_inside : (lo : ℕ) (is : List ℕ) (a b : ℕ) (g : Grid) → RisesFrom ns lo (w * h) is → a < w → b < h →
@@ -81,9 +81,9 @@ module _ (W H x0 y0 w h : ℕ) (x_fits : x0 + w ≤ W) (y_fits : y0 + h ≤ H) (
         let shown = all a b a_in b_in (omega (arith, row_end w h b b_in)) in
         subst (ShowsColumn w ns a b) (sym (puts_inside 0 is a b g r a_in b_in)) (record {
           look = shown.look;
-          behind = λ j less plain covers. shown.behind (b * w + j) (record {
+          behind = λ j less unskipped covers. shown.behind (b * w + j) (record {
             before = omega arith;
-            plain = plain;
+            unskipped = unskipped;
             reaches = omega arith;
           });
         });
@@ -93,5 +93,5 @@ pub place_shown : (w h : ℕ) (cells : List Cell) (a b : ℕ) (l : Look) → IsS
     → ShowsColumn w cells a b l → ShowsPlace cells (b * w + a) l
 place_shown w h cells a b l s a_in b_in shown = record {
   look = shown.look;
-  behind = λ k x. let c = (same_row w h cells a b k s a_in b_in x).1 in shown.behind (k % w) c.before c.plain c.reaches;
+  behind = λ k x. let c = (same_row w h cells a b k s a_in b_in x).1 in shown.behind (k % w) c.before c.unskipped c.reaches;
 }

@@ -36,7 +36,7 @@ module _ (w h : ℕ) (cells : List Cell) where
   settled_flat s = record {
     skipped = λ i lt. (settled_at i lt s).skipped;
     within = λ i lt e. omega (arith, (settled_at i lt s).within e, row_start w h i, row_end w h (i / w) (row_in w h i lt));
-    behind = λ i k lt x. (settled_at i (omega (arith, x.before)) s).behind x.plain k x.before x.reaches;
+    behind = λ i k lt x. (settled_at i (omega (arith, x.before)) s).behind x.unskipped k x.before x.reaches;
   }
 
   -- what covers a column stands in its row
@@ -44,16 +44,16 @@ module _ (w h : ℕ) (cells : List Cell) where
       → (k ≡ b * w + k % w) × CoversColumn w cells (k % w) a b
   same_row a b k s a_in b_in x =
       let end : b * w + w ≤ w * h = row_end w h b b_in in
-      let fits : k % w + width_of (cell cells k) ≤ w = (settled_at k (omega (arith, x.before)) s).within x.plain in
+      let fits : k % w + width_of (cell cells k) ≤ w = (settled_at k (omega (arith, x.before)) s).within x.unskipped in
       let start : k / w * w + k % w ≡ k = row_start w h k in
       let same = same_from_place (k / w) (k % w + (b * w + a - k)) b a w (omega (arith, x.reaches)) a_in
       (omega (arith, x.before)) in
       let first : k / w * w ≡ b * w = ap (λ q. q * w) same.0 in
       let here : k ≡ b * w + k % w = omega arith in
-      let plain : is_skipped (cell cells (b * w + k % w)) ≡ false = subst (λ y. is_skipped (cell cells y) ≡ false) here x.plain in
+      let unskipped : is_skipped (cell cells (b * w + k % w)) ≡ false = subst (λ y. is_skipped (cell cells y) ≡ false) here x.unskipped in
       let reaches : a < k % w + width_of (cell cells (b * w + k % w)) = subst (λ y. a < k % w + width_of (cell cells y)) here
       (omega (arith, x.reaches)) in
-      (here, record { before = omega (arith, x.before); plain = plain; reaches = reaches })
+      (here, record { before = omega (arith, x.before); unskipped = unskipped; reaches = reaches })
 
 -- the first rows of a settled frame are settled
 pub settled_fewer : (w h rows : ℕ) (cells : List Cell) → rows ≤ h → IsSettled w h cells → IsSettled w rows cells

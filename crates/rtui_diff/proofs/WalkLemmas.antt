@@ -7,7 +7,7 @@ use Rattle.rtui_cell.specs.declared.cell.CellDiffOption.TheVariants as DiffOptio
 use Rattle.rtui_cell.specs.Cell.{width_of, is_skipped, has_no_option, is_single_byte}
 use Rattle.rtui_cell.proofs.CellLemmas.{single_byte_option}
 use Rattle.rtui_diff.specs.Cells.{has_fe0f, is_forced, is_always, is_always_by, shows_on_blank}
-use Rattle.rtui_diff.specs.DiffRule.{Walk, start, gives, gives_plain, step_plain, give, given}
+use Rattle.rtui_diff.specs.DiffRule.{Walk, start, gives, gives_other, step_other, give, given}
 
 pick : (P : Walk → Type 0) (s0 s1 s2 s3 : Walk) (sk fo gi wide fe vis : Bool) →
     (sk ≡ true → P s0) → (sk ≡ false → P s1) →
@@ -27,14 +27,14 @@ pick P s0 s1 s2 s3 false false true false fe false h0 h1 h2 h3 h4 = h4 refl refl
 pub step_cases : (P : Walk → Type 0) (p n : Cell) →
     (is_skipped n ≡ true → P start) →
     (is_skipped n ≡ false → P (record { over = width_of n - 1; left = 0; force = false })) →
-    (is_skipped n ≡ false → is_forced n ≡ false → gives_plain p n ≡ true → nat_lt 1 (width_of n) ≡ true → has_fe0f n ≡ true
+    (is_skipped n ≡ false → is_forced n ≡ false → gives_other p n ≡ true → nat_lt 1 (width_of n) ≡ true → has_fe0f n ≡ true
     → P (record { over = 0; left = width_of n - 1; force = false })) →
-    (is_skipped n ≡ false → gives_plain p n ≡ true → nat_lt 1 (width_of n) ≡ false
+    (is_skipped n ≡ false → gives_other p n ≡ true → nat_lt 1 (width_of n) ≡ false
     → (nat_lt (width_of n) (width_of p) && shows_on_blank p) ≡ true
     → P (record { over = 0; left = width_of p - 1; force = true })) →
     (is_skipped n ≡ false → nat_lt 1 (width_of n) ≡ false → P start) →
-    P (step_plain p n)
-step_cases P p n = pick P start _ _ _ (is_skipped n) (is_forced n) (gives_plain p n) (nat_lt 1 (width_of n)) (has_fe0f n)
+    P (step_other p n)
+step_cases P p n = pick P start _ _ _ (is_skipped n) (is_forced n) (gives_other p n) (nat_lt 1 (width_of n)) (has_fe0f n)
     (nat_lt (width_of n) (width_of p) && shows_on_blank p)
 
 -- a place that is given or not, before the others
@@ -42,9 +42,9 @@ pub give_cond : (g : Bool) (i : ℕ) (is : List ℕ) → give g i is ≡ cond g 
 give_cond true i is = refl
 give_cond false i is = refl
 
--- a plain cell that is not given is skipped or the same
-pub plain_same : (p n : Cell) → gives_plain p n ≡ false → is_skipped n ≡ false → is_same p n ≡ true
-plain_same p n e f = not-false (is_same p n) (or_parts (is_always n) (not (is_same p n)) (rw f at e)).1
+-- a unskipped cell that is not given is skipped or the same
+pub other_same : (p n : Cell) → gives_other p n ≡ false → is_skipped n ≡ false → is_same p n ≡ true
+other_same p n e f = not-false (is_same p n) (or_parts (is_always n) (not (is_same p n)) (rw f at e)).1
 
 -- what is given is not skipped
 pub unskipped : (over left : ℕ) (force : Bool) (p n : Cell)

@@ -48,7 +48,7 @@ pub record IsInFrame (w h a b : ℕ) : Type 0 where
 -- the unskipped cell in column j of row b covers column a after it
 pub record CoversColumn (w : ℕ) (cells : List Cell) (j a b : ℕ) : Type 0 where
   pub before : j < a
-  pub plain : is_skipped (cell_at w cells j b) ≡ false
+  pub unskipped : is_skipped (cell_at w cells j b) ≡ false
   pub reaches : a < j + width_of (cell_at w cells j b)
 
 -- the cell in column a of row b is the former one, and isn't always given

@@ -20,18 +20,18 @@ abbrev pub gives_visited : Bool → Cell → Cell → Bool
 gives_visited force p n = not (is_skipped n) && (force || not (is_same_symbol p n))
 
 -- whether any other cell is given that is not stepped over
-abbrev pub gives_plain : Cell → Cell → Bool
-gives_plain p n = not (is_skipped n) && (is_always n || not (is_same p n))
+abbrev pub gives_other : Cell → Cell → Bool
+gives_other p n = not (is_skipped n) && (is_always n || not (is_same p n))
 
 abbrev pub gives_at : ℕ → ℕ → Bool → Cell → Cell → Bool
 gives_at (suc over) left force p n = false
 gives_at zero (suc left) force p n = gives_visited force p n
-gives_at zero zero force p n = gives_plain p n
+gives_at zero zero force p n = gives_other p n
 
-abbrev pub step_plain : Cell → Cell → Walk
-step_plain p n =
+abbrev pub step_other : Cell → Cell → Walk
+step_other p n =
     if is_skipped n then start
-    else (if is_forced n || not (gives_plain p n) || (nat_lt 1 (width_of n) && not (has_fe0f n))
+    else (if is_forced n || not (gives_other p n) || (nat_lt 1 (width_of n) && not (has_fe0f n))
     then record { over = width_of n - 1; left = 0; force = false }
     else (if nat_lt 1 (width_of n) then record { over = 0; left = width_of n - 1; force = false }
     else (if nat_lt (width_of n) (width_of p) && shows_on_blank p then record {
@@ -44,7 +44,7 @@ step_plain p n =
 abbrev pub step_at : ℕ → ℕ → Bool → Cell → Cell → Walk
 step_at (suc over) left force p n = record { over = over; left = left - 1; force = force }
 step_at zero (suc left) force p n = record { over = width_of n - 1; left = left; force = force }
-step_at zero zero force p n = step_plain p n
+step_at zero zero force p n = step_other p n
 
 abbrev pub gives : Walk → Cell → Cell → Bool
 gives s p n = gives_at s.over s.left s.force p n

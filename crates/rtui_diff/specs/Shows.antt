@@ -25,12 +25,12 @@ pub record RowAgrees (w : ℕ) (cells : List Cell) (b : ℕ) (row : List Look) :
   pub at : (a : ℕ) → a < w → is_skipped (cell_at w cells a b) ≡ false
       → slice_index_or row a empty_look ≡ look_of (cell_at w cells a b)
 
-abbrev pub is_plain : List Cell → ℕ → Bool
-is_plain ns i = not (is_skipped (cell ns i))
+abbrev pub is_unskipped : List Cell → ℕ → Bool
+is_unskipped ns i = not (is_skipped (cell ns i))
 
 -- every unskipped cell, row by row
 abbrev pub repaint : ℕ → ℕ → ℕ → ℕ → List Cell → List Update
-repaint x0 y0 w h ns = map (update_at x0 y0 w ns) (filter (is_plain ns) (range_with_len 0 (w * h)))
+repaint x0 y0 w h ns = map (update_at x0 y0 w ns) (filter (is_unskipped ns) (range_with_len 0 (w * h)))
 
 -- a full repaint over an area shows the cells there, whatever the grid had
 pub record Repaints (w h : ℕ) (ns : List Cell) : Type 0 where

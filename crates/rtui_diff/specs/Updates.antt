@@ -29,4 +29,4 @@ pub record IsCellOfNext (x0 y0 w h : ℕ) (ns : List Cell) (u : Update) : Type 0
   pub x : u.x ≡ x0 + a
   pub y : u.y ≡ y0 + b
   pub own : u.cell ≡ cell_at w ns a b
-  pub plain : is_skipped u.cell ≡ false
+  pub unskipped : is_skipped u.cell ≡ false

@@ -3,7 +3,7 @@
 ghost use Rattle.std.specs.Prelude.{◌≡◌, ◌&&◌, ◌||◌, not, IsTrue};
 ghost use Rattle.rtui_cell.specs.Cell.{is_skipped, is_single_byte};
 ghost use Rattle.rtui_diff.specs.Cells.{is_always};
-ghost use Rattle.rtui_diff.specs.DiffRule.{gives_visited, gives_plain, step_plain};
+ghost use Rattle.rtui_diff.specs.DiffRule.{gives_visited, gives_other, step_other};
 ghost use Rattle.rtui_diff.specs.Inner.{walk_of};
 
 use crate::cells::{has_fe0f, has_same_symbol, is_always, is_forced, shows_on_blank};
@@ -43,8 +43,8 @@ pub fn is_single_byte_given(next: &Cell, same: bool) -> bool
 
 // What follows a cell that is given or not.
 pub fn step_after(prev: &Cell, next: &Cell, given: bool) -> Step
-    requires { given ≡ gives_plain prev.now next.now }
-    ensures { walk_of result ≡ step_plain prev.now next.now }
+    requires { given ≡ gives_other prev.now next.now }
+    ensures { walk_of result ≡ step_other prev.now next.now }
 {
     let mut step = Step {
         over: 0,

@@ -4,7 +4,7 @@ use Rattle.std.specs.Prelude.{length, codes, encode_utf8_all, Option, Some, None
 use Rattle.std.specs.Prelude.{All, ⊤}
 use Rattle.ratatui_core.specs.Layout.{Rect, corner, intersected}
 use Rattle.ratatui_core.specs.Style.{Style, new_style, with_modifier, modifier_of}
-use Rattle.ratatui_core.specs.Text.{SpanData, LineData, plain}
+use Rattle.ratatui_core.specs.Text.{SpanData, LineData, unstyled}
 use Rattle.ratatui_core.specs.Buffer.{BufferData, Piece, text_pieces, line_pieces, columns, AreShort}
 use Rattle.ratatui_core.specs.Buffer.{PaintsPieces, IsStyled, HasNarrowGraphemes}
 use Rattle.ratatui_core.specs.Widgets.{first_row}
@@ -29,7 +29,7 @@ pub record IsNewTabs (titles : List LineData) (t : TabsData) : Type 0 where
   pub selected : t.selected ≡ selected_of (length titles) None
   pub plain_tabs : t.style ≡ new_style
   pub reversed : t.highlight_style ≡ reversed_style
-  pub divider : t.divider ≡ plain (encode_utf8_all (codes "│"))
+  pub divider : t.divider ≡ unstyled (encode_utf8_all (codes "│"))
   pub blank_left : t.padding_left ≡ None
   pub blank_right : t.padding_right ≡ None
 
@@ -46,7 +46,7 @@ part_of_line line is_lit = record { pieces = λ room. line_pieces room line.styl
 
 -- a padding: a blank, if it is no other
 abbrev pub part_of_padding : Option LineData → TabPart
-part_of_padding None = part_of_span (plain (codes " "))
+part_of_padding None = part_of_span (unstyled (codes " "))
 part_of_padding (Some line) = part_of_line line false
 
 -- the number is the selected one

@@ -4,7 +4,7 @@ use Rattle.std.proofs.Common.{slice_index}
 use Rattle.std.proofs.lemmas.{Bool.or_parts, Bool.cond_both, Bool.Decides.nat_tests}
 use Rattle.std.specs.{List.list_any, List.slice_split, List.onto_first, Str.Lines.lines, Str.Lines.lines_of_parts}
 use Rattle.std.specs.{Str.Lines.strip_carriage_return}
-use Rattle.rtui_text.specs.Text.{IsUnbroken, raw_line, line_of, plain}
+use Rattle.rtui_text.specs.Text.{IsUnbroken, raw_line, line_of, unstyled}
 
 unbroken-one : (x : List ℕ) → IsUnbroken x → slice_split (λ b. b == 10) x ≡ x ∷ []
 unbroken-one [] e = refl
@@ -15,7 +15,7 @@ pub line-empty : (x : List ℕ) → (length x == 0) ≡ true → raw_line x ≡ 
 line-empty [] none = refl
 line-empty (b ∷ bs) none = let h : ⊥ = grind (arith, nat_tests) in absurd h
 
-pub line-whole : (x : List ℕ) → IsUnbroken x → (length x == 0) ≡ false → raw_line x ≡ line_of (plain x ∷ [])
+pub line-whole : (x : List ℕ) → IsUnbroken x → (length x == 0) ≡ false → raw_line x ≡ line_of (unstyled x ∷ [])
 line-whole x e some = rw (unbroken-one x e, some) refl
 
 abbrev AreUnbroken : List (List ℕ) → Type 0

@@ -11,8 +11,8 @@ pub record SpanData : Type 0 where
   pub content : List ℕ
 
 -- a text in the style that changes nothing
-abbrev pub plain : List ℕ → SpanData
-plain text = record { style = new_style; content = text }
+abbrev pub unstyled : List ℕ → SpanData
+unstyled text = record { style = new_style; content = text }
 
 -- a text without line breaks
 abbrev pub IsUnbroken : List ℕ → Type 0
@@ -28,9 +28,9 @@ pub record LineData : Type 0 where
 abbrev pub line_of : List SpanData → LineData
 line_of spans = record { style = new_style; alignment = None; spans = spans }
 
--- a plain span for each line of the text, none for the empty text
+-- an unstyled span for each line of the text, none for the empty text
 abbrev pub raw_line : List ℕ → LineData
-raw_line text = line_of (map plain (lines text))
+raw_line text = line_of (map unstyled (lines text))
 
 -- lines one below the other, with the style of the whole and an alignment for the lines that have none
 pub record TextData : Type 0 where
@@ -42,7 +42,7 @@ pub record TextData : Type 0 where
 abbrev pub text_of : List LineData → TextData
 text_of ls = record { alignment = None; style = new_style; lines = ls }
 
--- a plain line for each line of the text, and one line without spans for the empty text
+-- an unstyled line for each line of the text, and one line without spans for the empty text
 abbrev pub text_lines : List ℕ → List LineData
 text_lines text = if length text == 0 then line_of [] ∷ [] else map raw_line (lines text)
 

@@ -9,7 +9,7 @@ ghost use Rattle.std.specs.Ordering.{on, eq_of_both};
 ghost use Rattle.rtui_style.specs.contracts.StyleEq.TheImpl.Laws.{laws-law as style_laws};
 ghost use Rattle.rtui_style.specs.contracts.StyleHash.TheImpl.Laws.{respects_eq-law as style_hashes};
 ghost use Rattle.rtui_style.specs.Style.{patch, reset_style};
-ghost use Rattle.rtui_text.specs.Text.{plain, line_of};
+ghost use Rattle.rtui_text.specs.Text.{unstyled, line_of};
 ghost use Rattle.rtui_text.specs.Widths.{span_width};
 ghost use Rattle.rtui_text.specs.Graphemes.{span_graphemes, span_graphemes_left};
 ghost use Rattle.rtui_text.specs.Display.{printed_span};
@@ -53,7 +53,7 @@ impl<'a> Model for Span<'a> {
 impl<'a> Span<'a> {
     /// A borrowed text in the style that changes nothing.
     pub fn raw(content: &'a str) -> Span<'a>
-        ensures { result ≡ plain content.now }
+        ensures { result ≡ unstyled content.now }
     {
         Span::styled(content, Style::new())
     }
@@ -256,7 +256,7 @@ impl Hash for Span<'_> {
 
 /// The empty text in the style that changes nothing.
 impl<'a> Default for Span<'a> {
-    ghost is_default = { λ s. s ≡ plain [] };
+    ghost is_default = { λ s. s ≡ unstyled [] };
 
     fn default() -> Span<'a> {
         Span::raw("")
@@ -265,7 +265,7 @@ impl<'a> Default for Span<'a> {
 
 /// Borrows the text.
 impl<'a> From<&'a str> for Span<'a> {
-    ghost from_gives = { λ text s. s ≡ plain text.now };
+    ghost from_gives = { λ text s. s ≡ unstyled text.now };
 
     fn from(text: &'a str) -> Span<'a> {
         Span::raw(text)
@@ -274,7 +274,7 @@ impl<'a> From<&'a str> for Span<'a> {
 
 /// Takes the text over.
 impl<'a> From<String> for Span<'a> {
-    ghost from_gives = { λ text s. s ≡ plain (string_bytes text) };
+    ghost from_gives = { λ text s. s ≡ unstyled (string_bytes text) };
 
     fn from(text: String) -> Span<'a> {
         Span::from(CowStr::Owned(text))
@@ -283,7 +283,7 @@ impl<'a> From<String> for Span<'a> {
 
 /// Borrows the text, or takes it over.
 impl<'a> From<CowStr<'a>> for Span<'a> {
-    ghost from_gives = { λ text s. s ≡ plain (cow_str_bytes text) };
+    ghost from_gives = { λ text s. s ≡ unstyled (cow_str_bytes text) };
 
     fn from(content: CowStr<'a>) -> Span<'a> {
         Span {

@@ -6,7 +6,7 @@
 #![tactic(auto)]
 
 ghost use Rattle.std.specs.Prelude.{◌≡◌, ℕ, List, Option, IfOk, IfSome};
-ghost use Rattle.rtui_text.specs.Text.{plain, raw_line, raw_text};
+ghost use Rattle.rtui_text.specs.Text.{unstyled, raw_line, raw_text};
 
 use rtui_text::{Line, Span, Text};
 use std::alloc::{AllocError, Global};
@@ -28,8 +28,8 @@ pub trait ToSpan {
     /// `AllocError` if memory is refused.
     fn to_span(&self, alloc: Global) -> Result<Span<'static>, AllocError>
         ensures printed { IfSome (printed_text self.now)
-            (λ text. IfOk result (λ span. span ≡ plain text)) }
-        ensures of_text { IfOk result (λ span. (text : List ℕ) × (span ≡ plain text)) };
+            (λ text. IfOk result (λ span. span ≡ unstyled text)) }
+        ensures of_text { IfOk result (λ span. (text : List ℕ) × (span ≡ unstyled text)) };
 }
 
 impl<T: fmt::Display> ToSpan for T {

@@ -4,7 +4,7 @@ ghost use Rattle.std.specs.Prelude.{◌≡◌, ◌↔◌, ℕ, ◌+◌, ◌-◌,
 ghost use Rattle.std.specs.Str.Lines.{lines};
 ghost use Rattle.rtui_style.specs.Style.{new_style};
 ghost use Rattle.rtui_cell.specs.Width.{text_width};
-ghost use Rattle.rtui_text.specs.Text.{plain, raw_line};
+ghost use Rattle.rtui_text.specs.Text.{unstyled, raw_line};
 ghost use Rattle.rtui_buffer.specs.Painting.{text_pieces};
 ghost use Rattle.rtui_buffer.specs.Line.{widest, raw_lines, line_pieces};
 ghost use Rattle.rtui_backend.specs.ScreenLines.{symbols_in, ScreenHasLines, HistoryHasLines, IsScreenOf};
@@ -78,7 +78,7 @@ fn text_end(row: &[Cell], x: usize, text: &str) -> Option<usize>
 fn line_end(row: &[Cell], line: &str) -> Option<usize>
     ensures within { IfSome result (λ end. end ≤ length row.now) }
     ensures end { EndsAfter (symbol_in row.now) 0
-        (line_pieces (length row.now) new_style (map plain (lines line.now))) result }
+        (line_pieces (length row.now) new_style (map unstyled (lines line.now))) result }
 {
     let mut end = Some(0);
     for text in line.lines() {

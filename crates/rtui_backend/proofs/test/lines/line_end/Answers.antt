@@ -2,7 +2,7 @@ use Rattle.std.proofs.Common.{length, map, ap, subst, ◌∙◌, arith}
 use Rattle.std.proofs.lemmas.{Iterator.Consumers.YieldsList-end, Iterator.Splits.YieldsList-from_lines}
 use Rattle.std.specs.Str.Iter.{lines_rest}
 use Rattle.rtui_style.specs.Style.{new_style}
-use Rattle.rtui_text.specs.Text.{plain}
+use Rattle.rtui_text.specs.Text.{unstyled}
 use Rattle.rtui_buffer.specs.Line.{line_pieces}
 use Rattle.rtui_buffer.proofs.LineLemmas.{line_pieces-nil}
 use Rattle.rtui_backend.specs.Inner.{symbol_in, EndsAfter}
@@ -33,5 +33,5 @@ returns-clause-end c =
     let all = YieldsList-end (YieldsList-from_lines c.args.line.now
     (ap lines_rest c.into_iter-text-iterator.ensures.into_iter_gives ∙ c.lines-text-items.ensures.rest)) c.loop-text.yielded _
     c.loop-text.yielded_by _ _ c.in-None.is c.next.ensures.steps in
-    subst (λ texts. EndsAfter (symbol_in c.args.row.now) 0 (line_pieces (length c.args.row.now) new_style (map plain texts))
+    subst (λ texts. EndsAfter (symbol_in c.args.row.now) 0 (line_pieces (length c.args.row.now) new_style (map unstyled texts))
     c.loop-text.end) all.0 c.loop-text.invariant.done
