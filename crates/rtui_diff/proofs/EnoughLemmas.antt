@@ -76,7 +76,7 @@ refreshed : (len : ℕ) (ps ns : List Cell) (Q : ℕ → Type 0) (j c : ℕ) →
     → c < len → Covers ps j c →
     shows_on_blank (cell ps j) ≡ true → is_forced (cell ns j) ≡ false → width_of (cell ns j) ≤ 1 → ((k : ℕ) → Covers ns k j → ⊥) →
     is_skipped (cell ns c) ≡ false → ((k : ℕ) → Covers ns k c → ⊥) → Q c
-refreshed len ps ns Q j c sp st a lt x visible unforced narrow first unskipped free =
+refreshed len ps ns Q j c sp st a lt x visible unforced narrow first shown free =
     let p : Cell = cell ps j in
     let n : Cell = cell ns j in
     let wide : 1 < width_of (cell ps j) = omega (arith, x.before, x.reaches) in
@@ -86,7 +86,7 @@ refreshed len ps ns Q j c sp st a lt x visible unforced narrow first unskipped f
     (gives_other p n) (nat_lt 1 (width_of n)) (has_fe0f n) _
     (unskipped 0 0 true p n gave) unforced gave (grind (arith, nat_tests))
     (and_from (nat_lt (width_of n) (width_of p)) _ (grind (arith, nat_tests)) visible))
-    x.before lt (omega (arith, x.reaches)) clear (rw unskipped refl)
+    x.before lt (omega (arith, x.reaches)) clear (rw shown refl)
   where
     clear : (d : ℕ) → j < d → d < c → d + width_of (cell ns d) ≤ c
     clear d p q = elim (cases_lt c (d + width_of (cell ns d))) [
