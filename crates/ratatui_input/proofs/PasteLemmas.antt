@@ -20,7 +20,7 @@ use Rattle.ratatui_input.specs.Keys.{control_key, typed_key, with_alt}
 use Rattle.ratatui_input.specs.Sequences.{sequence_event, keys_event, tilde_event, pushed, digit_pushed}
 use Rattle.ratatui_input.specs.Decoding.{Told, stepped, first, after_escape, after_bracket, in_sequence, cut, read, fresh}
 use Rattle.ratatui_input.specs.Decoding.{after_cut, byte_told, fed_next, decoded, next_told, pasted_code, settled, told_event}
-use Rattle.ratatui_input.specs.Encodings.{fresh_decoder, in_brackets, IsPlainText, IsTextCharacter, IsNoKey, AreNoKeys, HaveEnd}
+use Rattle.ratatui_input.specs.Encodings.{fresh_decoder, in_brackets, AreTextCharacters, IsTextCharacter, IsNoKey, AreNoKeys, HaveEnd}
 use Rattle.ratatui_input.proofs.DecodingLemmas.{decoded-append}
 use Rattle.ratatui_input.proofs.StepLemmas.{at}
 use Rattle.ratatui_input.proofs.CharacterLemmas.{character-read, ground-begins, ground-first}
@@ -70,14 +70,14 @@ one-pasted c (inr (inl e)) = subst (λ (x : ℕ). decoded inside (encode x) ≡ 
 one-pasted c (inr (inr (inl e))) = subst (λ (x : ℕ). decoded inside (encode x) ≡ (Pasted x ∷ [], inside)) (sym e) line-pasted
 one-pasted c (inr (inr (inr e))) = subst (λ (x : ℕ). decoded inside (encode x) ≡ (Pasted x ∷ [], inside)) (sym e) return-pasted
 
-text-pasted : (text : List ℕ) → IsPlainText text → decoded inside (encodes text) ≡ (map Pasted text, inside)
+text-pasted : (text : List ℕ) → AreTextCharacters text → decoded inside (encodes text) ≡ (map Pasted text, inside)
 unfolding decoded
 text-pasted [] h = refl
 text-pasted (c ∷ text) h =
     decoded-append inside (encode c) (encodes text) ∙ ap (λ (t : Told). next_told t (encodes text)) (one-pasted c h.0)
     ∙ ap (λ (t : Told). (Pasted c ∷ t.0, t.1)) (text-pasted text h.1)
 
-pub pasted-whole : (text : List ℕ) → IsPlainText text
+pub pasted-whole : (text : List ℕ) → AreTextCharacters text
     → decoded fresh_decoder (in_brackets text) ≡ (PasteBegun ∷ (map Pasted text ++ (PasteEnded ∷ [])), fresh_decoder)
 pasted-whole text h =
     decoded-append fresh_decoder opening (encodes text ++ closing)

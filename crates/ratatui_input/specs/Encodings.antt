@@ -20,9 +20,9 @@ pub record Gives (bytes : List ℕ) (events : List Event) : Type 0 where
 abbrev pub IsTextCharacter : ℕ → Type 0
 IsTextCharacter c = (IsScalar c × (is_control c ≡ false)) ⊎ (c ≡ 9) ⊎ (c ≡ 10) ⊎ (c ≡ 13)
 
-abbrev pub IsPlainText : List ℕ → Type 0
-IsPlainText [] = Unit {0}
-IsPlainText (c ∷ cs) = IsTextCharacter c × IsPlainText cs
+abbrev pub AreTextCharacters : List ℕ → Type 0
+AreTextCharacters [] = Unit {0}
+AreTextCharacters (c ∷ cs) = IsTextCharacter c × AreTextCharacters cs
 
 -- a text in brackets, as a terminal sends what is pasted
 abbrev pub in_brackets : List ℕ → List ℕ

@@ -6,7 +6,7 @@ ghost use Rattle.ratatui_events.specs.declared.event.Event.{Event};
 ghost use Rattle.ratatui_events.specs.declared.event.Event.TheVariants.{Key, PasteBegun, PasteEnded, Pasted};
 ghost use Rattle.ratatui_events.specs.declared.event.Event.TheVariants.{Unknown};
 ghost use Rattle.ratatui_events.specs.declared.key.KeyCode.TheVariants.{Esc};
-ghost use Rattle.ratatui_input.specs.Encodings.{fresh_decoder, Gives, in_brackets, IsPlainText, AreNoKeys};
+ghost use Rattle.ratatui_input.specs.Encodings.{fresh_decoder, Gives, in_brackets, AreTextCharacters, AreNoKeys};
 ghost use Rattle.ratatui_input.specs.Encodings.{HaveEnd};
 ghost use Rattle.ratatui_input.specs.Encodings.{settled_after};
 ghost use Rattle.ratatui_input.specs.Grammar.{Encodes, StandsForNothing};
@@ -53,7 +53,7 @@ pub fn from_escape_on_nothing_is_lost()
 /// A text in brackets is told character by character. Within a paste no byte tells a key, nor does
 /// settling, and the paste goes on until its end is told.
 pub fn what_is_pasted_is_no_key()
-    ensures text { (text : List ℕ) → IsPlainText text → decoded fresh_decoder (in_brackets text)
+    ensures text { (text : List ℕ) → AreTextCharacters text → decoded fresh_decoder (in_brackets text)
         ≡ (PasteBegun ∷ (map Pasted text ++ (PasteEnded ∷ [])), fresh_decoder) }
     ensures keys { (state : State) (b : ℕ)
         → AreNoKeys (byte_told (record { state = state; is_pasting = true }) b).0 }

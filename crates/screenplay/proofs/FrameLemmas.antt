@@ -42,5 +42,5 @@ pub shown_again : (r : Rect) (y : ℕ) (cells : List Cell) (g g' : Grid) → Are
     → Shows r.x r.y r.width r.height cells g → Shows r.x y r.width r.height cells g'
     → (a b : ℕ) → a < r.width → b < r.height → g' (r.x + a) (y + b) ≡ g (r.x + a) (r.y + b)
 shown_again r y cells g g' unmarked shown again a b a_in b_in =
-    let plain = unskipped (cell_at r.width cells a b) (unmarked (b * r.width + a)) in
-    (again.at a b a_in b_in).look plain ∙ sym ((shown.at a b a_in b_in).look plain)
+    let shows = unskipped (cell_at r.width cells a b) (unmarked (b * r.width + a)) in
+    (again.at a b a_in b_in).look shows ∙ sym ((shown.at a b a_in b_in).look shows)

@@ -23,7 +23,7 @@ use Rattle.rtui_terminal.proofs.RestLemmas.{same_size, inline_left, inline_width
 use Rattle.rtui_terminal.proofs.RestLemmas.{rests-started, rests-applied, rests-resized, rests-cleared, keeps-cleared}
 use Rattle.rtui_terminal.proofs.RestLemmas.{rests-known, rests-takes, rests-inserted}
 use Rattle.rtui_terminal.specs.{Insertion.inserted_area, Writing.Applies, Clearing.ClearsViewport, Resizing.Resizes}
-use Rattle.screenplay.specs.Run.{stage_size, GoesOn, plain_screen, rows_above_view, IsGoodStage, IsFrame, IsStart}
+use Rattle.screenplay.specs.Run.{stage_size, GoesOn, without_cursor, rows_above_view, IsGoodStage, IsFrame, IsStart}
 use Rattle.screenplay.specs.Run.{first_viewport, rows_at_start}
 use Rattle.rtui_cell.specs.Look.{empty_look}
 use Rattle.rtui_geometry.specs.declared.position.Position.{Position}
@@ -85,7 +85,7 @@ IsPlaying-started stage b t good blank starts =
       record {
         rest = rests-started screen_of kind b t (subst (FitsSize kind) (sym own) good.viewport)
             (record { at = λ a c a_in c_in. blank.grid a c }) starts;
-        plain = AreUnmarked-emptied t.viewport_area t.previous starts.previous;
+        unmarked = AreUnmarked-emptied t.viewport_area t.previous starts.previous;
       },
       record {
         size = ap₂ (λ m n. record { width = m; height = n }) (moved.width ∙ blank.width) (moved.height ∙ blank.height);
@@ -117,7 +117,7 @@ Plays-frame stage text puts frame s t playing made settled applied =
     record {
       playing = record {
         rest = rests-applied screen_of stage.viewport None frame s t playing.rest settled applied;
-        plain = subst (λ (f : BufferData). AreUnmarked f.cells) (sym applied.painted)
+        unmarked = subst (λ (f : BufferData). AreUnmarked f.cells) (sym applied.painted)
             (AreUnmarked-frame s.viewport_area text puts frame made);
       };
       after = record {
@@ -188,7 +188,7 @@ module _ (stage : Stage) (given : Size) (s t : TerminalData TestBackend) (free :
   pub IsPlaying-resized : IsPlaying stage t
   IsPlaying-resized = record {
     rest = rests-resized screen_of stage.viewport taken.backend s t free playing.rest resized;
-    plain = AreUnmarked-emptied t.viewport_area t.previous resized.previous;
+    unmarked = AreUnmarked-emptied t.viewport_area t.previous resized.previous;
   }
 
   -- the rows above the viewport are the topmost of the screen in between
@@ -197,9 +197,9 @@ module _ (stage : Stage) (given : Size) (s t : TerminalData TestBackend) (free :
       let rows = rows_scrolled s.viewport (cursor_offset s) between in
       let corner : (n : ℕ) → 0 ≡ min 0 (n - 1) = λ n. omega arith in
       record {
-        between = plain_screen between;
+        between = without_cursor between;
         takes =
-            subst (λ z. TakesSize (plain_screen (screen_of s.backend)) z (plain_screen between)) (sym resized_size)
+            subst (λ z. TakesSize (without_cursor (screen_of s.backend)) z (without_cursor between)) (sym resized_size)
             (record {
               history = taken.takes.history;
               size = taken.takes.size;
@@ -256,7 +256,7 @@ Plays-cleared stage s t good playing clears =
     record {
       playing = record {
         rest = rests-cleared screen_of kind s t playing.rest clears;
-        plain = AreUnmarked-emptied s.previous.area t.previous clears.previous;
+        unmarked = AreUnmarked-emptied s.previous.area t.previous clears.previous;
       };
       after = record {
         rest = record {
@@ -297,7 +297,7 @@ Plays-drawn stage given text puts s m t good sized drawn =
             let goes = sized.other (λ e. out (size ∙ e)) good in
             record {
               between = goes.between;
-              takes = subst (λ z. TakesSize (plain_screen (screen_of s.backend)) z goes.between) (sym size) goes.takes;
+              takes = subst (λ z. TakesSize (without_cursor (screen_of s.backend)) z goes.between) (sym size) goes.takes;
               count = goes.count;
               above = kept_rows (view_in m) (view_in t) rest ∙ goes.above;
               left = goes.left;
@@ -379,7 +379,7 @@ module _ (stage : Stage) (text : TextData) (rows : BufferData) (s t : TerminalDa
       record {
         playing = record {
           rest = rests-inserted screen_of stage.viewport rows s t inline playing.rest takes settled inserts;
-          plain = subst (λ (f : BufferData). AreUnmarked f.cells) (sym (inserts.left takes at)) playing.plain;
+          unmarked = subst (λ (f : BufferData). AreUnmarked f.cells) (sym (inserts.left takes at)) playing.unmarked;
         };
         after = (
           λ _. record {
@@ -391,7 +391,7 @@ module _ (stage : Stage) (text : TextData) (rows : BufferData) (s t : TerminalDa
             settled = settled;
             above = λ _. inserts.above takes at settled;
             shown =
-                shown_again s.viewport_area t.viewport_area.y s.previous.cells old.grid new.grid playing.plain
+                shown_again s.viewport_area t.viewport_area.y s.previous.cells old.grid new.grid playing.unmarked
                 (subst (λ (r : Rect). ShowsBuffer (record s.previous { area = r }) old.grid) at.area at.shown)
                 (subst (λ (r : Rect). ShowsBuffer (record s.previous { area = r }) new.grid) view
                 (subst (λ f. ShowsBuffer f new.grid) (inserts.left takes at) shown.shown));

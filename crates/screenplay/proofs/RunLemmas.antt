@@ -20,7 +20,7 @@ IsScene-playing : (stage : Stage) (t : TerminalData TestBackend) (scene : Scene)
     → IsScene stage scene
 IsScene-playing stage t scene playing made =
     let on = playing.rest.in_step.on_screen in (
-      made.plain,
+      made.looks,
       subst (IsStaged stage) (sym made.shown) (record {
         lies = playing.rest.lies;
         on_screen = record { right = on.right; bottom = on.bottom };

@@ -16,7 +16,7 @@ scene_in t = record { history = t.backend.scrollback; screen = buffer_of t.backe
 
 pub IsSceneOf-in : (t : TerminalData TestBackend) → IsSceneOf t (scene_in t)
 IsSceneOf-in t = record {
-  plain = record {
+  looks = record {
     corner = ap₂ (λ x y. record { x = x; y = y; width = t.backend.buffer.area.width; height = t.backend.buffer.area.height })
         t.backend.corner_x t.backend.corner_y;
     screen = t.backend.plain;
@@ -40,7 +40,7 @@ IsSceneOf-made t history rows buffer copy unmarked unmarked_rows same corner val
     let looks = λ (rows : List (Vec Cell Global)). map-map (map look_of) (λ (row : Vec Cell Global). row.items) rows in
     let scrolled = sym (looks history.items) ∙ ap (map (map look_of)) copied ∙ looks rows ∙ left in
     record {
-      plain = record {
+      looks = record {
         corner = same.area ∙ corner ∙ ap (λ (r : Rect). record { x = 0; y = 0; width = r.width; height = r.height }) (sym area);
         screen = subst AreUnmarked (sym same.cells) unmarked;
         history = subst AreUnmarkedRows (sym copied) unmarked_rows;

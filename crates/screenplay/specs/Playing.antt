@@ -7,23 +7,23 @@ use Rattle.rtui_backend.specs.{declared.test.TestBackend.TestBackend}
 use Rattle.rtui_viewport.specs.Lying.{at_corner}
 use Rattle.rtui_terminal.specs.{TerminalData.TerminalData, AtRest.IsAtRest, Resizing.Resizes}
 use Rattle.rtui_terminal.specs.{Insertion.Inserts}
-use Rattle.screenplay.specs.Run.{View, plain_screen, view_of_scene, IsGoodStage, size_after, GoesOn}
-use Rattle.screenplay.specs.Run.{IsPlainScene, IsAfter}
+use Rattle.screenplay.specs.Run.{View, without_cursor, view_of_scene, IsGoodStage, size_after, GoesOn}
+use Rattle.screenplay.specs.Run.{IsSceneOfLooks, IsAfter}
 use Rattle.screenplay.specs.{declared.scene.Stage.Stage, declared.scene.Scene.Scene, declared.scene.Step.Step}
 
 -- the terminal is at rest over the stage's kind of viewport, and no cell of the last frame has an option or a
 -- flag
 pub record IsPlaying (stage : Stage) (t : TerminalData TestBackend) : Type 0 where
   pub rest : IsAtRest screen_of stage.viewport t
-  pub plain : AreUnmarked t.previous.cells
+  pub unmarked : AreUnmarked t.previous.cells
 
 -- what a terminal's screen shows
 abbrev pub view_in : TerminalData TestBackend → View
-view_in t = record { screen = plain_screen (screen_of t.backend); viewport = t.viewport_area }
+view_in t = record { screen = without_cursor (screen_of t.backend); viewport = t.viewport_area }
 
 -- a scene shows what the terminal's screen shows
 pub record IsSceneOf (t : TerminalData TestBackend) (scene : Scene) : Type 0 where
-  pub plain : IsPlainScene scene
+  pub looks : IsSceneOfLooks scene
   pub shown : view_of_scene scene ≡ view_in t
 
 -- the screen took a size, and the terminal was resized to it

@@ -27,8 +27,8 @@ pub record View : Type 0 where
   pub viewport : Rect
 
 -- a screen without its cursor and its count of items
-abbrev pub plain_screen : Screen → Screen
-plain_screen s = record s { cursor_x = 0; cursor_y = 0; visible = true; written = 0 }
+abbrev pub without_cursor : Screen → Screen
+without_cursor s = record s { cursor_x = 0; cursor_y = 0; visible = true; written = 0 }
 
 -- what a scene shows
 abbrev pub view_of_scene : Scene → View
@@ -177,14 +177,14 @@ IsAfter stage Clear old new = IsEmptiedView old new
 
 -- a scene of looks alone: its screen has its corner at (0, 0), and no cell of it or of the history has an
 -- option or a flag
-pub record IsPlainScene (scene : Scene) : Type 0 where
+pub record IsSceneOfLooks (scene : Scene) : Type 0 where
   pub corner : scene.screen.area ≡ screen_area (view_of_scene scene).screen
   pub screen : AreUnmarked scene.screen.cells
   pub history : AreUnmarkedRows (map (λ row. row.items) scene.history.items)
 
 -- a scene of a play: of looks alone, with the viewport where it may lie
 abbrev pub IsScene : Stage → Scene → Type 0
-IsScene stage scene = IsPlainScene scene × IsStaged stage (view_of_scene scene)
+IsScene stage scene = IsSceneOfLooks scene × IsStaged stage (view_of_scene scene)
 
 -- a frame that can't be shown
 pub record HasUnsettled (area : Rect) (text : TextData) (puts : List (ℕ × ℕ × ℕ)) : Type 0 where
