@@ -22,7 +22,9 @@ rows-within a b = grind (arith, common_steps)
 
 module _ (text : TextData) where
   row-front : (k : ℕ) (row : List Cell) → k < 65535 → text_row (front_of text) k row ≡ text_row text k row
-  row-front k row low = rw (by (text_line (front_of text) k ≡ text_line text k) (get_or-take 65535 text.lines k (line_of []) low)) refl
+  row-front k row low =
+      let same : text_line (front_of text) k ≡ text_line text k = get_or-take 65535 text.lines k (line_of []) low in
+      rw same refl
 
   count-front : row_count (front_of text) ≡ row_count text
   count-front = let n = length-take 65535 text.lines in grind (arith, common_steps)
@@ -95,4 +97,4 @@ module _ (text : TextData) where
     pub IsCauseOfStep-insert-front : (cause : PlayCause) → IsCauseOfStep stage (Insert (front_of text)) s cause
         → IsCauseOfStep stage (Insert text) s cause
     IsCauseOfStep-insert-front Memory why = tt
-    IsCauseOfStep-insert-front (Unsettled area) why = (why.0, why.1.0, HasUnsettled-front _ [] (rw count-front at why.1.1))
+    IsCauseOfStep-insert-front (Unsettled area) why = (why.0, why.1, HasUnsettled-front _ [] (rw count-front at why.2))

@@ -98,7 +98,8 @@ fn resize(terminal: &mut Terminal<TestBackend>, size: Size) -> Result<(), Termin
         y: 0,
         width: size.width,
         height: size.height,
-    })
+    })?;
+    Ok(())
 }
 
 // Gives the screen a size, if there is one, and the viewport isn't fixed.

@@ -59,7 +59,7 @@ pub struct RawLines<'a> {
 
 impl<'a> Model for RawLines<'a> {
     ghost use Rattle.std.specs.Prelude.{map};
-    ghost use Rattle.rtui_text.specs.Text.{TextData};
+    ghost use Rattle.rtui_text.specs.Text.{TextData, raw_line, text_of};
 
     ghost Value = { TextData };
 
