@@ -4,7 +4,8 @@ use Rattle.std.proofs.Common.{OnOk}
 use Rattle.std.specs.Iterator.{Drains}
 use Rattle.std.proofs.lemmas.{Grind.common_steps, Iterator.YieldsList, Iterator.items_from_drains, Result.on_ok_weaker}
 use Rattle.rtui_cell.specs.Grid.{Grid, Update, put, puts}
-use Rattle.rtui_backend.specs.Screen.{Screen, Draws}
+use Rattle.rtui_backend.specs.{Screen.Screen, Screen.Draws, Screen.cursor_of, TestBackend.screen_of, TestBackend.HasOnlyPut}
+use Rattle.rtui_backend.specs.declared.test.TestBackend.{TestBackend}
 
 puts-push : (w h : ℕ) (us : List Update) (u : Update) (g : Grid) → puts w h (us ++ u ∷ []) g ≡ put w h u (puts w h us g)
 puts-push w h [] u g = refl
@@ -19,6 +20,14 @@ Draws-none s = record {
   written = λ below. omega arith;
   full = λ above. omega arith;
   grid = λ a b. refl;
+}
+
+-- a screen that stays is one on which nothing was put
+pub nothing_put : {old new : TestBackend} → screen_of new ≡ screen_of old → HasOnlyPut old new
+nothing_put {old} {new} same = record {
+  items = [];
+  draws = subst (Draws (screen_of old) []) (sym same) (Draws-none (screen_of old));
+  cursor = ap cursor_of same;
 }
 
 pub Draws-push : {r s t : Screen} {us : List Update} {u : Update} → Draws r us s → Draws s (u ∷ []) t → Draws r (us ++ u ∷ []) t

@@ -11,3 +11,4 @@ pub mod HistoryLemmas
 pub mod SizeLemmas
 pub mod RegionLemmas
 pub mod PrintLemmas
+pub mod FailureLemmas

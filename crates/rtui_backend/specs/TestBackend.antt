@@ -4,7 +4,7 @@ use Rattle.std.specs.Prelude.{MatchResult, OnErr, List}
 use Rattle.std.specs.Iterator.{Yields}
 use Rattle.rtui_cell.specs.{Look.look_of, Grid.Update}
 use Rattle.rtui_buffer.specs.BufferData.{BufferData}
-use Rattle.rtui_backend.specs.{Screen.Screen, Screen.Draws, CellGrid.grid_of}
+use Rattle.rtui_backend.specs.{Screen.Screen, Screen.Draws, Screen.cursor_of, CellGrid.grid_of}
 use Rattle.rtui_backend.specs.{declared.test.TestBackend.TestBackend, declared.test.TestError.TestError}
 use Rattle.rtui_backend.specs.declared.test.TestError.TheVariants.{Told}
 
@@ -58,3 +58,9 @@ pub record DrawsFront {S A : Type 0} (steps : S → Option A → S → Type 0) (
   pub rest : S
   pub gives : Yields steps content front rest
   pub draws : Draws old (map update front) new
+
+-- items were put on the screen, maybe none, and all else is as before
+pub record HasOnlyPut (old new : TestBackend) : Type 0 where
+  pub items : List Update
+  pub draws : Draws (screen_of old) items (screen_of new)
+  pub cursor : cursor_of (screen_of new) ≡ cursor_of (screen_of old)

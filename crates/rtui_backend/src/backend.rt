@@ -1,4 +1,4 @@
-ghost use Rattle.std.specs.Prelude.{◌≡◌, ℕ, Bool, List, map, true, false, IfOk, OnOk};
+ghost use Rattle.std.specs.Prelude.{◌≡◌, ℕ, Bool, List, map, true, false, IfOk, OnOk, OnErr};
 ghost use Rattle.std.specs.Iterator.{IsFinite, Drains};
 ghost use Rattle.rtui_cell.specs.declared.cell.Cell.{Cell};
 ghost use Rattle.rtui_cell.specs.Grid.{update_by};
@@ -42,6 +42,10 @@ impl AsCell for &Cell {
 /// What a terminal draws on. Each call says what an Ok does to the screen; after an Err nothing is
 /// said of the screen, and the count of failures is one more.
 ///
+/// `stops_at` holds between what a backend was before a call that failed and what that call left.
+/// So whoever makes several calls can say how the screen stood until the one that failed. Each
+/// backend chooses what the relation tells of the call itself; it may tell nothing.
+///
 /// `is_flushed` says that nothing of what was written is held back. It holds after an Ok `flush`; a
 /// call that only asks leaves it as it is, and any other call may end it. A backend whose writes
 /// are seen at once is always flushed.
@@ -53,6 +57,8 @@ pub trait Backend {
     ghost failures: { Self → ℕ };
 
     ghost is_flushed: { Self → Bool };
+
+    ghost stops_at: { Self → Self → Type 0 };
 
     /// Puts each cell in its column and row, in order: the column gets the cell's look, and the
     /// columns after it that the cell covers are emptied. Off the screen nothing changes. The
@@ -75,7 +81,8 @@ pub trait Backend {
         ensures ok { OnOk result (
             (items : List (ℕ × ℕ × C)) × Drains I.next_gives content items
             × Draws (screen self.old) (map (update_by C.cell) items) (screen self.new)) }
-        ensures counts { Counts result (failures self.old) (failures self.new) };
+        ensures counts { Counts result (failures self.old) (failures self.new) }
+        ensures stops { OnErr result (stops_at self.old self.new) };
 
     /// Moves the cursor's row down by `n`. What goes past the last row scrolls: the rows that leave
     /// at the top go to the history, in order, and blank rows come in below. The cursor may end in
@@ -87,7 +94,8 @@ pub trait Backend {
     /// failure is counted.
     fn append_lines(&mut self, n: u16) -> Result<(), Self::Error>
         ensures ok { OnOk result (Appends (screen self.old) n (screen self.new)) }
-        ensures counts { Counts result (failures self.old) (failures self.new) };
+        ensures counts { Counts result (failures self.old) (failures self.new) }
+        ensures stops { OnErr result (stops_at self.old self.new) };
 
     /// Moves the rows of a region up by `n`, and blank rows come in below. The region ends at the
     /// screen's last row at the latest; rows outside it stay. Of a region that begins with the
@@ -101,7 +109,8 @@ pub trait Backend {
     fn scroll_region_up(&mut self, region: Range<u16>, n: u16) -> Result<(), Self::Error>
         ensures ok { OnOk result
             (ScrollsUp region.start region.end n (screen self.old) (screen self.new)) }
-        ensures counts { Counts result (failures self.old) (failures self.new) };
+        ensures counts { Counts result (failures self.old) (failures self.new) }
+        ensures stops { OnErr result (stops_at self.old self.new) };
 
     /// Moves the rows of a region down by `n`; blank rows come in above, and the rows that leave
     /// are lost. The region ends at the screen's last row at the latest; rows outside it and the
@@ -114,7 +123,8 @@ pub trait Backend {
     fn scroll_region_down(&mut self, region: Range<u16>, n: u16) -> Result<(), Self::Error>
         ensures ok { OnOk result
             (ScrollsDown region.start region.end n (screen self.old) (screen self.new)) }
-        ensures counts { Counts result (failures self.old) (failures self.new) };
+        ensures counts { Counts result (failures self.old) (failures self.new) }
+        ensures stops { OnErr result (stops_at self.old self.new) };
 
     /// Hides the cursor.
     ///
@@ -124,7 +134,8 @@ pub trait Backend {
     /// failure is counted.
     fn hide_cursor(&mut self) -> Result<(), Self::Error>
         ensures ok { OnOk result (screen self.new ≡ with_visible false (screen self.old)) }
-        ensures counts { Counts result (failures self.old) (failures self.new) };
+        ensures counts { Counts result (failures self.old) (failures self.new) }
+        ensures stops { OnErr result (stops_at self.old self.new) };
 
     /// Shows the cursor.
     ///
@@ -134,7 +145,8 @@ pub trait Backend {
     /// failure is counted.
     fn show_cursor(&mut self) -> Result<(), Self::Error>
         ensures ok { OnOk result (screen self.new ≡ with_visible true (screen self.old)) }
-        ensures counts { Counts result (failures self.old) (failures self.new) };
+        ensures counts { Counts result (failures self.old) (failures self.new) }
+        ensures stops { OnErr result (stops_at self.old self.new) };
 
     /// Where the cursor is, on the screen.
     ///
@@ -147,7 +159,8 @@ pub trait Backend {
         ensures on_grid { OnOk result (IsOnGrid (screen self.old)) }
         ensures stays { OnOk result (screen self.new ≡ screen self.old) }
         ensures held { OnOk result (is_flushed self.new ≡ is_flushed self.old) }
-        ensures counts { Counts result (failures self.old) (failures self.new) };
+        ensures counts { Counts result (failures self.old) (failures self.new) }
+        ensures stops { OnErr result (stops_at self.old self.new) };
 
     /// Moves the cursor; its column and its row are each kept on the screen.
     ///
@@ -158,7 +171,8 @@ pub trait Backend {
     fn set_cursor_position(&mut self, position: Position) -> Result<(), Self::Error>
         ensures ok { OnOk result (screen self.new
             ≡ with_cursor position.x position.y (screen self.old)) }
-        ensures counts { Counts result (failures self.old) (failures self.new) };
+        ensures counts { Counts result (failures self.old) (failures self.new) }
+        ensures stops { OnErr result (stops_at self.old self.new) };
 
     /// The old name of `get_cursor_position`: the column and the row.
     ///
@@ -173,6 +187,7 @@ pub trait Backend {
         ensures stays { OnOk result (screen self.new ≡ screen self.old) }
         ensures held { OnOk result (is_flushed self.new ≡ is_flushed self.old) }
         ensures counts { Counts result (failures self.old) (failures self.new) }
+        ensures stops { OnErr result (stops_at self.old self.new) }
     {
         let position = self.get_cursor_position()?;
         Ok((position.x, position.y))
@@ -187,6 +202,7 @@ pub trait Backend {
     fn set_cursor(&mut self, x: u16, y: u16) -> Result<(), Self::Error>
         ensures ok { OnOk result (screen self.new ≡ with_cursor x y (screen self.old)) }
         ensures counts { Counts result (failures self.old) (failures self.new) }
+        ensures stops { OnErr result (stops_at self.old self.new) }
     {
         self.set_cursor_position(Position { x, y })
     }
@@ -199,7 +215,8 @@ pub trait Backend {
     /// failure is counted.
     fn clear(&mut self) -> Result<(), Self::Error>
         ensures ok { OnOk result (Clears (screen self.old) All (screen self.new)) }
-        ensures counts { Counts result (failures self.old) (failures self.new) };
+        ensures counts { Counts result (failures self.old) (failures self.new) }
+        ensures stops { OnErr result (stops_at self.old self.new) };
 
     /// Empties a part of the screen; the cursor stays.
     ///
@@ -209,7 +226,8 @@ pub trait Backend {
     /// failure is counted.
     fn clear_region(&mut self, clear_type: ClearType) -> Result<(), Self::Error>
         ensures ok { OnOk result (Clears (screen self.old) clear_type (screen self.new)) }
-        ensures counts { Counts result (failures self.old) (failures self.new) };
+        ensures counts { Counts result (failures self.old) (failures self.new) }
+        ensures stops { OnErr result (stops_at self.old self.new) };
 
     /// The size in columns and rows.
     ///
@@ -221,7 +239,8 @@ pub trait Backend {
         ensures ok { IfOk result (λ size. size ≡ size_of (screen self.old)) }
         ensures stays { OnOk result (screen self.new ≡ screen self.old) }
         ensures held { OnOk result (is_flushed self.new ≡ is_flushed self.old) }
-        ensures counts { Counts result (failures self.old) (failures self.new) };
+        ensures counts { Counts result (failures self.old) (failures self.new) }
+        ensures stops { OnErr result (stops_at self.old self.new) };
 
     /// The size in columns and rows, and in pixels if they are known.
     ///
@@ -233,7 +252,8 @@ pub trait Backend {
         ensures ok { IfOk result (λ window. window.columns_rows ≡ size_of (screen self.old)) }
         ensures stays { OnOk result (screen self.new ≡ screen self.old) }
         ensures held { OnOk result (is_flushed self.new ≡ is_flushed self.old) }
-        ensures counts { Counts result (failures self.old) (failures self.new) };
+        ensures counts { Counts result (failures self.old) (failures self.new) }
+        ensures stops { OnErr result (stops_at self.old self.new) };
 
     /// Sends what is still held back; the screen stays as it is.
     ///
@@ -244,5 +264,6 @@ pub trait Backend {
     fn flush(&mut self) -> Result<(), Self::Error>
         ensures ok { OnOk result (screen self.new ≡ screen self.old) }
         ensures flushed { OnOk result (is_flushed self.new ≡ true) }
-        ensures counts { Counts result (failures self.old) (failures self.new) };
+        ensures counts { Counts result (failures self.old) (failures self.new) }
+        ensures stops { OnErr result (stops_at self.old self.new) };
 }

@@ -85,7 +85,7 @@ impl TestBackend {
     ghost use Rattle.rtui_cell.specs.declared.cell.Cell.{Cell};
     ghost use Rattle.rtui_backend.specs.Screen.{IsBlankScreen, cursor_of, row_of, screen_area};
     ghost use Rattle.rtui_backend.specs.TestBackend.{screen_of, buffer_of, failures_of, told_after};
-    ghost use Rattle.rtui_backend.specs.TestBackend.{TakesTurn, IsSameBackend, DrawsFront};
+    ghost use Rattle.rtui_backend.specs.TestBackend.{TakesTurn, IsSameBackend, DrawsFront, HasOnlyPut};
 
     /// A blank screen of this size in columns and rows, its cursor visible in the corner.
     ///
@@ -173,10 +173,12 @@ impl TestBackend {
     }
 
     // The start of each call: fails if this is the one that `fail_after` names.
+    #[tactic(auto, using(crate::proofs::DrawLemmas::nothing_put))]
     fn begin(&mut self) -> Result<(), TestError>
         ensures ok { OnOk result (IsSameBackend self.old self.new) }
         ensures counts { Counts result (failures_of self.old) (failures_of self.new) }
         ensures turn { TakesTurn result self.old self.new }
+        ensures stops { OnErr result (HasOnlyPut self.old self.new) }
     {
         match self.fail_after {
             None => Ok(()),
@@ -211,7 +213,7 @@ impl Backend for TestBackend {
     ghost use Rattle.rtui_geometry.specs.declared.size.Size.{Size};
     ghost use Rattle.rtui_backend.specs.Screen.{IsOnGrid, with_visible, with_cursor, cursor_of, size_of};
     ghost use Rattle.rtui_backend.specs.TestBackend.{screen_of, failures_of, told_after, one_call_less};
-    ghost use Rattle.rtui_backend.specs.TestBackend.{TakesTurn, DrawsFront};
+    ghost use Rattle.rtui_backend.specs.TestBackend.{TakesTurn, DrawsFront, HasOnlyPut};
 
     type Error = TestError;
 
@@ -220,6 +222,8 @@ impl Backend for TestBackend {
     ghost failures = { failures_of };
 
     ghost is_flushed = { λ b. true };
+
+    ghost stops_at = { HasOnlyPut };
 
     fn draw<C: AsCell, I: Iterator<Item = (u16, u16, C)>>(
         &mut self,
@@ -234,6 +238,7 @@ impl Backend for TestBackend {
             (update_by C.cell) (screen_of self.old) (screen_of self.new) }
         ensures cursor { cursor_of (screen_of self.new) ≡ cursor_of (screen_of self.old) }
         ensures counts { Counts result (failures_of self.old) (failures_of self.new) }
+        ensures stops { OnErr result (HasOnlyPut self.old self.new) }
         ensures told { (result ≡ Err TestError.Told) ↔ (told_after self.old ≡ Some 0) }
         ensures unchanged { result ≡ Err TestError.Told → screen_of self.new ≡ screen_of self.old }
         ensures left { told_after self.new ≡ one_call_less (told_after self.old) }
@@ -245,12 +250,14 @@ impl Backend for TestBackend {
         }
     }
 
+    #[tactic(auto, using(crate::proofs::DrawLemmas::nothing_put))]
     fn append_lines(&mut self, n: u16) -> Result<(), TestError>
         ensures ok { OnOk result (Appends (screen_of self.old) n (screen_of self.new)) }
         ensures column { OnOk result (
             (screen_of self.new).cursor_x ≡ (screen_of self.old).cursor_x) }
         ensures refused { OnErr result (screen_of self.new ≡ screen_of self.old) }
         ensures counts { Counts result (failures_of self.old) (failures_of self.new) }
+        ensures stops { OnErr result (HasOnlyPut self.old self.new) }
         ensures told { (result ≡ Err TestError.Told) ↔ (told_after self.old ≡ Some 0) }
         ensures left { told_after self.new ≡ one_call_less (told_after self.old) }
     {
@@ -261,6 +268,7 @@ impl Backend for TestBackend {
         }
     }
 
+    #[tactic(auto, using(crate::proofs::DrawLemmas::nothing_put))]
     fn scroll_region_up(&mut self, region: Range<u16>, n: u16) -> Result<(), TestError>
         ensures ok { OnOk result (ScrollsUp region.start region.end n
             (screen_of self.old) (screen_of self.new)) }
@@ -268,6 +276,7 @@ impl Backend for TestBackend {
         ensures cursor { cursor_of (screen_of self.new) ≡ cursor_of (screen_of self.old) }
         ensures refused { OnErr result (screen_of self.new ≡ screen_of self.old) }
         ensures counts { Counts result (failures_of self.old) (failures_of self.new) }
+        ensures stops { OnErr result (HasOnlyPut self.old self.new) }
         ensures told { (result ≡ Err TestError.Told) ↔ (told_after self.old ≡ Some 0) }
         ensures left { told_after self.new ≡ one_call_less (told_after self.old) }
     {
@@ -283,6 +292,7 @@ impl Backend for TestBackend {
             (screen_of self.old) (screen_of self.new)) }
         ensures cursor { cursor_of (screen_of self.new) ≡ cursor_of (screen_of self.old) }
         ensures counts { Counts result (failures_of self.old) (failures_of self.new) }
+        ensures stops { OnErr result (HasOnlyPut self.old self.new) }
         ensures turn { TakesTurn result self.old self.new }
     {
         self.begin()?;
@@ -293,6 +303,7 @@ impl Backend for TestBackend {
     fn clear(&mut self) -> Result<(), TestError>
         ensures ok { OnOk result (Clears (screen_of self.old) All (screen_of self.new)) }
         ensures counts { Counts result (failures_of self.old) (failures_of self.new) }
+        ensures stops { OnErr result (HasOnlyPut self.old self.new) }
         ensures turn { TakesTurn result self.old self.new }
     {
         self.clear_region(ClearType::All)
@@ -301,6 +312,7 @@ impl Backend for TestBackend {
     fn clear_region(&mut self, clear_type: ClearType) -> Result<(), TestError>
         ensures ok { OnOk result (Clears (screen_of self.old) clear_type (screen_of self.new)) }
         ensures counts { Counts result (failures_of self.old) (failures_of self.new) }
+        ensures stops { OnErr result (HasOnlyPut self.old self.new) }
         ensures turn { TakesTurn result self.old self.new }
     {
         self.begin()?;
@@ -311,6 +323,7 @@ impl Backend for TestBackend {
     fn hide_cursor(&mut self) -> Result<(), TestError>
         ensures ok { OnOk result (screen_of self.new ≡ with_visible false (screen_of self.old)) }
         ensures counts { Counts result (failures_of self.old) (failures_of self.new) }
+        ensures stops { OnErr result (HasOnlyPut self.old self.new) }
         ensures turn { TakesTurn result self.old self.new }
     {
         self.begin()?;
@@ -321,6 +334,7 @@ impl Backend for TestBackend {
     fn show_cursor(&mut self) -> Result<(), TestError>
         ensures ok { OnOk result (screen_of self.new ≡ with_visible true (screen_of self.old)) }
         ensures counts { Counts result (failures_of self.old) (failures_of self.new) }
+        ensures stops { OnErr result (HasOnlyPut self.old self.new) }
         ensures turn { TakesTurn result self.old self.new }
     {
         self.begin()?;
@@ -333,6 +347,7 @@ impl Backend for TestBackend {
         ensures on_grid { OnOk result (IsOnGrid (screen_of self.old)) }
         ensures stays { OnOk result (screen_of self.new ≡ screen_of self.old) }
         ensures counts { Counts result (failures_of self.old) (failures_of self.new) }
+        ensures stops { OnErr result (HasOnlyPut self.old self.new) }
         ensures turn { TakesTurn result self.old self.new }
     {
         self.begin()?;
@@ -345,6 +360,7 @@ impl Backend for TestBackend {
         ensures on_grid { OnOk result (IsOnGrid (screen_of self.old)) }
         ensures stays { OnOk result (screen_of self.new ≡ screen_of self.old) }
         ensures counts { Counts result (failures_of self.old) (failures_of self.new) }
+        ensures stops { OnErr result (HasOnlyPut self.old self.new) }
         ensures turn { TakesTurn result self.old self.new }
     {
         let position = self.get_cursor_position()?;
@@ -354,6 +370,7 @@ impl Backend for TestBackend {
     fn set_cursor(&mut self, x: u16, y: u16) -> Result<(), TestError>
         ensures ok { OnOk result (screen_of self.new ≡ with_cursor x y (screen_of self.old)) }
         ensures counts { Counts result (failures_of self.old) (failures_of self.new) }
+        ensures stops { OnErr result (HasOnlyPut self.old self.new) }
         ensures turn { TakesTurn result self.old self.new }
     {
         self.set_cursor_position(Position { x, y })
@@ -363,6 +380,7 @@ impl Backend for TestBackend {
         ensures ok { OnOk result (
             screen_of self.new ≡ with_cursor position.x position.y (screen_of self.old)) }
         ensures counts { Counts result (failures_of self.old) (failures_of self.new) }
+        ensures stops { OnErr result (HasOnlyPut self.old self.new) }
         ensures turn { TakesTurn result self.old self.new }
     {
         self.begin()?;
@@ -378,6 +396,7 @@ impl Backend for TestBackend {
         ensures ok { IfOk result (λ size. size ≡ size_of (screen_of self.old)) }
         ensures stays { OnOk result (screen_of self.new ≡ screen_of self.old) }
         ensures counts { Counts result (failures_of self.old) (failures_of self.new) }
+        ensures stops { OnErr result (HasOnlyPut self.old self.new) }
         ensures turn { TakesTurn result self.old self.new }
     {
         self.begin()?;
@@ -389,6 +408,7 @@ impl Backend for TestBackend {
         ensures pixels { IfOk result (λ window. window.pixels ≡ record { width = 0; height = 0 }) }
         ensures stays { OnOk result (screen_of self.new ≡ screen_of self.old) }
         ensures counts { Counts result (failures_of self.old) (failures_of self.new) }
+        ensures stops { OnErr result (HasOnlyPut self.old self.new) }
         ensures turn { TakesTurn result self.old self.new }
     {
         self.begin()?;
@@ -401,6 +421,7 @@ impl Backend for TestBackend {
     fn flush(&mut self) -> Result<(), TestError>
         ensures ok { OnOk result (screen_of self.new ≡ screen_of self.old) }
         ensures counts { Counts result (failures_of self.old) (failures_of self.new) }
+        ensures stops { OnErr result (HasOnlyPut self.old self.new) }
         ensures turn { TakesTurn result self.old self.new }
     {
         self.begin()
