@@ -1,10 +1,10 @@
 -- A text of more lines than a screen has rows: what is drawn or inserted of it.
 use Rattle.std.proofs.Common.{◌≡◌, ℕ, ◌+◌, ◌-◌, ◌<◌, ◌≤◌, min, max, List, [], length, take, get_or-take, length-take}
-use Rattle.std.proofs.Common.{refl, sym, ap, subst, ◌∙◌, arith}
-use Rattle.std.proofs.lemmas.Grind.{common_steps}
+use Rattle.std.proofs.Common.{refl, sym, ap, subst, ◌∙◌, arith, map, inl, inr}
+use Rattle.std.proofs.lemmas.{Grind.common_steps, Bool.cases_lt, List.take_all, List.take-map, List.length-map}
 use Rattle.rtui_geometry.specs.{declared.rect.Rect.Rect, Rect.intersected}
 use Rattle.rtui_cell.specs.declared.cell.Cell.{Cell}
-use Rattle.rtui_text.specs.Text.{TextData, line_of}
+use Rattle.rtui_text.specs.Text.{TextData, line_of, raw_line, text_of}
 use Rattle.rtui_buffer.specs.BufferData.{BufferData}
 use Rattle.rtui_backend.specs.declared.test.TestBackend.{TestBackend}
 use Rattle.rtui_terminal.specs.TerminalData.{TerminalData}
@@ -16,6 +16,20 @@ use Rattle.screenplay.specs.declared.scene.PlayCause.TheVariants.{Memory, Unsett
 use Rattle.screenplay.specs.declared.scene.Step.TheVariants.{Draw, Insert}
 use Rattle.rtui_geometry.specs.declared.size.Size.{Size}
 use Rattle.std.proofs.Common.{Option}
+
+count-whole : {A : Type 0} (xs : List A) (n : ℕ) → n ≡ min (length xs) 65535 → take n xs ≡ take 65535 xs
+count-whole xs n is = elim (cases_lt 65535 (length xs)) [
+  | inl more ↦ let all : n ≡ 65535 = grind (arith, common_steps) in ap (λ k. take k xs) all
+  | inr few ↦ take_all n xs (grind (arith, common_steps)) ∙ sym (take_all 65535 xs few)
+]
+
+-- the lines that a text is made of, after the last one
+pub front-whole : (items : List (List ℕ)) (count index : ℕ) → count ≡ min (length items) 65535
+    → length (take count items) ≤ index
+    → text_of (map raw_line (take index (take count items))) ≡ front_of (text_of (map raw_line items))
+front-whole items count index is past =
+    ap text_of (ap (map raw_line) (take_all index (take count items) past) ∙ sym (take-map raw_line count items)
+    ∙ count-whole (map raw_line items) count (is ∙ ap (λ n. min n 65535) (sym (length-map items raw_line))))
 
 rows-within : (a b : Rect) → (intersected a b).height ≤ a.height
 rows-within a b = grind (arith, common_steps)

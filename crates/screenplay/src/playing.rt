@@ -376,16 +376,16 @@ pub fn play(alloc: Global, stage: Stage, steps: &[Step<'_>]) -> Result<Vec<Scene
     let Ok(mut terminal) = open(alloc, stage) else {
         return Err(fault(0, PlayCause::Memory, scenes));
     };
-    if add_scene(alloc, &terminal, &mut scenes).is_err() {
+    let Ok(()) = add_scene(alloc, &terminal, &mut scenes) else {
         return Err(fault(0, PlayCause::Memory, scenes));
-    }
+    };
     for (index, step) in steps.iter().enumerate() {
         if let Err(cause) = play_step(alloc, &mut terminal, stage.viewport, step) {
             return Err(fault(index + 1, cause, scenes));
         }
-        if add_scene(alloc, &terminal, &mut scenes).is_err() {
+        let Ok(()) = add_scene(alloc, &terminal, &mut scenes) else {
             return Err(fault(index + 1, PlayCause::Memory, scenes));
-        }
+        };
     }
     Ok(scenes)
 }

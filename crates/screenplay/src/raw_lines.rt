@@ -90,7 +90,7 @@ impl<'a> RawLines<'a> {
     /// `AllocError` if memory is refused; nothing has changed then.
     pub fn push(&mut self, line: LineRest<'a>) -> Result<(), AllocError>
         ensures ok { OnOk result (self.new
-            ≡ record self.old { lines = self.old.lines ++ raw_line line ∷ [] }) }
+            ≡ record self.old { lines = self.old.lines ++ raw_line line.entry ∷ [] }) }
         ensures err { OnErr result (self.new ≡ self.old) }
     {
         self.items.push(line)?;
@@ -105,9 +105,10 @@ impl<'a> RawLines<'a> {
     pub fn to_text(&self, alloc: Global) -> Result<Text<'a>, AllocError>
         ensures { IfOk result (λ text. text ≡ front_of self.now) }
     {
-        let count = self.items.len().min(MOST_ROWS);
+        let lines = self.items.as_slice();
+        let count = lines.len().min(MOST_ROWS);
         let mut text = Text::default_in(alloc);
-        for line in &self.items[..count] {
+        for line in &lines[..count] {
             text.push_line(line.to_line(alloc)?)?;
         }
         Ok(text)

@@ -1,9 +1,9 @@
 use Rattle.std.proofs.Common.{refl, arith}
 use Rattle.std.proofs.lemmas.List.{drop_all}
-use Rattle.screenplay.proofs.RunLemmas.{left_next}
+use Rattle.screenplay.proofs.RunLemmas.{left_next, ok-unless-err}
 use Rattle.screenplay.proofs.ActLemmas.{HasPlayed-none, HasPlayed-step, HasPlayed-show, PrintsActs-all, EndsEarly-next}
 use Rattle.screenplay.proofs.engine.play_acts.Goals as goal
-use Rattle.screenplay.proofs.engine.play_acts.Goals.{in-Play+in-Ok-play_step, in-Show+in_ok-show-in-Show}
+use Rattle.screenplay.proofs.engine.play_acts.Goals.{in-Play+in_default-play_plan, in-Show+in_ok-show-in-Show}
 
 pub loop-act-init : goal.loop-act-init
 loop-act-init c = record {
@@ -19,12 +19,13 @@ loop-act-preserved c =
     let left = left_next acts c.loop-act.act-index c.act-item.result c.loop-act-test.true c.act-item.is in
     let played = rw left at before.played in
     elim c.match-act.branch [
-      | in-Play+in-Ok-play_step w ↦ record {
+      | in-Play+in_default-play_plan w ↦ record {
         few = omega (arith, before.few, w.steps-is);
         played =
             rw (w.text-is, w.steps-is, w.terminal-is)
             (HasPlayed-step c.args.stage acts _ _ _ _ _ (rw w.in-Play.is at played) _
-            (w.in-Ok-play_step.ensures.ok c.args.stage refl c.requires before.played.ran.playing));
+            (ok-unless-err w.play_plan.result _ w.in_default-play_plan.not-Err w.play_plan.ensures.ok c.args.stage refl c.requires
+            before.played.ran.playing));
       }
       | in-Show+in_ok-show-in-Show w ↦ record {
         few = omega (arith, before.few, w.steps-is);
@@ -39,11 +40,11 @@ returns-clause-ok c =
     let none = drop_all c.loop-act.act-index c.args.acts.now c.loop-act-test.false in
     PrintsActs-all c.args.stage c.args.acts.now _ _ _ (rw none at c.loop-act.invariant.played)
 
-pub returns-in-Err-play_step-clause-fault : goal.returns-in-Err-play_step-clause-fault
-returns-in-Err-play_step-clause-fault c =
+pub returns-in-Err-clause-fault : goal.returns-in-Err-clause-fault
+returns-in-Err-clause-fault c =
     let before = c.loop-act.invariant in
     let acts = c.args.acts.now in
     let left = left_next acts c.loop-act.act-index c.act-item.result c.loop-act-test.true c.act-item.is in
-    rw c.step_fault-in-Err-play_step.ensures
-    (EndsEarly-next c.args.stage acts _ _ _ _ _ (rw c.in-Play.is at (rw left at before.played)) c.in-Err-play_step.cause
-    (c.in-Err-play_step.ensures.err c.args.stage refl before.played.ran.playing))
+    rw c.step_fault-in-Err.ensures
+    (EndsEarly-next c.args.stage acts _ _ _ _ _ (rw c.in-Play.is at (rw left at before.played)) c.in-Err.cause
+    (c.in-Err.ensures.err c.args.stage refl before.played.ran.playing))
