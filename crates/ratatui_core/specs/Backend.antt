@@ -10,10 +10,10 @@ pub use Rattle.rtui_backend.specs.Screen.{Draws, Scrolls, lines_past, Appends, u
 pub use Rattle.rtui_backend.specs.Screen.{is_in_region, scrolling_up, scrolling_down, clearing, ScrollsRegion}
 pub use Rattle.rtui_backend.specs.Screen.{ScrollsUp, ScrollsDown, Erases, Clears, TakesSize, with_visible}
 pub use Rattle.rtui_backend.specs.Screen.{with_cursor, screen_area, IsOnScreen, IsBlankScreen}
-pub use Rattle.rtui_backend.specs.Failures.{Counts}
+pub use Rattle.rtui_backend.specs.Failures.{Counts, FailsAfter}
 pub use Rattle.rtui_backend.specs.CellGrid.{grid_of, AreUnmarked, AreUnmarkedRows}
 pub use Rattle.rtui_backend.specs.TestBackend.{screen_of, buffer_of, failures_of, told_after, one_call_less}
-pub use Rattle.rtui_backend.specs.TestBackend.{TakesTurn, IsSameBackend, DrawsFront}
+pub use Rattle.rtui_backend.specs.TestBackend.{TakesTurn, IsSameBackend, DrawsFront, HasOnlyPut}
 pub use Rattle.rtui_backend.specs.Display.{test_error_text}
 pub use Rattle.rtui_backend.specs.ScreenLines.{ScreenHasLines, HistoryHasLines, IsScreenOf}
 pub use Rattle.rtui_backend.specs.Print.{printed_screen}

@@ -29,4 +29,4 @@ pub use Rattle.rtui_insert.specs.Filling.{AcceptsRows, FillsRows, RefusesFilling
 pub use Rattle.rtui_insert.specs.Rows.{WritesAtMost}
 pub use Rattle.rtui_insert.specs.Insertion.{AppendsRows}
 pub use Rattle.rtui_terminal.specs.Insertion.{inserted_area, TakesRows, Inserts, StopsInserting, InsertOk}
-pub use Rattle.rtui_terminal.specs.Insertion.{InsertsBy}
+pub use Rattle.rtui_terminal.specs.Insertion.{InsertsBy, StopsInPlace, HasMovedDown}

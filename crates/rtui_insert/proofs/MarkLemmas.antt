@@ -11,7 +11,8 @@ use Rattle.rtui_diff.specs.Cells.{cell}
 use Rattle.rtui_buffer.specs.BufferData.{BufferData, with_cells, IsEmptied, area_size}
 use Rattle.rtui_buffer.specs.RowsDiff.{part_cells}
 use Rattle.rtui_buffer.proofs.EmptyLemmas.{cell-empty, all-empty}
-use Rattle.rtui_insert.specs.Rows.{IsUnknownRow}
+use Rattle.rtui_backend.specs.Screen.{Screen}
+use Rattle.rtui_insert.specs.Rows.{IsUnknownRow, IsBlankFor, DrawsRows, DrawsFirstRow}
 
 -- a skipped blank takes one column
 pub skipped-option : (c : Cell) → is_skipped (record c { diff_option = Skip }) ≡ true
@@ -49,6 +50,19 @@ unknown_row over new cells some area same skipped narrow = rw (area, same) (reco
   skipped = λ a low. let place : 0 * over.width + a ≡ a = omega arith in rw place (skipped a low);
   narrow = λ a low. let place : 0 * over.width + a ≡ a = omega arith in rw place (omega (arith, narrow a low));
 })
+
+-- what was drawn over such a buffer
+pub marked_first : {s old : BufferData} → IsBlankFor 1 s old → (cells : List Cell) (n : ℕ) → n ≡ old.area.width
+    → length cells ≡ length old.cells → ((k : ℕ) → k < n → is_skipped (cell cells k) ≡ true)
+    → ((k : ℕ) → k < n → width_of (cell cells k) ≡ 1) → (q r : Screen)
+    → DrawsRows (with_cells old cells) s 0 1 0 q r → DrawsFirstRow s q r
+marked_first {s} {old} is cells n columns size skipped narrow q r drawn = record {
+  former = with_cells old cells;
+  unknown = unknown_row old.area (with_cells old cells) cells is.rows refl (cells_written old cells size)
+      (rw columns at skipped) (rw columns at narrow);
+  width = is.width;
+  drawn = drawn;
+}
 
 -- and a buffer of which they were made blank is empty again
 pub emptied_again : (over : Rect) (old new : BufferData) (mid cells : List Cell) (w : ℕ) → IsEmptied over old → new.area ≡ over

@@ -1,8 +1,8 @@
 //! Rows of a buffer, drawn on a screen.
 
-ghost use Rattle.std.specs.Prelude.{◌≡◌, ◌+◌, ◌<◌, ◌≤◌, true, OnOk};
+ghost use Rattle.std.specs.Prelude.{◌≡◌, ◌⊎◌, ◌+◌, ◌<◌, ◌≤◌, true, OnOk, OnErr};
 ghost use Rattle.rtui_buffer.specs.BufferData.{IsEmptied};
-ghost use Rattle.rtui_backend.specs.Failures.{Counts};
+ghost use Rattle.rtui_backend.specs.Failures.{Counts, FailsAfter};
 ghost use Rattle.rtui_insert.specs.Rows.{IsBlankFor, DrawsRows, DrawsFirstRow};
 ghost use Rattle.rtui_insert.specs.Insertion.{KeepsSizeAndVisibility};
 
@@ -23,8 +23,8 @@ use rtui_grid::fill;
 ///
 /// # Errors
 ///
-/// The backend's own error if one of its calls failed. Nothing is said of the screen then, and one
-/// more failure is counted.
+/// The backend's own error if one of its calls failed. The screen was as before or had the rows
+/// until that call, and one more failure is counted.
 pub fn draw_rows<B: Backend>(
     backend: &mut B,
     former: &Buffer,
@@ -43,6 +43,9 @@ pub fn draw_rows<B: Backend>(
         (KeepsSizeAndVisibility (B.screen backend.old) (B.screen backend.new)) }
     ensures flushed { OnOk result (B.is_flushed backend.new ≡ true) }
     ensures counts { Counts result (B.failures backend.old) (B.failures backend.new) }
+    ensures err { OnErr result (FailsAfter B.stops_at (λ b.
+        (B.screen b ≡ B.screen backend.old) ⊎ DrawsRows former.now rows.now first count y
+        (B.screen backend.old) (B.screen b)) backend.new) }
 {
     let updates = diff_rows(former, 0, rows, first, count);
     backend.draw(ShiftedUpdates::new(updates, y))?;
@@ -59,8 +62,8 @@ pub fn draw_rows<B: Backend>(
 ///
 /// # Errors
 ///
-/// The backend's own error if one of its calls failed. Nothing is said of the screen then, and one
-/// more failure is counted. `blank` is empty again.
+/// The backend's own error if one of its calls failed. The screen was as before or had the row
+/// until that call, and one more failure is counted. `blank` is empty again.
 pub fn draw_first_row<B: Backend>(
     backend: &mut B,
     blank: &mut Buffer,
@@ -75,6 +78,9 @@ pub fn draw_first_row<B: Backend>(
         (KeepsSizeAndVisibility (B.screen backend.old) (B.screen backend.new)) }
     ensures flushed { OnOk result (B.is_flushed backend.new ≡ true) }
     ensures counts { Counts result (B.failures backend.old) (B.failures backend.new) }
+    ensures err { OnErr result (FailsAfter B.stops_at (λ b.
+        (B.screen b ≡ B.screen backend.old)
+        ⊎ DrawsFirstRow rows.now (B.screen backend.old) (B.screen b)) backend.new) }
 {
     let columns = usize::from(rows.area().width);
     mark_skipped(blank.cells_mut(), columns);

@@ -1,12 +1,13 @@
 //! Rows that come in above a viewport, by scrolling parts of the screen.
 
-ghost use Rattle.std.specs.Prelude.{◌≡◌, ◌+◌, ◌-◌, ◌<◌, ◌≤◌, min, true, IfOk, OnOk};
+ghost use Rattle.std.specs.Prelude.{◌≡◌, ◌+◌, ◌-◌, ◌<◌, ◌≤◌, min, true, IfOk, OnOk, OnErr};
 ghost use Rattle.rtui_geometry.specs.Rect.{EdgesFit};
 ghost use Rattle.rtui_buffer.specs.BufferData.{IsEmptied};
-ghost use Rattle.rtui_backend.specs.Failures.{Counts};
+ghost use Rattle.rtui_backend.specs.Failures.{Counts, FailsAfter};
 ghost use Rattle.rtui_insert.specs.Insertion.{KeepsSizeAndVisibility};
 ghost use Rattle.rtui_insert.specs.Rows.{IsBlankFor};
 ghost use Rattle.rtui_insert.specs.Scrolling.{PushesRows, InsertsDown, InsertsUp, rows_down};
+ghost use Rattle.rtui_insert.specs.Scrolling.{StartsPushing, StartsLowering, StartsRaising};
 
 use crate::draw::{draw_first_row, draw_rows};
 use rtui_backend::Backend;
@@ -22,8 +23,9 @@ use rtui_geometry::Rect;
 ///
 /// # Errors
 ///
-/// The backend's own error if one of its calls failed. Nothing is said of the screen then, and one
-/// more failure is counted. `blank` is empty again.
+/// The backend's own error if one of its calls failed, and one more failure is counted. Until that
+/// call so many of the rows were scrolled off, and all rows below the first were as before. `blank`
+/// is empty again.
 pub fn push_rows<B: Backend>(
     backend: &mut B,
     blank: &mut Buffer,
@@ -35,6 +37,8 @@ pub fn push_rows<B: Backend>(
     ensures shape { OnOk result
         (KeepsSizeAndVisibility (B.screen backend.old) (B.screen backend.new)) }
     ensures counts { Counts result (B.failures backend.old) (B.failures backend.new) }
+    ensures err { OnErr result (FailsAfter B.stops_at (λ b. StartsPushing rows.now
+        (B.screen backend.old) (B.screen b)) backend.new) }
 {
     for row in 0..rows.area().height {
         if row == 0 {
@@ -57,8 +61,9 @@ pub fn push_rows<B: Backend>(
 ///
 /// # Errors
 ///
-/// The backend's own error if one of its calls failed. Nothing is said of the screen then, and one
-/// more failure is counted.
+/// The backend's own error if one of its calls failed, and one more failure is counted. Until that
+/// call the screen was as before, or the viewport's rows had moved down, and those above and below
+/// them were as before.
 pub fn insert_down<B: Backend>(
     backend: &mut B,
     blank: &Buffer,
@@ -76,6 +81,8 @@ pub fn insert_down<B: Backend>(
     ensures shape { OnOk result
         (KeepsSizeAndVisibility (B.screen backend.old) (B.screen backend.new)) }
     ensures counts { Counts result (B.failures backend.old) (B.failures backend.new) }
+    ensures err { OnErr result (FailsAfter B.stops_at (λ b. StartsLowering rows.now viewport height
+        (B.screen backend.old) (B.screen b)) backend.new) }
 {
     let bottom = viewport.y + viewport.height;
     if bottom >= height {
@@ -99,8 +106,9 @@ pub fn insert_down<B: Backend>(
 ///
 /// # Errors
 ///
-/// The backend's own error if one of its calls failed. Nothing is said of the screen then, and one
-/// more failure is counted.
+/// The backend's own error if one of its calls failed, and one more failure is counted. Until that
+/// call so many of the rows had come to those above, and the screen's rows from `top` on were as
+/// before.
 pub fn insert_up<B: Backend>(
     backend: &mut B,
     blank: &Buffer,
@@ -119,6 +127,8 @@ pub fn insert_up<B: Backend>(
     ensures shape { OnOk result
         (KeepsSizeAndVisibility (B.screen backend.old) (B.screen backend.new)) }
     ensures counts { Counts result (B.failures backend.old) (B.failures backend.new) }
+    ensures err { OnErr result (FailsAfter B.stops_at (λ b. StartsRaising rows.now first top
+        (B.screen backend.old) (B.screen b)) backend.new) }
 {
     let height = rows.area().height;
     let mut done = first;

@@ -15,9 +15,12 @@ use Rattle.rtui_terminal.specs.declared.terminal.error.TerminalError.TheVariants
 use Rattle.rtui_insert.specs.{Rows.IsBlankFor, Rows.DrawsRows, Rows.nonempty_cells, Following.Follows}
 use Rattle.rtui_insert.specs.Insertion.{AppendsRows, KeepsSizeAndVisibility, HasPlaceAbove, AppendsPart}
 use Rattle.rtui_insert.specs.Scrolling.{HasPushed, HasRaised, HasLowered, PushesRows, InsertsDown, InsertsUp, rows_down}
+use Rattle.rtui_insert.specs.Scrolling.{IsPushing, IsRaising, StartsPushing, StartsLowering, StartsRaising}
+use Rattle.rtui_backend.{specs.Failures.FailsAfter, proofs.FailureLemmas.fails_weaker}
 use Rattle.rtui_terminal.specs.{InStep.IsInStep, InStep.rows_over, Insertion.inserted_area, Insertion.TakesRows}
 use Rattle.rtui_insert.proofs.ShownLemmas.{ShowsRows, parts_join, rows_shown, blank_first}
 use Rattle.rtui_insert.proofs.{CountLemmas.writes_rows, CountLemmas.writes_then, CountLemmas.nonempty_parts, PushLemmas.no_part}
+use Rattle.rtui_insert.proofs.PushLemmas.{still_pushing}
 use Rattle.rtui_terminal.specs.Insertion.{Inserts, StopsInserting, InsertsBy}
 
 -- all rows of a buffer were appended
@@ -102,6 +105,24 @@ module _ {B : Type 0} (screen : B → Screen) (s : TerminalData B) (inserted : B
           shown = blank_first blank 1 0 (screen mid) is.empty (columns ∙ takes.width ∙ sym shape_mid.width)
               ((has_pushed takes settled).blank some);
         })
+
+    -- all of its rows but the first are as they were
+    pub pushing_redrawn : TakesRows screen s → IsInStep screen s → IsSettledBuffer inserted
+        → IsPushing inserted (screen s.backend) (screen b)
+    pushing_redrawn takes step settled =
+        let drawn = shown takes step settled in
+        let before = has_pushed takes settled in record {
+          count = inserted.area.height;
+          inside = omega arith;
+          shape = record {
+            width = shape.width ∙ shape_mid.width;
+            height = shape.height ∙ shape_mid.height;
+            visible = shape.visible ∙ shape_mid.visible;
+          };
+          above = subst (AppendsPart inserted 0 inserted.area.height (rows_above (screen s.backend) 0))
+              (ap (λ h. h ++ []) (sym drawn.history)) before.above;
+          below = λ x y x_in y_in low. drawn.outside x y (inr (omega arith)) ∙ before.below x y x_in y_in low;
+        }
 
     -- each column of the viewport shows what it did
     shown_again : TakesRows screen s → IsInStep screen s → IsSettledBuffer inserted → ShowsBuffer s.previous (screen b).grid
@@ -283,25 +304,108 @@ module _ {B : Type 0} (screen : B → Screen) (s : TerminalData B) (inserted : B
           (raised takes step settled).most;
     }
 
+  -- a backend failed before that move, or while rows were pushed off
+  module _ (stops_at : B → B → Type 0) where
+    pub stopped_pushing : s.last_known_area.height ≤ s.viewport_area.height → (b : B)
+        → FailsAfter stops_at (λ q. TakesRows screen s → IsInStep screen s → IsSettledBuffer inserted
+        → IsPushing inserted (screen s.backend) (screen q)) b
+        → StopsInserting screen stops_at inserted s (record s { backend = b })
+    stopped_pushing covers b fails = record {
+      rest = refl;
+      moved = inl (record {
+        top = refl;
+        stopped = fails_weaker (λ q pushing takes step settled. record {
+          pushing = λ same. pushing takes step settled;
+          lowering = λ lower. absurd (omega (arith, covers, lower));
+        }) fails;
+      });
+      current = stays_put s.viewport_area s.current;
+      previous = stays_put s.viewport_area s.previous;
+    }
+
+    -- while they were pushed
+    pub stopped_in_push : s.last_known_area.height ≤ s.viewport_area.height → (b : B)
+        → FailsAfter stops_at (λ q. StartsPushing inserted (screen s.backend) (screen q)) b
+        → StopsInserting screen stops_at inserted s (record s { backend = b })
+    stopped_in_push covers b fails = stopped_pushing covers b (fails_weaker (λ q starts takes step settled.
+        starts (record { width = wide takes; bottom = omega (arith, same_height takes) }) settled) fails)
+
+    still_pushed : {mid : B} → PushesRows inserted (screen s.backend) (screen mid) → TakesRows screen s
+        → IsSettledBuffer inserted → IsPushing inserted (screen s.backend) (screen mid)
+    still_pushed {mid} pushed takes settled =
+        still_pushing inserted inserted.area.height (screen s.backend) (screen mid) (omega arith)
+        (pushed (record { width = wide takes; bottom = omega (arith, same_height takes) }) settled)
+
+    -- after all were
+    pub stopped_after_push : s.last_known_area.height ≤ s.viewport_area.height → (mid b : B)
+        → PushesRows inserted (screen s.backend) (screen mid) → stops_at mid b
+        → StopsInserting screen stops_at inserted s (record s { backend = b })
+    stopped_after_push covers mid b pushed stop = stopped_pushing covers b (record {
+      before = mid;
+      was = λ takes step settled. still_pushed pushed takes settled;
+      stopped = stop;
+    })
+
+    -- while the first row was drawn again
+    pub stopped_redrawing : s.last_known_area.height ≤ s.viewport_area.height → 0 < inserted.area.height → (mid b : B)
+        → KeepsSizeAndVisibility (screen s.backend) (screen mid) → PushesRows inserted (screen s.backend) (screen mid)
+        → {m : ℕ} (blank : BufferData) → IsBlankFor m inserted blank
+        → FailsAfter stops_at (λ q. (screen q ≡ screen mid) ⊎ DrawsRows blank s.previous 0 1 0 (screen mid) (screen q)) b
+        → StopsInserting screen stops_at inserted s (record s { backend = b })
+    stopped_redrawing covers some mid b shape_mid pushed blank is fails =
+        stopped_pushing covers b (fails_weaker (λ q drew takes step settled. elim drew [
+          | inl same ↦ subst (IsPushing inserted (screen s.backend)) (sym same) (still_pushed pushed takes settled)
+          | inr drawn ↦
+              let shape : KeepsSizeAndVisibility (screen mid) (screen q) = record {
+                width = drawn.drawn.width;
+                height = drawn.drawn.height;
+                visible = drawn.drawn.visible;
+              } in
+              pushing_redrawn covers some mid q shape_mid shape pushed blank is (λ same. drawn) takes step settled
+        ]) fails)
+
+    pub stopped_lowering : s.viewport_area.height < s.last_known_area.height → (b : B)
+        → FailsAfter stops_at (λ q. StartsLowering inserted s.viewport_area s.last_known_area.height (screen s.backend)
+        (screen q)) b → StopsInserting screen stops_at inserted s (record s { backend = b })
+    stopped_lowering lower b fails = record {
+      rest = refl;
+      moved = inl (record {
+        top = refl;
+        stopped = fails_weaker (λ q lowering takes step settled. record {
+          pushing = λ covers. absurd (omega (arith, covers, lower));
+          lowering = λ same. lowering (has_place takes step) settled;
+        }) fails;
+      });
+      current = stays_put s.viewport_area s.current;
+      previous = stays_put s.viewport_area s.previous;
+    }
+
   -- a backend failed after that move
-  pub stopped_moved : (n : ℕ) → n ≡ rows_down inserted.area.height s.viewport_area s.last_known_area.height
+  pub stopped_moved : (stops_at : B → B → Type 0) (n : ℕ)
+      → n ≡ rows_down inserted.area.height s.viewport_area s.last_known_area.height
       → (mid b : B) (current previous : BufferData)
+      → KeepsSizeAndVisibility (screen s.backend) (screen mid)
       → InsertsDown inserted s.viewport_area s.last_known_area.height (screen s.backend) (screen mid) n
+      → FailsAfter stops_at (λ q. StartsRaising inserted n (s.viewport_area.y + n) (screen mid) (screen q)) b
       → Follows s.viewport_area (record s.viewport_area { y = s.viewport_area.y + n }) s.current current
       → Follows s.viewport_area (record s.viewport_area { y = s.viewport_area.y + n }) s.previous previous
-      → StopsInserting screen inserted s (record s {
+      → StopsInserting screen stops_at inserted s (record s {
         backend = b;
         current = current;
         previous = previous;
         viewport_area = record s.viewport_area { y = s.viewport_area.y + n };
       })
-  stopped_moved n n_is mid b current previous down with_current with_older = record {
+  stopped_moved stops_at n n_is mid b current previous shape_mid down fails with_current with_older = record {
     rest = refl;
     moved = inr (record {
       top = ap (λ k. s.viewport_area.y + k) n_is;
       between = mid;
       lowered = λ takes step settled. subst (λ k. HasLowered inserted k s.viewport_area (screen s.backend) (screen mid)) n_is
           (down (has_place takes step) settled);
+      stopped = fails_weaker (λ q raising takes step settled.
+          subst (λ k. IsRaising inserted k (s.viewport_area.y + n) (screen mid) (screen q)) n_is
+          (raising (wide takes ∙ sym shape_mid.width)
+          (omega (arith, n_is, step.on_screen.bottom, same_height takes, shape_mid.height)) settled)) fails;
     });
     current = with_current;
     previous = with_older;
@@ -336,18 +440,18 @@ module _ {B : Type 0} (screen : B → Screen) where
   nothing low some (inr none) = absurd (omega (arith, some, none))
 
   -- rows that a closure filled were inserted, or a backend failed on the way
-  pub inserted_by : {T E : Type 0} (result : Result T (TerminalError E)) (area : Rect)
+  pub inserted_by : (stops_at : B → B → Type 0) {T E : Type 0} (result : Result T (TerminalError E)) (area : Rect)
       (filled : Result (Unit {0}) AllocError → BufferData → Type 0) (inserted : BufferData) (s t : TerminalData B)
       → filled (Ok tt) inserted → inserted.area ≡ area → 0 < s.last_known_area.height → 0 < area.height
-      → OnOk result (Inserts screen inserted s t) → OnErr result (StopsInserting screen inserted s t) → FailsOnlyByBackend result
-      → InsertsBy screen area filled s t result
-  inserted_by (Ok answer) area filled inserted s t closure over known some ok err only =
+      → OnOk result (Inserts screen inserted s t) → OnErr result (StopsInserting screen stops_at inserted s t)
+      → FailsOnlyByBackend result → InsertsBy screen stops_at area filled s t result
+  inserted_by stops_at (Ok answer) area filled inserted s t closure over known some ok err only =
       record { inserted = inserted; closure = closure; over = over; none = nothing known some; inserts = λ more. ok }
-  inserted_by (Err (Backend error)) area filled inserted s t closure over known some ok err only =
+  inserted_by stops_at (Err (Backend error)) area filled inserted s t closure over known some ok err only =
       record { inserted = inserted; closure = closure; over = over; known = known; stops = err }
-  inserted_by (Err Memory) area filled inserted s t closure over known some ok err only = absurd only
-  inserted_by (Err Area) area filled inserted s t closure over known some ok err only = absurd only
-  inserted_by (Err (Closure error)) area filled inserted s t closure over known some ok err only = absurd only
+  inserted_by stops_at (Err Memory) area filled inserted s t closure over known some ok err only = absurd only
+  inserted_by stops_at (Err Area) area filled inserted s t closure over known some ok err only = absurd only
+  inserted_by stops_at (Err (Closure error)) area filled inserted s t closure over known some ok err only = absurd only
 
 -- an empty current buffer moves with the viewport
 pub emptied-moved : {B : Type 0} (screen : B → Screen) (inserted : BufferData) (s t : TerminalData B)

@@ -159,12 +159,12 @@ module _ {B : Type 0} (screen : B → Screen) where
       }
 
   -- by the answer of the insertion
-  pub inserts-row-if : {T E : Type 0} (text : List ℕ) (s t : TerminalData B) (filled : Result (Unit {0}) AllocError → BufferData
-      → Type 0) (result : Result T (TerminalError E)) → IsOverRow screen s
+  pub inserts-row-if : {T E : Type 0} (stops_at : B → B → Type 0) (text : List ℕ) (s t : TerminalData B)
+      (filled : Result (Unit {0}) AllocError → BufferData → Type 0) (result : Result T (TerminalError E)) → IsOverRow screen s
       → ((sheet : BufferData) → filled (Ok tt) sheet → FillsRow text (inserted_area s 1) sheet)
-      → InsertsBy screen (inserted_area s 1) filled s t result → OnOk result (InsertsRow screen text s t)
-  inserts-row-if text s t filled (Ok x) is only by = inserts-row text s t filled is only by
-  inserts-row-if text s t filled (Err e) is only by = tt
+      → InsertsBy screen stops_at (inserted_area s 1) filled s t result → OnOk result (InsertsRow screen text s t)
+  inserts-row-if stops_at text s t filled (Ok x) is only by = inserts-row text s t filled is only by
+  inserts-row-if stops_at text s t filled (Err e) is only by = tt
 
   -- the viewport was drawn over
   pub draws-row : {X : Type 0} (renders : Rect → BufferData → BufferData → Type 0) (place : Rect → Option Position)

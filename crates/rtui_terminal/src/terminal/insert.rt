@@ -31,7 +31,8 @@ impl<B: Backend> Terminal<B> {
         requires covers { self.old.last_known_area.height ≤ self.old.viewport_area.height }
         ensures ok { OnOk result (Inserts B.screen rows.now self.old self.new) }
         ensures flushed { OnOk result (B.is_flushed self.new.backend ≡ true) }
-        ensures err { OnErr result (StopsInserting B.screen rows.now self.old self.new) }
+        ensures err { OnErr result (StopsInserting B.screen B.stops_at rows.now
+            self.old self.new) }
         ensures only { FailsOnlyByBackend result }
         ensures faults { Faults result (B.failures self.old.backend) (B.failures self.new.backend) }
     {
@@ -56,7 +57,8 @@ impl<B: Backend> Terminal<B> {
         requires known { 0 < self.old.last_known_area.height }
         ensures ok { OnOk result (Inserts B.screen rows.now self.old self.new) }
         ensures flushed { OnOk result (B.is_flushed self.new.backend ≡ true) }
-        ensures err { OnErr result (StopsInserting B.screen rows.now self.old self.new) }
+        ensures err { OnErr result (StopsInserting B.screen B.stops_at rows.now
+            self.old self.new) }
         ensures only { FailsOnlyByBackend result }
         ensures faults { Faults result (B.failures self.old.backend) (B.failures self.new.backend) }
     {
@@ -82,7 +84,8 @@ impl<B: Backend> Terminal<B> {
         requires inline { IsInline self.old.viewport }
         requires accepts { AcceptsRows F.FnOnce draw_fn (inserted_area self.old height) }
         ensures outcome { let area = inserted_area self.old height in
-            InsertsBy B.screen area (FillsRows F.FnOnce draw_fn area) self.old self.new result }
+            InsertsBy B.screen B.stops_at area (FillsRows F.FnOnce draw_fn area)
+            self.old self.new result }
         ensures flushed { IsInline self.old.viewport → 0 < height
             → 0 < self.old.last_known_area.height
             → OnOk result (B.is_flushed self.new.backend ≡ true) }
@@ -146,8 +149,10 @@ impl<B: Backend> Terminal<B> {
     /// - `Memory`: the buffer has cells and memory was refused, in which case the closure isn't
     ///   called; or the closure answered so. Then nothing changed.
     /// - `Area`: the closure changed the buffer's area. Then nothing changed.
-    /// - `Backend`: a call of the backend failed. The screen may show anything. The viewport is
-    ///   where it was, or it has moved, and its rows on the screen with it.
+    /// - `Backend`: a call of the backend failed, and it alone says what that did to the screen.
+    ///   The viewport is where it was, or it has moved, and its rows on the screen with it. Until
+    ///   that call only the rows that come in were written; where the viewport is as high as the
+    ///   screen, only the first row changed.
     pub fn insert_before<F>(
         &mut self,
         height: u16,
@@ -161,7 +166,8 @@ impl<B: Backend> Terminal<B> {
             (result ≡ Ok tt) × (self.new ≡ self.old) }
         ensures outcome { let area = inserted_area self.old height in
             IsInline self.old.viewport →
-            InsertsBy B.screen area (FillsRows F.FnOnce draw_fn area) self.old self.new result }
+            InsertsBy B.screen B.stops_at area (FillsRows F.FnOnce draw_fn area)
+            self.old self.new result }
         ensures flushed { IsInline self.old.viewport → 0 < height
             → 0 < self.old.last_known_area.height
             → OnOk result (B.is_flushed self.new.backend ≡ true) }

@@ -1,10 +1,11 @@
-use Rattle.std.proofs.Common.{◌≡◌, ◌∙◌, length, ap, refl, arith}
-use Rattle.std.proofs.lemmas.{Grind.common_steps, List.length-replicate, Result.on_ok_weaker}
+use Rattle.std.proofs.Common.{◌≡◌, ◌∙◌, length, ap, refl, arith, inl, inr}
+use Rattle.std.proofs.lemmas.{Grind.common_steps, List.length-replicate, Result.on_ok_weaker, Result.on_err_weaker}
 use Rattle.rtui_geometry.specs.declared.rect.Rect.{Rect}
 use Rattle.rtui_cell.specs.Cell.{empty_cell}
 use Rattle.rtui_buffer.specs.BufferData.{with_cells, area_size}
 use Rattle.rtui_buffer.proofs.EmptyLemmas.{cell-empty}
-use Rattle.rtui_insert.proofs.MarkLemmas.{cells_written, unknown_row, emptied_again}
+use Rattle.rtui_backend.proofs.FailureLemmas.{fails_weaker}
+use Rattle.rtui_insert.proofs.MarkLemmas.{cells_written, marked_first, emptied_again}
 use Rattle.rtui_insert.proofs.draw.draw_first_row.Goals as goal
 
 pub mark_skipped-requires-clause-empty : goal.mark_skipped-requires-clause-empty
@@ -13,19 +14,23 @@ mark_skipped-requires-clause-empty g c = λ k k_in. rw (c.cells_mut.ensures.cell
 
 pub returns-clause-ok : goal.returns-clause-ok
 returns-clause-ok g c =
-    let over = c.args.blank.now.area in
-    let columns : c.from-columns.result ≡ over.width = c.from-columns.ensures ∙ ap (λ (r : Rect). r.width) c.area.ensures.area
-    ∙ c.requires.blank.width in
+    let columns : c.from-columns.result ≡ c.args.blank.now.area.width = c.from-columns.ensures
+    ∙ ap (λ (r : Rect). r.width) c.area.ensures.area ∙ c.requires.blank.width in
     let size : length c.mark_skipped.new.cells ≡ length c.args.blank.now.cells = grind (arith, common_steps) in
-    let mid = with_cells c.args.blank.now c.mark_skipped.new.cells in
-    let marked = rw columns at c.mark_skipped.ensures in
-    on_ok_weaker c.draw_rows-drawn.result (λ drawn. record {
-      former = mid;
-      unknown = unknown_row over mid c.mark_skipped.new.cells c.requires.blank.rows refl
-          (cells_written c.args.blank.now c.mark_skipped.new.cells size) marked.skipped marked.narrow;
-      width = c.requires.blank.width;
-      drawn = drawn;
-    }) c.draw_rows-drawn.ensures.ok
+    let marked = c.mark_skipped.ensures in
+    on_ok_weaker c.draw_rows-drawn.result (marked_first c.requires.blank _ _ columns size marked.skipped marked.narrow _ _)
+    c.draw_rows-drawn.ensures.ok
+
+pub returns-clause-err : goal.returns-clause-err
+returns-clause-err g c =
+    let columns : c.from-columns.result ≡ c.args.blank.now.area.width = c.from-columns.ensures
+    ∙ ap (λ (r : Rect). r.width) c.area.ensures.area ∙ c.requires.blank.width in
+    let size : length c.mark_skipped.new.cells ≡ length c.args.blank.now.cells = grind (arith, common_steps) in
+    let marked = c.mark_skipped.ensures in
+    on_err_weaker c.draw_rows-drawn.result (fails_weaker (λ b drew. elim drew [
+      | inl same ↦ inl same
+      | inr drawn ↦ inr (marked_first c.requires.blank _ _ columns size marked.skipped marked.narrow _ _ drawn)
+    ])) c.draw_rows-drawn.ensures.err
 
 pub returns-clause-blank : goal.returns-clause-blank
 returns-clause-blank g c =

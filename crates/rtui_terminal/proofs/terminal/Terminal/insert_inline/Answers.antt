@@ -40,6 +40,6 @@ returns-then-known-eq0-2-clause-outcome g c = elim c.then-known-eq0-2.branch [
 
 pub returns-clause-outcome : goal.returns-clause-outcome
 returns-clause-outcome g c =
-    inserted_by g.B.Backend.screen c.insert_filled.result _ _ c.in_ok-rows.rows _ _
+    inserted_by g.B.Backend.screen g.B.Backend.stops_at c.insert_filled.result _ _ c.in_ok-rows.rows _ _
     (rw (← c.self.view_is) c.in_ok-rows.ensures.filled) (search rules) (search rules) (search rules)
     c.insert_filled.ensures.ok c.insert_filled.ensures.err c.insert_filled.ensures.only
