@@ -5,9 +5,9 @@ use Rattle.std.proofs.lemmas.{Bool.cases_lt, List.get_or_past}
 use Rattle.std.specs.List.{AllZip}
 use Rattle.rtui_split.specs.declared.smooth.Run.{Run}
 use Rattle.rtui_split.specs.Ragged.{IsAtMost}
-use Rattle.rtui_split.specs.Ragged.{IsRun, parts_of, growth_before, growth_behind, growth, rank_at, rank}
+use Rattle.rtui_split.specs.Ragged.{IsRunOf, run_length, growth_before, growth_behind, growth, rank_at, rank}
 use Rattle.rtui_split.specs.Ragged.{CostsNoMore, ComesNoLater, IsLeastRagged}
-use Rattle.rtui_split.specs.Inner.{raised, KeepsUpTo, IsFirstRun}
+use Rattle.rtui_split.specs.Inner.{at_height, KeepsUpTo, IsFirstRun}
 use Rattle.rtui_split.proofs.RunLemmas.{IsIn, AreApart, within_list, nested, beside_high, beside_low, before_edge, before_inner}
 use Rattle.rtui_split.proofs.RunLemmas.{behind_edge, behind_inner, cost_on, order_nested}
 
@@ -72,7 +72,7 @@ row_after ws h (suc n) i long = elim (cases_lt h (slice_index ws i)) [
 ]
 
 -- each part that wishes more than a height is in a run at that height
-pub run_at : (ws : List ℕ) (h i : ℕ) → h < slice_index ws i → (r : Run) × IsRun ws r × IsIn r i × (r.height ≡ h)
+pub run_at : (ws : List ℕ) (h i : ℕ) → h < slice_index ws i → (r : Run) × IsRunOf ws r × IsIn r i × (r.height ≡ h)
 run_at ws h i here =
     let front = row_first ws h i here in
     let end = row_after ws h (length ws) i (omega arith) in
@@ -97,12 +97,12 @@ run_at ws h i here =
       refl,
     )
 
-costs_on : (ws standing : List ℕ) (r s t : Run) → IsRun ws s → CostsNoMore standing r s → CostsNoMore standing s t
+costs_on : (ws standing : List ℕ) (r s t : Run) → IsRunOf ws s → CostsNoMore standing r s → CostsNoMore standing s t
     → CostsNoMore standing r t
 costs_on ws standing r s t run one two = cost_on (growth standing r) (growth standing s) (growth standing t)
-    (parts_of r) (parts_of s) (parts_of t) (omega (arith, run.some)) one two
+    (run_length r) (run_length s) (run_length t) (omega (arith, run.some)) one two
 
-pub order_on : (ws standing : List ℕ) (r s t : Run) → IsRun ws r → IsRun ws s → IsRun ws t → ComesNoLater standing r s
+pub order_on : (ws standing : List ℕ) (r s t : Run) → IsRunOf ws r → IsRunOf ws s → IsRunOf ws t → ComesNoLater standing r s
     → ComesNoLater standing s t → ComesNoLater standing r t
 order_on ws standing r s t run other last one two = (
   costs_on ws standing r s t other one.0 two.0,
@@ -122,18 +122,21 @@ pub order_both : (standing : List ℕ) (r s : Run) → ComesNoLater standing r s
 order_both standing r s one two = (one.1 two.0).1 (two.1 one.0).0
 
 pub order_total : (standing : List ℕ) (r s : Run) → (ComesNoLater standing r s → ⊥) → ComesNoLater standing s r
-order_total standing r s later = elim (cases_lt (growth standing s * parts_of r + 2 * parts_of s)
-    (growth standing r * parts_of s + 2 * parts_of r)) [
+order_total standing r s later = elim (cases_lt (growth standing s * run_length r + 2 * run_length s)
+    (growth standing r * run_length s + 2 * run_length r)) [
       | inl cheaper ↦ (omega (arith, cheaper), λ back. absurd (omega (arith, back, cheaper)))
-      | inr no_less ↦ elim (cases_lt (growth standing r * parts_of s + 2 * parts_of r)
-          (growth standing s * parts_of r + 2 * parts_of s)) [
+      | inr no_less ↦ elim (cases_lt (growth standing r * run_length s + 2 * run_length r)
+          (growth standing s * run_length r + 2 * run_length s)) [
             | inl dearer ↦ absurd (later (omega (arith, dearer), λ back. absurd (omega (arith, back, dearer))))
             | inr same ↦ (
               same,
               λ back. elim (cases_lt (rank standing s) (rank standing r)) [
                 | inl before ↦ (omega (arith, before), λ ranks. absurd (omega (arith, ranks, before)))
                 | inr not_before ↦ elim (cases_lt (rank standing r) (rank standing s)) [
-                  | inl behind ↦ absurd (later (no_less, λ _. (omega (arith, behind), λ ranks. absurd (omega (arith, ranks, behind)))))
+                  | inl behind ↦ absurd (later (
+                    no_less,
+                    λ _. (omega (arith, behind), λ ranks. absurd (omega (arith, ranks, behind))),
+                  ))
                   | inr equal ↦ elim (cases_lt s.height r.height) [
                     | inl lower ↦ (equal, λ _. omega (arith, lower))
                     | inr higher ↦ absurd (later (no_less, λ _. (not_before, λ _. higher)))
@@ -146,29 +149,29 @@ order_total standing r s later = elim (cases_lt (growth standing s * parts_of r 
 
 -- runs rise in order, and each as a whole
 abbrev pub RiseInOrder : List ℕ → List ℕ → List ℕ → Type 0
-RiseInOrder ws standing xs = (r s : Run) (i j : ℕ) → IsRun ws r → IsRun ws s → IsIn r i → IsIn s j
+RiseInOrder ws standing xs = (r s : Run) (i j : ℕ) → IsRunOf ws r → IsRunOf ws s → IsIn r i → IsIn s j
     → ComesNoLater standing r s → s.height < slice_index xs j → r.height < slice_index xs i
 
-pub itself : (ws standing : List ℕ) (r : Run) → AreApart ws standing → IsRun ws r → ComesNoLater standing r r
+pub itself : (ws standing : List ℕ) (r : Run) → AreApart ws standing → IsRunOf ws r → ComesNoLater standing r r
 itself ws standing r apart run =
     let some = run.some in
     order_nested ws standing r r r.first apart run run (omega arith, some) (omega arith, some) (omega arith)
 
 -- if a part of a run has no more than its height, none has
-low_at : (ws standing xs : List ℕ) (r : Run) (i j : ℕ) → AreApart ws standing → RiseInOrder ws standing xs → IsRun ws r
+low_at : (ws standing xs : List ℕ) (r : Run) (i j : ℕ) → AreApart ws standing → RiseInOrder ws standing xs → IsRunOf ws r
     → IsIn r i → IsIn r j → slice_index xs i ≤ r.height → slice_index xs j ≤ r.height
 low_at ws standing xs r i j apart rise run here there low = elim (cases_lt r.height (slice_index xs j)) [
   | inl risen ↦ absurd (omega (arith, low, rise r r i j run run here there (itself ws standing r apart run) risen))
   | inr level ↦ level
 ]
 
-first_in : (ws : List ℕ) (r : Run) → IsRun ws r → IsIn r r.first
+first_in : (ws : List ℕ) (r : Run) → IsRunOf ws r → IsIn r r.first
 first_in ws r run = (omega arith, run.some)
 
 -- if a run hasn't risen, some run whose first part stands at its height comes no later
 pub lowest : (ws standing xs : List ℕ) → AreApart ws standing → RiseInOrder ws standing xs → (fuel : ℕ) (r : Run)
-    → IsRun ws r → r.height < fuel → slice_index xs r.first ≤ r.height
-    → (s : Run) × IsRun ws s × (slice_index xs s.first ≡ s.height) × ComesNoLater standing s r
+    → IsRunOf ws r → r.height < fuel → slice_index xs r.first ≤ r.height
+    → (s : Run) × IsRunOf ws s × (slice_index xs s.first ≡ s.height) × ComesNoLater standing s r
 lowest ws standing xs apart rise zero r run small low = absurd (omega (arith, small))
 lowest ws standing xs apart rise (suc n) r run small low = elim (cases_lt (slice_index xs r.first) r.height) [
   | inl lower ↦
@@ -185,7 +188,7 @@ lowest ws standing xs apart rise (suc n) r run small low = elim (cases_lt (slice
 
 -- the first run of those whose parts stand at their height comes before each that hasn't risen
 pub first_of_all : (ws standing xs : List ℕ) (best : Run) → AreApart ws standing → RiseInOrder ws standing xs
-    → IsFirstRun ws standing xs (length ws) best → (r : Run) (i : ℕ) → IsRun ws r → IsIn r i
+    → IsFirstRun ws standing xs (length ws) best → (r : Run) (i : ℕ) → IsRunOf ws r → IsIn r i
     → slice_index xs i ≤ r.height → ComesNoLater standing best r
 first_of_all ws standing xs best apart rise first r i run here low =
     let own = low_at ws standing xs r i r.first apart rise run here (first_in ws r run) low in
@@ -216,7 +219,7 @@ flat ws standing xs best apart rise first i here =
 
 -- if nothing is left to rise, each has its wish
 pub all_risen : (ws standing xs : List ℕ) → AreApart ws standing → RiseInOrder ws standing xs
-    → ((r : Run) → IsRun ws r → slice_index xs r.first ≡ r.height → ⊥) → (i : ℕ) → slice_index ws i ≤ slice_index xs i
+    → ((r : Run) → IsRunOf ws r → slice_index xs r.first ≡ r.height → ⊥) → (i : ℕ) → slice_index ws i ≤ slice_index xs i
 all_risen ws standing xs apart rise none i = elim (cases_lt (slice_index xs i) (slice_index ws i)) [
   | inl lower ↦
       let under = run_at ws (slice_index xs i) i lower in
@@ -229,7 +232,7 @@ all_risen ws standing xs apart rise none i = elim (cases_lt (slice_index xs i) (
 ]
 
 -- the place that a rank counts from or to
-rank_place : (ws standing : List ℕ) (r : Run) → AreApart ws standing → IsRun ws r → (p : ℕ)
+rank_place : (ws standing : List ℕ) (r : Run) → AreApart ws standing → IsRunOf ws r → (p : ℕ)
     × ((rank standing r + p ≡ length standing) ⊎ (rank standing r ≡ length standing + p))
     × (((r.after < length standing) × (p ≡ r.after)) ⊎ ((r.after ≡ length standing) × (p ≡ r.first)))
 rank_place ws standing r apart run =
@@ -297,7 +300,7 @@ rank_place ws standing r apart run =
     ]
 
 -- two runs of one rank have a part in common
-share_part : (ws standing : List ℕ) (r s : Run) → AreApart ws standing → IsRun ws r → IsRun ws s → r.height ≤ s.height
+share_part : (ws standing : List ℕ) (r s : Run) → AreApart ws standing → IsRunOf ws r → IsRunOf ws s → r.height ≤ s.height
     → rank standing r ≡ rank standing s → (i : ℕ) × IsIn r i × IsIn s i
 share_part ws standing r s apart run other lower ranks =
     let one = rank_place ws standing r apart run in
@@ -344,22 +347,22 @@ share_part ws standing r s apart run other lower ranks =
     ]
 
 -- between a run and itself at a height below which it is the same, no other run comes
-between : (ws standing : List ℕ) (r s : Run) (top h : ℕ) → AreApart ws standing → IsRun ws r → IsRun ws s
+between : (ws standing : List ℕ) (r s : Run) (top h : ℕ) → AreApart ws standing → IsRunOf ws r → IsRunOf ws s
     → KeepsUpTo ws standing r top → r.height ≤ h → h < top → ComesNoLater standing r s
-    → ComesNoLater standing s (raised r h)
+    → ComesNoLater standing s (at_height r h)
     → (r.first ≡ s.first) × (r.after ≡ s.after) × (r.height ≤ s.height) × (s.height ≤ h)
 between ws standing r s top h apart run other keeps from to one two =
     let kept = keeps h from to in
-    let grows : growth standing (raised r h) ≡ growth standing r = omega (arith, kept.1, kept.2) in
-    let ranks : rank standing (raised r h) ≡ rank standing r =
+    let grows : growth standing (at_height r h) ≡ growth standing r = omega (arith, kept.1, kept.2) in
+    let ranks : rank standing (at_height r h) ≡ rank standing r =
     let n = length standing in
     let R : ℕ → ℕ → ℕ = λ b c. if c == 1 then rank_at n b r.first else rank_at n c r.after in
     ap₂ R kept.1 kept.2 in
     let back : CostsNoMore standing s r =
-    let P : ℕ → Type 0 = λ g. growth standing s * parts_of r + 2 * parts_of s ≤ g * parts_of s + 2 * parts_of r in
+    let P : ℕ → Type 0 = λ g. growth standing s * run_length r + 2 * run_length s ≤ g * run_length s + 2 * run_length r in
     subst P grows two.0 in
-    let forth : CostsNoMore standing (raised r h) s =
-    let P : ℕ → Type 0 = λ g. g * parts_of s + 2 * parts_of r ≤ growth standing s * parts_of r + 2 * parts_of s in
+    let forth : CostsNoMore standing (at_height r h) s =
+    let P : ℕ → Type 0 = λ g. g * run_length s + 2 * run_length r ≤ growth standing s * run_length r + 2 * run_length s in
     subst P (sym grows) one.0 in
     let first = one.1 back in
     let second = two.1 forth in
@@ -367,8 +370,8 @@ between ws standing r s top h apart run other keeps from to one two =
     let within : s.height ≤ h = second.1 (omega (arith, first.0, ranks)) in
     let part = share_part ws standing r s apart run other higher (omega (arith, first.0, second.0, ranks)) in
     let level = (keeps s.height higher (omega (arith, within, to))).0 in
-    let out = nested ws (raised r s.height) s part.0 level other part.1 part.2 (omega arith) in
-    let in_it = nested ws s (raised r s.height) part.0 other level part.2 part.1 (omega arith) in
+    let out = nested ws (at_height r s.height) s part.0 level other part.1 part.2 (omega arith) in
+    let in_it = nested ws s (at_height r s.height) part.0 other level part.2 part.1 (omega arith) in
     (omega (arith, out.0, in_it.0), omega (arith, out.1, in_it.1), higher, within)
 
 -- the parts of a run rise to a height
@@ -385,7 +388,7 @@ in_or_out r i = elim (cases_lt i r.first) [
   ]
 ]
 
-same_run : (r s : Run) → r.first ≡ s.first → r.after ≡ s.after → raised r s.height ≡ s
+same_run : (r s : Run) → r.first ≡ s.first → r.after ≡ s.after → at_height r s.height ≡ s
 same_run r s first after =
     ap₂ (λ f a. let run : Run = record { first = f; after = a; height = s.height } in run) first after
 
@@ -411,9 +414,9 @@ rise_on ws standing xs ys best top h apart rise first keeps to from raise r s i 
             let low : best.height ≤ s.height = omega (arith, now, flat ws standing xs best apart rise first j inside) in
             let below : s.height < h = omega (arith, risen, raise.0 j inside.0 inside.1) in
             let level = (keeps s.height low (omega (arith, below, to))).0 in
-            let out = nested ws (raised best s.height) s j level other inside there (omega arith) in
-            let in_it = nested ws s (raised best s.height) j other level there inside (omega arith) in
-            let same : raised best s.height ≡ s = same_run best s (omega (arith, out.0, in_it.0))
+            let out = nested ws (at_height best s.height) s j level other inside there (omega arith) in
+            let in_it = nested ws s (at_height best s.height) j other level there inside (omega arith) in
+            let same : at_height best s.height ≡ s = same_run best s (omega (arith, out.0, in_it.0))
             (omega (arith, out.1, in_it.1)) in
             let P : Run → Type 0 = λ t. ComesNoLater standing r t in
             elim (cases_lt r.height (slice_index xs i)) [
@@ -430,9 +433,9 @@ rise_on ws standing xs ys best top h apart rise first keeps to from raise r s i 
 pub least_ragged : (ws standing xs ys : List ℕ) (best : Run) (top h room : ℕ) → AreApart ws standing
     → RiseInOrder ws standing xs → IsFirstRun ws standing xs (length ws) best → KeepsUpTo ws standing best top → h < top
     → best.height ≤ h → IsRaised best h xs ys → AllZip IsAtMost ys ws → sum ys ≤ room
-    → room < sum ys + parts_of best → IsLeastRagged ws standing room ys (raised best h)
+    → room < sum ys + run_length best → IsLeastRagged ws standing room ys (at_height best h)
 least_ragged ws standing xs ys best top h room apart rise first keeps to from raise within fits full =
-    let end = raised best h in
+    let end = at_height best h in
     let kept = (keeps h from to).0 in
     let front = first_in ws best first.run in
     let next = rise_on ws standing xs ys best top h apart rise first keeps (omega (arith, to)) from raise in

@@ -5,9 +5,8 @@ use Rattle.std.proofs.Common.{mul-le-mul_right}
 use Rattle.std.proofs.Math.Nat.{mul_assoc, mul_comm, le_of_mul-le-mul_left}
 use Rattle.std.proofs.lemmas.{Bool.cases_lt, Bool.Decides.nat_tests, List.get_or_past}
 use Rattle.rtui_split.specs.declared.smooth.Run.{Run}
-use Rattle.rtui_split.specs.Ragged.{IsRun, parts_of, beside, growth_before, growth_behind, growth, rank_at, rank}
+use Rattle.rtui_split.specs.Ragged.{IsRunOf, run_length, beside, growth_before, growth_behind, growth, rank_at, rank}
 use Rattle.rtui_split.specs.Ragged.{ComesNoLater}
-use Rattle.rtui_split.specs.Inner.{StartsAt}
 
 abbrev pub IsIn : Run → ℕ → Type 0
 IsIn r i = (r.first ≤ i) × (i < r.after)
@@ -23,13 +22,13 @@ in_list xs i h some = elim (cases_lt i (length xs)) [
   | inr past ↦ absurd (omega (arith, some, get_or_past xs i 0 past))
 ]
 
-pub within_list : (ws : List ℕ) (r : Run) → IsRun ws r → r.after ≤ length ws
+pub within_list : (ws : List ℕ) (r : Run) → IsRunOf ws r → r.after ≤ length ws
 within_list ws r run =
     let some = run.some in
     omega (arith, in_list ws (r.after - 1) r.height (run.wish (r.after - 1) (omega arith) (omega arith)))
 
 -- of two runs with a part in common the higher one lies in the other
-pub nested : (ws : List ℕ) (r s : Run) (i : ℕ) → IsRun ws r → IsRun ws s → IsIn r i → IsIn s i → r.height ≤ s.height
+pub nested : (ws : List ℕ) (r s : Run) (i : ℕ) → IsRunOf ws r → IsRunOf ws s → IsIn r i → IsIn s i → r.height ≤ s.height
     → (r.first ≤ s.first) × (s.after ≤ r.after)
 nested ws r s i run other here there lower = (
   elim (cases_lt s.first r.first) [
@@ -92,7 +91,7 @@ behind_few standing r within = elim (cases_lt r.after (length standing)) [
   | inr edge ↦ omega (arith, behind_edge standing r (omega (arith, edge, within)))
 ]
 
-before_later : (ws standing : List ℕ) (r s : Run) → AreApart ws standing → IsRun ws r → IsRun ws s → r.height ≤ s.height
+before_later : (ws standing : List ℕ) (r s : Run) → AreApart ws standing → IsRunOf ws r → IsRunOf ws s → r.height ≤ s.height
     → r.first ≤ s.first → s.after ≤ r.after
     → (growth_before standing r ≤ growth_before standing s) × (r.first < s.first → growth_before standing s ≡ 2)
 before_later ws standing r s apart run other lower first after =
@@ -122,7 +121,7 @@ before_later ws standing r s apart run other lower first after =
       shrunk,
     )
 
-behind_later : (ws standing : List ℕ) (r s : Run) → AreApart ws standing → IsRun ws r → IsRun ws s → r.height ≤ s.height
+behind_later : (ws standing : List ℕ) (r s : Run) → AreApart ws standing → IsRunOf ws r → IsRunOf ws s → r.height ≤ s.height
     → r.first ≤ s.first → s.after ≤ r.after
     → (growth_behind standing r ≤ growth_behind standing s) × (s.after < r.after → growth_behind standing s ≡ 2)
 behind_later ws standing r s apart run other lower first after =
@@ -239,13 +238,13 @@ rank_le n b (suc (suc zero)) f g x y few less first after before behind sides = 
 rank_le n b (suc (suc (suc c))) f g x y few less first after before behind sides = absurd (omega (arith, less))
 
 -- of two runs with a part in common the lower one comes first
-pub order_nested : (ws standing : List ℕ) (r s : Run) (i : ℕ) → AreApart ws standing → IsRun ws r → IsRun ws s → IsIn r i
+pub order_nested : (ws standing : List ℕ) (r s : Run) (i : ℕ) → AreApart ws standing → IsRunOf ws r → IsRunOf ws s → IsIn r i
     → IsIn s i → r.height ≤ s.height → ComesNoLater standing r s
 order_nested ws standing r s i apart run other here there lower =
     let n = s.after - s.first in
     let d = (s.first - r.first) + (r.after - s.after) in
     let within = nested ws r s i run other here there lower in
-    let long : parts_of r ≡ n + d = omega (arith, within, other.some) in
+    let long : run_length r ≡ n + d = omega (arith, within, other.some) in
     let left = before_later ws standing r s apart run other lower within.0 within.1 in
     let right = behind_later ws standing r s apart run other lower within.0 within.1 in
     let sides : (d ≡ 0) ⊎ (2 ≤ growth standing s) = elim (cases_lt r.first s.first) [
@@ -276,19 +275,3 @@ order_nested ws standing r s i apart run other here there lower =
             λ _. lower,
           ),
     )
-
--- a run from what its walk finds
-pub run_made : (ws : List ℕ) (height first after : ℕ) → StartsAt ws height first → first ≤ after
-    → ((k : ℕ) → first ≤ k → k < after → height < slice_index ws k) → slice_index ws after ≤ height
-    → IsRun ws (record { first = first; after = after; height = height })
-run_made ws height first after starts from wish behind =
-    let P : ℕ → Type 0 = λ n. height < slice_index ws n in
-    record {
-      some = elim (cases_lt first after) [
-        | inl longer ↦ longer
-        | inr none ↦ absurd (omega (arith, behind, let same : first ≡ after = omega (arith, none, from) in subst P same starts.0))
-      ];
-      wish = wish;
-      before = starts.1;
-      behind = behind;
-    }

@@ -9,7 +9,7 @@ use Rattle.std.specs.List.{AllZip}
 use Rattle.rtui_split.specs.declared.{part.Part.Part, draft.Draft.Draft, smooth.Run.Run}
 use Rattle.rtui_split.specs.Shares.{if_in, if_before}
 use Rattle.rtui_split.specs.Ragged.{IsAtMost}
-use Rattle.rtui_split.specs.Ragged.{IsRun, ComesNoLater}
+use Rattle.rtui_split.specs.Ragged.{IsRunOf, ComesNoLater}
 use Rattle.rtui_split.specs.Inner.{tries, KeepsUpTo, IsFirstRun, StartsAt}
 use Rattle.rtui_split.proofs.RunLemmas.{IsIn, AreApart, within_list, order_nested}
 use Rattle.rtui_split.proofs.RiseLemmas.{order_on}
@@ -95,7 +95,7 @@ sum_at_most (x ∷ xs) (y ∷ ys) few = omega (
 )
 
 -- no part rises above its wish
-pub keeps_within : (ws standing : List ℕ) (r : Run) (top h i : ℕ) → IsRun ws r → KeepsUpTo ws standing r top → h ≤ top
+pub keeps_within : (ws standing : List ℕ) (r : Run) (top h i : ℕ) → IsRunOf ws r → KeepsUpTo ws standing r top → h ≤ top
     → IsIn r i → h ≤ slice_index ws i
 keeps_within ws standing r top h i run keeps to here = elim (cases_lt r.height h) [
   | inl higher ↦ omega (
@@ -107,13 +107,13 @@ keeps_within ws standing r top h i run keeps to here = elim (cases_lt r.height h
 ]
 
 abbrev pub NoneBefore : List ℕ → List ℕ → ℕ → Type 0
-NoneBefore ws xs to = (r : Run) → IsRun ws r → r.first < to → slice_index xs r.first ≡ r.height → ⊥
+NoneBefore ws xs to = (r : Run) → IsRunOf ws r → r.first < to → slice_index xs r.first ≡ r.height → ⊥
 
 -- a run that begins here at its height is one more
-later_or_here : (ws standing xs : List ℕ) (new r : Run) (i : ℕ) → AreApart ws standing → IsRun ws new → IsRun ws r
+later_or_here : (ws standing xs : List ℕ) (new r : Run) (i : ℕ) → AreApart ws standing → IsRunOf ws new → IsRunOf ws r
     → r.first ≡ i → r.height ≡ slice_index xs i → ComesNoLater standing new r
-    → ((s : Run) → IsRun ws s → s.first < i → slice_index xs s.first ≡ s.height → ComesNoLater standing new s)
-    → (s : Run) → IsRun ws s → s.first < i + 1 → slice_index xs s.first ≡ s.height → ComesNoLater standing new s
+    → ((s : Run) → IsRunOf ws s → s.first < i → slice_index xs s.first ≡ s.height → ComesNoLater standing new s)
+    → (s : Run) → IsRunOf ws s → s.first < i + 1 → slice_index xs s.first ≡ s.height → ComesNoLater standing new s
 later_or_here ws standing xs new r i apart fresh run at high order before s other from stands = elim (cases_lt s.first i) [
   | inl less ↦ before s other less stands
   | inr last ↦
@@ -121,20 +121,22 @@ later_or_here ws standing xs new r i apart fresh run at high order before s othe
       let P : ℕ → Type 0 = λ n. slice_index xs n ≡ s.height in
       let some = run.some in
       let any = other.some in
+      let here : IsIn r i = (omega (arith, at), omega (arith, at)) in
+      let there : IsIn s i = (omega (arith, same), omega (arith, same)) in
       order_on ws standing new r s fresh run other order
-      (order_nested ws standing r s i apart run other (omega (arith, at), omega (arith, at)) (omega (arith, same), omega (arith, same))
+      (order_nested ws standing r s i apart run other here there
       (omega (arith, high, subst P (sym same) stands)))
 ]
 
-pub next_more : (ws standing xs : List ℕ) (best : Option Run) (r new : Run) (i : ℕ) → AreApart ws standing → IsRun ws r
+pub next_more : (ws standing xs : List ℕ) (best : Option Run) (r new : Run) (i : ℕ) → AreApart ws standing → IsRunOf ws r
     → r.first ≡ i → r.height ≡ slice_index xs i → ComesNoLater standing new r
     → MatchOption best (new ≡ r) (λ other. ComesNoLater standing new other × ((new ≡ r) ⊎ (new ≡ other)))
     → MatchOption best (NoneBefore ws xs i) (IsFirstRun ws standing xs i) → IsFirstRun ws standing xs (i + 1) new
 next_more ws standing xs None r new i apart run at high order is before =
-    let P : Run → Type 0 = λ t. IsRun ws t in
+    let P : Run → Type 0 = λ t. IsRunOf ws t in
     let Q : Run → Type 0 = λ t. slice_index xs t.first ≡ t.height in
     let R : ℕ → Type 0 = λ n. slice_index xs n ≡ r.height in
-    let fresh : IsRun ws new = subst P (sym is) run in
+    let fresh : IsRunOf ws new = subst P (sym is) run in
     record {
       run = fresh;
       stands = subst Q (sym is) (subst R (sym at) (sym high));
@@ -142,10 +144,10 @@ next_more ws standing xs None r new i apart run at high order is before =
           (λ s other from stands. absurd (before s other from stands));
     }
 next_more ws standing xs (Some best) r new i apart run at high order is before =
-    let P : Run → Type 0 = λ t. IsRun ws t in
+    let P : Run → Type 0 = λ t. IsRunOf ws t in
     let Q : Run → Type 0 = λ t. slice_index xs t.first ≡ t.height in
     let R : ℕ → Type 0 = λ n. slice_index xs n ≡ r.height in
-    let fresh : IsRun ws new = elim is.1 [
+    let fresh : IsRunOf ws new = elim is.1 [
       | inl now ↦ subst P (sym now) run
       | inr old ↦ subst P (sym old) before.run
     ] in
@@ -160,7 +162,7 @@ next_more ws standing xs (Some best) r new i apart run at high order is before =
     }
 
 -- no run begins here at its height
-none_here : (ws xs : List ℕ) (i : ℕ) → (StartsAt ws (slice_index xs i) i → ⊥) → (s : Run) → IsRun ws s → s.first < i + 1
+none_here : (ws xs : List ℕ) (i : ℕ) → (StartsAt ws (slice_index xs i) i → ⊥) → (s : Run) → IsRunOf ws s → s.first < i + 1
     → slice_index xs s.first ≡ s.height → s.first < i
 none_here ws xs i none s run from stands = elim (cases_lt s.first i) [
   | inl less ↦ less
@@ -188,7 +190,7 @@ next_same ws standing xs (Some best) i none before = record {
 -- no run begins behind the last part
 pub next_out : (ws standing xs : List ℕ) (best : Option Run) (i n : ℕ) → n ≤ i → length ws ≡ n
     → MatchOption best (NoneBefore ws xs i) (IsFirstRun ws standing xs i)
-    → MatchOption best ((r : Run) → IsRun ws r → slice_index xs r.first ≡ r.height → ⊥) (IsFirstRun ws standing xs n)
+    → MatchOption best ((r : Run) → IsRunOf ws r → slice_index xs r.first ≡ r.height → ⊥) (IsFirstRun ws standing xs n)
 next_out ws standing xs None i n out long before = λ s run stands.
     before s run (omega (arith, out, long, run.some, within_list ws s run)) stands
 next_out ws standing xs (Some best) i n out long before = record {

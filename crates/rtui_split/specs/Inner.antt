@@ -5,7 +5,7 @@ use Rattle.rtui_layout.specs.declared.constraint.Constraint.{Constraint}
 use Rattle.rtui_split.specs.declared.{part.Part.Part, draft.Draft.Draft, smooth.Run.Run}
 use Rattle.rtui_split.specs.Wishes.{patience, IsStretchable}
 use Rattle.rtui_split.specs.Shares.{if_in, constraints_of}
-use Rattle.rtui_split.specs.Ragged.{IsRun, ComesNoLater, growth_before, growth_behind}
+use Rattle.rtui_split.specs.Ragged.{IsRunOf, ComesNoLater, growth_before, growth_behind}
 
 -- what the parts of this turn try together, each at most its wish
 abbrev pub tries_in : ℕ → List Part → List Draft → ℕ
@@ -41,8 +41,8 @@ abbrev pub tries : List Draft → List ℕ
 tries ds = map (λ d. d.tried) ds
 
 -- the same run at another height
-abbrev pub raised : Run → ℕ → Run
-raised r h = record { first = r.first; after = r.after; height = h }
+abbrev pub at_height : Run → ℕ → Run
+at_height r h = record { first = r.first; after = r.after; height = h }
 
 -- a run begins at this place, if it is at this height
 abbrev pub StartsAt : List ℕ → ℕ → ℕ → Type 0
@@ -52,13 +52,13 @@ StartsAt wishes height i = (height < slice_index wishes i)
 -- a run whose first part stands at its height, and no such run comes before it, of those that begin before a
 -- place
 pub record IsFirstRun (wishes standing shares : List ℕ) (to : ℕ) (r : Run) : Type 0 where
-  pub run : IsRun wishes r
+  pub run : IsRunOf wishes r
   pub stands : slice_index shares r.first ≡ r.height
-  pub first : (s : Run) → IsRun wishes s → s.first < to → slice_index shares s.first ≡ s.height
+  pub first : (s : Run) → IsRunOf wishes s → s.first < to → slice_index shares s.first ≡ s.height
       → ComesNoLater standing r s
 
 -- below this height it is a run with the same neighbours
 abbrev pub KeepsUpTo : List ℕ → List ℕ → Run → ℕ → Type 0
-KeepsUpTo wishes standing r top = (h : ℕ) → r.height ≤ h → h < top → IsRun wishes (raised r h)
-    × (growth_before standing (raised r h) ≡ growth_before standing r)
-    × (growth_behind standing (raised r h) ≡ growth_behind standing r)
+KeepsUpTo wishes standing r top = (h : ℕ) → r.height ≤ h → h < top → IsRunOf wishes (at_height r h)
+    × (growth_before standing (at_height r h) ≡ growth_before standing r)
+    × (growth_behind standing (at_height r h) ≡ growth_behind standing r)

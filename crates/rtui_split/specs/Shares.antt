@@ -123,8 +123,9 @@ IsFilled legacy parts room sizes = (even : Bool) × (level : ℕ)
     → room < sum_by (sized (record { legacy = legacy; even = even }) (level + 1048576)) parts)
     × (even ≡ (weights legacy parts == 0))
 
--- parts of this turn share so much room so that neighbours differ least: each has its share at least, and what
--- is left over, less than a unit for each part of the run that has no room, goes to some of them
+-- parts of this turn share so much room so that neighbours differ least: each has at least its share,
+-- and what is left over goes to some of them, which is less than a unit for each part of the run that
+-- has no room
 abbrev pub DifferLeast : ℕ → ℕ → List Part → List ℕ → Type 0
 DifferLeast t room ps sizes = (shares : List ℕ) × (end : Run)
     × IsLeastRagged (map (if_in t) ps) (map (if_before t) ps) room shares end × AllZip IsAtMost shares sizes

@@ -11,7 +11,8 @@ use Rattle.rtui_layout.specs.declared.flex.Flex.TheVariants.{Legacy, Start, End,
 use Rattle.rtui_layout.specs.declared.flex.Flex.TheVariants.{SpaceBetween, SpaceAround, SpaceEvenly}
 use Rattle.rtui_split.specs.declared.{flex.Spaces.Spaces, flex.Room.Room, part.Part.Part}
 use Rattle.rtui_split.specs.Shares.{wanted_before, sized, IsGranted, IsModest}
-use Rattle.rtui_split.specs.Shares.{IsDenied, TakeNothing, TakeNothingIn, weights, IsLevelled, ComeFirst, DifferLeast}
+use Rattle.rtui_split.specs.Shares.{IsDenied, TakeNothing, TakeNothingIn, weights, IsLevelled, ComeFirst}
+use Rattle.rtui_split.specs.Shares.{DifferLeast}
 use Rattle.rtui_split.specs.Inner.{IsStretched}
 use Rattle.rtui_split.specs.Cut.{length_of}
 

@@ -2,10 +2,10 @@
 ghost use Rattle.std.specs.Prelude.{ℕ, ◌≡◌, ◌≤◌, ◌<◌, ◌+◌, ◌-◌, length, map, sum, slice_index, List};
 ghost use Rattle.std.specs.Prelude.{IsTrue, IsFalse, MatchOption, ◌⊎◌, ◌*◌};
 ghost use Rattle.rtui_split.specs.Shares.{if_in, if_before, wanted_in};
-ghost use Rattle.rtui_split.specs.Ragged.{IsRun, parts_of, beside, growth_before, growth_behind};
+ghost use Rattle.rtui_split.specs.Ragged.{IsRunOf, run_length, beside, growth_before, growth_behind};
 ghost use Rattle.rtui_split.specs.Ragged.{growth, rank_at, rank, CostsNoMore, ComesNoLater};
 ghost use Rattle.rtui_split.specs.Ragged.{IsLeastRagged};
-ghost use Rattle.rtui_split.specs.Inner.{tries, raised, IsFirstRun, KeepsUpTo, StartsAt};
+ghost use Rattle.rtui_split.specs.Inner.{tries, at_height, IsFirstRun, KeepsUpTo, StartsAt};
 
 use crate::draft::{Draft, try_all};
 use crate::part::{Part, turn_of};
@@ -74,7 +74,7 @@ fn side_behind(parts: &[Part], turn: usize, run: Run) -> u64
 
 impl Run {
     fn length(self) -> u64
-        ensures { result ≡ parts_of self }
+        ensures { result ≡ run_length self }
     {
         self.after.saturating_sub(self.first) as u64
     }
@@ -145,7 +145,7 @@ fn starts_at(parts: &[Part], turn: usize, height: u64, at: usize) -> bool
 // The run at this height that begins at this place.
 fn run_from(parts: &[Part], turn: usize, height: u64, first: usize) -> Run
     requires { StartsAt (map (if_in turn) parts.now) height first }
-    ensures run { IsRun (map (if_in turn) parts.now) result }
+    ensures run { IsRunOf (map (if_in turn) parts.now) result }
     ensures first { result.first ≡ first }
     ensures height { result.height ≡ height }
 {
@@ -182,7 +182,7 @@ fn first_of(parts: &[Part], turn: usize, best: Option<Run>, run: Run) -> Run
 fn next_run(parts: &[Part], turn: usize, drafts: &[Draft]) -> Option<Run>
     requires { length drafts.now ≡ length parts.now }
     ensures { MatchOption result
-        ((r : Run) → IsRun (map (if_in turn) parts.now) r
+        ((r : Run) → IsRunOf (map (if_in turn) parts.now) r
         → slice_index (tries drafts.now) r.first ≡ r.height → ⊥)
         (IsFirstRun (map (if_in turn) parts.now) (map (if_before turn) parts.now)
         (tries drafts.now) (length parts.now)) }
@@ -213,7 +213,7 @@ fn bounded(top: u64, height: u64, beside: u64) -> u64
 
 // The height below which a run keeps its parts and its neighbours.
 fn top_of(parts: &[Part], turn: usize, run: Run) -> u64
-    requires { IsRun (map (if_in turn) parts.now) run }
+    requires { IsRunOf (map (if_in turn) parts.now) run }
     ensures higher { run.height < result }
     ensures keeps { KeepsUpTo (map (if_in turn) parts.now) (map (if_before turn) parts.now) run
         result }
@@ -239,7 +239,7 @@ fn raise(run: Run, height: u64, drafts: &mut [Draft])
     ensures others { (i : ℕ) → (i < run.first) ⊎ (run.after ≤ i)
         → slice_index (tries drafts.new) i ≡ slice_index (tries drafts.old) i }
     ensures all { sum (tries drafts.new)
-        ≡ sum (tries drafts.old) + (height - run.height) * parts_of run }
+        ≡ sum (tries drafts.old) + (height - run.height) * run_length run }
 {
     for i in run.first..run.after {
         drafts[i].tried = height;

@@ -1,12 +1,12 @@
-use Rattle.std.proofs.Common.{ℕ, ◌≡◌, ◌≤◌, ◌<◌, ◌+◌, ◌-◌, ◌*◌, ◌/◌, inl, inr, map, length, slice_index, ap, sym, subst, ◌∙◌, arith}
-use Rattle.std.proofs.Common.{mul-le-mul_right}
+use Rattle.std.proofs.Common.{ℕ, ◌≡◌, ◌≤◌, ◌<◌, ◌+◌, ◌-◌, ◌*◌, ◌/◌, inl, inr, map, length, slice_index, ap}
+use Rattle.std.proofs.Common.{sym, subst, ◌∙◌, arith, mul-le-mul_right}
 use Rattle.std.proofs.Math.Nat.{div-mul-le_self, lt-div-mul-add}
 use Rattle.std.proofs.lemmas.List.{length-map}
 use Rattle.std.proofs.lemmas.List.Sums.{sum-map}
 use Rattle.rtui_split.specs.declared.{draft.Draft.Draft}
 use Rattle.rtui_split.specs.Shares.{if_in, if_before}
-use Rattle.rtui_split.specs.Ragged.{parts_of}
-use Rattle.rtui_split.specs.Inner.{tries, raised, IsFirstRun}
+use Rattle.rtui_split.specs.Ragged.{run_length}
+use Rattle.rtui_split.specs.Inner.{tries, at_height, IsFirstRun}
 use Rattle.rtui_split.proofs.RunLemmas.{within_list}
 use Rattle.rtui_split.proofs.RiseLemmas.{flat, rise_on, least_ragged, all_risen, in_or_out}
 use Rattle.rtui_split.proofs.WalkLemmas.{apart, tries_nothing, sum_of_nothing, keeps_within, each_at_most, sum_at_most}
@@ -66,8 +66,9 @@ rising-preserved c =
     let keeps = c.top_of-top.ensures.keeps in
     let to : h ≤ c.top_of-top.result = omega arith in
     let few : by * n ≤ c.rising.left / n * n = mul-le-mul_right n (omega arith) in
-    let same : (h - run.height) * parts_of run ≡ by * n =
-    ap (λ x. x * parts_of run) (let e : h - run.height ≡ by = omega arith in e) ∙ ap (λ x. by * x) (sym c.length-length.ensures) in
+    let risen : h - run.height ≡ by = omega arith in
+    let same : (h - run.height) * run_length run ≡ by * n =
+    ap (λ x. x * run_length run) risen ∙ ap (λ x. by * x) (sym c.length-length.ensures) in
     record {
       order = rise_on ws standing xs ys run c.top_of-top.result h (apart c.args.turn parts) c.rising.invariant.order first keeps
           to (omega arith) (c.raise.ensures.inside, c.raise.ensures.others);
@@ -107,8 +108,9 @@ returns-then-run-by c =
     let some = first.run.some in
     let quotient : by ≡ c.rising.left / n = omega arith in
     let product : by * n ≡ c.rising.left / n * n = ap (λ x. x * n) quotient in
-    let same : (h - run.height) * parts_of run ≡ by * n =
-    ap (λ x. x * parts_of run) (let e : h - run.height ≡ by = omega arith in e) ∙ ap (λ x. by * x) (sym c.length-length.ensures) in
+    let risen : h - run.height ≡ by = omega arith in
+    let same : (h - run.height) * run_length run ≡ by * n =
+    ap (λ x. x * run_length run) risen ∙ ap (λ x. by * x) (sym c.length-length.ensures) in
     let within : (i : ℕ) → slice_index ys i ≤ slice_index ws i = λ i. elim (in_or_out run i) [
       | inl inside ↦ omega (
         arith,
@@ -122,7 +124,7 @@ returns-then-run-by c =
       length-map c.raise.new.drafts (λ (d : Draft). d.tried),
       length-map parts (if_in c.args.turn),
     ) in (
-      raised run h,
+      at_height run h,
       least_ragged ws standing xs ys run c.top_of-top.result h c.args.room (apart c.args.turn parts)
           c.rising.invariant.order first keeps to (omega arith) (c.raise.ensures.inside, c.raise.ensures.others)
           (each_at_most ys ws long within)
