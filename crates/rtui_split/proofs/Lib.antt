@@ -12,4 +12,5 @@ pub mod ShareLemmas
 pub mod SplitLemmas
 pub mod StretchLemmas
 pub mod TryLemmas
+pub mod UniqueLemmas
 pub mod WalkLemmas

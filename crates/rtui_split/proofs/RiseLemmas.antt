@@ -152,16 +152,14 @@ abbrev pub RiseInOrder : List ℕ → List ℕ → List ℕ → Type 0
 RiseInOrder ws standing xs = (r s : Run) (i j : ℕ) → IsRunOf ws r → IsRunOf ws s → IsIn r i → IsIn s j
     → ComesNoLater standing r s → s.height < slice_index xs j → r.height < slice_index xs i
 
-pub itself : (ws standing : List ℕ) (r : Run) → AreApart ws standing → IsRunOf ws r → ComesNoLater standing r r
-itself ws standing r apart run =
-    let some = run.some in
-    order_nested ws standing r r r.first apart run run (omega arith, some) (omega arith, some) (omega arith)
+pub itself : (standing : List ℕ) (r : Run) → ComesNoLater standing r r
+itself standing r = (omega arith, λ _. (omega arith, λ _. omega arith))
 
 -- if a part of a run has no more than its height, none has
 low_at : (ws standing xs : List ℕ) (r : Run) (i j : ℕ) → AreApart ws standing → RiseInOrder ws standing xs → IsRunOf ws r
     → IsIn r i → IsIn r j → slice_index xs i ≤ r.height → slice_index xs j ≤ r.height
 low_at ws standing xs r i j apart rise run here there low = elim (cases_lt r.height (slice_index xs j)) [
-  | inl risen ↦ absurd (omega (arith, low, rise r r i j run run here there (itself ws standing r apart run) risen))
+  | inl risen ↦ absurd (omega (arith, low, rise r r i j run run here there (itself standing r) risen))
   | inr level ↦ level
 ]
 
@@ -183,7 +181,7 @@ lowest ws standing xs apart rise (suc n) r run small low = elim (cases_lt (slice
       let found = lowest ws standing xs apart rise n s under.1 (omega (arith, under.3, lower, small)) own in
       let before = order_nested ws standing s r r.first apart under.1 run under.2 here (omega (arith, under.3, lower)) in
       (found.0, found.1, found.2, order_on ws standing found.0 s r found.1 under.1 run found.3 before)
-  | inr same ↦ (r, run, omega (arith, same, low), itself ws standing r apart run)
+  | inr same ↦ (r, run, omega (arith, same, low), itself standing r)
 ]
 
 -- the first run of those whose parts stand at their height comes before each that hasn't risen

@@ -3,16 +3,11 @@ ghost use Rattle.std.specs.Prelude.{◌≡◌, ◌-◌, ◌≤◌, ◌<◌, ◌+
 ghost use Rattle.std.specs.Prelude.{length, sum, sum_by, map, min, All, IsTrue, IsFalse};
 ghost use Rattle.std.specs.List.{AllZip};
 ghost use Rattle.rtui_split.specs.declared.{draft.Draft.Draft, smooth.Run.Run};
-ghost use Rattle.rtui_split.specs.Wishes.{patience};
+ghost use Rattle.rtui_split.specs.{Wishes.patience, Ragged.IsLeastRagged, Ragged.IsAtMost};
 ghost use Rattle.rtui_split.specs.Shares.{if_before, if_in, wanted_before, wanted_in, capped_in};
-ghost use Rattle.rtui_split.specs.Ragged.{IsLeastRagged};
-ghost use Rattle.rtui_split.specs.Inner.{tries, tries_in};
-ghost use Rattle.rtui_split.specs.Shares.{IsOfTurn, constraints_of};
-ghost use Rattle.rtui_split.specs.Inner.{IsStretchableAt, IsStretched};
-ghost use Rattle.rtui_split.specs.Shares.{TriesItsWish, ComeFirst};
-ghost use Rattle.rtui_split.specs.Inner.{HaveTried};
-ghost use Rattle.rtui_split.specs.Shares.{sized, Settled, IsShared};
-ghost use Rattle.rtui_split.specs.Ragged.{IsAtMost};
+ghost use Rattle.rtui_split.specs.Shares.{IsOfTurn, constraints_of, TriesItsWish, ComeFirst, sized};
+ghost use Rattle.rtui_split.specs.Shares.{Settled, IsShared};
+ghost use Rattle.rtui_split.specs.Inner.{tries, tries_in, HaveTried, IsStretchableAt, IsStretched};
 
 use crate::cap::highest_level;
 use crate::draft::{Draft, try_all};

@@ -212,7 +212,7 @@ fn bounded(top: u64, height: u64, beside: u64) -> u64
 }
 
 // The height below which a run keeps its parts and its neighbours.
-fn top_of(parts: &[Part], turn: usize, run: Run) -> u64
+fn ceiling_of(parts: &[Part], turn: usize, run: Run) -> u64
     requires { IsRunOf (map (if_in turn) parts.now) run }
     ensures higher { run.height < result }
     ensures keeps { KeepsUpTo (map (if_in turn) parts.now) (map (if_before turn) parts.now) run
@@ -257,7 +257,7 @@ pub(crate) fn smooth(parts: &[Part], turn: usize, room: u64, drafts: &mut [Draft
     let mut left = room;
     'rising: while let Some(run) = next_run(parts, turn, drafts) {
         let length = run.length();
-        let top = top_of(parts, turn, run);
+        let top = ceiling_of(parts, turn, run);
         let by = (top - run.height).min(left / length);
         raise(run, run.height + by, drafts);
         left -= by * length;

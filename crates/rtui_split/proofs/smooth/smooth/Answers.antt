@@ -63,20 +63,20 @@ rising-preserved c =
     let n = c.length-length.result in
     let h = run.height + by in
     let ys = tries c.raise.new.drafts in
-    let keeps = c.top_of-top.ensures.keeps in
-    let to : h ≤ c.top_of-top.result = omega arith in
+    let keeps = c.ceiling_of-top.ensures.keeps in
+    let to : h ≤ c.ceiling_of-top.result = omega arith in
     let few : by * n ≤ c.rising.left / n * n = mul-le-mul_right n (omega arith) in
     let risen : h - run.height ≡ by = omega arith in
     let same : (h - run.height) * run_length run ≡ by * n =
     ap (λ x. x * run_length run) risen ∙ ap (λ x. by * x) (sym c.length-length.ensures) in
     record {
-      order = rise_on ws standing xs ys run c.top_of-top.result h (apart c.args.turn parts) c.rising.invariant.order first keeps
+      order = rise_on ws standing xs ys run c.ceiling_of-top.result h (apart c.args.turn parts) c.rising.invariant.order first keeps
           to (omega arith) (c.raise.ensures.inside, c.raise.ensures.others);
       within = λ i. elim (in_or_out run i) [
         | inl inside ↦ omega (
           arith,
           c.raise.ensures.inside i inside.0 inside.1,
-          keeps_within ws standing run c.top_of-top.result h i first.run keeps to inside,
+          keeps_within ws standing run c.ceiling_of-top.result h i first.run keeps to inside,
         )
         | inr out ↦ omega (arith, c.raise.ensures.others i out, c.rising.invariant.within i)
       ];
@@ -103,8 +103,8 @@ returns-then-run-by c =
     let n = c.length-length.result in
     let h = run.height + by in
     let ys = tries c.raise.new.drafts in
-    let keeps = c.top_of-top.ensures.keeps in
-    let to : h < c.top_of-top.result = c.if-run-by.true in
+    let keeps = c.ceiling_of-top.ensures.keeps in
+    let to : h < c.ceiling_of-top.result = c.if-run-by.true in
     let some = first.run.some in
     let quotient : by ≡ c.rising.left / n = omega arith in
     let product : by * n ≡ c.rising.left / n * n = ap (λ x. x * n) quotient in
@@ -115,7 +115,7 @@ returns-then-run-by c =
       | inl inside ↦ omega (
         arith,
         c.raise.ensures.inside i inside.0 inside.1,
-        keeps_within ws standing run c.top_of-top.result h i first.run keeps (omega (arith, to)) inside,
+        keeps_within ws standing run c.ceiling_of-top.result h i first.run keeps (omega (arith, to)) inside,
       )
       | inr out ↦ omega (arith, c.raise.ensures.others i out, c.rising.invariant.within i)
     ] in
@@ -125,7 +125,7 @@ returns-then-run-by c =
       length-map parts (if_in c.args.turn),
     ) in (
       at_height run h,
-      least_ragged ws standing xs ys run c.top_of-top.result h c.args.room (apart c.args.turn parts)
+      least_ragged ws standing xs ys run c.ceiling_of-top.result h c.args.room (apart c.args.turn parts)
           c.rising.invariant.order first keeps to (omega arith) (c.raise.ensures.inside, c.raise.ensures.others)
           (each_at_most ys ws long within)
           (omega (

@@ -1,6 +1,6 @@
 use Rattle.std.proofs.Common.{ℕ, ◌≤◌, ◌<◌, map, slice_index}
 use Rattle.rtui_split.specs.Shares.{if_in}
-use Rattle.rtui_split.proofs.smooth.top_of.Given as goal
+use Rattle.rtui_split.proofs.smooth.ceiling_of.Given as goal
 
 abbrev pub invariant-loop-i : goal.invariant-loop-i
 invariant-loop-i l = record {
