@@ -8,10 +8,12 @@ use Rattle.std.proofs.lemmas.List.Sums.{sum_by-cons}
 use Rattle.rtui_layout.specs.declared.flex.Flex.{Flex}
 use Rattle.rtui_layout.specs.declared.flex.Flex.TheVariants.{Legacy, Start, End, Center, SpaceBetween, SpaceAround, SpaceEvenly}
 use Rattle.rtui_split.specs.declared.{flex.Spaces.Spaces, flex.Room.Room, part.Part.Part}
-use Rattle.rtui_split.specs.Shares.{wanted_before, if_before, IsAtMost, IsGranted, IsDenied, IsShared}
+use Rattle.rtui_split.specs.Shares.{wanted_before, if_before, IsGranted, IsDenied, IsShared}
+use Rattle.rtui_split.specs.Ragged.{IsAtMost}
 use Rattle.rtui_split.specs.Spaces.{FitsBefore, IsArranged, IsPacked, IsSpread, KeepsWishes, least_spaces}
 use Rattle.rtui_split.specs.Spaces.{IsFlexed, IsFlexedIn, GivesWishes, lead, first_share, middle_share}
 use Rattle.rtui_split.proofs.ShareLemmas.{before-later, one_granted, granted_le}
+use Rattle.rtui_split.specs.Shares.{DifferLeast}
 
 -- so much more for each
 pub sum-plus : (m : ℕ) (xs : List ℕ) → sum_by (λ s. s + m) xs ≡ sum xs + length xs * m
@@ -149,6 +151,19 @@ arranged parts room sizes left for_parts spaces shared within fits beside fit sp
       ] in
       (filled.0, filled.1, filled.2, λ some. omega (arith, filled.3 some, beside 5 enough), filled.4, all);
   levelled = shared.levelled refl;
+  ragged = λ t some last enough misses.
+      let least = least_spaces room.flex (length parts) * room.gap in
+      let missed : room.whole < wanted_before (t + 1) parts + least = not_le (wanted_before (t + 1) parts + least)
+      room.whole misses in
+      let spaced : FitsBefore 0 parts room = omega (arith, enough, before-later 0 t parts (omega arith)) in
+      let whole : for_parts + least ≡ room.whole = elim (lt_or_le (wanted_before 1 parts) for_parts) [
+        | inl more ↦ omega (arith, beside t enough, spare spaced more)
+        | inr few ↦ omega (arith, beside t enough, enough, few, before-later 1 t parts (omega (arith, some)))
+      ] in
+      let P : ℕ → Type 0 = λ n. DifferLeast t n parts sizes in
+      let left : for_parts - wanted_before t parts ≡ room.whole - (wanted_before t parts + least) =
+      omega (arith, whole) in
+      subst P left (shared.ragged refl t some last (omega (arith, enough, whole)) (omega (arith, missed, whole)));
 }
 
 pub packed_least : (flex : Flex) (n : ℕ) → IsPacked flex → least_spaces flex n ≡ n - 1

@@ -18,7 +18,7 @@ use Rattle.std.specs.List.{AllZip}
 use Rattle.rtui_layout.specs.declared.direction.Direction.{Direction}
 use Rattle.rtui_layout.specs.declared.direction.Direction.TheVariants.{Horizontal, Vertical}
 use Rattle.rtui_split.specs.Growth.{one_ratio, ratios, IsNoSmaller, HasGrown}
-use Rattle.rtui_split.proofs.FlexLemmas.{lt_or_le}
+use Rattle.rtui_split.proofs.{FlexLemmas.lt_or_le, LevelLemmas.share_later}
 
 -- a quotient of a sum
 div_sum : (a b d : ℕ) → 0 < d → (a + b) / d ≤ a / d + b / d + 1
@@ -135,16 +135,13 @@ each_within f g k (c ∷ cs) more few =
     (each_within f g k cs more (omega (arith, few, heads, others, more c)))
 
 -- at a higher level no size is smaller
-share_higher : (k l m : ℕ) → l ≤ m → k * l / 1048576 ≤ k * m / 1048576
-share_higher k l m later = let more : k * l ≤ k * m = mul-le-mul_left k later in omega (arith, more)
-
 size_higher : (cells : ℕ) (even : Bool) (l m : ℕ) (c : Constraint) → l ≤ m → size_at cells even l c ≤ size_at cells even m c
 size_higher cells even l m (Min n) later = omega arith
 size_higher cells even l m (Length n) later = omega arith
 size_higher cells even l m (Percentage n) later = omega arith
 size_higher cells even l m (Ratio x y) later = omega arith
 size_higher cells even l m (Max n) later = omega arith
-size_higher cells even l m (Fill n) later = share_higher (if even then max n 1 else n) l m later
+size_higher cells even l m (Fill n) later = share_later (if even then max n 1 else n) l m later
 
 pub share_unit : (k l : ℕ) → k * (l + 1048576) / 1048576 ≤ k * l / 1048576 + k
 share_unit k l = omega (arith, mul_comm k (l + 1048576), add-mul l 1048576 k, mul_comm l k, mul_comm 1048576 k)

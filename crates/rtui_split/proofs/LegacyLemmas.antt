@@ -10,7 +10,8 @@ use Rattle.rtui_layout.specs.declared.constraint.Constraint.TheVariants.{Min, Ma
 use Rattle.rtui_split.specs.declared.{flex.Room.Room, part.Part.Part, level.Takers.Takers}
 use Rattle.rtui_split.specs.Shares.{wanted_before, sized, size_of_constraint, constraints_of, ComeFirst, IsDenied, IsShared}
 use Rattle.rtui_split.specs.Shares.{IsFilled}
-use Rattle.rtui_split.specs.Shares.{TakesNothingIn, TakeNothingIn, IsStretched, IsStretchableAt}
+use Rattle.rtui_split.specs.Shares.{TakesNothingIn, TakeNothingIn}
+use Rattle.rtui_split.specs.Inner.{IsStretched, IsStretchableAt}
 use Rattle.rtui_split.specs.Spaces.{FitsBefore, IsLegacy, least_spaces}
 use Rattle.rtui_split.proofs.FlexLemmas.{lt_or_le, not_le}
 use Rattle.rtui_split.proofs.{ShareLemmas.before-later, LevelLemmas.fill_le}

@@ -12,7 +12,7 @@ use Rattle.rtui_split.specs.Shares.{sized, size_of_constraint, TakesNothingIn, T
 use Rattle.rtui_split.specs.Wishes.{weight_in}
 
 -- a share at a higher level is no smaller
-share_later : (k l m : ℕ) → l ≤ m → k * l / 1048576 ≤ k * m / 1048576
+pub share_later : (k l m : ℕ) → l ≤ m → k * l / 1048576 ≤ k * m / 1048576
 share_later k l m later = let more : k * l ≤ k * m = mul-le-mul_left k later in omega (arith, more)
 
 min_later : (legacy : Bool) (wanted l m : ℕ) → l ≤ m → (if legacy then wanted else max wanted (l / 1048576)) ≤

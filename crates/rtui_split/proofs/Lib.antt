@@ -6,7 +6,11 @@ pub mod GrowthLemmas
 pub mod LegacyLemmas
 pub mod LevelLemmas
 pub mod Lists
+pub mod RiseLemmas
+pub mod RunLemmas
 pub mod ShareLemmas
 pub mod SplitLemmas
 pub mod StretchLemmas
 pub mod TryLemmas
+pub mod UniqueLemmas
+pub mod WalkLemmas

@@ -1,6 +1,6 @@
 -- Relations between two lists, element by element.
 use Rattle.std.proofs.Common.{ℕ, ◌≡◌, ◌<◌, ◌+◌, List, [], ◌∷◌, ◌++◌, All, take, drop, add-one, arith, get_or, map, length, sum}
-use Rattle.rtui_split.specs.Shares.{IsAtMost}
+use Rattle.rtui_split.specs.Ragged.{IsAtMost}
 use Rattle.std.proofs.Common.{zero, suc, ◌≤◌, sym, ◌∙◌, ap, refl, subst}
 use Rattle.std.proofs.Math.ListN.{set}
 use Rattle.std.specs.List.{AllZip}

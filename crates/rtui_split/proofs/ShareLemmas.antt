@@ -13,7 +13,7 @@ use Rattle.rtui_split.specs.Wishes.{turn}
 use Rattle.rtui_split.specs.Shares.{if_before, if_in, wanted_before, wanted_in, sized, size_of_constraint, TakesNothing}
 use Rattle.rtui_split.specs.Shares.{TakesNothingIn, Settled}
 use Rattle.rtui_split.specs.Shares.{IsGranted, IsModest, IsDenied, IsShared, IsFilled, TakeNothingIn, TakeNothing, weights}
-use Rattle.rtui_split.specs.Shares.{IsLevelled, ComeFirst}
+use Rattle.rtui_split.specs.Shares.{IsLevelled, ComeFirst, DifferLeast}
 use Rattle.rtui_split.proofs.{Lists.AllZip-weaker, Lists.AllZip-mapped, LevelLemmas.fill_le}
 
 one_before_next : (t : ℕ) (p : Part) → if_before (t + 1) p ≡ if_before t p + if_in t p
@@ -92,8 +92,9 @@ pub settled_share : (legacy : Bool) (ps : List Part) (room : ℕ) (sizes : List 
     → AllZip (Settled t) ps sizes → sum sizes ≡ room → wanted_before t ps ≤ room → room < wanted_before (t + 1) ps
     → (legacy ≡ false → t ≡ 0 → IsLevelled ps sizes)
     → (legacy ≡ true → ComeFirst t (room - wanted_before t ps) ps sizes)
+    → (legacy ≡ false → 0 < t → DifferLeast t (room - wanted_before t ps) ps sizes)
     → IsShared legacy ps room sizes 0
-settled_share legacy ps room sizes t short each all fits misses levelled come = record {
+settled_share legacy ps room sizes t short each all fits misses levelled come ragged = record {
   total = omega arith;
   granted = λ u last enough. AllZip-weaker (Settled t) (IsGranted u) (λ p s settled first.
       let within : u ≤ t = not_after u t (λ later. absurd (omega (arith, misses, before-later (t + 1) u ps later))) in
@@ -116,6 +117,12 @@ settled_share legacy ps room sizes t short each all fits misses levelled come = 
       (λ later. omega (arith, missing, fits, before-later (u + 1) t ps later)) in
       let P : ℕ → Type 0 = λ n. ComeFirst n (room - wanted_before n ps) ps sizes in
       subst P same (come legacy);
+  ragged = λ other u some last enough missing.
+      let same : t ≡ u = between t u
+      (λ later. omega (arith, misses, enough, before-later (t + 1) u ps later))
+      (λ later. omega (arith, missing, fits, before-later (u + 1) t ps later)) in
+      let P : ℕ → Type 0 = λ n. DifferLeast n (room - wanted_before n ps) ps sizes in
+      subst P same (ragged other (omega (arith, same, some)));
 }
 
 -- a size at a level is a wish, or more if the part takes something of what is left
@@ -166,5 +173,6 @@ filled_share legacy ps room takers level over same fits within rest all even mos
             (λ p first. granted_at takers level p.wanted p.constraint (omega arith)) ps),
       ));
       first_come = λ _ u last enough missing. absurd (omega (arith, missing, fits, before-later (u + 1) 5 ps (omega arith)));
+      ragged = λ _ u _ last enough missing. absurd (omega (arith, missing, fits, before-later (u + 1) 5 ps (omega arith)));
       filled = λ small _. subst P same (takers.even, level, refl, λ some. most small (omega (arith, some, within)), even);
     }

@@ -22,7 +22,8 @@ use Rattle.rtui_split.specs.declared.flex.Room.{Room}
 use Rattle.rtui_split.specs.Split.{gap_units, FitWishes, IsLane, HasWish, WithinWish, IsGivenBefore, IsWithinWish, IsSplit}
 use Rattle.rtui_split.specs.Split.{AreExact, IsLevel, HasLeast}
 use Rattle.rtui_split.specs.Spaces.{IsFilledBeside, GivesWishes, IsLegacy}
-use Rattle.rtui_split.specs.Shares.{constraints_of, IsStretched, ComeFirst, TakesNothingIn, TakeNothingIn}
+use Rattle.rtui_split.specs.Shares.{constraints_of, ComeFirst, TakesNothingIn, TakeNothingIn}
+use Rattle.rtui_split.specs.Inner.{IsStretched}
 use Rattle.rtui_split.specs.Split.{TakeInOrder, HaveNoFill, StretchOne, HasPlacesInOrder, fill_size}
 use Rattle.std.proofs.Math.ListN.{set}
 use Rattle.rtui_split.proofs.Lists.{AllZip-unmapped, AllZip-weaker}
@@ -39,6 +40,10 @@ use Rattle.std.proofs.lemmas.List.Sums.{sum-map}
 use Rattle.rtui_split.specs.Split.{IsCutAt, HasTaker, SharesRest}
 use Rattle.std.proofs.lemmas.List.Elements.{All-head, All-tail}
 use Rattle.std.proofs.lemmas.List.{length-map}
+use Rattle.rtui_split.specs.Wishes.{wish_in, wish_before}
+use Rattle.rtui_split.specs.Shares.{DifferLeast}
+use Rattle.rtui_split.specs.Ragged.{IsLeastRagged}
+use Rattle.rtui_split.specs.Split.{AreLeastRagged}
 
 -- a share q/u of x by n parts
 ratio_within : (x n q size : ℕ) → q ≤ x * 5040000 / n → size * 5040000 < q + 5040000 → 0 < n → size * n < x + n
@@ -435,6 +440,27 @@ levelled_at cells cs units levelled = (
   omega (arith, levelled.2, sum_least cells (levelled.0 + 1) cs),
 )
 
+-- what differs least for parts differs least for their constraints
+wishes_in : (t cells : ℕ) (cs : List Constraint) → map (if_in t) (map (part_in cells) cs) ≡ map (wish_in t cells) cs
+wishes_in t cells [] = refl
+wishes_in t cells (c ∷ cs) = ap (λ xs. wish_in t cells c ∷ xs) (wishes_in t cells cs)
+
+wishes_before : (t cells : ℕ) (cs : List Constraint)
+    → map (if_before t) (map (part_in cells) cs) ≡ map (wish_before t cells) cs
+wishes_before t cells [] = refl
+wishes_before t cells (c ∷ cs) = ap (λ xs. wish_before t cells c ∷ xs) (wishes_before t cells cs)
+
+ragged_at : (t cells room : ℕ) (cs : List Constraint) (units : List ℕ)
+    → DifferLeast t room (map (part_in cells) cs) units → AreLeastRagged t cells room cs units
+ragged_at t cells room cs units ragged =
+    let P : List ℕ → Type 0 = λ ws. IsLeastRagged ws (map (if_before t) (map (part_in cells) cs)) room ragged.0 ragged.1 in
+    let Q : List ℕ → Type 0 = λ xs. IsLeastRagged (map (wish_in t cells) cs) xs room ragged.0 ragged.1 in (
+      ragged.0,
+      ragged.1,
+      subst Q (wishes_before t cells cs) (subst P (wishes_in t cells cs) ragged.2),
+      ragged.3,
+    )
+
 -- parts that are cut from sizes at a level
 cut_all : (cells : ℕ) (even : Bool) (level : ℕ) (d : Direction) (cs : List Constraint) (ps : List Rect)
     → AllZip (IsCutTo AtMostCells d) (map (size_at cells even level) cs) ps
@@ -680,6 +706,15 @@ is_split l area units spaces parts cells o cells_are small long arranges placed 
                 ((arranged space (keeps k)).later t last (fits 0 spaced) (λ f. misses (unfits t f)));
             levelled = λ few. levelled_at cells cs units
                 ((arranged space (keeps k)).levelled (omega (arith, few, wanted_is_wished 1 cells cs)));
+            ragged = λ t later last fit misses.
+                let P : ℕ → Type 0 = λ n. DifferLeast t n (map (part_in cells) cs) units in
+                ragged_at t cells (cells * 5040000 - (wished_before t cells cs
+                + least_spaces l.flex (length cs) * gap_units l.spacing)) cs units
+                (subst P (omega (
+                  arith,
+                  wanted_is_wished t cells cs,
+                  ap (λ n. least_spaces l.flex n * gap_units l.spacing) long_cs,
+                )) ((arranged space (keeps k)).ragged t later last (fits t fit) (λ f. misses (unfits (t + 1) f))));
             rest = λ fit. levelled l cells (length cs) units o refl
                 ((arranged space (keeps k)).filled (omega (arith, cells_are, small)) (fits 5 fit)) long_cs;
           }));

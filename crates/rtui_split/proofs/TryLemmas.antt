@@ -9,11 +9,17 @@ use Rattle.std.proofs.lemmas.Bool.Decides.{nat_tests}
 use Rattle.std.proofs.lemmas.List.Sums.{sum_by-cons}
 use Rattle.std.proofs.lemmas.List.Elements.{All-head, All-tail}
 use Rattle.rtui_split.specs.declared.{part.Part.Part, draft.Draft.Draft}
-use Rattle.rtui_split.specs.Shares.{if_in, wanted_in, capped_in, tries_in, HasAtLeast, HaveTried, ComeFirst, IsOfTurn}
+use Rattle.rtui_split.specs.Shares.{if_in, wanted_in, capped_in, HasAtLeast, ComeFirst, IsOfTurn}
+use Rattle.rtui_split.specs.Inner.{tries_in, HaveTried}
 use Rattle.rtui_split.specs.Shares.{TriesItsWish}
 use Rattle.rtui_split.specs.Shares.{wanted_before, IsLevelled}
 use Rattle.rtui_split.proofs.ShareLemmas.{before-first}
 use Rattle.rtui_split.proofs.Lists.{drop_cons}
+use Rattle.rtui_split.specs.declared.smooth.Run.{Run}
+use Rattle.rtui_split.specs.Shares.{if_before, DifferLeast}
+use Rattle.rtui_split.specs.Ragged.{IsAtMost, IsLeastRagged}
+use Rattle.rtui_split.specs.Inner.{tries}
+use Rattle.std.proofs.Common.{map}
 
 -- from a place on, they try what the first of them tries and the others
 pub tries-drop : (t : ℕ) (ps : List Part) (ds : List Draft) (i : ℕ) (p : Part) (d : Draft) → i < length ps → i < length ds
@@ -132,3 +138,31 @@ levelled_share t left ps ds sizes first all level tried =
           (subst P first tried (omega (arith, level.2, tries_level 0 level.0 ps ds level.1))),
       omega (arith, level.3, subst Q first all, before-first ps),
     )
+
+-- nobody tries more than all try together
+tries_within : (t : ℕ) (ps : List Part) (ds : List Draft) → tries_in t ps ds ≤ sum (tries ds)
+tries_within t [] ds = omega arith
+tries_within t (p ∷ ps) [] = omega arith
+tries_within t (p ∷ ps) (d ∷ ds) = omega (arith, tries_within t ps ds, sum_by-cons (λ n. n) d.tried (tries ds))
+
+-- who tries no more than it wishes has what it tries
+tried_share : (t : ℕ) (ps : List Part) (ds : List Draft) (ss : List ℕ) → AllZip IsAtMost (tries ds) (map (if_in t) ps)
+    → HaveTried t ps ds ss → AllZip IsAtMost (tries ds) ss
+tried_share t [] [] [] few tried = tt
+tried_share t [] [] (s ∷ ss) few tried = absurd tried
+tried_share t [] (d ∷ ds) ss few tried = absurd few
+tried_share t (p ∷ ps) [] ss few tried = absurd few
+tried_share t (p ∷ ps) (d ∷ ds) [] few tried = absurd tried
+tried_share t (p ∷ ps) (d ∷ ds) (s ∷ ss) few tried =
+    (omega (arith, few.0, tried.0), tried_share t ps ds ss few.1 tried.1)
+
+-- sizes of parts that try the least ragged shares
+pub ragged_share : (t left : ℕ) (ps : List Part) (ds : List Draft) (sizes : List ℕ)
+    → (end : Run) × IsLeastRagged (map (if_in t) ps) (map (if_before t) ps) left (tries ds) end
+    → (tries_in t ps ds ≤ left → HaveTried t ps ds sizes) → DifferLeast t left ps sizes
+ragged_share t left ps ds sizes ragged tried = (
+  tries ds,
+  ragged.0,
+  ragged.1,
+  tried_share t ps ds sizes ragged.1.within (tried (omega (arith, tries_within t ps ds, ragged.1.fits))),
+)

@@ -1,6 +1,8 @@
 pub mod Cut
 pub mod Flexed
 pub mod Growth
+pub mod Inner
+pub mod Ragged
 pub mod Shares
 pub mod Spacers
 pub mod Spaces

@@ -1,14 +1,15 @@
 -- Parts with what they wish, and the sizes that they get, in units.
 use Rattle.std.specs.Prelude.{ℕ, ◌≡◌, ◌==◌, ◌+◌, ◌*◌, ◌/◌, ◌<◌, ◌≤◌, max, List, Bool, sum_by, nat_lt}
 use Rattle.std.specs.Prelude.{true, false, IsTrue, if◌then◌else◌, sum, map, All, ◌^◌, ⊤, ◌-◌, min, [], ◌∷◌}
-use Rattle.std.specs.Prelude.{length, ◌++◌, slice_set, slice_index_or}
 use Rattle.std.specs.List.{AllZip}
 use Rattle.rtui_layout.specs.declared.constraint.Constraint.{Constraint}
 use Rattle.rtui_layout.specs.declared.constraint.Constraint.TheVariants.{Min, Fill}
 use Rattle.rtui_split.specs.declared.part.Part.{Part}
 use Rattle.rtui_split.specs.declared.draft.Draft.{Draft}
 use Rattle.rtui_split.specs.declared.level.Takers.{Takers}
-use Rattle.rtui_split.specs.Wishes.{turn, wish, weight_in, patience, IsStretchable}
+use Rattle.rtui_split.specs.Wishes.{turn, wish, weight_in}
+use Rattle.rtui_split.specs.declared.smooth.Run.{Run}
+use Rattle.rtui_split.specs.Ragged.{IsAtMost, IsLeastRagged}
 
 -- the part of a constraint in an area of so many columns or rows
 abbrev pub part_in : ℕ → Constraint → Part
@@ -54,41 +55,12 @@ ComeFirst t room (p ∷ ps) [] = ⊥
 ComeFirst t room (p ∷ ps) (s ∷ ss) = (IsOfTurn t p → s ≡ min p.wanted room)
     × ComeFirst t (room - if_in t p) ps ss
 
--- what the parts of this turn try together, each at most its wish
-abbrev pub tries_in : ℕ → List Part → List Draft → ℕ
-tries_in t [] ds = 0
-tries_in t (p ∷ ps) [] = 0
-tries_in t (p ∷ ps) (d ∷ ds) = min (if_in t p) d.tried + tries_in t ps ds
-
--- each of them has what it tries, or its wish
-abbrev pub HaveTried : ℕ → List Part → List Draft → List ℕ → Type 0
-HaveTried t [] ds [] = ⊤
-HaveTried t [] ds (s ∷ ss) = ⊥
-HaveTried t (p ∷ ps) [] ss = ⊥
-HaveTried t (p ∷ ps) (d ∷ ds) [] = ⊥
-HaveTried t (p ∷ ps) (d ∷ ds) (s ∷ ss) = (min (if_in t p) d.tried ≤ s) × HaveTried t ps ds ss
-
 abbrev pub TriesItsWish : Part → Draft → Type 0
 TriesItsWish p d = d.tried ≡ p.wanted
 
 -- what the parts are
 abbrev pub constraints_of : List Part → List Constraint
 constraints_of ps = map (λ p. p.constraint) ps
-
--- the part at this place is the last of the kind that minds least to be stretched
-pub record IsStretchableAt (cs : List Constraint) (at most : ℕ) : Type 0 where
-  pub before : List Constraint
-  pub one : Constraint
-  pub after : List Constraint
-  pub whole : cs ≡ before ++ one ∷ after
-  pub place : length before ≡ at
-  pub minds : IsStretchable before one after
-  pub kind : patience one ≡ most
-
--- so much is added to the size of that part
-abbrev pub IsStretched : List Part → List ℕ → List ℕ → ℕ → Type 0
-IsStretched ps old new left = (at : ℕ) × (most : ℕ) × IsStretchableAt (constraints_of ps) at most
-    × (new ≡ slice_set old at (slice_index_or old at 0 + left))
 
 -- a size at a level of what is left, in 1048576ths of a unit: the wish, or at least the share
 abbrev pub size_of_constraint : Takers → ℕ → ℕ → Constraint → ℕ
@@ -112,9 +84,6 @@ pub record Settled (t : ℕ) (p : Part) (size : ℕ) : Type 0 where
   pub at_most : size ≤ p.wanted
   pub before : turn p.constraint < t → size ≡ p.wanted
   pub later : t < turn p.constraint → size ≡ 0
-
-abbrev pub IsAtMost : ℕ → ℕ → Type 0
-IsAtMost a b = a ≤ b
 
 -- the part has its wish if its turn comes before this one
 abbrev pub IsGranted : ℕ → Part → ℕ → Type 0
@@ -154,6 +123,13 @@ IsFilled legacy parts room sizes = (even : Bool) × (level : ℕ)
     → room < sum_by (sized (record { legacy = legacy; even = even }) (level + 1048576)) parts)
     × (even ≡ (weights legacy parts == 0))
 
+-- parts of this turn share so much room so that neighbours differ least: each has at least its share,
+-- and what is left over goes to some of them, which is less than a unit for each part of the run that
+-- has no room
+abbrev pub DifferLeast : ℕ → ℕ → List Part → List ℕ → Type 0
+DifferLeast t room ps sizes = (shares : List ℕ) × (end : Run)
+    × IsLeastRagged (map (if_in t) ps) (map (if_before t) ps) room shares end × AllZip IsAtMost shares sizes
+
 -- sizes in so much room: wishes in turns, nothing over what takes part in the rest, and all of the room if a
 -- turn comes too short, with nothing for those after it, or if no part takes anything of what is left
 pub record IsShared (legacy : Bool) (parts : List Part) (room : ℕ) (sizes : List ℕ) (left : ℕ) : Type 0 where
@@ -169,3 +145,5 @@ pub record IsShared (legacy : Bool) (parts : List Part) (room : ℕ) (sizes : Li
   pub levelled : legacy ≡ false → sum sizes < wanted_before 1 parts → IsLevelled parts sizes
   pub first_come : legacy ≡ true → (t : ℕ) → t < 5 → wanted_before t parts ≤ room
       → room < wanted_before (t + 1) parts → ComeFirst t (room - wanted_before t parts) parts sizes
+  pub ragged : legacy ≡ false → (t : ℕ) → 0 < t → t < 5 → wanted_before t parts ≤ room
+      → room < wanted_before (t + 1) parts → DifferLeast t (room - wanted_before t parts) parts sizes

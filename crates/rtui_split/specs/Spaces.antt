@@ -12,7 +12,8 @@ use Rattle.rtui_layout.specs.declared.flex.Flex.TheVariants.{SpaceBetween, Space
 use Rattle.rtui_split.specs.declared.{flex.Spaces.Spaces, flex.Room.Room, part.Part.Part}
 use Rattle.rtui_split.specs.Shares.{wanted_before, sized, IsGranted, IsModest}
 use Rattle.rtui_split.specs.Shares.{IsDenied, TakeNothing, TakeNothingIn, weights, IsLevelled, ComeFirst}
-use Rattle.rtui_split.specs.Shares.{IsStretched}
+use Rattle.rtui_split.specs.Shares.{DifferLeast}
+use Rattle.rtui_split.specs.Inner.{IsStretched}
 use Rattle.rtui_split.specs.Cut.{length_of}
 
 -- the sizes and the spaces before and between them fit
@@ -84,6 +85,9 @@ pub record IsArranged (parts : List Part) (room : Room) (sizes : List ℕ) (spac
       → IsFlexedIn parts room sizes spaces
   pub filled : room.whole < 2 ^ 43 → FitsBefore 5 parts room → IsFilledBeside parts room sizes
   pub levelled : sum sizes < wanted_before 1 parts → IsLevelled parts sizes
+  pub ragged : (t : ℕ) → 0 < t → t < 5 → FitsBefore t parts room → (FitsBefore (t + 1) parts room → ⊥)
+      → DifferLeast t (room.whole - (wanted_before t parts
+      + least_spaces room.flex (length parts) * room.gap)) parts sizes
 
 -- with `Flex::Legacy`, sizes and spaces in so much room: where a turn comes too short its parts take their
 -- wishes one after the other, and those after it have nothing; if all fit, `Fill`s share what is left, and if

@@ -18,9 +18,12 @@ use Rattle.rtui_split.specs.{Cut.first_cell, Cut.area_end, Cut.length_of, Cut.Is
 use Rattle.rtui_split.specs.{Cut.IsSpace}
 use Rattle.rtui_split.specs.{Cut.AtMostCells, Cut.AtLeastCells, Wishes.turn, Wishes.wish}
 use Rattle.rtui_split.specs.{Wishes.IsStretchable}
-use Rattle.rtui_split.specs.{Wishes.wished_before, Wishes.weight_in, Cut.AreEdges, Shares.TakesNothing}
+use Rattle.rtui_split.specs.{Wishes.wished_before, Wishes.wish_in, Wishes.wish_before, Wishes.weight_in}
+use Rattle.rtui_split.specs.{Cut.AreEdges, Shares.TakesNothing}
 use Rattle.rtui_split.specs.{Shares.TakesNothingIn}
 use Rattle.rtui_split.specs.Spaces.{least_spaces, KeepsWishes, IsFlexed}
+use Rattle.rtui_split.specs.declared.smooth.Run.{Run}
+use Rattle.rtui_split.specs.Ragged.{IsAtMost, IsLeastRagged}
 
 -- no area, at the corner
 abbrev pub area_of_nothing : Rect
@@ -166,15 +169,26 @@ abbrev pub AreLevelled : ℕ → List Constraint → List ℕ → Type 0
 AreLevelled cells cs units = (level : ℕ) × AllZip (HasLevel cells level) cs units
     × (sum units < sum_by (λ c. min (least_wish cells c) (level + 1)) cs)
 
--- exact sizes: nobody has more than it wishes but of what is left, all whose wishes fit have theirs, if a
--- turn comes too short nobody at all has more, those after it have nothing, and `Min`s share by level, and if
--- all fit, they are the sizes at one level
+-- parts of this turn share so much room so that neighbours differ least: each has at least its share,
+-- and what is left over goes to some of them, which is less than a unit for each part of the run that
+-- has no room
+abbrev pub AreLeastRagged : ℕ → ℕ → ℕ → List Constraint → List ℕ → Type 0
+AreLeastRagged t cells room cs units = (shares : List ℕ) × (end : Run)
+    × IsLeastRagged (map (wish_in t cells) cs) (map (wish_before t cells) cs) room shares end
+    × AllZip IsAtMost shares units
+
+-- exact sizes: nobody has more than it wishes but of what is left, all whose wishes fit have theirs,
+-- if a turn comes too short nobody at all has more, those after it have nothing, `Min`s share by
+-- level, and others so that neighbours differ least, and if all fit, they are the sizes at one level
 pub record AreExact (l : LayoutData) (cells : ℕ) (units : List ℕ) : Type 0 where
   pub within : AllZip (IsModestAt cells) l.constraints units
   pub given : (t : ℕ) → t ≤ 5 → FitWishes t l cells → AllZip (IsGrantedAt t cells) l.constraints units
   pub later : (t : ℕ) → t ≤ 5 → (FitWishes t l cells → ⊥)
       → AllZip (IsDeniedAt t cells) l.constraints units
   pub levelled : sum units < wished_before 1 cells l.constraints → AreLevelled cells l.constraints units
+  pub ragged : (t : ℕ) → 0 < t → t < 5 → FitWishes t l cells → (FitWishes (t + 1) l cells → ⊥)
+      → AreLeastRagged t cells (cells * 5040000 - (wished_before t cells l.constraints
+      + least_spaces l.flex (length l.constraints) * gap_units l.spacing)) l.constraints units
   pub rest : FitWishes 5 l cells → (even : Bool) × (level : ℕ)
       × (units ≡ map (size_at cells even level) l.constraints) × IsLevel l cells even level
 
@@ -200,7 +214,7 @@ TakeInOrder t cells room [] [] = ⊤
 TakeInOrder t cells room [] (u ∷ us) = ⊥
 TakeInOrder t cells room (c ∷ cs) [] = ⊥
 TakeInOrder t cells room (c ∷ cs) (u ∷ us) = (turn c ≡ t → u ≡ min (wish cells c) room)
-    × TakeInOrder t cells (room - (if turn c == t then wish cells c else 0)) cs us
+    × TakeInOrder t cells (room - wish_in t cells c) cs us
 
 -- no part is a `Fill`
 abbrev pub HaveNoFill : List Constraint → Type 0

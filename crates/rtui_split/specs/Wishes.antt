@@ -1,7 +1,7 @@
 -- What each part of a layout wishes, and whose wishes come first. Exact sizes are counted in units, of which
 -- 5040000 make one column or row.
 use Rattle.std.specs.Prelude.{ℕ, ◌*◌, ◌/◌, ◌-◌, ◌^◌, ◌<◌, ◌≤◌, min, max, Bool, List, All, sum_by, nat_lt}
-use Rattle.std.specs.Prelude.{if◌then◌else◌}
+use Rattle.std.specs.Prelude.{if◌then◌else◌, ◌==◌}
 use Rattle.rtui_layout.specs.declared.constraint.Constraint.{Constraint}
 use Rattle.rtui_layout.specs.declared.constraint.Constraint.TheVariants.{Min, Max, Length, Percentage, Ratio}
 use Rattle.rtui_layout.specs.declared.constraint.Constraint.TheVariants.{Fill}
@@ -30,9 +30,16 @@ weight_in legacy (Min n) = if legacy then 0 else 1
 weight_in legacy (Fill n) = n
 weight_in legacy _ = 0
 
+-- what a part wishes, if this is its turn, and if its turn comes before this one
+abbrev pub wish_in : ℕ → ℕ → Constraint → ℕ
+wish_in t cells c = if turn c == t then wish cells c else 0
+
+abbrev pub wish_before : ℕ → ℕ → Constraint → ℕ
+wish_before t cells c = if nat_lt (turn c) t then wish cells c else 0
+
 -- what all wish whose turn comes before this one
 abbrev pub wished_before : ℕ → ℕ → List Constraint → ℕ
-wished_before t cells cs = sum_by (λ c. if nat_lt (turn c) t then wish cells c else 0) cs
+wished_before t cells cs = sum_by (wish_before t cells) cs
 
 -- how little a part minds to be stretched, if `Flex::Legacy` leaves room that no part takes
 abbrev pub patience : Constraint → ℕ

@@ -1,4 +1,6 @@
 //! Room for notes while sizes are found.
+ghost use Rattle.std.specs.Prelude.{◌≡◌, All};
+ghost use Rattle.rtui_split.specs.declared.draft.Draft.{Draft};
 
 /// Notes on a part.
 #[derive(Debug, Clone, Copy, Drop)]
@@ -15,4 +17,13 @@ impl Draft {
         tried: 0,
         base: None,
     };
+}
+
+/// All try the same size.
+pub(crate) fn try_all(size: u64, drafts: &mut [Draft])
+    ensures { All (λ (d : Draft). d.tried ≡ size) drafts.new }
+{
+    for draft in drafts.iter_mut() {
+        draft.tried = size;
+    }
 }

@@ -1,13 +1,15 @@
 //! Laws of divided areas. Calling one of these functions costs nothing and tells the caller's proof
 //! its law.
 
-ghost use Rattle.std.specs.Prelude.{◌≡◌, ◌+◌, ◌<◌, ◌≤◌, List, length};
+ghost use Rattle.std.specs.Prelude.{ℕ, ◌≡◌, ◌+◌, ◌<◌, ◌≤◌, List, length};
 ghost use Rattle.rtui_geometry.specs.declared.rect.Rect.{Rect};
 ghost use Rattle.rtui_layout.specs.Layout.{LayoutData};
 ghost use Rattle.rtui_split.specs.Cut.{IsSpace};
 ghost use Rattle.rtui_split.specs.Spaces.{KeepsWishes, IsPacked};
 ghost use Rattle.rtui_split.specs.Split.{cells_of, total_weight, FitWishes, HasTaker, IsSplit};
 ghost use Rattle.rtui_split.specs.Growth.{HasGrown};
+ghost use Rattle.rtui_split.specs.declared.smooth.Run.{Run};
+ghost use Rattle.rtui_split.specs.Ragged.{IsLeastRagged};
 ghost use Rattle.rtui_split.specs.Flexed.{HasFlexedSpaces, LeavesNoSpace};
 
 /// The spaces before, between and after the parts are as the flex says, in whole columns or rows:
@@ -50,4 +52,12 @@ pub fn one_cell_more_makes_no_part_smaller()
         → cells_of l.direction longer ≡ cells_of l.direction area + 1
         → FitWishes 5 l (cells_of l.direction area) → FitWishes 5 l (cells_of l.direction longer)
         → HasGrown l (cells_of l.direction area) parts more }
+{}
+
+/// Room that is too little for all that wish it has one least ragged sharing: what the definition
+/// says of it leaves no choice.
+pub fn the_least_ragged_sharing_is_one()
+    ensures { (wishes standing : List ℕ) (room : ℕ) (shares others : List ℕ) (end last : Run)
+        → IsLeastRagged wishes standing room shares end
+        → IsLeastRagged wishes standing room others last → shares ≡ others }
 {}

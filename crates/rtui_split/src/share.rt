@@ -2,15 +2,15 @@
 ghost use Rattle.std.specs.Prelude.{◌≡◌, ◌-◌, ◌≤◌, ◌<◌, ◌+◌, ◌*◌, ◌^◌, ℕ};
 ghost use Rattle.std.specs.Prelude.{length, sum, sum_by, map, min, All, IsTrue, IsFalse};
 ghost use Rattle.std.specs.List.{AllZip};
-ghost use Rattle.rtui_split.specs.declared.draft.Draft.{Draft};
-ghost use Rattle.rtui_split.specs.Wishes.{patience};
-ghost use Rattle.rtui_split.specs.Shares.{if_before, if_in, wanted_before, wanted_in, capped_in, tries_in};
-ghost use Rattle.rtui_split.specs.Shares.{IsOfTurn, IsStretchableAt, IsStretched, constraints_of};
-ghost use Rattle.rtui_split.specs.Shares.{TriesItsWish, HaveTried, ComeFirst};
-ghost use Rattle.rtui_split.specs.Shares.{sized, IsAtMost, Settled, IsShared};
+ghost use Rattle.rtui_split.specs.declared.{draft.Draft.Draft, smooth.Run.Run};
+ghost use Rattle.rtui_split.specs.{Wishes.patience, Ragged.IsLeastRagged, Ragged.IsAtMost};
+ghost use Rattle.rtui_split.specs.Shares.{if_before, if_in, wanted_before, wanted_in, capped_in};
+ghost use Rattle.rtui_split.specs.Shares.{IsOfTurn, constraints_of, TriesItsWish, ComeFirst, sized};
+ghost use Rattle.rtui_split.specs.Shares.{Settled, IsShared};
+ghost use Rattle.rtui_split.specs.Inner.{tries, tries_in, HaveTried, IsStretchableAt, IsStretched};
 
 use crate::cap::highest_level;
-use crate::draft::Draft;
+use crate::draft::{Draft, try_all};
 use crate::level::{Takers, level_of, size_at, takers_of, top_of};
 use crate::part::{FILL, Part, left_before, turn_of};
 use crate::smooth::smooth;
@@ -38,15 +38,6 @@ pub(crate) fn first_short(parts: &[Part], room: u64) -> Short
     Short { turn: FILL, left }
 }
 
-// All try the same size.
-fn try_all(size: u64, drafts: &mut [Draft])
-    ensures { All (λ (d : Draft). d.tried ≡ size) drafts.new }
-{
-    for draft in drafts.iter_mut() {
-        draft.tried = size;
-    }
-}
-
 // Each tries what it wishes.
 fn try_wishes(parts: &[Part], drafts: &mut [Draft])
     requires { length drafts.old ≡ length parts.now }
@@ -67,6 +58,9 @@ fn try_short(parts: &[Part], short: Short, legacy: bool, drafts: &mut [Draft])
         × All (λ (d : Draft). d.tried ≡ level) drafts.new
         × (capped_in 0 level parts.now ≤ short.left)
         × (short.left < capped_in 0 (level + 1) parts.now) }
+    ensures smooth { IsFalse legacy → 0 < short.turn → (end : Run)
+        × IsLeastRagged (map (if_in short.turn) parts.now)
+        (map (if_before short.turn) parts.now) short.left (tries drafts.new) end }
 {
     if legacy {
         try_wishes(parts, drafts);

@@ -1,7 +1,7 @@
 use Rattle.std.proofs.Common.{ℕ, Bool, ◌≡◌, ◌≤◌, ◌-◌, ◌==◌, ◌∙◌, map, sum, ap, subst, sym, arith, List}
-use Rattle.rtui_split.specs.Shares.{wanted_before, sized, IsShared, weights, ComeFirst, TakeNothingIn}
+use Rattle.rtui_split.specs.Shares.{wanted_before, sized, IsShared, weights, ComeFirst, TakeNothingIn, DifferLeast}
 use Rattle.rtui_split.proofs.ShareLemmas.{before-next, all_fit, settled_share, filled_share}
-use Rattle.rtui_split.proofs.TryLemmas.{levelled_share}
+use Rattle.rtui_split.proofs.TryLemmas.{levelled_share, ragged_share}
 use Rattle.rtui_split.proofs.share.share.Goals as goal
 
 pub try_short-requires-clause-left : goal.try_short-requires-clause-left
@@ -30,6 +30,9 @@ returns-then-short-lt-FILL c =
     (c.try_short.ensures.level other first) c.settle.ensures.tried)
     (λ legacy. let P : ℕ → Type 0 = λ n. ComeFirst short.turn n c.args.parts.now c.settle.new.sizes in
     subst P (omega (arith, c.first_short-short.ensures.left)) (c.settle.ensures.first (c.try_short.ensures.first legacy)))
+    (λ other some. let P : ℕ → Type 0 = λ n. DifferLeast short.turn n c.args.parts.now c.settle.new.sizes in
+    subst P (omega (arith, c.first_short-short.ensures.left)) (ragged_share short.turn short.left c.args.parts.now
+    c.try_short.new.drafts c.settle.new.sizes (c.try_short.ensures.smooth other some) c.settle.ensures.tried))
 
 pub returns : goal.returns
 returns c =

@@ -1,5 +1,5 @@
 use Rattle.std.proofs.Common.{◌≡◌, ◌-◌, drop}
-use Rattle.rtui_split.specs.Shares.{tries_in}
+use Rattle.rtui_split.specs.Inner.{tries_in}
 use Rattle.rtui_split.proofs.share.spare_of.Given as goal
 
 -- what is left less what the rest tries is what is left in the end
