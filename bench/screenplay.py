@@ -3,8 +3,9 @@
 
     bench/screenplay.py [NAME=]PROGRAM ..    crates/screenplay_program/out/screenplay_program where none is named
 
-Each script runs over each program; the figures are the greatest memory in MiB and the least time of a few runs in seconds, with their
-ratios to the first program's. It refuses where two programs print different screens.
+Each script runs over each program; the figures are the greatest memory in MiB and the least processor time of a few runs in seconds, with
+their ratios to the first program's. The programs are started by `peak.c`, which `cc` compiles: a process begins with the peak of the one that
+started it. It refuses where two programs print different screens.
 """
 
 import hashlib
@@ -13,7 +14,6 @@ import resource
 import subprocess
 import sys
 import tempfile
-import time
 
 sys.path.insert(0, f"{os.path.dirname(os.path.dirname(os.path.abspath(__file__)))}/tools")
 sys.dont_write_bytecode = True
@@ -64,17 +64,15 @@ SCRIPTS = {
 }
 
 
-def run(program, script):
-    """What a program prints, how much memory it took in MiB, and its time in seconds."""
-    start = time.monotonic()
+def run(peak, program, script):
+    """What a program prints, how much memory it took in MiB, and its processor time in seconds."""
     with open(script, "rb") as source, tempfile.TemporaryFile() as printed:
-        child = subprocess.Popen([program], stdin=source, stdout=printed)
-        _, status, usage = os.wait4(child.pid, 0)
-        taken = time.monotonic() - start
-        if status != 0:
-            sys.exit(f"{program}: status {status}")
+        done = subprocess.run([peak, program], stdin=source, stdout=printed, stderr=subprocess.PIPE, text=True)
+        if done.returncode != 0:
+            sys.exit(f"{program}: {done.stderr.strip()}")
+        memory, taken = done.stderr.split()
         printed.seek(0)
-        return hashlib.sha256(printed.read()).hexdigest(), usage.ru_maxrss / 1024, taken
+        return hashlib.sha256(printed.read()).hexdigest(), int(memory) / 1024, float(taken)
 
 
 def main():
@@ -85,13 +83,15 @@ def main():
             refuse(f"no program {program}")
     resource.setrlimit(resource.RLIMIT_CORE, (0, 0))
     with tempfile.TemporaryDirectory() as folder:
+        peak = f"{folder}/peak"
+        subprocess.run(["cc", "-O1", "-o", peak, f"{TOP}/bench/peak.c"], check=True)
         for title, made in SCRIPTS.items():
             script = f"{folder}/script"
             with open(script, "w") as file:
                 file.writelines(made())
             first = None
             for name, program in programs:
-                runs = [run(program, script) for _ in range(3)]
+                runs = [run(peak, program, script) for _ in range(3)]
                 screen, memory, taken = runs[0][0], max(r[1] for r in runs), min(r[2] for r in runs)
                 if first is None:
                     first = (screen, memory, taken)
