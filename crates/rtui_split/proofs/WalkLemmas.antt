@@ -131,7 +131,8 @@ later_or_here ws standing xs new r i apart fresh run at high order before s othe
 ]
 
 pub next_more : (ws standing xs : List ℕ) (best : Option coded.Run) (r new : coded.Run) (i : ℕ)
-    → AreApart ws standing → IsRunOf ws (as_run r) → r.first ≡ i → r.height ≡ slice_index xs i → ComesNoLater standing (as_run new) (as_run r)
+    → AreApart ws standing → IsRunOf ws (as_run r) → r.first ≡ i → r.height ≡ slice_index xs i
+    → ComesNoLater standing (as_run new) (as_run r)
     → MatchOption best (new ≡ r) (λ other. ComesNoLater standing (as_run new) (as_run other) × ((new ≡ r) ⊎ (new ≡ other)))
     → MatchOption best (NoneBefore ws xs i) (λ t. IsFirstRun ws standing xs i (as_run t))
     → IsFirstRun ws standing xs (i + 1) (as_run new)

@@ -5,7 +5,7 @@ use Rattle.std.specs.Prelude.{ℕ, ◌≡◌, ◌==◌, ◌+◌, ◌-◌, ◌*�
 use Rattle.std.specs.Prelude.{if◌then◌else◌}
 use Rattle.std.specs.List.{AllZip}
 
--- neighbouring parts, from the first up to before another, that stand at a height
+-- neighbouring parts, from the first up to before another, that may rise from a height
 pub record Run : Type 0 where
   pub first : ℕ
   pub after : ℕ

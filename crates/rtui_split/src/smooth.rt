@@ -38,7 +38,7 @@ fn stand_at(parts: &[Part], turn: usize, at: usize) -> u64
     }
 }
 
-// One more than what the difference to a neighbour grows by.
+// One more than what the difference to a neighbour grows by, if each part of the run gets a unit.
 fn side_at(parts: &[Part], turn: usize, run: Run, at: usize) -> u64
     ensures value { result ≡ beside (map (if_before turn) parts.now) (as_run run) at }
     ensures few { result ≤ 2 }
@@ -50,6 +50,7 @@ fn side_at(parts: &[Part], turn: usize, run: Run, at: usize) -> u64
     }
 }
 
+// The same of the neighbour before the run, and of none.
 fn side_before(parts: &[Part], turn: usize, run: Run) -> u64
     ensures value { result ≡ growth_before (map (if_before turn) parts.now) (as_run run) }
     ensures few { result ≤ 2 }
@@ -61,6 +62,7 @@ fn side_before(parts: &[Part], turn: usize, run: Run) -> u64
     }
 }
 
+// The same behind it.
 fn side_behind(parts: &[Part], turn: usize, run: Run) -> u64
     ensures value { result ≡ growth_behind (map (if_before turn) parts.now) (as_run run) }
     ensures few { result ≤ 2 }
@@ -165,7 +167,7 @@ fn run_from(parts: &[Part], turn: usize, height: u64, first: usize) -> Run
     }
 }
 
-// The first of two runs.
+// Which of two runs comes first.
 fn first_of(parts: &[Part], turn: usize, best: Option<Run>, run: Run) -> Run
     ensures new { ComesNoLater (map (if_before turn) parts.now) (as_run result) (as_run run) }
     ensures old { MatchOption best (result ≡ run) (λ other.
@@ -178,7 +180,7 @@ fn first_of(parts: &[Part], turn: usize, best: Option<Run>, run: Run) -> Run
     }
 }
 
-// The run that comes first of those whose parts stand at its height.
+// The run that comes first of those whose first part stands at their height.
 fn next_run(parts: &[Part], turn: usize, drafts: &[Draft]) -> Option<Run>
     requires { length drafts.now ≡ length parts.now }
     ensures { MatchOption result
