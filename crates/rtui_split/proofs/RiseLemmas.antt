@@ -3,7 +3,7 @@ use Rattle.std.proofs.Common.{ℕ, ◌≡◌, ◌<◌, ◌≤◌, ◌+◌, ◌-�
 use Rattle.std.proofs.Common.{◌==◌, if◌then◌else◌, refl, sym, ◌∙◌, ap₂, subst, arith}
 use Rattle.std.proofs.lemmas.{Bool.cases_lt, List.get_or_past}
 use Rattle.std.specs.List.{AllZip}
-use Rattle.rtui_split.specs.declared.smooth.Run.{Run}
+use Rattle.rtui_split.specs.Ragged.{Run}
 use Rattle.rtui_split.specs.Ragged.{IsAtMost}
 use Rattle.rtui_split.specs.Ragged.{IsRunOf, run_length, growth_before, growth_behind, growth, rank_at, rank}
 use Rattle.rtui_split.specs.Ragged.{CostsNoMore, ComesNoLater, IsLeastRagged}

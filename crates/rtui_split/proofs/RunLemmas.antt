@@ -4,7 +4,7 @@ use Rattle.std.proofs.Common.{if◌then◌else◌, sym, ◌∙◌, ap, subst, ar
 use Rattle.std.proofs.Common.{mul-le-mul_right}
 use Rattle.std.proofs.Math.Nat.{mul_assoc, mul_comm, le_of_mul-le-mul_left}
 use Rattle.std.proofs.lemmas.{Bool.cases_lt, Bool.Decides.nat_tests, List.get_or_past}
-use Rattle.rtui_split.specs.declared.smooth.Run.{Run}
+use Rattle.rtui_split.specs.Ragged.{Run}
 use Rattle.rtui_split.specs.Ragged.{IsRunOf, run_length, beside, growth_before, growth_behind, growth, rank_at, rank}
 use Rattle.rtui_split.specs.Ragged.{ComesNoLater}
 

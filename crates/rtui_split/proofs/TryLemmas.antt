@@ -15,7 +15,7 @@ use Rattle.rtui_split.specs.Shares.{TriesItsWish}
 use Rattle.rtui_split.specs.Shares.{wanted_before, IsLevelled}
 use Rattle.rtui_split.proofs.ShareLemmas.{before-first}
 use Rattle.rtui_split.proofs.Lists.{drop_cons}
-use Rattle.rtui_split.specs.declared.smooth.Run.{Run}
+use Rattle.rtui_split.specs.Ragged.{Run}
 use Rattle.rtui_split.specs.Shares.{if_before, DifferLeast}
 use Rattle.rtui_split.specs.Ragged.{IsAtMost, IsLeastRagged}
 use Rattle.rtui_split.specs.Inner.{tries}

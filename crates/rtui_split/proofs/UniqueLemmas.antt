@@ -1,10 +1,10 @@
 -- There is one least ragged sharing of so much room.
-use Rattle.std.proofs.Common.{ℕ, ◌≡◌, ◌<◌, ◌≤◌, ◌+◌, ◌-◌, inl, inr, zero, suc, List, [], ◌∷◌, length, sum, slice_index, arith, ap₂}
-use Rattle.std.proofs.Common.{refl}
+use Rattle.std.proofs.Common.{ℕ, ◌≡◌, ◌<◌, ◌≤◌, ◌+◌, ◌-◌, inl, inr}
+use Rattle.std.proofs.Common.{zero, suc, List, [], ◌∷◌, length, sum, slice_index, arith, ap₂, refl}
 use Rattle.std.proofs.lemmas.Bool.{cases_lt}
 use Rattle.std.proofs.lemmas.List.Sums.{sum_by-cons}
 use Rattle.std.specs.List.{AllZip}
-use Rattle.rtui_split.specs.declared.smooth.Run.{Run}
+use Rattle.rtui_split.specs.Ragged.{Run}
 use Rattle.rtui_split.specs.Ragged.{IsAtMost, ComesNoLater, IsLeastRagged}
 use Rattle.rtui_split.proofs.RiseLemmas.{run_at, order_on, order_total, itself}
 use Rattle.rtui_split.proofs.WalkLemmas.{each_at_most, sum_at_most}

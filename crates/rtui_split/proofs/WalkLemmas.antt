@@ -6,11 +6,13 @@ use Rattle.std.proofs.lemmas.List.{map-set, length-map, get_or-set_same, get_or-
 use Rattle.std.proofs.lemmas.List.Sums.{sum_by-cons, sum_by-set}
 use Rattle.std.proofs.lemmas.List.Elements.{All-head, All-tail}
 use Rattle.std.specs.List.{AllZip}
-use Rattle.rtui_split.specs.declared.{part.Part.Part, draft.Draft.Draft, smooth.Run.Run}
+use Rattle.rtui_split.specs.Ragged.{Run}
+use Rattle.rtui_split.specs.declared.{part.Part.Part, draft.Draft.Draft}
+use Rattle.rtui_split.specs.declared.smooth.Run as coded
 use Rattle.rtui_split.specs.Shares.{if_in, if_before}
 use Rattle.rtui_split.specs.Ragged.{IsAtMost}
 use Rattle.rtui_split.specs.Ragged.{IsRunOf, ComesNoLater}
-use Rattle.rtui_split.specs.Inner.{tries, KeepsUpTo, IsFirstRun, StartsAt}
+use Rattle.rtui_split.specs.Inner.{tries, as_run, KeepsUpTo, IsFirstRun, StartsAt}
 use Rattle.rtui_split.proofs.RunLemmas.{IsIn, AreApart, within_list, order_nested}
 use Rattle.rtui_split.proofs.RiseLemmas.{order_on}
 
@@ -128,26 +130,28 @@ later_or_here ws standing xs new r i apart fresh run at high order before s othe
       (omega (arith, high, subst P (sym same) stands)))
 ]
 
-pub next_more : (ws standing xs : List ℕ) (best : Option Run) (r new : Run) (i : ℕ) → AreApart ws standing → IsRunOf ws r
-    → r.first ≡ i → r.height ≡ slice_index xs i → ComesNoLater standing new r
-    → MatchOption best (new ≡ r) (λ other. ComesNoLater standing new other × ((new ≡ r) ⊎ (new ≡ other)))
-    → MatchOption best (NoneBefore ws xs i) (IsFirstRun ws standing xs i) → IsFirstRun ws standing xs (i + 1) new
+pub next_more : (ws standing xs : List ℕ) (best : Option coded.Run) (r new : coded.Run) (i : ℕ)
+    → AreApart ws standing → IsRunOf ws (as_run r) → r.first ≡ i → r.height ≡ slice_index xs i
+    → ComesNoLater standing (as_run new) (as_run r)
+    → MatchOption best (new ≡ r) (λ other. ComesNoLater standing (as_run new) (as_run other) × ((new ≡ r) ⊎ (new ≡ other)))
+    → MatchOption best (NoneBefore ws xs i) (λ t. IsFirstRun ws standing xs i (as_run t))
+    → IsFirstRun ws standing xs (i + 1) (as_run new)
 next_more ws standing xs None r new i apart run at high order is before =
-    let P : Run → Type 0 = λ t. IsRunOf ws t in
-    let Q : Run → Type 0 = λ t. slice_index xs t.first ≡ t.height in
+    let P : coded.Run → Type 0 = λ t. IsRunOf ws (as_run t) in
+    let Q : coded.Run → Type 0 = λ t. slice_index xs t.first ≡ t.height in
     let R : ℕ → Type 0 = λ n. slice_index xs n ≡ r.height in
-    let fresh : IsRunOf ws new = subst P (sym is) run in
+    let fresh : IsRunOf ws (as_run new) = subst P (sym is) run in
     record {
       run = fresh;
       stands = subst Q (sym is) (subst R (sym at) (sym high));
-      first = later_or_here ws standing xs new r i apart fresh run at high order
+      first = later_or_here ws standing xs (as_run new) (as_run r) i apart fresh run at high order
           (λ s other from stands. absurd (before s other from stands));
     }
 next_more ws standing xs (Some best) r new i apart run at high order is before =
-    let P : Run → Type 0 = λ t. IsRunOf ws t in
-    let Q : Run → Type 0 = λ t. slice_index xs t.first ≡ t.height in
+    let P : coded.Run → Type 0 = λ t. IsRunOf ws (as_run t) in
+    let Q : coded.Run → Type 0 = λ t. slice_index xs t.first ≡ t.height in
     let R : ℕ → Type 0 = λ n. slice_index xs n ≡ r.height in
-    let fresh : IsRunOf ws new = elim is.1 [
+    let fresh : IsRunOf ws (as_run new) = elim is.1 [
       | inl now ↦ subst P (sym now) run
       | inr old ↦ subst P (sym old) before.run
     ] in
@@ -157,8 +161,9 @@ next_more ws standing xs (Some best) r new i apart run at high order is before =
         | inl now ↦ subst Q (sym now) (subst R (sym at) (sym high))
         | inr old ↦ subst Q (sym old) before.stands
       ];
-      first = later_or_here ws standing xs new r i apart fresh run at high order
-          (λ s other from stands. order_on ws standing new best s fresh before.run other is.0 (before.first s other from stands));
+      first = later_or_here ws standing xs (as_run new) (as_run r) i apart fresh run at high order
+          (λ s other from stands. order_on ws standing (as_run new) (as_run best) s fresh before.run other is.0
+          (before.first s other from stands));
     }
 
 -- no run begins here at its height
@@ -176,9 +181,9 @@ none_here ws xs i none s run from stands = elim (cases_lt s.first i) [
       )))
 ]
 
-pub next_same : (ws standing xs : List ℕ) (best : Option Run) (i : ℕ) → (StartsAt ws (slice_index xs i) i → ⊥)
-    → MatchOption best (NoneBefore ws xs i) (IsFirstRun ws standing xs i)
-    → MatchOption best (NoneBefore ws xs (i + 1)) (IsFirstRun ws standing xs (i + 1))
+pub next_same : (ws standing xs : List ℕ) (best : Option coded.Run) (i : ℕ) → (StartsAt ws (slice_index xs i) i → ⊥)
+    → MatchOption best (NoneBefore ws xs i) (λ t. IsFirstRun ws standing xs i (as_run t))
+    → MatchOption best (NoneBefore ws xs (i + 1)) (λ t. IsFirstRun ws standing xs (i + 1) (as_run t))
 next_same ws standing xs None i none before = λ s run from stands.
     before s run (none_here ws xs i none s run from stands) stands
 next_same ws standing xs (Some best) i none before = record {
@@ -188,9 +193,10 @@ next_same ws standing xs (Some best) i none before = record {
 }
 
 -- no run begins behind the last part
-pub next_out : (ws standing xs : List ℕ) (best : Option Run) (i n : ℕ) → n ≤ i → length ws ≡ n
-    → MatchOption best (NoneBefore ws xs i) (IsFirstRun ws standing xs i)
-    → MatchOption best ((r : Run) → IsRunOf ws r → slice_index xs r.first ≡ r.height → ⊥) (IsFirstRun ws standing xs n)
+pub next_out : (ws standing xs : List ℕ) (best : Option coded.Run) (i n : ℕ) → n ≤ i → length ws ≡ n
+    → MatchOption best (NoneBefore ws xs i) (λ t. IsFirstRun ws standing xs i (as_run t))
+    → MatchOption best ((r : Run) → IsRunOf ws r → slice_index xs r.first ≡ r.height → ⊥)
+    (λ t. IsFirstRun ws standing xs n (as_run t))
 next_out ws standing xs None i n out long before = λ s run stands.
     before s run (omega (arith, out, long, run.some, within_list ws s run)) stands
 next_out ws standing xs (Some best) i n out long before = record {

@@ -2,10 +2,11 @@
 use Rattle.std.specs.Prelude.{ℕ, ◌≡◌, ◌+◌, ◌<◌, ◌≤◌, min, List, [], ◌∷◌, ◌++◌, ⊤, length, map}
 use Rattle.std.specs.Prelude.{slice_set, slice_index_or, slice_index}
 use Rattle.rtui_layout.specs.declared.constraint.Constraint.{Constraint}
-use Rattle.rtui_split.specs.declared.{part.Part.Part, draft.Draft.Draft, smooth.Run.Run}
+use Rattle.rtui_split.specs.declared.{part.Part.Part, draft.Draft.Draft}
+use Rattle.rtui_split.specs.declared.smooth.Run as coded
 use Rattle.rtui_split.specs.Wishes.{patience, IsStretchable}
 use Rattle.rtui_split.specs.Shares.{if_in, constraints_of}
-use Rattle.rtui_split.specs.Ragged.{IsRunOf, ComesNoLater, growth_before, growth_behind}
+use Rattle.rtui_split.specs.Ragged.{Run, IsRunOf, ComesNoLater, growth_before, growth_behind}
 
 -- what the parts of this turn try together, each at most its wish
 abbrev pub tries_in : ℕ → List Part → List Draft → ℕ
@@ -39,6 +40,10 @@ IsStretched ps old new left = (at : ℕ) × (most : ℕ) × IsStretchableAt (con
 -- the sizes that are tried
 abbrev pub tries : List Draft → List ℕ
 tries ds = map (λ d. d.tried) ds
+
+-- a run of the code
+abbrev pub as_run : coded.Run → Run
+as_run r = record { first = r.first; after = r.after; height = r.height }
 
 -- the same run at another height
 abbrev pub at_height : Run → ℕ → Run

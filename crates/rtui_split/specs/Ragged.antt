@@ -4,10 +4,14 @@
 use Rattle.std.specs.Prelude.{ℕ, ◌≡◌, ◌==◌, ◌+◌, ◌-◌, ◌*◌, ◌<◌, ◌≤◌, List, length, sum, nat_lt, slice_index}
 use Rattle.std.specs.Prelude.{if◌then◌else◌}
 use Rattle.std.specs.List.{AllZip}
-use Rattle.rtui_split.specs.declared.smooth.Run.{Run}
 
--- a longest row of neighbouring parts, from the first up to before another, that wish more than its
--- height
+-- neighbouring parts, from the first up to before another, that may rise from a height
+pub record Run : Type 0 where
+  pub first : ℕ
+  pub after : ℕ
+  pub height : ℕ
+
+-- it is a longest row of neighbours that wish more than its height
 pub record IsRunOf (wishes : List ℕ) (r : Run) : Type 0 where
   pub some : r.first < r.after
   pub wish : (i : ℕ) → r.first ≤ i → i < r.after → r.height < slice_index wishes i

@@ -8,8 +8,7 @@ use Rattle.rtui_split.specs.declared.part.Part.{Part}
 use Rattle.rtui_split.specs.declared.draft.Draft.{Draft}
 use Rattle.rtui_split.specs.declared.level.Takers.{Takers}
 use Rattle.rtui_split.specs.Wishes.{turn, wish, weight_in}
-use Rattle.rtui_split.specs.declared.smooth.Run.{Run}
-use Rattle.rtui_split.specs.Ragged.{IsAtMost, IsLeastRagged}
+use Rattle.rtui_split.specs.Ragged.{Run, IsAtMost, IsLeastRagged}
 
 -- the part of a constraint in an area of so many columns or rows
 abbrev pub part_in : ℕ → Constraint → Part

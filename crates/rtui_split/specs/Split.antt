@@ -22,8 +22,7 @@ use Rattle.rtui_split.specs.{Wishes.wished_before, Wishes.wish_in, Wishes.wish_b
 use Rattle.rtui_split.specs.{Cut.AreEdges, Shares.TakesNothing}
 use Rattle.rtui_split.specs.{Shares.TakesNothingIn}
 use Rattle.rtui_split.specs.Spaces.{least_spaces, KeepsWishes, IsFlexed}
-use Rattle.rtui_split.specs.declared.smooth.Run.{Run}
-use Rattle.rtui_split.specs.Ragged.{IsAtMost, IsLeastRagged}
+use Rattle.rtui_split.specs.Ragged.{Run, IsAtMost, IsLeastRagged}
 
 -- no area, at the corner
 abbrev pub area_of_nothing : Rect

@@ -8,8 +8,7 @@ ghost use Rattle.rtui_split.specs.Cut.{IsSpace};
 ghost use Rattle.rtui_split.specs.Spaces.{KeepsWishes, IsPacked};
 ghost use Rattle.rtui_split.specs.Split.{cells_of, total_weight, FitWishes, HasTaker, IsSplit};
 ghost use Rattle.rtui_split.specs.Growth.{HasGrown};
-ghost use Rattle.rtui_split.specs.declared.smooth.Run.{Run};
-ghost use Rattle.rtui_split.specs.Ragged.{IsLeastRagged};
+ghost use Rattle.rtui_split.specs.Ragged.{Run, IsLeastRagged};
 ghost use Rattle.rtui_split.specs.Flexed.{HasFlexedSpaces, LeavesNoSpace};
 
 /// The spaces before, between and after the parts are as the flex says, in whole columns or rows:

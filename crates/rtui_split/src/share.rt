@@ -2,8 +2,8 @@
 ghost use Rattle.std.specs.Prelude.{◌≡◌, ◌-◌, ◌≤◌, ◌<◌, ◌+◌, ◌*◌, ◌^◌, ℕ};
 ghost use Rattle.std.specs.Prelude.{length, sum, sum_by, map, min, All, IsTrue, IsFalse};
 ghost use Rattle.std.specs.List.{AllZip};
-ghost use Rattle.rtui_split.specs.declared.{draft.Draft.Draft, smooth.Run.Run};
-ghost use Rattle.rtui_split.specs.{Wishes.patience, Ragged.IsLeastRagged, Ragged.IsAtMost};
+ghost use Rattle.rtui_split.specs.declared.draft.Draft.{Draft};
+ghost use Rattle.rtui_split.specs.{Wishes.patience, Ragged.Run, Ragged.IsLeastRagged, Ragged.IsAtMost};
 ghost use Rattle.rtui_split.specs.Shares.{if_before, if_in, wanted_before, wanted_in, capped_in};
 ghost use Rattle.rtui_split.specs.Shares.{IsOfTurn, constraints_of, TriesItsWish, ComeFirst, sized};
 ghost use Rattle.rtui_split.specs.Shares.{Settled, IsShared};

@@ -4,8 +4,8 @@ ghost use Rattle.std.specs.Prelude.{IsTrue, IsFalse, MatchOption, ◌⊎◌, ◌
 ghost use Rattle.rtui_split.specs.Shares.{if_in, if_before, wanted_in};
 ghost use Rattle.rtui_split.specs.Ragged.{IsRunOf, run_length, beside, growth_before, growth_behind};
 ghost use Rattle.rtui_split.specs.Ragged.{growth, rank_at, rank, CostsNoMore, ComesNoLater};
-ghost use Rattle.rtui_split.specs.Ragged.{IsLeastRagged};
-ghost use Rattle.rtui_split.specs.Inner.{tries, at_height, IsFirstRun, KeepsUpTo, StartsAt};
+ghost use Rattle.rtui_split.specs.Ragged.{Run as PartRun, IsLeastRagged};
+ghost use Rattle.rtui_split.specs.Inner.{tries, as_run, IsFirstRun, KeepsUpTo, StartsAt};
 
 use crate::draft::{Draft, try_all};
 use crate::part::{Part, turn_of};
@@ -38,9 +38,9 @@ fn stand_at(parts: &[Part], turn: usize, at: usize) -> u64
     }
 }
 
-// One more than what the difference to a neighbour grows by.
+// One more than what the difference to a neighbour grows by, if each part of the run gets a unit.
 fn side_at(parts: &[Part], turn: usize, run: Run, at: usize) -> u64
-    ensures value { result ≡ beside (map (if_before turn) parts.now) run at }
+    ensures value { result ≡ beside (map (if_before turn) parts.now) (as_run run) at }
     ensures few { result ≤ 2 }
 {
     if stand_at(parts, turn, at) > run.height {
@@ -50,8 +50,9 @@ fn side_at(parts: &[Part], turn: usize, run: Run, at: usize) -> u64
     }
 }
 
+// The same of the neighbour before the run, and of none.
 fn side_before(parts: &[Part], turn: usize, run: Run) -> u64
-    ensures value { result ≡ growth_before (map (if_before turn) parts.now) run }
+    ensures value { result ≡ growth_before (map (if_before turn) parts.now) (as_run run) }
     ensures few { result ≤ 2 }
 {
     if run.first == 0 {
@@ -61,8 +62,9 @@ fn side_before(parts: &[Part], turn: usize, run: Run) -> u64
     }
 }
 
+// The same behind it.
 fn side_behind(parts: &[Part], turn: usize, run: Run) -> u64
-    ensures value { result ≡ growth_behind (map (if_before turn) parts.now) run }
+    ensures value { result ≡ growth_behind (map (if_before turn) parts.now) (as_run run) }
     ensures few { result ≤ 2 }
 {
     if run.after == parts.len() {
@@ -74,7 +76,7 @@ fn side_behind(parts: &[Part], turn: usize, run: Run) -> u64
 
 impl Run {
     fn length(self) -> u64
-        ensures { result ≡ run_length self }
+        ensures { result ≡ run_length (as_run self) }
     {
         self.after.saturating_sub(self.first) as u64
     }
@@ -93,8 +95,8 @@ fn costs_no_more(growth: u64, length: u64, other: u64, long: u64) -> bool
 
 // Whether a run comes no later than another.
 fn comes_no_later(parts: &[Part], turn: usize, run: Run, other: Run) -> bool
-    ensures yes { IsTrue result → ComesNoLater (map (if_before turn) parts.now) run other }
-    ensures no { IsFalse result → ComesNoLater (map (if_before turn) parts.now) other run }
+    ensures yes { IsTrue result → ComesNoLater (map (if_before turn) parts.now) (as_run run) (as_run other) }
+    ensures no { IsFalse result → ComesNoLater (map (if_before turn) parts.now) (as_run other) (as_run run) }
 {
     let (growth, length) = (growth_of(parts, turn, run), run.length());
     let (others, long) = (growth_of(parts, turn, other), other.length());
@@ -110,7 +112,7 @@ fn comes_no_later(parts: &[Part], turn: usize, run: Run, other: Run) -> bool
 
 // Two more than what the differences to both neighbours grow by.
 fn growth_of(parts: &[Part], turn: usize, run: Run) -> u64
-    ensures value { result ≡ growth (map (if_before turn) parts.now) run }
+    ensures value { result ≡ growth (map (if_before turn) parts.now) (as_run run) }
     ensures few { result ≤ 4 }
 {
     side_before(parts, turn, run) + side_behind(parts, turn, run)
@@ -118,7 +120,7 @@ fn growth_of(parts: &[Part], turn: usize, run: Run) -> u64
 
 // Which of the runs of one price comes first, by the last difference that it changes.
 fn rank_of(parts: &[Part], turn: usize, run: Run) -> u128
-    ensures { result ≡ rank (map (if_before turn) parts.now) run }
+    ensures { result ≡ rank (map (if_before turn) parts.now) (as_run run) }
 {
     let behind = side_behind(parts, turn, run);
     let (grows, place) = if behind == 1 {
@@ -145,7 +147,7 @@ fn starts_at(parts: &[Part], turn: usize, height: u64, at: usize) -> bool
 // The run at this height that begins at this place.
 fn run_from(parts: &[Part], turn: usize, height: u64, first: usize) -> Run
     requires { StartsAt (map (if_in turn) parts.now) height first }
-    ensures run { IsRunOf (map (if_in turn) parts.now) result }
+    ensures run { IsRunOf (map (if_in turn) parts.now) (as_run result) }
     ensures first { result.first ≡ first }
     ensures height { result.height ≡ height }
 {
@@ -165,11 +167,11 @@ fn run_from(parts: &[Part], turn: usize, height: u64, first: usize) -> Run
     }
 }
 
-// The first of two runs.
+// Which of two runs comes first.
 fn first_of(parts: &[Part], turn: usize, best: Option<Run>, run: Run) -> Run
-    ensures new { ComesNoLater (map (if_before turn) parts.now) result run }
-    ensures old { MatchOption best (result ≡ run)
-        (λ other. ComesNoLater (map (if_before turn) parts.now) result other
+    ensures new { ComesNoLater (map (if_before turn) parts.now) (as_run result) (as_run run) }
+    ensures old { MatchOption best (result ≡ run) (λ other.
+        ComesNoLater (map (if_before turn) parts.now) (as_run result) (as_run other)
         × ((result ≡ run) ⊎ (result ≡ other))) }
 {
     match best {
@@ -178,14 +180,14 @@ fn first_of(parts: &[Part], turn: usize, best: Option<Run>, run: Run) -> Run
     }
 }
 
-// The run that comes first of those whose parts stand at its height.
+// The run that comes first of those whose first part stands at their height.
 fn next_run(parts: &[Part], turn: usize, drafts: &[Draft]) -> Option<Run>
     requires { length drafts.now ≡ length parts.now }
     ensures { MatchOption result
-        ((r : Run) → IsRunOf (map (if_in turn) parts.now) r
+        ((r : PartRun) → IsRunOf (map (if_in turn) parts.now) r
         → slice_index (tries drafts.now) r.first ≡ r.height → ⊥)
-        (IsFirstRun (map (if_in turn) parts.now) (map (if_before turn) parts.now)
-        (tries drafts.now) (length parts.now)) }
+        (λ r. IsFirstRun (map (if_in turn) parts.now) (map (if_before turn) parts.now)
+        (tries drafts.now) (length parts.now) (as_run r)) }
 {
     let mut best: Option<Run> = None;
     for first in 0..parts.len() {
@@ -213,10 +215,10 @@ fn bounded(top: u64, height: u64, beside: u64) -> u64
 
 // The height below which a run keeps its parts and its neighbours.
 fn ceiling_of(parts: &[Part], turn: usize, run: Run) -> u64
-    requires { IsRunOf (map (if_in turn) parts.now) run }
+    requires { IsRunOf (map (if_in turn) parts.now) (as_run run) }
     ensures higher { run.height < result }
-    ensures keeps { KeepsUpTo (map (if_in turn) parts.now) (map (if_before turn) parts.now) run
-        result }
+    ensures keeps { KeepsUpTo (map (if_in turn) parts.now) (map (if_before turn) parts.now)
+        (as_run run) result }
 {
     let mut top = wish_at(parts, turn, run.first);
     for i in run.first..run.after {
@@ -239,7 +241,7 @@ fn raise(run: Run, height: u64, drafts: &mut [Draft])
     ensures others { (i : ℕ) → (i < run.first) ⊎ (run.after ≤ i)
         → slice_index (tries drafts.new) i ≡ slice_index (tries drafts.old) i }
     ensures all { sum (tries drafts.new)
-        ≡ sum (tries drafts.old) + (height - run.height) * run_length run }
+        ≡ sum (tries drafts.old) + (height - run.height) * run_length (as_run run) }
 {
     for i in run.first..run.after {
         drafts[i].tried = height;
@@ -250,7 +252,7 @@ fn raise(run: Run, height: u64, drafts: &mut [Draft])
 pub(crate) fn smooth(parts: &[Part], turn: usize, room: u64, drafts: &mut [Draft])
     requires drafts { length drafts.old ≡ length parts.now }
     requires short { room < wanted_in turn parts.now }
-    ensures { (end : Run) × IsLeastRagged (map (if_in turn) parts.now)
+    ensures { (end : PartRun) × IsLeastRagged (map (if_in turn) parts.now)
         (map (if_before turn) parts.now) room (tries drafts.new) end }
 {
     try_all(0, drafts);

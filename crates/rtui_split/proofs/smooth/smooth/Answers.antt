@@ -6,7 +6,7 @@ use Rattle.std.proofs.lemmas.List.Sums.{sum-map}
 use Rattle.rtui_split.specs.declared.{draft.Draft.Draft}
 use Rattle.rtui_split.specs.Shares.{if_in, if_before}
 use Rattle.rtui_split.specs.Ragged.{run_length}
-use Rattle.rtui_split.specs.Inner.{tries, at_height, IsFirstRun}
+use Rattle.rtui_split.specs.Inner.{tries, as_run, at_height, IsFirstRun}
 use Rattle.rtui_split.proofs.RunLemmas.{within_list}
 use Rattle.rtui_split.proofs.RiseLemmas.{flat, rise_on, least_ragged, all_risen, in_or_out}
 use Rattle.rtui_split.proofs.WalkLemmas.{apart, tries_nothing, sum_of_nothing, keeps_within, each_at_most, sum_at_most}
@@ -26,7 +26,7 @@ raise-requires-clause-within c =
     let ws = map (if_in c.args.turn) c.args.parts.now in
     omega (
       arith,
-      within_list ws c.in-Some.run' c.in-Some.ensures.run,
+      within_list ws (as_run c.in-Some.run') c.in-Some.ensures.run,
       length-map c.args.parts.now (if_in c.args.turn),
     )
 
@@ -36,7 +36,7 @@ raise-requires-clause-stand c =
     let ws = map (if_in c.args.turn) parts in
     let standing = map (if_before c.args.turn) parts in
     let xs = tries c.rising.drafts in
-    let run = c.in-Some.run' in
+    let run = as_run c.in-Some.run' in
     let F : ℕ → Type 0 = λ n. IsFirstRun ws standing xs n run in
     let first : F (length ws) = subst F (sym (length-map parts (if_in c.args.turn))) c.in-Some.ensures in
     λ i from to. flat ws standing xs run (apart c.args.turn parts) c.rising.invariant.order first i (from, to)
@@ -56,7 +56,7 @@ rising-preserved c =
     let ws = map (if_in c.args.turn) parts in
     let standing = map (if_before c.args.turn) parts in
     let xs = tries c.rising.drafts in
-    let run = c.in-Some.run' in
+    let run = as_run c.in-Some.run' in
     let F : ℕ → Type 0 = λ n. IsFirstRun ws standing xs n run in
     let first : F (length ws) = subst F (sym (length-map parts (if_in c.args.turn))) c.in-Some.ensures in
     let by = c.min-by.result in
@@ -70,8 +70,8 @@ rising-preserved c =
     let same : (h - run.height) * run_length run ≡ by * n =
     ap (λ x. x * run_length run) risen ∙ ap (λ x. by * x) (sym c.length-length.ensures) in
     record {
-      order = rise_on ws standing xs ys run c.ceiling_of-top.result h (apart c.args.turn parts) c.rising.invariant.order first keeps
-          to (omega arith) (c.raise.ensures.inside, c.raise.ensures.others);
+      order = rise_on ws standing xs ys run c.ceiling_of-top.result h (apart c.args.turn parts) c.rising.invariant.order first
+          keeps to (omega arith) (c.raise.ensures.inside, c.raise.ensures.others);
       within = λ i. elim (in_or_out run i) [
         | inl inside ↦ omega (
           arith,
@@ -96,7 +96,7 @@ returns-then-run-by c =
     let ws = map (if_in c.args.turn) parts in
     let standing = map (if_before c.args.turn) parts in
     let xs = tries c.rising.drafts in
-    let run = c.in-Some.run' in
+    let run = as_run c.in-Some.run' in
     let F : ℕ → Type 0 = λ n. IsFirstRun ws standing xs n run in
     let first : F (length ws) = subst F (sym (length-map parts (if_in c.args.turn))) c.in-Some.ensures in
     let by = c.min-by.result in
