@@ -55,10 +55,10 @@ spaces_hold : (d : Direction) (start r m first last cells : ℕ) (F M L : ℕ �
     → AreEdges d start r m first us ps → first + sum us + (length ps - 1) * m + last ≡ cells * 5040000
     → F ((first + r) / 5040000) → ((e : ℕ) → M ((e + m + r) / 5040000 - (e + r) / 5040000))
     → L (cells - (cells * 5040000 - last + r) / 5040000) → SpacesAre d start (start + cells) F M L ps
-spaces_hold d start r m first last cells F M L [] [] edges whole before between behind = tt
-spaces_hold d start r m first last cells F M L [] (p ∷ ps) edges whole before between behind = absurd edges
-spaces_hold d start r m first last cells F M L (u ∷ us) [] edges whole before between behind = absurd edges
-spaces_hold d start r m first last cells F M L (u ∷ us) (p ∷ ps) edges whole before between behind =
+spaces_hold d start r m first last cells F M L [] [] edges whole before between ended = tt
+spaces_hold d start r m first last cells F M L [] (p ∷ ps) edges whole before between ended = absurd edges
+spaces_hold d start r m first last cells F M L (u ∷ us) [] edges whole before between ended = absurd edges
+spaces_hold d start r m first last cells F M L (u ∷ us) (p ∷ ps) edges whole before between ended =
     let lead : (first + r) / 5040000 ≡ first_cell d p - start = omega (arith, edges.0) in
     let end = cells * 5040000 - last in
     let long : length us ≡ length ps = edges_long d start r m (first + u + m) us ps edges.2 in
@@ -67,7 +67,7 @@ spaces_hold d start r m first last cells F M L (u ∷ us) (p ∷ ps) edges whole
     omega (arith, whole, gaps, sum-plus m us, sum_by-cons (λ n. n) u us) in
     let rest : cells - (end + r) / 5040000 ≡ start + cells - (start + (end + r) / 5040000) = omega arith in (
       subst F lead before,
-      edges_after d start r m end (start + cells) M L between (subst L rest behind) (first + u) (after_of d p) us ps edges.2
+      edges_after d start r m end (start + cells) M L between (subst L rest ended) (first + u) (after_of d p) us ps edges.2
           ends edges.1,
     )
 

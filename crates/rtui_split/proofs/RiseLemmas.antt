@@ -5,7 +5,7 @@ use Rattle.std.proofs.lemmas.{Bool.cases_lt, List.get_or_past}
 use Rattle.std.specs.List.{AllZip}
 use Rattle.rtui_split.specs.Ragged.{Run}
 use Rattle.rtui_split.specs.Ragged.{IsAtMost}
-use Rattle.rtui_split.specs.Ragged.{IsRunOf, run_length, growth_before, growth_behind, growth, rank_at, rank}
+use Rattle.rtui_split.specs.Ragged.{IsRunOf, run_length, growth_before, growth_after, growth, rank_at, rank}
 use Rattle.rtui_split.specs.Ragged.{CostsNoMore, ComesNoLater, IsLeastRagged}
 use Rattle.rtui_split.specs.Inner.{at_height, KeepsUpTo, IsFirstRun}
 use Rattle.rtui_split.proofs.RunLemmas.{IsIn, AreApart, within_list, nested, beside_high, beside_low, before_edge, before_inner}
@@ -91,7 +91,7 @@ run_at ws h i here =
           | inr before ↦ front.2 k from before
         ];
         before = front.3;
-        behind = end.3;
+        ended = end.3;
       },
       (front.1, longer),
       refl,
@@ -133,9 +133,9 @@ order_total standing r s later = elim (cases_lt (growth standing s * run_length 
               λ back. elim (cases_lt (rank standing s) (rank standing r)) [
                 | inl before ↦ (omega (arith, before), λ ranks. absurd (omega (arith, ranks, before)))
                 | inr not_before ↦ elim (cases_lt (rank standing r) (rank standing s)) [
-                  | inl behind ↦ absurd (later (
+                  | inl ended ↦ absurd (later (
                     no_less,
-                    λ _. (omega (arith, behind), λ ranks. absurd (omega (arith, ranks, behind))),
+                    λ _. (omega (arith, ended), λ ranks. absurd (omega (arith, ranks, ended))),
                   ))
                   | inr equal ↦ elim (cases_lt s.height r.height) [
                     | inl lower ↦ (equal, λ _. omega (arith, lower))
@@ -239,7 +239,7 @@ rank_place ws standing r apart run =
     let within : r.after ≤ n = omega (arith, within_list ws r run, apart.0) in
     let R : ℕ → ℕ → ℕ = λ b c. if c == 1 then rank_at n b r.first else rank_at n c r.after in
     let P : ℕ → ℕ → Type 0 = λ b c. rank standing r ≡ R b c in
-    let by : (b c : ℕ) → growth_before standing r ≡ b → growth_behind standing r ≡ c → P b c =
+    let by : (b c : ℕ) → growth_before standing r ≡ b → growth_after standing r ≡ c → P b c =
     λ b c one two. subst (λ x. P x c) one (subst (λ y. P (growth_before standing r) y) two refl) in
     elim (cases_lt r.after n) [
       | inl inner ↦ elim (cases_lt r.height (slice_index standing r.after)) [
@@ -265,7 +265,7 @@ rank_place ws standing r apart run =
       ]
       | inr past ↦
           let edge : r.after ≡ n = omega (arith, past, within) in
-          let behind = behind_edge standing r edge in
+          let ended = behind_edge standing r edge in
           elim (cases_lt 0 r.first) [
             | inl inside ↦ elim (cases_lt r.height (slice_index standing (r.first - 1))) [
               | inl high ↦ (
@@ -273,7 +273,7 @@ rank_place ws standing r apart run =
                 inr (omega (
                   arith,
                   by 0 1 (before_inner standing r inside
-                      ∙ beside_high standing r (r.first - 1) high) behind,
+                      ∙ beside_high standing r (r.first - 1) high) ended,
                 )),
                 inr (edge, refl),
               )
@@ -284,14 +284,14 @@ rank_place ws standing r apart run =
                   some,
                   within,
                   by 2 1 (before_inner standing r inside
-                      ∙ beside_low standing r (r.first - 1) low) behind,
+                      ∙ beside_low standing r (r.first - 1) low) ended,
                 )),
                 inr (edge, refl),
               )
             ]
             | inr first ↦ (
               r.first,
-              inl (omega (arith, first, by 1 1 (before_edge standing r (omega (arith, first))) behind)),
+              inl (omega (arith, first, by 1 1 (before_edge standing r (omega (arith, first))) ended)),
               inr (edge, refl),
             )
           ]
@@ -325,7 +325,7 @@ share_part ws standing r s apart run other lower ranks =
         | inr edge ↦ absurd (omega (
           arith,
           lower,
-          run.behind,
+          run.ended,
           other.wish r.after (omega (arith, inner, edge, same)) (omega (arith, inner, edge)),
         ))
       ]
@@ -382,7 +382,7 @@ in_or_out r i = elim (cases_lt i r.first) [
   | inl before ↦ inr (inl before)
   | inr from ↦ elim (cases_lt i r.after) [
     | inl inside ↦ inl (from, inside)
-    | inr behind ↦ inr (inr behind)
+    | inr ended ↦ inr (inr ended)
   ]
 ]
 

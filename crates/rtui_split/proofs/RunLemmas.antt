@@ -5,7 +5,7 @@ use Rattle.std.proofs.Common.{mul-le-mul_right}
 use Rattle.std.proofs.Math.Nat.{mul_assoc, mul_comm, le_of_mul-le-mul_left}
 use Rattle.std.proofs.lemmas.{Bool.cases_lt, Bool.Decides.nat_tests, List.get_or_past}
 use Rattle.rtui_split.specs.Ragged.{Run}
-use Rattle.rtui_split.specs.Ragged.{IsRunOf, run_length, beside, growth_before, growth_behind, growth, rank_at, rank}
+use Rattle.rtui_split.specs.Ragged.{IsRunOf, run_length, beside, growth_before, growth_after, growth, rank_at, rank}
 use Rattle.rtui_split.specs.Ragged.{ComesNoLater}
 
 abbrev pub IsIn : Run → ℕ → Type 0
@@ -41,7 +41,7 @@ nested ws r s i run other here there lower = (
     | inr more ↦ more
   ],
   elim (cases_lt r.after s.after) [
-    | inl less ↦ absurd (omega (arith, lower, run.behind, other.wish r.after (omega (arith, here, there)) less))
+    | inl less ↦ absurd (omega (arith, lower, run.ended, other.wish r.after (omega (arith, here, there)) less))
     | inr more ↦ more
   ],
 )
@@ -59,11 +59,11 @@ before_edge standing r edge = grind (arith, nat_tests, edge)
 pub before_inner : (standing : List ℕ) (r : Run) → 0 < r.first → growth_before standing r ≡ beside standing r (r.first - 1)
 before_inner standing r inner = grind (arith, nat_tests, inner)
 
-pub behind_edge : (standing : List ℕ) (r : Run) → r.after ≡ length standing → growth_behind standing r ≡ 1
+pub behind_edge : (standing : List ℕ) (r : Run) → r.after ≡ length standing → growth_after standing r ≡ 1
 behind_edge standing r edge = grind (arith, nat_tests, edge)
 
 pub behind_inner : (standing : List ℕ) (r : Run) → r.after < length standing
-    → growth_behind standing r ≡ beside standing r r.after
+    → growth_after standing r ≡ beside standing r r.after
 behind_inner standing r inner = grind (arith, nat_tests, inner)
 
 -- at the same place it grows by no less if a run is higher
@@ -85,7 +85,7 @@ before_few standing r = elim (cases_lt 0 r.first) [
   | inr edge ↦ omega (arith, before_edge standing r (omega (arith, edge)))
 ]
 
-behind_few : (standing : List ℕ) (r : Run) → r.after ≤ length standing → growth_behind standing r ≤ 2
+behind_few : (standing : List ℕ) (r : Run) → r.after ≤ length standing → growth_after standing r ≤ 2
 behind_few standing r within = elim (cases_lt r.after (length standing)) [
   | inl inner ↦ omega (arith, behind_inner standing r inner, beside_few standing r r.after)
   | inr edge ↦ omega (arith, behind_edge standing r (omega (arith, edge, within)))
@@ -123,10 +123,10 @@ before_later ws standing r s apart run other lower first after =
 
 behind_later : (ws standing : List ℕ) (r s : Run) → AreApart ws standing → IsRunOf ws r → IsRunOf ws s → r.height ≤ s.height
     → r.first ≤ s.first → s.after ≤ r.after
-    → (growth_behind standing r ≤ growth_behind standing s) × (s.after < r.after → growth_behind standing s ≡ 2)
+    → (growth_after standing r ≤ growth_after standing s) × (s.after < r.after → growth_after standing s ≡ 2)
 behind_later ws standing r s apart run other lower first after =
     let within : r.after ≤ length standing = omega (arith, within_list ws r run, apart.0) in
-    let shrunk : s.after < r.after → growth_behind standing s ≡ 2 = λ less.
+    let shrunk : s.after < r.after → growth_after standing s ≡ 2 = λ less.
     let own = run.wish s.after (omega (arith, other.some, first)) less in
     behind_inner standing s (omega (arith, less, within))
     ∙ beside_low standing s s.after (omega (arith, apart.1 s.after (omega (arith, own)))) in (
@@ -225,17 +225,17 @@ cost_on a b c n m k some first second =
 rank_le : (n b c f g x y : ℕ) → b ≤ 2 → c ≤ 2 → f ≤ g → y ≤ x → (f < g → b ≡ 2) → (y < x → c ≡ 2)
     → ((f ≡ g) × (x ≡ y)) ⊎ (b + c ≡ 2)
     → (if c == 1 then rank_at n b f else rank_at n c x) ≤ (if c == 1 then rank_at n b g else rank_at n c y)
-rank_le n b zero f g x y few less first after before behind sides = elim (cases_lt y x) [
-  | inl shorter ↦ absurd (omega (arith, behind shorter))
+rank_le n b zero f g x y few less first after before ended sides = elim (cases_lt y x) [
+  | inl shorter ↦ absurd (omega (arith, ended shorter))
   | inr same ↦ omega (arith, same)
 ]
-rank_le n zero (suc zero) f g x y few less first after before behind sides = omega arith
-rank_le n (suc zero) (suc zero) f g x y few less first after before behind sides = omega arith
-rank_le n (suc (suc zero)) (suc zero) f g x y few less first after before behind (inl same) = omega (arith, same)
-rank_le n (suc (suc zero)) (suc zero) f g x y few less first after before behind (inr two) = absurd (omega (arith, two))
-rank_le n (suc (suc (suc b))) (suc zero) f g x y few less first after before behind sides = absurd (omega (arith, few))
-rank_le n b (suc (suc zero)) f g x y few less first after before behind sides = omega arith
-rank_le n b (suc (suc (suc c))) f g x y few less first after before behind sides = absurd (omega (arith, less))
+rank_le n zero (suc zero) f g x y few less first after before ended sides = omega arith
+rank_le n (suc zero) (suc zero) f g x y few less first after before ended sides = omega arith
+rank_le n (suc (suc zero)) (suc zero) f g x y few less first after before ended (inl same) = omega (arith, same)
+rank_le n (suc (suc zero)) (suc zero) f g x y few less first after before ended (inr two) = absurd (omega (arith, two))
+rank_le n (suc (suc (suc b))) (suc zero) f g x y few less first after before ended sides = absurd (omega (arith, few))
+rank_le n b (suc (suc zero)) f g x y few less first after before ended sides = omega arith
+rank_le n b (suc (suc (suc c))) f g x y few less first after before ended sides = absurd (omega (arith, less))
 
 -- of two runs with a part in common the lower one comes first
 pub order_nested : (ws standing : List ℕ) (r s : Run) (i : ℕ) → AreApart ws standing → IsRunOf ws r → IsRunOf ws s → IsIn r i
@@ -261,11 +261,11 @@ order_nested ws standing r s i apart run other here there lower =
           let equal = cost_equal (growth standing r) (growth standing s) n d (omega (arith, other.some))
           (omega (arith, left.0, right.0)) sides (subst Q long back) in
           let b : growth_before standing r ≡ growth_before standing s = omega (arith, equal.0, left.0, right.0) in
-          let c : growth_behind standing r ≡ growth_behind standing s = omega (arith, equal.0, left.0, right.0) in
+          let c : growth_after standing r ≡ growth_after standing s = omega (arith, equal.0, left.0, right.0) in
           let R : ℕ → ℕ → Type 0 = λ x y. (if y == 1 then rank_at (length standing) x r.first
           else rank_at (length standing) y r.after) ≤ rank standing s in (
-            subst (λ x. R x (growth_behind standing r)) (sym b) (subst (R (growth_before standing s)) (sym c)
-                (rank_le (length standing) (growth_before standing s) (growth_behind standing s) r.first s.first r.after s.after
+            subst (λ x. R x (growth_after standing r)) (sym b) (subst (R (growth_before standing s)) (sym c)
+                (rank_le (length standing) (growth_before standing s) (growth_after standing s) r.first s.first r.after s.after
                 (before_few standing s) (behind_few standing s (omega (arith, within_list ws s other, apart.0)))
                 within.0 within.1 left.1 right.1
                 (elim equal.1 [

@@ -192,7 +192,7 @@ next_same ws standing xs (Some best) i none before = record {
   first = λ s run from stands. before.first s run (none_here ws xs i none s run from stands) stands;
 }
 
--- no run begins behind the last part
+-- no run begins ended the last part
 pub next_out : (ws standing xs : List ℕ) (best : Option coded.Run) (i n : ℕ) → n ≤ i → length ws ≡ n
     → MatchOption best (NoneBefore ws xs i) (λ t. IsFirstRun ws standing xs i (as_run t))
     → MatchOption best ((r : Run) → IsRunOf ws r → slice_index xs r.first ≡ r.height → ⊥)

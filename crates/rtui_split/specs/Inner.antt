@@ -6,7 +6,7 @@ use Rattle.rtui_split.specs.declared.{part.Part.Part, draft.Draft.Draft}
 use Rattle.rtui_split.specs.declared.smooth.Run as coded
 use Rattle.rtui_split.specs.Wishes.{patience, IsStretchable}
 use Rattle.rtui_split.specs.Shares.{if_in, constraints_of}
-use Rattle.rtui_split.specs.Ragged.{Run, IsRunOf, ComesNoLater, growth_before, growth_behind}
+use Rattle.rtui_split.specs.Ragged.{Run, IsRunOf, ComesNoLater, growth_before, growth_after}
 
 -- what the parts of this turn try together, each at most its wish
 abbrev pub tries_in : ℕ → List Part → List Draft → ℕ
@@ -66,4 +66,4 @@ pub record IsFirstRun (wishes standing shares : List ℕ) (to : ℕ) (r : Run) :
 abbrev pub KeepsUpTo : List ℕ → List ℕ → Run → ℕ → Type 0
 KeepsUpTo wishes standing r top = (h : ℕ) → r.height ≤ h → h < top → IsRunOf wishes (at_height r h)
     × (growth_before standing (at_height r h) ≡ growth_before standing r)
-    × (growth_behind standing (at_height r h) ≡ growth_behind standing r)
+    × (growth_after standing (at_height r h) ≡ growth_after standing r)

@@ -16,7 +16,7 @@ pub record IsRunOf (wishes : List ℕ) (r : Run) : Type 0 where
   pub some : r.first < r.after
   pub wish : (i : ℕ) → r.first ≤ i → i < r.after → r.height < slice_index wishes i
   pub before : (i : ℕ) → i + 1 ≡ r.first → slice_index wishes i ≤ r.height
-  pub behind : slice_index wishes r.after ≤ r.height
+  pub ended : slice_index wishes r.after ≤ r.height
 
 -- how many parts it has
 abbrev pub run_length : Run → ℕ
@@ -30,12 +30,12 @@ beside standing r i = if nat_lt r.height (slice_index standing i) then 0 else 2
 abbrev pub growth_before : List ℕ → Run → ℕ
 growth_before standing r = if r.first == 0 then 1 else beside standing r (r.first - 1)
 
-abbrev pub growth_behind : List ℕ → Run → ℕ
-growth_behind standing r = if r.after == length standing then 1 else beside standing r r.after
+abbrev pub growth_after : List ℕ → Run → ℕ
+growth_after standing r = if r.after == length standing then 1 else beside standing r r.after
 
 -- two more than what both differences grow by
 abbrev pub growth : List ℕ → Run → ℕ
-growth standing r = growth_before standing r + growth_behind standing r
+growth standing r = growth_before standing r + growth_after standing r
 
 -- for each unit of room the differences grow by no more than with the other run: the growths less two,
 -- over the lengths, without quotients
@@ -51,9 +51,9 @@ rank_at parts grows place = if grows == 2 then parts - place
     else (if grows == 1 then parts else parts + place)
 
 abbrev pub rank : List ℕ → Run → ℕ
-rank standing r = if growth_behind standing r == 1
+rank standing r = if growth_after standing r == 1
     then rank_at (length standing) (growth_before standing r) r.first
-    else rank_at (length standing) (growth_behind standing r) r.after
+    else rank_at (length standing) (growth_after standing r) r.after
 
 -- a run comes no later than another: it is cheaper; or it costs as much, and is before it in rank; or
 -- in that they are the same, too, and it is no higher

@@ -2,7 +2,7 @@
 ghost use Rattle.std.specs.Prelude.{ℕ, ◌≡◌, ◌≤◌, ◌<◌, ◌+◌, ◌-◌, length, map, sum, slice_index, List};
 ghost use Rattle.std.specs.Prelude.{IsTrue, IsFalse, MatchOption, ◌⊎◌, ◌*◌};
 ghost use Rattle.rtui_split.specs.Shares.{if_in, if_before, wanted_in};
-ghost use Rattle.rtui_split.specs.Ragged.{IsRunOf, run_length, beside, growth_before, growth_behind};
+ghost use Rattle.rtui_split.specs.Ragged.{IsRunOf, run_length, beside, growth_before, growth_after};
 ghost use Rattle.rtui_split.specs.Ragged.{growth, rank_at, rank, CostsNoMore, ComesNoLater};
 ghost use Rattle.rtui_split.specs.Ragged.{Run as PartRun, IsLeastRagged};
 ghost use Rattle.rtui_split.specs.Inner.{tries, as_run, IsFirstRun, KeepsUpTo, StartsAt};
@@ -62,9 +62,9 @@ fn side_before(parts: &[Part], turn: usize, run: Run) -> u64
     }
 }
 
-// The same behind it.
-fn side_behind(parts: &[Part], turn: usize, run: Run) -> u64
-    ensures value { result ≡ growth_behind (map (if_before turn) parts.now) (as_run run) }
+// The same ended it.
+fn side_after(parts: &[Part], turn: usize, run: Run) -> u64
+    ensures value { result ≡ growth_after (map (if_before turn) parts.now) (as_run run) }
     ensures few { result ≤ 2 }
 {
     if run.after == parts.len() {
@@ -115,18 +115,18 @@ fn growth_of(parts: &[Part], turn: usize, run: Run) -> u64
     ensures value { result ≡ growth (map (if_before turn) parts.now) (as_run run) }
     ensures few { result ≤ 4 }
 {
-    side_before(parts, turn, run) + side_behind(parts, turn, run)
+    side_before(parts, turn, run) + side_after(parts, turn, run)
 }
 
 // Which of the runs of one price comes first, by the last difference that it changes.
 fn rank_of(parts: &[Part], turn: usize, run: Run) -> u128
     ensures { result ≡ rank (map (if_before turn) parts.now) (as_run run) }
 {
-    let behind = side_behind(parts, turn, run);
-    let (grows, place) = if behind == 1 {
+    let ended = side_after(parts, turn, run);
+    let (grows, place) = if ended == 1 {
         (side_before(parts, turn, run), run.first)
     } else {
-        (behind, run.after)
+        (ended, run.after)
     };
     let (count, place) = (parts.len() as u128, place as u128);
     match grows {

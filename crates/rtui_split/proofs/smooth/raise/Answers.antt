@@ -24,8 +24,8 @@ loop-i-preserved c =
       others = λ k out. elim out [
         | inl before ↦ tries_other drafts i k new (λ same. absurd (omega (arith, before, same, inv.from)))
             ∙ inv.others k (inl before)
-        | inr behind ↦ tries_other drafts i k new (λ same. absurd (omega (arith, behind, same)))
-            ∙ inv.others k (inr (omega (arith, behind)))
+        | inr ended ↦ tries_other drafts i k new (λ same. absurd (omega (arith, ended, same)))
+            ∙ inv.others k (inr (omega (arith, ended)))
       ];
       all = omega (
         arith,
