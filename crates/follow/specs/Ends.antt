@@ -3,6 +3,7 @@ use Rattle.std.specs.Prelude.{◌≡◌, ℕ, IfSome, Option, Some, List, [], �
 use Rattle.std.specs.Io.BufRead.{take_through}
 use Rattle.ratatui_core.specs.Layout.{Size}
 use Rattle.ratatui_ansi.specs.{Backend.BackendState, Backend.shown_by, declared.error.AnsiError.AnsiError}
+use Rattle.ratatui_ansi.specs.Refusals.{StopsSending}
 use Rattle.logview.specs.{Views.IsFollowing, Views.IsViewOf, Views.RefusesPush, declared.view.LogView.LogView}
 use Rattle.follow.specs.{Lines.shown_line, Lines.AreLinesOf, declared.fault.Fault.Fault}
 use Rattle.follow.specs.declared.fault.Fault.TheVariants.{Terminal, Read, Write, Lines}
@@ -12,7 +13,7 @@ use Rattle.follow.specs.declared.fault.Fault.TheVariants.{Terminal, Read, Write,
 abbrev pub StopsAtNext : {W : Type 0} → List ℕ → LogView (BackendState W) AnsiError
     → LogView (BackendState W) AnsiError → Fault → Type 0
 StopsAtNext text v w (Terminal error) = IsFollowing shown_by v
-    → RefusesPush shown_by (shown_line (take_through 10 text)) v w error
+    → RefusesPush shown_by StopsSending (shown_line (take_through 10 text)) v w error
 StopsAtNext text v w (Read error) = w ≡ v
 StopsAtNext text v w (Write error) = ⊥
 StopsAtNext text v w Lines = ⊥
@@ -21,7 +22,7 @@ StopsAtNext text v w Lines = ⊥
 abbrev pub StopsAfter : {W : Type 0} → List ℕ → LogView (BackendState W) AnsiError
     → LogView (BackendState W) AnsiError → Fault → Type 0
 StopsAfter text v w (Terminal error) = IsFollowing shown_by v
-    → RefusesPush shown_by (shown_line (take_through 10 text)) v w error
+    → RefusesPush shown_by StopsSending (shown_line (take_through 10 text)) v w error
 StopsAfter text v w (Read error) = w ≡ v
 StopsAfter text v w (Write error) = ⊥
 StopsAfter text v w Lines = w ≡ v

@@ -50,13 +50,13 @@ module _ {B : Type 0} (screen : B → Screen) where
       omega (arith, again, own, most)
 
   -- by the answer of the insertion
-  pub inserts-most-if : {T F : Type 0} (line : List ℕ) (s t : TerminalData B) (filled : Result (Unit {0}) AllocError → BufferData
-      → Type 0) (result : Result T (TerminalError F)) → IsOverRow screen s
+  pub inserts-most-if : {T F : Type 0} (stops_at : B → B → Type 0) (line : List ℕ) (s t : TerminalData B)
+      (filled : Result (Unit {0}) AllocError → BufferData → Type 0) (result : Result T (TerminalError F)) → IsOverRow screen s
       → ((sheet : BufferData) → filled (Ok tt) sheet → FillsRow line (inserted_area s 1) sheet)
-      → InsertsBy screen (inserted_area s 1) filled s t result
+      → InsertsBy screen stops_at (inserted_area s 1) filled s t result
       → OnOk result (WritesAtMost (cells_pushed (screen s.backend)) (screen s.backend) (screen t.backend))
-  inserts-most-if line s t filled (Ok x) is only by = inserts-most line s t filled is only by
-  inserts-most-if line s t filled (Err e) is only by = tt
+  inserts-most-if stops_at line s t filled (Ok x) is only by = inserts-most line s t filled is only by
+  inserts-most-if stops_at line s t filled (Err e) is only by = tt
 
 module _ {B E : Type 0} (screen : B → Screen) where
   -- an insertion keeps the rows below the viewport
@@ -77,30 +77,32 @@ module _ {B E : Type 0} (screen : B → Screen) where
       record { at = λ a b a_in b_in low. inserts.kept (over-takes screen s is) is.in_step settled a b a_in b_in (omega arith) }
 
   -- by the answer of the insertion
-  pub inserts-below-if : {T F : Type 0} (line : List ℕ) (v w : LogView B E) (filled : Result (Unit {0}) AllocError → BufferData
-      → Type 0) (result : Result T (TerminalError F)) → IsOverRow screen v.terminal
+  pub inserts-below-if : {T F : Type 0} (stops_at : B → B → Type 0) (line : List ℕ) (v w : LogView B E)
+      (filled : Result (Unit {0}) AllocError → BufferData → Type 0) (result : Result T (TerminalError F))
+      → IsOverRow screen v.terminal
       → ((sheet : BufferData) → filled (Ok tt) sheet → FillsRow line (inserted_area v.terminal 1) sheet)
-      → InsertsBy screen (inserted_area v.terminal 1) filled v.terminal w.terminal result → OnOk result (KeepsBelow screen v w)
-  inserts-below-if line v w filled (Ok x) is only by = inserts-below line v w filled is only by
-  inserts-below-if line v w filled (Err e) is only by = tt
+      → InsertsBy screen stops_at (inserted_area v.terminal 1) filled v.terminal w.terminal result
+      → OnOk result (KeepsBelow screen v w)
+  inserts-below-if stops_at line v w filled (Ok x) is only by = inserts-below line v w filled is only by
+  inserts-below-if stops_at line v w filled (Err e) is only by = tt
 
   -- a refused insertion
-  pub refuses-line-if : {T : Type 0} (line : List ℕ) (v w : LogView B E) (filled : Result (Unit {0}) AllocError → BufferData
-      → Type 0) (result : Result T (TerminalError E)) → w.count ≡ v.count
+  pub refuses-line-if : {T : Type 0} (stops_at : B → B → Type 0) (line : List ℕ) (v w : LogView B E)
+      (filled : Result (Unit {0}) AllocError → BufferData → Type 0) (result : Result T (TerminalError E)) → w.count ≡ v.count
       → ((sheet : BufferData) → filled (Ok tt) sheet → FillsRow line (inserted_area v.terminal 1) sheet)
       → ((sheet : BufferData) → filled (Ok tt) sheet → sheet.area ≡ inserted_area v.terminal 1)
-      → InsertsBy screen (inserted_area v.terminal 1) filled v.terminal w.terminal result
-      → IfErr result (RefusesLine screen line v w)
-  refuses-line-if line v w filled (Ok x) count only keeps by = tt
-  refuses-line-if line v w filled (Err (Backend e)) count only keeps by = record {
+      → InsertsBy screen stops_at (inserted_area v.terminal 1) filled v.terminal w.terminal result
+      → IfErr result (RefusesLine screen stops_at line v w)
+  refuses-line-if stops_at line v w filled (Ok x) count only keeps by = tt
+  refuses-line-if stops_at line v w filled (Err (Backend e)) count only keeps by = record {
     count = count;
     row = by.inserted;
     filled = only by.inserted by.closure;
     stops = by.stops;
   }
-  refuses-line-if line v w filled (Err Memory) count only keeps by = ap₂ (λ t n. record { terminal = t; count = n }) by.0 count
-  refuses-line-if line v w filled (Err Area) count only keeps by = absurd (by.over (keeps by.inserted by.closure))
-  refuses-line-if line v w filled (Err (Closure e)) count only keeps by = absurd by
+  refuses-line-if stops_at line v w filled (Err Memory) count only keeps by = ap₂ (λ t n. record { terminal = t; count = n }) by.0 count
+  refuses-line-if stops_at line v w filled (Err Area) count only keeps by = absurd (by.over (keeps by.inserted by.closure))
+  refuses-line-if stops_at line v w filled (Err (Closure e)) count only keeps by = absurd by
 
   -- a draw of the status line keeps them, too
   draws-below : (line status : List ℕ) (v m w : LogView B E) → InsertsRow screen line v.terminal m.terminal
@@ -142,24 +144,26 @@ module _ {B E : Type 0} (screen : B → Screen) where
   pushed_if line v m w (Err e) inserts kept most draws = tt
 
 -- the status line wasn't drawn after a line was inserted
-lacks_status : {B E : Type 0} (screen : B → Screen) (line : List ℕ) (v m w : LogView B E) (error : TerminalError E)
+lacks_status : {B E : Type 0} (screen : B → Screen) (stops_at : B → B → Type 0) (line : List ℕ)
+    (v m w : LogView B E) (error : TerminalError E)
     → InsertsRow screen line v.terminal m.terminal → w.count ≡ counted (v.count + 1) → IsBackendFault error
-    → RefusesPush screen line v w error
-lacks_status screen line v m w (Backend e) inserts count by = inr (record {
+    → RefusesPush screen stops_at line v w error
+lacks_status screen stops_at line v m w (Backend e) inserts count by = inr (record {
   inserted = m.terminal;
   inserts = inserts;
   count = count;
 })
-lacks_status screen line v m w Memory inserts count by = absurd by
-lacks_status screen line v m w Area inserts count by = absurd by
-lacks_status screen line v m w (Closure e) inserts count by = absurd by
+lacks_status screen stops_at line v m w Memory inserts count by = absurd by
+lacks_status screen stops_at line v m w Area inserts count by = absurd by
+lacks_status screen stops_at line v m w (Closure e) inserts count by = absurd by
 
 -- by the answer of its draw
-pub refused_if : {B E T : Type 0} (screen : B → Screen) (line : List ℕ) (v m w : LogView B E)
+pub refused_if : {B E T : Type 0} (screen : B → Screen) (stops_at : B → B → Type 0) (line : List ℕ) (v m w : LogView B E)
     (result : Result T (TerminalError E)) → InsertsRow screen line v.terminal m.terminal → w.count ≡ counted (v.count + 1)
-    → (HasAreas m.terminal → IsSized screen m.terminal → IfErr result IsBackendFault) → IfErr result (RefusesPush screen line v w)
-refused_if screen line v m w (Ok x) inserts count by = tt
-refused_if screen line v m w (Err e) inserts count by =
+    → (HasAreas m.terminal → IsSized screen m.terminal → IfErr result IsBackendFault)
+    → IfErr result (RefusesPush screen stops_at line v w)
+refused_if screen stops_at line v m w (Ok x) inserts count by = tt
+refused_if screen stops_at line v m w (Err e) inserts count by =
     let over = inserts.over in
-    lacks_status screen line v m w e inserts count (by (record { current = over.current.area; previous = over.in_step.area })
-    (inr over.known))
+    lacks_status screen stops_at line v m w e inserts count
+    (by (record { current = over.current.area; previous = over.in_step.area }) (inr over.known))

@@ -4,7 +4,7 @@ use Rattle.std.specs.Prelude.{Option, None, Some, codes}
 use Rattle.std.specs.{Fmt.decimal, Str.IsUtf8, Str.Lines.lines, Io.KnownBytes.Appends}
 use Rattle.ratatui_core.specs.Layout.{Size}
 use Rattle.ratatui_core.specs.Backend.{Screen, TestBackend, TestError, screen_of, size_of, rows_above}
-use Rattle.ratatui_core.specs.Backend.{printed_screen}
+use Rattle.ratatui_core.specs.Backend.{printed_screen, HasOnlyPut}
 use Rattle.ratatui_core.specs.Terminal.{row_area, ShowsOver, HasCursor, IsBlankBelow, TerminalError}
 use Rattle.logview.specs.Rows.{counted, status_text, RendersStatus, end_place, AreRowsOfLines}
 use Rattle.logview.specs.Views.{IsViewOf}
@@ -59,7 +59,7 @@ pub record StopsAtLine (size : Size) (log : List (List ℕ)) (n : ℕ)
   pub before : LogView TestBackend TestError
   pub shown : IsViewOf screen_of size (take (n - 2) (drop 1 log)) before
   pub error : TerminalError TestError
-  pub refused : RefusesPush screen_of line before left error
+  pub refused : RefusesPush screen_of HasOnlyPut line before left error
 
 -- pushes were refused at a line, and left this view
 abbrev pub StopsPushing : Size → List (List ℕ) → LogView TestBackend TestError → LogFault → Type 0

@@ -44,33 +44,11 @@ module _ {B E : Type 0} (screen : B → Screen) where
     pub kept : KeepsBelow v w
     pub most : WritesAtMost (cells_pushed (screen_in v) + (screen_in v).width) (screen_in v) (screen_in w)
 
-  -- the backend failed in the insertion of a line's row, before the viewport moved or after it
-  pub record StopsLine (line : List ℕ) (v w : LogView B E) : Type 0 where
-    pub count : w.count ≡ v.count
-    pub row : BufferData
-    pub filled : FillsRow line (inserted_area v.terminal 1) row
-    pub stops : StopsInserting screen row v.terminal w.terminal
-
-  -- a refused insertion: by the backend, or for want of memory, and then nothing changed
-  abbrev pub RefusesLine : List ℕ → LogView B E → LogView B E → TerminalError E → Type 0
-  RefusesLine line v w (Backend error) = StopsLine line v w
-  RefusesLine line v w Memory = w ≡ v
-  RefusesLine line v w Area = ⊥
-  RefusesLine line v w (Closure error) = ⊥
-
   -- the row of a line was inserted and counted, and then the status line couldn't be drawn
   pub record LacksStatus (line : List ℕ) (v w : LogView B E) : Type 0 where
     pub inserted : TerminalData B
     pub inserts : InsertsRow screen line v.terminal inserted
     pub count : w.count ≡ counted (v.count + 1)
-
-  -- a refused push: by the backend, in the insertion or after it; or for want of memory, and then nothing
-  -- changed
-  abbrev pub RefusesPush : List ℕ → LogView B E → LogView B E → TerminalError E → Type 0
-  RefusesPush line v w (Backend error) = StopsLine line v w ⊎ LacksStatus line v w
-  RefusesPush line v w Memory = w ≡ v
-  RefusesPush line v w Area = ⊥
-  RefusesPush line v w (Closure error) = ⊥
 
   -- the view of a log of some lines, from a blank screen on
   pub record IsViewOf (size : Size) (lines : List (List ℕ)) (v : LogView B E) : Type 0 where
@@ -81,3 +59,27 @@ module _ {B E : Type 0} (screen : B → Screen) where
     pub top : v.terminal.viewport_area.y ≡ min (length lines) (size.height - 1)
     pub above : AreRowsOfLines size.width lines (rows_over screen v.terminal)
     pub below : IsBlankBelow v.terminal.viewport_area (screen_in v)
+
+  -- `stops_at` tells of a failed call what the backend was before it, and after it
+  module _ (stops_at : B → B → Type 0) where
+    -- the backend failed in the insertion of a line's row, before the viewport moved or after it
+    pub record StopsLine (line : List ℕ) (v w : LogView B E) : Type 0 where
+      pub count : w.count ≡ v.count
+      pub row : BufferData
+      pub filled : FillsRow line (inserted_area v.terminal 1) row
+      pub stops : StopsInserting screen stops_at row v.terminal w.terminal
+
+    -- a refused insertion: by the backend, or for want of memory, and then nothing changed
+    abbrev pub RefusesLine : List ℕ → LogView B E → LogView B E → TerminalError E → Type 0
+    RefusesLine line v w (Backend error) = StopsLine line v w
+    RefusesLine line v w Memory = w ≡ v
+    RefusesLine line v w Area = ⊥
+    RefusesLine line v w (Closure error) = ⊥
+
+    -- a refused push: by the backend, in the insertion or after it; or for want of memory, and then nothing
+    -- changed
+    abbrev pub RefusesPush : List ℕ → LogView B E → LogView B E → TerminalError E → Type 0
+    RefusesPush line v w (Backend error) = StopsLine line v w ⊎ LacksStatus line v w
+    RefusesPush line v w Memory = w ≡ v
+    RefusesPush line v w Area = ⊥
+    RefusesPush line v w (Closure error) = ⊥

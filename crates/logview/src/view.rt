@@ -141,7 +141,7 @@ impl<B: Backend> LogView<B> {
             → OnOk result (let before = screen_in B.screen self.old in
             WritesAtMost (cells_pushed before) before (screen_in B.screen self.new)) }
         ensures err { IsFollowing B.screen self.old
-            → IfErr result (RefusesLine B.screen line.now self.old self.new) }
+            → IfErr result (RefusesLine B.screen B.stops_at line.now self.old self.new) }
         ensures faults { Faults result (B.failures self.old.terminal.backend)
             (B.failures self.new.terminal.backend) }
     {
@@ -164,7 +164,7 @@ impl<B: Backend> LogView<B> {
             → OnOk result (PushesLine B.screen line.now self.old self.new) }
         ensures count { OnOk result (self.new.count ≡ counted (self.old.count + 1)) }
         ensures refused { IsFollowing B.screen self.old
-            → IfErr result (RefusesPush B.screen line.now self.old self.new) }
+            → IfErr result (RefusesPush B.screen B.stops_at line.now self.old self.new) }
         ensures faults { Faults result (B.failures self.old.terminal.backend)
             (B.failures self.new.terminal.backend) }
     {

@@ -1,6 +1,6 @@
 -- What refused calls leave, and where a draw stops.
 use Rattle.std.proofs.Common.{◌≡◌, ℕ, ◌+◌, ◌*◌, ◌<◌, Bool, true, IsTrue, List, map, Option, None, Result, Ok, Err, IsErr}
-use Rattle.std.proofs.Common.{IsErrAnd, IfErr, OnOk, sym, subst, ◌∙◌}
+use Rattle.std.proofs.Common.{IsErrAnd, IfErr, OnOk, OnErr, sym, subst, ◌∙◌}
 use Rattle.std.proofs.lemmas.Bool.{false≢true}
 use Rattle.ratatui_core.specs.{Layout.Position, Buffer.Update}
 use Rattle.ratatui_core.specs.Layout as layout
@@ -15,9 +15,15 @@ use Rattle.ratatui_ansi.specs.{Frame.IsDrawing}
 use Rattle.ansi_model.specs.{Flags.flag, Flags.is_clear_cut, Sgr.default_sgr, Screens.screen_shown, Sequences.feed}
 use Rattle.ansi_model.specs.{Emulator.Emulator, Emulator.rested}
 use Rattle.ratatui_ansi.specs.Refusals.{IsOfClearing, IsOfCall, FailsToResize, names_cell, has_place, IsRefusedOn, StopsWithin}
-use Rattle.ratatui_ansi.specs.Refusals.{StopsDraw}
+use Rattle.ratatui_ansi.specs.Refusals.{StopsDraw, Answers, StopsSending}
 use Rattle.ratatui_ansi.proofs.{BackendLemmas.cursor-column, BackendLemmas.cursor-row, CoverLemmas.covered-continuation}
 use Rattle.ratatui_ansi.proofs.{FrameLemmas.begins}
+
+-- what a failed call leaves is what some error leaves
+pub stops_sending : {W A : Type 0} (result : Result A AnsiError) (old new : BackendState W) → Answers result old new
+    → OnErr result (StopsSending old new)
+stops_sending (Ok x) old new state = tt
+stops_sending (Err error) old new state = (error, state)
 
 -- ---- where a draw stops
 

@@ -55,6 +55,10 @@ FailsBy old new _ = (old.is_broken ≡ false) × IsUnsent old new
 abbrev pub Answers : {W A : Type 0} → Result A AnsiError → BackendState W → BackendState W → Type 0
 Answers answer old new = MatchResult answer (λ _. IsAfterSend false old new) (FailsBy old new)
 
+-- a call that failed: nothing was sent, or a write failed
+abbrev pub StopsSending : {W : Type 0} → BackendState W → BackendState W → Type 0
+StopsSending old new = (error : AnsiError) × FailsBy old new error
+
 -- an error of a call that writes: it names no cell
 abbrev pub IsOfWriting : AnsiError → Type 0
 IsOfWriting Memory = Unit {0}

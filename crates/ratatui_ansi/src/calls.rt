@@ -1,6 +1,6 @@
 //! The backend's calls of the trait.
 
-ghost use Rattle.std.specs.Prelude.{◌≡◌, ℕ, true, false, List, map, IfOk, IfErr, OnOk};
+ghost use Rattle.std.specs.Prelude.{◌≡◌, ℕ, true, false, List, map, IfOk, IfErr, OnOk, OnErr};
 ghost use Rattle.std.specs.List.{list_all};
 ghost use Rattle.std.specs.Iterator.{IsFinite, Drains};
 ghost use Rattle.ratatui_core.specs.Buffer.{update_by};
@@ -10,7 +10,8 @@ ghost use Rattle.ansi_model.specs.Sends.{IsWithinUpdate};
 ghost use Rattle.ansi_model.specs.Places.{PlacesEach};
 ghost use Rattle.ratatui_ansi.specs.Backend.{shown_by, is_flushed};
 ghost use Rattle.ratatui_ansi.specs.Frame.{is_sendable_on};
-ghost use Rattle.ratatui_ansi.specs.Refusals.{Answers, StopsBy, IsOfWriting, IsOfFlushing, IsOfClearing};
+ghost use Rattle.ratatui_ansi.specs.Refusals.{Answers, StopsBy, StopsSending, IsOfWriting};
+ghost use Rattle.ratatui_ansi.specs.Refusals.{IsOfFlushing, IsOfClearing};
 ghost use Rattle.ratatui_ansi.specs.declared.error.AnsiError.TheVariants.{Broken};
 
 use crate::backend::AnsiBackend;
@@ -23,6 +24,7 @@ use std::ops::Range;
 
 impl<W: Write + Drop> Backend for AnsiBackend<W> {
     ghost use Rattle.ratatui_ansi.specs.Backend.{shown_by, is_flushed};
+    ghost use Rattle.ratatui_ansi.specs.Refusals.{StopsSending};
 
     type Error = AnsiError;
 
@@ -32,6 +34,9 @@ impl<W: Write + Drop> Backend for AnsiBackend<W> {
 
     ghost is_flushed = { is_flushed };
 
+    ghost stops_at = { StopsSending };
+
+    #[tactic(auto, using(crate::proofs::RefusalLemmas::stops_sending))]
     fn draw<C: AsCell, I: Iterator<Item = (u16, u16, C)>>(
         &mut self,
         content: I,
@@ -54,6 +59,7 @@ impl<W: Write + Drop> Backend for AnsiBackend<W> {
             self.old.has_underline_colors (shown_by self.old)) }
         ensures state { Answers result self.old self.new }
         ensures counts { Counts result self.old.failures self.new.failures }
+        ensures stops { OnErr result (StopsSending self.old self.new) }
     {
         let failures = self.sender.begin()?;
         self.tracker.out.clear();
@@ -64,55 +70,66 @@ impl<W: Write + Drop> Backend for AnsiBackend<W> {
         Ok(())
     }
 
+    #[tactic(auto, using(crate::proofs::RefusalLemmas::stops_sending))]
     fn append_lines(&mut self, n: u16) -> Result<(), AnsiError>
         ensures ok { OnOk result (Appends (shown_by self.old) n (shown_by self.new)) }
         ensures why { IfErr result IsOfWriting }
         ensures state { Answers result self.old self.new }
         ensures counts { Counts result self.old.failures self.new.failures }
+        ensures stops { OnErr result (StopsSending self.old self.new) }
     {
         self.send(Call::Append(n))
     }
 
+    #[tactic(auto, using(crate::proofs::RefusalLemmas::stops_sending))]
     fn scroll_region_up(&mut self, region: Range<u16>, n: u16) -> Result<(), AnsiError>
         ensures ok { OnOk result (ScrollsUp region.start region.end n
             (shown_by self.old) (shown_by self.new)) }
         ensures why { IfErr result IsOfWriting }
         ensures state { Answers result self.old self.new }
         ensures counts { Counts result self.old.failures self.new.failures }
+        ensures stops { OnErr result (StopsSending self.old self.new) }
     {
         self.send(Call::ScrollUp(region, n))
     }
 
+    #[tactic(auto, using(crate::proofs::RefusalLemmas::stops_sending))]
     fn scroll_region_down(&mut self, region: Range<u16>, n: u16) -> Result<(), AnsiError>
         ensures ok { OnOk result (ScrollsDown region.start region.end n
             (shown_by self.old) (shown_by self.new)) }
         ensures why { IfErr result IsOfWriting }
         ensures state { Answers result self.old self.new }
         ensures counts { Counts result self.old.failures self.new.failures }
+        ensures stops { OnErr result (StopsSending self.old self.new) }
     {
         self.send(Call::ScrollDown(region, n))
     }
 
+    #[tactic(auto, using(crate::proofs::RefusalLemmas::stops_sending))]
     fn hide_cursor(&mut self) -> Result<(), AnsiError>
         ensures ok { OnOk result (shown_by self.new
             ≡ with_visible false (shown_by self.old)) }
         ensures why { IfErr result IsOfWriting }
         ensures state { Answers result self.old self.new }
         ensures counts { Counts result self.old.failures self.new.failures }
+        ensures stops { OnErr result (StopsSending self.old self.new) }
     {
         self.send(Call::Show(false))
     }
 
+    #[tactic(auto, using(crate::proofs::RefusalLemmas::stops_sending))]
     fn show_cursor(&mut self) -> Result<(), AnsiError>
         ensures ok { OnOk result (shown_by self.new
             ≡ with_visible true (shown_by self.old)) }
         ensures why { IfErr result IsOfWriting }
         ensures state { Answers result self.old self.new }
         ensures counts { Counts result self.old.failures self.new.failures }
+        ensures stops { OnErr result (StopsSending self.old self.new) }
     {
         self.send(Call::Show(true))
     }
 
+    #[tactic(auto, using(crate::proofs::RefusalLemmas::stops_sending))]
     fn get_cursor_position(&mut self) -> Result<Position, AnsiError>
         ensures ok { IfOk result (λ position.
             position ≡ cursor_of (shown_by self.old)) }
@@ -122,41 +139,49 @@ impl<W: Write + Drop> Backend for AnsiBackend<W> {
         ensures why { IfErr result (λ error. error ≡ Broken) }
         ensures state { Answers result self.old self.new }
         ensures counts { Counts result self.old.failures self.new.failures }
+        ensures stops { OnErr result (StopsSending self.old self.new) }
     {
         self.sender.check()?;
         Ok(self.tracker.cursor)
     }
 
+    #[tactic(auto, using(crate::proofs::RefusalLemmas::stops_sending))]
     fn set_cursor_position(&mut self, position: Position) -> Result<(), AnsiError>
         ensures ok { OnOk result (shown_by self.new
             ≡ with_cursor position.x position.y (shown_by self.old)) }
         ensures why { IfErr result IsOfWriting }
         ensures state { Answers result self.old self.new }
         ensures counts { Counts result self.old.failures self.new.failures }
+        ensures stops { OnErr result (StopsSending self.old self.new) }
     {
         self.send(Call::Move(position))
     }
 
+    #[tactic(auto, using(crate::proofs::RefusalLemmas::stops_sending))]
     fn clear(&mut self) -> Result<(), AnsiError>
         ensures ok { OnOk result (Clears (shown_by self.old) All
             (shown_by self.new)) }
         ensures why { IfErr result (IsOfClearing (shown_by self.old)) }
         ensures state { Answers result self.old self.new }
         ensures counts { Counts result self.old.failures self.new.failures }
+        ensures stops { OnErr result (StopsSending self.old self.new) }
     {
         self.clear_region(ClearType::All)
     }
 
+    #[tactic(auto, using(crate::proofs::RefusalLemmas::stops_sending))]
     fn clear_region(&mut self, clear_type: ClearType) -> Result<(), AnsiError>
         ensures ok { OnOk result (Clears (shown_by self.old) clear_type
             (shown_by self.new)) }
         ensures why { IfErr result (IsOfClearing (shown_by self.old)) }
         ensures state { Answers result self.old self.new }
         ensures counts { Counts result self.old.failures self.new.failures }
+        ensures stops { OnErr result (StopsSending self.old self.new) }
     {
         self.send(Call::Clear(clear_type))
     }
 
+    #[tactic(auto, using(crate::proofs::RefusalLemmas::stops_sending))]
     fn size(&mut self) -> Result<Size, AnsiError>
         ensures ok { IfOk result (λ size. size ≡ size_of (shown_by self.old)) }
         ensures stays { OnOk result (shown_by self.new ≡ shown_by self.old) }
@@ -164,11 +189,13 @@ impl<W: Write + Drop> Backend for AnsiBackend<W> {
         ensures why { IfErr result (λ error. error ≡ Broken) }
         ensures state { Answers result self.old self.new }
         ensures counts { Counts result self.old.failures self.new.failures }
+        ensures stops { OnErr result (StopsSending self.old self.new) }
     {
         self.sender.check()?;
         Ok(self.tracker.size)
     }
 
+    #[tactic(auto, using(crate::proofs::RefusalLemmas::stops_sending))]
     fn window_size(&mut self) -> Result<WindowSize, AnsiError>
         ensures ok { IfOk result (λ window.
             window.columns_rows ≡ size_of (shown_by self.old)) }
@@ -179,6 +206,7 @@ impl<W: Write + Drop> Backend for AnsiBackend<W> {
         ensures why { IfErr result (λ error. error ≡ Broken) }
         ensures state { Answers result self.old self.new }
         ensures counts { Counts result self.old.failures self.new.failures }
+        ensures stops { OnErr result (StopsSending self.old self.new) }
     {
         let columns_rows = self.size()?;
         Ok(WindowSize {
@@ -187,6 +215,7 @@ impl<W: Write + Drop> Backend for AnsiBackend<W> {
         })
     }
 
+    #[tactic(auto, using(crate::proofs::RefusalLemmas::stops_sending))]
     fn flush(&mut self) -> Result<(), AnsiError>
         ensures ok { OnOk result (shown_by self.new ≡ shown_by self.old) }
         ensures flushed { OnOk result (is_flushed self.new ≡ true) }
@@ -194,6 +223,7 @@ impl<W: Write + Drop> Backend for AnsiBackend<W> {
         ensures why { IfErr result IsOfFlushing }
         ensures state { Answers result self.old self.new }
         ensures counts { Counts result self.old.failures self.new.failures }
+        ensures stops { OnErr result (StopsSending self.old self.new) }
     {
         let failures = self.sender.begin()?;
         self.sender.flush(failures)?;

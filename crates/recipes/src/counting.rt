@@ -37,6 +37,8 @@ impl<B: Backend> Backend for Counting<B> {
 
     ghost is_flushed = { λ b. B.is_flushed b.inner };
 
+    ghost stops_at = { λ old new. B.stops_at old.inner new.inner };
+
     fn draw<C: AsCell, I: Iterator<Item = (u16, u16, C)>>(
         &mut self,
         content: I,

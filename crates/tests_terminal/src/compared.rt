@@ -35,6 +35,8 @@ impl Backend for CursorOnly<'_> {
 
     ghost is_flushed = { λ b. true };
 
+    ghost stops_at = { λ old new. Unit {0} };
+
     fn draw<C: AsCell, I: Iterator<Item = (u16, u16, C)>>(
         &mut self,
         content: I,
@@ -155,6 +157,8 @@ impl Backend for Refusing {
     ghost failures = { λ b. b.failures };
 
     ghost is_flushed = { λ b. true };
+
+    ghost stops_at = { λ old new. Unit {0} };
 
     fn draw<C: AsCell, I: Iterator<Item = (u16, u16, C)>>(
         &mut self,

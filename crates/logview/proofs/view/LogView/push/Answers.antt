@@ -14,7 +14,7 @@ returns-clause-pushed g c = λ is.
 
 pub returns-clause-refused : goal.returns-clause-refused
 returns-clause-refused g c = λ is.
-    refused_if g.B.Backend.screen c.args.line.now c.args.self.now c.insert_line.new.self c.draw_status.new.self
-    c.draw_status.result (c.in_ok-insert_line.ensures.ok is)
+    refused_if g.B.Backend.screen g.B.Backend.stops_at c.args.line.now c.args.self.now c.insert_line.new.self
+    c.draw_status.new.self c.draw_status.result (c.in_ok-insert_line.ensures.ok is)
     (omega (arith, c.draw_status.ensures.count, c.saturating_add-self.ensures, c.insert_line.ensures.count))
     c.draw_status.ensures.err
