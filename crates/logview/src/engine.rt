@@ -66,7 +66,7 @@ pub fn push_lines(view: &mut LogView<TestBackend>, text: &str) -> Result<(), Log
     let mut number = 1usize;
     for line in text.lines().skip(1) {
         number += 1;
-        if view.push(line).is_err() {
+        if let Err(_) = view.push(line) {
             return Err(LogFault::Refused(number));
         }
     }

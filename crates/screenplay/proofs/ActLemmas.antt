@@ -1,6 +1,6 @@
 -- Acts of a script that were played.
 use Rattle.std.proofs.Common.{◌≡◌, ℕ, ◌+◌, List, [], ◌∷◌, ◌++◌, length, Option, Some, None, IfSome, refl, sym, ap, ◌∙◌, subst}
-use Rattle.std.proofs.Common.{arith, append-nil, append_assoc, length-append, true≢false, Result, Ok, Err, OnOk, is_ok}
+use Rattle.std.proofs.Common.{arith, append-nil, append_assoc, length-append}
 use Rattle.std.specs.Io.KnownBytes.{Appends}
 use Rattle.rtui_backend.specs.{Print.printed_screen, TestBackend.screen_of, declared.test.TestBackend.TestBackend}
 use Rattle.rtui_terminal.specs.TerminalData.{TerminalData}
@@ -75,14 +75,6 @@ PrintsActs-all stage acts n t text h = (
   IsRun-played stage (steps_of acts) (h.first ∷ h.later) t h.ran,
   sym (ap (printed_from (view_of_scene h.first) acts) (sym (append-nil h.later)) ∙ h.shown [] ∙ append-nil text),
 )
-
--- what a call's Ok shows of its answer with another error
-pub ok-passed : {T E D : Type 0} {P Q : Type 0} (called : Result T E) (passed : Result T D) → is_ok passed ≡ is_ok called
-    → (P → Q) → OnOk called P → OnOk passed Q
-ok-passed (Ok x) (Ok y) same shows on = shows on
-ok-passed (Ok x) (Err d) same shows on = tt
-ok-passed (Err e) (Ok y) same shows on = absurd (true≢false same)
-ok-passed (Err e) (Err d) same shows on = tt
 
 -- the text of the bytes that were read was written
 pub prints_run : (left : Option (List ℕ)) (bytes text : List ℕ) (old new : Option (List ℕ)) → IfSome left (λ all. bytes ≡ all)

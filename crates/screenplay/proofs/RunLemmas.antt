@@ -1,6 +1,6 @@
 -- A play, a scene at a time.
 use Rattle.std.proofs.Common.{◌≡◌, ℕ, ◌+◌, ◌<◌, List, [], ◌∷◌, ◌++◌, length, drop, get_or, Option, Some, None, refl, sym, ap, ◌∙◌}
-use Rattle.std.proofs.Common.{subst, append-nil, append_assoc, Result, Ok, Err, OnOk, OnErr}
+use Rattle.std.proofs.Common.{subst, append-nil, append_assoc}
 use Rattle.std.proofs.lemmas.List.{drop_more}
 use Rattle.rtui_backend.specs.declared.test.TestBackend.{TestBackend}
 use Rattle.rtui_terminal.specs.TerminalData.{TerminalData}
@@ -67,13 +67,3 @@ IsRun-played stage steps scenes t h = subst (IsRun stage steps) (append-nil scen
 -- what is left begins with the next element
 pub left_next : {X : Type 0} (xs : List X) (i : ℕ) (x : X) → i < length xs → x ≡ get_or xs i x → drop i xs ≡ x ∷ drop (i + 1) xs
 left_next xs i x lt is = drop_more xs i x lt ∙ ap (λ y. y ∷ drop (i + 1) xs) (sym is)
-
--- what holds of a call that was Ok, if it didn't fail
-pub ok-unless-err : {T E : Type 0} (r : Result T E) (P : Type 0) → ((e : E) → r ≡ Err e → ⊥) → OnOk r P → P
-ok-unless-err (Ok x) P unlike on = on
-ok-unless-err (Err e) P unlike on = absurd (unlike e refl)
-
--- what holds of a call that failed, if it wasn't Ok
-pub err-unless-ok : {T E : Type 0} (r : Result T E) (P : Type 0) → ((x : T) → r ≡ Ok x → ⊥) → OnErr r P → P
-err-unless-ok (Ok x) P unlike on = absurd (unlike x refl)
-err-unless-ok (Err e) P unlike on = on

@@ -1,1 +1,2 @@
 mod NumberLemmas
+pub mod ResultLemmas

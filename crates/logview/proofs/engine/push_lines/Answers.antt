@@ -4,6 +4,7 @@ use Rattle.std.proofs.lemmas.Iterator.Consumers.{YieldsList-so_far, YieldsList-t
 use Rattle.std.proofs.lemmas.{Iterator.Adapters.YieldsList-from_skip, Iterator.Splits.YieldsList-from_lines}
 use Rattle.std.specs.Str.Lines.{lines}
 use Rattle.ratatui_core.specs.Backend.{screen_of}
+use Rattle.script_words.proofs.ResultLemmas.{ok-unless-err}
 use Rattle.logview.specs.Views.{IsViewOf}
 use Rattle.logview.proofs.LogLemmas.{view_more}
 use Rattle.logview.proofs.engine.push_lines.Goals as goal
@@ -13,8 +14,9 @@ loop-line-preserved c = record {
   count = grind (arith, common_steps);
   view = λ size start.
       let before = c.loop-line.invariant.view size start in
-      rw map-append (view_more screen_of size _ c.in-Some.line.now c.loop-line.view c.push.new.self before c.in-Ok.ensures.count
-      (c.in-Ok.ensures.pushed before.following));
+      rw map-append (view_more screen_of size _ c.in-Some.line.now c.loop-line.view c.push.new.self before
+      (ok-unless-err c.push.result _ c.in_default.not-Err c.push.ensures.count)
+      (ok-unless-err c.push.result _ c.in_default.not-Err (c.push.ensures.pushed before.following)));
 }
 
 pub returns-in-Err-clause-err : goal.returns-in-Err-clause-err

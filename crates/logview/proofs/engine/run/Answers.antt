@@ -1,4 +1,5 @@
 use Rattle.std.proofs.Common.{rules}
+use Rattle.script_words.proofs.ResultLemmas.{ok-passed}
 use Rattle.logview.proofs.LogLemmas.{prints_log, fault_of_read}
 use Rattle.logview.proofs.engine.run.Goals as goal
 
@@ -8,8 +9,8 @@ returns-in_err-view-clause-fault g c =
     (rw c.as_slice.ensures.value at c.in_err-view.ensures.fault) in
     search rules
 
-pub returns-in-Ok-clause-printed : goal.returns-in-Ok-clause-printed
-returns-in-Ok-clause-printed g c =
+pub returns-clause-printed : goal.returns-clause-printed
+returns-clause-printed g c = ok-passed c.write_view.result c.map_err.result c.map_err.ensures.variant (λ written.
     prints_log (g.R.Read.remaining c.args.reader.now) c.in_ok-bytes.bytes.items c.in_ok-view.view _ _ c.in_ok-bytes.ensures.ok
     (rw c.as_slice.ensures.value at c.in_ok-view.ensures.text) (rw c.as_slice.ensures.value at c.in_ok-view.ensures.view)
-    c.in-Ok.ensures
+    written) c.write_view.ensures

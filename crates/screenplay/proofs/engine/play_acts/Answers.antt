@@ -1,6 +1,7 @@
 use Rattle.std.proofs.Common.{refl, arith}
 use Rattle.std.proofs.lemmas.List.{drop_all}
-use Rattle.screenplay.proofs.RunLemmas.{left_next, ok-unless-err}
+use Rattle.screenplay.proofs.RunLemmas.{left_next}
+use Rattle.script_words.proofs.ResultLemmas.{ok-unless-err}
 use Rattle.screenplay.proofs.ActLemmas.{HasPlayed-none, HasPlayed-step, HasPlayed-show, PrintsActs-all, EndsEarly-next}
 use Rattle.screenplay.proofs.engine.play_acts.Goals as goal
 use Rattle.screenplay.proofs.engine.play_acts.Goals.{in-Play+in_default-play_plan, in-Show+in_ok-show-in-Show}

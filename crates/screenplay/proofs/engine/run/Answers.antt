@@ -1,4 +1,5 @@
-use Rattle.screenplay.proofs.ActLemmas.{prints_run, ok-passed}
+use Rattle.script_words.proofs.ResultLemmas.{ok-passed}
+use Rattle.screenplay.proofs.ActLemmas.{prints_run}
 use Rattle.screenplay.proofs.engine.run.Goals as goal
 
 pub returns-clause-printed : goal.returns-clause-printed

@@ -1,7 +1,8 @@
 use Rattle.std.proofs.Common.{refl, sym, arith, length-append, [], ◌∷◌}
 use Rattle.std.proofs.lemmas.List.{drop_all}
 use Rattle.screenplay.specs.declared.scene.PlayCause.TheVariants.{Memory}
-use Rattle.screenplay.proofs.RunLemmas.{HasRun-start, HasRun-push, IsRun-played, IsPlay-refused, left_next, ok-unless-err, err-unless-ok}
+use Rattle.screenplay.proofs.RunLemmas.{HasRun-start, HasRun-push, IsRun-played, IsPlay-refused, left_next}
+use Rattle.script_words.proofs.ResultLemmas.{ok-unless-err, err-unless-ok}
 use Rattle.screenplay.proofs.playing.play.Goals as goal
 
 pub loop-index-init : goal.loop-index-init
