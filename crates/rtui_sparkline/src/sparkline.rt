@@ -5,9 +5,9 @@ ghost use Rattle.ratatui_core.specs.Style.{new_style, patch};
 ghost use Rattle.ratatui_core.specs.Buffer.{IsShort};
 ghost use Rattle.ratatui_core.specs.Widgets.{ChangesWithin};
 ghost use Rattle.rtui_boxes.specs.Boxes.{IsBoxArea};
-ghost use Rattle.rtui_bars.specs.Sparklines.{IsNewSparkline, greatest_of, bars_part, ShowsBars};
-ghost use Rattle.rtui_bars.specs.Sparklines.{HasShortLevels, number_of_column, row_from_below, mark_of_value};
-ghost use Rattle.rtui_bars.specs.Sparklines.{style_of_bar};
+ghost use Rattle.rtui_sparkline.specs.Sparklines.{IsNewSparkline, greatest_of, bars_part, ShowsBars};
+ghost use Rattle.rtui_sparkline.specs.Sparklines.{HasShortLevels, number_of_column, mark_of_value, style_of_bar};
+ghost use Rattle.rtui_sparkline.specs.Levels.{row_from_below};
 
 use crate::level::{eighths_of, left_at, level_of};
 use ratatui_core::buffer::{Buffer, Cell, CellChange, change_area};
@@ -280,7 +280,7 @@ impl<'b, 'a> Bars<'b, 'a> {
 }
 
 impl<'b, 'a> CellChange for Bars<'b, 'a> {
-    ghost use Rattle.rtui_bars.specs.Sparklines.{bar_cell_of, HasShortLevels};
+    ghost use Rattle.rtui_sparkline.specs.Sparklines.{bar_cell_of, HasShortLevels};
 
     ghost made = { λ b. bar_cell_of b.sparkline.now b.greatest b.area };
 
@@ -302,7 +302,7 @@ impl<'b, 'a> CellChange for Bars<'b, 'a> {
 /// Over the area, as far as the buffer has it: the style, the box, and inside a bar in each column,
 /// as far as there are bars.
 impl<'b, 'a> Widget for &'b Sparkline<'a> {
-    ghost use Rattle.rtui_bars.specs.Sparklines.{RendersSparkline, IsShortSparkline};
+    ghost use Rattle.rtui_sparkline.specs.Sparklines.{RendersSparkline, IsShortSparkline};
 
     ghost renders = { λ sparkline. RendersSparkline sparkline.now };
 
@@ -320,7 +320,7 @@ impl<'b, 'a> Widget for &'b Sparkline<'a> {
 }
 
 impl<'a> Widget for Sparkline<'a> {
-    ghost use Rattle.rtui_bars.specs.Sparklines.{RendersSparkline, IsShortSparkline};
+    ghost use Rattle.rtui_sparkline.specs.Sparklines.{RendersSparkline, IsShortSparkline};
 
     ghost renders = { RendersSparkline };
 

@@ -6,11 +6,11 @@ use Rattle.ratatui_core.specs.Style.{Style, new_style, patch}
 use Rattle.ratatui_core.specs.Symbols.{bar_texts, bar_levels}
 use Rattle.ratatui_core.specs.Buffer.{BufferData, Cell, styled, with_symbol, text_width, ChangesEach, IsShort}
 use Rattle.rtui_boxes.specs.Framed.{RendersInFrame, IsShortFrame}
-use Rattle.rtui_bars.specs.{declared.sparkline.Sparkline.Sparkline}
-use Rattle.rtui_bars.specs.{declared.sparkline.SparklineBar.SparklineBar}
-use Rattle.rtui_bars.specs.declared.sparkline.RenderDirection.{RenderDirection}
-use Rattle.rtui_bars.specs.declared.sparkline.RenderDirection.TheVariants.{LeftToRight, RightToLeft}
-use Rattle.rtui_bars.specs.Levels.{eighths_of_value, left_at, level_text}
+use Rattle.rtui_sparkline.specs.{declared.sparkline.Sparkline.Sparkline}
+use Rattle.rtui_sparkline.specs.{declared.sparkline.SparklineBar.SparklineBar}
+use Rattle.rtui_sparkline.specs.declared.sparkline.RenderDirection.{RenderDirection}
+use Rattle.rtui_sparkline.specs.declared.sparkline.RenderDirection.TheVariants.{LeftToRight, RightToLeft}
+use Rattle.rtui_sparkline.specs.Levels.{row_from_below, eighths_of_value, left_at, level_text}
 
 -- a sparkline of these bars from the left, without box and styles, with blanks for absent values
 pub record IsNewSparkline (bars : List SparklineBar) (s : Sparkline) : Type 0 where
@@ -43,13 +43,10 @@ bars_start RightToLeft n r = r.x + (r.width - n)
 abbrev pub bars_part : Sparkline → Rect → Rect
 bars_part s r = record r { x = bars_start s.direction (bars_width s r) r; width = bars_width s r }
 
--- the number of the bar in a column, and which row from below one is
+-- the number of the bar in a column
 abbrev pub number_of_column : RenderDirection → Rect → ℕ → ℕ
 number_of_column LeftToRight r x = x - r.x
 number_of_column RightToLeft r x = r.width - (x - r.x + 1)
-
-abbrev pub row_from_below : Rect → ℕ → ℕ
-row_from_below r y = r.height - (y - r.y) - 1
 
 -- a cell of a bar: the symbol of what shows of its value there, or of an absent one, in the sparkline's style
 -- under its own

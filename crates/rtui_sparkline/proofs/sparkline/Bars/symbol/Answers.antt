@@ -1,6 +1,6 @@
 use Rattle.ratatui_core.specs.Buffer.{IsShort}
-use Rattle.rtui_bars.proofs.BarLemmas.{level-any}
-use Rattle.rtui_bars.proofs.sparkline.Bars.symbol.Goals as goal
+use Rattle.rtui_sparkline.proofs.LevelLemmas.{level-any}
+use Rattle.rtui_sparkline.proofs.sparkline.Bars.symbol.Goals as goal
 
 pub returns-in-Some-clause-short : goal.returns-in-Some-clause-short
 returns-in-Some-clause-short c =

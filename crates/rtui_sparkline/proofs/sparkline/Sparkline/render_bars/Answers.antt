@@ -1,6 +1,6 @@
-use Rattle.rtui_bars.specs.Sparklines.{bar_cell_of}
-use Rattle.rtui_bars.proofs.BarLemmas.{bars-within}
-use Rattle.rtui_bars.proofs.sparkline.Sparkline.render_bars.Goals as goal
+use Rattle.rtui_sparkline.specs.Sparklines.{bar_cell_of}
+use Rattle.rtui_sparkline.proofs.SparklineLemmas.{bars-within}
+use Rattle.rtui_sparkline.proofs.sparkline.Sparkline.render_bars.Goals as goal
 
 pub returns-clause-within : goal.returns-clause-within
 returns-clause-within c =

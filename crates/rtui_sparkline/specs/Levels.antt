@@ -1,5 +1,6 @@
 -- How high a value is in eighths of a cell, and by which symbol a cell shows it.
 use Rattle.std.specs.Prelude.{ℕ, ◌-◌, ◌*◌, ◌/◌, ◌==◌, min, List, if◌then◌else◌, slice_index_or}
+use Rattle.ratatui_core.specs.{Layout.Rect}
 use Rattle.ratatui_core.specs.declared.symbols.bar.Set.{Set as BarSet}
 use Rattle.ratatui_core.specs.Symbols.{bar_texts}
 
@@ -10,6 +11,10 @@ eighths_of_value value greatest rows = if greatest == 0 then 0 else value * rows
 -- how many of them a cell shows, so many rows from below
 abbrev pub left_at : ℕ → ℕ → ℕ
 left_at eighths row = min (eighths - row * 8) 8
+
+-- which row of an area from below one is, from 0 on
+abbrev pub row_from_below : Rect → ℕ → ℕ
+row_from_below r y = r.height - (y - r.y) - 1
 
 -- the symbol of a cell that is filled by so many eighths; a set lists them from full to empty
 abbrev pub level_text : BarSet → ℕ → List ℕ

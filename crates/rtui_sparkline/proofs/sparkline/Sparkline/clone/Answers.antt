@@ -1,7 +1,7 @@
 use Rattle.rtui_boxes.proofs.CloneLemmas.{block-same}
-use Rattle.rtui_bars.specs.contracts.sparkline.SparklineEq.TheImpl.Laws.{laws-law}
-use Rattle.rtui_bars.proofs.BarLemmas.{set-same}
-use Rattle.rtui_bars.proofs.sparkline.Sparkline.clone.Goals as goal
+use Rattle.rtui_sparkline.specs.contracts.sparkline.SparklineEq.TheImpl.Laws.{laws-law}
+use Rattle.rtui_sparkline.proofs.LevelLemmas.{set-same}
+use Rattle.rtui_sparkline.proofs.sparkline.Sparkline.clone.Goals as goal
 
 pub returns : goal.returns
 returns c =

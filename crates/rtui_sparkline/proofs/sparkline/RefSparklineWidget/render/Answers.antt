@@ -1,6 +1,6 @@
 use Rattle.rtui_boxes.proofs.FrameLemmas.{framed-bare, framed-some, inner-within, inner-some, inner-none, any-err}
-use Rattle.rtui_bars.specs.Sparklines.{ShowsBars}
-use Rattle.rtui_bars.proofs.sparkline.RefSparklineWidget.render.Goals as goal
+use Rattle.rtui_sparkline.specs.Sparklines.{ShowsBars}
+use Rattle.rtui_sparkline.proofs.sparkline.RefSparklineWidget.render.Goals as goal
 
 pub returns-in_default-2-clause-ok : goal.returns-in_default-2-clause-ok
 returns-in_default-2-clause-ok c =
