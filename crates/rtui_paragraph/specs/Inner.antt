@@ -1,8 +1,9 @@
--- A line of which only as many graphemes are held as its next row needs.
-use Rattle.std.specs.Prelude.{◌≡◌, ℕ, ◌<◌, ◌≤◌, ◌⊎◌, Bool, true, List, [], ◌++◌, length, filter, drop}
+-- What is left of a line: of one that is broken, as far as its next row needs it held, and of one that is cut.
+use Rattle.std.specs.Prelude.{◌≡◌, ℕ, ◌-◌, ◌<◌, ◌≤◌, ◌⊎◌, Bool, true, List, [], ◌++◌, length, filter, drop}
 use Rattle.ratatui_core.specs.Text.{GraphemeData, line_graphemes_left}
-use Rattle.rtui_paragraph.specs.declared.ahead.Ahead.{Ahead}
-use Rattle.rtui_paragraph.specs.Reflow.{data_of, columns_taken, fits_row, trimmed_start}
+use Rattle.rtui_paragraph.specs.declared.{ahead.Ahead.Ahead, cut.Cut.Cut}
+use Rattle.rtui_paragraph.specs.Reflow.{data_of, columns_taken, fits_row, trimmed_start, after_columns}
+use Rattle.rtui_paragraph.specs.Reflow.{fitting_front}
 
 -- how many columns stand after the blanks that are left out before a row
 abbrev pub columns_ahead : Bool → List GraphemeData → ℕ
@@ -35,3 +36,13 @@ pub record HasLeft (gs : List GraphemeData) (old new : Ahead) : Type 0 where
   pub left : left_of new ≡ gs
   pub width : new.width ≡ old.width
   pub trim : new.trim ≡ old.trim
+
+-- the graphemes of the row that are to come
+abbrev pub left_of_cut : Cut → List GraphemeData
+left_of_cut c = fitting_front (c.width - c.used)
+    (after_columns c.offset (filter (fits_row c.width) (line_graphemes_left c.rest)))
+
+-- no more columns were used than there are, and none before those that are left out
+pub record IsCut (c : Cut) : Type 0 where
+  pub within : c.used ≤ c.width
+  pub start : 0 < c.offset → c.used ≡ 0
