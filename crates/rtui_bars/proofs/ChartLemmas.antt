@@ -1,40 +1,21 @@
 -- The parts of a bar chart within their areas.
-use Rattle.std.proofs.Common.{◌≡◌, ℕ, zero, suc, ◌+◌, ◌-◌, ◌*◌, ◌<◌, ◌≤◌, ⊎_elim, min, List, [], ◌∷◌, length, take, drop, sym, ap}
-use Rattle.std.proofs.Common.{◌∙◌, refl, arith, Result, Ok, Err, OnOk, OnErr}
+use Rattle.std.proofs.Common.{◌≡◌, ℕ, zero, suc, ◌+◌, ◌-◌, ◌*◌, ◌<◌, ◌≤◌, ⊎_elim, min, List, [], ◌∷◌, length, take, sym, ap}
+use Rattle.std.proofs.Common.{◌∙◌, refl, arith, Result}
 use Rattle.std.specs.declared.alloc.AllocError.{AllocError}
-use Rattle.std.proofs.Math.ListN.{get_or}
-use Rattle.std.proofs.lemmas.{Bool.cases_lt, List.drop_more, List.take_all}
-use Rattle.ratatui_core.specs.Layout.{Rect, Position, IsInside}
-use Rattle.ratatui_core.specs.{Style.Style, Text.LineData, declared.layout.Direction.Direction}
+use Rattle.std.proofs.lemmas.{Bool.cases_lt, List.take_all}
+use Rattle.ratatui_core.specs.Layout.{Rect, IsInside}
+use Rattle.ratatui_core.specs.{Style.Style, declared.layout.Direction.Direction}
 use Rattle.ratatui_core.specs.declared.layout.Direction.TheVariants.{Horizontal, Vertical}
-use Rattle.ratatui_core.specs.Buffer.{BufferData, Cell, ChangesEach, IsStyled, pieces_at, text_columns, PaintsOrRefuses}
+use Rattle.ratatui_core.specs.Buffer.{BufferData, pieces_at, text_columns, PaintsOrRefuses}
 use Rattle.ratatui_core.specs.Buffer.{position_of}
-use Rattle.ratatui_core.specs.Widgets.{ChangesWithin, RendersLine}
-use Rattle.ratatui_core.proofs.{BufferLemmas.Changes-within, BufferLemmas.within-wider, BufferLemmas.text-keeps}
-use Rattle.ratatui_core.proofs.{WidgetLemmas.within-then, WidgetLemmas.within-styled}
-use Rattle.rtui_boxes.specs.{Boxes.IsBoxArea, Titles.first_columns, Titles.without_first}
-use Rattle.rtui_boxes.proofs.PaintLemmas.{paints-within}
+use Rattle.ratatui_core.specs.Widgets.{ChangesWithin}
+use Rattle.ratatui_core.proofs.BufferLemmas.{text-keeps}
+use Rattle.rtui_boxes.specs.{Boxes.IsBoxArea, Titles.first_columns}
+use Rattle.rtui_boxes.proofs.{PaintLemmas.paints-within, TitleLemmas.rest-inside}
 use Rattle.rtui_bars.specs.{declared.group.Bar.Bar, declared.chart.BarChart.BarChart}
 use Rattle.rtui_bars.specs.BarAreas.{rows_at, middle_columns, upper_rows, without_upper, cells_along, bar_part, area_behind}
 use Rattle.rtui_bars.specs.BarCharts.{beside_labels, bar_step, after_bars}
 use Rattle.rtui_bars.specs.Inner.{HasRoomAcross, BarsFit}
-
--- a change of a part, or memory is refused
-pub changed-in : {A : Type 0} (result : Result A AllocError) (part r : Rect) (f : Position → Cell → Cell) (old new : BufferData)
-    → IsInside part r → OnOk result (ChangesEach part f old new) → OnErr result (ChangesWithin part old new)
-    → ChangesWithin r old new
-changed-in (Ok x) part r f old new inside ok err = Changes-within part r f old new inside ok
-changed-in (Err e) part r f old new inside ok err = within-wider part r old new inside err
-
--- a style and a line over it, or memory is refused
-pub titled-in : {A : Type 0} (result : Result A AllocError) (r : Rect) (style : Style) (line : LineData)
-    (old laid new : BufferData) → IsStyled r style old laid → OnOk result (RendersLine line r laid new)
-    → OnErr result (ChangesWithin r laid new)
-    → ChangesWithin r old new
-titled-in (Ok x) r style line old laid new is ok err =
-    within-then r old laid new (within-styled r r style old laid (λ p in_own h. h) is) ok.within
-titled-in (Err e) r style line old laid new is ok err =
-    within-then r old laid new (within-styled r r style old laid (λ p in_own h. h) is) err
 
 pub rows-inside : (y n : ℕ) (r : Rect) → y + n ≤ r.height → IsInside (rows_at y n r) r
 rows-inside y n r le p h = let left = h.left in let right = h.right in let top = h.top in let bottom = h.bottom in
@@ -43,10 +24,6 @@ rows-inside y n r le p h = let left = h.left in let right = h.right in let top =
 pub first-in : (n : ℕ) (r : Rect) → IsInside (first_columns n r) r
 first-in n r p h = let left = h.left in let right = h.right in let top = h.top in let bottom = h.bottom in
     record { left = left; right = omega arith; top = top; bottom = bottom }
-
-pub rest-in : (n : ℕ) (r : Rect) → IsInside (without_first n r) r
-rest-in n r p h = let left = h.left in let right = h.right in let top = h.top in let bottom = h.bottom in
-    record { left = omega arith; right = omega arith; top = top; bottom = bottom }
 
 -- a text in the middle of a row, or memory is refused
 pub text-within : {A : Type 0} (result : Result A AllocError) (text : List ℕ) (style : Style) (r m : Rect) (old new : BufferData)
@@ -81,7 +58,7 @@ bar-box Horizontal n r is some le = let a = is.down in let w = is.some in
     record { columns = w; rows = omega arith; across = is.across; down = omega arith }
 
 pub behind-in : (d : Direction) (n : ℕ) (r : Rect) → IsInside (area_behind d n r) r
-behind-in Vertical n r = rest-in n r
+behind-in Vertical n r = rest-inside n r
 behind-in Horizontal n r = lower-in n r
 
 pub behind-room : (d : Direction) (n : ℕ) (r : Rect) → HasRoomAcross d r → HasRoomAcross d (area_behind d n r)
@@ -138,8 +115,3 @@ pub after-in : (c : BarChart) (r : Rect) (bars : List Bar) → IsInside (after_b
 after-in c r [] p h = h
 after-in c r (bar ∷ bars) p h =
     behind-in c.direction (bar_step c) r p (after-in c (area_behind c.direction (bar_step c) r) bars p h)
-
--- the elements from one on
-pub element-next : {A : Type 0} (xs : List A) (k : ℕ) (x : A) → k < length xs → x ≡ get_or xs k x
-    → drop k xs ≡ x ∷ drop (k + 1) xs
-element-next xs k x lt is = drop_more xs k x lt ∙ ap (λ y. y ∷ drop (k + 1) xs) (sym is)

@@ -1,3 +1,2 @@
-pub mod BarLemmas
 pub mod ChartLemmas
 pub mod NarrowChartLemmas

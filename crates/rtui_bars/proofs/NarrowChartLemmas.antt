@@ -1,70 +1,49 @@
 -- A bar chart of narrow texts keeps cells plain.
-use Rattle.std.proofs.Common.{◌≡◌, ℕ, ◌-◌, ◌<◌, ◌≤◌, ◌⊎◌, ⊎_elim, inl, inr, Bool, true, false, if◌then◌else◌, nat_lt, ◌==◌}
+use Rattle.std.proofs.Common.{ℕ, ◌-◌, ◌<◌, ◌≤◌, Bool, true, false, if◌then◌else◌, nat_lt, ◌==◌}
 use Rattle.std.proofs.Common.{◌&&◌, ◌^◌, decimal, not, List, [], ◌∷◌, All, Option, Some, None, arith, lit<, length, min}
-use Rattle.std.proofs.lemmas.{Bool.cases_lt, List.Elements.All-head, List.Elements.All-tail, List.Elements.All-take}
-use Rattle.ratatui_core.specs.Layout.{Rect, Position, intersected, corner}
+use Rattle.std.proofs.lemmas.{List.Elements.All-head, List.Elements.All-tail, List.Elements.All-take}
+use Rattle.ratatui_core.specs.Layout.{Rect, Position, corner}
 use Rattle.ratatui_core.specs.{Style.Style, Style.new_style, Style.patch, Text.LineData}
 use Rattle.ratatui_core.specs.declared.{layout.Direction.Direction}
 use Rattle.ratatui_core.specs.declared.layout.Direction.TheVariants.{Horizontal, Vertical}
-use Rattle.ratatui_core.specs.Buffer.{BufferData, Cell, text_width, pieces_at, text_columns, IsStyled, PaintsPieces}
-use Rattle.ratatui_core.specs.Buffer.{IsPlain, IsPlainFrom, IsNarrowLine, HasNarrowGraphemes}
-use Rattle.ratatui_core.proofs.BufferLemmas.{plain-styled, plain-with_symbol, plain-changed, line-stays, pieces-narrow}
-use Rattle.ratatui_core.proofs.BufferLemmas.{pieces-plain, styled-plain, over-all, from-over}
-use Rattle.rtui_boxes.specs.{Boxes.IsPlainIfBox, Framed.inner_if, Framed.IsBare}
-use Rattle.rtui_boxes.specs.Titles.{RendersTitle, title_at, title_width, first_columns, without_first}
-use Rattle.rtui_boxes.proofs.InnerLemmas.{plain-framed}
+use Rattle.ratatui_core.specs.Buffer.{BufferData, Cell, text_width, text_columns}
+use Rattle.ratatui_core.specs.Buffer.{IsPlain, IsPlainFrom, HasNarrowGraphemes}
+use Rattle.ratatui_core.proofs.BufferLemmas.{plain-styled, plain-with_symbol, plain-changed, line-stays}
+use Rattle.rtui_boxes.specs.{Boxes.IsPlainIfBox}
+use Rattle.rtui_boxes.specs.Titles.{title_at, title_width, first_columns, without_first}
+use Rattle.rtui_boxes.specs.{Lines.IsNarrowIfLine, Lines.RendersIfLine}
+use Rattle.rtui_boxes.proofs.{InnerLemmas.plain-inside, PlainBoxLemmas.plain-laid, PlainBoxLemmas.plain-done, PlainBoxLemmas.plain-text, PlainBoxLemmas.plain-title}
 use Rattle.rtui_bars.specs.{declared.group.Bar.Bar, declared.group.BarGroup.BarGroup, declared.chart.BarChart.BarChart}
-use Rattle.rtui_bars.specs.{Levels.left_at, Sparklines.row_from_below}
+use Rattle.rtui_sparkline.specs.Levels.{left_at, row_from_below}
 use Rattle.rtui_bars.specs.BarAreas.{rows_at, middle_columns, cells_along, bar_part, area_behind}
-use Rattle.rtui_bars.specs.BarCharts.{chart_cell, long_cell, DoesIf, RendersBarLabel, RendersLongLabel, WritesText, WritesOver}
+use Rattle.rtui_bars.specs.BarCharts.{chart_cell, long_cell, RendersBarLabel, WritesText, WritesOver}
 use Rattle.rtui_bars.specs.BarCharts.{text_of_bar, RendersTallBar, RendersLongBar, RendersBarIn, RendersBars, RendersGroupLabel}
 use Rattle.rtui_bars.specs.BarCharts.{label_indent, RendersLabelOf, RendersGroups, ShowsChart, RendersBarChart}
 use Rattle.rtui_bars.specs.BarCharts.{bar_rows, bar_step, chart_eighths, beside_labels, label_columns, filled_cells}
 use Rattle.rtui_bars.specs.BarCharts.{greatest_of_chart, has_bar_labels, group_label_rows, is_written, has_group_labels}
 use Rattle.rtui_bars.specs.BarCharts.{bars_columns, shown_bars, fitting_count, after_bars}
-use Rattle.rtui_bars.specs.BarCharts.{IsNarrowLabel, HasNarrowBarTexts, HasNarrowGroupTexts, HasNarrowGroups}
+use Rattle.rtui_bars.specs.BarCharts.{HasNarrowBarTexts, HasNarrowGroupTexts, HasNarrowGroups}
 use Rattle.std.proofs.lemmas.{Fmt.decimal_is_IsNumeral, Str.Parse.digit_at}
 use Rattle.ratatui_core.specs.Text.{ArePrintable}
-use Rattle.rtui_bars.proofs.BarLemmas.{level-any}
+use Rattle.rtui_sparkline.proofs.LevelLemmas.{level-any}
 
-styled-stays : (r : Rect) (style : Style) (old new : BufferData) → IsPlainFrom 0 old → IsStyled r style old new
-    → IsPlainFrom 0 new
-styled-stays r style old new plain is = from-over old new is.area (styled-plain r old.area style old new (over-all old plain) is)
-
-title-stays : (style : Style) (line : LineData) (r : Rect) (old new : BufferData) → IsNarrowLine line → IsPlainFrom 0 old
-    → RendersTitle style (title_at line r) old new → IsPlainFrom 0 new
-title-stays style line r old new narrow plain is =
-    line-stays r is.laid new (styled-stays r style old is.laid plain is.styled) line narrow is.line
-
--- an effect that keeps cells plain does so if it is done
-does-stay : (t : Bool) (f : BufferData → BufferData → Type 0) (old new : BufferData) → IsPlainFrom 0 old
-    → (f old new → IsPlainFrom 0 new) → DoesIf t f old new → IsPlainFrom 0 new
-does-stay true f old new plain keeps is = keeps is
-does-stay false f old new plain keeps same = rw same plain
-
-pieces-stay : (at : Position) (x n : ℕ) (style : Style) (text : List ℕ) (old new : BufferData) → HasNarrowGraphemes text
-    → IsPlainFrom 0 old → PaintsPieces at (pieces_at old.area x n style text) old new → IsPlainFrom 0 new
-pieces-stay at x n style text old new narrow plain is =
-    from-over old new is.area (pieces-plain at (pieces_at old.area x n style text) old.area old new
-    (pieces-narrow old.area x n style text narrow) (over-all old plain) is)
-
-label-stays : (style : Style) (label : Option LineData) (r : Rect) (old new : BufferData) → IsNarrowLabel label
+label-stays : (style : Style) (label : Option LineData) (r : Rect) (old new : BufferData) → IsNarrowIfLine label
     → IsPlainFrom 0 old → RendersBarLabel style label r old new → IsPlainFrom 0 new
 label-stays style None r old new narrow plain same = rw same plain
 label-stays style (Some line) r old new narrow plain is =
-    title-stays style line (middle_columns (title_width line) r) old new narrow plain is
+    plain-title style (title_at line (middle_columns (title_width line) r)) old new narrow plain is
 
-long-label-stays : (label : Option LineData) (r : Rect) (old new : BufferData) → IsNarrowLabel label → IsPlainFrom 0 old
-    → RendersLongLabel label r old new → IsPlainFrom 0 new
+long-label-stays : (label : Option LineData) (r : Rect) (old new : BufferData) → IsNarrowIfLine label → IsPlainFrom 0 old
+    → RendersIfLine label r old new → IsPlainFrom 0 new
 long-label-stays None r old new narrow plain same = rw same plain
 long-label-stays (Some line) r old new narrow plain is = line-stays r old new plain line narrow is
 
-group-label-stays : (style : Style) (label : Option LineData) (n : ℕ) (r : Rect) (old new : BufferData) → IsNarrowLabel label
+group-label-stays : (style : Style) (label : Option LineData) (n : ℕ) (r : Rect) (old new : BufferData) → IsNarrowIfLine label
     → IsPlainFrom 0 old → RendersGroupLabel style label n r old new → IsPlainFrom 0 new
 group-label-stays style None n r old new narrow plain same = rw same plain
 group-label-stays style (Some line) n r old new narrow plain is =
-    title-stays style line (first_columns (title_width line)
-    (without_first (label_indent line.alignment n (title_width line)) r)) old new narrow plain is
+    plain-title style (title_at line (first_columns (title_width line)
+    (without_first (label_indent line.alignment n (title_width line)) r))) old new narrow plain is
 
 module _ (c : BarChart) (narrow : HasNarrowGroups c) where
   tall-cell : (r : Rect) (style : Style) (eighths : ℕ) (p : Position) (cell : Cell) → IsPlain cell
@@ -91,20 +70,20 @@ module _ (c : BarChart) (narrow : HasNarrowGroups c) where
       let filled = plain-changed bars (chart_cell c.bar_set bars style eighths) old is.filled
       (tall-cell bars style eighths) is.cells plain in
       let row = rows_at (r.height - 1 - group_label_rows c r.height) 1 r in
-      let labelled = does-stay (has_bar_labels c r.height) (RendersBarLabel c.label_style bar.label row) is.filled is.labelled
+      let labelled = plain-done (has_bar_labels c r.height) (RendersBarLabel c.label_style bar.label row) is.filled is.labelled
       filled (label-stays c.label_style bar.label row is.filled is.labelled texts.label filled) is.label in
       let text = text_of_bar bar.value bar.text_value in
       let m = middle_columns (text_columns text) (rows_at (bar_rows c r.height - 1) 1 r) in
-      does-stay (is_written bar.value (text_columns text) r.width eighths) (WritesText (patch c.value_style bar.value_style) text
+      plain-done (is_written bar.value (text_columns text) r.width eighths) (WritesText (patch c.value_style bar.value_style) text
       (rows_at (bar_rows c r.height - 1) 1 r)) is.labelled new labelled
-      (pieces-stay (corner m) m.x m.width (patch c.value_style bar.value_style) text is.labelled new texts.value labelled)
+      (plain-text (corner m) m.x m.width (patch c.value_style bar.value_style) text is.labelled new texts.value labelled)
       is.value
 
   over-stays : (style : Style) (text : List ℕ) (n : ℕ) (r : Rect) (old new : BufferData) → HasNarrowGraphemes text
       → IsPlainFrom 0 old → WritesOver style text n r old new → IsPlainFrom 0 new
   over-stays style text n r old new texts plain is =
-      styled-stays (first_columns (min n (text_columns text)) r) style is.written new
-      (pieces-stay (corner r) r.x r.width new_style text old is.written texts plain is.pieces) is.over
+      plain-laid (first_columns (min n (text_columns text)) r) style is.written new is.over
+      (plain-text (corner r) r.x r.width new_style text old is.written texts plain is.pieces)
 
   lying-stays : (bar : Bar) (r : Rect) (old new : BufferData) → HasNarrowBarTexts bar → IsPlainFrom 0 old
       → RendersLongBar c bar r old new → IsPlainFrom 0 new
@@ -116,7 +95,7 @@ module _ (c : BarChart) (narrow : HasNarrowGroups c) where
       let labelled = long-label-stays bar.label (rows_at 0 1 (first_columns (label_columns c) r)) is.filled is.labelled
       texts.label filled is.label in
       let text = text_of_bar bar.value bar.text_value in
-      does-stay (nat_lt 0 bars.width) (WritesOver (patch c.value_style bar.value_style) text n (rows_at 0 1 bars)) is.labelled new
+      plain-done (nat_lt 0 bars.width) (WritesOver (patch c.value_style bar.value_style) text n (rows_at 0 1 bars)) is.labelled new
       labelled (over-stays (patch c.value_style bar.value_style) text n (rows_at 0 1 bars) is.labelled new texts.value labelled)
       is.value
 
@@ -133,15 +112,15 @@ module _ (c : BarChart) (narrow : HasNarrowGroups c) where
       (bar-stays c.direction bar (bar_part c.direction c.bar_width r) old is.between (All-head HasNarrowBarTexts bar bars texts)
       plain is.first) is.second
 
-  label-of-stays : (d : Direction) (group : BarGroup) (n : ℕ) (r : Rect) (old new : BufferData) → IsNarrowLabel group.label
+  label-of-stays : (d : Direction) (group : BarGroup) (n : ℕ) (r : Rect) (old new : BufferData) → IsNarrowIfLine group.label
       → IsPlainFrom 0 old → RendersLabelOf d c group n r old new → IsPlainFrom 0 new
   label-of-stays Vertical group n r old new texts plain is =
-      does-stay (has_group_labels c r.height && nat_lt 0 n) (RendersGroupLabel c.label_style group.label (bars_columns c n)
+      plain-done (has_group_labels c r.height && nat_lt 0 n) (RendersGroupLabel c.label_style group.label (bars_columns c n)
       (rows_at (r.height - 1) 1 r)) old new plain
       (group-label-stays c.label_style group.label (bars_columns c n) (rows_at (r.height - 1) 1 r) old new texts plain) is
   label-of-stays Horizontal group n r old new texts plain is =
       let bars = beside_labels (label_columns c) r in
-      does-stay ((nat_lt 0 c.group_gap && nat_lt (bars_columns c n) r.height) && nat_lt 0 n)
+      plain-done ((nat_lt 0 c.group_gap && nat_lt (bars_columns c n) r.height) && nat_lt 0 n)
       (RendersGroupLabel c.label_style group.label bars.width (rows_at (bars_columns c n) 1 bars)) old new plain
       (group-label-stays c.label_style group.label bars.width (rows_at (bars_columns c n) 1 bars) old new texts plain) is
 
@@ -161,27 +140,9 @@ module _ (c : BarChart) (narrow : HasNarrowGroups c) where
 pub chart-plain : (c : BarChart) (area : Rect) (old new : BufferData) → IsPlainIfBox c.block → HasNarrowGroups c
     → IsPlainFrom 0 old → RendersBarChart c area old new → IsPlainFrom 0 new
 chart-plain c area old new box narrow plain is =
-    let part = intersected area old.area in
-    let nothing : (part.width ≡ 0) ⊎ (part.height ≡ 0) → IsPlainFrom 0 new = λ none. rw (is.parts.nothing none) plain in
-    let some : 0 < part.width → 0 < part.height → IsPlainFrom 0 new = λ w h.
-    let there = is.parts.part w h in
-    let framed = plain-framed c.style c.block part old there.framed box plain there.frame in
-    let bare : IsBare (inner_if c.block part) → IsPlainFrom 0 new = λ none. rw (there.none none) framed in
-    let full : ShowsChart c (inner_if c.block part) there.framed new → IsPlainFrom 0 new = λ shows.
-    does-stay (not (c.bar_width == 0)) (RendersGroups c (inner_if c.block part) c.groups.items) there.framed new framed
-    (groups-stay c narrow (inner_if c.block part) c.groups.items there.framed new narrow.groups framed) shows in
-    ⊎_elim
-    (λ (wide : 0 < (inner_if c.block part).width).
-    ⊎_elim (λ (high : 0 < (inner_if c.block part).height). full (there.inside wide high))
-    (λ (le : (inner_if c.block part).height ≤ 0). bare (inr (omega arith)))
-    (cases_lt 0 (inner_if c.block part).height))
-    (λ (le : (inner_if c.block part).width ≤ 0). bare (inl (omega arith)))
-    (cases_lt 0 (inner_if c.block part).width) in
-    ⊎_elim
-    (λ (w : 0 < part.width). ⊎_elim (λ (h : 0 < part.height). some w h) (λ (le : part.height ≤ 0). nothing (inr (omega arith)))
-    (cases_lt 0 part.height))
-    (λ (le : part.width ≤ 0). nothing (inl (omega arith)))
-    (cases_lt 0 part.width)
+    plain-inside c.style c.block (ShowsChart c) area old new box plain (λ r framed shown cells shows.
+    plain-done (not (c.bar_width == 0)) (RendersGroups c r c.groups.items) framed shown cells
+    (groups-stay c narrow r c.groups.items framed shown narrow.groups cells) shows) is
 
 -- digits are printable
 pub digits-printable : (n : ℕ) → n < 2 ^ 64 → ArePrintable (decimal n)

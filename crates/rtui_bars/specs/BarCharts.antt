@@ -1,7 +1,7 @@
 -- A bar chart: of which parts it is made, and what it makes of a buffer.
-use Rattle.std.specs.Prelude.{◌≡◌, ℕ, Bool, true, false, ◌+◌, ◌-◌, ◌*◌, ◌/◌, ◌==◌, ◌&&◌, ◌||◌, nat_lt, nat_le}
+use Rattle.std.specs.Prelude.{◌≡◌, ℕ, Bool, ◌+◌, ◌-◌, ◌*◌, ◌/◌, ◌==◌, ◌&&◌, ◌||◌, nat_lt, nat_le}
 use Rattle.std.specs.Prelude.{not, min, max, List, [], ◌∷◌, length, take, decimal, Option, Some, None}
-use Rattle.std.specs.Prelude.{is_some, if◌then◌else◌, unwrap_or, ⊤, All, ◌≤◌}
+use Rattle.std.specs.Prelude.{is_some, if◌then◌else◌, unwrap_or, All, ◌≤◌}
 use Rattle.std.specs.{List.list_any, Borrow.Bor}
 use Rattle.ratatui_core.specs.Layout.{Rect, Position, corner}
 use Rattle.ratatui_core.specs.Style.{Style, new_style, patch}
@@ -13,14 +13,14 @@ use Rattle.ratatui_core.specs.Buffer.{BufferData, Cell, styled, with_symbol, tex
 use Rattle.ratatui_core.specs.Buffer.{ChangesEach, PaintsPieces}
 use Rattle.ratatui_core.specs.declared.layout.Direction.{Direction}
 use Rattle.ratatui_core.specs.declared.layout.Direction.TheVariants.{Horizontal, Vertical}
-use Rattle.ratatui_core.specs.{Buffer.IsStyled, Widgets.RendersLine}
-use Rattle.ratatui_core.specs.Buffer.{text_width, IsNarrowLine, HasNarrowGraphemes}
-use Rattle.rtui_boxes.specs.Titles.{InTurn, RendersTitle, title_at, title_width, first_columns, without_first}
+use Rattle.ratatui_core.specs.{Buffer.IsStyled}
+use Rattle.ratatui_core.specs.Buffer.{text_width, HasNarrowGraphemes}
+use Rattle.rtui_boxes.specs.Lines.{RendersIfLine, IsNarrowIfLine}
+use Rattle.rtui_boxes.specs.Titles.{InTurn, DoesIf, RendersTitle, title_at, title_width, first_columns, without_first}
 use Rattle.rtui_boxes.specs.Framed.{RendersInFrame}
 use Rattle.rtui_bars.specs.{declared.group.Bar.Bar, declared.group.BarGroup.BarGroup}
 use Rattle.rtui_bars.specs.{declared.chart.BarChart.BarChart, declared.chart.Measures.Measures}
-use Rattle.rtui_bars.specs.Levels.{eighths_of_value, left_at, level_text}
-use Rattle.rtui_bars.specs.Sparklines.{row_from_below}
+use Rattle.rtui_sparkline.specs.Levels.{eighths_of_value, left_at, level_text, row_from_below}
 use Rattle.rtui_bars.specs.BarAreas.{rows_at, middle_columns, cells_along, bar_part, area_behind}
 use Rattle.ratatui_core.specs.declared.symbols.bar.Set.{Set as BarSet}
 
@@ -117,11 +117,6 @@ WritesText style text r old =
     let m = middle_columns (text_columns text) r in
     PaintsPieces (corner m) (pieces_at old.area m.x m.width style text) old
 
--- an effect, or none
-abbrev pub DoesIf : Bool → (BufferData → BufferData → Type 0) → BufferData → BufferData → Type 0
-DoesIf true f old new = f old new
-DoesIf false f old new = new ≡ old
-
 -- how many eighths of a cell a bar of a chart is high
 abbrev pub chart_eighths : BarChart → Bar → ℕ → ℕ
 chart_eighths c bar height = eighths_of_value bar.value (greatest_of_chart c) (bar_rows c height)
@@ -174,19 +169,15 @@ abbrev pub long_cell : BarSet → Rect → Style → ℕ → Position → Cell �
 long_cell set r style n p c =
     styled style (with_symbol (if nat_lt (p.x - r.x) n then set.full.now else set.empty.now) c)
 
--- the label of a horizontal bar in its row, as it says itself, if it has one
-abbrev pub RendersLongLabel : Option LineData → Rect → BufferData → BufferData → Type 0
-RendersLongLabel None r old new = new ≡ old
-RendersLongLabel (Some line) r old new = RendersLine line r old new
-
 -- a text from the left of a row on, in the style of its cells, and a style over its columns among the first n
 pub record WritesOver (style : Style) (text : List ℕ) (n : ℕ) (r : Rect) (old new : BufferData) : Type 0 where
   pub written : BufferData
   pub pieces : PaintsPieces (corner r) (pieces_at old.area r.x r.width new_style text) old written
   pub over : IsStyled (first_columns (min n (text_columns text)) r) style written new
 
--- a horizontal bar in its rows of an area: its cells right of the labels, its label in the first row, and its
--- value in the first row from the left on, in its own style as far as the bar goes; no value without columns
+-- a horizontal bar in its rows of an area: its cells right of the labels, its label in the first row, as it is
+-- styled and aligned itself, and its value in the first row from the left on, in its own style as far as the
+-- bar goes; no value without columns
 pub record RendersLongBar (c : BarChart) (bar : Bar) (r : Rect) (old new : BufferData) : Type 0 where
   pub filled : BufferData
   pub labelled : BufferData
@@ -194,7 +185,7 @@ pub record RendersLongBar (c : BarChart) (bar : Bar) (r : Rect) (old new : Buffe
       let n = filled_cells bar.value (greatest_of_chart c) bars.width in
       ChangesEach bars (long_cell c.bar_set bars (patch c.bar_style bar.style) n) old filled
   pub label : let row = rows_at 0 1 (first_columns (label_columns c) r) in
-      RendersLongLabel bar.label row filled labelled
+      RendersIfLine bar.label row filled labelled
   pub value : let row = rows_at 0 1 (beside_labels (label_columns c) r) in
       let n = filled_cells bar.value (greatest_of_chart c) row.width in
       let text = text_of_bar bar.value bar.text_value in
@@ -288,16 +279,12 @@ measures_of c = record { greatest = greatest_of_chart c; labels = label_columns 
 
 -- the texts of a bar, of a group and of a chart, and the symbols of its bars, take one column for each
 -- grapheme
-abbrev pub IsNarrowLabel : Option LineData → Type 0
-IsNarrowLabel None = ⊤
-IsNarrowLabel (Some line) = IsNarrowLine line
-
 pub record HasNarrowBarTexts (bar : Bar) : Type 0 where
-  pub label : IsNarrowLabel bar.label
+  pub label : IsNarrowIfLine bar.label
   pub value : HasNarrowGraphemes (text_of_bar bar.value bar.text_value)
 
 pub record HasNarrowGroupTexts (group : BarGroup) : Type 0 where
-  pub label : IsNarrowLabel group.label
+  pub label : IsNarrowIfLine group.label
   pub bars : All HasNarrowBarTexts group.bars.items
 
 pub record HasNarrowGroups (c : BarChart) : Type 0 where

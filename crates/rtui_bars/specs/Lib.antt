@@ -1,5 +1,3 @@
-pub mod Levels
-pub mod Sparklines
 pub mod BarAreas
 pub mod BarCharts
 pub mod Inner

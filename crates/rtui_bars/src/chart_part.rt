@@ -12,8 +12,9 @@ ghost use Rattle.rtui_boxes.specs.Titles.{first_columns, without_first, title_wi
 ghost use Rattle.rtui_bars.specs.BarCharts.{greatest_of_chart, has_label, has_labelled_bar, has_bar_labels};
 ghost use Rattle.rtui_bars.specs.BarCharts.{bar_label_rows, has_group_labels, group_label_rows, bar_rows};
 ghost use Rattle.rtui_bars.specs.BarAreas.{cells_along, rows_at};
-ghost use Rattle.rtui_bars.specs.BarCharts.{WritesText, RendersBarLabel, is_written, measures_of, label_columns};
-ghost use Rattle.rtui_bars.specs.BarCharts.{text_of_bar, DoesIf, chart_cell, RendersTallBar, RendersBar};
+ghost use Rattle.rtui_boxes.specs.Titles.{DoesIf};
+ghost use Rattle.rtui_bars.specs.BarCharts.{WritesText, RendersBarLabel, is_written, measures_of};
+ghost use Rattle.rtui_bars.specs.BarCharts.{label_columns, text_of_bar, chart_cell, RendersTallBar, RendersBar};
 ghost use Rattle.rtui_bars.specs.BarCharts.{RendersBars, after_bars, fitting_count, shown_bars, bars_columns};
 ghost use Rattle.rtui_bars.specs.BarCharts.{label_indent, RendersGroupLabel, RendersLabelOf, RendersGroup};
 ghost use Rattle.rtui_bars.specs.BarCharts.{RendersGroups, ShowsChart};
@@ -25,7 +26,6 @@ use crate::area::{
 };
 use crate::chart::{BarChart, Measures};
 use crate::group::{Bar, BarGroup};
-use crate::level::{eighths_of, left_at, level_of};
 use itoa::Buffer as Digits;
 use ratatui_core::buffer::{Buffer, Cell, CellChange, change_area};
 use ratatui_core::layout::{Direction, HorizontalAlignment, Position, Rect};
@@ -33,6 +33,7 @@ use ratatui_core::style::Style;
 use ratatui_core::symbols::bar;
 use ratatui_core::text::{Line, text_columns};
 use ratatui_core::widgets::Widget;
+use rtui_sparkline::level::{eighths_of, left_at, level_of};
 use std::alloc::{AllocError, Global};
 
 // How many columns a line takes, at most 65535.

@@ -1,26 +1,13 @@
-//! Laws of bars that are no single call's clause.
+//! Laws of bar charts that are no single call's clause.
 
 ghost use Rattle.std.specs.Prelude.{◌≡◌, ℕ, ◌<◌, ◌^◌, decimal};
 ghost use Rattle.ratatui_core.specs.Layout.{Rect};
 ghost use Rattle.ratatui_core.specs.Buffer.{BufferData, IsPlainFrom, HasNarrowGraphemes};
 ghost use Rattle.rtui_boxes.specs.Boxes.{IsPlainIfBox};
-ghost use Rattle.rtui_bars.specs.declared.sparkline.Sparkline.{Sparkline};
-ghost use Rattle.rtui_bars.specs.declared.sparkline.RenderDirection.{RenderDirection};
-ghost use Rattle.rtui_bars.specs.declared.sparkline.RenderDirection.TheVariants.{LeftToRight};
-ghost use Rattle.rtui_bars.specs.Sparklines.{HasNarrowBars, RendersSparkline};
 ghost use Rattle.rtui_bars.specs.declared.chart.BarChart.{BarChart};
 ghost use Rattle.rtui_bars.specs.BarCharts.{HasNarrowGroups, RendersBarChart};
 
-use crate::sparkline::RenderDirection;
 use ratatui_core::buffer::laws::printable_texts_are_narrow;
-
-/// A sparkline of symbols of one column keeps cells plain, if it has no box or a plain one; so a
-/// screen can show it.
-pub fn sparklines_keep_cells_plain()
-    ensures { (s : Sparkline) (area : Rect) (old new : BufferData) → IsPlainIfBox s.block
-        → HasNarrowBars s → IsPlainFrom 0 old → RendersSparkline s area old new
-        → IsPlainFrom 0 new }
-{}
 
 /// A bar chart whose texts and symbols take one column for each grapheme keeps cells plain, in both
 /// directions, if it has no box or a plain one; so a screen can show it.
@@ -36,9 +23,3 @@ pub fn values_are_narrow()
 {
     printable_texts_are_narrow();
 }
-
-/// A sparkline stands from the left, unless it is told otherwise.
-pub fn sparklines_have_this_default()
-    ensures { (d : RenderDirection) → ⟦<RenderDirection as Default>⟧.is_default d
-        → d ≡ LeftToRight }
-{}

@@ -6,8 +6,9 @@ ghost use Rattle.ratatui_core.specs.Layout.{IsInside};
 ghost use Rattle.ratatui_core.specs.Buffer.{ChangesEach};
 ghost use Rattle.ratatui_core.specs.Style.{patch};
 ghost use Rattle.rtui_boxes.specs.Boxes.{IsBoxArea};
-ghost use Rattle.rtui_bars.specs.BarCharts.{measures_of, long_cell, filled_cells, RendersLongLabel};
-ghost use Rattle.rtui_bars.specs.BarCharts.{WritesOver, DoesIf, text_of_bar, RendersLongBar};
+ghost use Rattle.rtui_boxes.specs.{Titles.DoesIf, Lines.RendersIfLine};
+ghost use Rattle.rtui_bars.specs.BarCharts.{measures_of, long_cell, filled_cells, text_of_bar};
+ghost use Rattle.rtui_bars.specs.BarCharts.{WritesOver, RendersLongBar};
 
 use crate::area::{beside_labels, first_columns, rows_at};
 use crate::chart::{BarChart, Measures};
@@ -86,7 +87,7 @@ fn render_long_label(
     buf: &mut Buffer,
 ) -> Result<(), AllocError>
     ensures within { ChangesWithin row buf.old buf.new }
-    ensures ok { OnOk result (RendersLongLabel label.now row buf.old buf.new) }
+    ensures ok { OnOk result (RendersIfLine label.now row buf.old buf.new) }
 {
     match label {
         Some(line) => line.render(row, buf),

@@ -115,6 +115,14 @@ module _ (style : Style) (o : Option Block) (f : Rect → BufferData → BufferD
   }
   framed-some (Err e) inner new frame is done made = tt
 
+-- the part of an area that a buffer has has cells
+pub clip-some : (area own part : Rect) → IsClipped area own part → IsBare (intersected area own) → ⊥
+clip-some area own part clip bare =
+    let wide : part.width ≡ (intersected area own).width = ap (λ q. q.width) clip.value in
+    let high : part.height ≡ (intersected area own).height = ap (λ q. q.height) clip.value in
+    let columns = clip.columns in let rows = clip.rows in
+    ⊎_elim (λ (e : (intersected area own).width ≡ 0). omega arith) (λ (e : (intersected area own).height ≡ 0). omega arith) bare
+
 pub any-err : {A P : Type 0} (r : Result A AllocError) → P → OnErr r P
 any-err (Ok x) p = tt
 any-err (Err e) p = p

@@ -1,5 +1,5 @@
 -- What a style and a box leave of plain cells, and where what is inside lies.
-use Rattle.std.proofs.Common.{◌≡◌, ◌<◌, ◌≤◌, ◌⊎◌, ⊎_elim, inl, inr, Option, Some, None, refl, ap, ◌∙◌, arith}
+use Rattle.std.proofs.Common.{◌≡◌, ◌<◌, ◌≤◌, ⊎_elim, inl, inr, Option, Some, None, refl, ap, ◌∙◌, arith}
 use Rattle.std.proofs.lemmas.Bool.{cases_lt}
 use Rattle.ratatui_core.specs.Layout.{Rect, EdgesFit, IsInside, intersected}
 use Rattle.ratatui_core.specs.{Style.Style, Buffer.BufferData, Buffer.IsPlainFrom, Buffer.IsSettledBuffer, Widgets.IsClipped}
@@ -40,6 +40,28 @@ clipped area own edges wide high = record {
   edges = edges;
 }
 
+-- a rectangle is bare, or has cells
+pub bare-or : {P : Type 0} (r : Rect) → (IsBare r → P) → (0 < r.width → 0 < r.height → P) → P
+bare-or r bare some =
+    ⊎_elim
+    (λ (w : 0 < r.width).
+    ⊎_elim (λ (h : 0 < r.height). some w h) (λ (le : r.height ≤ 0). bare (inr (omega arith))) (cases_lt 0 r.height))
+    (λ (le : r.width ≤ 0). bare (inl (omega arith)))
+    (cases_lt 0 r.width)
+
+-- of plain cells come plain ones, if what is done inside leaves such
+pub plain-inside : (style : Style) (o : Option Block) (f : Rect → BufferData → BufferData → Type 0) (area : Rect)
+    (old new : BufferData) → IsPlainIfBox o → IsPlainFrom 0 old
+    → ((r : Rect) (s t : BufferData) → IsPlainFrom 0 s → f r s t → IsPlainFrom 0 t) → RendersInFrame style o f area old new
+    → IsPlainFrom 0 new
+plain-inside style o f area old new box plain keeps is =
+    let part = intersected area old.area in
+    bare-or part (λ none. rw (is.parts.nothing none) plain) (λ wide high.
+    let there = is.parts.part wide high in
+    let framed = plain-framed style o part old there.framed box plain there.frame in
+    bare-or (inner_if o part) (λ none. rw (there.none none) framed)
+    (λ w h. keeps (inner_if o part) there.framed new framed (there.inside w h)))
+
 -- of plain cells comes a settled buffer, if what is done inside leaves one
 pub settled-frame : (style : Style) (o : Option Block) (f : Rect → BufferData → BufferData → Type 0) (area : Rect)
     (old new : BufferData) → EdgesFit old.area → IsPlainFrom 0 old → IsPlainIfBox o
@@ -47,29 +69,14 @@ pub settled-frame : (style : Style) (o : Option Block) (f : Rect → BufferData 
     → IsSettledBuffer t) → RendersInFrame style o f area old new → IsSettledBuffer new
 settled-frame style o f area old new edges plain box keeps is =
     let part = intersected area old.area in
-    let nothing : (part.width ≡ 0) ⊎ (part.height ≡ 0) → IsSettledBuffer new = λ none. rw (is.parts.nothing none)
-    (settled-plain old edges plain) in
-    let some : 0 < part.width → 0 < part.height → IsSettledBuffer new = λ wide high.
+    bare-or part (λ none. rw (is.parts.nothing none) (settled-plain old edges plain)) (λ wide high.
     let clip = clipped area old.area edges wide high in
     let there = is.parts.part wide high in
     let framed = there.framed in
     let same = framed-area style o part old framed there.frame in
     let plain_ = plain-framed style o part old framed box plain there.frame in
     let edges_ : EdgesFit framed.area = rw same edges in
-    let bare : IsBare (inner_if o part) → IsSettledBuffer new = λ none. rw (there.none none)
-    (settled-plain framed edges_ plain_) in
-    let full : 0 < (inner_if o part).width → 0 < (inner_if o part).height → IsSettledBuffer new = λ w h.
+    bare-or (inner_if o part) (λ none. rw (there.none none) (settled-plain framed edges_ plain_)) (λ w h.
     let inner = inner-in o part (box-area area old.area part clip) w h in
     keeps (inner_if o part) framed new inner.some (λ p in_inner. rw same (clip.of_own p (inner.inside p in_inner))) edges_ plain_
-    (there.inside w h) in
-    ⊎_elim
-    (λ (w : 0 < (inner_if o part).width).
-    ⊎_elim (λ (h : 0 < (inner_if o part).height). full w h) (λ (le : (inner_if o part).height ≤ 0). bare (inr (omega arith)))
-    (cases_lt 0 (inner_if o part).height))
-    (λ (le : (inner_if o part).width ≤ 0). bare (inl (omega arith)))
-    (cases_lt 0 (inner_if o part).width) in
-    ⊎_elim
-    (λ (w : 0 < part.width). ⊎_elim (λ (h : 0 < part.height). some w h) (λ (le : part.height ≤ 0). nothing (inr (omega arith)))
-    (cases_lt 0 part.height))
-    (λ (le : part.width ≤ 0). nothing (inl (omega arith)))
-    (cases_lt 0 part.width)
+    (there.inside w h)))

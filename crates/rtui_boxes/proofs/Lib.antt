@@ -1,3 +1,5 @@
+pub mod ElementLemmas
+pub mod WithinLemmas
 pub mod TitleLemmas
 pub mod BoxLemmas
 pub mod CloneLemmas

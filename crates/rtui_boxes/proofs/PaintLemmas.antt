@@ -1,11 +1,17 @@
 -- Pieces painted within a part of a buffer.
-use Rattle.std.proofs.Common.{ℕ, ◌+◌, ◌-◌, ◌<◌, ◌≤◌, ⊎_elim, inl, inr, List, arith, Result, Ok, Err}
-use Rattle.std.proofs.lemmas.Bool.{cases_lt}
+use Rattle.std.proofs.Common.{◌≡◌, ℕ, ◌+◌, ◌-◌, ◌<◌, ◌≤◌, ⊎_elim, inl, inr, true, List, [], ◌∷◌, All, length, length-append}
+use Rattle.std.proofs.Common.{IsUtf8, ap, arith, Result, Ok, Err}
+use Rattle.std.specs.List.{concat}
+use Rattle.std.proofs.lemmas.{Bool.cases_lt, List.Elements.All-nil, List.Elements.All-cons}
+use Rattle.unicode_segmentation.specs.Grapheme.{graphemes}
+use Rattle.unicode_segmentation.proofs.SegmentsLemmas.{concat-segments}
 use Rattle.std.specs.declared.alloc.AllocError.{AllocError}
 use Rattle.ratatui_core.specs.Layout.{Rect, Position, HasPosition, IsInside}
-use Rattle.ratatui_core.specs.Buffer.{BufferData, Piece, columns, HasRow, IsBeside, PaintsOrRefuses, position_of}
+use Rattle.ratatui_core.specs.Style.{Style}
+use Rattle.ratatui_core.specs.Buffer.{BufferData, Piece, columns, HasRow, IsBeside, PaintsOrRefuses, position_of, room_at}
+use Rattle.ratatui_core.specs.Buffer.{IsShort, AreShort, text_pieces}
 use Rattle.ratatui_core.specs.Widgets.{ChangesWithin}
-use Rattle.ratatui_core.proofs.BufferLemmas.{PaintsByColumns-paints, same-beside}
+use Rattle.ratatui_core.proofs.BufferLemmas.{PaintsByColumns-paints, same-beside, text-short}
 use Rattle.rtui_boxes.specs.Boxes.{IsBoxArea}
 
 -- a place of a part
@@ -84,3 +90,21 @@ paints-within r part x y ps old new box inside le fits t b paints =
     (cases_lt q.x (x + columns ps)))
     (cases_lt q.x x) in
     by-result r part (position_of (x, y)) ps old new row starts ends beside paints
+
+-- as many columns as a buffer has right of a column
+pub room-is : (r : Rect) (x n : ℕ) → x + n ≤ r.x + r.width → n ≤ 65535 → room_at r x n ≡ n
+room-is r x n fits small = omega arith
+
+-- of texts in a row each is no longer than all
+each-no_longer : (n : ℕ) (gs : List (List ℕ)) → length (concat gs) ≤ n → All (λ g. length g ≤ n) gs
+each-no_longer n [] le = All-nil (λ g. length g ≤ n)
+each-no_longer n (g ∷ gs) le =
+    let whole = length-append g (concat gs) in
+    All-cons (λ g. length g ≤ n) g gs (omega arith) (each-no_longer n gs (omega arith))
+
+-- a short text is painted in short pieces
+pub short-painted : (room : ℕ) (style : Style) (text : List ℕ) → IsUtf8 text → IsShort text
+    → AreShort (text_pieces room style text)
+short-painted room style text utf8 short =
+    let whole : length (concat (graphemes true text)) ≡ length text = ap length (concat-segments _ _ utf8) in
+    text-short room style text (each-no_longer 22 (graphemes true text) (omega arith))

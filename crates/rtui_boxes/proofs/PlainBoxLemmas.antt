@@ -8,10 +8,12 @@ use Rattle.ratatui_core.specs.declared.layout.HorizontalAlignment.{HorizontalAli
 use Rattle.ratatui_core.specs.declared.layout.HorizontalAlignment.TheVariants.{Left, Center, Right}
 use Rattle.ratatui_core.specs.{Style.Style, Text.LineData, declared.symbols.merge.MergeStrategy.MergeStrategy}
 use Rattle.ratatui_core.specs.Buffer.{BufferData, Cell, cell_in, joined, styled, with_symbol, symbol_text, width_of, text_width}
-use Rattle.ratatui_core.specs.Buffer.{IsStyled, IsNarrowLine, IsPlain, IsPlainFrom}
+use Rattle.ratatui_core.specs.Buffer.{IsStyled, IsNarrowLine, IsPlain, IsPlainFrom, HasNarrowGraphemes, PaintsPieces, pieces_at}
 use Rattle.ratatui_core.proofs.BufferLemmas.{plain-styled, plain-with_symbol, plain-if, joined-columns, has-or-not, line-stays}
+use Rattle.ratatui_core.proofs.BufferLemmas.{pieces-narrow, pieces-plain, over-all, from-over}
 use Rattle.rtui_boxes.specs.{declared.block.Block.Block, declared.title.Title.Title, declared.title.TitlePosition.TitlePosition}
 use Rattle.rtui_boxes.specs.declared.title.TitlePosition.TheVariants.{Top, Bottom}
+use Rattle.rtui_boxes.specs.Titles.{DoesIf, RendersTitle}
 use Rattle.rtui_boxes.specs.Titles.{PlacedTitle, RendersTitles, title_at, title_width, titles_width, first_columns, last_columns}
 use Rattle.rtui_boxes.specs.Titles.{without_first, without_last, shown_width, side_of, aligned, from_left, from_right}
 use Rattle.rtui_boxes.specs.Titles.{from_outside, from_centre}
@@ -68,6 +70,25 @@ plain-laid r style old laid is plain = λ p in_laid le.
     (plain-styled style (cell_in old p) (plain p in_own le)))
     (λ (off : HasPosition r p → ⊥). subst IsPlain (sym (is.outside p in_own off)) (plain p in_own le))
     (has-or-not r p)
+
+-- so does what keeps them plain, done or not
+pub plain-done : (t : Bool) (f : BufferData → BufferData → Type 0) (old new : BufferData) → IsPlainFrom 0 old
+    → (f old new → IsPlainFrom 0 new) → DoesIf t f old new → IsPlainFrom 0 new
+plain-done true f old new plain keeps is = keeps is
+plain-done false f old new plain keeps same = rw same plain
+
+-- a text of narrow graphemes
+pub plain-text : (at : Position) (x n : ℕ) (style : Style) (text : List ℕ) (old new : BufferData) → HasNarrowGraphemes text
+    → IsPlainFrom 0 old → PaintsPieces at (pieces_at old.area x n style text) old new → IsPlainFrom 0 new
+plain-text at x n style text old new narrow plain is =
+    from-over old new is.area (pieces-plain at (pieces_at old.area x n style text) old.area old new
+    (pieces-narrow old.area x n style text narrow) (over-all old plain) is)
+
+-- and a title of a narrow line
+pub plain-title : (style : Style) (t : PlacedTitle) (old new : BufferData) → IsNarrowLine t.line → IsPlainFrom 0 old
+    → RendersTitle style t old new → IsPlainFrom 0 new
+plain-title style t old new narrow plain is =
+    line-stays t.area is.laid new (plain-laid t.area style old is.laid is.styled plain) t.line narrow is.line
 
 -- titles of narrow lines
 abbrev AreNarrowTitles : List PlacedTitle → Type 0
@@ -143,10 +164,8 @@ plain-titles : (style : Style) (ts : List PlacedTitle) (old new : BufferData) �
     → RendersTitles style ts old new → IsPlainFrom 0 new
 plain-titles style [] old new narrow plain same = rw same plain
 plain-titles style (t ∷ ts) old new narrow plain made =
-    let one = made.first in
-    let laid = plain-laid t.area style old one.laid one.styled plain in
-    let shown = line-stays t.area one.laid made.between laid t.line
-    (All-head (λ (t : PlacedTitle). IsNarrowLine t.line) t ts narrow) one.line in
+    let shown = plain-title style t old made.between (All-head (λ (t : PlacedTitle). IsNarrowLine t.line) t ts narrow) plain
+    made.first in
     plain-titles style ts made.between new (All-tail (λ (t : PlacedTitle). IsNarrowLine t.line) t ts narrow) shown made.second
 
 plain-titled : (b : Block) (r : Rect) (old new : BufferData) → IsPlainBox b → IsPlainFrom 0 old → RendersTitled b r old new

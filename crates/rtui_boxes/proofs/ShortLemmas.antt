@@ -8,7 +8,8 @@ use Rattle.ratatui_core.specs.Buffer.{BufferData, Cell, cell_in, symbol_text, st
 use Rattle.ratatui_core.proofs.BufferLemmas.{joined-short}
 use Rattle.rtui_boxes.specs.{declared.block.Block.Block, declared.title.Title.Title, Titles.titles_width}
 use Rattle.rtui_boxes.specs.Boxes.{Stroke, strokes, strikes, drawn, is_in, IsShortUnder, IsShortBlock, HasShortSymbols}
-use Rattle.rtui_boxes.specs.Boxes.{AreShortCells, lines_placed, IsShortTitle, HasShortTitles, AreShortTitles, AreShortAnywhere}
+use Rattle.rtui_boxes.specs.Boxes.{AreShortCells, lines_placed, HasShortTitles, AreShortTitles, AreShortAnywhere}
+use Rattle.rtui_boxes.specs.Lines.{IsShortTitle}
 
 abbrev AreShortStrokes : List Stroke → Type 0
 AreShortStrokes [] = Unit {0}

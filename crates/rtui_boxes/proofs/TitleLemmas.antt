@@ -2,12 +2,13 @@
 use Rattle.std.proofs.Common.{◌≡◌, ℕ, ◌+◌, ◌-◌, ◌<◌, ◌≤◌, ◌==◌, Bool, true, false, if◌then◌else◌, nat_le, ◌/◌, List, [], ◌∷◌}
 use Rattle.std.proofs.Common.{◌++◌, reverse, length, take, drop, slice_index_or, refl, sym, ap, subst, ◌∙◌, arith}
 use Rattle.std.specs.List.{list_any}
-use Rattle.std.proofs.lemmas.{Bool.or_parts, Bool.Decides.nat_tests, List.drop_more, List.take_more, List.reverse-append}
+use Rattle.std.proofs.lemmas.{Bool.or_parts, Bool.Decides.nat_tests, List.take_more, List.reverse-append}
 use Rattle.std.proofs.lemmas.{List.Folds.list_any-append}
 use Rattle.ratatui_core.specs.{Layout.Rect, Layout.IsInside, declared.layout.HorizontalAlignment.HorizontalAlignment}
 use Rattle.ratatui_core.specs.declared.layout.HorizontalAlignment.TheVariants.{Left, Center, Right}
 use Rattle.ratatui_core.specs.{Style.Style, Text.LineData, Buffer.BufferData, Widgets.ChangesWithin}
 use Rattle.ratatui_core.proofs.{BufferLemmas.within-wider, WidgetLemmas.within-then}
+use Rattle.rtui_boxes.proofs.ElementLemmas.{element-next}
 use Rattle.rtui_boxes.specs.{declared.block.Block.Block, declared.title.Title.Title, declared.title.TitlePosition.TitlePosition}
 use Rattle.rtui_boxes.specs.declared.title.TitlePosition.TheVariants.{Top, Bottom}
 use Rattle.rtui_boxes.specs.Titles.{PlacedTitle, title_at, title_width, titles_width, from_centre, first_columns, last_columns}
@@ -50,12 +51,9 @@ module _ (b : Block) (position : TitlePosition) (alignment : HorizontalAlignment
 
   module _ (titles : List Title) (i : ℕ) (title : Title) (lt : i < length titles)
       (at : title ≡ slice_index_or titles i title) where
-    drop-is : drop i titles ≡ title ∷ drop (i + 1) titles
-    drop-is = drop_more titles i title lt ∙ ap (λ t. t ∷ drop (i + 1) titles) (sym at)
-
     pub lines-next : is_placed b position alignment title ≡ true
         → lines (drop i titles) ≡ title.line ∷ lines (drop (i + 1) titles)
-    lines-next is = ap lines drop-is ∙ lines-placed title (drop (i + 1) titles) is
+    lines-next is = ap lines (element-next titles i title lt at) ∙ lines-placed title (drop (i + 1) titles) is
 
     take-is : reverse (take (i + 1) titles) ≡ title ∷ reverse (take i titles)
     take-is = ap reverse (take_more titles i title lt) ∙ reverse-append (take i titles) (slice_index_or titles i title ∷ [])

@@ -8,7 +8,7 @@ use Rattle.ratatui_core.specs.Symbols.{border_texts, plain_border}
 use Rattle.ratatui_core.specs.{Style.Style, Style.new_style, Text.LineData}
 use Rattle.ratatui_core.specs.{declared.layout.HorizontalAlignment.HorizontalAlignment}
 use Rattle.ratatui_core.specs.declared.layout.HorizontalAlignment.TheVariants.{Left, Center, Right}
-use Rattle.ratatui_core.specs.{Widgets.ChangesWithin, Widgets.OnPart, Widgets.RendersShortLine}
+use Rattle.ratatui_core.specs.{Widgets.ChangesWithin, Widgets.OnPart}
 use Rattle.ratatui_core.specs.{declared.symbols.merge.MergeStrategy.MergeStrategy}
 use Rattle.ratatui_core.specs.Buffer.{BufferData, Cell, MakesEach, place_at, position_of, cell_in, styled}
 use Rattle.ratatui_core.specs.Buffer.{with_symbol, joined, symbol_text, text_width, IsShort, IsNarrowLine}
@@ -19,7 +19,7 @@ use Rattle.rtui_boxes.specs.declared.title.TitlePosition.{TitlePosition}
 use Rattle.rtui_boxes.specs.{declared.title.TitlePosition.TheVariants.Top}
 use Rattle.rtui_boxes.specs.{declared.title.TitlePosition.TheVariants.Bottom, Borders.sides_of}
 use Rattle.rtui_boxes.specs.Titles.{PlacedTitle, RendersTitles, is_same_alignment, from_left, from_centre}
-use Rattle.rtui_boxes.specs.Titles.{from_right, titles_width}
+use Rattle.rtui_boxes.specs.{Titles.from_right, Titles.titles_width, Lines.IsShortTitle}
 
 -- a box with these sides and plain lines, without titles, styles and padding
 pub record IsNewBlock (sides : ℕ) (b : Block) : Type 0 where
@@ -272,10 +272,6 @@ pub record RendersBlock (b : Block) (area : Rect) (old new : BufferData) : Type 
       → cell_in new p ≡ box_cell b (intersected area old.area) p (cell_in old p)
   pub within : ChangesWithin area old new
   pub titled : OnPart (RendersTitled b) area old new
-
--- a title takes no memory, wherever it stands
-abbrev pub IsShortTitle : LineData → Type 0
-IsShortTitle line = (area : Rect) (s : BufferData) → RendersShortLine line area s
 
 abbrev pub HasShortTitles : Block → Type 0
 HasShortTitles b = All (λ title. IsShortTitle title.line) b.titles.items

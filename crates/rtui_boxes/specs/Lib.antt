@@ -1,5 +1,6 @@
 pub mod Borders
 pub mod Titles
+pub mod Lines
 pub mod Boxes
 pub mod Clears
 pub mod Framed

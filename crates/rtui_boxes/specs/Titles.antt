@@ -99,6 +99,11 @@ pub record InTurn (f g : BufferData → BufferData → Type 0) (old new : Buffer
   pub first : f old between
   pub second : g between new
 
+-- a thing done, or none
+abbrev pub DoesIf : Bool → (BufferData → BufferData → Type 0) → BufferData → BufferData → Type 0
+DoesIf true f old new = f old new
+DoesIf false f old new = new ≡ old
+
 -- titles, each rendered after the ones before
 abbrev pub RendersTitles : Style → List PlacedTitle → BufferData → BufferData → Type 0
 RendersTitles style [] old new = new ≡ old

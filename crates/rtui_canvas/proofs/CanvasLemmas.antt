@@ -1,8 +1,8 @@
 -- Layers of dots and labels, one after the other.
-use Rattle.std.proofs.Common.{◌≡◌, ℕ, ◌+◌, ◌-◌, ◌*◌, ◌<◌, ◌≤◌, Bool, true, false, List, [], ◌∷◌, length, get_or, drop, replicate}
+use Rattle.std.proofs.Common.{◌≡◌, ℕ, ◌-◌, ◌*◌, ◌≤◌, Bool, true, false, List, [], ◌∷◌, length, replicate}
 use Rattle.std.proofs.Common.{refl, ap, sym, subst, ◌∙◌, arith, Result, Ok, Err, OnOk, OnErr}
 use Rattle.std.specs.declared.alloc.AllocError.{AllocError}
-use Rattle.std.proofs.lemmas.List.{drop_more, length-replicate}
+use Rattle.std.proofs.lemmas.List.{length-replicate}
 use Rattle.ratatui_core.specs.{Layout.Rect, Layout.IsInside, Text.LineData, Buffer.BufferData, Buffer.ChangesEach}
 use Rattle.ratatui_core.specs.{Widgets.ChangesWithin, Widgets.RendersLine}
 use Rattle.ratatui_core.proofs.{BufferLemmas.within-wider, WidgetLemmas.within-then}
@@ -121,11 +121,6 @@ module _ (d : Drawing) (r : Rect) (p q : Painter) (t : Bool) (tested : t ≡ is_
     same = λ shape. absurd (let no : true ≡ false = sym is ∙ tested ∙ shape in (cc));
     scale = scale;
   }
-
--- the elements from one on
-pub element-next : {A : Type 0} (xs : List A) (k : ℕ) (x : A) → k < length xs → x ≡ get_or xs k x
-    → drop k xs ≡ x ∷ drop (k + 1) xs
-element-next xs k x lt is = drop_more xs k x lt ∙ ap (λ y. y ∷ drop (k + 1) xs) (sym is)
 
 pub any-ok : {A P : Type 0} (result : Result A AllocError) → P → OnOk result P
 any-ok (Ok x) p = p

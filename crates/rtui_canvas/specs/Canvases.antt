@@ -1,5 +1,5 @@
 -- A canvas: what its dots and labels make of a buffer.
-use Rattle.std.specs.Prelude.{◌≡◌, ℕ, Bool, true, false, ◌+◌, ◌-◌, ◌*◌, ◌==◌, List, [], ◌∷◌, pos, length}
+use Rattle.std.specs.Prelude.{◌≡◌, ℕ, true, false, ◌+◌, ◌-◌, ◌*◌, ◌==◌, List, [], ◌∷◌, pos, length}
 use Rattle.std.specs.Prelude.{replicate, None, slice_index_or, encode_utf8, ◌<◌, ◌≤◌, if◌then◌else◌}
 use Rattle.ratatui_core.specs.Layout.{Rect, Position}
 use Rattle.ratatui_core.specs.Text.{LineData}
@@ -8,7 +8,7 @@ use Rattle.ratatui_core.specs.Buffer.{BufferData, Cell, with_symbol, ChangesEach
 use Rattle.ratatui_core.specs.Widgets.{RendersLine}
 use Rattle.ratatui_core.specs.declared.symbols.Marker.{Marker}
 use Rattle.ratatui_core.specs.declared.symbols.Marker.TheVariants.{Braille, HalfBlock, Bar, Dot, Custom}
-use Rattle.rtui_boxes.specs.Titles.{InTurn, title_width, first_columns}
+use Rattle.rtui_boxes.specs.Titles.{InTurn, DoesIf, title_width, first_columns}
 use Rattle.rtui_boxes.specs.Framed.{RendersInFrame}
 use Rattle.rtui_dots.specs.declared.{scale.Scale.Scale, painter.DotCell.DotCell, painter.Painter.Painter}
 use Rattle.rtui_dots.specs.declared.{drawing.Drawing.Drawing}
@@ -79,12 +79,8 @@ abbrev pub label_area : Scale → Rect → Label → Rect
 label_area s r l = label_from r (column_of_cell s l.x) (row_of_cell s l.y) l.line
 
 -- a label at its point, if that lies within the bounds
-abbrev pub RendersIf : Bool → (BufferData → BufferData → Type 0) → BufferData → BufferData → Type 0
-RendersIf true f old new = f old new
-RendersIf false f old new = new ≡ old
-
 abbrev pub RendersLabel : Scale → Rect → Label → BufferData → BufferData → Type 0
-RendersLabel s r l = RendersIf (has_point s l.x l.y) (RendersLine l.line (label_area s r l))
+RendersLabel s r l = DoesIf (has_point s l.x l.y) (RendersLine l.line (label_area s r l))
 
 abbrev pub RendersLabels : Scale → Rect → List Label → BufferData → BufferData → Type 0
 RendersLabels s r [] old new = new ≡ old

@@ -3,24 +3,19 @@ use Rattle.std.proofs.Common.{◌≡◌, ℕ, ◌+◌, ◌-◌, ◌<◌, ◌≤�
 use Rattle.std.proofs.Math.ListN.{get_or}
 use Rattle.std.proofs.lemmas.List.{get_or_default}
 use Rattle.ratatui_core.specs.Layout.{Rect, Position, HasPosition, IsInside}
-use Rattle.ratatui_core.specs.{Text.LineData, Widgets.ChangesWithin, Buffer.BufferData, Buffer.MakesParts}
+use Rattle.ratatui_core.specs.{Widgets.ChangesWithin, Buffer.BufferData, Buffer.MakesParts}
 use Rattle.ratatui_core.proofs.BufferLemmas.{within-wider, Parts-next, Parts-within}
 use Rattle.ratatui_core.proofs.WidgetLemmas.{within-then}
 use Rattle.rtui_boxes.specs.Boxes.{IsBoxArea}
 use Rattle.rtui_list.specs.{declared.list.List.List as ListData, declared.list.ListDirection.ListDirection}
 use Rattle.rtui_list.specs.declared.list.ListDirection.TheVariants.{TopToBottom, BottomToTop}
 use Rattle.rtui_list.specs.{declared.item.ListItem.ListItem, Windows.item_rows, Windows.rows_before, Windows.Fit}
-use Rattle.rtui_list.specs.Items.{item_part, without_columns, part_row, mark_part, MarksRow, is_marked, RendersItem, nth_item}
+use Rattle.rtui_list.specs.Items.{item_part, without_columns, part_row, MarksRow, is_marked, RendersItem, nth_item}
 use Rattle.rtui_list.specs.Items.{part_of_item, ShowsItems, is_selected_at, has_mark_columns, shown_as}
 use Rattle.rtui_list.proofs.WindowLemmas.{rows-next, rows-grow}
 
 pub rows-apart : (r : Rect) (k j : ℕ) → k < j → (p : Position) → HasPosition (part_row r k) p → HasPosition (part_row r j) p → ⊥
 rows-apart r k j lt p one two = let b = one.bottom in let t = two.top in omega arith
-
--- the columns of the symbol or of blanks in a row
-pub mark-in : (symbol : Option LineData) (r : Rect) → IsInside (mark_part symbol r) r
-mark-in symbol r p h = let left = h.left in let right = h.right in let top = h.top in let bottom = h.bottom in
-    record { left = left; right = omega arith; top = top; bottom = bottom }
 
 -- one row more
 pub marks-next : (l : ListData) (is_selected : Bool) (r : Rect) (j : ℕ) (old mid new : BufferData)

@@ -1,20 +1,13 @@
 -- A list in its style and its box.
-use Rattle.std.proofs.Common.{◌≡◌, ⊎_elim, refl, ap, subst, arith, Result, Ok, Err, OnOk}
+use Rattle.std.proofs.Common.{◌≡◌, ⊎_elim, refl, subst, arith, Result, Ok, Err, OnOk}
 use Rattle.std.specs.declared.alloc.AllocError.{AllocError}
-use Rattle.ratatui_core.specs.{Layout.Rect, Layout.intersected, Buffer.BufferData, Widgets.ChangesWithin, Widgets.IsClipped}
+use Rattle.ratatui_core.specs.{Layout.Rect, Buffer.BufferData, Widgets.ChangesWithin, Widgets.IsClipped}
 use Rattle.ratatui_core.proofs.WidgetLemmas.{OnPart-clipped}
 use Rattle.rtui_boxes.specs.Boxes.{IsBoxArea}
 use Rattle.rtui_boxes.specs.Framed.{inner_if, IsFramed, IsBare, IsInner}
-use Rattle.rtui_boxes.proofs.FrameLemmas.{frame-within, inner-within}
+use Rattle.rtui_boxes.proofs.FrameLemmas.{frame-within, inner-within, clip-some}
 use Rattle.rtui_list.specs.{declared.list.List.List as ListData, declared.state.ListState.ListState, Items.ShowsList}
 use Rattle.rtui_list.specs.{Items.ListInFrame, Items.RendersList}
-
-clip-some : (area own part : Rect) → IsClipped area own part → IsBare (intersected area own) → ⊥
-clip-some area own part clip bare =
-    let wide : part.width ≡ (intersected area own).width = ap (λ q. q.width) clip.value in
-    let high : part.height ≡ (intersected area own).height = ap (λ q. q.height) clip.value in
-    let columns = clip.columns in let rows = clip.rows in
-    ⊎_elim (λ (e : (intersected area own).width ≡ 0). omega arith) (λ (e : (intersected area own).height ≡ 0). omega arith) bare
 
 -- a list over the part of an area, with its style and its box
 module _ (l : ListData) (s : ListState) (area part : Rect) (old framed : BufferData) (clip : IsClipped area old.area part)

@@ -1,5 +1,5 @@
 -- A list of narrow texts keeps cells plain.
-use Rattle.std.proofs.Common.{◌≡◌, ℕ, zero, suc, ◌+◌, ◌<◌, ◌≤◌, ◌⊎◌, ⊎_elim, inl, inr, Bool, true, false, if◌then◌else◌, List, []}
+use Rattle.std.proofs.Common.{◌≡◌, ℕ, zero, suc, ◌+◌, ◌<◌, ◌≤◌, ⊎_elim, Bool, true, false, if◌then◌else◌, List, []}
 use Rattle.std.proofs.Common.{◌∷◌, length, slice_index_or, All, Option, Some, None, refl, ap, ◌∙◌, arith, codes, is_some}
 use Rattle.std.proofs.lemmas.{Bool.cases_lt, List.Elements.All-nil, List.Elements.All-head, List.Elements.All-tail}
 use Rattle.ratatui_core.specs.{Layout.Rect, Layout.intersected, Style.Style, Style.patch, Text.LineData}
@@ -8,13 +8,13 @@ use Rattle.ratatui_core.specs.Buffer.{IsPlainOver, IsPlainFrom, IsNarrowLine, Is
 use Rattle.rtui_changes.proofs.NarrowTextLemmas.{line-plain}
 use Rattle.ratatui_core.proofs.BufferLemmas.{width-empty, text-plain, changed-plain, styled-plain, parts-plain}
 use Rattle.ratatui_core.proofs.BufferLemmas.{over-all, from-over}
-use Rattle.rtui_boxes.specs.{Boxes.IsPlainIfBox, Framed.inner_if, Framed.IsBare}
-use Rattle.rtui_boxes.proofs.InnerLemmas.{plain-framed}
+use Rattle.rtui_boxes.specs.{Boxes.IsPlainIfBox, Framed.inner_if}
+use Rattle.rtui_boxes.proofs.InnerLemmas.{plain-framed, bare-or}
 use Rattle.rtui_list.specs.{declared.list.List.List as ListData, declared.item.ListItem.ListItem}
 use Rattle.rtui_list.specs.{declared.state.ListState.ListState}
 use Rattle.rtui_list.specs.Items.{mark_width, mark_part, without_columns, part_row, left_blank}
-use Rattle.rtui_list.specs.Items.{MarksRow, MarksRows, is_marked, If}
-use Rattle.rtui_list.specs.Items.{IsNarrowMark}
+use Rattle.rtui_list.specs.Items.{MarksRow, MarksRows, is_marked}
+use Rattle.rtui_boxes.specs.{Titles.DoesIf, Lines.IsNarrowIfLine}
 use Rattle.rtui_list.specs.Items.{RendersItem, nth_item, part_of_item, shown_as, is_selected_at, has_mark_columns, HasNarrowItems}
 use Rattle.rtui_list.specs.Items.{ShowsList, RendersList}
 
@@ -35,7 +35,7 @@ plain-blank c is =
 abbrev StaysPlain : Rect → BufferData → BufferData → Type 0
 StaysPlain r old new = (new.area ≡ old.area) × IsPlainOver r new
 
-mark-plain : (symbol : Option LineData) (t : Bool) (row : Rect) (old new : BufferData) → IsNarrowMark symbol
+mark-plain : (symbol : Option LineData) (t : Bool) (row : Rect) (old new : BufferData) → IsNarrowIfLine symbol
     → IsPlainOver row old → MarksRow symbol t row old new → StaysPlain row old new
 mark-plain None true row old new narrow plain same = (ap (λ s. s.area) same, rw same plain)
 mark-plain (Some line) true row old new narrow plain is = (
@@ -62,12 +62,12 @@ module _ (l : ListData) (narrow : HasNarrowItems l) (r : Rect) where
         narrow.symbol was made) plain,
   )
 
-  marks-if : (t is_selected : Bool) (old new : BufferData) → IsPlainOver r old → If t (MarksRows l is_selected r) old new
+  marks-if : (t is_selected : Bool) (old new : BufferData) → IsPlainOver r old → DoesIf t (MarksRows l is_selected r) old new
       → StaysPlain r old new
   marks-if true is_selected old new plain is = marks-plain is_selected old new plain is
   marks-if false is_selected old new plain same = (ap (λ s. s.area) same, rw same plain)
 
-  styled-if : (t : Bool) (style : Style) (old new : BufferData) → IsPlainOver r old → If t (IsStyled r style) old new
+  styled-if : (t : Bool) (style : Style) (old new : BufferData) → IsPlainOver r old → DoesIf t (IsStyled r style) old new
       → StaysPlain r old new
   styled-if true style old new plain is = (is.area, styled-plain r r style old new plain is)
   styled-if false style old new plain same = (ap (λ s. s.area) same, rw same plain)
@@ -119,20 +119,8 @@ pub list-plain : (l : ListData) (s t : ListState) (area : Rect) (old new : Buffe
     → IsPlainFrom 0 old → RendersList l s t area old new → IsPlainFrom 0 new
 list-plain l s t area old new box narrow plain is =
     let part = intersected area old.area in
-    let nothing : (part.width ≡ 0) ⊎ (part.height ≡ 0) → IsPlainFrom 0 new = λ none. rw (is.parts.nothing none) plain in
-    let some : 0 < part.width → 0 < part.height → IsPlainFrom 0 new = λ w h.
-    let there = is.parts.part w h in
+    bare-or part (λ none. rw (is.parts.nothing none) plain) (λ wide high.
+    let there = is.parts.part wide high in
     let framed = plain-framed l.style l.block part old there.framed box plain there.frame in
-    let bare : IsBare (inner_if l.block part) → IsPlainFrom 0 new = λ none. rw (there.none none).0 framed in
-    ⊎_elim
-    (λ (wide : 0 < (inner_if l.block part).width).
-    ⊎_elim (λ (high : 0 < (inner_if l.block part).height). shown-plain l s t (inner_if l.block part) there.framed new narrow
-    framed (there.inside wide high)) (λ (le : (inner_if l.block part).height ≤ 0). bare (inr (omega arith)))
-    (cases_lt 0 (inner_if l.block part).height))
-    (λ (le : (inner_if l.block part).width ≤ 0). bare (inl (omega arith)))
-    (cases_lt 0 (inner_if l.block part).width) in
-    ⊎_elim
-    (λ (w : 0 < part.width). ⊎_elim (λ (h : 0 < part.height). some w h) (λ (le : part.height ≤ 0). nothing (inr (omega arith)))
-    (cases_lt 0 part.height))
-    (λ (le : part.width ≤ 0). nothing (inl (omega arith)))
-    (cases_lt 0 part.width)
+    bare-or (inner_if l.block part) (λ none. rw (there.none none).0 framed)
+    (λ w h. shown-plain l s t (inner_if l.block part) there.framed new narrow framed (there.inside w h)))

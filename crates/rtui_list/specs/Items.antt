@@ -1,14 +1,15 @@
 -- What a list makes of a buffer and of its state.
 use Rattle.std.specs.Prelude.{◌≡◌, ℕ, Bool, true, false, ◌+◌, ◌-◌, ◌<◌, ◌==◌, ◌&&◌, ◌||◌, min, List, []}
 use Rattle.std.specs.Prelude.{length, codes, Option, Some, None}
-use Rattle.std.specs.Prelude.{is_some, if◌then◌else◌, slice_index_or, All, ⊤}
+use Rattle.std.specs.Prelude.{is_some, if◌then◌else◌, slice_index_or, All}
 use Rattle.ratatui_core.specs.{Layout.Rect, Layout.intersected, Style.new_style, Style.patch}
 use Rattle.ratatui_core.specs.Text.{LineData, text_of, line_width}
 use Rattle.ratatui_core.specs.Buffer.{BufferData, Cell, with_symbol, IsStyled, ChangesEach, MakesParts}
-use Rattle.ratatui_core.specs.Buffer.{IsNarrowLine, IsNarrowText}
-use Rattle.ratatui_core.specs.Widgets.{RendersLine, RendersText, RendersShortLine, RendersShortText}
+use Rattle.ratatui_core.specs.Buffer.{IsNarrowText}
+use Rattle.ratatui_core.specs.Widgets.{RendersText, RendersShortText}
 use Rattle.ratatui_core.specs.Widgets.{ChangesWithin, OnPart}
 use Rattle.rtui_boxes.specs.Framed.{IsFramed, IsBare, IsShortFrame, inner_if}
+use Rattle.rtui_boxes.specs.{Titles.DoesIf, Lines.RendersIfLine, Lines.IsShortIfLine, Lines.IsNarrowIfLine}
 use Rattle.rtui_list.specs.{declared.list.List.List as ListData, declared.list.ListDirection.ListDirection}
 use Rattle.rtui_list.specs.declared.list.ListDirection.TheVariants.{TopToBottom, BottomToTop}
 use Rattle.rtui_list.specs.declared.list.HighlightSpacing.{HighlightSpacing}
@@ -63,11 +64,6 @@ part_row r j = record r { y = r.y + j; height = 1 }
 abbrev pub left_blank : Cell → Cell
 left_blank = with_symbol (codes " ")
 
--- a line over an area, if there is one
-abbrev pub RendersIfLine : Option LineData → Rect → BufferData → BufferData → Type 0
-RendersIfLine None r old new = new ≡ old
-RendersIfLine (Some line) r old new = RendersLine line r old new
-
 -- in a symbol's columns of a row the symbol, in its own styles over what stands there, or blanks
 abbrev pub MarksRow : Option LineData → Bool → Rect → BufferData → BufferData → Type 0
 MarksRow symbol true r = RendersIfLine symbol (mark_part symbol r)
@@ -82,11 +78,6 @@ abbrev pub MarksRows : ListData → Bool → Rect → BufferData → BufferData 
 MarksRows l is_selected r = MakesParts r.height (part_row r)
     (λ j. MarksRow l.highlight_symbol (is_marked l is_selected j) (part_row r j))
 
--- an effect, or none
-abbrev pub If : Bool → (BufferData → BufferData → Type 0) → BufferData → BufferData → Type 0
-If true f old new = f old new
-If false f old new = new ≡ old
-
 -- An item over its part: its style over the list's, its text beside the symbol's columns, the highlight if it
 -- is selected, and over it the symbol.
 pub record RendersItem (l : ListData) (i : ListItem) (is_selected has_columns : Bool) (r : Rect)
@@ -97,8 +88,8 @@ pub record RendersItem (l : ListData) (i : ListItem) (is_selected has_columns : 
   pub style : IsStyled r (patch l.style i.style) old laid
   pub text : RendersText i.content
       (without_columns (if has_columns then mark_width l.highlight_symbol r else 0) r) laid texted
-  pub highlight : If is_selected (IsStyled r l.highlight_style) texted lit
-  pub marks : If has_columns (MarksRows l is_selected r) lit new
+  pub highlight : DoesIf is_selected (IsStyled r l.highlight_style) texted lit
+  pub marks : DoesIf has_columns (MarksRows l is_selected r) lit new
 
 -- the number is the one that is selected
 abbrev pub is_selected_at : Option ℕ → ℕ → Bool
@@ -134,14 +125,9 @@ at_most last (Some n) = Some (min n last)
 abbrev pub IsShortItem : ListItem → Type 0
 IsShortItem i = (area : Rect) (s : BufferData) → RendersShortText i.content area s
 
--- a symbol takes no memory, in however many columns
-abbrev pub IsShortMark : Option LineData → Type 0
-IsShortMark None = ⊤
-IsShortMark (Some line) = (area : Rect) (s : BufferData) → RendersShortLine line area s
-
 -- nothing that a list shows inside its box takes memory
 pub record HasShortItems (l : ListData) : Type 0 where
-  pub symbol : IsShortMark l.highlight_symbol
+  pub symbol : IsShortIfLine l.highlight_symbol
   pub items : All IsShortItem l.items.items
 
 -- a list takes no memory if its box takes none and all that it shows is short
@@ -149,14 +135,9 @@ pub record IsShortList (l : ListData) (s : BufferData) : Type 0 where
   pub frame : IsShortFrame l.block s
   pub shown : HasShortItems l
 
--- each grapheme of a symbol takes one column
-abbrev pub IsNarrowMark : Option LineData → Type 0
-IsNarrowMark None = ⊤
-IsNarrowMark (Some line) = IsNarrowLine line
-
 -- each grapheme that a list shows inside its box takes one column
 pub record HasNarrowItems (l : ListData) : Type 0 where
-  pub symbol : IsNarrowMark l.highlight_symbol
+  pub symbol : IsNarrowIfLine l.highlight_symbol
   pub items : All (λ item. IsNarrowText item.content) l.items.items
 
 -- The items of a list over an area, from the state's first one on, as many as fit whole. The selection is at

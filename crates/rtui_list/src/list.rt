@@ -6,11 +6,12 @@ ghost use Rattle.ratatui_core.specs.Layout.{IsInside};
 ghost use Rattle.ratatui_core.specs.Widgets.{ChangesWithin};
 ghost use Rattle.ratatui_core.specs.Buffer.{IsStyled};
 ghost use Rattle.rtui_boxes.specs.Boxes.{IsBoxArea};
+ghost use Rattle.rtui_boxes.specs.Titles.{DoesIf};
+ghost use Rattle.rtui_boxes.specs.Lines.{RendersIfLine, IsShortIfLine};
 ghost use Rattle.rtui_list.specs.Windows.{Fit};
-ghost use Rattle.rtui_list.specs.Items.{If, is_marked, has_mark_columns, mark_width, mark_part, item_part};
+ghost use Rattle.rtui_list.specs.Items.{is_marked, has_mark_columns, mark_width, mark_part, item_part};
 ghost use Rattle.rtui_list.specs.Items.{MarksRow, MarksRows, RendersItem, ShowsItems, ShowsList};
-ghost use Rattle.rtui_list.specs.Items.{is_selected_at, at_most, IsNewList, IsShortItem, IsShortMark};
-ghost use Rattle.rtui_list.specs.Items.{HasShortItems, RendersIfLine};
+ghost use Rattle.rtui_list.specs.Items.{is_selected_at, at_most, IsNewList, IsShortItem, HasShortItems};
 
 use crate::item::ListItem;
 use crate::state::ListState;
@@ -246,7 +247,7 @@ impl<'a> List<'a> {
         ensures within { ChangesWithin area buf.old buf.new }
         ensures ok { OnOk result
             (RendersIfLine self.now.highlight_symbol area buf.old buf.new) }
-        ensures short { IsShortMark self.now.highlight_symbol → IsOk result }
+        ensures short { IsShortIfLine self.now.highlight_symbol → IsOk result }
     {
         if let Some(symbol) = &self.highlight_symbol {
             symbol.render(area, buf)?;
@@ -259,7 +260,7 @@ impl<'a> List<'a> {
         ensures within { ChangesWithin row buf.old buf.new }
         ensures ok { OnOk result
             (MarksRow self.now.highlight_symbol is_marked row buf.old buf.new) }
-        ensures short { IsShortMark self.now.highlight_symbol → IsOk result }
+        ensures short { IsShortIfLine self.now.highlight_symbol → IsOk result }
     {
         let columns = Rect {
             width: self.mark_width(row),
@@ -295,8 +296,8 @@ impl<'a> List<'a> {
         requires down { part.y + part.height ≤ 65535 }
         ensures within { ChangesWithin part buf.old buf.new }
         ensures ok { OnOk result
-            (If has_columns (MarksRows self.now is_selected part) buf.old buf.new) }
-        ensures short { IsShortMark self.now.highlight_symbol → IsOk result }
+            (DoesIf has_columns (MarksRows self.now is_selected part) buf.old buf.new) }
+        ensures short { IsShortIfLine self.now.highlight_symbol → IsOk result }
     {
         if !has_columns {
             return Ok(());
@@ -307,7 +308,7 @@ impl<'a> List<'a> {
     // Lays the highlight's style over the selected item.
     fn highlight_if(&self, is_selected: bool, part: Rect, buf: &mut Buffer)
         ensures within { ChangesWithin part buf.old buf.new }
-        ensures styled { If is_selected (IsStyled part self.now.highlight_style) buf.old buf.new }
+        ensures styled { DoesIf is_selected (IsStyled part self.now.highlight_style) buf.old buf.new }
     {
         if is_selected {
             buf.set_style(part, self.highlight_style);
@@ -324,7 +325,7 @@ impl<'a> List<'a> {
         requires down { part.y + part.height ≤ 65535 }
         ensures within { ChangesWithin part buf.old buf.new }
         ensures ok { OnOk result (MarksRows self.now is_selected part buf.old buf.new) }
-        ensures short { IsShortMark self.now.highlight_symbol → IsOk result }
+        ensures short { IsShortIfLine self.now.highlight_symbol → IsOk result }
     {
         for j in 0..part.height {
             let is_marked = self.is_marked(is_selected, j);
@@ -354,7 +355,7 @@ impl<'a> List<'a> {
         ensures ok { OnOk result
             (RendersItem self.now item.now is_selected has_columns part buf.old buf.new) }
         ensures short { let symbol = self.now.highlight_symbol in
-            IsShortMark symbol → IsShortItem item.now → IsOk result }
+            IsShortIfLine symbol → IsShortItem item.now → IsOk result }
     {
         buf.set_style(part, self.style.patch(item.style));
         let mark = self.mark_columns(has_columns, part);

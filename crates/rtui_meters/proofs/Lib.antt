@@ -1,3 +1,5 @@
 pub mod MeterLemmas
+pub mod ScrollbarLemmas
+pub mod SetLemmas
 pub mod SettledLemmas
 pub mod WholeLemmas

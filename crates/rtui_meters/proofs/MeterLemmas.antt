@@ -1,24 +1,15 @@
 -- Shares of a number, and bars over a part of a buffer.
-use Rattle.std.proofs.Common.{lit<, sym, subst, ◌≡◌, ℕ, ◌+◌, ◌-◌, ◌*◌, ◌/◌, ◌<◌, ◌≤◌, ⊎_elim, Bool, true, false, if◌then◌else◌}
-use Rattle.std.proofs.Common.{nat_lt, List, min, Option, Some, None, refl, arith, Result, Ok, Err, OnOk, OnErr}
+use Rattle.std.proofs.Common.{◌≡◌, ℕ, ◌+◌, ◌-◌, ◌*◌, ◌/◌, ◌<◌, ◌≤◌, List, min, Option, Some, None, arith, Result, Ok, Err, OnOk}
 use Rattle.std.proofs.Math.Nat.{div-lt_iff_lt-mul}
-use Rattle.std.specs.{declared.alloc.AllocError.AllocError, Borrow.Bor}
-use Rattle.ratatui_core.specs.Layout.{Rect, Position, IsInside, corner}
-use Rattle.ratatui_core.specs.Buffer.{BufferData, Cell, ChangesEach, Piece, columns, PaintsPieces, PaintsOrRefuses, HasRow}
+use Rattle.std.specs.declared.alloc.AllocError.{AllocError}
+use Rattle.ratatui_core.specs.Layout.{Rect, IsInside, corner}
+use Rattle.ratatui_core.specs.Buffer.{BufferData, ChangesEach, Piece, columns, PaintsPieces, PaintsOrRefuses, HasRow}
 use Rattle.ratatui_core.specs.Buffer.{pieces_at, position_of}
-use Rattle.ratatui_core.specs.{Widgets.ChangesWithin, Widgets.IsClipped, Style.Style, Style.new_style, Text.LineData}
-use Rattle.ratatui_core.proofs.BufferLemmas.{Changes-within, within-wider, line-keeps, text-keeps}
-use Rattle.ratatui_core.proofs.WidgetLemmas.{OnPart-clipped}
+use Rattle.ratatui_core.specs.{Widgets.ChangesWithin, Style.Style, Style.new_style, Text.LineData}
+use Rattle.ratatui_core.proofs.BufferLemmas.{line-keeps, text-keeps}
 use Rattle.rtui_boxes.specs.Boxes.{IsBoxArea}
-use Rattle.rtui_boxes.proofs.{PaintLemmas.paints-within, PaintLemmas.part-has_row, PaintLemmas.part-starts, BoxLemmas.box-area}
-use Rattle.rtui_meters.specs.{declared.line_gauge.LineGauge.LineGauge, declared.scrollbar.Scrollbar.Scrollbar}
-use Rattle.rtui_meters.specs.{declared.scrollbar.Marks.Marks}
-use Rattle.rtui_meters.specs.{declared.scrollbar.state.ScrollbarState.ScrollbarState}
-use Rattle.rtui_meters.specs.{declared.scrollbar.ScrollbarOrientation.ScrollbarOrientation}
-use Rattle.rtui_meters.specs.declared.scrollbar.ScrollbarOrientation.TheVariants.{VerticalRight, VerticalLeft, HorizontalBottom}
-use Rattle.rtui_meters.specs.declared.scrollbar.ScrollbarOrientation.TheVariants.{HorizontalTop}
-use Rattle.rtui_meters.specs.Scrollbars.{bar_area, bar_length, track_length, mark_of, marks_of, marked_cell, MarksBar}
-use Rattle.rtui_meters.specs.Scrollbars.{RendersScrollbar, IsLightMark, IsShortIf, HasShortMarks}
+use Rattle.rtui_boxes.proofs.PaintLemmas.{paints-within, part-has_row, part-starts}
+use Rattle.rtui_meters.specs.{declared.line_gauge.LineGauge.LineGauge}
 use Rattle.rtui_meters.specs.{Shares.filled_part, Shares.even_percent_text, Gauges.label_part}
 use Rattle.rtui_meters.specs.LineGauges.{pieces_of_label, line_label_pieces, line_start, line_cell, FillsLine}
 
@@ -41,13 +32,6 @@ pub corner-within : {A : Type 0} (r : Result A AllocError) (part : Rect) (ps : L
 corner-within r part ps old new box inside le paints =
     let wide = box.columns in let high = box.rows in
     paints-within r part part.x part.y ps old new box inside (omega arith) (omega arith) (omega arith) (omega arith) paints
-
--- a change within a part, made or refused
-pub changed-within : {A : Type 0} (r : Result A AllocError) (part area : Rect) (f : Position → Cell → Cell) (old new : BufferData)
-    → IsInside part area → OnOk r (ChangesEach part f old new) → OnErr r (ChangesWithin part old new)
-    → ChangesWithin area old new
-changed-within (Ok x) part area f old new inside ok err = Changes-within part area f old new inside ok
-changed-within (Err e) part area f old new inside ok err = within-wider part area old new inside err
 
 -- a label's pieces keep to the part's columns
 pub pieces-keep : (g : LineGauge) (o : Option LineData) (r own : Rect) → columns (pieces_of_label g o r own) ≤ r.width
@@ -115,65 +99,3 @@ label-paints res text style r l old new box inside e paints =
     let right = is.right in
     paints-within res r l.x l.y (pieces_at old.area l.x l.width style text) old new box inside is.left
     (omega arith) is.top is.bottom paints
-
--- a bar lies at its side of a part
-pub bar-inside : (o : ScrollbarOrientation) (r : Rect) → IsBoxArea r → IsInside (bar_area o r) r
-bar-inside VerticalRight r box p h =
-    let a = box.across in let d = box.down in let wide = box.columns in let high = box.rows in let left = h.left in
-    let right = h.right in let top = h.top in let bottom = h.bottom in
-    record { left = omega arith; right = omega arith; top = omega arith; bottom = omega arith }
-bar-inside VerticalLeft r box p h =
-    let a = box.across in let d = box.down in let wide = box.columns in let high = box.rows in let left = h.left in
-    let right = h.right in let top = h.top in let bottom = h.bottom in
-    record { left = omega arith; right = omega arith; top = omega arith; bottom = omega arith }
-bar-inside HorizontalBottom r box p h =
-    let a = box.across in let d = box.down in let wide = box.columns in let high = box.rows in let left = h.left in
-    let right = h.right in let top = h.top in let bottom = h.bottom in
-    record { left = omega arith; right = omega arith; top = omega arith; bottom = omega arith }
-bar-inside HorizontalTop r box p h =
-    let a = box.across in let d = box.down in let wide = box.columns in let high = box.rows in let left = h.left in
-    let right = h.right in let top = h.top in let bottom = h.bottom in
-    record { left = omega arith; right = omega arith; top = omega arith; bottom = omega arith }
-
-pub bar-within : {A : Type 0} (res : Result A AllocError) (b : Scrollbar) (f : Position → Cell → Cell) (area part : Rect)
-    (old new : BufferData) → IsClipped area old.area part → OnOk res (ChangesEach (bar_area b.orientation part) f old new)
-    → OnErr res (ChangesWithin (bar_area b.orientation part) old new) → ChangesWithin area old new
-bar-within res b f area part old new clip ok err =
-    let box = box-area area old.area part clip in
-    changed-within res (bar_area b.orientation part) area f old new
-    (λ p h. clip.of_area p (bar-inside b.orientation part box p h)) ok err
-
-pub bar-renders : {A : Type 0} (res : Result A AllocError) (b : Scrollbar) (s : ScrollbarState) (area part : Rect)
-    (old new : BufferData) → IsClipped area old.area part → 0 < s.content_length
-    → 0 < track_length b (bar_length b.orientation part)
-    → OnOk res (ChangesEach (bar_area b.orientation part) (marked_cell (marks_of b s part)) old new)
-    → OnErr res (ChangesWithin (bar_area b.orientation part) old new)
-    → OnOk res (RendersScrollbar b s s area old new)
-bar-renders (Ok v) b s area part old new clip some track ok err = record {
-  state = refl;
-  within = bar-within (Ok v) b (marked_cell (marks_of b s part)) area part old new clip ok tt;
-  bar = OnPart-clipped (MarksBar b s) area part old new clip (record {
-    none = λ none. ⊎_elim (λ (e : s.content_length ≡ 0). absurd (omega arith))
-        (λ (e : track_length b (bar_length b.orientation part) ≡ 0). absurd (omega arith)) none;
-    some = λ _ _. ok;
-  });
-}
-bar-renders (Err e) b s area part old new clip some track ok err = tt
-
-light-if : (o : Option (Bor (List ℕ))) (style : Style) → IsShortIf o → IsLightMark (o, style)
-light-if None style short = tt
-light-if (Some symbol) style short = short
-
-one-light : (t : Bool) (a b : Option (Bor (List ℕ)) × Style) → IsLightMark a → IsLightMark b → IsLightMark (if t then a else b)
-one-light true a b la lb = la
-one-light false a b la lb = lb
-
--- each mark of a bar of short symbols is short
-pub marks-light : (b : Scrollbar) (m : Marks) (k : ℕ) → m.bar ≡ b → HasShortMarks b → IsLightMark (mark_of m k)
-marks-light b m k e short =
-    let is : HasShortMarks m.bar = subst HasShortMarks (sym e) short in
-    let track = light-if m.bar.track_symbol m.bar.track_style (is 1 None (lit< tt)) in
-    one-light (nat_lt k m.track) _ _ (light-if m.bar.begin_symbol m.bar.begin_style (is 2 None (lit< tt)))
-    (one-light (nat_lt k m.thumb) _ _ track
-    (one-light (nat_lt k m.after_thumb) _ _ (is 0 None (lit< tt))
-    (one-light (nat_lt k m.after_track) _ _ track (light-if m.bar.end_symbol m.bar.end_style (is 3 None (lit< tt))))))

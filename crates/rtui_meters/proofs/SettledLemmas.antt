@@ -1,5 +1,5 @@
 -- Gauges and scroll bars of narrow symbols keep a buffer settled.
-use Rattle.std.proofs.Common.{lit<, ◌≡◌, ℕ, zero, suc, ◌+◌, ◌<◌, ◌≤◌, Bool, true, false, ◌&&◌, if◌then◌else◌, nat_lt, ◌==◌, List}
+use Rattle.std.proofs.Common.{◌≡◌, ℕ, zero, suc, ◌+◌, ◌-◌, ◌<◌, ◌≤◌, true, ◌&&◌, nat_lt, ◌==◌, List}
 use Rattle.std.proofs.Common.{[], ◌∷◌, ◌⊎◌, ⊎_elim, inl, inr, Option, Some, None, refl, subst, arith, codes, slice_index_or, map}
 use Rattle.std.proofs.Common.{drop}
 use Rattle.std.specs.{Borrow.Bor, List.list_all}
@@ -14,7 +14,7 @@ use Rattle.ratatui_core.proofs.BufferLemmas.{painted-settled, text-keeps, Paints
 use Rattle.ratatui_core.proofs.BufferLemmas.{ready-next, changed-settled}
 use Rattle.rtui_boxes.specs.Boxes.{IsBoxArea, IsPlainIfBox}
 use Rattle.rtui_boxes.proofs.{PaintLemmas.part-right, PaintLemmas.part-has_row, PaintLemmas.part-starts}
-use Rattle.rtui_boxes.proofs.{InnerLemmas.settled-frame}
+use Rattle.rtui_boxes.proofs.{InnerLemmas.settled-frame, InnerLemmas.bare-or, PlainBoxLemmas.plain-text}
 use Rattle.rtui_meters.specs.{declared.gauge.Gauge.Gauge, declared.gauge.Fill.Fill, declared.gauge.TheConstants.FULL_BLOCK}
 use Rattle.rtui_meters.specs.{declared.gauge.TheConstants.TIPS}
 use Rattle.rtui_meters.specs.{declared.line_gauge.LineGauge.LineGauge, declared.line_gauge.LineFill.LineFill}
@@ -23,11 +23,12 @@ use Rattle.rtui_meters.specs.LineGauges.{line_label_pieces, line_part, line_fill
 use Rattle.rtui_meters.specs.LineGauges.{HasNarrowLine}
 use Rattle.rtui_meters.specs.{declared.scrollbar.Marks.Marks, declared.scrollbar.state.ScrollbarState.ScrollbarState}
 use Rattle.rtui_meters.specs.{Shares.eighths_of}
-use Rattle.rtui_meters.specs.Scrollbars.{bar_area, bar_length, track_length, mark_of, marks_of, marked, marked_cell, place_on_bar}
+use Rattle.rtui_meters.specs.Scrollbars.{bar_length, track_length, mark_of, marks_of, position_on_bar, PaintsIfSymbol, PaintsMarks}
 use Rattle.rtui_meters.specs.Scrollbars.{MarksBar, RendersScrollbar, IsNarrowIf, HasNarrowMarks}
 use Rattle.rtui_meters.specs.Gauges.{label_part, pieces_on_bar, filled_cell, in_colors, is_under_label, text_of_label}
 use Rattle.rtui_meters.specs.Gauges.{style_of_label, FillsArea, FillsGauge, RendersAreaGauge}
-use Rattle.rtui_meters.proofs.MeterLemmas.{label-in, label-row, label-column, pieces-keep}
+use Rattle.rtui_meters.proofs.{MeterLemmas.label-in, MeterLemmas.label-row, MeterLemmas.label-column, MeterLemmas.pieces-keep}
+use Rattle.rtui_meters.proofs.ScrollbarLemmas.{mark-has}
 
 pub full-narrow : is_narrow FULL_BLOCK.now ≡ true
 full-narrow = (and_parts (is_narrow FULL_BLOCK.now) (list_all is_narrow (drop 1 block_levels)) blocks-narrow).0
@@ -135,25 +136,19 @@ settled-line_gauge g area old new edges plain box narrow is =
     settled-frame g.style g.block (FillsLine g) area old new edges plain box (λ r s t some inside fit cells fills.
     settled-line g r s t narrow some inside fit cells fills) is
 
-plain-marked : (o : Option (Bor (List ℕ))) (style : Style) (c : Cell) → IsNarrowIf o → IsPlain c → IsPlain (marked (o, style) c)
-plain-marked None style c narrow is = is
-plain-marked (Some symbol) style c narrow is = plain-styled style (with_symbol symbol.now c)
-    (plain-with_symbol symbol.now c is narrow)
+-- symbols of narrow graphemes, one after the other
+plain-symbol-if : (r : Rect) (p : Position) (q : Option (Bor (List ℕ)) × Style) (old new : BufferData) → IsNarrowIf q.0
+    → IsPlainFrom 0 old → PaintsIfSymbol r p q old new → IsPlainFrom 0 new
+plain-symbol-if r p (None, style) old new narrow plain same = rw same plain
+plain-symbol-if r p (Some symbol, style) old new narrow plain is =
+    plain-text p p.x (r.x + r.width - p.x) style symbol.now old new narrow plain is
 
-plain-choice : (t : Bool) (a b : Option (Bor (List ℕ)) × Style) (c : Cell) → IsPlain (marked a c) → IsPlain (marked b c)
-    → IsPlain (marked (if t then a else b) c)
-plain-choice true a b c pa pb = pa
-plain-choice false a b c pa pb = pb
-
-plain-mark : (m : Marks) (k : ℕ) (c : Cell) → HasNarrowMarks m.bar → IsPlain c → IsPlain (marked (mark_of m k) c)
-plain-mark m k c narrow is =
-    let track = plain-marked m.bar.track_symbol m.bar.track_style c (narrow 1 None (lit< tt)) is in
-    plain-choice (nat_lt k m.track) _ _ c (plain-marked m.bar.begin_symbol m.bar.begin_style c (narrow 2 None (lit< tt)) is)
-    (plain-choice (nat_lt k m.thumb) _ _ c track
-    (plain-choice (nat_lt k m.after_thumb) _ _ c (plain-marked (Some m.bar.thumb_symbol) m.bar.thumb_style c
-    (narrow 0 None (lit< tt)) is)
-    (plain-choice (nat_lt k m.after_track) _ _ c track (plain-marked m.bar.end_symbol m.bar.end_style c
-    (narrow 3 None (lit< tt)) is))))
+plain-marks : (m : Marks) (r : Rect) (n : ℕ) (old new : BufferData) → HasNarrowMarks m.bar → IsPlainFrom 0 old
+    → PaintsMarks m r n old new → IsPlainFrom 0 new
+plain-marks m r zero old new narrow plain same = rw same plain
+plain-marks m r (suc n) old new narrow plain is =
+    plain-symbol-if r (position_on_bar m n) (mark_of m n) is.between new (mark-has IsNarrowIf m n narrow)
+    (plain-marks m r n old is.between narrow plain is.first) is.second
 
 plain-bar : (b : Scrollbar) (s : ScrollbarState) (r : Rect) (old new : BufferData) → HasNarrowMarks b → IsPlainFrom 0 old
     → MarksBar b s r old new → IsPlainFrom 0 new
@@ -164,8 +159,7 @@ plain-bar b s r old new narrow plain is =
     (λ (some : 0 < s.content_length).
     ⊎_elim
     (λ (room : 0 < track_length b (bar_length b.orientation r)).
-    plain-changed (bar_area b.orientation r) (marked_cell (marks_of b s r)) old new (λ p c cell. plain-mark (marks_of b s r)
-    (place_on_bar (marks_of b s r) p) c narrow cell) (is.some some room) plain)
+    plain-marks (marks_of b s r) r (bar_length b.orientation r) old new narrow plain (is.some some room))
     (λ (le : track_length b (bar_length b.orientation r) ≤ 0). same (inr (omega arith)))
     (cases_lt 0 (track_length b (bar_length b.orientation r))))
     (λ (le : s.content_length ≤ 0). same (inl (omega arith)))
@@ -175,11 +169,5 @@ plain-bar b s r old new narrow plain is =
 pub plain-scrollbar : (b : Scrollbar) (s t : ScrollbarState) (area : Rect) (old new : BufferData) → HasNarrowMarks b
     → IsPlainFrom 0 old → RendersScrollbar b s t area old new → IsPlainFrom 0 new
 plain-scrollbar b s t area old new narrow plain is =
-    let part = intersected area old.area in
-    let nothing : (part.width ≡ 0) ⊎ (part.height ≡ 0) → IsPlainFrom 0 new = λ none. rw (is.bar.nothing none) plain in
-    ⊎_elim
-    (λ (w : 0 < part.width).
-    ⊎_elim (λ (h : 0 < part.height). plain-bar b s part old new narrow plain (is.bar.part w h))
-    (λ (le : part.height ≤ 0). nothing (inr (omega arith))) (cases_lt 0 part.height))
-    (λ (le : part.width ≤ 0). nothing (inl (omega arith)))
-    (cases_lt 0 part.width)
+    bare-or (intersected area old.area) (λ none. rw (is.bar.nothing none) plain)
+    (λ w h. plain-bar b s (intersected area old.area) old new narrow plain (is.bar.part w h))

@@ -1,12 +1,14 @@
 -- A scroll bar: where it stands, and where its thumb is.
-use Rattle.std.specs.Prelude.{◌≡◌, ℕ, Bool, true, false, ◌+◌, ◌-◌, ◌*◌, ◌<◌, ◌≤◌, ◌⊎◌, nat_lt, min, max, List}
+use Rattle.std.specs.Prelude.{◌≡◌, ℕ, zero, suc, Bool, true, false, ◌+◌, ◌-◌, ◌*◌, ◌<◌, ◌⊎◌, nat_lt, min, max, List}
 use Rattle.std.specs.Prelude.{[], ◌∷◌, codes, encode_utf8_all, Option, Some, None, if◌then◌else◌, All, ⊤}
 use Rattle.std.specs.Borrow.{Bor}
 use Rattle.ratatui_core.specs.{Layout.Rect, Layout.Position, Symbols.scrollbar_texts, Style.Style}
 use Rattle.ratatui_core.specs.{Style.new_style, declared.symbols.scrollbar.Set.Set}
 use Rattle.ratatui_core.specs.Buffer.{BufferData, Cell, styled, with_symbol, ChangesEach, IsShort, text_width}
+use Rattle.ratatui_core.specs.Buffer.{PaintsPieces, pieces_at, IsOneGrapheme, HasNarrowGraphemes}
+use Rattle.ratatui_core.specs.Text.{has_control}
 use Rattle.ratatui_core.specs.Widgets.{ChangesWithin, OnPart}
-use Rattle.rtui_boxes.specs.Boxes.{last_column, last_row}
+use Rattle.rtui_boxes.specs.{Boxes.last_column, Boxes.last_row, Titles.InTurn}
 use Rattle.rtui_meters.specs.{declared.scrollbar.Scrollbar.Scrollbar, declared.scrollbar.Marks.Marks}
 use Rattle.rtui_meters.specs.{declared.scrollbar.state.ScrollbarState.ScrollbarState}
 use Rattle.rtui_meters.specs.declared.scrollbar.state.ScrollDirection.{ScrollDirection}
@@ -87,10 +89,6 @@ bar_area VerticalLeft r = record r { width = 1 }
 bar_area HorizontalBottom r = record r { y = last_row r; height = 1 }
 bar_area HorizontalTop r = record r { height = 1 }
 
--- where it begins
-abbrev pub bar_start : ScrollbarOrientation → Rect → ℕ
-bar_start o bar = if is_upright o then bar.y else bar.x
-
 -- how many cells it has
 abbrev pub bar_length : ScrollbarOrientation → Rect → ℕ
 bar_length o r = if is_upright o then r.height else r.width
@@ -141,22 +139,42 @@ mark_of m k =
       m.bar.end_style,
     )
 
+-- where a place of a bar stands
+abbrev pub position_on_bar : Marks → ℕ → Position
+position_on_bar m k =
+    if m.is_vertical then record { x = m.area.x; y = m.area.y + k } else record { x = m.area.x + k; y = m.area.y }
+
+-- a symbol painted from a position of an area on, in at most the columns that the area has from there
+abbrev pub PaintsSymbolIn : Rect → Position → Style → List ℕ → BufferData → BufferData → Type 0
+PaintsSymbolIn r p style symbol old =
+    PaintsPieces p (pieces_at old.area p.x (r.x + r.width - p.x) style symbol) old
+
+-- the same, if there is one
+abbrev pub PaintsIfSymbol : Rect → Position → Option (Bor (List ℕ)) × Style → BufferData → BufferData → Type 0
+PaintsIfSymbol r p (None, style) old new = new ≡ old
+PaintsIfSymbol r p (Some symbol, style) old new = PaintsSymbolIn r p style symbol.now old new
+
+-- the symbol at a place of a bar in an area
+abbrev pub PaintsMark : Marks → Rect → ℕ → BufferData → BufferData → Type 0
+PaintsMark m r k = PaintsIfSymbol r (position_on_bar m k) (mark_of m k)
+
+-- the symbols of the first n places, one after the other
+abbrev pub PaintsMarks : Marks → Rect → ℕ → BufferData → BufferData → Type 0
+PaintsMarks m r zero old new = new ≡ old
+PaintsMarks m r (suc n) old new = InTurn (PaintsMarks m r n) (PaintsMark m r n) old new
+
 -- the place of a position on a bar
 abbrev pub place_on_bar : Marks → Position → ℕ
-place_on_bar m p = (if m.is_vertical then p.y else p.x) - m.start
+place_on_bar m p = if m.is_vertical then p.y - m.area.y else p.x - m.area.x
 
 -- a cell with a symbol in a style, or as it is
 abbrev pub marked : Option (Bor (List ℕ)) × Style → Cell → Cell
 marked (None, style) c = c
 marked (Some symbol, style) c = styled style (with_symbol symbol.now c)
 
--- a cell of a bar
+-- a cell of a bar of symbols of one column
 abbrev pub marked_cell : Marks → Position → Cell → Cell
 marked_cell m p c = marked (mark_of m (place_on_bar m p)) c
-
-abbrev pub IsLightMark : Option (Bor (List ℕ)) × Style → Type 0
-IsLightMark (None, style) = ⊤
-IsLightMark (Some symbol, style) = IsShort symbol.now
 
 -- the marks of a bar over an area
 abbrev pub marks_of : Scrollbar → ScrollbarState → Rect → Marks
@@ -166,7 +184,7 @@ marks_of b s r =
     let first = arrow_count b.begin_symbol in
     record {
       is_vertical = is_upright b.orientation;
-      start = bar_start b.orientation (bar_area b.orientation r);
+      area = bar_area b.orientation r;
       track = first;
       thumb = first + thumb_start s track length;
       after_thumb = first + thumb_start s track length + thumb_length s track length;
@@ -174,10 +192,33 @@ marks_of b s r =
       bar = b;
     }
 
--- a bar over an area: without a content or without room for a track nothing changes
+-- the symbols of a bar: of the thumb, the track, the beginning and the end
+abbrev pub bar_symbols : Scrollbar → List (Option (Bor (List ℕ)))
+bar_symbols b = Some b.thumb_symbol ∷ b.track_symbol ∷ b.begin_symbol ∷ b.end_symbol ∷ []
+
+-- a symbol is one grapheme, which shows in one column
+pub record IsOneColumn (symbol : List ℕ) : Type 0 where
+  pub one : IsOneGrapheme symbol
+  pub shows : has_control symbol ≡ false
+  pub columns : text_width symbol ≡ 1
+
+-- it is, if there is one
+abbrev pub IsOneIf : Option (Bor (List ℕ)) → Type 0
+IsOneIf None = ⊤
+IsOneIf (Some symbol) = IsOneColumn symbol.now
+
+-- each symbol of a bar takes one column
+abbrev pub HasOneColumnMarks : Scrollbar → Type 0
+HasOneColumnMarks b = All IsOneIf (bar_symbols b)
+
+-- A bar over an area: its symbols painted from its start to its end. If each takes one column, each cell of the
+-- row or the column at its side has its own, and all else is as before. Without a content or without room for
+-- a track nothing changes.
 pub record MarksBar (b : Scrollbar) (s : ScrollbarState) (r : Rect) (old new : BufferData) : Type 0 where
   pub none : (s.content_length ≡ 0) ⊎ (track_length b (bar_length b.orientation r) ≡ 0) → new ≡ old
   pub some : 0 < s.content_length → 0 < track_length b (bar_length b.orientation r)
+      → PaintsMarks (marks_of b s r) r (bar_length b.orientation r) old new
+  pub cells : 0 < s.content_length → 0 < track_length b (bar_length b.orientation r) → HasOneColumnMarks b
       → ChangesEach (bar_area b.orientation r) (marked_cell (marks_of b s r)) old new
 
 -- A scroll bar over the part of an area that a buffer has. Nothing outside the area changes, and the state
@@ -193,19 +234,15 @@ abbrev pub IsShortIf : Option (Bor (List ℕ)) → Type 0
 IsShortIf None = ⊤
 IsShortIf (Some symbol) = IsShort symbol.now
 
--- the symbols of a bar: of the thumb, the track, the beginning and the end
-abbrev pub bar_symbols : Scrollbar → List (Option (Bor (List ℕ)))
-bar_symbols b = Some b.thumb_symbol ∷ b.track_symbol ∷ b.begin_symbol ∷ b.end_symbol ∷ []
-
 -- each symbol of a bar takes no memory
 abbrev pub HasShortMarks : Scrollbar → Type 0
 HasShortMarks b = All IsShortIf (bar_symbols b)
 
--- a symbol of at most one column, if there is one
+-- a symbol of which each grapheme that shows takes one column, if there is one
 abbrev pub IsNarrowIf : Option (Bor (List ℕ)) → Type 0
 IsNarrowIf None = ⊤
-IsNarrowIf (Some symbol) = text_width symbol.now ≤ 1
+IsNarrowIf (Some symbol) = HasNarrowGraphemes symbol.now
 
--- each symbol of a bar takes at most one column
+-- so it is with each symbol of a bar
 abbrev pub HasNarrowMarks : Scrollbar → Type 0
 HasNarrowMarks b = All IsNarrowIf (bar_symbols b)

@@ -1,6 +1,6 @@
 //! Laws of gauges and of scroll bars that are no single call's clause.
 
-ghost use Rattle.std.specs.Prelude.{◌≡◌, ℕ, ◌+◌, ◌<◌, ◌≤◌, List, map, true, codes, encode_utf8_all};
+ghost use Rattle.std.specs.Prelude.{◌≡◌, ℕ, ◌+◌, ◌<◌, ◌≤◌, List, All, map, true, codes, encode_utf8_all};
 ghost use Rattle.ratatui_core.specs.Layout.{EdgesFit, HasPosition, Position, Rect};
 ghost use Rattle.ratatui_core.specs.Buffer.{BufferData, Cell, IsPlainFrom, IsSettledBuffer};
 ghost use Rattle.rtui_boxes.specs.Boxes.{IsPlainIfBox};
@@ -19,7 +19,9 @@ ghost use Rattle.rtui_meters.specs.declared.scrollbar.state.ScrollDirection.{Scr
 ghost use Rattle.rtui_meters.specs.declared.scrollbar.state.ScrollDirection.TheVariants.{Forward};
 ghost use Rattle.rtui_meters.specs.declared.scrollbar.ScrollbarOrientation.{ScrollbarOrientation};
 ghost use Rattle.rtui_meters.specs.declared.scrollbar.ScrollbarOrientation.TheVariants.{VerticalRight};
-ghost use Rattle.rtui_meters.specs.Scrollbars.{HasNarrowMarks, RendersScrollbar};
+ghost use Rattle.rtui_meters.specs.Scrollbars.{HasNarrowMarks, RendersScrollbar, IsNewScrollbar};
+ghost use Rattle.rtui_meters.specs.Scrollbars.{IsOneColumn, HasOneColumnMarks};
+ghost use Rattle.ratatui_core.specs.Symbols.{scrollbar_sets};
 ghost use Rattle.rtui_meters.specs.Scrollbars.{thumb_length, thumb_start};
 
 use crate::scrollbar::{ScrollDirection, ScrollbarOrientation};
@@ -40,11 +42,20 @@ pub fn line_gauges_on_plain_cells_are_settled()
         → RendersLineGauge g area old new → IsSettledBuffer new }
 {}
 
-/// A scroll bar of symbols of one column keeps cells plain.
+/// A scroll bar of symbols whose graphemes take one column each keeps cells plain.
 pub fn scroll_bars_keep_cells_plain()
     ensures { (b : Scrollbar) (s t : ScrollbarState) (area : Rect) (old new : BufferData)
         → HasNarrowMarks b → IsPlainFrom 0 old → RendersScrollbar b s t area old new
         → IsPlainFrom 0 new }
+{}
+
+/// The symbols of each set of scroll bars take one column, and so do those of a new bar: each cell
+/// of the bar has its own. A bar of such symbols keeps cells plain.
+pub fn sets_of_scroll_bars_take_one_column()
+    ensures sets { All (All IsOneColumn) scrollbar_sets }
+    ensures bar { (o : ScrollbarOrientation) (b : Scrollbar) → IsNewScrollbar o b
+        → HasOneColumnMarks b }
+    ensures narrow { (b : Scrollbar) → HasOneColumnMarks b → HasNarrowMarks b }
 {}
 
 /// A thumb takes at least one cell, and lies on its track. At the first position it begins where

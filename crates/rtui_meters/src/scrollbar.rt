@@ -1,16 +1,20 @@
 //! A bar that shows which part of a content is seen.
 
-ghost use Rattle.std.specs.Prelude.{◌≡◌, ◌≤◌, ◌<◌, ◌-◌, ◌^◌};
-ghost use Rattle.ratatui_core.specs.Layout.{IsInside};
+ghost use Rattle.std.specs.Prelude.{◌≡◌, ◌≤◌, ◌<◌, ◌+◌, ◌-◌, ◌^◌, Some, OnOk, IsOk};
+ghost use Rattle.ratatui_core.specs.Layout.{IsInside, HasPosition};
+ghost use Rattle.ratatui_core.specs.Buffer.{IsShort};
+ghost use Rattle.ratatui_core.specs.Widgets.{ChangesWithin};
 ghost use Rattle.rtui_boxes.specs.Boxes.{IsBoxArea};
 ghost use Rattle.rtui_meters.specs.declared.scrollbar.ScrollbarOrientation.TheVariants.{VerticalRight};
 ghost use Rattle.rtui_meters.specs.Scrollbars.{IsNewScrollbar, HasSymbols, IsSetFor, with_bar_symbols};
-ghost use Rattle.rtui_meters.specs.Scrollbars.{is_upright, bar_area, bar_start, bar_length, arrow_count};
-ghost use Rattle.rtui_meters.specs.Scrollbars.{track_length, marks_of, mark_of};
+ghost use Rattle.rtui_meters.specs.Scrollbars.{is_upright, bar_area, bar_length, arrow_count};
+ghost use Rattle.rtui_meters.specs.Scrollbars.{track_length, marks_of, mark_of, position_on_bar, PaintsSymbolIn};
+ghost use Rattle.rtui_meters.specs.Scrollbars.{PaintsMark, PaintsMarks, HasShortMarks};
+ghost use Rattle.rtui_meters.specs.Inner.{StandsIn};
 
 mod state;
 
-use ratatui_core::buffer::{Buffer, Cell, CellChange, change_area};
+use ratatui_core::buffer::Buffer;
 use ratatui_core::layout::{Position, Rect};
 use ratatui_core::style::Style;
 use ratatui_core::symbols::scrollbar::{DOUBLE_HORIZONTAL, DOUBLE_VERTICAL, Set};
@@ -45,7 +49,9 @@ impl ScrollbarOrientation {
 }
 
 /// A bar at a side of an area: an arrow at each end, a track between them, and on it a thumb where
-/// the part that is seen lies.
+/// the part that is seen lies. Its symbols are painted from its start to its end, each in the
+/// columns that it takes, as far as the area goes; so one of several columns covers those right of
+/// it, and in a row the next symbol covers it.
 ///
 /// ```
 /// let mut state = ScrollbarState::new(lines).position(first);
@@ -255,17 +261,6 @@ impl<'a> Scrollbar<'a> {
         self.length(area).saturating_sub(arrows)
     }
 
-    // Where the bar begins.
-    fn start(&self, bar: Rect) -> u16
-        ensures { result ≡ bar_start self.now.orientation bar }
-    {
-        if self.orientation.is_vertical() {
-            bar.y
-        } else {
-            bar.x
-        }
-    }
-
     // The marks of the bar over an area.
     fn marks(&self, state: &ScrollbarState, area: Rect) -> Marks<'a>
         requires some { IsBoxArea area }
@@ -277,7 +272,7 @@ impl<'a> Scrollbar<'a> {
         let (thumb, length) = state.thumb(track, self.length(area));
         Marks {
             is_vertical: self.orientation.is_vertical(),
-            start: self.start(self.bar_area(area)),
+            area: self.bar_area(area),
             track: begin,
             thumb: begin + thumb,
             after_thumb: begin + thumb + length,
@@ -313,7 +308,7 @@ fn count_of(symbol: Option<&str>) -> u16
 #[derive(Clone, Copy)]
 pub(crate) struct Marks<'a> {
     is_vertical: bool,
-    start: u16,
+    area: Rect,
     track: u16,
     thumb: u16,
     after_thumb: u16,
@@ -341,25 +336,69 @@ impl<'a> Marks<'a> {
     }
 }
 
-impl<'a> CellChange for Marks<'a> {
-    ghost use Rattle.rtui_meters.specs.Scrollbars.{marked_cell, IsLightMark, mark_of, place_on_bar};
+// Paints a symbol from a position of an area on, in at most the columns that the area has from there.
+fn paint_symbol(
+    symbol: &str,
+    style: Style,
+    at: Position,
+    area: Rect,
+    buf: &mut Buffer,
+) -> Result<(), AllocError>
+    requires some { IsBoxArea area }
+    requires here { HasPosition area at }
+    requires inside { IsInside area buf.old.area }
+    ensures within { ChangesWithin area buf.old buf.new }
+    ensures ok { OnOk result (PaintsSymbolIn area at style symbol.now buf.old buf.new) }
+    ensures short { IsShort symbol.now → IsOk result }
+{
+    let room = area.x + area.width - at.x;
+    buf.set_stringn(at.x, at.y, symbol, usize::from(room), style)?;
+    Ok(())
+}
 
-    ghost made = { marked_cell };
-
-    ghost is_light = { λ m p _. IsLightMark (mark_of m (place_on_bar m p)) };
-
-    fn change(&self, alloc: Global, position: Position, cell: &mut Cell) -> Result<(), AllocError> {
-        let place = if self.is_vertical {
-            position.y
+impl<'a> Marks<'a> {
+    // Where a place stands.
+    fn position(&self, place: u16) -> Position
+        requires across { (position_on_bar self.now place).x ≤ 65535 }
+        requires down { (position_on_bar self.now place).y ≤ 65535 }
+        ensures { result ≡ position_on_bar self.now place }
+    {
+        let Rect { x, y, .. } = self.area;
+        if self.is_vertical {
+            Position { x, y: y + place }
         } else {
-            position.x
-        };
-        let (symbol, style) = self.mark(place.saturating_sub(self.start));
-        let Some(symbol) = symbol else {
-            return Ok(());
-        };
-        cell.set_symbol(alloc, symbol)?;
-        cell.set_style(style);
+            Position { x: x + place, y }
+        }
+    }
+
+    // Paints the symbol of a place of a bar that stands in an area.
+    fn paint_mark(&self, place: u16, area: Rect, buf: &mut Buffer) -> Result<(), AllocError>
+        requires some { IsBoxArea area }
+        requires here { HasPosition area (position_on_bar self.now place) }
+        requires inside { IsInside area buf.old.area }
+        ensures within { ChangesWithin area buf.old buf.new }
+        ensures ok { OnOk result (PaintsMark self.now area place buf.old buf.new) }
+        ensures short { HasShortMarks self.now.bar → IsOk result }
+    {
+        let (symbol, style) = self.mark(place);
+        match symbol {
+            Some(symbol) => paint_symbol(symbol, style, self.position(place), area, buf),
+            None => Ok(()),
+        }
+    }
+
+    // Paints the symbols of so many places of a bar that stands in an area, one after the other.
+    fn paint(&self, count: u16, area: Rect, buf: &mut Buffer) -> Result<(), AllocError>
+        requires some { IsBoxArea area }
+        requires here { StandsIn self.now count area }
+        requires inside { IsInside area buf.old.area }
+        ensures within { ChangesWithin area buf.old buf.new }
+        ensures ok { OnOk result (PaintsMarks self.now area count buf.old buf.new) }
+        ensures short { HasShortMarks self.now.bar → IsOk result }
+    {
+        for place in 0..count {
+            self.paint_mark(place, area, buf)?;
+        }
         Ok(())
     }
 }
@@ -391,7 +430,7 @@ impl<'b, 'a> StatefulWidget for &'b Scrollbar<'a> {
             return Ok(());
         }
         let marks = self.marks(state, part);
-        change_area(buf, self.bar_area(part), &marks)
+        marks.paint(self.length(part), part, buf)
     }
 }
 

@@ -11,7 +11,7 @@ use Rattle.ratatui_core.specs.{Text.GraphemeData, declared.text.StyledGrapheme.S
 use Rattle.rtui_paragraph.specs.Reflow.{data_of, is_break, grapheme_columns, columns_taken, fits_row, AllFit, count_fitting}
 use Rattle.rtui_paragraph.specs.Reflow.{last_end, break_at_blank, break_in_word, break_before, row_break}
 use Rattle.rtui_paragraph.specs.Reflow.{trimmed_start, split_row}
-use Rattle.rtui_paragraph.specs.Ahead.{columns_ahead, IsEnough, HasLeft, left_of}
+use Rattle.rtui_paragraph.specs.Inner.{columns_ahead, IsEnough, HasLeft, left_of}
 use Rattle.rtui_paragraph.specs.declared.ahead.Ahead.{Ahead}
 use Rattle.rtui_paragraph.proofs.ReflowLemmas.{columns-next, count-next, count-full}
 use Rattle.rtui_paragraph.proofs.ReflowLemmas.{last_end-le, fit-past, row_break-is, data-count, data-drop, tail-is}

@@ -1,13 +1,13 @@
 -- A paragraph in its box, and a grapheme painted in its columns.
-use Rattle.std.proofs.Common.{◌≡◌, ℕ, ◌+◌, ◌≤◌, Option, subst, ◌∙◌, arith, Result, Ok, Err, OnOk}
+use Rattle.std.proofs.Common.{◌≡◌, ℕ, ◌+◌, ◌≤◌, Option, subst, ◌∙◌, Result, Ok, Err, OnOk}
 use Rattle.std.specs.declared.alloc.AllocError.{AllocError}
 use Rattle.ratatui_core.specs.{Layout.Rect, Layout.EdgesFit, Style.Style, Text.GraphemeData}
-use Rattle.ratatui_core.specs.Buffer.{BufferData, IsPlainFrom, IsReadyFrom, IsSettledBuffer, PaintsPieces, pieces_at, room_at}
+use Rattle.ratatui_core.specs.Buffer.{BufferData, IsPlainFrom, IsReadyFrom, IsSettledBuffer, PaintsPieces, pieces_at}
 use Rattle.ratatui_core.specs.Buffer.{text_pieces, position_of}
 use Rattle.ratatui_core.proofs.{BufferLemmas.settled-plain, BufferLemmas.ready-plain, BufferLemmas.within-same}
 use Rattle.ratatui_core.proofs.{WidgetLemmas.within-then}
 use Rattle.rtui_boxes.specs.{declared.block.Block.Block, Boxes.IsPlainIfBox, Framed.IsFramed, Framed.RendersInFrame}
-use Rattle.rtui_boxes.proofs.InnerLemmas.{plain-framed, framed-area}
+use Rattle.rtui_boxes.proofs.{PaintLemmas.room-is, InnerLemmas.plain-framed, InnerLemmas.framed-area}
 use Rattle.rtui_paragraph.specs.{declared.paragraph.Paragraph.Paragraph, Reflow.grapheme_columns}
 use Rattle.rtui_paragraph.specs.Paragraphs.{PaintsGrapheme, FillsText, RendersParagraph}
 
@@ -29,9 +29,6 @@ pub paragraph-ok : {A : Type 0} (r : Result A AllocError) (p : Paragraph) (area 
     → OnOk r (RendersParagraph p area old new)
 paragraph-ok (Ok x) p area old new frame settled = record { frame = frame; settled = settled }
 paragraph-ok (Err e) p area old new frame settled = tt
-
-room-is : (r : Rect) (x n : ℕ) → x + n ≤ r.x + r.width → n ≤ 65535 → room_at r x n ≡ n
-room-is r x n fits small = omega arith
 
 -- a grapheme painted in the columns that it takes
 pub grapheme-painted : (x y n : ℕ) (g : GraphemeData) (old new : BufferData) → n ≡ grapheme_columns g

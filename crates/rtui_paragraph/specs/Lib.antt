@@ -1,4 +1,3 @@
-pub mod Ahead
-pub mod Cut
+pub mod Inner
 pub mod Paragraphs
 pub mod Reflow

@@ -5,7 +5,7 @@ ghost use Rattle.std.specs.Prelude.{OnOk};
 ghost use Rattle.ratatui_core.specs.Text.{GraphemeData, grapheme_data, line_graphemes_left};
 ghost use Rattle.rtui_paragraph.specs.Reflow.{data_of, grapheme_columns, columns_taken, fits_row, AllFit};
 ghost use Rattle.rtui_paragraph.specs.Reflow.{split_row};
-ghost use Rattle.rtui_paragraph.specs.Ahead.{left_of, columns_ahead, HasLeft, IsAhead, HoldsNext};
+ghost use Rattle.rtui_paragraph.specs.Inner.{left_of, columns_ahead, HasLeft, IsAhead, HoldsNext};
 
 use crate::reflow::{Row, columns_of, split_row, trimmed_start};
 use ratatui_core::buffer::CellWidth;

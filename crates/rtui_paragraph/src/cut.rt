@@ -3,7 +3,7 @@
 ghost use Rattle.std.specs.Prelude.{◌≡◌, ◌+◌, ◌∷◌, [], MatchOption};
 ghost use Rattle.ratatui_core.specs.Text.{grapheme_data, line_graphemes_left};
 ghost use Rattle.rtui_paragraph.specs.Reflow.{grapheme_columns, columns_taken, cut_row};
-ghost use Rattle.rtui_paragraph.specs.Cut.{left_of_cut, IsCut};
+ghost use Rattle.rtui_paragraph.specs.Inner.{left_of_cut, IsCut};
 
 use ratatui_core::buffer::CellWidth;
 use ratatui_core::text::{LineGraphemes, StyledGrapheme};

@@ -16,8 +16,7 @@ ghost use Rattle.rtui_paragraph.specs.Paragraphs.{paragraph_rows, rows_taken, ro
 ghost use Rattle.rtui_paragraph.specs.Paragraphs.{graphemes_of, grapheme_in, HasShortText};
 ghost use Rattle.rtui_paragraph.specs.Paragraphs.{PaintsGrapheme, PaintsGraphemes, PaintsRow, PaintsRows};
 ghost use Rattle.rtui_paragraph.specs.Paragraphs.{PaintsOn, FillsText};
-ghost use Rattle.rtui_paragraph.specs.Ahead.{left_of, IsAhead};
-ghost use Rattle.rtui_paragraph.specs.Cut.{left_of_cut, IsCut};
+ghost use Rattle.rtui_paragraph.specs.Inner.{left_of, IsAhead, left_of_cut, IsCut};
 ghost use Rattle.rtui_paragraph.specs.Reflow.{data_of, columns_taken, AllFit, broken_rows};
 ghost use Rattle.rtui_paragraph.specs.Reflow.{cut_row};
 

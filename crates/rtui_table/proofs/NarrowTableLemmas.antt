@@ -1,14 +1,14 @@
 -- A table of narrow texts keeps cells plain.
-use Rattle.std.proofs.Common.{◌≡◌, ℕ, ◌+◌, ◌<◌, ◌≤◌, ◌==◌, ◌⊎◌, ⊎_elim, inl, inr, Bool, true, false, if◌then◌else◌, List, [], ◌∷◌}
-use Rattle.std.proofs.Common.{◌++◌, drop, All, Option, Some, None, is_some, sym, subst, arith}
-use Rattle.std.proofs.lemmas.{Bool.cases_lt, List.Elements.All-head, List.Elements.All-tail, List.Elements.All-drop}
+use Rattle.std.proofs.Common.{ℕ, ◌+◌, ◌==◌, Bool, true, false, if◌then◌else◌, List, [], ◌∷◌}
+use Rattle.std.proofs.Common.{◌++◌, drop, All, Option, Some, None, is_some, sym, subst}
+use Rattle.std.proofs.lemmas.{List.Elements.All-head, List.Elements.All-tail, List.Elements.All-drop}
 use Rattle.std.proofs.lemmas.{List.Concat.flat_map-cons}
 use Rattle.ratatui_core.specs.Layout.{Rect, intersected}
 use Rattle.ratatui_core.specs.{Style.Style, Text.TextData}
-use Rattle.ratatui_core.specs.Buffer.{BufferData, IsStyled, IsPlainFrom, IsNarrowText}
-use Rattle.ratatui_core.proofs.BufferLemmas.{text-plain, styled-plain, over-all, from-over}
-use Rattle.rtui_boxes.specs.{Boxes.IsPlainIfBox, Framed.inner_if, Framed.IsBare}
-use Rattle.rtui_boxes.proofs.InnerLemmas.{plain-framed}
+use Rattle.ratatui_core.specs.Buffer.{BufferData, IsPlainFrom, IsNarrowText}
+use Rattle.ratatui_core.proofs.BufferLemmas.{text-plain, over-all, from-over}
+use Rattle.rtui_boxes.specs.{Boxes.IsPlainIfBox, Framed.inner_if}
+use Rattle.rtui_boxes.proofs.{InnerLemmas.plain-framed, InnerLemmas.bare-or, PlainBoxLemmas.plain-laid}
 use Rattle.rtui_list.specs.Items.{is_selected_at}
 use Rattle.rtui_table.specs.{declared.table.Table.Table as TableData, declared.cell.Cell.Cell, declared.row.Row.Row}
 use Rattle.rtui_table.specs.{declared.state.TableState.TableState}
@@ -16,12 +16,8 @@ use Rattle.rtui_table.specs.Rows.{stacked_rows, rows_area, footer_area, cells_ar
 use Rattle.rtui_table.specs.Tables.{TablePart, RendersIfText, RendersTableParts, cell_parts, symbol_parts, symbol_if, row_parts}
 use Rattle.rtui_table.specs.Tables.{placed_row_parts, rows_parts, outer_parts, highlight_parts, selected_row_area}
 use Rattle.rtui_table.specs.Tables.{selected_column_area}
-use Rattle.rtui_table.specs.Tables.{placed_rows, body_parts, table_parts, symbol_columns, ShowsTable, RendersTable, HasNarrowRows}
+use Rattle.rtui_table.specs.Tables.{placed_rows, body_parts, table_parts, symbol_columns, RendersTable, HasNarrowRows}
 use Rattle.rtui_table.specs.Tables.{HasNarrowCells, HasNarrowCellsIf, IsNarrowSymbol}
-
-styled-stays : (r : Rect) (style : Style) (old new : BufferData) → IsPlainFrom 0 old → IsStyled r style old new
-    → IsPlainFrom 0 new
-styled-stays r style old new plain is = from-over old new is.area (styled-plain r old.area style old new (over-all old plain) is)
 
 text-if : (o : Option TextData) (r : Rect) (old new : BufferData) → IsNarrowSymbol o → IsPlainFrom 0 old
     → RendersIfText o r old new → IsPlainFrom 0 new
@@ -39,7 +35,7 @@ parts-stay : (ps : List TablePart) (old new : BufferData) → AreNarrowParts ps 
 parts-stay [] old new narrow plain same = rw same plain
 parts-stay (p ∷ ps) old new narrow plain is =
     let first = is.first in
-    let laid = styled-stays p.area p.style old first.laid plain first.styled in
+    let laid = plain-laid p.area p.style old first.laid first.styled plain in
     let here = text-if p.content p.area first.laid is.between narrow.0 laid first.text in
     parts-stay ps is.between new narrow.1 here is.second
 
@@ -132,23 +128,10 @@ pub table-keeps : (t : TableData) (s u : TableState) (area : Rect) (old new : Bu
     → IsPlainFrom 0 old → RendersTable t s u area old new → IsPlainFrom 0 new
 table-keeps t s u area old new box narrow plain is =
     let part = intersected area old.area in
-    let nothing : (part.width ≡ 0) ⊎ (part.height ≡ 0) → IsPlainFrom 0 new = λ none. rw (is.parts.nothing none) plain in
-    let some : 0 < part.width → 0 < part.height → IsPlainFrom 0 new = λ w h.
-    let there = is.parts.part w h in
+    bare-or part (λ none. rw (is.parts.nothing none) plain) (λ wide high.
+    let there = is.parts.part wide high in
     let framed = plain-framed t.style t.block part old there.framed box plain there.frame in
-    let bare : IsBare (inner_if t.block part) → IsPlainFrom 0 new = λ none. rw (there.none none).0 framed in
-    let full : ShowsTable t s u (inner_if t.block part) there.framed new → IsPlainFrom 0 new = λ shows.
+    bare-or (inner_if t.block part) (λ none. rw (there.none none).0 framed) (λ w h.
+    let shows = there.inside w h in
     parts-stay (table_parts t u shows.columns (inner_if t.block part)) there.framed new
-    (table-narrow t u shows.columns (inner_if t.block part) narrow) framed shows.parts in
-    ⊎_elim
-    (λ (wide : 0 < (inner_if t.block part).width).
-    ⊎_elim (λ (high : 0 < (inner_if t.block part).height). full (there.inside wide high))
-    (λ (le : (inner_if t.block part).height ≤ 0). bare (inr (omega arith)))
-    (cases_lt 0 (inner_if t.block part).height))
-    (λ (le : (inner_if t.block part).width ≤ 0). bare (inl (omega arith)))
-    (cases_lt 0 (inner_if t.block part).width) in
-    ⊎_elim
-    (λ (w : 0 < part.width). ⊎_elim (λ (h : 0 < part.height). some w h) (λ (le : part.height ≤ 0). nothing (inr (omega arith)))
-    (cases_lt 0 part.height))
-    (λ (le : part.width ≤ 0). nothing (inl (omega arith)))
-    (cases_lt 0 part.width)
+    (table-narrow t u shows.columns (inner_if t.block part) narrow) framed shows.parts))

@@ -5,7 +5,7 @@ use Rattle.std.proofs.Common.{Result, Ok, Err, OnOk, OnErr}
 use Rattle.std.proofs.Math.ListN.{get_or}
 use Rattle.std.specs.{Option.option_or}
 use Rattle.std.specs.declared.alloc.AllocError.{AllocError}
-use Rattle.std.proofs.lemmas.{Bool.cases_lt, Bool.Decides.nat_tests, List.drop_more, List.drop_all, List.Concat.flat_map-cons}
+use Rattle.std.proofs.lemmas.{Bool.cases_lt, Bool.Decides.nat_tests, List.drop_all, List.Concat.flat_map-cons}
 use Rattle.std.proofs.lemmas.{List.Elements.All-head, List.Elements.All-tail}
 use Rattle.ratatui_core.specs.Layout.{Rect, IsInside, intersected}
 use Rattle.ratatui_core.specs.{Style.Style, Text.TextData}
@@ -13,6 +13,7 @@ use Rattle.ratatui_core.specs.Buffer.{BufferData, IsStyled}
 use Rattle.ratatui_core.specs.Widgets.{ChangesWithin, RendersText}
 use Rattle.ratatui_core.proofs.{BufferLemmas.within-wider, BufferLemmas.within-same, WidgetLemmas.within-then}
 use Rattle.ratatui_core.proofs.{WidgetLemmas.within-styled}
+use Rattle.rtui_boxes.proofs.ElementLemmas.{element-next}
 use Rattle.rtui_list.specs.Items.{is_selected_at}
 use Rattle.rtui_table.specs.{declared.table.Table.Table as TableData, declared.cell.Cell.Cell, declared.row.Row.Row}
 use Rattle.rtui_table.specs.Rows.{PlacedRow, stacked_rows, cells_area, above, below, full_height, IsTableArea}
@@ -69,10 +70,6 @@ pub finishing-end : (left all : List TablePart) (old now : BufferData) → left 
     → RendersTableParts all old now
 finishing-end left all old now none finishes = finishes now (subst (λ us. RendersTableParts us now now) (sym none) refl)
 
--- the elements of a list from one on
-drop-at : {A : Type 0} (xs : List A) (k : ℕ) (x : A) → k < length xs → x ≡ get_or xs k x → drop k xs ≡ x ∷ drop (k + 1) xs
-drop-at xs k x lt is = drop_more xs k x lt ∙ ap (λ y. y ∷ drop (k + 1) xs) (sym is)
-
 no-cells : (r : Rect) (columns : List Rect) → cell_parts r columns [] ≡ []
 no-cells r [] = refl
 no-cells r (column ∷ columns) = refl
@@ -126,7 +123,7 @@ module _ (t : TableData) (selected : Option ℕ) (n : ℕ) (columns : List Rect)
   placed = record { row = row; number = k; area = cells_area row r }
 
   rows-is : stacked_rows k r (drop k rows) ≡ placed ∷ stacked_rows (k + 1) (below (full_height row) r) (drop (k + 1) rows)
-  rows-is = let test : (r.height == 0) ≡ false = grind (arith, nat_tests) in rw (drop-at rows k row lt is, test) refl
+  rows-is = let test : (r.height == 0) ≡ false = grind (arith, nat_tests) in rw (element-next rows k row lt is, test) refl
 
   pub rows-next : rows_parts t selected n columns (stacked_rows k r (drop k rows))
       ≡ placed_row_parts t selected n columns placed ++ rows_parts t selected n columns (stacked_rows (k + 1)

@@ -7,7 +7,8 @@ use ratatui_core::buffer::Buffer;
 use ratatui_core::layout::Rect;
 use ratatui_core::text::{Line, Span};
 use ratatui_core::widgets::Widget;
-use rtui_bars::{Bar, BarChart, BarGroup, RenderDirection, Sparkline, SparklineBar};
+use rtui_bars::{Bar, BarChart, BarGroup};
+use rtui_sparkline::{RenderDirection, Sparkline, SparklineBar};
 use rtui_tabs::Tabs;
 use std::alloc::{AllocError, Global};
 

@@ -1,4 +1,4 @@
-use Rattle.rtui_bars.proofs.ChartLemmas.{titled-in}
+use Rattle.rtui_boxes.proofs.WithinLemmas.{titled-in}
 use Rattle.rtui_bars.proofs.chart_part.render_title.Goals as goal
 
 pub returns-clause-within : goal.returns-clause-within

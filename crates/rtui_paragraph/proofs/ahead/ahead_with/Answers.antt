@@ -1,7 +1,7 @@
 use Rattle.std.proofs.Common.{◌≡◌, ◌<◌, ◌⊎◌, ◌∙◌, true, false, inl, inr, sym, arith}
 use Rattle.std.proofs.lemmas.Bool.{false≢true}
 use Rattle.ratatui_core.specs.Text.{grapheme_data}
-use Rattle.rtui_paragraph.specs.{Ahead.columns_ahead, Reflow.is_break}
+use Rattle.rtui_paragraph.specs.{Inner.columns_ahead, Reflow.is_break}
 use Rattle.rtui_paragraph.proofs.AheadLemmas.{ahead-grown}
 use Rattle.rtui_paragraph.proofs.ahead.ahead_with.Goals as goal
 use Rattle.rtui_paragraph.proofs.ahead.ahead_with.Goals.{else-trim-via-then-trim+then-ahead-eq0+else-is_whitespace}

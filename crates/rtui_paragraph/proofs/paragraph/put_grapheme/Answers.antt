@@ -2,8 +2,8 @@ use Rattle.std.proofs.Common.{◌≡◌, false, true, arith, Ok}
 use Rattle.ratatui_core.specs.Buffer.{pieces_at, room_at}
 use Rattle.rtui_paragraph.specs.Paragraphs.{grapheme_in}
 use Rattle.ratatui_core.proofs.{BufferLemmas.text-keeps, BufferLemmas.put-ready}
-use Rattle.rtui_boxes.proofs.PaintLemmas.{part-has_row, part-starts, part-right, paints-within}
-use Rattle.rtui_paragraph.proofs.{ParagraphLemmas.grapheme-painted, CutLemmas.short-painted}
+use Rattle.rtui_boxes.proofs.PaintLemmas.{part-has_row, part-starts, part-right, paints-within, short-painted}
+use Rattle.rtui_paragraph.proofs.ParagraphLemmas.{grapheme-painted}
 use Rattle.rtui_paragraph.proofs.paragraph.put_grapheme.Goals as goal
 
 pub set_stringn-requires-clause-row : goal.set_stringn-requires-clause-row

@@ -3,7 +3,7 @@ use Rattle.std.proofs.lemmas.List.Elements.{All-head, All-tail}
 use Rattle.ratatui_core.specs.{Buffer.IsReadyAt, Buffer.IsShort, Text.GraphemeData, Text.grapheme_data}
 use Rattle.ratatui_core.proofs.{BufferLemmas.within-same, WidgetLemmas.within-then, BufferLemmas.ready-row}
 use Rattle.rtui_boxes.proofs.{BoxLemmas.inside-within, PaintLemmas.part-has_row, PaintLemmas.part-right}
-use Rattle.rtui_paragraph.specs.{Cut.left_of_cut, Reflow.columns_taken, Paragraphs.PaintsGraphemes}
+use Rattle.rtui_paragraph.specs.{Inner.left_of_cut, Reflow.columns_taken, Paragraphs.PaintsGraphemes}
 use Rattle.rtui_paragraph.proofs.{ReflowLemmas.columns-next, RowsLemmas.row-next}
 use Rattle.rtui_paragraph.proofs.paragraph.render_cut_row.Goals as goal
 

@@ -1,6 +1,6 @@
 use Rattle.std.proofs.Common.{◌≤◌, ◌+◌, All, length}
 use Rattle.ratatui_core.specs.{Widgets.ChangesWithin, Buffer.IsReadyAt, Buffer.IsReadyFrom, Buffer.IsShort}
-use Rattle.rtui_paragraph.specs.{Cut.left_of_cut, Cut.IsCut, Reflow.columns_taken}
+use Rattle.rtui_paragraph.specs.{Inner.left_of_cut, Inner.IsCut, Reflow.columns_taken}
 use Rattle.rtui_paragraph.proofs.RowsLemmas.{FinishesRow}
 use Rattle.rtui_paragraph.proofs.paragraph.render_cut_row.Given as goal
 

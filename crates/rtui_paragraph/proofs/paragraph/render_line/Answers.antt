@@ -2,7 +2,7 @@ use Rattle.std.proofs.Common.{◌≡◌, ◌∙◌, ◌==◌, false, [], ◌∷�
 use Rattle.std.proofs.lemmas.Bool.Decides.{nat_tests}
 use Rattle.ratatui_core.specs.Layout.{IsInside}
 use Rattle.ratatui_core.proofs.WidgetLemmas.{within-then}
-use Rattle.rtui_paragraph.specs.{Ahead.left_of, Reflow.data_of, Reflow.AllFit, Reflow.split_row, Paragraphs.aligned_row}
+use Rattle.rtui_paragraph.specs.{Inner.left_of, Reflow.data_of, Reflow.AllFit, Reflow.split_row, Paragraphs.aligned_row}
 use Rattle.rtui_paragraph.specs.{Paragraphs.aligned_rows}
 use Rattle.rtui_paragraph.proofs.ReflowLemmas.{fit-past}
 use Rattle.rtui_paragraph.proofs.RowsLemmas.{rows_left, left-next, rows-line}

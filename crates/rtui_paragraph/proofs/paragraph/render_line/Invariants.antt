@@ -1,6 +1,6 @@
 use Rattle.std.proofs.Common.{◌≡◌, ◌≤◌, ◌+◌, length}
 use Rattle.ratatui_core.specs.{Widgets.ChangesWithin, Buffer.IsReadyFrom}
-use Rattle.rtui_paragraph.specs.{Ahead.HoldsNext, Ahead.left_of, Reflow.AllFit, Reflow.broken_rows, Paragraphs.aligned_rows}
+use Rattle.rtui_paragraph.specs.{Inner.HoldsNext, Inner.left_of, Reflow.AllFit, Reflow.broken_rows, Paragraphs.aligned_rows}
 use Rattle.rtui_paragraph.proofs.RowsLemmas.{rows_left, FinishesRows}
 use Rattle.rtui_paragraph.proofs.paragraph.render_line.Given as goal
 

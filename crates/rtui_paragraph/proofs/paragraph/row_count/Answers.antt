@@ -1,6 +1,6 @@
 use Rattle.std.proofs.Common.{◌≡◌, ◌<◌, ◌==◌, ◌∷◌, ◌∙◌, false, ap, ap₂, sym, subst, length, arith}
 use Rattle.std.proofs.lemmas.Bool.Decides.{nat_tests}
-use Rattle.rtui_paragraph.specs.{Ahead.left_of, Reflow.data_of, Reflow.AllFit, Reflow.split_row}
+use Rattle.rtui_paragraph.specs.{Inner.left_of, Reflow.data_of, Reflow.AllFit, Reflow.split_row}
 use Rattle.rtui_paragraph.proofs.ReflowLemmas.{fit-past}
 use Rattle.rtui_paragraph.proofs.RowsLemmas.{rows_left, left-next}
 use Rattle.rtui_paragraph.proofs.AheadLemmas.{line-step}

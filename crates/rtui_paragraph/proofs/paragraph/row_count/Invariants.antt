@@ -1,5 +1,5 @@
 use Rattle.std.proofs.Common.{◌≡◌, ◌+◌, min, length}
-use Rattle.rtui_paragraph.specs.{Ahead.HoldsNext, Ahead.left_of, Reflow.AllFit}
+use Rattle.rtui_paragraph.specs.{Inner.HoldsNext, Inner.left_of, Reflow.AllFit}
 use Rattle.rtui_paragraph.proofs.RowsLemmas.{rows_left}
 use Rattle.rtui_paragraph.proofs.paragraph.row_count.Given as goal
 

@@ -1,7 +1,7 @@
 use Rattle.rtui_boxes.proofs.CloneLemmas.{block-same, all-same}
 use Rattle.rtui_bars.specs.contracts.group.BarGroupEq.TheImpl.Laws.{laws-law as group_laws}
 use Rattle.rtui_bars.specs.contracts.chart.BarChartEq.TheImpl.Laws.{laws-law}
-use Rattle.rtui_bars.proofs.BarLemmas.{set-same}
+use Rattle.rtui_sparkline.proofs.LevelLemmas.{set-same}
 use Rattle.rtui_bars.proofs.chart.BarChart.clone.Goals as goal
 
 pub returns : goal.returns

@@ -1,5 +1,5 @@
 use Rattle.rtui_bars.specs.BarCharts.{long_cell}
-use Rattle.rtui_bars.proofs.ChartLemmas.{changed-in}
+use Rattle.rtui_boxes.proofs.WithinLemmas.{changed-in}
 use Rattle.rtui_bars.proofs.chart.BarChart.fill_long_bar.Goals as goal
 
 pub returns-clause-within : goal.returns-clause-within

@@ -1,6 +1,7 @@
 use Rattle.ratatui_core.proofs.WidgetLemmas.{within-then}
 use Rattle.rtui_meters.specs.Gauges.{filled_cell}
-use Rattle.rtui_meters.proofs.MeterLemmas.{label-row, label-column, label-paints, changed-within}
+use Rattle.rtui_meters.proofs.MeterLemmas.{label-row, label-column, label-paints}
+use Rattle.rtui_boxes.proofs.WithinLemmas.{changed-in}
 use Rattle.rtui_meters.proofs.gauge.Gauge.render_labelled.Goals as goal
 
 pub set_stringn-requires-clause-row : goal.set_stringn-requires-clause-row
@@ -16,7 +17,7 @@ set_stringn-requires-clause-column c =
 pub returns-in_err-set_stringn-clause-within : goal.returns-in_err-set_stringn-clause-within
 returns-in_err-set_stringn-clause-within c =
     within-then c.args.inner c.args.buf.now c.change_area.new.buf c.set_stringn.new.self
-    (changed-within c.change_area.result c.args.inner c.args.inner (filled_cell c.fill-fill.result) c.args.buf.now
+    (changed-in c.change_area.result c.args.inner c.args.inner (filled_cell c.fill-fill.result) c.args.buf.now
     c.change_area.new.buf (λ p h. h) c.change_area.ensures.ok c.change_area.ensures.err)
     (label-paints c.set_stringn.result c.args.text.now c.args.style c.args.inner c.fill-fill.result.label c.change_area.new.buf
     c.set_stringn.new.self c.requires.some
@@ -26,7 +27,7 @@ returns-in_err-set_stringn-clause-within c =
 pub returns-clause-within : goal.returns-clause-within
 returns-clause-within c =
     within-then c.args.inner c.args.buf.now c.change_area.new.buf c.set_stringn.new.self
-    (changed-within c.change_area.result c.args.inner c.args.inner (filled_cell c.fill-fill.result) c.args.buf.now
+    (changed-in c.change_area.result c.args.inner c.args.inner (filled_cell c.fill-fill.result) c.args.buf.now
     c.change_area.new.buf (λ p h. h) c.change_area.ensures.ok c.change_area.ensures.err)
     (label-paints c.set_stringn.result c.args.text.now c.args.style c.args.inner c.fill-fill.result.label c.change_area.new.buf
     c.set_stringn.new.self c.requires.some

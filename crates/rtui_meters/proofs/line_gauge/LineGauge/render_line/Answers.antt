@@ -1,6 +1,7 @@
 use Rattle.std.proofs.Common.{◌≤◌, arith}
 use Rattle.ratatui_core.proofs.WidgetLemmas.{within-then}
-use Rattle.rtui_meters.proofs.MeterLemmas.{label-within, changed-within, right-inside, fills-line}
+use Rattle.rtui_boxes.proofs.WithinLemmas.{changed-in}
+use Rattle.rtui_meters.proofs.MeterLemmas.{label-within, right-inside, fills-line}
 use Rattle.rtui_meters.proofs.line_gauge.LineGauge.render_line.Goals as goal
 
 pub returns-in_err-paint_label-clause-within : goal.returns-in_err-paint_label-clause-within
@@ -15,7 +16,7 @@ returns-clause-within c =
     within-then c.args.inner c.args.buf.now c.paint_label.new.buf c.change_area.new.buf
     (label-within c.paint_label.result c.args.self.now c.args.inner c.args.buf.now c.paint_label.new.buf c.requires.some
     c.requires.inside c.paint_label.ensures.paints)
-    (changed-within c.change_area.result _ c.args.inner _ c.paint_label.new.buf c.change_area.new.buf
+    (changed-in c.change_area.result _ c.args.inner _ c.paint_label.new.buf c.change_area.new.buf
     (right-inside c.args.inner c.saturating_add-start.result c.saturating_sub-columns.result c.requires.some from (omega arith))
     c.change_area.ensures.ok c.change_area.ensures.err)
 

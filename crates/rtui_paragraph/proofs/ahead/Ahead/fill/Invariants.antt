@@ -1,6 +1,6 @@
 use Rattle.std.proofs.Common.{◌≡◌, ◌≤◌, false, length}
 use Rattle.ratatui_core.specs.Text.{line_graphemes_left}
-use Rattle.rtui_paragraph.specs.Ahead.{columns_ahead, held_of, left_of, HasLeft}
+use Rattle.rtui_paragraph.specs.Inner.{columns_ahead, held_of, left_of, HasLeft}
 use Rattle.rtui_paragraph.proofs.ahead.Ahead.fill.Given as goal
 
 abbrev pub invariant-loop-ahead : goal.invariant-loop-ahead

@@ -1,5 +1,5 @@
 use Rattle.std.proofs.Common.{◌≡◌, ◌+◌, length}
-use Rattle.rtui_paragraph.specs.{Cut.left_of_cut, Cut.IsCut, Reflow.columns_taken}
+use Rattle.rtui_paragraph.specs.{Inner.left_of_cut, Inner.IsCut, Reflow.columns_taken}
 use Rattle.rtui_paragraph.proofs.cut.Cut.columns.Given as goal
 
 abbrev pub invariant-loop : goal.invariant-loop

@@ -1,6 +1,6 @@
 use Rattle.std.proofs.Common.{◌≡◌, length}
 use Rattle.ratatui_core.specs.Text.{line_graphemes_left}
-use Rattle.rtui_paragraph.specs.Cut.{left_of_cut, IsCut}
+use Rattle.rtui_paragraph.specs.Inner.{left_of_cut, IsCut}
 use Rattle.rtui_paragraph.proofs.cut.Cut.next.Given as goal
 
 abbrev pub invariant-loop-grapheme : goal.invariant-loop-grapheme

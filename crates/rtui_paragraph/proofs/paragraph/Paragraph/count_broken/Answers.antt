@@ -1,5 +1,5 @@
 use Rattle.std.proofs.Common.{subst, sym}
-use Rattle.rtui_paragraph.specs.{Ahead.left_of, Reflow.AllFit}
+use Rattle.rtui_paragraph.specs.{Inner.left_of, Reflow.AllFit}
 use Rattle.rtui_paragraph.proofs.RowsLemmas.{fit-of-line}
 use Rattle.rtui_paragraph.proofs.paragraph.Paragraph.count_broken.Goals as goal
 

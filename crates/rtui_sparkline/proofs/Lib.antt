@@ -1,0 +1,2 @@
+pub mod LevelLemmas
+pub mod SparklineLemmas
