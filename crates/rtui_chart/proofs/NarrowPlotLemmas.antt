@@ -9,15 +9,13 @@ use Rattle.ratatui_core.specs.Layout.{Rect, intersected, corner}
 use Rattle.ratatui_core.specs.{Style.Style, Text.LineData}
 use Rattle.ratatui_core.specs.Symbols.{plain_border}
 use Rattle.ratatui_core.specs.declared.symbols.Marker.{Marker}
-use Rattle.ratatui_core.specs.Buffer.{BufferData, text_width, cell_in, style_of, IsStyled, IsPlainFrom, IsNarrowLine}
+use Rattle.ratatui_core.specs.Buffer.{BufferData, text_width, cell_in, style_of, IsPlainFrom, IsNarrowLine}
 use Rattle.ratatui_core.specs.Buffer.{ChangesEach}
-use Rattle.ratatui_core.proofs.BufferLemmas.{plain-styled, plain-with_symbol, plain-changed, line-stays, styled-plain, over-all}
-use Rattle.ratatui_core.proofs.BufferLemmas.{from-over}
+use Rattle.ratatui_core.proofs.BufferLemmas.{plain-styled, plain-with_symbol, plain-changed, line-stays}
 use Rattle.rtui_boxes.specs.declared.title.Title.{Title}
 use Rattle.rtui_boxes.specs.{declared.block.Block.Block, Boxes.IsPlainBox, Boxes.IsPlainIfBox, Boxes.IsNewBlock}
-use Rattle.rtui_boxes.specs.Titles.{PlacedTitle}
-use Rattle.rtui_boxes.specs.{Framed.inner_if, Framed.IsBare}
-use Rattle.rtui_boxes.proofs.{InnerLemmas.plain-framed, PlainBoxLemmas.plain-box}
+use Rattle.rtui_boxes.specs.{Titles.PlacedTitle, Titles.title_at, Lines.IsNarrowIfLine}
+use Rattle.rtui_boxes.proofs.{InnerLemmas.plain-inside, PlainBoxLemmas.plain-box, PlainBoxLemmas.plain-laid, PlainBoxLemmas.plain-title}
 use Rattle.rtui_canvas.specs.{declared.label.Label.Label, Canvases.HasNarrowDots}
 use Rattle.rtui_canvas.proofs.NarrowCanvasLemmas.{canvas-plain}
 use Rattle.rtui_chart.specs.declared.{axis.Axis.Axis, dataset.Dataset.Dataset, chart.Chart.Chart, layout.ChartLayout.ChartLayout}
@@ -26,11 +24,7 @@ use Rattle.rtui_chart.specs.ChartParts.{RendersNumbered, RendersUnless, x_label_
 use Rattle.rtui_chart.specs.ChartParts.{RendersAxes, RendersDatasets, RendersAxisTitle}
 use Rattle.rtui_chart.specs.Legends.{legend_names, with_name, name_at, RendersLegendIn}
 use Rattle.rtui_chart.specs.Plots.{ShowsPlot, RendersChart}
-use Rattle.rtui_chart.specs.NarrowCharts.{IsNarrowIfLine, HasNarrowTexts, IsNarrowDataset, IsNarrowChart}
-
-styled-stays : (r : Rect) (style : Style) (old new : BufferData) → IsPlainFrom 0 old → IsStyled r style old new
-    → IsPlainFrom 0 new
-styled-stays r style old new plain is = from-over old new is.area (styled-plain r old.area style old new (over-all old plain) is)
+use Rattle.rtui_chart.specs.NarrowCharts.{HasNarrowTexts, IsNarrowDataset, IsNarrowChart}
 
 -- lines, each where it stands by its number
 numbered-stay : (place : ℕ → LineData → PlacedTitle)
@@ -116,7 +110,7 @@ title-stays : (style : Style) (title : Option LineData) (r : Rect) (old new : Bu
     → IsPlainFrom 0 old → RendersAxisTitle style title r old new → IsPlainFrom 0 new
 title-stays style None r old new narrow plain same = rw same plain
 title-stays style (Some line) r old new narrow plain is =
-    line-stays r is.laid new (styled-stays r style old is.laid plain is.styled) line narrow is.line
+    plain-title style (title_at line r) old new narrow plain is
 
 -- the names of narrow data sets are narrow
 name-narrow : (name : Option LineData) (style : Style) (names : List LineData) → IsNarrowIfLine name → All IsNarrowLine names
@@ -156,7 +150,7 @@ new-box-plain b is =
 legend-stays : (style : Style) (names : List LineData) (r : Rect) (old new : BufferData) → All IsNarrowLine names
     → IsPlainFrom 0 old → RendersLegendIn style names r old new → IsPlainFrom 0 new
 legend-stays style names r old new narrow plain is =
-    let laid = styled-stays r style old is.laid plain is.styled in
+    let laid = plain-laid r style old is.laid is.styled plain in
     let boxed = plain-box is.block r is.laid is.boxed (new-box-plain is.block is.bordered) laid is.box in
     numbered-stay (name_at r) (λ i line fits. fits) 0 names is.boxed new narrow boxed is.listed
 
@@ -177,23 +171,5 @@ plot-stays c r old new narrow plain is =
 pub chart-plain : (c : Chart) (area : Rect) (old new : BufferData) → IsPlainIfBox c.block → IsNarrowChart c → IsPlainFrom 0 old
     → RendersChart c area old new → IsPlainFrom 0 new
 chart-plain c area old new box narrow plain is =
-    let part = intersected area old.area in
-    let nothing : (part.width ≡ 0) ⊎ (part.height ≡ 0) → IsPlainFrom 0 new = λ none. rw (is.parts.nothing none) plain in
-    let some : 0 < part.width → 0 < part.height → IsPlainFrom 0 new = λ w h.
-    let there = is.parts.part w h in
-    let framed = plain-framed c.style c.block part old there.framed box plain there.frame in
-    let bare : IsBare (inner_if c.block part) → IsPlainFrom 0 new = λ none. rw (there.none none) framed in
-    let full : ShowsPlot c (inner_if c.block part) there.framed new → IsPlainFrom 0 new = λ shows.
-    plot-stays c (inner_if c.block part) there.framed new narrow framed shows in
-    ⊎_elim
-    (λ (wide : 0 < (inner_if c.block part).width).
-    ⊎_elim (λ (high : 0 < (inner_if c.block part).height). full (there.inside wide high))
-    (λ (le : (inner_if c.block part).height ≤ 0). bare (inr (omega arith)))
-    (cases_lt 0 (inner_if c.block part).height))
-    (λ (le : (inner_if c.block part).width ≤ 0). bare (inl (omega arith)))
-    (cases_lt 0 (inner_if c.block part).width) in
-    ⊎_elim
-    (λ (w : 0 < part.width). ⊎_elim (λ (h : 0 < part.height). some w h) (λ (le : part.height ≤ 0). nothing (inr (omega arith)))
-    (cases_lt 0 part.height))
-    (λ (le : part.width ≤ 0). nothing (inl (omega arith)))
-    (cases_lt 0 part.width)
+    plain-inside c.style c.block (ShowsPlot c) area old new box plain
+    (λ r framed shown cells shows. plot-stays c r framed shown narrow cells shows) is

@@ -1,22 +1,12 @@
 -- The parts of a chart within its area.
-use Rattle.std.proofs.Common.{◌≡◌, ℕ, ◌+◌, ◌-◌, ◌*◌, ◌/◌, ◌<◌, ◌≤◌, max, List, [], ◌∷◌, length, drop, get_or, sym, ap}
+use Rattle.std.proofs.Common.{◌≡◌, ℕ, ◌+◌, ◌-◌, ◌*◌, ◌/◌, ◌<◌, ◌≤◌, max, List, [], ◌∷◌, length, ⊎_elim, Option, Some, None}
+use Rattle.std.proofs.Common.{arith, refl}
 use Rattle.std.specs.{Char.encode_utf8}
-use Rattle.std.proofs.Common.{◌∙◌, arith, refl, ⊎_elim, Option, Some, None, Result, Ok, Err, OnOk, OnErr}
-use Rattle.std.specs.declared.alloc.AllocError.{AllocError}
 use Rattle.std.proofs.lemmas.{Bool.cases_lt}
-use Rattle.ratatui_core.specs.{Style.Style, Text.LineData, Buffer.BufferData, Buffer.IsStyled}
-use Rattle.ratatui_core.specs.Widgets.{ChangesWithin, RendersLine}
-use Rattle.ratatui_core.proofs.WidgetLemmas.{within-then, within-styled}
-use Rattle.rtui_chart.specs.{ChartLayouts.widest_line, Legends.with_name, Legends.name_count, Legends.name_columns}
-use Rattle.std.proofs.lemmas.List.{drop_more}
 use Rattle.std.proofs.Math.Nat.{mul-div-le, mul-le-mul_right, mul-zero}
-use Rattle.ratatui_core.specs.Layout.{Rect, IsInside}
+use Rattle.ratatui_core.specs.{Layout.Rect, Layout.IsInside, Style.Style, Text.LineData}
+use Rattle.rtui_chart.specs.{ChartLayouts.widest_line, Legends.with_name, Legends.name_count, Legends.name_columns}
 use Rattle.rtui_chart.specs.{Inner.AreLabelRows}
-
--- the elements from one on
-pub element-next : {A : Type 0} (xs : List A) (k : ℕ) (x : A) → k < length xs → x ≡ get_or xs k x
-    → drop k xs ≡ x ∷ drop (k + 1) xs
-element-next xs k x lt is = drop_more xs k x lt ∙ ap (λ y. y ∷ drop (k + 1) xs) (sym is)
 
 -- n shares of so many columns: those before one of them and its own are among all of them
 pub share-fits : (i n g : ℕ) → i < n → i * (g / n) + g / n ≤ g
@@ -37,16 +27,6 @@ share-below i n g lt some =
     let fits = share-fits i n g lt in
     ⊎_elim (λ (wide : 0 < g / n). omega arith)
     (λ (none : g / n ≤ 0). let e : g / n ≡ 0 = omega arith in rw (e, mul-zero i) some) (cases_lt 0 (g / n))
-
--- a style and a line over it, or memory is refused
-pub titled-in : {A : Type 0} (result : Result A AllocError) (r : Rect) (style : Style) (line : LineData)
-    (old laid new : BufferData) → IsStyled r style old laid → OnOk result (RendersLine line r laid new)
-    → OnErr result (ChangesWithin r laid new)
-    → ChangesWithin r old new
-titled-in (Ok x) r style line old laid new is ok err =
-    within-then r old laid new (within-styled r r style old laid (λ p in_own h. h) is) ok.within
-titled-in (Err e) r style line old laid new is ok err =
-    within-then r old laid new (within-styled r r style old laid (λ p in_own h. h) is) err
 
 -- the name of a data set beside those of others
 pub name-widest : (name : Option LineData) (style : Style) (names : List LineData)

@@ -1,16 +1,12 @@
 -- A chart whose texts and marks take one column each.
-use Rattle.std.specs.Prelude.{Option, Some, None, ⊤, All}
-use Rattle.ratatui_core.specs.{Text.LineData, Buffer.IsNarrowLine}
+use Rattle.std.specs.Prelude.{All}
+use Rattle.ratatui_core.specs.{Buffer.IsNarrowLine}
+use Rattle.rtui_boxes.specs.Lines.{IsNarrowIfLine}
 use Rattle.rtui_canvas.specs.Canvases.{HasNarrowDots}
 use Rattle.rtui_chart.specs.Charts.{axis_labels}
 use Rattle.rtui_chart.specs.declared.{axis.Axis.Axis, dataset.Dataset.Dataset, chart.Chart.Chart}
 
--- the graphemes of the line take one column each, if there is one
-abbrev pub IsNarrowIfLine : Option LineData → Type 0
-IsNarrowIfLine None = ⊤
-IsNarrowIfLine (Some line) = IsNarrowLine line
-
--- so do those of an axis's title and of its labels
+-- the graphemes of an axis's title and of its labels take one column each
 pub record HasNarrowTexts (a : Axis) : Type 0 where
   pub title : IsNarrowIfLine a.title
   pub labels : All IsNarrowLine (axis_labels a)

@@ -4,8 +4,8 @@ ghost use Rattle.std.specs.Prelude.{◌≡◌, ◌≤◌, ◌<◌, ◌+◌, ◌-
 ghost use Rattle.rtui_boxes.specs.Titles.{title_width};
 ghost use Rattle.rtui_boxes.specs.Boxes.{IsBoxArea};
 ghost use Rattle.rtui_chart.specs.ChartLayouts.{is_labelled, widest_line, first_width, left_of_axis};
-ghost use Rattle.rtui_chart.specs.ChartLayouts.{columns_beside, axis_columns, axis_rows, label_rows, x_title_area};
-ghost use Rattle.rtui_chart.specs.ChartLayouts.{title_columns, chart_layout};
+ghost use Rattle.rtui_chart.specs.ChartLayouts.{columns_beside, axis_columns, axis_rows, label_rows};
+ghost use Rattle.rtui_chart.specs.ChartLayouts.{x_title_area, title_columns, chart_layout};
 ghost use Rattle.rtui_chart.specs.Inner.{AreParts};
 
 use crate::axis::Axis;

@@ -7,8 +7,9 @@ ghost use Rattle.ratatui_core.specs.Style.{patch};
 ghost use Rattle.rtui_boxes.specs.Boxes.{IsBoxArea};
 ghost use Rattle.rtui_chart.specs.ChartLayouts.{widest_line};
 ghost use Rattle.rtui_chart.specs.ChartParts.{RendersNumbered};
-ghost use Rattle.rtui_chart.specs.Legends.{legend_names, name_columns, name_count, room_in, legend_fits, legend_column};
-ghost use Rattle.rtui_chart.specs.Legends.{legend_row, one_row_if, legend_box, name_at, RendersLegendIn, RendersLegend};
+ghost use Rattle.rtui_chart.specs.Legends.{legend_names, name_columns, name_count, room_in};
+ghost use Rattle.rtui_chart.specs.Legends.{legend_fits, legend_column, legend_row, one_row_if, legend_box};
+ghost use Rattle.rtui_chart.specs.Legends.{name_at, RendersLegendIn, RendersLegend};
 ghost use Rattle.rtui_chart.specs.Inner.{HasLegendRoom, RendersNext};
 
 use crate::dataset::Dataset;

@@ -10,7 +10,7 @@ use Rattle.ratatui_core.specs.Buffer.{HasNarrowGraphemes, PaintsPieces, text_wid
 use Rattle.ratatui_core.specs.Widgets.{first_row}
 use Rattle.ratatui_core.proofs.BufferLemmas.{pieces-narrow, pieces-plain, styled-plain, over-all, from-over}
 use Rattle.rtui_boxes.specs.{declared.block.Block.Block, Boxes.IsPlainIfBox, Framed.inner_if, Framed.IsBare, Titles.InTurn}
-use Rattle.rtui_boxes.proofs.InnerLemmas.{plain-framed}
+use Rattle.rtui_boxes.proofs.InnerLemmas.{plain-framed, bare-or}
 use Rattle.rtui_tabs.specs.declared.tabs.Tabs.{Tabs as TabsData}
 use Rattle.rtui_tabs.specs.Tabs.{TabPart, PlacedPart, placed_parts, after_parts, after_part, tab_parts, title_parts, tabs_from}
 use Rattle.rtui_tabs.specs.Tabs.{part_of_span, part_of_padding}
@@ -134,23 +134,9 @@ pub tabs-keep : HasNarrowGraphemes (codes " ") → (t : TabsData) (area : Rect) 
     → HasNarrowTabs t → IsPlainFrom 0 old → RendersTabs t area old new → IsPlainFrom 0 new
 tabs-keep blank t area old new box narrow plain is =
     let part = intersected area old.area in
-    let nothing : (part.width ≡ 0) ⊎ (part.height ≡ 0) → IsPlainFrom 0 new = λ none. rw (is.parts.nothing none) plain in
-    let some : 0 < part.width → 0 < part.height → IsPlainFrom 0 new = λ w h.
-    let there = is.parts.part w h in
+    bare-or part (λ none. rw (is.parts.nothing none) plain) (λ wide high.
+    let there = is.parts.part wide high in
     let framed = plain-framed t.style t.block part old there.framed box plain there.frame in
-    let bare : IsBare (inner_if t.block part) → IsPlainFrom 0 new = λ none. rw (there.none none) framed in
-    ⊎_elim
-    (λ (wide : 0 < (inner_if t.block part).width).
-    ⊎_elim
-    (λ (high : 0 < (inner_if t.block part).height).
-    tabs-plain t blank narrow (first_row (inner_if t.block part)) 0 t.titles.items there.framed new
-    (inner-small t.block area old.area) narrow.titles framed (there.inside wide high))
-    (λ (le : (inner_if t.block part).height ≤ 0). bare (inr (omega arith)))
-    (cases_lt 0 (inner_if t.block part).height))
-    (λ (le : (inner_if t.block part).width ≤ 0). bare (inl (omega arith)))
-    (cases_lt 0 (inner_if t.block part).width) in
-    ⊎_elim
-    (λ (w : 0 < part.width). ⊎_elim (λ (h : 0 < part.height). some w h) (λ (le : part.height ≤ 0). nothing (inr (omega arith)))
-    (cases_lt 0 part.height))
-    (λ (le : part.width ≤ 0). nothing (inl (omega arith)))
-    (cases_lt 0 part.width)
+    bare-or (inner_if t.block part) (λ none. rw (there.none none) framed)
+    (λ w h. tabs-plain t blank narrow (first_row (inner_if t.block part)) 0 t.titles.items there.framed new
+    (inner-small t.block area old.area) narrow.titles framed (there.inside w h)))

@@ -4,7 +4,8 @@
 //! Of a list (`list 8 3 selected=3 symbol=>_ | one | two`) a `*` stands after the rows of the
 //! selected item; of a gauge (`gauge 10 1 percent=42`, `linegauge 10 1 percent=42`) it is counted
 //! how many cells are filled, and a full block is shown as a blank; of a scroll bar (`scrollbar 1 8
-//! content=20 position=3`) the symbols are shown. In options `_` stands for a blank.
+//! content=20 position=3 track=## thumb=日`) the symbols are shown. In options `_` stands for a
+//! blank.
 #![tactic(auto)]
 
 mod cases;

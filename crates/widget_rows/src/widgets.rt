@@ -105,6 +105,12 @@ fn scrollbar(case: &Case<'_>, area: Rect, buffer: &mut Buffer) -> Result<(), All
     if case.option("arrows") == Some("no") {
         bar = bar.begin_symbol(None).end_symbol(None);
     }
+    if let Some(symbol) = case.option("thumb") {
+        bar = bar.thumb_symbol(symbol);
+    }
+    if let Some(symbol) = case.option("track") {
+        bar = bar.track_symbol(Some(symbol));
+    }
     let mut state = ScrollbarState::new(case.number("content").unwrap_or(0))
         .position(case.number("position").unwrap_or(0))
         .viewport_content_length(case.number("seen").unwrap_or(0));

@@ -1,4 +1,4 @@
-use Rattle.rtui_chart.proofs.PlotLemmas.{titled-in}
+use Rattle.rtui_boxes.proofs.WithinLemmas.{titled-in}
 use Rattle.rtui_chart.proofs.parts.render_axis_title.Goals as goal
 
 pub returns-in-Some-clause-within : goal.returns-in-Some-clause-within
