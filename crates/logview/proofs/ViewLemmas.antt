@@ -100,7 +100,8 @@ module _ {B E : Type 0} (screen : B → Screen) where
     filled = only by.inserted by.closure;
     stops = by.stops;
   }
-  refuses-line-if stops_at line v w filled (Err Memory) count only keeps by = ap₂ (λ t n. record { terminal = t; count = n }) by.0 count
+  refuses-line-if stops_at line v w filled (Err Memory) count only keeps by =
+      ap₂ (λ t n. record { terminal = t; count = n }) by.0 count
   refuses-line-if stops_at line v w filled (Err Area) count only keeps by = absurd (by.over (keeps by.inserted by.closure))
   refuses-line-if stops_at line v w filled (Err (Closure e)) count only keeps by = absurd by
 

@@ -20,7 +20,8 @@ use Rattle.ratatui_input.specs.Keys.{control_key, typed_key, with_alt}
 use Rattle.ratatui_input.specs.Sequences.{sequence_event, keys_event, tilde_event, pushed, digit_pushed}
 use Rattle.ratatui_input.specs.Decoding.{Told, stepped, first, after_escape, after_bracket, in_sequence, cut, read, fresh}
 use Rattle.ratatui_input.specs.Decoding.{after_cut, byte_told, fed_next, decoded, next_told, pasted_code, settled, told_event}
-use Rattle.ratatui_input.specs.Encodings.{fresh_decoder, in_brackets, AreTextCharacters, IsTextCharacter, IsNoKey, AreNoKeys, HaveEnd}
+use Rattle.ratatui_input.specs.Encodings.{fresh_decoder, in_brackets, IsNoKey, AreNoKeys, HaveEnd}
+use Rattle.ratatui_input.specs.Encodings.{IsTextCharacter, AreTextCharacters}
 use Rattle.ratatui_input.proofs.DecodingLemmas.{decoded-append}
 use Rattle.ratatui_input.proofs.StepLemmas.{at}
 use Rattle.ratatui_input.proofs.CharacterLemmas.{character-read, ground-begins, ground-first}

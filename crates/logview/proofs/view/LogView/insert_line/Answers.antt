@@ -23,6 +23,7 @@ returns-clause-most g c = λ is.
 
 pub returns-clause-err : goal.returns-clause-err
 returns-clause-err g c = λ is.
-    refuses-line-if g.B.Backend.screen g.B.Backend.stops_at c.args.line.now c.args.self.now _ _ c.insert_before.result (search rules)
+    refuses-line-if g.B.Backend.screen g.B.Backend.stops_at c.args.line.now c.args.self.now _ _ c.insert_before.result
+    (search rules)
     (λ sheet fills. record { before = fills.before; empty = fills.new_buffer.empty; renders = λ has. search rules })
     (λ sheet fills. search rules) (c.insert_before.ensures.outcome (over-takes g.B.Backend.screen _ is).inline)
