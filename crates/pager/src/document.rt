@@ -51,7 +51,10 @@ impl<'a> Document<'a> {
     pub fn new(alloc: Global, text: &'a str) -> Result<Document<'a>, TextError>
         ensures { IfOk result (λ d. d ≡ lines text.now) }
     {
-        let lines = collected(alloc, text).map_err(|_| TextError::Memory)?;
+        let lines = match collected(alloc, text) {
+            Ok(lines) => lines,
+            Err(_) => return Err(TextError::Memory),
+        };
         if lines.len() > 0xffff_ffff {
             return Err(TextError::Lines);
         }

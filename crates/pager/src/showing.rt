@@ -64,9 +64,10 @@ fn send<W: Write>(writer: &mut W, texts: &[&str]) -> io::Result<()> {
 
 // Has a terminal tell no longer of what it was asked to.
 fn end_telling<W: Write>(writer: &mut W) -> Result<(), Fault<AnsiError>> {
-    send(writer, &[TELLING_NO_LONGER]).map_err(|error| {
-        Fault::Draw(TerminalError::Backend(AnsiError::Write(error)))
-    })
+    match send(writer, &[TELLING_NO_LONGER]) {
+        Ok(()) => Ok(()),
+        Err(error) => Err(Fault::Draw(TerminalError::Backend(AnsiError::Write(error)))),
+    }
 }
 
 // Shows a text on a terminal that is lent.
@@ -85,8 +86,10 @@ fn show_to<S: Source, W: Write>(
         (record { decoder = fresh_decoder; state = pager.old }) (S.coming source.old)
         pager.new (S.coming source.new)) }
 {
-    show_on(alloc, size, source, has_ticks, writer, pager)?;
-    Ok(())
+    match show_on(alloc, size, source, has_ticks, writer, pager) {
+        Ok(_) => Ok(()),
+        Err(fault) => Err(fault),
+    }
 }
 
 /// Shows a text as [`show_on`] does, on a terminal that also tells of the mouse and of new sizes,
@@ -115,6 +118,8 @@ pub fn show<S: Source, W: Write>(
     let _ = send(writer, &[TELLING]);
     let shown = show_to(alloc, size, source, has_ticks, writer, pager);
     let ended = end_telling(writer);
-    shown?;
-    ended
+    match shown {
+        Ok(()) => ended,
+        Err(fault) => Err(fault),
+    }
 }

@@ -3,7 +3,7 @@ use Rattle.std.specs.Prelude.{◌≡◌, true, false, List, ℕ, Option}
 use Rattle.ratatui_core.specs.Terminal.{TerminalData, ShowsRendered, Starts, Viewport}
 use Rattle.ansi_model.specs.Commands.{AsksSize}
 use Rattle.ratatui_ansi.specs.Backend.{BackendState, LeavesTerminal, BringsBack, shown_by, is_flushed}
-use Rattle.ratatui_ansi.specs.declared.error.AnsiError.{AnsiError}
+use Rattle.ratatui_ansi.specs.{declared.error.AnsiError.AnsiError, Refusals.StopsSending}
 use Rattle.ratatui_ansi.specs.Headline.{IsShownToAll}
 use Rattle.ratatui_input.specs.declared.decoder.Decoder.{Decoder}
 use Rattle.ratatui_reads.specs.Reads.{Between}
@@ -13,7 +13,12 @@ use Rattle.ratatui_app.specs.Showing.{Device, App, rules_of, RunsTo, ShowsState,
 
 -- a terminal that is sent bytes
 abbrev pub sender : {W : Type 0} → Device (BackendState W) AnsiError
-sender = record { screen = shown_by; failures = λ b. b.failures; is_flushed = is_flushed }
+sender = record {
+  screen = shown_by;
+  failures = λ b. b.failures;
+  is_flushed = is_flushed;
+  stops_at = StopsSending;
+}
 
 module _ {W S : Type 0} (app : App S) where
   -- a run on such a terminal

@@ -129,12 +129,21 @@ pub fn feed<B: Resizable, A: Application>(
         (record { decoder = decoder.old; state = application.old }) terminal.old bytes.now
         (record { decoder = decoder.new; state = application.new }) terminal.new) }
 {
-    let taken = take(bytes, decoder, application).map_err(|_| Fault::Memory)?;
+    let taken = match take(bytes, decoder, application) {
+        Ok(taken) => taken,
+        Err(_) => return Err(Fault::Memory),
+    };
     if !taken.any && !bytes.is_empty() {
         return Ok(());
     }
-    resize(terminal, taken.size).map_err(Fault::Resize)?;
-    draw(terminal, application).map_err(Fault::Draw)
+    match resize(terminal, taken.size) {
+        Ok(()) => {}
+        Err(error) => return Err(Fault::Resize(error)),
+    }
+    match draw(terminal, application) {
+        Ok(()) => Ok(()),
+        Err(error) => Err(Fault::Draw(error)),
+    }
 }
 
 /// Reads once, and feeds what was read. Answers whether something came.
@@ -163,9 +172,14 @@ pub fn step<S: Source, B: Resizable, A: Application>(
     ensures end { IfOk result (λ came. came ≡ false → IsUsedUp (S.coming source.new)) }
 {
     let mut buf = [0u8; 1024];
-    let count = source.read_once(&mut buf).map_err(Fault::Read)?;
-    feed(&buf[..count], decoder, terminal, application)?;
-    Ok(count != 0)
+    let count = match source.read_once(&mut buf) {
+        Ok(count) => count,
+        Err(error) => return Err(Fault::Read(error)),
+    };
+    match feed(&buf[..count], decoder, terminal, application) {
+        Ok(()) => Ok(count != 0),
+        Err(fault) => Err(fault),
+    }
 }
 
 /// Draws a frame of an application, and then reads, takes the events of what was read and draws

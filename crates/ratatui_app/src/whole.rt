@@ -83,8 +83,10 @@ fn run_over<S: Source, W: Write + Drop, A: Application>(
     calls_leave_a_terminal_at_rest::<AnsiBackend<W>>();
     let ran = run_on_glass(source, has_ticks, &mut terminal, application);
     let left = leave(terminal);
-    ran?;
-    left
+    match ran {
+        Ok(()) => left,
+        Err(fault) => Err(fault),
+    }
 }
 
 /// Runs an application on a terminal that is sent bytes, from beginning to end: asks the terminal
