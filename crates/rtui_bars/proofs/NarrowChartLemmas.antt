@@ -9,10 +9,11 @@ use Rattle.ratatui_core.specs.declared.layout.Direction.TheVariants.{Horizontal,
 use Rattle.ratatui_core.specs.Buffer.{BufferData, Cell, text_width, text_columns}
 use Rattle.ratatui_core.specs.Buffer.{IsPlain, IsPlainFrom, HasNarrowGraphemes}
 use Rattle.ratatui_core.proofs.BufferLemmas.{plain-styled, plain-with_symbol, plain-changed, line-stays}
-use Rattle.rtui_boxes.specs.{Boxes.IsPlainIfBox}
+use Rattle.rtui_boxes.specs.{Boxes.IsNarrowIfBox}
 use Rattle.rtui_boxes.specs.Titles.{title_at, title_width, first_columns, without_first}
 use Rattle.rtui_boxes.specs.{Lines.IsNarrowIfLine, Lines.RendersIfLine}
-use Rattle.rtui_boxes.proofs.{InnerLemmas.plain-inside, PlainBoxLemmas.plain-laid, PlainBoxLemmas.plain-done, PlainBoxLemmas.plain-text, PlainBoxLemmas.plain-title}
+use Rattle.rtui_boxes.proofs.{InnerLemmas.plain-inside, PlainBoxLemmas.plain-laid, PlainBoxLemmas.plain-done}
+use Rattle.rtui_boxes.proofs.PlainBoxLemmas.{plain-text, plain-title}
 use Rattle.rtui_bars.specs.{declared.group.Bar.Bar, declared.group.BarGroup.BarGroup, declared.chart.BarChart.BarChart}
 use Rattle.rtui_sparkline.specs.Levels.{left_at, row_from_below}
 use Rattle.rtui_bars.specs.BarAreas.{rows_at, middle_columns, cells_along, bar_part, area_behind}
@@ -95,8 +96,9 @@ module _ (c : BarChart) (narrow : HasNarrowGroups c) where
       let labelled = long-label-stays bar.label (rows_at 0 1 (first_columns (label_columns c) r)) is.filled is.labelled
       texts.label filled is.label in
       let text = text_of_bar bar.value bar.text_value in
-      plain-done (nat_lt 0 bars.width) (WritesOver (patch c.value_style bar.value_style) text n (rows_at 0 1 bars)) is.labelled new
-      labelled (over-stays (patch c.value_style bar.value_style) text n (rows_at 0 1 bars) is.labelled new texts.value labelled)
+      let own = patch c.value_style bar.value_style in
+      plain-done (nat_lt 0 bars.width) (WritesOver own text n (rows_at 0 1 bars)) is.labelled new
+      labelled (over-stays own text n (rows_at 0 1 bars) is.labelled new texts.value labelled)
       is.value
 
   bar-stays : (d : Direction) (bar : Bar) (r : Rect) (old new : BufferData) → HasNarrowBarTexts bar → IsPlainFrom 0 old
@@ -137,7 +139,7 @@ module _ (c : BarChart) (narrow : HasNarrowGroups c) where
       groups-stay (area_behind c.direction c.group_gap (after_bars c r bars)) groups is.between new
       (All-tail HasNarrowGroupTexts group groups texts) labelled is.second
 
-pub chart-plain : (c : BarChart) (area : Rect) (old new : BufferData) → IsPlainIfBox c.block → HasNarrowGroups c
+pub chart-plain : (c : BarChart) (area : Rect) (old new : BufferData) → IsNarrowIfBox c.block → HasNarrowGroups c
     → IsPlainFrom 0 old → RendersBarChart c area old new → IsPlainFrom 0 new
 chart-plain c area old new box narrow plain is =
     plain-inside c.style c.block (ShowsChart c) area old new box plain (λ r framed shown cells shows.

@@ -16,7 +16,8 @@ use Rattle.ratatui_core.specs.declared.layout.Direction.TheVariants.{Horizontal,
 use Rattle.ratatui_core.specs.{Buffer.IsStyled}
 use Rattle.ratatui_core.specs.Buffer.{text_width, HasNarrowGraphemes}
 use Rattle.rtui_boxes.specs.Lines.{RendersIfLine, IsNarrowIfLine}
-use Rattle.rtui_boxes.specs.Titles.{InTurn, DoesIf, RendersTitle, title_at, title_width, first_columns, without_first}
+use Rattle.rtui_boxes.specs.Titles.{InTurn, DoesIf, RendersTitle, title_at, title_width, first_columns}
+use Rattle.rtui_boxes.specs.Titles.{without_first}
 use Rattle.rtui_boxes.specs.Framed.{RendersInFrame}
 use Rattle.rtui_bars.specs.{declared.group.Bar.Bar, declared.group.BarGroup.BarGroup}
 use Rattle.rtui_bars.specs.{declared.chart.BarChart.BarChart, declared.chart.Measures.Measures}
@@ -38,10 +39,10 @@ pub record IsNewBarChartIn (d : Direction) (groups : List BarGroup) (c : BarChar
   pub one_apart : c.bar_gap ≡ 1
   pub no_group_gap : c.group_gap ≡ 0
   pub levels : bar_texts c.bar_set ≡ bar_levels
-  pub plain_bars : c.bar_style ≡ new_style
-  pub plain_values : c.value_style ≡ new_style
-  pub plain_labels : c.label_style ≡ new_style
-  pub plain : c.style ≡ new_style
+  pub unstyled_bars : c.bar_style ≡ new_style
+  pub unstyled_values : c.value_style ≡ new_style
+  pub unstyled_labels : c.label_style ≡ new_style
+  pub unstyled : c.style ≡ new_style
   pub by_values : c.max ≡ None
   pub way : c.direction ≡ d
 
@@ -175,9 +176,9 @@ pub record WritesOver (style : Style) (text : List ℕ) (n : ℕ) (r : Rect) (ol
   pub pieces : PaintsPieces (corner r) (pieces_at old.area r.x r.width new_style text) old written
   pub over : IsStyled (first_columns (min n (text_columns text)) r) style written new
 
--- a horizontal bar in its rows of an area: its cells right of the labels, its label in the first row, as it is
--- styled and aligned itself, and its value in the first row from the left on, in its own style as far as the
--- bar goes; no value without columns
+-- a horizontal bar in its rows of an area: its cells right of the labels, its label in the first row, as it
+-- is styled and aligned itself, and its value in the first row from the left on, in its own style as far as
+-- the bar goes; no value without columns
 pub record RendersLongBar (c : BarChart) (bar : Bar) (r : Rect) (old new : BufferData) : Type 0 where
   pub filled : BufferData
   pub labelled : BufferData

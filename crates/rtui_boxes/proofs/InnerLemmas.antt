@@ -4,16 +4,16 @@ use Rattle.std.proofs.lemmas.Bool.{cases_lt}
 use Rattle.ratatui_core.specs.Layout.{Rect, EdgesFit, IsInside, intersected}
 use Rattle.ratatui_core.specs.{Style.Style, Buffer.BufferData, Buffer.IsPlainFrom, Buffer.IsSettledBuffer, Widgets.IsClipped}
 use Rattle.ratatui_core.proofs.BufferLemmas.{settled-plain}
-use Rattle.rtui_boxes.specs.{declared.block.Block.Block, Boxes.IsBoxArea, Boxes.IsPlainIfBox}
+use Rattle.rtui_boxes.specs.{declared.block.Block.Block, Boxes.IsBoxArea, Boxes.IsNarrowIfBox}
 use Rattle.rtui_boxes.specs.Framed.{inner_if, RendersIfBox, IsFramed, IsBare, RendersInFrame}
 use Rattle.rtui_boxes.proofs.{BoxLemmas.box-area, FrameLemmas.inner-in, PlainBoxLemmas.plain-laid, PlainBoxLemmas.plain-box}
 
-plain-boxed : (o : Option Block) (r : Rect) (old new : BufferData) → IsPlainIfBox o → IsPlainFrom 0 old → RendersIfBox o r old new
-    → IsPlainFrom 0 new
+plain-boxed : (o : Option Block) (r : Rect) (old new : BufferData) → IsNarrowIfBox o → IsPlainFrom 0 old
+    → RendersIfBox o r old new → IsPlainFrom 0 new
 plain-boxed None r old new is plain same = rw same plain
 plain-boxed (Some b) r old new is plain renders = plain-box b r old new is plain renders
 
-pub plain-framed : (style : Style) (o : Option Block) (r : Rect) (old new : BufferData) → IsPlainIfBox o → IsPlainFrom 0 old
+pub plain-framed : (style : Style) (o : Option Block) (r : Rect) (old new : BufferData) → IsNarrowIfBox o → IsPlainFrom 0 old
     → IsFramed style o r old new → IsPlainFrom 0 new
 plain-framed style o r old new is plain frame =
     plain-boxed o r frame.laid new is (plain-laid r style old frame.laid frame.styled plain) frame.boxed
@@ -51,7 +51,7 @@ bare-or r bare some =
 
 -- of plain cells come plain ones, if what is done inside leaves such
 pub plain-inside : (style : Style) (o : Option Block) (f : Rect → BufferData → BufferData → Type 0) (area : Rect)
-    (old new : BufferData) → IsPlainIfBox o → IsPlainFrom 0 old
+    (old new : BufferData) → IsNarrowIfBox o → IsPlainFrom 0 old
     → ((r : Rect) (s t : BufferData) → IsPlainFrom 0 s → f r s t → IsPlainFrom 0 t) → RendersInFrame style o f area old new
     → IsPlainFrom 0 new
 plain-inside style o f area old new box plain keeps is =
@@ -64,7 +64,7 @@ plain-inside style o f area old new box plain keeps is =
 
 -- of plain cells comes a settled buffer, if what is done inside leaves one
 pub settled-frame : (style : Style) (o : Option Block) (f : Rect → BufferData → BufferData → Type 0) (area : Rect)
-    (old new : BufferData) → EdgesFit old.area → IsPlainFrom 0 old → IsPlainIfBox o
+    (old new : BufferData) → EdgesFit old.area → IsPlainFrom 0 old → IsNarrowIfBox o
     → ((r : Rect) (s t : BufferData) → IsBoxArea r → IsInside r s.area → EdgesFit s.area → IsPlainFrom 0 s → f r s t
     → IsSettledBuffer t) → RendersInFrame style o f area old new → IsSettledBuffer new
 settled-frame style o f area old new edges plain box keeps is =

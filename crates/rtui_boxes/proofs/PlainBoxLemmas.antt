@@ -1,4 +1,4 @@
--- A plain box keeps cells plain.
+-- A narrow box keeps cells plain.
 use Rattle.std.proofs.Common.{◌≡◌, ℕ, ◌+◌, ◌-◌, ◌/◌, ◌==◌, ◌<◌, ◌≤◌, ◌⊎◌, ⊎_elim, inl, inr, Bool, true, false, if◌then◌else◌}
 use Rattle.std.proofs.Common.{nat_le, List, [], ◌∷◌, ◌++◌, filter, reverse, All, sym, subst, arith, lit<}
 use Rattle.std.proofs.lemmas.{Bool.cases_lt, List.reverse-append}
@@ -18,7 +18,7 @@ use Rattle.rtui_boxes.specs.Titles.{PlacedTitle, RendersTitles, title_at, title_
 use Rattle.rtui_boxes.specs.Titles.{without_first, without_last, shown_width, side_of, aligned, from_left, from_right}
 use Rattle.rtui_boxes.specs.Titles.{from_outside, from_centre}
 use Rattle.rtui_boxes.specs.Boxes.{Stroke, strokes, stroked, strikes, drawn, is_in, box_cell, is_placed, lines_placed, row_titles}
-use Rattle.rtui_boxes.specs.Boxes.{placed_titles, titles_area, IsPlainBox, RendersTitled, RendersBlock}
+use Rattle.rtui_boxes.specs.Boxes.{placed_titles, titles_area, IsNarrowBox, RendersTitled, RendersBlock}
 
 plain-symbol : (c : Cell) → IsPlain c → text_width (symbol_text c.symbol) ≤ 1
 unfolding width_of
@@ -40,7 +40,7 @@ plain-stroked b (s ∷ ss) p c all is =
     (plain-if (strikes s p) (drawn b.merge_borders b.border_style s.symbol c) c
     (plain-drawn b.merge_borders b.border_style s.symbol c is all.0) is)
 
-narrow-strokes : (b : Block) (r : Rect) → IsPlainBox b → AreNarrow (strokes b r)
+narrow-strokes : (b : Block) (r : Rect) → IsNarrowBox b → AreNarrow (strokes b r)
 narrow-strokes b r is = let all = is.symbols in (
   all 4 [] (lit< tt),
   (
@@ -55,7 +55,7 @@ narrow-strokes b r is = let all = is.symbols in (
   ),
 )
 
-plain-cell : (b : Block) (r : Rect) (p : Position) (c : Cell) → IsPlainBox b → IsPlain c → IsPlain (box_cell b r p c)
+plain-cell : (b : Block) (r : Rect) (p : Position) (c : Cell) → IsNarrowBox b → IsPlain c → IsPlain (box_cell b r p c)
 plain-cell b r p c is plain =
     plain-if (is_in r p) (stroked b (strokes b r) p (styled b.style c)) c
     (plain-stroked b (strokes b r) p (styled b.style c) (narrow-strokes b r is) (plain-styled b.style c plain)) plain
@@ -168,7 +168,7 @@ plain-titles style (t ∷ ts) old new narrow plain made =
     made.first in
     plain-titles style ts made.between new (All-tail (λ (t : PlacedTitle). IsNarrowLine t.line) t ts narrow) shown made.second
 
-plain-titled : (b : Block) (r : Rect) (old new : BufferData) → IsPlainBox b → IsPlainFrom 0 old → RendersTitled b r old new
+plain-titled : (b : Block) (r : Rect) (old new : BufferData) → IsNarrowBox b → IsPlainFrom 0 old → RendersTitled b r old new
     → IsPlainFrom 0 new
 plain-titled b r old new is plain titled =
     let framed : IsPlainFrom 0 titled.framed = λ p in_framed le.
@@ -179,8 +179,8 @@ plain-titled b r old new is plain titled =
     (narrow-row b (titles_area b r Top) Top is.titles) (narrow-row b (titles_area b r Bottom) Bottom is.titles))
     framed titled.titles
 
--- a plain box on plain cells
-pub plain-box : (b : Block) (area : Rect) (old new : BufferData) → IsPlainBox b → IsPlainFrom 0 old → RendersBlock b area old new
+-- a narrow box on plain cells
+pub plain-box : (b : Block) (area : Rect) (old new : BufferData) → IsNarrowBox b → IsPlainFrom 0 old → RendersBlock b area old new
     → IsPlainFrom 0 new
 plain-box b area old new is plain renders =
     let part = intersected area old.area in

@@ -24,13 +24,13 @@ use Rattle.rtui_boxes.specs.{Titles.from_right, Titles.titles_width, Lines.IsSho
 -- a box with these sides and plain lines, without titles, styles and padding
 pub record IsNewBlock (sides : ℕ) (b : Block) : Type 0 where
   pub untitled : b.titles.items ≡ []
-  pub titles_plain : b.titles_style ≡ new_style
+  pub titles_unstyled : b.titles_style ≡ new_style
   pub titles_left : b.titles_alignment ≡ Left
   pub titles_top : b.titles_position ≡ Top
   pub borders : sides_of b.borders ≡ sides
   pub lines : border_texts b.border_set ≡ plain_border
-  pub borders_plain : b.border_style ≡ new_style
-  pub plain : b.style ≡ new_style
+  pub borders_unstyled : b.border_style ≡ new_style
+  pub unstyled : b.style ≡ new_style
   pub unpadded : b.padding ≡ record { left = 0; right = 0; top = 0; bottom = 0 }
   pub replaces : b.merge_borders ≡ Replace
 
@@ -306,11 +306,11 @@ abbrev pub AreShortCells : BufferData → Type 0
 AreShortCells s = (p : Position) → HasPosition s.area p → IsShort (symbol_text (cell_in s p).symbol)
 
 -- a box whose symbols, and whose titles' graphemes, take at most one column each; it may have no titles
-pub record IsPlainBox (b : Block) : Type 0 where
+pub record IsNarrowBox (b : Block) : Type 0 where
   pub titles : All (λ title. IsNarrowLine title.line) b.titles.items
   pub symbols : All (λ symbol. text_width symbol ≤ 1) (border_texts b.border_set)
 
--- the box is plain, if there is one
-abbrev pub IsPlainIfBox : Option Block → Type 0
-IsPlainIfBox None = ⊤
-IsPlainIfBox (Some b) = IsPlainBox b
+-- so it is with the box, if there is one
+abbrev pub IsNarrowIfBox : Option Block → Type 0
+IsNarrowIfBox None = ⊤
+IsNarrowIfBox (Some b) = IsNarrowBox b

@@ -5,7 +5,7 @@ ghost use Rattle.ratatui_core.specs.Layout.{EdgesFit, IsInside};
 ghost use Rattle.ratatui_core.specs.Buffer.{BufferData, IsPlainFrom, IsSettledBuffer};
 ghost use Rattle.ratatui_core.specs.Layout.{Rect};
 ghost use Rattle.rtui_boxes.specs.declared.block.Block.{Block};
-ghost use Rattle.rtui_boxes.specs.Boxes.{RendersBlock, IsPlainBox, inner_of, HasShortSymbols, AreShortCells};
+ghost use Rattle.rtui_boxes.specs.Boxes.{RendersBlock, IsNarrowBox, inner_of, HasShortSymbols, AreShortCells};
 ghost use Rattle.rtui_boxes.specs.Boxes.{IsShortBlock, AreShortAnywhere};
 ghost use Rattle.rtui_boxes.specs.Clears.{RendersClear};
 ghost use Rattle.rtui_boxes.specs.declared.border_type.BorderType.{BorderType};
@@ -19,8 +19,8 @@ use crate::title::TitlePosition;
 /// A box of symbols of one column, with titles of such symbols or without, leaves a buffer of plain
 /// cells one of plain cells, however its borders are joined with what stands there.
 #[tactic(auto, using(crate::proofs::PlainBoxLemmas::box_steps))]
-pub fn plain_boxes_keep_cells_plain()
-    ensures { (b : Block) (area : Rect) (old new : BufferData) → IsPlainBox b → IsPlainFrom 0 old
+pub fn narrow_boxes_keep_cells_plain()
+    ensures { (b : Block) (area : Rect) (old new : BufferData) → IsNarrowBox b → IsPlainFrom 0 old
         → RendersBlock b area old new → IsPlainFrom 0 new }
 {}
 

@@ -14,7 +14,7 @@ use Rattle.ratatui_core.specs.declared.symbols.Marker.TheVariants.{Custom}
 use Rattle.ratatui_core.specs.Buffer.{BufferData, Cell, with_symbol, text_width, width_of, IsPlain, IsPlainFrom}
 use Rattle.ratatui_core.specs.{Buffer.IsNarrowLine, Widgets.RendersLine}
 use Rattle.ratatui_core.proofs.BufferLemmas.{plain-with_symbol, plain-changed, line-stays}
-use Rattle.rtui_boxes.specs.{Boxes.IsPlainIfBox}
+use Rattle.rtui_boxes.specs.{Boxes.IsNarrowIfBox}
 use Rattle.rtui_boxes.proofs.{InnerLemmas.plain-inside, PlainBoxLemmas.plain-laid, PlainBoxLemmas.plain-done}
 use Rattle.rtui_dots.specs.declared.{scale.Scale.Scale, painter.DotCell.DotCell}
 use Rattle.rtui_dots.specs.Grids.{Dot as GridDot, has_point, has_dot, far, dot_number, index_of, is_lower, with_dot_number}
@@ -257,7 +257,7 @@ canvas-stays c r old new dots labels plain is =
     let drawn = layers-stay (scale_of c r) dots r (layers_of (scale_of c r) c.drawings.now) is.laid is.drawn laid is.layers in
     labels-stay (scale_of c r) r c.labels.now is.drawn new labels drawn is.labels
 
-pub canvas-plain : (c : Canvas) (area : Rect) (old new : BufferData) → IsPlainIfBox c.block → HasNarrowDots c.marker
+pub canvas-plain : (c : Canvas) (area : Rect) (old new : BufferData) → IsNarrowIfBox c.block → HasNarrowDots c.marker
     → All (λ (l : Label). IsNarrowLine l.line) c.labels.now → IsPlainFrom 0 old → RendersCanvas c area old new
     → IsPlainFrom 0 new
 canvas-plain c area old new box dots labels plain is =

@@ -13,9 +13,10 @@ use Rattle.ratatui_core.specs.Buffer.{BufferData, text_width, cell_in, style_of,
 use Rattle.ratatui_core.specs.Buffer.{ChangesEach}
 use Rattle.ratatui_core.proofs.BufferLemmas.{plain-styled, plain-with_symbol, plain-changed, line-stays}
 use Rattle.rtui_boxes.specs.declared.title.Title.{Title}
-use Rattle.rtui_boxes.specs.{declared.block.Block.Block, Boxes.IsPlainBox, Boxes.IsPlainIfBox, Boxes.IsNewBlock}
+use Rattle.rtui_boxes.specs.{declared.block.Block.Block, Boxes.IsNarrowBox, Boxes.IsNarrowIfBox, Boxes.IsNewBlock}
 use Rattle.rtui_boxes.specs.{Titles.PlacedTitle, Titles.title_at, Lines.IsNarrowIfLine}
-use Rattle.rtui_boxes.proofs.{InnerLemmas.plain-inside, PlainBoxLemmas.plain-box, PlainBoxLemmas.plain-laid, PlainBoxLemmas.plain-title}
+use Rattle.rtui_boxes.proofs.{InnerLemmas.plain-inside, PlainBoxLemmas.plain-box, PlainBoxLemmas.plain-laid}
+use Rattle.rtui_boxes.proofs.{PlainBoxLemmas.plain-title}
 use Rattle.rtui_canvas.specs.{declared.label.Label.Label, Canvases.HasNarrowDots}
 use Rattle.rtui_canvas.proofs.NarrowCanvasLemmas.{canvas-plain}
 use Rattle.rtui_chart.specs.declared.{axis.Axis.Axis, dataset.Dataset.Dataset, chart.Chart.Chart, layout.ChartLayout.ChartLayout}
@@ -97,7 +98,7 @@ datasets-stay ch g [] old new narrow plain same = rw same plain
 datasets-stay ch g (d ∷ ds) old new narrow plain is =
     let c = is.first.0 in
     let its = is.first.1 in
-    let box : IsPlainIfBox c.block = let P : Option Block → Type 0 = λ b. IsPlainIfBox b in subst P (sym its.no_box) tt in
+    let box : IsNarrowIfBox c.block = let P : Option Block → Type 0 = λ b. IsNarrowIfBox b in subst P (sym its.no_box) tt in
     let marks : HasNarrowDots c.marker = let P : Marker → Type 0 = λ m. HasNarrowDots m in
     subst P (sym its.marker) (All-head IsNarrowDataset d ds narrow).marks in
     let labels : All (λ (l : Label). IsNarrowLine l.line) c.labels.now =
@@ -124,7 +125,7 @@ names-narrow (d ∷ ds) narrow =
     name-narrow d.name d.style (legend_names ds) (All-head IsNarrowDataset d ds narrow).name
     (names-narrow ds (All-tail IsNarrowDataset d ds narrow))
 
--- a box of plain lines without titles is plain
+-- a box of plain lines without titles is narrow
 abbrev is_one : List ℕ → Bool
 is_one symbol = nat_le (text_width symbol) 1
 
@@ -138,8 +139,8 @@ border-one : list_all is_one plain_border ≡ true
 unfolding text_width unicode_width
 border-one = refl
 
-new-box-plain : (b : Block) → IsNewBlock 15 b → IsPlainBox b
-new-box-plain b is =
+new-box-narrow : (b : Block) → IsNewBlock 15 b → IsNarrowBox b
+new-box-narrow b is =
     let P : List (List ℕ) → Type 0 = λ symbols. All (λ symbol. text_width symbol ≤ 1) symbols in
     let Q : List Title → Type 0 = λ titles. All (λ (t : Title). IsNarrowLine t.line) titles in
     record {
@@ -151,7 +152,7 @@ legend-stays : (style : Style) (names : List LineData) (r : Rect) (old new : Buf
     → IsPlainFrom 0 old → RendersLegendIn style names r old new → IsPlainFrom 0 new
 legend-stays style names r old new narrow plain is =
     let laid = plain-laid r style old is.laid is.styled plain in
-    let boxed = plain-box is.block r is.laid is.boxed (new-box-plain is.block is.bordered) laid is.box in
+    let boxed = plain-box is.block r is.laid is.boxed (new-box-narrow is.block is.bordered) laid is.box in
     numbered-stay (name_at r) (λ i line fits. fits) 0 names is.boxed new narrow boxed is.listed
 
 plot-stays : (c : Chart) (r : Rect) (old new : BufferData) → IsNarrowChart c → IsPlainFrom 0 old → ShowsPlot c r old new
@@ -168,7 +169,7 @@ plot-stays c r old new narrow plain is =
     unless-stays _ (RendersLegendIn style names _) is.titled new titled
     (legend-stays style names _ is.titled new (names-narrow c.datasets.items narrow.datasets) titled) is.legend
 
-pub chart-plain : (c : Chart) (area : Rect) (old new : BufferData) → IsPlainIfBox c.block → IsNarrowChart c → IsPlainFrom 0 old
+pub chart-plain : (c : Chart) (area : Rect) (old new : BufferData) → IsNarrowIfBox c.block → IsNarrowChart c → IsPlainFrom 0 old
     → RendersChart c area old new → IsPlainFrom 0 new
 chart-plain c area old new box narrow plain is =
     plain-inside c.style c.block (ShowsPlot c) area old new box plain

@@ -15,7 +15,7 @@ pub record IsNewAxis (a : Axis) : Type 0 where
   pub high : a.high ≡ pos 0
   pub no_labels : a.labels ≡ None
   pub at_left : a.labels_alignment ≡ Left
-  pub plain : a.style ≡ new_style
+  pub unstyled : a.style ≡ new_style
 
 -- the labels of an axis; one that was given none has none
 abbrev pub axis_labels : Axis → List LineData
@@ -27,7 +27,7 @@ pub record IsNewDataset (d : Dataset) : Type 0 where
   pub no_data : d.points.now ≡ []
   pub dots : d.marker ≡ Dot
   pub scattered : d.graph_type ≡ Scatter
-  pub plain : d.style ≡ new_style
+  pub unstyled : d.style ≡ new_style
 
 -- a chart of these data sets, without a box and styles, its legend at the upper right, over a quarter at most
 pub record IsNewChart (ds : List Dataset) (c : Chart) : Type 0 where
@@ -35,6 +35,6 @@ pub record IsNewChart (ds : List Dataset) (c : Chart) : Type 0 where
   pub no_box : c.block ≡ None
   pub new_x : IsNewAxis c.x_axis
   pub new_y : IsNewAxis c.y_axis
-  pub plain : c.style ≡ new_style
+  pub unstyled : c.style ≡ new_style
   pub legend : c.legend_position ≡ Some TopRight
   pub quarter : c.hidden_legend_constraints ≡ (Ratio 1 4, Ratio 1 4)

@@ -8,7 +8,7 @@ use Rattle.ratatui_core.specs.Buffer.{IsPlainOver, IsPlainFrom, IsNarrowLine, Is
 use Rattle.rtui_changes.proofs.NarrowTextLemmas.{line-plain}
 use Rattle.ratatui_core.proofs.BufferLemmas.{width-empty, text-plain, changed-plain, styled-plain, parts-plain}
 use Rattle.ratatui_core.proofs.BufferLemmas.{over-all, from-over}
-use Rattle.rtui_boxes.specs.{Boxes.IsPlainIfBox, Framed.inner_if}
+use Rattle.rtui_boxes.specs.{Boxes.IsNarrowIfBox, Framed.inner_if}
 use Rattle.rtui_boxes.proofs.InnerLemmas.{plain-framed, bare-or}
 use Rattle.rtui_list.specs.{declared.list.List.List as ListData, declared.item.ListItem.ListItem}
 use Rattle.rtui_list.specs.{declared.state.ListState.ListState}
@@ -115,7 +115,7 @@ shown-plain l s t r old new narrow plain is =
     (λ (le : length l.items.items ≤ 0). rw (is.no_items (empty-list l.items.items le)).0 plain)
     (cases_lt 0 (length l.items.items))
 
-pub list-plain : (l : ListData) (s t : ListState) (area : Rect) (old new : BufferData) → IsPlainIfBox l.block → HasNarrowItems l
+pub list-plain : (l : ListData) (s t : ListState) (area : Rect) (old new : BufferData) → IsNarrowIfBox l.block → HasNarrowItems l
     → IsPlainFrom 0 old → RendersList l s t area old new → IsPlainFrom 0 new
 list-plain l s t area old new box narrow plain is =
     let part = intersected area old.area in

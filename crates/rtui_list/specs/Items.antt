@@ -21,9 +21,9 @@ use Rattle.rtui_list.specs.Windows.{item_rows, rows_before, IsCount, IsOffset, l
 pub record IsNewList (items : List ListItem) (l : ListData) : Type 0 where
   pub items_are : l.items.items ≡ items
   pub no_box : l.block ≡ None
-  pub plain : l.style ≡ new_style
+  pub unstyled : l.style ≡ new_style
   pub from_above : l.direction ≡ TopToBottom
-  pub plain_highlight : l.highlight_style ≡ new_style
+  pub unstyled_highlight : l.highlight_style ≡ new_style
   pub no_symbol : l.highlight_symbol ≡ None
   pub once : l.repeat_highlight_symbol ≡ false
   pub spaced : l.highlight_spacing ≡ WhenSelected

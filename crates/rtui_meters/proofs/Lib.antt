@@ -1,5 +1,3 @@
 pub mod MeterLemmas
-pub mod ScrollbarLemmas
-pub mod SetLemmas
 pub mod SettledLemmas
 pub mod WholeLemmas

@@ -1,34 +1,29 @@
--- Gauges and scroll bars of narrow symbols keep a buffer settled.
+-- Gauges of narrow symbols keep a buffer settled.
 use Rattle.std.proofs.Common.{◌≡◌, ℕ, zero, suc, ◌+◌, ◌-◌, ◌<◌, ◌≤◌, true, ◌&&◌, nat_lt, ◌==◌, List}
-use Rattle.std.proofs.Common.{[], ◌∷◌, ◌⊎◌, ⊎_elim, inl, inr, Option, Some, None, refl, subst, arith, codes, slice_index_or, map}
+use Rattle.std.proofs.Common.{[], ◌∷◌, inr, refl, subst, arith, codes, slice_index_or, map}
 use Rattle.std.proofs.Common.{drop}
-use Rattle.std.specs.{Borrow.Bor, List.list_all}
-use Rattle.std.proofs.lemmas.Bool.{cases_lt, and_parts, and_from}
+use Rattle.std.specs.{List.list_all}
+use Rattle.std.proofs.lemmas.Bool.{and_parts, and_from}
 use Rattle.std.proofs.Math.ListN.{get_or-map}
-use Rattle.ratatui_core.specs.Layout.{Rect, Position, EdgesFit, IsInside, intersected, corner}
+use Rattle.ratatui_core.specs.Layout.{Rect, Position, EdgesFit, IsInside, corner}
 use Rattle.ratatui_core.specs.{Style.Style, declared.style.Color.Color, Symbols.is_narrow, Symbols.block_levels}
 use Rattle.ratatui_core.specs.Buffer.{BufferData, Cell, with_symbol, width_of, text_width, columns, IsPlain, IsPlainFrom}
 use Rattle.ratatui_core.specs.Buffer.{IsSettledBuffer}
 use Rattle.ratatui_core.proofs.BufferLemmas.{narrow-test, blocks-narrow, plain-styled, plain-with_symbol, plain-if, plain-changed}
 use Rattle.ratatui_core.proofs.BufferLemmas.{painted-settled, text-keeps, PaintsByColumns-paints, ready-row, ready-plain}
 use Rattle.ratatui_core.proofs.BufferLemmas.{ready-next, changed-settled}
-use Rattle.rtui_boxes.specs.Boxes.{IsBoxArea, IsPlainIfBox}
+use Rattle.rtui_boxes.specs.Boxes.{IsBoxArea, IsNarrowIfBox}
 use Rattle.rtui_boxes.proofs.{PaintLemmas.part-right, PaintLemmas.part-has_row, PaintLemmas.part-starts}
-use Rattle.rtui_boxes.proofs.{InnerLemmas.settled-frame, InnerLemmas.bare-or, PlainBoxLemmas.plain-text}
+use Rattle.rtui_boxes.proofs.{InnerLemmas.settled-frame}
 use Rattle.rtui_meters.specs.{declared.gauge.Gauge.Gauge, declared.gauge.Fill.Fill, declared.gauge.TheConstants.FULL_BLOCK}
 use Rattle.rtui_meters.specs.{declared.gauge.TheConstants.TIPS}
 use Rattle.rtui_meters.specs.{declared.line_gauge.LineGauge.LineGauge, declared.line_gauge.LineFill.LineFill}
-use Rattle.rtui_meters.specs.{declared.scrollbar.Scrollbar.Scrollbar}
 use Rattle.rtui_meters.specs.LineGauges.{line_label_pieces, line_part, line_fill, line_cell, FillsLine, RendersLineGauge}
 use Rattle.rtui_meters.specs.LineGauges.{HasNarrowLine}
-use Rattle.rtui_meters.specs.{declared.scrollbar.Marks.Marks, declared.scrollbar.state.ScrollbarState.ScrollbarState}
 use Rattle.rtui_meters.specs.{Shares.eighths_of}
-use Rattle.rtui_meters.specs.Scrollbars.{bar_length, track_length, mark_of, marks_of, position_on_bar, PaintsIfSymbol, PaintsMarks}
-use Rattle.rtui_meters.specs.Scrollbars.{MarksBar, RendersScrollbar, IsNarrowIf, HasNarrowMarks}
 use Rattle.rtui_meters.specs.Gauges.{label_part, pieces_on_bar, filled_cell, in_colors, is_under_label, text_of_label}
 use Rattle.rtui_meters.specs.Gauges.{style_of_label, FillsArea, FillsGauge, RendersAreaGauge}
 use Rattle.rtui_meters.proofs.{MeterLemmas.label-in, MeterLemmas.label-row, MeterLemmas.label-column, MeterLemmas.pieces-keep}
-use Rattle.rtui_meters.proofs.ScrollbarLemmas.{mark-has}
 
 pub full-narrow : is_narrow FULL_BLOCK.now ≡ true
 full-narrow = (and_parts (is_narrow FULL_BLOCK.now) (list_all is_narrow (drop 1 block_levels)) blocks-narrow).0
@@ -99,7 +94,7 @@ settled-area g text style r old new box inside edges plain is =
     is.label
 
 pub settled-gauge : (g : Gauge) (area : Rect) (old new : BufferData) → EdgesFit old.area → IsPlainFrom 0 old
-    → IsPlainIfBox g.block → RendersAreaGauge g area old new → IsSettledBuffer new
+    → IsNarrowIfBox g.block → RendersAreaGauge g area old new → IsSettledBuffer new
 settled-gauge g area old new edges plain box is =
     settled-frame g.style g.block (FillsGauge g) area old new edges plain box
     (λ r s t some inside fit cells fills. settled-area g (text_of_label g g.label)
@@ -131,43 +126,7 @@ settled-line g r old new narrow box inside edges plain is =
     (plain-line (line_fill g r old.area) narrow.filled narrow.unfilled) is.line
 
 pub settled-line_gauge : (g : LineGauge) (area : Rect) (old new : BufferData) → EdgesFit old.area → IsPlainFrom 0 old
-    → IsPlainIfBox g.block → HasNarrowLine g → RendersLineGauge g area old new → IsSettledBuffer new
+    → IsNarrowIfBox g.block → HasNarrowLine g → RendersLineGauge g area old new → IsSettledBuffer new
 settled-line_gauge g area old new edges plain box narrow is =
     settled-frame g.style g.block (FillsLine g) area old new edges plain box (λ r s t some inside fit cells fills.
     settled-line g r s t narrow some inside fit cells fills) is
-
--- symbols of narrow graphemes, one after the other
-plain-symbol-if : (r : Rect) (p : Position) (q : Option (Bor (List ℕ)) × Style) (old new : BufferData) → IsNarrowIf q.0
-    → IsPlainFrom 0 old → PaintsIfSymbol r p q old new → IsPlainFrom 0 new
-plain-symbol-if r p (None, style) old new narrow plain same = rw same plain
-plain-symbol-if r p (Some symbol, style) old new narrow plain is =
-    plain-text p p.x (r.x + r.width - p.x) style symbol.now old new narrow plain is
-
-plain-marks : (m : Marks) (r : Rect) (n : ℕ) (old new : BufferData) → HasNarrowMarks m.bar → IsPlainFrom 0 old
-    → PaintsMarks m r n old new → IsPlainFrom 0 new
-plain-marks m r zero old new narrow plain same = rw same plain
-plain-marks m r (suc n) old new narrow plain is =
-    plain-symbol-if r (position_on_bar m n) (mark_of m n) is.between new (mark-has IsNarrowIf m n narrow)
-    (plain-marks m r n old is.between narrow plain is.first) is.second
-
-plain-bar : (b : Scrollbar) (s : ScrollbarState) (r : Rect) (old new : BufferData) → HasNarrowMarks b → IsPlainFrom 0 old
-    → MarksBar b s r old new → IsPlainFrom 0 new
-plain-bar b s r old new narrow plain is =
-    let same : (s.content_length ≡ 0) ⊎ (track_length b (bar_length b.orientation r) ≡ 0)
-    → IsPlainFrom 0 new = λ none. rw (is.none none) plain in
-    ⊎_elim
-    (λ (some : 0 < s.content_length).
-    ⊎_elim
-    (λ (room : 0 < track_length b (bar_length b.orientation r)).
-    plain-marks (marks_of b s r) r (bar_length b.orientation r) old new narrow plain (is.some some room))
-    (λ (le : track_length b (bar_length b.orientation r) ≤ 0). same (inr (omega arith)))
-    (cases_lt 0 (track_length b (bar_length b.orientation r))))
-    (λ (le : s.content_length ≤ 0). same (inl (omega arith)))
-    (cases_lt 0 s.content_length)
-
--- a scroll bar of narrow symbols keeps cells plain
-pub plain-scrollbar : (b : Scrollbar) (s t : ScrollbarState) (area : Rect) (old new : BufferData) → HasNarrowMarks b
-    → IsPlainFrom 0 old → RendersScrollbar b s t area old new → IsPlainFrom 0 new
-plain-scrollbar b s t area old new narrow plain is =
-    bare-or (intersected area old.area) (λ none. rw (is.bar.nothing none) plain)
-    (λ w h. plain-bar b s (intersected area old.area) old new narrow plain (is.bar.part w h))

@@ -17,8 +17,8 @@ pub record IsNewGauge (g : Gauge) : Type 0 where
   pub nothing : g.share ≡ share_of 0 1
   pub unlabelled : g.label ≡ None
   pub whole_columns : g.use_unicode ≡ false
-  pub plain : g.style ≡ new_style
-  pub plain_bar : g.gauge_style ≡ new_style
+  pub unstyled : g.style ≡ new_style
+  pub unstyled_bar : g.gauge_style ≡ new_style
 
 -- how many columns of an area are filled whole
 abbrev pub full_columns : Gauge → ℕ → ℕ

@@ -16,9 +16,9 @@ pub record IsNewLineGauge (g : LineGauge) : Type 0 where
   pub unlabelled : g.label ≡ None
   pub filled_line : g.filled_symbol.now ≡ PLAIN_LINE.now
   pub unfilled_line : g.unfilled_symbol.now ≡ PLAIN_LINE.now
-  pub plain : g.style ≡ new_style
-  pub plain_filled : g.filled_style ≡ new_style
-  pub plain_unfilled : g.unfilled_style ≡ new_style
+  pub unstyled : g.style ≡ new_style
+  pub unstyled_filled : g.filled_style ≡ new_style
+  pub unstyled_unfilled : g.unfilled_style ≡ new_style
 
 -- the pieces of a label that are painted from an area's corner on: without a label those of the percentage
 abbrev pub pieces_of_label : LineGauge → Option LineData → Rect → Rect → List Piece

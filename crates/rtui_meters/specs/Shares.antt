@@ -23,10 +23,6 @@ is_full s = nat_le (max s.whole 1) s.parts
 abbrev pub filled_part : Share → ℕ → ℕ
 filled_part s n = n * parts_of s / whole_of s
 
--- the quotient of two numbers, rounded to the nearest one
-abbrev pub rounded_quotient : ℕ → ℕ → ℕ
-rounded_quotient n d = (2 * n + d) / (2 * d)
-
 -- so much of a number, rounded to the nearest one
 abbrev pub rounded_part : Share → ℕ → ℕ
 rounded_part s n = (2 * n * parts_of s + whole_of s) / (2 * whole_of s)

@@ -6,14 +6,14 @@ use Rattle.ratatui_core.specs.Buffer.{BufferData, IsPlainFrom, IsReadyFrom, IsSe
 use Rattle.ratatui_core.specs.Buffer.{text_pieces, position_of}
 use Rattle.ratatui_core.proofs.{BufferLemmas.settled-plain, BufferLemmas.ready-plain, BufferLemmas.within-same}
 use Rattle.ratatui_core.proofs.{WidgetLemmas.within-then}
-use Rattle.rtui_boxes.specs.{declared.block.Block.Block, Boxes.IsPlainIfBox, Framed.IsFramed, Framed.RendersInFrame}
+use Rattle.rtui_boxes.specs.{declared.block.Block.Block, Boxes.IsNarrowIfBox, Framed.IsFramed, Framed.RendersInFrame}
 use Rattle.rtui_boxes.proofs.{PaintLemmas.room-is, InnerLemmas.plain-framed, InnerLemmas.framed-area}
 use Rattle.rtui_paragraph.specs.{declared.paragraph.Paragraph.Paragraph, Reflow.grapheme_columns}
 use Rattle.rtui_paragraph.specs.Paragraphs.{PaintsGrapheme, FillsText, RendersParagraph}
 
 -- a style and a box over plain cells
 module _ (style : Style) (o : Option Block) (part : Rect) (old framed : BufferData) (frame : IsFramed style o part old framed)
-    (edges : EdgesFit old.area) (plain : IsPlainFrom 0 old) (box : IsPlainIfBox o) where
+    (edges : EdgesFit old.area) (plain : IsPlainFrom 0 old) (box : IsNarrowIfBox o) where
   framed-edges : EdgesFit framed.area
   framed-edges = rw (framed-area style o part old framed frame) edges
 
@@ -25,7 +25,7 @@ module _ (style : Style) (o : Option Block) (part : Rect) (old framed : BufferDa
 
 pub paragraph-ok : {A : Type 0} (r : Result A AllocError) (p : Paragraph) (area : Rect) (old new : BufferData)
     → OnOk r (RendersInFrame p.style p.block (FillsText p) area old new)
-    → (EdgesFit old.area → IsPlainFrom 0 old → IsPlainIfBox p.block → OnOk r (IsSettledBuffer new))
+    → (EdgesFit old.area → IsPlainFrom 0 old → IsNarrowIfBox p.block → OnOk r (IsSettledBuffer new))
     → OnOk r (RendersParagraph p area old new)
 paragraph-ok (Ok x) p area old new frame settled = record { frame = frame; settled = settled }
 paragraph-ok (Err e) p area old new frame settled = tt

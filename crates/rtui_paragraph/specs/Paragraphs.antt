@@ -9,7 +9,7 @@ use Rattle.ratatui_core.specs.declared.layout.HorizontalAlignment.TheVariants.{L
 use Rattle.ratatui_core.specs.Buffer.{BufferData, IsPlainFrom, IsSettledBuffer, IsOneGrapheme, Piece}
 use Rattle.ratatui_core.specs.Buffer.{piece_of, PaintsPieces, text_pieces, position_of, HaveShortGraphemes}
 use Rattle.rtui_paragraph.specs.{declared.paragraph.Paragraph.Paragraph, declared.paragraph.Wrap.Wrap}
-use Rattle.rtui_boxes.specs.{Boxes.IsPlainIfBox, Titles.InTurn, Framed.RendersInFrame, Framed.rows_around_if}
+use Rattle.rtui_boxes.specs.{Boxes.IsNarrowIfBox, Titles.InTurn, Framed.RendersInFrame, Framed.rows_around_if}
 use Rattle.rtui_boxes.specs.{Framed.IsShortFrame}
 use Rattle.rtui_paragraph.specs.Reflow.{grapheme_columns, columns_taken, fits_row, cut_row, broken_rows}
 
@@ -134,7 +134,7 @@ FillsText p r old new = PaintsRows r r.y (rows_shown r.height p.scroll.y (paragr
 -- outside the area changes; and of a buffer of plain cells comes a settled one, if the box is plain.
 pub record RendersParagraph (paragraph : Paragraph) (area : Rect) (old new : BufferData) : Type 0 where
   pub frame : RendersInFrame paragraph.style paragraph.block (FillsText paragraph) area old new
-  pub settled : EdgesFit old.area → IsPlainFrom 0 old → IsPlainIfBox paragraph.block → IsSettledBuffer new
+  pub settled : EdgesFit old.area → IsPlainFrom 0 old → IsNarrowIfBox paragraph.block → IsSettledBuffer new
 
 -- no grapheme of a paragraph's lines takes memory
 abbrev pub HasShortText : Paragraph → Type 0

@@ -7,7 +7,7 @@ use Rattle.ratatui_core.specs.{Style.patch}
 use Rattle.ratatui_core.specs.Buffer.{BufferData, Cell, with_symbol, text_width, ChangesEach, IsPlain, IsPlainFrom}
 use Rattle.ratatui_core.specs.Widgets.{ChangesWithin}
 use Rattle.ratatui_core.proofs.BufferLemmas.{plain-styled, plain-with_symbol, plain-changed}
-use Rattle.rtui_boxes.specs.{Boxes.IsPlainIfBox}
+use Rattle.rtui_boxes.specs.{Boxes.IsNarrowIfBox}
 use Rattle.rtui_boxes.proofs.{InnerLemmas.plain-inside, WithinLemmas.changed-in}
 use Rattle.rtui_sparkline.specs.declared.sparkline.RenderDirection.{RenderDirection}
 use Rattle.rtui_sparkline.specs.declared.sparkline.RenderDirection.TheVariants.{LeftToRight, RightToLeft}
@@ -47,7 +47,7 @@ module _ (s : Sparkline) (narrow : HasNarrowBars s) where
       (with_symbol (mark_of_value s greatest r.height bar.value row) c)
       (plain-with_symbol (mark_of_value s greatest r.height bar.value row) c is (mark-narrow greatest r.height bar.value row))
 
-pub sparkline-plain : (s : Sparkline) (area : Rect) (old new : BufferData) → IsPlainIfBox s.block → HasNarrowBars s
+pub sparkline-plain : (s : Sparkline) (area : Rect) (old new : BufferData) → IsNarrowIfBox s.block → HasNarrowBars s
     → IsPlainFrom 0 old → RendersSparkline s area old new → IsPlainFrom 0 new
 sparkline-plain s area old new box narrow plain is =
     plain-inside s.style s.block (ShowsBars s) area old new box plain (λ r framed shown cells bars.

@@ -16,8 +16,8 @@ use Rattle.rtui_sparkline.specs.Levels.{row_from_below, eighths_of_value, left_a
 pub record IsNewSparkline (bars : List SparklineBar) (s : Sparkline) : Type 0 where
   pub bars_are : s.bars.items ≡ bars
   pub no_box : s.block ≡ None
-  pub plain : s.style ≡ new_style
-  pub plain_absent : s.absent_value_style ≡ new_style
+  pub unstyled : s.style ≡ new_style
+  pub unstyled_absent : s.absent_value_style ≡ new_style
   pub blank : s.absent_value_symbol.now ≡ codes " "
   pub by_values : s.max ≡ None
   pub levels : bar_texts s.bar_set ≡ bar_levels

@@ -3,7 +3,7 @@
 ghost use Rattle.std.specs.Prelude.{◌≡◌};
 ghost use Rattle.ratatui_core.specs.Layout.{Rect};
 ghost use Rattle.ratatui_core.specs.Buffer.{BufferData, IsPlainFrom};
-ghost use Rattle.rtui_boxes.specs.Boxes.{IsPlainIfBox};
+ghost use Rattle.rtui_boxes.specs.Boxes.{IsNarrowIfBox};
 ghost use Rattle.rtui_sparkline.specs.declared.sparkline.Sparkline.{Sparkline};
 ghost use Rattle.rtui_sparkline.specs.declared.sparkline.RenderDirection.{RenderDirection};
 ghost use Rattle.rtui_sparkline.specs.declared.sparkline.RenderDirection.TheVariants.{LeftToRight};
@@ -11,10 +11,10 @@ ghost use Rattle.rtui_sparkline.specs.Sparklines.{HasNarrowBars, RendersSparklin
 
 use crate::sparkline::RenderDirection;
 
-/// A sparkline of symbols of one column keeps cells plain, if it has no box or a plain one; so a
+/// A sparkline of symbols of one column keeps cells plain, if it has no box or a narrow one; so a
 /// screen can show it.
 pub fn sparklines_keep_cells_plain()
-    ensures { (s : Sparkline) (area : Rect) (old new : BufferData) → IsPlainIfBox s.block
+    ensures { (s : Sparkline) (area : Rect) (old new : BufferData) → IsNarrowIfBox s.block
         → HasNarrowBars s → IsPlainFrom 0 old → RendersSparkline s area old new
         → IsPlainFrom 0 new }
 {}

@@ -6,7 +6,8 @@ ghost use Rattle.ratatui_core.specs.Buffer.{IsShort};
 ghost use Rattle.ratatui_core.specs.Widgets.{ChangesWithin};
 ghost use Rattle.rtui_boxes.specs.Boxes.{IsBoxArea};
 ghost use Rattle.rtui_sparkline.specs.Sparklines.{IsNewSparkline, greatest_of, bars_part, ShowsBars};
-ghost use Rattle.rtui_sparkline.specs.Sparklines.{HasShortLevels, number_of_column, mark_of_value, style_of_bar};
+ghost use Rattle.rtui_sparkline.specs.Sparklines.{HasShortLevels, number_of_column, mark_of_value};
+ghost use Rattle.rtui_sparkline.specs.Sparklines.{style_of_bar};
 ghost use Rattle.rtui_sparkline.specs.Levels.{row_from_below};
 
 use crate::level::{eighths_of, left_at, level_of};

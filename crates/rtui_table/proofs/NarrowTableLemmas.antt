@@ -7,7 +7,7 @@ use Rattle.ratatui_core.specs.Layout.{Rect, intersected}
 use Rattle.ratatui_core.specs.{Style.Style, Text.TextData}
 use Rattle.ratatui_core.specs.Buffer.{BufferData, IsPlainFrom, IsNarrowText}
 use Rattle.ratatui_core.proofs.BufferLemmas.{text-plain, over-all, from-over}
-use Rattle.rtui_boxes.specs.{Boxes.IsPlainIfBox, Framed.inner_if}
+use Rattle.rtui_boxes.specs.{Boxes.IsNarrowIfBox, Framed.inner_if}
 use Rattle.rtui_boxes.proofs.{InnerLemmas.plain-framed, InnerLemmas.bare-or, PlainBoxLemmas.plain-laid}
 use Rattle.rtui_list.specs.Items.{is_selected_at}
 use Rattle.rtui_table.specs.{declared.table.Table.Table as TableData, declared.cell.Cell.Cell, declared.row.Row.Row}
@@ -124,8 +124,8 @@ table-narrow t u columns r narrow =
     (selected_column_area u.selected_column columns body)))
     (outer-narrow columns t.footer (footer_area t.header t.footer r) narrow.footer))
 
-pub table-keeps : (t : TableData) (s u : TableState) (area : Rect) (old new : BufferData) → IsPlainIfBox t.block → HasNarrowRows t
-    → IsPlainFrom 0 old → RendersTable t s u area old new → IsPlainFrom 0 new
+pub table-keeps : (t : TableData) (s u : TableState) (area : Rect) (old new : BufferData) → IsNarrowIfBox t.block
+    → HasNarrowRows t → IsPlainFrom 0 old → RendersTable t s u area old new → IsPlainFrom 0 new
 table-keeps t s u area old new box narrow plain is =
     let part = intersected area old.area in
     bare-or part (λ none. rw (is.parts.nothing none) plain) (λ wide high.

@@ -29,10 +29,10 @@ pub record IsNewTable (rows : List Row) (widths : List Constraint) (t : TableDat
   pub no_footer : t.footer ≡ None
   pub apart : t.column_spacing ≡ 1
   pub no_box : t.block ≡ None
-  pub plain : t.style ≡ new_style
-  pub plain_row : t.row_highlight_style ≡ new_style
-  pub plain_column : t.column_highlight_style ≡ new_style
-  pub plain_cell : t.cell_highlight_style ≡ new_style
+  pub unstyled : t.style ≡ new_style
+  pub unstyled_row : t.row_highlight_style ≡ new_style
+  pub unstyled_column : t.column_highlight_style ≡ new_style
+  pub unstyled_cell : t.cell_highlight_style ≡ new_style
   pub no_symbol : t.highlight_symbol ≡ None
   pub spaced : t.highlight_spacing ≡ WhenSelected
   pub from_left : t.flex ≡ flex.Start

@@ -9,7 +9,7 @@ use Rattle.ratatui_core.specs.Buffer.{BufferData, Piece, text_pieces, line_piece
 use Rattle.ratatui_core.specs.Buffer.{HasNarrowGraphemes, PaintsPieces, text_width}
 use Rattle.ratatui_core.specs.Widgets.{first_row}
 use Rattle.ratatui_core.proofs.BufferLemmas.{pieces-narrow, pieces-plain, styled-plain, over-all, from-over}
-use Rattle.rtui_boxes.specs.{declared.block.Block.Block, Boxes.IsPlainIfBox, Framed.inner_if, Framed.IsBare, Titles.InTurn}
+use Rattle.rtui_boxes.specs.{declared.block.Block.Block, Boxes.IsNarrowIfBox, Framed.inner_if, Framed.IsBare, Titles.InTurn}
 use Rattle.rtui_boxes.proofs.InnerLemmas.{plain-framed, bare-or}
 use Rattle.rtui_tabs.specs.declared.tabs.Tabs.{Tabs as TabsData}
 use Rattle.rtui_tabs.specs.Tabs.{TabPart, PlacedPart, placed_parts, after_parts, after_part, tab_parts, title_parts, tabs_from}
@@ -130,7 +130,7 @@ inner-small : (o : Option Block) (area own : Rect) → (inner_if o (intersected 
 inner-small None area own = omega arith
 inner-small (Some b) area own = omega arith
 
-pub tabs-keep : HasNarrowGraphemes (codes " ") → (t : TabsData) (area : Rect) (old new : BufferData) → IsPlainIfBox t.block
+pub tabs-keep : HasNarrowGraphemes (codes " ") → (t : TabsData) (area : Rect) (old new : BufferData) → IsNarrowIfBox t.block
     → HasNarrowTabs t → IsPlainFrom 0 old → RendersTabs t area old new → IsPlainFrom 0 new
 tabs-keep blank t area old new box narrow plain is =
     let part = intersected area old.area in

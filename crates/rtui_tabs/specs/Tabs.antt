@@ -27,7 +27,7 @@ pub record IsNewTabs (titles : List LineData) (t : TabsData) : Type 0 where
   pub titles_are : t.titles.items ≡ titles
   pub no_box : t.block ≡ None
   pub selected : t.selected ≡ selected_of (length titles) None
-  pub plain_tabs : t.style ≡ new_style
+  pub unstyled_tabs : t.style ≡ new_style
   pub reversed : t.highlight_style ≡ reversed_style
   pub divider : t.divider ≡ unstyled (encode_utf8_all (codes "│"))
   pub blank_left : t.padding_left ≡ None

@@ -1,0 +1,4 @@
+pub mod NarrowBarLemmas
+pub mod ScrollbarLemmas
+pub mod SetLemmas
+pub mod ThumbLemmas

@@ -1,0 +1,3 @@
+pub mod Scrollbars
+pub mod Inner
+pub mod Names
