@@ -1,6 +1,7 @@
 """What the tools share: the repository's top and its crates, `--help`, and errors of one line."""
 
 import os
+import signal
 import subprocess
 import sys
 
@@ -17,6 +18,7 @@ def words(about, flags=(), most=None):
     """The words of the command line. `--help` prints what the tool is; a flag that it doesn't have, or more than `most` other words, is refused."""
     given = sys.argv[1:]
     if "--help" in given or "-h" in given:
+        signal.signal(signal.SIGPIPE, signal.SIG_DFL)
         print(about.strip())
         sys.exit(0)
     for word in given:
