@@ -1,5 +1,5 @@
 -- A row at the front of a line: where it ends, and what it keeps.
-use Rattle.std.proofs.Common.{◌≡◌, ℕ, suc, ◌+◌, ◌-◌, ◌<◌, ◌≤◌, ◌++◌, ⊎_elim, Bool, true, false, nat_lt}
+use Rattle.std.proofs.Common.{◌≡◌, ℕ, zero, suc, ◌+◌, ◌-◌, ◌<◌, ◌≤◌, ◌++◌, ⊎_elim, Bool, true, false, nat_lt}
 use Rattle.std.proofs.Common.{if◌then◌else◌, List, [], ◌∷◌, take, drop, length, refl, sym, ap, ap₂, subst, ◌∙◌, arith}
 use Rattle.std.proofs.Common.{slice_index_or}
 use Rattle.std.specs.List.{list_all, prefix_len}
@@ -34,10 +34,6 @@ pub count-full : (room : ℕ) (g : GraphemeData) (gs : List GraphemeData) → ro
     → count_fitting room (g ∷ gs) ≡ 0
 count-full room g gs lt = let full : fits_row room g ≡ false = grind (arith, nat_tests) in rw full refl
 
--- the place of the last grapheme of a kind, with what was found so far
-abbrev pub found_end : (GraphemeData → Bool) → ℕ → ℕ → List GraphemeData → ℕ
-found_end p count so_far left = if nat_lt 0 (last_end p left) then count + last_end p left else so_far
-
 -- the columns of the first word
 pub word-next : (g : GraphemeData) (gs : List GraphemeData) → is_break g ≡ false
     → columns_taken (leading_word (g ∷ gs)) ≡ grapheme_columns g + columns_taken (leading_word gs)
@@ -61,6 +57,15 @@ end_after-none n here none = rw none refl
 pub last_end-le : (p : GraphemeData → Bool) (gs : List GraphemeData) → last_end p gs ≤ length gs
 last_end-le p [] = omega arith
 last_end-le p (g ∷ gs) = end_after-le (last_end p gs) (length gs) (p g) (last_end-le p gs)
+
+-- a grapheme of the kind stands after the first n: it is the last one of all, too
+last_end-later : (p : GraphemeData → Bool) (n : ℕ) (gs : List GraphemeData) → 0 < last_end p (drop n gs)
+    → last_end p gs ≡ n + last_end p (drop n gs)
+last_end-later p zero gs some = omega arith
+last_end-later p (suc n) [] some = absurd (omega arith)
+last_end-later p (suc n) (g ∷ gs) some =
+    let more = last_end-later p n gs some in
+    omega (arith, more, end_after-some (last_end p gs) (p g) (omega (arith, more, some)))
 
 -- after the last word there are blanks alone
 abbrev words_with : Bool → GraphemeData → List GraphemeData → List GraphemeData
@@ -308,6 +313,26 @@ tail-is n gs = subst (λ k. take k (drop n gs) ≡ drop n gs) (length-drop n gs)
 
 pub data-tail : (n : ℕ) (gs : List StyledGrapheme) → data_of (take (length gs - n) (drop n gs)) ≡ drop n (data_of gs)
 data-tail n gs = ap data_of (tail-is n gs) ∙ data-drop n gs
+
+-- from the last grapheme on backwards: none of the kind stands after the first n
+module _ (p : GraphemeData → Bool) (gs : List StyledGrapheme) (n : ℕ) (d : StyledGrapheme) (some : 0 < n) (le : n ≤ length gs)
+    (none : last_end p (data_of (drop n gs)) ≡ 0) where
+  before : data_of (drop (n - 1) gs) ≡ grapheme_data (slice_index_or gs (n - 1) d) ∷ data_of (drop n gs)
+  before = let at : n - 1 + 1 ≡ n = omega arith in
+      next-data gs (n - 1) d (omega arith) ∙ ap (λ k. grapheme_data (slice_index_or gs (n - 1) d) ∷ data_of (drop k gs)) at
+
+  end-before : last_end p (data_of (drop (n - 1) gs)) ≡ (if p (grapheme_data (slice_index_or gs (n - 1) d)) then 1 else 0)
+  end-before = ap (last_end p) before
+      ∙ end_after-none (last_end p (data_of (drop n gs))) (p (grapheme_data (slice_index_or gs (n - 1) d))) none
+
+  pub none-before : p (grapheme_data (slice_index_or gs (n - 1) d)) ≡ false → last_end p (data_of (drop (n - 1) gs)) ≡ 0
+  none-before other = end-before ∙ rw other refl
+
+  pub last-before : p (grapheme_data (slice_index_or gs (n - 1) d)) ≡ true → n ≡ last_end p (data_of gs)
+  last-before is =
+      let one : last_end p (data_of (drop (n - 1) gs)) ≡ 1 = end-before ∙ rw is refl in
+      let later : last_end p (drop (n - 1) (data_of gs)) ≡ 1 = ap (last_end p) (sym (data-drop (n - 1) gs)) ∙ one in
+      omega (arith, later, last_end-later p (n - 1) (data_of gs) (omega (arith, later)))
 
 module _ (gs : List StyledGrapheme) (n end : ℕ) (is : end ≡ last_end is_of_word (data_of (take n gs))) where
   last-in : last_end is_of_word (take n (data_of gs)) ≡ end

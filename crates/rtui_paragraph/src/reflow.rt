@@ -59,30 +59,28 @@ fn fitting_count(graphemes: &[StyledGrapheme<'_>], width: u16) -> usize
 fn words_end(graphemes: &[StyledGrapheme<'_>]) -> usize
     ensures { result ≡ last_end is_of_word (data_of graphemes.now) }
 {
-    let mut end = 0;
-    let mut count = 0;
-    for grapheme in graphemes {
-        count += 1;
-        if !grapheme.is_whitespace() {
-            end = count;
+    let mut end = graphemes.len();
+    while end > 0 {
+        if !graphemes[end - 1].is_whitespace() {
+            return end;
         }
+        end -= 1;
     }
-    end
+    0
 }
 
 // Where the last word begins: after the last blank; 0 if there is none.
 fn last_word(graphemes: &[StyledGrapheme<'_>]) -> usize
     ensures { result ≡ last_end is_break (data_of graphemes.now) }
 {
-    let mut start = 0;
-    let mut count = 0;
-    for grapheme in graphemes {
-        count += 1;
-        if grapheme.is_whitespace() {
-            start = count;
+    let mut start = graphemes.len();
+    while start > 0 {
+        if graphemes[start - 1].is_whitespace() {
+            return start;
         }
+        start -= 1;
     }
-    start
+    0
 }
 
 // Where a row of so many graphemes ends that a word crosses, and where the next one begins.

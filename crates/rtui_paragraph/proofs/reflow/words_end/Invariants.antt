@@ -1,11 +1,12 @@
-use Rattle.std.proofs.Common.{◌≡◌, drop}
+use Rattle.std.proofs.Common.{◌≡◌, ◌≤◌, length, drop}
 use Rattle.rtui_paragraph.specs.Reflow.{data_of, is_of_word, last_end}
-use Rattle.rtui_paragraph.proofs.ReflowLemmas.{found_end}
 use Rattle.rtui_paragraph.proofs.reflow.words_end.Given as goal
 
-abbrev pub invariant-loop-grapheme : goal.invariant-loop-grapheme
-invariant-loop-grapheme l = record {
-  count : l.count ≡ l.grapheme-index;
-  found : found_end is_of_word l.count l.end (data_of (drop l.grapheme-index l.fn.graphemes)) ≡ last_end is_of_word
-      (data_of l.fn.graphemes);
+abbrev pub invariant-loop-end : goal.invariant-loop-end
+invariant-loop-end l = record {
+  inside : l.end ≤ length l.fn.graphemes;
+  none : last_end is_of_word (data_of (drop l.end l.fn.graphemes)) ≡ 0;
 }
+
+abbrev pub decreases-loop-end : goal.decreases-loop-end
+decreases-loop-end l = l.end
