@@ -1,15 +1,9 @@
 //! Peers of the workloads on keys and areas of the Rattle program `bench`, beside the twin:
 //! `peers WORKLOAD WIDTH HEIGHT ROUNDS`. Bytes go through crossterm's parser, areas through the
 //! crate's own layout, without its cache.
-use crate::bytes::{BytesBackend, Memory};
-use crossterm::event::{Event, EventParser, KeyCode};
-use ratatui_core::backend::Backend;
-use ratatui_core::layout::{Constraint, Layout, Rect, Size};
-use ratatui_core::terminal::Terminal;
+use crossterm::event::EventParser;
+use ratatui_core::layout::{Constraint, Layout, Rect};
 use std::hint::black_box;
-
-#[path = "../../twin/src/bytes.rs"]
-mod bytes;
 
 // A text's bytes decoded each round; the sum counts the events.
 fn decodes(count: u64, text: &str) -> u64 {
@@ -23,43 +17,6 @@ fn decodes(count: u64, text: &str) -> u64 {
         });
     }
     events
-}
-
-// A number that `+` and `-` change, and its frame.
-struct Count {
-    number: u8,
-    terminal: Terminal<BytesBackend<Memory>>,
-}
-
-impl Count {
-    fn draw(&mut self) {
-        let text = self.number.to_string();
-        self.terminal.draw(|frame| frame.render_widget(text, frame.area())).unwrap();
-    }
-    fn flushed(&self) -> u64 {
-        self.terminal.backend().writer().flushed()
-    }
-}
-
-// A key in each round, and the frame after it; the sum is the last number.
-fn counts(count: u64, width: u16, height: u16) -> (u64, u64) {
-    let backend = BytesBackend::new(Memory::default(), Size::new(width, height));
-    let mut shown = Count { number: 0, terminal: Terminal::new(backend).unwrap() };
-    shown.draw();
-    shown.terminal.backend_mut().flush().unwrap();
-    let before = shown.flushed();
-    let mut parser = EventParser::new();
-    for round in 0..count {
-        let key = if round % 3 == 2 { b"-" } else { b"+" };
-        let number = &mut shown.number;
-        parser.each(black_box(key), |event| match event {
-            Event::Key(key) if key.code == KeyCode::Char('+') => *number = number.saturating_add(1),
-            Event::Key(key) if key.code == KeyCode::Char('-') => *number = number.saturating_sub(1),
-            _ => {}
-        });
-        shown.draw();
-    }
-    (shown.flushed() - before, u64::from(shown.number))
 }
 
 // A row cut into so many parts each round; the sum counts their columns.
@@ -78,9 +35,8 @@ fn splits(count: u64, width: u16, parts: usize) -> u64 {
     (0..count).map(columns).sum()
 }
 
-fn run(name: &str, width: u16, height: u16, count: u64) -> Option<(u64, u64)> {
-    let sum = match name {
-        "app_keys" => return Some(counts(count, width, height)),
+fn run(name: &str, width: u16, count: u64) -> Option<u64> {
+    Some(match name {
         "keys_text" => decodes(count, "the quick brown fox jumps over "),
         "keys_arrows" => decodes(count, "\u{1b}[A\u{1b}[B\u{1b}[1;5C"),
         "keys_mouse" => decodes(count, "\u{1b}[<0;12;34M\u{1b}[<35;13;34m"),
@@ -88,18 +44,15 @@ fn run(name: &str, width: u16, height: u16, count: u64) -> Option<(u64, u64)> {
         "split_8" => splits(count, width, 8),
         "split_20" => splits(count, width, 20),
         _ => return None,
-    };
-    Some((count, sum))
+    })
 }
 
 fn main() {
     let words: Vec<String> = std::env::args().collect();
-    let [_, name, width, height, rounds] = words.as_slice() else { std::process::exit(2) };
-    let (Ok(width), Ok(height), Ok(count)) = (width.parse(), height.parse(), rounds.parse()) else {
-        std::process::exit(2)
-    };
-    match run(name, width, height, count) {
-        Some((first, sum)) => println!("{first} {sum}"),
+    let [_, name, width, _, rounds] = words.as_slice() else { std::process::exit(2) };
+    let (Ok(width), Ok(count)) = (width.parse(), rounds.parse()) else { std::process::exit(2) };
+    match run(name, width, count) {
+        Some(sum) => println!("{count} {sum}"),
         None => std::process::exit(2),
     }
 }

@@ -1,13 +1,8 @@
 //! Workloads on keys and areas.
 ghost use Rattle.std.specs.Prelude.{◌<◌, ◌^◌};
 
-use crate::memory::Memory;
 use crate::{Done, Size};
-use ratatui_ansi::AnsiBackend;
-use ratatui_app::{Counter, draw, feed};
-use ratatui_core::backend::Backend;
-use ratatui_core::layout::{Constraint, Layout, Rect, Size as ScreenSize, SplitInto};
-use ratatui_core::terminal::Terminal;
+use ratatui_core::layout::{Constraint, Layout, Rect, SplitInto};
 use ratatui_input::Decoder;
 use std::alloc::{AllocError, Global};
 
@@ -24,45 +19,6 @@ fn decodes(alloc: Global, size: Size, text: &str) -> Done {
         }
     }
     Ok(Some((size.count, events)))
-}
-
-// A terminal that sends bytes to memory, and shows a counter.
-fn counting(
-    alloc: Global,
-    size: Size,
-    counter: &Counter,
-) -> Result<Terminal<AnsiBackend<Memory>>, AllocError> {
-    let screen = ScreenSize::new(size.width, size.height);
-    let Ok(backend) = AnsiBackend::new(alloc, Memory::new(alloc), screen) else {
-        return Err(AllocError);
-    };
-    let Ok(mut terminal) = Terminal::new(alloc, backend) else {
-        return Err(AllocError);
-    };
-    if draw(&mut terminal, counter).is_err() || terminal.backend_mut().flush().is_err() {
-        return Err(AllocError);
-    }
-    Ok(terminal)
-}
-
-// A key in each round, and the counter's frame after it: how many bytes were flushed in them; the
-// sum is the last number.
-fn counts(alloc: Global, size: Size) -> Done {
-    let mut counter = Counter {
-        count: 0,
-        is_over: false,
-    };
-    let mut terminal = counting(alloc, size, &counter)?;
-    let before = terminal.backend().writer().flushed();
-    let mut decoder = Decoder::new();
-    for round in 0..size.count {
-        let key = if round % 3 == 2 { "-" } else { "+" };
-        if feed(key.as_bytes(), &mut decoder, &mut terminal, &mut counter).is_err() {
-            return Err(AllocError);
-        }
-    }
-    let after = terminal.backend().writer().flushed();
-    Ok(Some((after.wrapping_sub(before), u64::from(counter.count))))
 }
 
 // A row cut into N parts each round; the sum counts their columns.
@@ -103,7 +59,6 @@ fn row(alloc: Global, count: usize) -> Result<Layout, AllocError> {
 /// The workload of this name, if it is one.
 pub fn run(alloc: Global, name: &str, size: Size) -> Done {
     match name {
-        "app_keys" => counts(alloc, size),
         "keys_text" => decodes(alloc, size, "the quick brown fox jumps over "),
         "keys_arrows" => decodes(alloc, size, "\u{1b}[A\u{1b}[B\u{1b}[1;5C"),
         "keys_mouse" => decodes(alloc, size, "\u{1b}[<0;12;34M\u{1b}[<35;13;34m"),
