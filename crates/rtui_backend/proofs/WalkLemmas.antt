@@ -75,7 +75,8 @@ module _ (row : ℕ → List ℕ) (room at end : ℕ) (all : List Piece) (left :
 
 -- the pieces of unstyled texts and one more after them
 line-push : (w : ℕ) (ts : List (List ℕ)) (t : List ℕ) → line_pieces w new_style (map unstyled (ts ++ t ∷ []))
-    ≡ line_pieces w new_style (map unstyled ts) ++ text_pieces (w - columns (line_pieces w new_style (map unstyled ts))) new_style t
+    ≡ line_pieces w new_style (map unstyled ts)
+    ++ text_pieces (w - columns (line_pieces w new_style (map unstyled ts))) new_style t
 line-push w [] t =
     let none = line_pieces-nil w new_style in
     let all : w - columns [] ≡ w = omega arith in
@@ -87,7 +88,8 @@ line-push w (u ∷ ts) t =
     let rest : List Piece = line_pieces (w - columns ps) new_style (map unstyled ts) in
     let whole = line_pieces-cons w new_style (unstyled u) (map unstyled ts) in
     let left : w - columns (ps ++ rest) ≡ w - columns ps - columns rest = omega (arith, columns-append ps rest) in
-    line_pieces-cons w new_style (unstyled u) (map unstyled (ts ++ t ∷ [])) ∙ ap (λ qs. ps ++ qs) (line-push (w - columns ps) ts t)
+    line_pieces-cons w new_style (unstyled u) (map unstyled (ts ++ t ∷ []))
+    ∙ ap (λ qs. ps ++ qs) (line-push (w - columns ps) ts t)
     ∙ sym (ap (λ qs. qs ++ text_pieces (w - columns qs) new_style t) whole ∙ append_assoc ps rest _
     ∙ ap (λ n. ps ++ (rest ++ text_pieces n new_style t)) left)
 

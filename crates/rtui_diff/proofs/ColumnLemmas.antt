@@ -112,7 +112,8 @@ behind_look len ns j k st lt x unskipped = elim (st.behind j k lt x) [
 ]
 
 -- a cell covers the places up to the next one
-pub next_covers : (len : ℕ) (ns : List Cell) (i k : ℕ) → Settled len ns → i < len → i < k → k < next_place ns i → Covers ns i k
+pub next_covers : (len : ℕ) (ns : List Cell) (i k : ℕ) → Settled len ns → i < len → i < k → k < next_place ns i
+    → Covers ns i k
 next_covers len ns i k st lt a b = record { before = a; unskipped = wide_unskipped len ns i st lt (omega arith); reaches = omega arith }
 
 pub next_bound : (len : ℕ) (ns : List Cell) (i : ℕ) → Settled len ns → i < len → next_place ns i ≤ len
@@ -145,8 +146,8 @@ pub next_splits : (len : ℕ) (F : Look → Type 0) (ns : List Cell) (i k : ℕ)
 next_splits len F ns i k l m st lt klt c sp mv = record {
   shown = λ in_r. elim (cases_order k i) [
     | inl same ↦ record {
-      look = λ unskipped. mv.here same (subst (λ x. is_skipped (cell ns x) ≡ false) same unskipped) ∙ ap (λ x. look_of (cell ns x))
-          (sym same);
+      look = λ unskipped. mv.here same (subst (λ x. is_skipped (cell ns x) ≡ false) same unskipped)
+          ∙ ap (λ x. look_of (cell ns x)) (sym same);
       behind = λ j x. absurd (c.closed j (subst (Covers ns j) same x));
     }
     | inr (inl less) ↦ subst (ShowsPlace ns k) (sym (mv.before less)) (sp.shown less)

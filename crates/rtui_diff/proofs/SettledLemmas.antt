@@ -50,7 +50,8 @@ module _ (w h : ℕ) (cells : List Cell) where
       (omega (arith, x.before)) in
       let first : k / w * w ≡ b * w = ap (λ q. q * w) same.0 in
       let here : k ≡ b * w + k % w = omega arith in
-      let unskipped : is_skipped (cell cells (b * w + k % w)) ≡ false = subst (λ y. is_skipped (cell cells y) ≡ false) here x.unskipped in
+      let unskipped : is_skipped (cell cells (b * w + k % w)) ≡ false =
+      subst (λ y. is_skipped (cell cells y) ≡ false) here x.unskipped in
       let reaches : a < k % w + width_of (cell cells (b * w + k % w)) = subst (λ y. a < k % w + width_of (cell cells y)) here
       (omega (arith, x.reaches)) in
       (here, record { before = omega (arith, x.before); unskipped = unskipped; reaches = reaches })
