@@ -21,6 +21,7 @@ pub use Rattle.rtui_split.specs.Split.{inner, centered_layout, IsSplit, HasWish,
 pub use Rattle.rtui_split.specs.Split.{SharesRest, LeavesNothing, HasExactPlaces, IsLaidOut}
 pub use Rattle.rtui_split.specs.Split.{AreExact, HasTaker, total_weight, cells_of}
 pub use Rattle.rtui_split.specs.Split.{AreLevelled, AreInOrder, HasPlacesInOrder, TakeInOrder, StretchOne}
+pub use Rattle.rtui_split.specs.Split.{least_wish, HasLevel, AreLeastRagged}
 pub use Rattle.rtui_split.specs.Split.{HaveNoFill, FillsShare, fill_size}
 pub use Rattle.rtui_split.specs.Wishes.{patience, IsStretchable}
 pub use Rattle.rtui_split.specs.{Cut.IsSpace, Cut.IsPartAlong, Spaces.KeepsWishes}

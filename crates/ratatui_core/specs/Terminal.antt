@@ -28,5 +28,6 @@ pub use Rattle.rtui_terminal.specs.Display.{terminal_error_text}
 pub use Rattle.rtui_insert.specs.Filling.{AcceptsRows, FillsRows, RefusesFilling}
 pub use Rattle.rtui_insert.specs.Rows.{WritesAtMost}
 pub use Rattle.rtui_insert.specs.Insertion.{AppendsRows}
+pub use Rattle.rtui_insert.specs.Scrolling.{IsPushing, IsLowering, IsRaising}
 pub use Rattle.rtui_terminal.specs.Insertion.{inserted_area, TakesRows, Inserts, StopsInserting, InsertOk}
-pub use Rattle.rtui_terminal.specs.Insertion.{InsertsBy, StopsInPlace, HasMovedDown}
+pub use Rattle.rtui_terminal.specs.Insertion.{InsertsBy, StopsInPlace, HasMovedDown, IsBeginning}
