@@ -1,17 +1,17 @@
 -- How painting of spans goes on, a span at a time.
-use Rattle.std.proofs.Common.{◌≡◌, ◌≢◌, ℕ, ◌+◌, ◌-◌, ◌≤◌, true, List, [], ◌∷◌, ◌++◌, length, drop, refl, ap, subst, ◌∙◌, arith}
+use Rattle.std.proofs.Common.{◌≡◌, ℕ, ◌+◌, ◌-◌, ◌≤◌, true, List, [], ◌∷◌, ◌++◌, length, drop, refl, ap, subst, ◌∙◌, arith}
 use Rattle.std.proofs.lemmas.{List.drop_all, List.Sums.sum_by-append}
 use Rattle.unicode_segmentation.specs.Grapheme.{graphemes}
-use Rattle.rtui_geometry.specs.declared.rect.Rect.{Rect}
 use Rattle.rtui_style.specs.{declared.Style.Style, Style.patch}
 use Rattle.rtui_cell.specs.{declared.cell.Cell.Cell, Symbol.IsShort}
 use Rattle.rtui_text.specs.Text.{SpanData}
-use Rattle.rtui_buffer.specs.Painting.{Piece, piece_width, text_pieces, columns, AreWide, with_piece, painted, HasPieces}
+use Rattle.rtui_buffer.specs.Painting.{Piece, piece_width, text_pieces, columns, AreWide, HasPieces}
+use Rattle.rtui_buffer.specs.Painted.{with_piece, painted}
 use Rattle.std.proofs.lemmas.List.{take_at, Elements.All-take}
-use Rattle.rtui_buffer.specs.{PaintedText.room_at, PaintedText.AreShort, Line.line_pieces}
-use Rattle.rtui_buffer.proofs.PaintLemmas.{painted-nil, painted-cons, IsSameOutside-refl}
+use Rattle.rtui_buffer.specs.{PaintedText.AreShort, Line.line_pieces}
+use Rattle.rtui_buffer.proofs.PaintLemmas.{painted-nil, painted-cons}
 use Rattle.rtui_buffer.proofs.PaintedLemmas.{AreWide-kept, columns-kept, HasPieces-painted}
-use Rattle.rtui_buffer.proofs.TextLemmas.{text_pieces-none, columns-none, PaintsPieces-none}
+use Rattle.rtui_buffer.proofs.TextLemmas.{text_pieces-none, columns-none, Paints-none}
 
 pub columns-append : (ps qs : List Piece) → columns (ps ++ qs) ≡ columns ps + columns qs
 columns-append ps qs = sum_by-append piece_width ps qs
@@ -69,10 +69,6 @@ HasPieces-line at room base ss cells new e fits =
     let le = columns-line room base ss in
     rw e (HasPieces-painted at (line_pieces room base ss) cells (AreWide-line room base ss) (omega arith))
 
-pub line-fits : (r : Rect) (x max room : ℕ) (base : Style) (ss : List SpanData) → room ≡ room_at r x max → room ≢ 0
-    → x + columns (line_pieces room base ss) ≤ r.x + r.width
-line-fits r x max room base ss e some = let k = columns-line room base ss in omega arith
-
 -- the pieces that a turn of the loop paints, before those of the spans after
 pub span-pieces : (base : Style) (used room : ℕ) (left ss : List SpanData) (s : SpanData) → left ≡ s ∷ ss
     → let ps = text_pieces (room - used) (patch base s.style) s.content in
@@ -89,6 +85,4 @@ short-front ps qs h = subst AreShort (take_at ps qs (length ps) refl) (All-take 
 pub line_pieces-end : (room i : ℕ) (base : Style) (ss : List SpanData) → length ss ≤ i → line_pieces room base (drop i ss) ≡ []
 line_pieces-end room i base ss le = ap (line_pieces room base) (drop_all i ss le) ∙ line_pieces-nil room base
 
-pub ruleset line_steps = (HasPieces-line, IsSameOutside-refl)
-
-pub ruleset no_line_steps = (line_pieces-none, columns-none, PaintsPieces-none)
+pub ruleset no_line_steps = (line_pieces-none, columns-none, Paints-none)

@@ -10,7 +10,8 @@ use Rattle.rtui_style.specs.{declared.Style.Style, Style.new_style}
 use Rattle.rtui_cell.specs.{declared.cell.Cell.Cell, Cell.empty_cell, Width.text_width}
 use Rattle.rtui_diff.specs.Cells.{cell}
 use Rattle.rtui_buffer.specs.Painting.{painted_width, kept, Piece, piece_of, pieces, piece_width, columns, AreWide, shown}
-use Rattle.rtui_buffer.specs.Painting.{emptied, with_piece, painted, piece_at, place_of, IsSameOutside, HasPieces}
+use Rattle.rtui_buffer.specs.Painting.{piece_at, place_of, IsSameOutside, HasPieces}
+use Rattle.rtui_buffer.specs.Painted.{emptied, with_piece, painted}
 use Rattle.rtui_buffer.proofs.PaintLemmas.{painted_width-painted, kept-nil, kept-skip, kept-take, kept-full, IsSameOutside-refl}
 use Rattle.rtui_buffer.proofs.PaintLemmas.{IsSameOutside-emptied, IsSameOutside-put, IsSameOutside-then}
 

@@ -9,7 +9,8 @@ use Rattle.rtui_cell.specs.{declared.cell.Cell.Cell, Cell.empty_cell}
 use Rattle.rtui_diff.specs.{Cells.cell, Settled.IsSettled}
 use Rattle.rtui_text.specs.Text.{LineData, line_of}
 use Rattle.rtui_buffer.specs.BufferData.{empty_cells, row_cells}
-use Rattle.rtui_buffer.specs.Painting.{Piece, piece_width, columns, AreWide, shown, emptied, with_piece, painted, HasPieces}
+use Rattle.rtui_buffer.specs.Painting.{Piece, piece_width, columns, AreWide, shown, HasPieces}
+use Rattle.rtui_buffer.specs.Painted.{emptied, with_piece, painted}
 use Rattle.rtui_buffer.specs.Line.{line_pieces, line_row, line_rows, line_at, ShowsLines}
 use Rattle.rtui_buffer.proofs.{EmptyLemmas.cell-empty, SettledLemmas.IsSettled-empty, SettledLemmas.IsSettled-painted}
 use Rattle.rtui_buffer.proofs.{SettledLemmas.unmarked_empty}

@@ -8,7 +8,8 @@ use Rattle.rtui_style.specs.declared.Style.{Style}
 use Rattle.rtui_text.specs.Printable.{ArePrintable, IsPrintableFront, singles}
 use Rattle.rtui_text.proofs.PrintableLemmas.{printable-plain, graphemes-front, front-bytes}
 use Rattle.rtui_diff.specs.Cells.{cell}
-use Rattle.rtui_buffer.specs.Painting.{emptied, piece_of, pieces, painted, shown}
+use Rattle.rtui_buffer.specs.Painting.{piece_of, pieces, shown}
+use Rattle.rtui_buffer.specs.Painted.{emptied, painted}
 use Rattle.rtui_buffer.proofs.{PaintLemmas.painted-nil, PrintableLemmas.painted-byte}
 use Rattle.rtui_cell.proofs.WidthLemmas.{one_byte}
 use Rattle.rtui_widgets.specs.Inner.{with_next}

@@ -3,7 +3,8 @@ use Rattle.std.proofs.Common.{◌≡◌, ◌∷◌, ◌<◌, ◌≤◌, true, fa
 use Rattle.unicode_segmentation.specs.{Grapheme.graphemes, Iter.graphemes_left}
 use Rattle.rtui_cell.specs.Width.{text_width}
 use Rattle.rtui_text.specs.{Printable.singles, Graphemes.has_control}
-use Rattle.rtui_buffer.specs.Painting.{pieces, painted}
+use Rattle.rtui_buffer.specs.Painting.{pieces}
+use Rattle.rtui_buffer.specs.Painted.{painted}
 use Rattle.rtui_buffer.proofs.PaintLemmas.{unmarked-refl, unmarked-painted}
 use Rattle.rtui_widgets.proofs.{PrintableLemmas.shown-front, SpanLemmas.unmarked-next}
 use Rattle.rtui_widgets.proofs.SpanLemmas.{shown-first, shown-end, shown-refused, shown-skip, shown-full, shown-turn, shown-short}
