@@ -1,6 +1,7 @@
 -- How painting of spans goes on, a span at a time.
-use Rattle.std.proofs.Common.{◌≡◌, ℕ, ◌+◌, ◌-◌, ◌≤◌, true, List, [], ◌∷◌, ◌++◌, length, drop, refl, ap, subst, ◌∙◌, arith}
-use Rattle.std.proofs.lemmas.{List.drop_all, List.Sums.sum_by-append}
+use Rattle.std.proofs.Common.{◌≡◌, ℕ, ◌+◌, ◌-◌, ◌<◌, ◌≤◌, true, List, [], ◌∷◌, ◌++◌, length, drop, refl, sym, ap, subst, ◌∙◌, arith}
+use Rattle.std.proofs.Common.{get_or}
+use Rattle.std.proofs.lemmas.{List.drop_all, List.drop_more, List.Sums.sum_by-append}
 use Rattle.unicode_segmentation.specs.Grapheme.{graphemes}
 use Rattle.rtui_style.specs.{declared.Style.Style, Style.patch}
 use Rattle.rtui_cell.specs.{declared.cell.Cell.Cell, Symbol.IsShort}
@@ -70,13 +71,15 @@ HasPieces-line at room base ss cells new e fits =
     rw e (HasPieces-painted at (line_pieces room base ss) cells (AreWide-line room base ss) (omega arith))
 
 -- the pieces that a turn of the loop paints, before those of the spans after
-pub span-pieces : (base : Style) (used room : ℕ) (left ss : List SpanData) (s : SpanData) → left ≡ s ∷ ss
+pub span-pieces : (base : Style) (used room i : ℕ) (ss : List SpanData) (s : SpanData) → i < length ss → s ≡ get_or ss i s
     → let ps = text_pieces (room - used) (patch base s.style) s.content in
-    line_pieces (room - used) base left ≡ ps ++ line_pieces (room - (used + columns ps)) base ss
-span-pieces base used room left ss s is =
+    line_pieces (room - used) base (drop i ss) ≡ ps ++ line_pieces (room - (used + columns ps)) base (drop (i + 1) ss)
+span-pieces base used room i ss s lt is =
+    let next : drop i ss ≡ s ∷ drop (i + 1) ss = drop_more ss i s lt ∙ ap (λ t. t ∷ drop (i + 1) ss) (sym is) in
     let ps : List Piece = text_pieces (room - used) (patch base s.style) s.content in
     let rest : room - used - columns ps ≡ room - (used + columns ps) = omega arith in
-    ap (line_pieces (room - used) base) is ∙ line_pieces-cons (room - used) base s ss ∙ ap (λ n. ps ++ line_pieces n base ss) rest
+    ap (line_pieces (room - used) base) next ∙ line_pieces-cons (room - used) base s (drop (i + 1) ss)
+    ∙ ap (λ n. ps ++ line_pieces n base (drop (i + 1) ss)) rest
 
 -- of short pieces the first are short
 pub short-front : (ps qs : List Piece) → AreShort (ps ++ qs) → AreShort ps

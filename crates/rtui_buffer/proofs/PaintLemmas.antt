@@ -103,13 +103,3 @@ unmarked-emptied at zero old new h = h
 unmarked-emptied at (suc n) old new h =
     unmarked-emptied (at + 1) n old (set new at empty_cell)
     (record { at = λ k u. unmarked-set new at empty_cell (λ w. record { option = refl; flag = refl }) k (h.at k u) })
-
-pub ruleset paint_steps = (
-  painted_width-painted,
-  kept-nil,
-  kept-skip,
-  kept-take,
-  kept-full,
-  painted-nil,
-  painted-cons,
-)

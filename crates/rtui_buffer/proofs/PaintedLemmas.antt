@@ -195,5 +195,3 @@ columns-kept s room gs = kept-ind (λ r ks. columns (pieces s ks) ≤ r) (λ r. 
 -- in no room nothing is painted
 pub kept-none : (gs : List (List ℕ)) → kept 0 gs ≡ []
 kept-none gs = kept-ind (λ r ks. r ≡ 0 → ks ≡ []) (λ r e. refl) (λ r g ks pos le h e. absurd (omega arith)) gs 0 refl
-
-pub ruleset shown_steps = (HasPieces-none)

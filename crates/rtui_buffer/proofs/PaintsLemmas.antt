@@ -11,7 +11,7 @@ use Rattle.rtui_buffer.specs.Painting.{Piece, columns, AreWide, HasPieces, Keeps
 use Rattle.rtui_buffer.specs.PaintedText.{PaintsPieces, PaintsFront, Paints, IsPaintable, IsSameBeside}
 use Rattle.rtui_buffer.specs.Inner.{PaintsCells}
 use Rattle.rtui_buffer.proofs.{PaintLemmas.IsSameOutside-wider, PaintedLemmas.HasPieces-painted, LineLemmas.columns-append}
-use Rattle.rtui_buffer.proofs.{SettledLemmas.IsSettled-painted, SettledLemmas.IsIn, SettledLemmas.is_in, SettledLemmas.unmarked_empty}
+use Rattle.rtui_buffer.proofs.SettledLemmas.{IsSettled-painted, IsIn, is_in, unmarked_empty}
 use Rattle.rtui_buffer.proofs.{RefusedLemmas.front-all}
 
 AreWide-front : (ps qs : List Piece) → AreWide (ps ++ qs) → AreWide ps

@@ -1,6 +1,6 @@
 -- Painting on its way: a front of the pieces is painted, and so it is where it ends.
-use Rattle.std.proofs.Common.{◌≡◌, ℕ, ◌+◌, ◌-◌, ◌<◌, ◌≤◌, true, false, List, [], ◌∷◌, ◌++◌, length, take, drop, refl, sym, ap, subst}
-use Rattle.std.proofs.Common.{◌∙◌, arith, Result, Ok, Err, IsErr}
+use Rattle.std.proofs.Common.{◌≡◌, ℕ, ◌+◌, ◌-◌, ◌<◌, ◌≤◌, true, false, List, [], ◌∷◌, ◌++◌, length, take, drop, refl, sym, ap}
+use Rattle.std.proofs.Common.{subst, ◌∙◌, arith, Result, Ok, Err, IsErr}
 use Rattle.std.proofs.lemmas.Bool.{false≢true}
 use Rattle.std.specs.declared.alloc.AllocError.{AllocError}
 use Rattle.std.proofs.lemmas.{List.append-nil, List.append_assoc, List.drop_at, List.length-take-le, List.Elements.All-head}
@@ -38,7 +38,8 @@ module _ (at used : ℕ) (left ps : List Piece) (old new : List Cell) (h : Paint
       )
 
   -- memory is refused to those that are left
-  pub so_far-refused : {A : Type 0} (r : Result A AllocError) → IsErr r → (AreShort ps → false ≡ true) → PaintsCells at ps r old new
+  pub so_far-refused : {A : Type 0} (r : Result A AllocError) → IsErr r → (AreShort ps → false ≡ true)
+      → PaintsCells at ps r old new
   so_far-refused (Ok v) err long = absurd (false≢true err)
   so_far-refused (Err e) err long = record {
     front = h.done;
@@ -114,12 +115,12 @@ module _ (s : Style) (start used room width : ℕ) (left gs : List (List ℕ)) (
       (piece_of s g) _ (subst AreShort next (so_far-short start used _ ps old cells h short))
 
 -- the printable characters with which a text begins
-pub so_far-printable : (text : List ℕ) (n start room : ℕ) (s : Style) (cells mid : List Cell) → IsPrintableFront text n → n ≤ room
-    → mid ≡ painted start (pieces s (singles (take n text))) cells → PaintsSoFar start n (text_pieces (room - n) s (drop n text))
-    (text_pieces room s text) cells mid
-so_far-printable text n start room s cells mid h le put = record {
+pub so_far-printable : (text rest : List ℕ) (n start room : ℕ) (s : Style) (cells mid : List Cell) → IsPrintableFront text n
+    → n ≤ room → rest ≡ drop n text → mid ≡ painted start (pieces s (singles (take n text))) cells
+    → PaintsSoFar start n (text_pieces (room - n) s rest) (text_pieces room s text) cells mid
+so_far-printable text rest n start room s cells mid h le left put = record {
   done = pieces s (singles (take n text));
-  is = pieces-split text n room s h le;
+  is = rw left (pieces-split text n room s h le);
   wide = columns-singles s (take n text) ∙ length-take-le n text h.within;
   cells = put;
 }

@@ -51,7 +51,7 @@ pub record IsStyledRows (w left right top bottom : ℕ) (s : Style) (old new : L
       (if nat_le left a && nat_lt a right && nat_le top b && nat_lt b bottom then styled s
       (cell_at w old a b) else cell_at w old a b)
 
--- a front of these pieces is painted from a place on, all of them if it is Ok, and short ones are never refused
+-- a front of these pieces is painted from a place on: all of them if it is Ok, and it is if they are short
 pub record PaintsCells {A : Type 0} (at : ℕ) (ps : List Piece) (result : Result A AllocError)
     (old new : List Cell) : Type 0 where
   pub front : List Piece

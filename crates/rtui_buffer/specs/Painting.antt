@@ -1,6 +1,6 @@
 -- Painting pieces of text into a list of cells, one after the other.
-use Rattle.std.specs.Prelude.{ℕ, ⊤, Bool, true, ◌+◌, ◌-◌, ◌≡◌, ◌≤◌, ◌<◌, nat_le, nat_lt, List, [], ◌∷◌, length}
-use Rattle.std.specs.Prelude.{take, map, filter, sum_by, if◌then◌else◌, Some, slice_index_or}
+use Rattle.std.specs.Prelude.{ℕ, ⊤, Bool, true, ◌+◌, ◌-◌, ◌≡◌, ◌≤◌, ◌<◌, nat_le, nat_lt, List, [], ◌∷◌}
+use Rattle.std.specs.Prelude.{length, take, map, filter, sum_by, if◌then◌else◌, Some, slice_index_or}
 use Rattle.unicode_segmentation.specs.Grapheme.{graphemes}
 use Rattle.rtui_style.specs.{declared.Style.Style, Style.new_style}
 use Rattle.rtui_cell.specs.{declared.cell.Cell.Cell, Cell.empty_cell, Cell.styled, Cell.IsUnmarked}

@@ -22,7 +22,8 @@ ghost use Rattle.rtui_buffer.specs.Painting.{Piece, piece_of, painted_width, has
 ghost use Rattle.rtui_buffer.specs.Painting.{text_pieces, columns, AreWide, IsLongestFront, KeepsUnmarked};
 ghost use Rattle.rtui_buffer.specs.PaintedText.{pieces_at, room_at, right_by, AreShort, IsOneGrapheme};
 ghost use Rattle.rtui_buffer.specs.PaintedText.{HasShortGraphemes, HaveShortGraphemes, IsBeside, IsPaintable};
-ghost use Rattle.rtui_buffer.specs.PaintedText.{IsSameBeside, IsStyled, PaintsPieces, PaintsFront, PaintsByColumns};
+ghost use Rattle.rtui_buffer.specs.PaintedText.{IsSameBeside, IsStyled, PaintsPieces, PaintsFront};
+ghost use Rattle.rtui_buffer.specs.PaintedText.{PaintsByColumns};
 ghost use Rattle.rtui_buffer.specs.Line.{line_pieces, line_pieces_at};
 
 use crate::buffer::Buffer;

@@ -1,5 +1,4 @@
-use Rattle.std.proofs.lemmas.{List.drop_more}
-use Rattle.std.proofs.Common.{◌≡◌, ◌∷◌, ◌+◌, ◌-◌, arith, rules, drop, ap, ◌∙◌, sym}
+use Rattle.std.proofs.Common.{◌≡◌, ◌-◌, arith, rules, ap, ◌∙◌}
 use Rattle.rtui_style.specs.Style.{patch}
 use Rattle.rtui_buffer.proofs.LineLemmas.{span-pieces, line_pieces-none, line_pieces-end}
 use Rattle.rtui_buffer.proofs.RefusedLemmas.{so_far-none, so_far-next, so_far-all, so_far-within}
@@ -12,30 +11,22 @@ loop-span-init c = let room : c.args.room - 0 ≡ c.args.room = omega arith in
 pub loop-span-preserved : goal.loop-span-preserved
 loop-span-preserved c =
     let i = c.loop-span.invariant in
-    let next : drop c.loop-span.span-index c.args.spans.now ≡ c.span-item.result ∷ drop
-    (c.loop-span.span-index + 1) c.args.spans.now =
-    drop_more c.args.spans.now c.loop-span.span-index c.span-item.result c.loop-span-test.true
-    ∙ ap (λ s. s ∷ drop (c.loop-span.span-index + 1) c.args.spans.now) (sym c.span-item.is) in
     let style : c.patch-style.result ≡ patch c.args.base c.span-item.result.style = c.patch-style.ensures
     ∙ ap (λ s. patch c.args.base s.style) c.span.view_is in
     let ran = rw (style, c.text.ensures) at c.in_ok-used.ensures in
     record {
       within = omega (arith, ran.fits);
       so_far = rw ran.columns (so_far-next _ _ _ _ _ _ i.so_far _ _ _
-          (span-pieces c.args.base c.loop-span.used c.args.room _ _ c.span-item.result next) ran.paints);
+          (span-pieces c.args.base c.loop-span.used c.args.room _ _ c.span-item.result c.loop-span-test.true c.span-item.is) ran.paints);
     }
 
 pub returns-in_err-used-clause-paints : goal.returns-in_err-used-clause-paints
 returns-in_err-used-clause-paints c =
     let i = c.loop-span.invariant in
-    let next : drop c.loop-span.span-index c.args.spans.now ≡ c.span-item.result ∷ drop
-    (c.loop-span.span-index + 1) c.args.spans.now =
-    drop_more c.args.spans.now c.loop-span.span-index c.span-item.result c.loop-span-test.true
-    ∙ ap (λ s. s ∷ drop (c.loop-span.span-index + 1) c.args.spans.now) (sym c.span-item.is) in
     let style : c.patch-style.result ≡ patch c.args.base c.span-item.result.style = c.patch-style.ensures
     ∙ ap (λ s. patch c.args.base s.style) c.span.view_is in
     let refused = rw (style, c.text.ensures) at c.in_err-used.ensures in
-    so_far-within _ _ _ _ _ _ i.so_far _ _ _ (span-pieces c.args.base c.loop-span.used c.args.room _ _ c.span-item.result next)
+    so_far-within _ _ _ _ _ _ i.so_far _ _ _ (span-pieces c.args.base c.loop-span.used c.args.room _ _ c.span-item.result c.loop-span-test.true c.span-item.is)
     _ (search rules) refused.paints
 
 pub returns-then-used-room : goal.returns-then-used-room

@@ -46,8 +46,9 @@ returns-in_err-put_piece-clause-paints c =
     let i = c.loop-grapheme.invariant in
     let is : graphemes_left c.loop-grapheme.grapheme-iterator ≡ c.in-Some.grapheme.now ∷ graphemes_left c.next.new.self =
     search rules in
-    rw c.in_err-put_piece.ensures.err (so_far-refused _ _ _ _ _ _ i.so_far _ (search rules) (λ all. c.in_err-put_piece.ensures.short
-    (so_far-next_short _ _ _ _ _ _ _ _ _ _ _ is c.painted_width-width.ensures (omega arith) (omega arith) i.so_far all)))
+    rw c.in_err-put_piece.ensures.err (so_far-refused _ _ _ _ _ _ i.so_far _ (search rules) (λ all.
+    c.in_err-put_piece.ensures.short (so_far-next_short _ _ _ _ _ _ _ _ _ _ _ is c.painted_width-width.ensures (omega arith)
+    (omega arith) i.so_far all)))
 
 pub returns : goal.returns
 returns c =
