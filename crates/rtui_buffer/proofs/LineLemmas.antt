@@ -6,12 +6,12 @@ use Rattle.unicode_segmentation.specs.Grapheme.{graphemes}
 use Rattle.rtui_style.specs.{declared.Style.Style, Style.patch}
 use Rattle.rtui_cell.specs.{declared.cell.Cell.Cell, Symbol.IsShort}
 use Rattle.rtui_text.specs.Text.{SpanData}
-use Rattle.rtui_buffer.specs.Painting.{Piece, piece_width, text_pieces, columns, AreWide, HasPieces}
+use Rattle.rtui_buffer.specs.Painting.{Piece, piece_width, text_pieces, columns, AreWide}
 use Rattle.rtui_buffer.specs.Painted.{with_piece, painted}
 use Rattle.std.proofs.lemmas.List.{take_at, Elements.All-take}
 use Rattle.rtui_buffer.specs.{PaintedText.AreShort, Line.line_pieces}
 use Rattle.rtui_buffer.proofs.PaintLemmas.{painted-nil, painted-cons}
-use Rattle.rtui_buffer.proofs.PaintedLemmas.{AreWide-kept, columns-kept, HasPieces-painted}
+use Rattle.rtui_buffer.proofs.PaintedLemmas.{AreWide-kept, columns-kept}
 use Rattle.rtui_buffer.proofs.TextLemmas.{text_pieces-none, columns-none, Paints-none}
 
 pub columns-append : (ps qs : List Piece) → columns (ps ++ qs) ≡ columns ps + columns qs
@@ -63,13 +63,6 @@ AreWide-line room base (s ∷ ss) =
     rw line_pieces-cons (AreWide-append ps (line_pieces (room - columns ps) base ss)
     (AreWide-kept (patch base s.style) room (graphemes true s.content)) (AreWide-line (room - columns ps) base ss))
 
-pub HasPieces-line : (at room : ℕ) (base : Style) (ss : List SpanData) (cells new : List Cell)
-    → new ≡ painted at (line_pieces room base ss) cells → at + room ≤ length cells
-    → HasPieces at (line_pieces room base ss) cells new
-HasPieces-line at room base ss cells new e fits =
-    let le = columns-line room base ss in
-    rw e (HasPieces-painted at (line_pieces room base ss) cells (AreWide-line room base ss) (omega arith))
-
 -- the pieces that a turn of the loop paints, before those of the spans after
 pub span-pieces : (base : Style) (used room i : ℕ) (ss : List SpanData) (s : SpanData) → i < length ss → s ≡ get_or ss i s
     → let ps = text_pieces (room - used) (patch base s.style) s.content in
@@ -88,4 +81,4 @@ short-front ps qs h = subst AreShort (take_at ps qs (length ps) refl) (All-take 
 pub line_pieces-end : (room i : ℕ) (base : Style) (ss : List SpanData) → length ss ≤ i → line_pieces room base (drop i ss) ≡ []
 line_pieces-end room i base ss le = ap (line_pieces room base) (drop_all i ss le) ∙ line_pieces-nil room base
 
-pub ruleset no_line_steps = (line_pieces-none, columns-none, Paints-none)
+pub ruleset no_line_steps = (line_pieces-none, columns-none)

@@ -37,4 +37,4 @@ Paints-none v p ps s e =
       short = λ _. refl;
     })
 
-pub ruleset none_steps = (text_pieces-none, columns-none, Paints-none)
+pub ruleset none_steps = (text_pieces-none, columns-none)

@@ -220,15 +220,10 @@ fn paint_lines(
 {
     let mut start = 0usize;
     for line in lines {
-        paint_spans(
-            alloc,
-            cells,
-            start,
-            width,
-            line.spans.as_slice(),
-            line.style,
-        )?;
-        start += usize::from(width);
+        let end = start + usize::from(width);
+        let row = &mut cells[start..end];
+        paint_spans(alloc, row, 0, width, line.spans.as_slice(), line.style)?;
+        start = end;
     }
     Ok(())
 }
