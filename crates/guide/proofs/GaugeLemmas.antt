@@ -2,7 +2,7 @@
 use Rattle.std.proofs.Common.{◌<◌, sym, subst, arith, Result, Ok, Err, OnOk, OnErr}
 use Rattle.ratatui_core.specs.{Layout.Rect, Layout.EdgesFit, Layout.corner, Backend.Screen, Widgets.IsClipped}
 use Rattle.ratatui_core.specs.{Widgets.ChangesWithin}
-use Rattle.ratatui_core.specs.Buffer.{BufferData, IsEmptied, IsStyled, PaintsOrRefuses, bar_of}
+use Rattle.ratatui_core.specs.Buffer.{BufferData, IsEmptied, IsStyled, Paints, bar_of}
 use Rattle.ratatui_core.specs.Terminal.{TerminalData, ShowsRendered}
 use Rattle.ratatui_core.proofs.BufferLemmas.{ShowsPieces-bar, line-keeps}
 use Rattle.ratatui_core.proofs.WidgetLemmas.{OnPart-clipped, OnPart-whole, line-on-bar}
@@ -12,7 +12,7 @@ use Rattle.guide.specs.Gauges.{filled_of, label_pieces, PaintsGauge, RendersGaug
 
 pub renders-gauge : {A : Type 0} (gauge : Gauge) (area part : Rect) (old under new : BufferData) (r : Result A AllocError)
     → IsClipped area old.area part → IsStyled (bar_of (filled_of gauge part) part) gauge.style old under
-    → PaintsOrRefuses (corner part) (label_pieces gauge part under.area) r under new → OnOk r (RendersGauge gauge area old new)
+    → Paints (corner part) (label_pieces gauge part under.area) r under new → OnOk r (RendersGauge gauge area old new)
     × OnErr r (ChangesWithin area old new)
 renders-gauge gauge area part old under new (Ok x) is bar paints =
     let by = (line-on-bar area part (filled_of gauge part) gauge.style gauge.label old under new is bar (Ok x)

@@ -1,11 +1,11 @@
 -- The status line is ASCII, takes no memory, and can be shown.
-use Rattle.std.proofs.Common.{◌≡◌, ℕ, zero, suc, ◌<◌, ◌^◌, List, [], ◌∷◌, codes, lit<, ap, subst, sym, arith}
+use Rattle.std.proofs.Common.{◌≡◌, ℕ, zero, suc, ◌<◌, ◌^◌, List, [], ◌∷◌, codes, lit<, ap, arith}
 use Rattle.std.specs.{Fmt.decimal, Str.IsAscii}
 use Rattle.std.proofs.lemmas.{Fmt.IsAscii-decimal, Str.IsAscii-append}
 use Rattle.ratatui_core.specs.{Layout.Rect, Terminal.IsRendered}
-use Rattle.ratatui_core.specs.Buffer.{BufferData, pieces_at, IsSettled, IsSettledBuffer}
-use Rattle.ratatui_core.proofs.BufferLemmas.{text-short, ascii-short, text-ends, IsSettled-row, IsSettledBuffer-empty}
-use Rattle.ratatui_core.proofs.BufferLemmas.{IsPaintable-empty}
+use Rattle.ratatui_core.specs.Buffer.{BufferData, pieces_at, IsSettledBuffer}
+use Rattle.ratatui_core.proofs.BufferLemmas.{text-short, ascii-short, text-ends, IsSettledBuffer-empty}
+use Rattle.ratatui_core.proofs.BufferLemmas.{IsPaintable-empty, IsSettledBuffer-painted}
 use Rattle.logview.specs.Rows.{status_text, status_style, RendersStatus, RendersShortStatus}
 
 more : (b : ℕ) (bs : List ℕ) → b < 128 → IsAscii bs → IsAscii (b ∷ bs)
@@ -34,10 +34,7 @@ pub status-settled : (text : List ℕ) (sheet : BufferData) → IsRendered (Rend
 status-settled text sheet is =
     let blank = is.blank in
     let area = sheet.area in
-    let ends = text-ends blank.area area.x area.width status_style text in
     let left : blank.area.x ≡ area.x = ap (λ (r : Rect). r.x) is.emptied.area in
-    let wide : blank.area.width ≡ area.width = ap (λ (r : Rect). r.width) is.emptied.area in
-    subst (λ (r : Rect). IsSettled r.width r.height sheet.cells) (sym is.rendered.area)
-    (IsSettled-row blank area.x area.y (pieces_at blank.area area.x area.width status_style text) sheet.cells is.rendered.cells
-    (IsSettledBuffer-empty _ _ is.emptied) (IsPaintable-empty _ _ is.emptied _ _) (omega (arith, left))
-    (omega (arith, left, ends)))
+    IsSettledBuffer-painted _ (pieces_at blank.area area.x area.width status_style text) blank sheet (omega (arith, left))
+    (text-ends blank.area area.x area.width status_style text) (IsSettledBuffer-empty _ _ is.emptied)
+    (IsPaintable-empty _ _ is.emptied _ _) is.rendered

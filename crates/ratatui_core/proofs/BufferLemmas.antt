@@ -13,8 +13,9 @@ pub use Rattle.rtui_buffer.proofs.BarLemmas.{ShowsPieces-bar}
 pub use Rattle.rtui_cell.proofs.CellLemmas.{same_look, same_width, same-empty, look-empty, width-empty}
 -- A text of short graphemes is painted in short pieces; those of ASCII are short.
 pub use Rattle.rtui_buffer.proofs.ShortLemmas.{text-short, ascii-short}
--- What is painted within a row keeps a buffer settled, and a text ends there.
-pub use Rattle.rtui_buffer.proofs.{TextLemmas.IsSettled-row, ColumnLemmas.text-ends}
+-- What is painted within a row keeps a buffer settled, and so does a front; at most the pieces' columns differ. A text ends there.
+pub use Rattle.rtui_buffer.proofs.PaintsLemmas.{IsSettledBuffer-painted, front-beside, front-settled}
+pub use Rattle.rtui_buffer.proofs.ColumnLemmas.{text-ends}
 -- A text of one byte takes one column; those of a text of one character above U+00A0 are the character's.
 pub use Rattle.rtui_cell.proofs.WidthLemmas.{one_byte, one_character}
 -- A change of each cell of an area, and what stays within one.
@@ -30,3 +31,6 @@ pub use Rattle.rtui_changes.proofs.PartLemmas.{Parts-none, Parts-next, Parts-wit
 -- What is joined of narrow symbols takes a column and no memory, and each block symbol is narrow.
 pub use Rattle.rtui_narrow.proofs.NarrowLemmas.{narrow-test, joined-short, joined-columns}
 pub use Rattle.rtui_narrow.proofs.SetLemmas.{blocks-narrow}
+-- A printable character of ASCII is no control character, and each of a text is a grapheme.
+pub use Rattle.rtui_text.proofs.PrintableLemmas.{printable-plain}
+pub use Rattle.rtui_changes.proofs.PrintableTextLemmas.{graphemes-singles}

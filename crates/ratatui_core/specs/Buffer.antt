@@ -25,10 +25,10 @@ pub use Rattle.rtui_buffer.specs.Shown.{IsSettledBuffer, IsShownByRepaint, Shows
 pub use Rattle.rtui_buffer.specs.Shown.{IsBufferDiff, HaveSettledRows, listed}
 unfoldable pub use Rattle.rtui_buffer.specs.Painting.{painted_width, kept}
 pub use Rattle.rtui_buffer.specs.Painting.{has_painted_width, IsLongestFront, Piece, piece_of, text_pieces}
-pub use Rattle.rtui_buffer.specs.Painting.{columns, AreWide, shown, piece_at, HasPieces}
+pub use Rattle.rtui_buffer.specs.Painting.{columns, AreWide, shown, piece_at, HasPieces, KeepsUnmarked}
 pub use Rattle.rtui_buffer.specs.PaintedText.{room_at, pieces_at, PaintsPieces, right_by, IsBeside}
 pub use Rattle.rtui_buffer.specs.PaintedText.{PaintsByColumns, IsSameBeside, AreShort, IsPaintable}
-pub use Rattle.rtui_buffer.specs.PaintedText.{PaintsOrRefuses, IsStyled, IsOneGrapheme, HasShortGraphemes}
+pub use Rattle.rtui_buffer.specs.PaintedText.{PaintsFront, Paints, IsStyled, IsOneGrapheme, HasShortGraphemes}
 pub use Rattle.rtui_buffer.specs.PaintedText.{HaveShortGraphemes}
 pub use Rattle.rtui_buffer.specs.Bar.{bar_of, PaintsOnBar, ShowsPieces, bar_cell}
 unfoldable pub use Rattle.rtui_buffer.specs.Line.{line_pieces}

@@ -22,9 +22,9 @@ pub mod buffer {
         pub use rtui_buffer::laws::{
             ascii_graphemes_are_short, common_rows_are_settled, empty_buffers_are_settled,
             equality_is_by_cells, hashing_names_area_and_cells, kept_graphemes_take_columns,
-            longest_front_is_kept, painting_ends_in_its_row, painting_goes_by_columns,
-            painting_keeps_to_its_columns, pieces_are_painted_in_parts, pieces_take_columns,
-            short_graphemes_are_painted_short, shown_cells_have_their_looks,
+            longest_front_is_kept, painted_fronts_keep_the_rest, painting_ends_in_its_row,
+            painting_goes_by_columns, painting_keeps_to_its_columns, pieces_are_painted_in_parts,
+            pieces_take_columns, short_graphemes_are_painted_short, shown_cells_have_their_looks,
             styled_empty_buffers_are_settled, texts_are_painted_in_parts,
         };
         pub use rtui_cell::laws::{

@@ -3,7 +3,7 @@ use Rattle.std.proofs.Common.{ℕ, zero, suc, List, [], ◌∷◌, ◌++◌, set
 use Rattle.rtui_cell.specs.{declared.cell.Cell.Cell, Cell.empty_cell, Cell.IsUnmarked}
 use Rattle.rtui_text.specs.Text.{LineData}
 use Rattle.rtui_buffer.specs.{BufferData.empty_cells, Line.line_row, Line.line_rows}
-use Rattle.rtui_buffer.proofs.{EmptyLemmas.cell-empty, PaintLemmas.unmarked-refl, PaintLemmas.unmarked-painted}
+use Rattle.rtui_buffer.proofs.{EmptyLemmas.cell-empty, PaintsLemmas.HasPieces-unmarked, RowLemmas.HasPieces-row}
 use Rattle.rtui_buffer.proofs.{PaintLemmas.unmarked-set}
 use Rattle.rtui_backend.specs.CellGrid.{AreUnmarked}
 
@@ -26,9 +26,7 @@ AreUnmarked-append (x ∷ xs) ys all rest zero = all 0
 AreUnmarked-append (x ∷ xs) ys all rest (suc i) = AreUnmarked-append xs ys (λ k. all (suc k)) rest i
 
 AreUnmarked-row : (w : ℕ) (line : LineData) → AreUnmarked (line_row w line)
-unfolding line_row
-AreUnmarked-row w line i = (unmarked-painted _ 0 (empty_cells w) (empty_cells w) (unmarked-refl (empty_cells w))).at i
-    (AreUnmarked-empties w i)
+AreUnmarked-row w line i = (HasPieces-unmarked 0 _ (empty_cells w) _ (HasPieces-row w line)).at i (AreUnmarked-empties w i)
 
 pub AreUnmarked-rows : (w : ℕ) (lines : List LineData) → AreUnmarked (line_rows w lines)
 AreUnmarked-rows w [] = λ i. unmarked-empty

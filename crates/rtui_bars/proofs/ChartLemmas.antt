@@ -6,7 +6,7 @@ use Rattle.std.proofs.lemmas.{Bool.cases_lt, List.take_all}
 use Rattle.ratatui_core.specs.Layout.{Rect, IsInside}
 use Rattle.ratatui_core.specs.{Style.Style, declared.layout.Direction.Direction}
 use Rattle.ratatui_core.specs.declared.layout.Direction.TheVariants.{Horizontal, Vertical}
-use Rattle.ratatui_core.specs.Buffer.{BufferData, pieces_at, text_columns, PaintsOrRefuses}
+use Rattle.ratatui_core.specs.Buffer.{BufferData, pieces_at, text_columns, Paints}
 use Rattle.ratatui_core.specs.Buffer.{position_of}
 use Rattle.ratatui_core.specs.Widgets.{ChangesWithin}
 use Rattle.ratatui_core.proofs.BufferLemmas.{text-keeps}
@@ -28,7 +28,7 @@ first-in n r p h = let left = h.left in let right = h.right in let top = h.top i
 -- a text in the middle of a row, or memory is refused
 pub text-within : {A : Type 0} (result : Result A AllocError) (text : List ℕ) (style : Style) (r m : Rect) (old new : BufferData)
     → m ≡ middle_columns (text_columns text) r → IsBoxArea r → IsInside r old.area
-    → PaintsOrRefuses (position_of (m.x, m.y)) (pieces_at old.area m.x m.width style text) result old new
+    → Paints (position_of (m.x, m.y)) (pieces_at old.area m.x m.width style text) result old new
     → ChangesWithin r old new
 text-within result text style r m old new at box inside paints =
     let keeps = text-keeps old.area m.x m.width style text in let rows = box.rows in
@@ -88,7 +88,7 @@ bars-fit c (suc n) width (bar ∷ bars) le =
 -- a text from the left of a row on, or memory is refused
 pub row-within : {A : Type 0} (result : Result A AllocError) (text : List ℕ) (style : Style) (r : Rect) (old new : BufferData)
     → IsBoxArea r → IsInside r old.area
-    → PaintsOrRefuses (position_of (r.x, r.y)) (pieces_at old.area r.x r.width style text) result old new
+    → Paints (position_of (r.x, r.y)) (pieces_at old.area r.x r.width style text) result old new
     → ChangesWithin r old new
 row-within result text style r old new box inside paints =
     let keeps = text-keeps old.area r.x r.width style text in let rows = box.rows in

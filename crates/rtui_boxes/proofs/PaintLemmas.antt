@@ -1,6 +1,6 @@
 -- Pieces painted within a part of a buffer.
 use Rattle.std.proofs.Common.{◌≡◌, ℕ, ◌+◌, ◌-◌, ◌<◌, ◌≤◌, ⊎_elim, inl, inr, true, List, [], ◌∷◌, All, length, length-append}
-use Rattle.std.proofs.Common.{IsUtf8, ap, arith, Result, Ok, Err}
+use Rattle.std.proofs.Common.{IsUtf8, ap, arith, Result}
 use Rattle.std.specs.List.{concat}
 use Rattle.std.proofs.lemmas.{Bool.cases_lt, List.Elements.All-nil, List.Elements.All-cons}
 use Rattle.unicode_segmentation.specs.Grapheme.{graphemes}
@@ -8,10 +8,10 @@ use Rattle.unicode_segmentation.proofs.SegmentsLemmas.{concat-segments}
 use Rattle.std.specs.declared.alloc.AllocError.{AllocError}
 use Rattle.ratatui_core.specs.Layout.{Rect, Position, HasPosition, IsInside}
 use Rattle.ratatui_core.specs.Style.{Style}
-use Rattle.ratatui_core.specs.Buffer.{BufferData, Piece, columns, HasRow, IsBeside, PaintsOrRefuses, position_of, room_at}
+use Rattle.ratatui_core.specs.Buffer.{BufferData, Piece, columns, HasRow, IsBeside, Paints, position_of, room_at}
 use Rattle.ratatui_core.specs.Buffer.{IsShort, AreShort, text_pieces}
 use Rattle.ratatui_core.specs.Widgets.{ChangesWithin}
-use Rattle.ratatui_core.proofs.BufferLemmas.{PaintsByColumns-paints, same-beside, text-short}
+use Rattle.ratatui_core.proofs.BufferLemmas.{front-beside, same-beside, text-short}
 use Rattle.rtui_boxes.specs.Boxes.{IsBoxArea}
 
 -- a place of a part
@@ -54,27 +54,9 @@ part-right part own x n box inside fits =
     (part-place part (part.x + (part.width - 1)) part.y box (omega arith) (omega arith) (omega arith) (omega arith)) in
     let r = h.right in omega arith
 
-by-result : {A : Type 0} (r : Result A AllocError) (part : Rect) (p : Position) (ps : List Piece) (old new : BufferData)
-    → HasRow old.area p.y → old.area.x ≤ p.x → columns ps ≤ old.area.x + old.area.width - p.x
-    → ((q : Position) → (HasPosition part q → ⊥) → IsBeside p (columns ps) q) → PaintsOrRefuses p ps r old new
-    → ChangesWithin part old new
-by-result (Ok x) part p ps old new row starts ends beside paints =
-    let by = PaintsByColumns-paints p ps old new row starts ends paints.ok in
-    record {
-      same_area = paints.ok.area;
-      same_room = paints.ok.room;
-      outside = λ q in_own off. by.outside q in_own (beside q off);
-    }
-by-result (Err e) part p ps old new row starts ends beside paints =
-    record {
-      same_area = paints.err.area;
-      same_room = paints.err.room;
-      outside = λ q in_own off. same-beside p q ps old new row starts ends paints.err in_own (beside q off);
-    }
-
 pub paints-within : {A : Type 0} (r : Result A AllocError) (part : Rect) (x y : ℕ) (ps : List Piece) (old new : BufferData)
     → IsBoxArea part → IsInside part old.area → part.x ≤ x → x + columns ps ≤ part.x + part.width
-    → part.y ≤ y → y < part.y + part.height → PaintsOrRefuses (position_of (x, y)) ps r old new → ChangesWithin part old new
+    → part.y ≤ y → y < part.y + part.height → Paints (position_of (x, y)) ps r old new → ChangesWithin part old new
 paints-within r part x y ps old new box inside le fits t b paints =
     let row = part-has_row part old.area y box inside t b in
     let starts = part-starts part old.area x box inside le in
@@ -89,7 +71,12 @@ paints-within r part x y ps old new box inside le fits t b paints =
     (λ (past : x + columns ps ≤ q.x). inr past)
     (cases_lt q.x (x + columns ps)))
     (cases_lt q.x x) in
-    by-result r part (position_of (x, y)) ps old new row starts ends beside paints
+    let same = front-beside _ _ _ _ paints.front in
+    record {
+      same_area = same.area;
+      same_room = same.room;
+      outside = λ q in_own off. same-beside (position_of (x, y)) q ps old new row starts ends same in_own (beside q off);
+    }
 
 -- as many columns as a buffer has right of a column
 pub room-is : (r : Rect) (x n : ℕ) → x + n ≤ r.x + r.width → n ≤ 65535 → room_at r x n ≡ n

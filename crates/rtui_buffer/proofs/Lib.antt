@@ -7,6 +7,7 @@ pub mod TextLemmas
 pub mod StyleLemmas
 pub mod LineLemmas
 pub mod RefusedLemmas
+pub mod PaintsLemmas
 pub mod ShortLemmas
 pub mod RowLemmas
 pub mod OverlayLemmas

@@ -1,17 +1,18 @@
 -- How painting of spans goes on, a span at a time.
-use Rattle.std.proofs.Common.{◌≡◌, ◌≢◌, ℕ, ◌+◌, ◌-◌, ◌≤◌, true, List, [], ◌∷◌, ◌++◌, length, drop, refl, ap, subst, ◌∙◌, arith}
-use Rattle.std.proofs.lemmas.{List.drop_all, List.Sums.sum_by-append}
+use Rattle.std.proofs.Common.{◌≡◌, ℕ, ◌+◌, ◌-◌, ◌<◌, ◌≤◌, true, List, [], ◌∷◌, ◌++◌, length, drop, refl, sym, ap, subst, ◌∙◌, arith}
+use Rattle.std.proofs.Common.{get_or}
+use Rattle.std.proofs.lemmas.{List.drop_all, List.drop_more, List.Sums.sum_by-append}
 use Rattle.unicode_segmentation.specs.Grapheme.{graphemes}
-use Rattle.rtui_geometry.specs.declared.rect.Rect.{Rect}
 use Rattle.rtui_style.specs.{declared.Style.Style, Style.patch}
 use Rattle.rtui_cell.specs.{declared.cell.Cell.Cell, Symbol.IsShort}
 use Rattle.rtui_text.specs.Text.{SpanData}
-use Rattle.rtui_buffer.specs.Painting.{Piece, piece_width, text_pieces, columns, AreWide, with_piece, painted, HasPieces}
+use Rattle.rtui_buffer.specs.Painting.{Piece, piece_width, text_pieces, columns, AreWide}
+use Rattle.rtui_buffer.specs.Painted.{with_piece, painted}
 use Rattle.std.proofs.lemmas.List.{take_at, Elements.All-take}
-use Rattle.rtui_buffer.specs.{PaintedText.room_at, PaintedText.AreShort, Line.line_pieces}
-use Rattle.rtui_buffer.proofs.PaintLemmas.{painted-nil, painted-cons, IsSameOutside-refl}
-use Rattle.rtui_buffer.proofs.PaintedLemmas.{AreWide-kept, columns-kept, HasPieces-painted}
-use Rattle.rtui_buffer.proofs.TextLemmas.{text_pieces-none, columns-none, PaintsPieces-none}
+use Rattle.rtui_buffer.specs.{PaintedText.AreShort, Line.line_pieces}
+use Rattle.rtui_buffer.proofs.PaintLemmas.{painted-nil, painted-cons}
+use Rattle.rtui_buffer.proofs.PaintedLemmas.{AreWide-kept, columns-kept}
+use Rattle.rtui_buffer.proofs.TextLemmas.{text_pieces-none, columns-none, Paints-none}
 
 pub columns-append : (ps qs : List Piece) → columns (ps ++ qs) ≡ columns ps + columns qs
 columns-append ps qs = sum_by-append piece_width ps qs
@@ -62,25 +63,16 @@ AreWide-line room base (s ∷ ss) =
     rw line_pieces-cons (AreWide-append ps (line_pieces (room - columns ps) base ss)
     (AreWide-kept (patch base s.style) room (graphemes true s.content)) (AreWide-line (room - columns ps) base ss))
 
-pub HasPieces-line : (at room : ℕ) (base : Style) (ss : List SpanData) (cells new : List Cell)
-    → new ≡ painted at (line_pieces room base ss) cells → at + room ≤ length cells
-    → HasPieces at (line_pieces room base ss) cells new
-HasPieces-line at room base ss cells new e fits =
-    let le = columns-line room base ss in
-    rw e (HasPieces-painted at (line_pieces room base ss) cells (AreWide-line room base ss) (omega arith))
-
-pub line-fits : (r : Rect) (x max room : ℕ) (base : Style) (ss : List SpanData) → room ≡ room_at r x max → room ≢ 0
-    → x + columns (line_pieces room base ss) ≤ r.x + r.width
-line-fits r x max room base ss e some = let k = columns-line room base ss in omega arith
-
 -- the pieces that a turn of the loop paints, before those of the spans after
-pub span-pieces : (base : Style) (used room : ℕ) (left ss : List SpanData) (s : SpanData) → left ≡ s ∷ ss
+pub span-pieces : (base : Style) (used room i : ℕ) (ss : List SpanData) (s : SpanData) → i < length ss → s ≡ get_or ss i s
     → let ps = text_pieces (room - used) (patch base s.style) s.content in
-    line_pieces (room - used) base left ≡ ps ++ line_pieces (room - (used + columns ps)) base ss
-span-pieces base used room left ss s is =
+    line_pieces (room - used) base (drop i ss) ≡ ps ++ line_pieces (room - (used + columns ps)) base (drop (i + 1) ss)
+span-pieces base used room i ss s lt is =
+    let next : drop i ss ≡ s ∷ drop (i + 1) ss = drop_more ss i s lt ∙ ap (λ t. t ∷ drop (i + 1) ss) (sym is) in
     let ps : List Piece = text_pieces (room - used) (patch base s.style) s.content in
     let rest : room - used - columns ps ≡ room - (used + columns ps) = omega arith in
-    ap (line_pieces (room - used) base) is ∙ line_pieces-cons (room - used) base s ss ∙ ap (λ n. ps ++ line_pieces n base ss) rest
+    ap (line_pieces (room - used) base) next ∙ line_pieces-cons (room - used) base s (drop (i + 1) ss)
+    ∙ ap (λ n. ps ++ line_pieces n base (drop (i + 1) ss)) rest
 
 -- of short pieces the first are short
 pub short-front : (ps qs : List Piece) → AreShort (ps ++ qs) → AreShort ps
@@ -89,6 +81,4 @@ short-front ps qs h = subst AreShort (take_at ps qs (length ps) refl) (All-take 
 pub line_pieces-end : (room i : ℕ) (base : Style) (ss : List SpanData) → length ss ≤ i → line_pieces room base (drop i ss) ≡ []
 line_pieces-end room i base ss le = ap (line_pieces room base) (drop_all i ss le) ∙ line_pieces-nil room base
 
-pub ruleset line_steps = (HasPieces-line, IsSameOutside-refl)
-
-pub ruleset no_line_steps = (line_pieces-none, columns-none, PaintsPieces-none)
+pub ruleset no_line_steps = (line_pieces-none, columns-none)

@@ -2,8 +2,10 @@
 use Rattle.std.proofs.Common.{◌≡◌, ◌≢◌, ℕ, suc, zero, ◌+◌, ◌-◌, ◌<◌, ◌≤◌, true, List, [], ◌∷◌, set, refl, ◌∙◌, arith}
 use Rattle.std.proofs.lemmas.{Bool.cond_both, Bool.Decides.nat_tests, List.get_or-set_other, List.length-set}
 use Rattle.rtui_cell.specs.{declared.cell.Cell.Cell, Cell.empty_cell, Cell.IsUnmarked, Width.text_width}
-use Rattle.rtui_buffer.specs.Painting.{has_control, painted_width, has_painted_width, fitting, kept, Piece, piece_width, emptied}
-use Rattle.rtui_buffer.specs.Painting.{with_piece, painted, IsSameOutside, KeepsUnmarked}
+use Rattle.rtui_buffer.specs.Painting.{has_control, painted_width, has_painted_width, fitting, kept, Piece, piece_width}
+use Rattle.rtui_buffer.specs.Painted.{emptied}
+use Rattle.rtui_buffer.specs.Painting.{IsSameOutside, KeepsUnmarked}
+use Rattle.rtui_buffer.specs.Painted.{with_piece, painted}
 use Rattle.rtui_diff.specs.Cells.{cell}
 
 -- a grapheme that is painted takes its width
@@ -101,29 +103,3 @@ unmarked-emptied at zero old new h = h
 unmarked-emptied at (suc n) old new h =
     unmarked-emptied (at + 1) n old (set new at empty_cell)
     (record { at = λ k u. unmarked-set new at empty_cell (λ w. record { option = refl; flag = refl }) k (h.at k u) })
-
-pub unmarked-put : (at : ℕ) (p : Piece) (old new : List Cell) → KeepsUnmarked old new → KeepsUnmarked old (with_piece at p new)
-unfolding with_piece
-unmarked-put at p old new h =
-    unmarked-emptied (at + 1) (piece_width p - 1) old _
-    (record { at = λ k u. unmarked-set new at _ (λ w. record { option = w.option; flag = w.flag }) k (h.at k u) })
-
-pub unmarked-painted : (ps : List Piece) (at : ℕ) (old new : List Cell) → KeepsUnmarked old new
-    → KeepsUnmarked old (painted at ps new)
-unfolding painted
-unmarked-painted [] at old new h = h
-unmarked-painted (p ∷ ps) at old new h = unmarked-painted ps (at + piece_width p) old (with_piece at p new)
-    (unmarked-put at p old new h)
-
-pub ruleset paint_steps = (
-  painted_width-painted,
-  kept-nil,
-  kept-skip,
-  kept-take,
-  kept-full,
-  painted-nil,
-  painted-cons,
-  IsSameOutside-refl,
-  IsSameOutside-wider,
-  unmarked-refl,
-)

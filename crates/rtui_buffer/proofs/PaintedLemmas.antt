@@ -10,7 +10,8 @@ use Rattle.rtui_style.specs.{declared.Style.Style, Style.new_style}
 use Rattle.rtui_cell.specs.{declared.cell.Cell.Cell, Cell.empty_cell, Width.text_width}
 use Rattle.rtui_diff.specs.Cells.{cell}
 use Rattle.rtui_buffer.specs.Painting.{painted_width, kept, Piece, piece_of, pieces, piece_width, columns, AreWide, shown}
-use Rattle.rtui_buffer.specs.Painting.{emptied, with_piece, painted, piece_at, place_of, IsSameOutside, HasPieces}
+use Rattle.rtui_buffer.specs.Painting.{piece_at, place_of, IsSameOutside, HasPieces}
+use Rattle.rtui_buffer.specs.Painted.{emptied, with_piece, painted}
 use Rattle.rtui_buffer.proofs.PaintLemmas.{painted_width-painted, kept-nil, kept-skip, kept-take, kept-full, IsSameOutside-refl}
 use Rattle.rtui_buffer.proofs.PaintLemmas.{IsSameOutside-emptied, IsSameOutside-put, IsSameOutside-then}
 
@@ -194,5 +195,3 @@ columns-kept s room gs = kept-ind (λ r ks. columns (pieces s ks) ≤ r) (λ r. 
 -- in no room nothing is painted
 pub kept-none : (gs : List (List ℕ)) → kept 0 gs ≡ []
 kept-none gs = kept-ind (λ r ks. r ≡ 0 → ks ≡ []) (λ r e. refl) (λ r g ks pos le h e. absurd (omega arith)) gs 0 refl
-
-pub ruleset shown_steps = (HasPieces-none)

@@ -10,8 +10,10 @@ use Rattle.rtui_cell.proofs.WidthLemmas.{one_byte}
 use Rattle.rtui_text.specs.Printable.{IsPrintable, ArePrintable, IsPrintableFront, singles}
 use Rattle.rtui_text.proofs.PrintableLemmas.{printable-plain, graphemes-front, front-bytes}
 use Rattle.rtui_diff.specs.Cells.{cell}
-use Rattle.rtui_buffer.specs.Painting.{painted_width, kept, piece_of, pieces, piece_width, columns, shown, emptied, with_piece}
-use Rattle.rtui_buffer.specs.Painting.{painted, text_pieces}
+use Rattle.rtui_buffer.specs.Painting.{painted_width, kept, piece_of, pieces, piece_width, columns, shown}
+use Rattle.rtui_buffer.specs.Painted.{emptied, with_piece}
+use Rattle.rtui_buffer.specs.Painting.{text_pieces}
+use Rattle.rtui_buffer.specs.Painted.{painted}
 use Rattle.rtui_buffer.proofs.PaintLemmas.{kept-take, painted-nil, painted-cons}
 
 painted_width-printable : (b : ℕ) → IsPrintable b → painted_width (b ∷ []) ≡ 1

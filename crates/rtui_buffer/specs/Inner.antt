@@ -1,10 +1,13 @@
 -- What private functions promise one another.
-use Rattle.std.specs.Prelude.{◌≡◌, ℕ, ◌+◌, ◌-◌, ◌<◌, ◌≤◌, ◌&&◌, nat_le, nat_lt, if◌then◌else◌, List, length}
+use Rattle.std.specs.Prelude.{◌≡◌, ℕ, ◌+◌, ◌-◌, ◌<◌, ◌≤◌, ◌&&◌, nat_le, nat_lt, if◌then◌else◌, List, [], ◌++◌}
+use Rattle.std.specs.Prelude.{length, Result, IsOk, OnOk}
+use Rattle.std.specs.declared.alloc.AllocError.{AllocError}
 use Rattle.rtui_geometry.specs.{declared.position.Position.Position, declared.rect.Rect.Rect}
 use Rattle.rtui_geometry.specs.{Rect.HasPosition}
 use Rattle.rtui_cell.specs.{declared.cell.Cell.Cell, Cell.empty_cell, Cell.styled}
 use Rattle.rtui_grid.specs.{declared.block.Block.Block, Blocks.HasBlock}
 use Rattle.rtui_buffer.specs.{BufferData.BufferData, BufferData.cell_in, Painting.IsSameOutside}
+use Rattle.rtui_buffer.specs.{Painting.Piece, Painted.painted, PaintedText.AreShort}
 use Rattle.rtui_style.specs.declared.Style.{Style}
 use Rattle.rtui_diff.specs.Cells.{cell, cell_at}
 
@@ -47,3 +50,13 @@ pub record IsStyledRows (w left right top bottom : ℕ) (s : Style) (old new : L
   pub at : (a b : ℕ) → a < w → cell_at w new a b ≡
       (if nat_le left a && nat_lt a right && nat_le top b && nat_lt b bottom then styled s
       (cell_at w old a b) else cell_at w old a b)
+
+-- a front of these pieces is painted from a place on: all of them if it is Ok, and it is if they are short
+pub record PaintsCells {A : Type 0} (at : ℕ) (ps : List Piece) (result : Result A AllocError)
+    (old new : List Cell) : Type 0 where
+  pub front : List Piece
+  pub rest : List Piece
+  pub is : ps ≡ front ++ rest
+  pub cells : new ≡ painted at front old
+  pub all : OnOk result (rest ≡ [])
+  pub short : AreShort ps → IsOk result

@@ -1,6 +1,7 @@
 pub mod BufferData
 pub mod Shown
 pub mod Painting
+pub mod Painted
 pub mod PaintedText
 pub mod Bar
 pub mod Line

@@ -7,8 +7,8 @@ use Rattle.rtui_cell.specs.declared.cell.Cell.{Cell}
 use Rattle.rtui_text.specs.Text.{SpanData, LineData, line_of, raw_line}
 pub use Rattle.rtui_text.specs.Widths.{widest}
 use Rattle.rtui_buffer.specs.{BufferData.BufferData, BufferData.empty_cells, BufferData.row_cells}
-use Rattle.rtui_buffer.specs.{PaintedText.room_at}
-use Rattle.rtui_buffer.specs.Painting.{Piece, text_pieces, columns, painted, HasPieces}
+use Rattle.rtui_buffer.specs.{PaintedText.room_at, Painted.painted}
+use Rattle.rtui_buffer.specs.Painting.{Piece, text_pieces, columns, HasPieces}
 
 -- the pieces of spans one after the other, each span in the width that is left, its style over the base style
 unfoldable pub line_pieces : ℕ → Style → List SpanData → List Piece

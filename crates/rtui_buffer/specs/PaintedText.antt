@@ -1,6 +1,6 @@
 -- Painting into a buffer, from a position on.
 use Rattle.std.specs.Prelude.{ℕ, ◌+◌, ◌-◌, ◌≡◌, ◌⊎◌, ◌≤◌, ◌<◌, min, true, false, List, [], ◌∷◌, ◌++◌, length}
-use Rattle.std.specs.Prelude.{take, All, Result, IsOk, OnOk, OnErr}
+use Rattle.std.specs.Prelude.{take, All, Result, IsOk, OnOk}
 use Rattle.std.specs.declared.alloc.AllocError.{AllocError}
 use Rattle.unicode_segmentation.specs.Grapheme.{graphemes}
 use Rattle.rtui_text.specs.Text.{SpanData}
@@ -10,9 +10,8 @@ use Rattle.rtui_style.specs.declared.Style.{Style}
 use Rattle.rtui_cell.specs.Symbol.{IsShort}
 use Rattle.rtui_cell.specs.Cell.{empty_cell, styled, width_of, is_skipped, IsUnmarked}
 use Rattle.rtui_buffer.specs.BufferData.{BufferData, cell_index, cell_in, position_of}
-use Rattle.rtui_buffer.specs.Shown.{IsSettledBuffer}
 use Rattle.rtui_buffer.specs.Painting.{Piece, text_pieces, piece_width, piece_at, columns, shown}
-use Rattle.rtui_buffer.specs.Painting.{IsSameOutside, HasPieces, KeepsUnmarked}
+use Rattle.rtui_buffer.specs.Painting.{IsSameOutside, HasPieces}
 
 -- the columns from x to the area's right edge, at most max and 65535
 abbrev pub room_at : Rect → ℕ → ℕ → ℕ
@@ -33,7 +32,7 @@ pub record PaintsFront (p : Position) (ps : List Piece) (old new : BufferData) :
   pub front : List Piece
   pub rest : List Piece
   pub is : ps ≡ front ++ rest
-  pub paints : PaintsPieces p front old new
+  pub stands : PaintsPieces p front old new
 
 -- the position some columns further right
 abbrev pub right_by : ℕ → Position → Position
@@ -55,7 +54,7 @@ pub record PaintsByColumns (p : Position) (ps : List Piece) (old new : BufferDat
   pub outside : (q : Position) → HasPosition old.area q → IsBeside p (columns ps) q
       → cell_in new q ≡ cell_in old q
 
--- the buffers differ at most where the pieces would have been painted
+-- the buffers differ at most in the columns of the pieces
 pub record IsSameBeside (p : Position) (ps : List Piece) (old new : BufferData) : Type 0 where
   pub area : new.area ≡ old.area
   pub room : new.room ≡ old.room
@@ -72,15 +71,12 @@ pub record IsPaintable (p : Position) (n : ℕ) (s : BufferData) : Type 0 where
   pub uncovered : (a : ℕ) → s.area.x ≤ a → a < p.x → is_skipped (cell_in s (position_of (a, p.y))) ≡ false
       → a + width_of (cell_in s (position_of (a, p.y))) ≤ p.x
 
--- What a call does that paints pieces from a position on. Ok, they are painted, and a settled buffer is still
--- settled if their columns may be painted; if memory is refused, at most their columns differ. Short symbols
--- are never refused.
-pub record PaintsOrRefuses {A : Type 0} (p : Position) (ps : List Piece) (result : Result A AllocError)
+-- What a call does that paints pieces from a position on: a front of them stands there and nothing else
+-- changes, all of them if it answers Ok. It does if they are short.
+pub record Paints {A : Type 0} (p : Position) (ps : List Piece) (result : Result A AllocError)
     (old new : BufferData) : Type 0 where
+  pub front : PaintsFront p ps old new
   pub ok : OnOk result (PaintsPieces p ps old new)
-  pub settled : IsSettledBuffer old → IsPaintable p (columns ps) old → OnOk result (IsSettledBuffer new)
-  pub err : OnErr result (IsSameBeside p ps old new)
-  pub marks : OnErr result (KeepsUnmarked old.cells new.cells)
   pub short : AreShort ps → IsOk result
 
 -- the buffer with a style laid over the cells of an area

@@ -1,7 +1,6 @@
 -- Painting pieces of text into a list of cells, one after the other.
-use Rattle.std.specs.Prelude.{ℕ, ⊤, Bool, true, ◌+◌, ◌-◌, ◌≡◌, ◌≤◌, ◌<◌, suc, zero, nat_le, nat_lt, List, []}
-use Rattle.std.specs.Prelude.{◌∷◌, ◌++◌, length, take, map, filter, sum_by, if◌then◌else◌, Some}
-use Rattle.std.specs.Prelude.{slice_index_or, slice_set}
+use Rattle.std.specs.Prelude.{ℕ, ⊤, Bool, true, ◌+◌, ◌-◌, ◌≡◌, ◌≤◌, ◌<◌, nat_le, nat_lt, List, [], ◌∷◌}
+use Rattle.std.specs.Prelude.{length, take, map, filter, sum_by, if◌then◌else◌, Some, slice_index_or}
 use Rattle.unicode_segmentation.specs.Grapheme.{graphemes}
 use Rattle.rtui_style.specs.{declared.Style.Style, Style.new_style}
 use Rattle.rtui_cell.specs.{declared.cell.Cell.Cell, Cell.empty_cell, Cell.styled, Cell.IsUnmarked}
@@ -64,20 +63,6 @@ AreWide (p ∷ ps) = (0 < piece_width p) × AreWide ps
 abbrev pub shown : Piece → Cell → Cell
 shown p c = styled p.style (record c { symbol = Some p.symbol })
 
--- the cells with n empty ones from a place on
-unfoldable pub emptied : ℕ → ℕ → List Cell → List Cell
-emptied at zero cells = cells
-emptied at (suc n) cells = emptied (at + 1) n (slice_set cells at empty_cell)
-
--- the cells with a piece at a place, and empty cells in the other columns that it takes
-unfoldable pub with_piece : ℕ → Piece → List Cell → List Cell
-with_piece at p cells = emptied (at + 1) (piece_width p - 1) (slice_set cells at (shown p (cell cells at)))
-
--- the cells with pieces from a place on, one after the other
-unfoldable pub painted : ℕ → List Piece → List Cell → List Cell
-painted at [] cells = cells
-painted at (p ∷ ps) cells = painted (at + piece_width p) ps (with_piece at p cells)
-
 -- outside a part, from one place up to another, the cells are the same
 pub record IsSameOutside (from to : ℕ) (old new : List Cell) : Type 0 where
   pub count : length new ≡ length old
@@ -103,11 +88,3 @@ pub record HasPieces (at : ℕ) (ps : List Piece) (old new : List Cell) : Type 0
   pub behind : (k j : ℕ) → k < length ps → 0 < j → j < piece_width (piece_at ps k)
       → cell new (place_of at ps k + j) ≡ empty_cell
   pub outside : IsSameOutside at (at + columns ps) old new
-
--- a front of the pieces, and no more, is painted
-pub record HasFront (at : ℕ) (ps : List Piece) (old new : List Cell) : Type 0 where
-  pub front : List Piece
-  pub rest : List Piece
-  pub is : ps ≡ front ++ rest
-  pub cells : new ≡ painted at front old
-  pub shown : HasPieces at front old new

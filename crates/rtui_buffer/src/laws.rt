@@ -19,10 +19,11 @@ ghost use Rattle.rtui_geometry.specs.Rect.{HasPosition, EdgesFit};
 ghost use Rattle.rtui_buffer.specs.BufferData.{HasRow, BufferData, IsEmptied, IsEqualBuffer, cell_in};
 ghost use Rattle.rtui_buffer.specs.Shown.{IsSettledBuffer, ShowsBuffer, IsAligned, HaveSettledRows};
 ghost use Rattle.rtui_buffer.specs.Painting.{Piece, piece_of, painted_width, has_painted_width, kept};
-ghost use Rattle.rtui_buffer.specs.Painting.{text_pieces, columns, AreWide, IsLongestFront};
+ghost use Rattle.rtui_buffer.specs.Painting.{text_pieces, columns, AreWide, IsLongestFront, KeepsUnmarked};
 ghost use Rattle.rtui_buffer.specs.PaintedText.{pieces_at, room_at, right_by, AreShort, IsOneGrapheme};
 ghost use Rattle.rtui_buffer.specs.PaintedText.{HasShortGraphemes, HaveShortGraphemes, IsBeside, IsPaintable};
-ghost use Rattle.rtui_buffer.specs.PaintedText.{IsSameBeside, IsStyled, PaintsPieces, PaintsByColumns};
+ghost use Rattle.rtui_buffer.specs.PaintedText.{IsSameBeside, IsStyled, PaintsPieces, PaintsFront};
+ghost use Rattle.rtui_buffer.specs.PaintedText.{PaintsByColumns};
 ghost use Rattle.rtui_buffer.specs.Line.{line_pieces, line_pieces_at};
 
 use crate::buffer::Buffer;
@@ -164,4 +165,17 @@ pub fn painting_goes_by_columns()
         → HasRow old.area p.y → old.area.x ≤ p.x → columns ps ≤ old.area.x + old.area.width - p.x
         → IsSameBeside p ps old new → HasPosition old.area q → IsBeside p (columns ps) q
         → cell_in new q ≡ cell_in old q }
+{}
+
+/// What is painted of pieces, all of them or a front: at most their columns differ, no cell gets an
+/// option or the flag, and a settled buffer stays settled if the columns may be painted.
+pub fn painted_fronts_keep_the_rest()
+    ensures beside { (p : Position) (ps : List Piece) (old new : BufferData)
+        → PaintsFront p ps old new → IsSameBeside p ps old new }
+    ensures marks { (p : Position) (ps : List Piece) (old new : BufferData)
+        → PaintsFront p ps old new → KeepsUnmarked old.cells new.cells }
+    ensures settled { (p : Position) (ps : List Piece) (old new : BufferData)
+        → PaintsFront p ps old new → old.area.x ≤ p.x
+        → columns ps ≤ old.area.x + old.area.width - p.x → IsSettledBuffer old
+        → IsPaintable p (columns ps) old → IsSettledBuffer new }
 {}

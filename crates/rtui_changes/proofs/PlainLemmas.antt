@@ -2,12 +2,12 @@
 use Rattle.std.proofs.Common.{◌≡◌, ℕ, ◌+◌, ◌-◌, ◌<◌, ◌≤◌, ◌⊎◌, ⊎_elim, inl, inr, Bool, true, false, List, take, refl, sym, ap}
 use Rattle.std.proofs.Common.{subst, ◌∙◌, arith, if◌then◌else◌, Result, Ok, Err, OnOk}
 use Rattle.std.proofs.lemmas.Bool.{cases_lt}
-use Rattle.rtui_buffer.proofs.{ColumnLemmas.PaintsByColumns-paints, TextLemmas.IsSettled-row, EmptyLemmas.cell-empty}
+use Rattle.rtui_buffer.proofs.{ColumnLemmas.PaintsByColumns-paints, EmptyLemmas.cell-empty, PaintsLemmas.IsSettledBuffer-painted}
 use Rattle.rtui_changes.specs.Changes.{ChangesEach}
 use Rattle.rtui_changes.proofs.ChangeLemmas.{has-or-not}
 use Rattle.rtui_buffer.proofs.{SettledLemmas.IsIn, SettledLemmas.is_in, SettledLemmas.width-shown, ShownLemmas.index-at}
 use Rattle.rtui_buffer.specs.Shown.{IsSettledBuffer}
-use Rattle.rtui_buffer.specs.PaintedText.{IsPaintable, PaintsPieces, PaintsByColumns, PaintsOrRefuses}
+use Rattle.rtui_buffer.specs.PaintedText.{IsPaintable, PaintsPieces, PaintsByColumns, Paints}
 use Rattle.rtui_buffer.specs.Painting.{Piece, piece_at, piece_width, columns, shown}
 use Rattle.rtui_buffer.specs.BufferData.{BufferData, cell_in, cell_index, area_size, IsEmptied, HasRow, position_of}
 use Rattle.rtui_cell.proofs.CellLemmas.{width-empty}
@@ -169,11 +169,12 @@ module _ (x y : ℕ) (s : BufferData) (ready : IsReadyAt x y s) (row : HasRow s.
 
 pub put-ready : {A : Type 0} (r : Result A AllocError) (x y m : ℕ) (ps : List Piece) (old new : BufferData) → IsReadyAt x y old
     → HasRow old.area y → old.area.x ≤ x → x + m ≤ old.area.x + old.area.width → columns ps ≤ m
-    → PaintsOrRefuses (position_of (x, y)) ps r old new → OnOk r (IsReadyAt (x + m) y new)
+    → Paints (position_of (x, y)) ps r old new → OnOk r (IsReadyAt (x + m) y new)
 put-ready (Ok v) x y m ps old new ready row starts fits le paints =
     ready-next x y old ready row starts m ps new fits le paints.ok.area
     (PaintsByColumns-paints (position_of (x, y)) ps old new row starts (omega arith) paints.ok)
-    (paints.settled ready.settled (ready-paintable x y old ready row starts (columns ps) (omega arith)))
+    (IsSettledBuffer-painted (position_of (x, y)) ps old new starts (omega arith) ready.settled
+    (ready-paintable x y old ready row starts (columns ps) (omega arith)) paints.ok)
 put-ready (Err e) x y m ps old new ready row starts fits le paints = tt
 
 -- a change of plain cells that no cell before reaches
@@ -276,10 +277,8 @@ pub painted-settled : (x y : ℕ) (ps : List Piece) (old new : BufferData) → E
     → HasRow old.area y → old.area.x ≤ x → x + columns ps ≤ old.area.x + old.area.width
     → PaintsPieces (position_of (x, y)) ps old new → IsSettledBuffer new
 painted-settled x y ps old new edges plain row starts fits paints =
-    subst (λ q. IsSettled q.width q.height new.cells) (sym paints.area)
-    (IsSettled-row old x y ps new.cells paints.cells (settled-plain old edges plain)
-    (paintable-plain (position_of (x, y)) (columns ps) old edges row starts fits (plain-later 0 y old (omega arith) plain)) starts
-    fits)
+    IsSettledBuffer-painted (position_of (x, y)) ps old new starts (omega arith) (settled-plain old edges plain)
+    (paintable-plain (position_of (x, y)) (columns ps) old edges row starts fits (plain-later 0 y old (omega arith) plain)) paints
 
 -- a change that keeps cells plain
 pub plain-changed : (r : Rect) (f : Position → Cell → Cell) (old new : BufferData)

@@ -17,7 +17,7 @@ narrow-singles [] = All-nil IsNarrowGrapheme
 narrow-singles (b ∷ bs) = All-cons IsNarrowGrapheme (b ∷ []) (singles bs) (λ _. one_byte b) (narrow-singles bs)
 
 -- each of them is a grapheme
-graphemes-singles : (text : List ℕ) → ArePrintable text → graphemes true text ≡ singles text
+pub graphemes-singles : (text : List ℕ) → ArePrintable text → graphemes true text ≡ singles text
 graphemes-singles text all =
     let front = graphemes-front text (length text) (record {
       within = omega arith;

@@ -3,7 +3,7 @@ use Rattle.std.proofs.Common.{◌≡◌, ℕ, ◌+◌, ◌-◌, ◌*◌, ◌/◌
 use Rattle.std.proofs.Math.Nat.{div-lt_iff_lt-mul}
 use Rattle.std.specs.declared.alloc.AllocError.{AllocError}
 use Rattle.ratatui_core.specs.Layout.{Rect, IsInside, corner}
-use Rattle.ratatui_core.specs.Buffer.{BufferData, ChangesEach, Piece, columns, PaintsPieces, PaintsOrRefuses, HasRow}
+use Rattle.ratatui_core.specs.Buffer.{BufferData, ChangesEach, Piece, columns, PaintsPieces, Paints, HasRow}
 use Rattle.ratatui_core.specs.Buffer.{pieces_at, position_of}
 use Rattle.ratatui_core.specs.{Widgets.ChangesWithin, Style.Style, Style.new_style, Text.LineData}
 use Rattle.ratatui_core.proofs.BufferLemmas.{line-keeps, text-keeps}
@@ -27,7 +27,7 @@ rounded-le n p w le some =
 
 -- pieces painted from the corner of a part on, in at most its columns
 pub corner-within : {A : Type 0} (r : Result A AllocError) (part : Rect) (ps : List Piece) (old new : BufferData) → IsBoxArea part
-    → IsInside part old.area → columns ps ≤ part.width → PaintsOrRefuses (corner part) ps r old new
+    → IsInside part old.area → columns ps ≤ part.width → Paints (corner part) ps r old new
     → ChangesWithin part old new
 corner-within r part ps old new box inside le paints =
     let wide = box.columns in let high = box.rows in
@@ -39,7 +39,7 @@ pieces-keep g None r own = text-keeps own r.x r.width new_style (even_percent_te
 pieces-keep g (Some label) r own = line-keeps own r.x r.width label
 
 pub label-within : {A : Type 0} (res : Result A AllocError) (g : LineGauge) (r : Rect) (old new : BufferData) → IsBoxArea r
-    → IsInside r old.area → PaintsOrRefuses (corner r) (line_label_pieces g r old.area) res old new → ChangesWithin r old new
+    → IsInside r old.area → Paints (corner r) (line_label_pieces g r old.area) res old new → ChangesWithin r old new
 label-within res g r old new box inside paints = corner-within res r (line_label_pieces g r old.area) old new box inside
     (pieces-keep g g.label r old.area) paints
 
@@ -92,7 +92,7 @@ label-column text r own l box inside e = let is = label-in text r l box e in par
 
 pub label-paints : {A : Type 0} (res : Result A AllocError) (text : List ℕ) (style : Style) (r l : Rect) (old new : BufferData)
     → IsBoxArea r → IsInside r old.area → l ≡ label_part text r
-    → PaintsOrRefuses (position_of (l.x, l.y)) (pieces_at old.area l.x l.width style text) res old new → ChangesWithin r old new
+    → Paints (position_of (l.x, l.y)) (pieces_at old.area l.x l.width style text) res old new → ChangesWithin r old new
 label-paints res text style r l old new box inside e paints =
     let is = label-in text r l box e in
     let keeps = text-keeps old.area l.x l.width style text in

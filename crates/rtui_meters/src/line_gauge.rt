@@ -2,7 +2,7 @@
 
 ghost use Rattle.std.specs.Prelude.{◌≡◌, ◌≤◌, ◌<◌, ◌+◌, Some, OnOk, IfOk, IsOk, true};
 ghost use Rattle.ratatui_core.specs.Layout.{IsInside, corner};
-ghost use Rattle.ratatui_core.specs.Buffer.{columns, AreShort, PaintsOrRefuses, IsShort};
+ghost use Rattle.ratatui_core.specs.Buffer.{columns, AreShort, Paints, IsShort};
 ghost use Rattle.ratatui_core.specs.Widgets.{ChangesWithin};
 ghost use Rattle.rtui_boxes.specs.Boxes.{IsBoxArea};
 ghost use Rattle.rtui_meters.specs.Shares.{share_of};
@@ -162,7 +162,7 @@ impl<'a> LineGauge<'a> {
         requires some { IsBoxArea inner }
         requires inside { IsInside inner buf.old.area }
         ensures paints { let ps = line_label_pieces self.now inner buf.old.area in
-            PaintsOrRefuses (corner inner) ps result buf.old buf.new }
+            Paints (corner inner) ps result buf.old buf.new }
         ensures place { let ps = line_label_pieces self.now inner buf.old.area in
             IfOk result (λ x. x ≡ inner.x + columns ps) }
     {

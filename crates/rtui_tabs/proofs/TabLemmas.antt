@@ -6,10 +6,10 @@ use Rattle.std.specs.declared.alloc.AllocError.{AllocError}
 use Rattle.ratatui_core.specs.Layout.{Rect, Position, HasPosition, IsInside, corner}
 use Rattle.ratatui_core.specs.{Style.Style, Text.LineData}
 use Rattle.ratatui_core.specs.Buffer.{BufferData, Piece, text_pieces, line_pieces, columns, room_at, PaintsPieces}
-use Rattle.ratatui_core.specs.Buffer.{PaintsOrRefuses, IsBeside}
+use Rattle.ratatui_core.specs.Buffer.{Paints, IsBeside}
 use Rattle.ratatui_core.specs.Widgets.{ChangesWithin, first_row}
 use Rattle.ratatui_core.proofs.BufferLemmas.{PaintsByColumns-paints, same-beside, text-keeps, line-keeps, within-same}
-use Rattle.ratatui_core.proofs.BufferLemmas.{within-wider}
+use Rattle.ratatui_core.proofs.BufferLemmas.{within-wider, front-beside}
 use Rattle.ratatui_core.proofs.WidgetLemmas.{within-then}
 use Rattle.rtui_boxes.specs.{Boxes.IsBoxArea, Titles.without_first}
 use Rattle.rtui_boxes.proofs.PaintLemmas.{part-has_row, part-starts, part-right}
@@ -110,14 +110,14 @@ module _ (highlight : Style) (p : TabPart) (row : Rect) (old mid : BufferData) (
 
   -- memory is refused
   pub puts-refused : {A : Type 0} (e : AllocError) (r : Result Rect AllocError) → IsErr r
-      → PaintsOrRefuses {A = A} (corner row) ps (Err e) old mid → PutsParts highlight (p ∷ []) row r old mid
+      → Paints {A = A} (corner row) ps (Err e) old mid → PutsParts highlight (p ∷ []) row r old mid
   puts-refused e r err paints =
+      let same = front-beside _ _ _ _ paints.front in
       refused highlight (p ∷ []) row old mid r err
       (record {
-        same_area = paints.err.area;
-        same_room = paints.err.room;
-        outside = λ q in_own off. same-beside (corner row) q ps old mid is.there is.left ends paints.err in_own
-            (beside q off);
+        same_area = same.area;
+        same_room = same.room;
+        outside = λ q in_own off. same-beside (corner row) q ps old mid is.there is.left ends same in_own (beside q off);
       })
       (λ short. let no : false ≡ true = paints.short short.0 in absurd (cc))
 

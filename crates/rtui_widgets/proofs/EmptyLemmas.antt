@@ -1,7 +1,7 @@
 -- How cells are emptied.
 use Rattle.std.proofs.Common.{◌≡◌, ℕ, ◌+◌, ◌-◌, ◌<◌, List, arith}
 use Rattle.rtui_cell.specs.declared.cell.Cell.{Cell}
-use Rattle.rtui_buffer.specs.Painting.{emptied}
+use Rattle.rtui_buffer.specs.Painted.{emptied}
 
 pub emptied-none : (at n : ℕ) (cells : List Cell) → n ≡ 0 → emptied at n cells ≡ cells
 unfolding emptied

@@ -7,10 +7,10 @@ use Rattle.rtui_style.specs.declared.Style.{Style}
 use Rattle.rtui_text.specs.Text.{LineData}
 use Rattle.rtui_buffer.specs.{BufferData.BufferData, BufferData.IsEmptied, Shown.IsSettledBuffer, Painting.Piece}
 use Rattle.rtui_buffer.specs.{Painting.columns, Bar.bar_of, Bar.PaintsOnBar}
-use Rattle.rtui_buffer.specs.PaintedText.{IsStyled, IsPaintable, IsSameBeside, PaintsOrRefuses}
+use Rattle.rtui_buffer.specs.PaintedText.{IsStyled, IsSameBeside, Paints, PaintsPieces}
 use Rattle.rtui_buffer.specs.{Line.line_pieces_at, Clipped.IsClipped}
 use Rattle.rtui_buffer.proofs.{ColumnLemmas.line-ends, ColumnLemmas.line-keeps, ShownLemmas.IsSettledBuffer-styled}
-use Rattle.rtui_buffer.proofs.{ShownLemmas.IsPaintable-styled}
+use Rattle.rtui_buffer.proofs.{ShownLemmas.IsPaintable-styled, PaintsLemmas.IsSettledBuffer-painted, PaintsLemmas.front-beside}
 use Rattle.rtui_widgets.specs.{Rendering.ChangesWithin, Clipped.OnPart}
 use Rattle.rtui_widgets.proofs.WithinLemmas.{intersected-whole, part-around, part-row, within-then, within-styled, within-beside}
 
@@ -50,16 +50,16 @@ module _ (area part : Rect) (n : ℕ) (style : Style) (line : LineData) (old und
   abbrev ps : List Piece
   ps = line_pieces_at under.area part.x part.width line
 
-  settled : (IsSettledBuffer under → IsPaintable (corner part) (columns ps) under → IsSettledBuffer new) → IsEmptied own old
-      → IsSettledBuffer new
-  settled keeps emptied =
+  settled : PaintsPieces (corner part) ps under new → IsEmptied own old → IsSettledBuffer new
+  settled painted emptied =
       let ends = line-ends under.area part.x part.width line in
       let x : under.area.x ≡ own.x = ap (λ q. q.x) bar.area in
       let w : under.area.width ≡ own.width = ap (λ q. q.width) bar.area in
       let around = part-around area own part is in let some = is.columns in
-      keeps (IsSettledBuffer-styled own (bar_of n part) style old under is.edges emptied bar)
+      IsSettledBuffer-painted (corner part) ps under new (omega (arith, around.left)) ends
+      (IsSettledBuffer-styled own (bar_of n part) style old under is.edges emptied bar)
       (IsPaintable-styled own (bar_of n part) style old under is.edges emptied bar (corner part) (columns ps)
-      (part-row area own part is) around.left (omega arith))
+      (part-row area own part is) around.left (omega arith)) painted
 
   within : n ≤ part.width → IsSameBeside (corner part) ps under new → ChangesWithin area old new
   within narrow refused =
@@ -72,8 +72,8 @@ module _ (area part : Rect) (n : ℕ) (style : Style) (line : LineData) (old und
       (line-ends under.area part.x part.width line) (λ q in_own from to same. here.of_area q (omega arith)) refused)
 
   -- Ok, the line stands on the bar, and of an empty buffer came a settled one; refused, nothing outside the area changed
-  pub line-on-bar : {A : Type 0} (r : Result A AllocError) → n ≤ part.width → PaintsOrRefuses (corner part) ps r under new
+  pub line-on-bar : {A : Type 0} (r : Result A AllocError) → n ≤ part.width → Paints (corner part) ps r under new
       → OnOk r (PaintsOnBar (bar_of n part) style (corner part) (λ q. line_pieces_at q part.x part.width line) old new
       × (IsEmptied own old → IsSettledBuffer new)) × OnErr r (ChangesWithin area old new)
-  line-on-bar (Ok x) narrow paints = ((record { under = under; laid = bar; painted = paints.ok }, settled paints.settled), tt)
-  line-on-bar (Err e) narrow paints = (tt, within narrow paints.err)
+  line-on-bar (Ok x) narrow paints = ((record { under = under; laid = bar; painted = paints.ok }, settled paints.ok), tt)
+  line-on-bar (Err e) narrow paints = (tt, within narrow (front-beside _ _ _ _ paints.front))

@@ -8,8 +8,9 @@ use Rattle.rtui_style.specs.declared.Style.{Style}
 use Rattle.rtui_text.specs.Printable.{ArePrintable, IsPrintableFront, singles}
 use Rattle.rtui_text.proofs.PrintableLemmas.{printable-plain, graphemes-front, front-bytes}
 use Rattle.rtui_diff.specs.Cells.{cell}
-use Rattle.rtui_buffer.specs.Painting.{emptied, piece_of, pieces, painted, shown}
-use Rattle.rtui_buffer.proofs.{PaintLemmas.painted-nil, PrintableLemmas.painted-byte}
+use Rattle.rtui_buffer.specs.Painting.{piece_of, pieces, shown, KeepsUnmarked}
+use Rattle.rtui_buffer.specs.Painted.{emptied, painted}
+use Rattle.rtui_buffer.proofs.{PaintLemmas.painted-nil, PaintLemmas.unmarked-set, PrintableLemmas.painted-byte}
 use Rattle.rtui_cell.proofs.WidthLemmas.{one_byte}
 use Rattle.rtui_widgets.specs.Inner.{with_next}
 use Rattle.rtui_widgets.proofs.SpanLemmas.{HasShown, shown-none, shown-turn}
@@ -50,3 +51,12 @@ shown-front s text n old h le =
     (painted 0 (pieces s (singles (take n text))) old)) end
     (shown-bytes s text (take n text) 0 (graphemes true (drop n text)) old old (omega arith) (front-bytes text n h)
     (rw (graphemes-front text n h) at (shown-none s text old)))
+
+-- they set no option and no flag
+pub unmarked-bytes : (s : Style) (bs : List ℕ) (x : ℕ) (old row : List Cell) → KeepsUnmarked old row
+    → KeepsUnmarked old (painted x (pieces s (singles bs)) row)
+unmarked-bytes s [] x old row h = rw (painted-nil x row) h
+unmarked-bytes s (b ∷ bs) x old row h =
+    rw (painted-byte x s b bs row) (unmarked-bytes s bs (x + 1) old _ (record {
+      at = λ k u. unmarked-set row x _ (λ w. record { option = w.option; flag = w.flag }) k (h.at k u);
+    }))

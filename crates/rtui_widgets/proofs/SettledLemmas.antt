@@ -1,20 +1,17 @@
 -- A text on an empty buffer leaves a settled one.
-use Rattle.std.proofs.Common.{◌≡◌, ℕ, ◌+◌, ◌<◌, ◌≤◌, List, sym, ap, subst, arith}
+use Rattle.std.proofs.Common.{◌≡◌, ℕ, ◌+◌, ◌<◌, ◌≤◌, List, ap, arith}
 use Rattle.rtui_geometry.specs.declared.rect.Rect.{Rect}
 use Rattle.rtui_style.specs.Style.{new_style}
-use Rattle.rtui_diff.specs.Settled.{IsSettled}
 use Rattle.rtui_buffer.specs.{BufferData.BufferData, BufferData.IsEmptied, Shown.IsSettledBuffer, PaintedText.pieces_at}
-use Rattle.rtui_buffer.proofs.{EmptyLemmas.IsSettledBuffer-empty, EmptyLemmas.IsPaintable-empty, TextLemmas.IsSettled-row}
-use Rattle.rtui_buffer.proofs.{ColumnLemmas.text-ends}
+use Rattle.rtui_buffer.proofs.{EmptyLemmas.IsSettledBuffer-empty, EmptyLemmas.IsPaintable-empty}
+use Rattle.rtui_buffer.proofs.{ColumnLemmas.text-ends, PaintsLemmas.IsSettledBuffer-painted}
 use Rattle.rtui_widgets.specs.Rendering.{HasFirstRow, RendersStr}
 
 pub text-settled : (r area : Rect) (text : List ℕ) (old new : BufferData) → IsEmptied r old → old.area.x ≤ area.x
     → area.x ≤ old.area.x + old.area.width → RendersStr text area old new → IsSettledBuffer new
 text-settled r area text old new empty left right paints =
-    let ends = text-ends old.area area.x area.width new_style text in
-    subst (λ (a : Rect). IsSettled a.width a.height new.cells) (sym paints.area)
-    (IsSettled-row old area.x area.y (pieces_at old.area area.x area.width new_style text) new.cells paints.cells
-    (IsSettledBuffer-empty _ _ empty) (IsPaintable-empty _ _ empty _ _) left (omega arith))
+    IsSettledBuffer-painted _ (pieces_at old.area area.x area.width new_style text) old new left
+    (text-ends old.area area.x area.width new_style text) (IsSettledBuffer-empty _ _ empty) (IsPaintable-empty _ _ empty _ _) paints
 
 pub has-first-row : (r : Rect) (s : BufferData) → 0 < r.height → IsEmptied r s → HasFirstRow r s
 has-first-row r s some empty =

@@ -13,7 +13,8 @@ use Rattle.rtui_cell.specs.{Symbol.IsShort, Width.text_width}
 use Rattle.rtui_diff.specs.Cells.{cell}
 use Rattle.rtui_style.specs.declared.Style.{Style}
 use Rattle.rtui_text.specs.Graphemes.{has_control}
-use Rattle.rtui_buffer.specs.Painting.{fitting, emptied, KeepsUnmarked}
+use Rattle.rtui_buffer.specs.Painting.{fitting, KeepsUnmarked}
+use Rattle.rtui_buffer.specs.Painted.{emptied}
 use Rattle.rtui_widgets.specs.Span.{showing, goes_to, those_at, is_behind, column_with, columns_from, graphemes_rendered}
 use Rattle.rtui_widgets.specs.Span.{span_rendered, IsShortSpan}
 use Rattle.rtui_widgets.specs.Refused.{HasFrontOfSpan}

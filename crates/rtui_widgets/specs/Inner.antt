@@ -5,7 +5,7 @@ use Rattle.rtui_cell.specs.{declared.cell.Cell.Cell, Cell.empty_cell, Cell.style
 use Rattle.rtui_cell.specs.{Width.text_width}
 use Rattle.rtui_diff.specs.Cells.{cell}
 use Rattle.rtui_style.specs.declared.Style.{Style}
-use Rattle.rtui_buffer.specs.Painting.{emptied}
+use Rattle.rtui_buffer.specs.Painted.{emptied}
 use Rattle.rtui_widgets.specs.{Span.goes_to, declared.line.Part.Part}
 use Rattle.rtui_widgets.specs.Line as line
 

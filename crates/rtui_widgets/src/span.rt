@@ -3,7 +3,7 @@
 ghost use Rattle.std.specs.Prelude.{true, ◌≡◌, ◌+◌, ◌-◌, ◌<◌, ◌≤◌, length, IsOk, OnOk, OnErr};
 ghost use Rattle.rtui_cell.specs.Symbol.{appended, IsShort};
 ghost use Rattle.rtui_cell.specs.Width.{text_width};
-ghost use Rattle.rtui_buffer.specs.Painting.{emptied};
+ghost use Rattle.rtui_buffer.specs.Painted.{emptied};
 ghost use Rattle.rtui_widgets.specs.Span.{span_rendered, IsShortSpan};
 ghost use Rattle.rtui_widgets.specs.Refused.{HasFrontOfSpan};
 ghost use Rattle.rtui_buffer.specs.Painting.{KeepsUnmarked};

@@ -1,17 +1,17 @@
 //! Painting spans and lines.
 
-ghost use Rattle.std.specs.Prelude.{◌≡◌, ◌+◌, ◌-◌, ◌*◌, ◌<◌, ◌≤◌, [], length, IsOk, OnOk, OnErr, IfOk};
+ghost use Rattle.std.specs.Prelude.{◌≡◌, ◌+◌, ◌-◌, ◌*◌, ◌<◌, ◌≤◌, [], length, IsOk, OnOk, IfOk};
 ghost use Rattle.std.specs.Vec.{vec_capacity};
 ghost use Rattle.rtui_style.specs.Style.{patch};
 ghost use Rattle.rtui_text.specs.Text.{raw_line};
 ghost use Rattle.rtui_text.specs.Widths.{line_width};
 ghost use Rattle.rtui_buffer.specs.BufferData.{HasRow, position_of, empty_cells, HasRoomFor};
 ghost use Rattle.rtui_buffer.specs.Shown.{IsSettledBuffer};
-ghost use Rattle.rtui_buffer.specs.Painting.{columns, painted, IsSameOutside, HasPieces, HasFront};
-ghost use Rattle.rtui_buffer.specs.Painting.{KeepsUnmarked};
-ghost use Rattle.rtui_buffer.specs.PaintedText.{room_at, pieces_at, AreShort, PaintsFront, PaintsOrRefuses};
+ghost use Rattle.rtui_buffer.specs.Painting.{columns};
+ghost use Rattle.rtui_buffer.specs.PaintedText.{room_at, pieces_at, Paints};
 ghost use Rattle.rtui_buffer.specs.Line.{line_pieces, line_pieces_at, widest, lines_area, line_rows};
 ghost use Rattle.rtui_buffer.specs.Line.{IsOfLines, raw_lines};
+ghost use Rattle.rtui_buffer.specs.Inner.{PaintsCells};
 
 use super::painting::{paint_text, room_at};
 use super::sized::cut_or_fill;
@@ -43,9 +43,7 @@ impl Buffer {
         requires row { HasRow self.old.area y }
         requires column { self.old.area.x ≤ x }
         ensures paints { let ps = pieces_at self.old.area x max span.now.style span.now.content in
-            PaintsOrRefuses (position_of (x, y)) ps result self.old self.new }
-        ensures front { let ps = pieces_at self.old.area x max span.now.style span.now.content in
-            OnErr result (PaintsFront (position_of (x, y)) ps self.old self.new) }
+            Paints (position_of (x, y)) ps result self.old self.new }
         ensures place { let ps = pieces_at self.old.area x max span.now.style span.now.content in
             IfOk result (λ end. end ≡ (x + columns ps, y)) }
     {
@@ -84,9 +82,7 @@ impl Buffer {
         requires row { HasRow self.old.area y }
         requires column { self.old.area.x ≤ x }
         ensures paints { let ps = line_pieces_at self.old.area x max line.now in
-            PaintsOrRefuses (position_of (x, y)) ps result self.old self.new }
-        ensures front { let ps = line_pieces_at self.old.area x max line.now in
-            OnErr result (PaintsFront (position_of (x, y)) ps self.old self.new) }
+            Paints (position_of (x, y)) ps result self.old self.new }
         ensures place { let ps = line_pieces_at self.old.area x max line.now in
             IfOk result (λ end. end ≡ (x + columns ps, y)) }
     {
@@ -224,22 +220,16 @@ fn paint_lines(
 {
     let mut start = 0usize;
     for line in lines {
-        paint_spans(
-            alloc,
-            cells,
-            start,
-            width,
-            line.spans.as_slice(),
-            line.style,
-        )?;
-        start += usize::from(width);
+        let end = start + usize::from(width);
+        let row = &mut cells[start..end];
+        paint_spans(alloc, row, 0, width, line.spans.as_slice(), line.style)?;
+        start = end;
     }
     Ok(())
 }
 
 // Paints spans one after the other in this room, over a base style, and says how many columns they
 // take.
-#[tactic(auto, using(crate::proofs::LineLemmas::line_steps, crate::proofs::RefusedLemmas::so_far_steps))]
 fn paint_spans(
     alloc: Global,
     cells: &mut [Cell],
@@ -251,16 +241,8 @@ fn paint_spans(
     requires inside { start + room ≤ length cells.old }
     ensures fits { IfOk result (λ n. n ≤ room) }
     ensures columns { IfOk result (λ n. n ≡ columns (line_pieces room base spans.now)) }
-    ensures ok { let ps = line_pieces room base spans.now in
-        OnOk result (cells.new ≡ painted start ps cells.old) }
-    ensures shown { let ps = line_pieces room base spans.now in
-        OnOk result (HasPieces start ps cells.old cells.new) }
-    ensures err { let ps = line_pieces room base spans.now in
-        OnErr result (IsSameOutside start (start + columns ps) cells.old cells.new) }
-    ensures front { let ps = line_pieces room base spans.now in
-        OnErr result (HasFront start ps cells.old cells.new) }
-    ensures marks { KeepsUnmarked cells.old cells.new }
-    ensures short { AreShort (line_pieces room base spans.now) → IsOk result }
+    ensures paints { let ps = line_pieces room base spans.now in
+        PaintsCells start ps result cells.old cells.new }
 {
     let mut used = 0;
     for span in spans {

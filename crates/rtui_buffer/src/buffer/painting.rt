@@ -9,12 +9,10 @@ ghost use Rattle.rtui_cell.specs.Cell.{styled};
 ghost use Rattle.rtui_cell.specs.Width.{text_width};
 ghost use Rattle.rtui_text.specs.Printable.{ArePrintable, singles};
 ghost use Rattle.rtui_buffer.specs.BufferData.{HasRow, position_of};
-ghost use Rattle.rtui_buffer.specs.Painting.{KeepsUnmarked, painted_width, piece_of, pieces, text_pieces};
-ghost use Rattle.rtui_buffer.specs.Painting.{columns, shown, emptied, with_piece, painted, IsSameOutside};
-ghost use Rattle.rtui_buffer.specs.Painting.{HasPieces, HasFront};
-ghost use Rattle.rtui_buffer.specs.PaintedText.{room_at, pieces_at, AreShort, PaintsFront, PaintsOrRefuses};
-ghost use Rattle.rtui_buffer.specs.PaintedText.{IsStyled};
-ghost use Rattle.rtui_buffer.specs.Inner.{IsStyledPart, IsStyledRows};
+ghost use Rattle.rtui_buffer.specs.Painting.{painted_width, piece_of, pieces, text_pieces, columns, shown};
+ghost use Rattle.rtui_buffer.specs.Painted.{emptied, with_piece, painted};
+ghost use Rattle.rtui_buffer.specs.PaintedText.{room_at, pieces_at, Paints, IsStyled};
+ghost use Rattle.rtui_buffer.specs.Inner.{PaintsCells, IsStyledPart, IsStyledRows};
 
 use crate::buffer::Buffer;
 use rtui_cell::{Cell, CellWidth};
@@ -52,9 +50,7 @@ impl Buffer {
         requires row { HasRow self.old.area y }
         requires column { self.old.area.x ≤ x }
         ensures paints { let ps = pieces_at self.old.area x max style text.now in
-            PaintsOrRefuses (position_of (x, y)) ps result self.old self.new }
-        ensures front { let ps = pieces_at self.old.area x max style text.now in
-            OnErr result (PaintsFront (position_of (x, y)) ps self.old self.new) }
+            Paints (position_of (x, y)) ps result self.old self.new }
         ensures place { let ps = pieces_at self.old.area x max style text.now in
             IfOk result (λ end. end ≡ (x + columns ps, y)) }
     {
@@ -89,9 +85,7 @@ impl Buffer {
         requires row { HasRow self.old.area y }
         requires column { self.old.area.x ≤ x }
         ensures paints { let ps = pieces_at self.old.area x 65535 style text.now in
-            PaintsOrRefuses (position_of (x, y)) ps result self.old self.new }
-        ensures front { let ps = pieces_at self.old.area x 65535 style text.now in
-            OnErr result (PaintsFront (position_of (x, y)) ps self.old self.new) }
+            Paints (position_of (x, y)) ps result self.old self.new }
     {
         self.set_stringn(x, y, text, usize::MAX, style)?;
         Ok(())
@@ -144,21 +138,16 @@ pub fn paint_text(
     requires inside { start + room ≤ length cells.old }
     ensures fits { IfOk result (λ n. n ≤ room) }
     ensures columns { IfOk result (λ n. n ≡ columns (text_pieces room style text.now)) }
-    ensures ok { let ps = text_pieces room style text.now in
-        OnOk result (cells.new ≡ painted start ps cells.old) }
-    ensures shown { let ps = text_pieces room style text.now in
-        OnOk result (HasPieces start ps cells.old cells.new) }
-    ensures err { let ps = text_pieces room style text.now in
-        OnErr result (IsSameOutside start (start + columns ps) cells.old cells.new) }
-    ensures front { let ps = text_pieces room style text.now in
-        OnErr result (HasFront start ps cells.old cells.new) }
-    ensures marks { KeepsUnmarked cells.old cells.new }
-    ensures short { AreShort (text_pieces room style text.now) → IsOk result }
+    ensures paints { let ps = text_pieces room style text.now in
+        PaintsCells start ps result cells.old cells.new }
 {
     let front = printable_front(text, usize::from(room));
     paint_printable(alloc, cells, start, &text.as_bytes()[..front], style)?;
     let used = front as u16;
     let rest = &text[front..];
+    if rest.is_empty() {
+        return Ok(used);
+    }
     let more = paint_graphemes(alloc, cells, start + front, room - used, rest, style)?;
     Ok(used + more)
 }
@@ -205,7 +194,7 @@ fn show_byte(alloc: Global, cell: &mut Cell, byte: u8, style: Style) -> Result<(
 }
 
 // Paints the graphemes of a text that fit the room, and says how many columns they take.
-#[tactic(auto, using(crate::proofs::PaintLemmas::paint_steps, crate::proofs::PaintedLemmas::shown_steps, crate::proofs::RefusedLemmas::so_far_steps))]
+#[tactic(auto, using(crate::proofs::RefusedLemmas::so_far_steps))]
 fn paint_graphemes(
     alloc: Global,
     cells: &mut [Cell],
@@ -217,16 +206,8 @@ fn paint_graphemes(
     requires inside { start + room ≤ length cells.old }
     ensures fits { IfOk result (λ n. n ≤ room) }
     ensures columns { IfOk result (λ n. n ≡ columns (text_pieces room style text.now)) }
-    ensures ok { let ps = text_pieces room style text.now in
-        OnOk result (cells.new ≡ painted start ps cells.old) }
-    ensures shown { let ps = text_pieces room style text.now in
-        OnOk result (HasPieces start ps cells.old cells.new) }
-    ensures err { let ps = text_pieces room style text.now in
-        OnErr result (IsSameOutside start (start + columns ps) cells.old cells.new) }
-    ensures front { let ps = text_pieces room style text.now in
-        OnErr result (HasFront start ps cells.old cells.new) }
-    ensures marks { KeepsUnmarked cells.old cells.new }
-    ensures short { AreShort (text_pieces room style text.now) → IsOk result }
+    ensures paints { let ps = text_pieces room style text.now in
+        PaintsCells start ps result cells.old cells.new }
 {
     let mut used = 0;
     for grapheme in text.graphemes(true) {
@@ -262,7 +243,7 @@ pub fn painted_width(grapheme: &str) -> u16
 }
 
 // Paints a grapheme of this width.
-#[tactic(auto, unfolding(crate::specs::Painting::with_piece))]
+#[tactic(auto, unfolding(crate::specs::Painted::with_piece))]
 fn put_piece(
     alloc: Global,
     cells: &mut [Cell],

@@ -3,9 +3,10 @@ use Rattle.std.proofs.Common.{◌≡◌, ◌∷◌, ◌<◌, ◌≤◌, true, fa
 use Rattle.unicode_segmentation.specs.{Grapheme.graphemes, Iter.graphemes_left}
 use Rattle.rtui_cell.specs.Width.{text_width}
 use Rattle.rtui_text.specs.{Printable.singles, Graphemes.has_control}
-use Rattle.rtui_buffer.specs.Painting.{pieces, painted}
-use Rattle.rtui_buffer.proofs.PaintLemmas.{unmarked-refl, unmarked-painted}
-use Rattle.rtui_widgets.proofs.{PrintableLemmas.shown-front, SpanLemmas.unmarked-next}
+use Rattle.rtui_buffer.specs.Painting.{pieces}
+use Rattle.rtui_buffer.specs.Painted.{painted}
+use Rattle.rtui_buffer.proofs.PaintLemmas.{unmarked-refl}
+use Rattle.rtui_widgets.proofs.{PrintableLemmas.shown-front, PrintableLemmas.unmarked-bytes, SpanLemmas.unmarked-next}
 use Rattle.rtui_widgets.proofs.SpanLemmas.{shown-first, shown-end, shown-refused, shown-skip, shown-full, shown-turn, shown-short}
 use Rattle.rtui_widgets.proofs.span.render_span.Goals as goal
 
@@ -26,7 +27,7 @@ loop-grapheme-init c =
       some = omega arith;
       within = omega arith;
       shown = rw (left, tail, is) (shown-front c.args.style c.args.text.now n old c.printable_front-front.ensures.front fits);
-      marks = rw is (unmarked-painted (pieces c.args.style (singles (take n c.args.text.now))) 0 old old (unmarked-refl old));
+      marks = rw is (unmarked-bytes c.args.style (take n c.args.text.now) 0 old old (unmarked-refl old));
     }
 
 pub loop-grapheme-preserved-then-has_control : goal.loop-grapheme-preserved-then-has_control

@@ -1,4 +1,4 @@
-use Rattle.std.proofs.Common.{◌≡◌, false, true, ◌+◌, ◌-◌, ◌*◌, ℕ, length, take, drop, rules, arith, refl, ap, subst, ◌∙◌}
+use Rattle.std.proofs.Common.{◌≡◌, ◌+◌, ◌-◌, ◌*◌, ℕ, length, take, drop, rules, arith, refl, ap, subst, ◌∙◌}
 use Rattle.std.proofs.lemmas.{Bool.false≢true, List.length-take, List.length-drop}
 use Rattle.rtui_widgets.specs.{Rendering.text_row, Rendering.IsShortRow, Refused.HasFrontOfRow}
 use Rattle.rtui_widgets.proofs.{RowLemmas.made-none, RowLemmas.made-all, RowLemmas.made-more, RowLemmas.keeps-others}

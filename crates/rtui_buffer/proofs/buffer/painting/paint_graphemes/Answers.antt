@@ -1,10 +1,8 @@
-use Rattle.std.proofs.lemmas.Bool.{false≢true}
-use Rattle.std.proofs.Common.{◌≡◌, ◌∷◌, ◌-◌, ◌<◌, true, [], rules, arith, ap, refl, ◌∙◌}
+use Rattle.std.proofs.Common.{◌≡◌, ◌∷◌, ◌-◌, ◌<◌, [], true, rules, arith, ap, ◌∙◌}
 use Rattle.unicode_segmentation.specs.{Grapheme.graphemes, Iter.graphemes_left}
 use Rattle.rtui_buffer.specs.Painting.{pieces, kept, painted_width}
 use Rattle.rtui_buffer.proofs.PaintLemmas.{kept-nil, kept-full, painted_width-painted}
-use Rattle.rtui_buffer.proofs.RefusedLemmas.{so_far-text, so_far-turn, so_far-next_short, so_far-front, so_far-outside}
-use Rattle.rtui_buffer.proofs.RefusedLemmas.{so_far-marks, so_far-all}
+use Rattle.rtui_buffer.proofs.RefusedLemmas.{so_far-none, so_far-turn, so_far-next_short, so_far-refused, so_far-all}
 use Rattle.rtui_buffer.proofs.buffer.painting.paint_graphemes.Goals as goal
 
 pub loop-grapheme-init : goal.loop-grapheme-init
@@ -15,7 +13,7 @@ loop-grapheme-init c =
       can = search rules;
       ends = search rules;
       within = omega arith;
-      so_far = rw (all, room) (so_far-text _ _ _ _ _ c.requires.inside);
+      so_far = rw (all, room) (so_far-none _ _ _);
     }
 
 pub returns-then-width-room : goal.returns-then-width-room
@@ -27,17 +25,8 @@ returns-then-width-room c =
     let same = painted_width-painted c.in-Some.grapheme.now some in
     let none : kept (c.args.room - c.loop-grapheme.used) (graphemes_left c.loop-grapheme.grapheme-iterator) ≡ [] =
     ap (kept _) is ∙ kept-full _ _ _ some (omega (arith, c.painted_width-width.ensures)) in
-    let all = so_far-all _ _ _ _ _ _ i.so_far (ap (pieces c.args.style) none) in
-    record {
-      fits = i.within;
-      columns = all.0;
-      ok = all.1;
-      shown = all.2;
-      err = tt;
-      front = tt;
-      marks = so_far-marks _ _ _ _ _ _ i.so_far;
-      short = λ _. refl;
-    }
+    let all = so_far-all _ _ _ _ _ _ i.so_far _ (ap (pieces c.args.style) none) in
+    record { fits = i.within; columns = all.0; paints = all.1 }
 
 pub loop-grapheme-preserved : goal.loop-grapheme-preserved
 loop-grapheme-preserved c =
@@ -52,40 +41,19 @@ loop-grapheme-preserved c =
           (omega arith) i.so_far _ c.in_ok-put_piece.ensures.ok;
     }
 
-pub returns-in_err-put_piece : goal.returns-in_err-put_piece
-returns-in_err-put_piece c =
+pub returns-in_err-put_piece-clause-paints : goal.returns-in_err-put_piece-clause-paints
+returns-in_err-put_piece-clause-paints c =
     let i = c.loop-grapheme.invariant in
     let is : graphemes_left c.loop-grapheme.grapheme-iterator ≡ c.in-Some.grapheme.now ∷ graphemes_left c.next.new.self =
     search rules in
-    let outside = so_far-outside _ _ _ _ _ _ i.so_far in
-    let front = so_far-front _ _ _ _ _ _ i.so_far in
-    let marks = so_far-marks _ _ _ _ _ _ i.so_far in
-    record {
-      fits = search rules;
-      columns = search rules;
-      ok = search rules;
-      shown = search rules;
-      err = rw c.in_err-put_piece.ensures.err (search (rules, outside));
-      front = rw c.in_err-put_piece.ensures.err (search (rules, front));
-      marks = rw c.in_err-put_piece.ensures.err marks;
-      short = λ all. absurd (false≢true
-          (c.in_err-put_piece.ensures.short (so_far-next_short _ _ _ _ _ _ _ _ _ _ _ is c.painted_width-width.ensures
-          (omega arith) (omega arith) i.so_far all)));
-    }
+    rw c.in_err-put_piece.ensures.err (so_far-refused _ _ _ _ _ _ i.so_far _ (search rules) (λ all.
+    c.in_err-put_piece.ensures.short (so_far-next_short _ _ _ _ _ _ _ _ _ _ _ is c.painted_width-width.ensures (omega arith)
+    (omega arith) i.so_far all)))
 
 pub returns : goal.returns
 returns c =
     let i = c.loop-grapheme.invariant in
     let end : graphemes_left c.loop-grapheme.grapheme-iterator ≡ [] = search rules in
-    let all = so_far-all _ _ _ _ _ _ i.so_far (ap (λ gs. pieces c.args.style (kept (c.args.room - c.loop-grapheme.used) gs)) end
+    let all = so_far-all _ _ _ _ _ _ i.so_far _ (ap (λ gs. pieces c.args.style (kept (c.args.room - c.loop-grapheme.used) gs)) end
     ∙ ap (pieces c.args.style) (kept-nil _)) in
-    record {
-      fits = i.within;
-      columns = all.0;
-      ok = all.1;
-      shown = all.2;
-      err = tt;
-      front = tt;
-      marks = so_far-marks _ _ _ _ _ _ i.so_far;
-      short = λ _. refl;
-    }
+    record { fits = i.within; columns = all.0; paints = all.1 }

@@ -1,6 +1,7 @@
 use Rattle.std.proofs.Common.{◌≡◌, ◌+◌, drop}
 use Rattle.rtui_text.specs.Printable.{singles}
-use Rattle.rtui_buffer.specs.Painting.{pieces, painted}
+use Rattle.rtui_buffer.specs.Painting.{pieces}
+use Rattle.rtui_buffer.specs.Painted.{painted}
 use Rattle.rtui_buffer.proofs.buffer.painting.paint_printable.Given as goal
 
 abbrev pub invariant-loop-i : goal.invariant-loop-i
