@@ -40,7 +40,9 @@ impl<B: Backend> Terminal<B> {
         if *self.frames.previous.area() != self.viewport_area {
             return self.backend.flush().map_err(TerminalError::Backend);
         }
-        draw_rows(&mut self.backend, blank, &self.frames.previous, 0, 1, 0).map_err(TerminalError::Backend)
+        draw_rows(&mut self.backend, blank, &self.frames.previous, 0, 1, 0).map_err(
+            TerminalError::Backend,
+        )
     }
 
     // Inserts the rows of a buffer above an inline viewport, which moves down as far as there is
