@@ -1,11 +1,11 @@
 -- A resize after the backend was asked for its size, which leaves the screen as it is.
-use Rattle.std.proofs.Common.{◌≡◌, ◌⊎◌, ⊎_elim, Result, Ok, Err, MatchResult, refl, sym, ap, inl, inr, ◌∙◌}
+use Rattle.std.proofs.Common.{◌≡◌, ◌⊎◌, Result, Ok, Err, MatchResult, refl, sym, ap, inl, inr, ◌∙◌}
 use Rattle.rtui_geometry.specs.declared.rect.Rect.{Rect}
 use Rattle.rtui_backend.specs.Screen.{Screen, screen_area}
 use Rattle.rtui_viewport.specs.Viewports.{IsFixed}
 use Rattle.rtui_terminal.specs.{TerminalData.TerminalData, InStep.IsSized, declared.terminal.error.TerminalError.TerminalError}
 use Rattle.rtui_terminal.specs.declared.terminal.error.TerminalError.TheVariants.{Area, Backend, Closure, Memory}
-use Rattle.rtui_terminal.specs.Resizing.{Autoresizes, AutoresizeErr, EmptiesPrevious, FailsResizing, KeepsBuffers, ResizeErr}
+use Rattle.rtui_terminal.specs.Resizing.{Autoresizes, AutoresizeErr, FailsResizing, ResizeErr}
 use Rattle.rtui_terminal.specs.Resizing.{Resizes, ResizesBuffers}
 
 module _ {B : Type 0} (screen : B → Screen) (s : TerminalData B) (asked : B) (same : screen asked ≡ screen s.backend) where
@@ -27,33 +27,30 @@ module _ {B : Type 0} (screen : B → Screen) (s : TerminalData B) (asked : B) (
     in_step = is.in_step;
   }
 
-  emptied-asked : (area : Rect) (t : TerminalData B) → EmptiesPrevious screen area (record s { backend = asked }) t
-      → EmptiesPrevious screen area s t
-  emptied-asked area t is =
-      record {
-        previous = is.previous;
-        scrolled = is.scrolled;
-        scrolls = rw same at is.scrolls;
-        emptied = is.emptied;
-        empties = is.empties;
-      }
-
   buffers-asked : (area : Rect) (t : TerminalData B) → ResizesBuffers screen area (record s { backend = asked }) t
       → ResizesBuffers screen area s t
   buffers-asked area t is = record {
     current = is.current;
-    previous = ⊎_elim (λ resized. inl resized) (λ (empty : EmptiesPrevious screen area (record s { backend = asked }) t).
-        inr (emptied-asked area t empty)) is.previous;
+    previous = elim (is.previous) [
+      | inl resized ↦ inl resized
+      | inr empty ↦ inr (record {
+        previous = empty.previous;
+        scrolled = empty.scrolled;
+        scrolls = rw same at empty.scrolls;
+        emptied = empty.emptied;
+        empties = empty.empties;
+      })
+    ];
   }
 
   fails-asked : (area : Rect) (t : TerminalData B) → FailsResizing screen area (record s { backend = asked }) t
       → FailsResizing screen area s t
   fails-asked area t is = record {
     rest = is.rest;
-    left = ⊎_elim
-        (λ (kept : KeepsBuffers (record s { backend = asked }) t).
-        inl (record { viewport_area = kept.viewport_area; current = kept.current; previous = kept.previous }))
-        (λ moved. inr (buffers-asked area t moved.0, rw same at moved.1)) is.left;
+    left = elim (is.left) [
+      | inl kept ↦ inl (record { viewport_area = kept.viewport_area; current = kept.current; previous = kept.previous })
+      | inr moved ↦ inr (buffers-asked area t moved.0, rw same at moved.1)
+    ];
     areas = λ has. is.areas (record { current = has.current; previous = has.previous });
   }
 

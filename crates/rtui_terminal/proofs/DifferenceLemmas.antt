@@ -14,7 +14,7 @@ use Rattle.rtui_backend.proofs.DrawLemmas.{Draws-along}
 use Rattle.rtui_terminal.specs.Writing.{WritesDifferences, differing_count}
 
 -- a column that isn't in a rectangle lies on one side of it
-beside : (r : Rect) (a b : ℕ) → EdgesFit r → (IsWithin r a b → ⊥) → (a < r.x) ⊎ (r.x + r.width ≤ a) ⊎ (b < r.y)
+pub beside : (r : Rect) (a b : ℕ) → EdgesFit r → (IsWithin r a b → ⊥) → (a < r.x) ⊎ (r.x + r.width ≤ a) ⊎ (b < r.y)
     ⊎ (r.y + r.height ≤ b)
 beside r a b fit out = elim (cases_lt a r.x) [
   | inl left ↦ inl left

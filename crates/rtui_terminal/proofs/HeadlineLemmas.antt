@@ -5,21 +5,21 @@ use Rattle.rtui_geometry.specs.{declared.position.Position.Position, declared.re
 use Rattle.rtui_cell.specs.{Look.Look, Grid.Grid}
 use Rattle.rtui_diff.specs.Shows.{ShowsColumn}
 use Rattle.rtui_buffer.specs.{BufferData.BufferData, BufferData.IsEmptied, Shown.IsSettledBuffer, Shown.ShowsBuffer}
-use Rattle.rtui_backend.specs.Screen.{Screen, KeepsSizeAndHistory, IsOnScreen, screen_area, with_visible, with_cursor}
+use Rattle.rtui_backend.specs.Screen.{Screen, KeepsSizeAndHistory, IsOnScreen, screen_area}
 use Rattle.rtui_viewport.specs.{Viewports.IsFixed, Viewports.IsInline}
 use Rattle.rtui_insert.specs.Insertion.{AreRowsOfAll, AppendsRows}
 use Rattle.rtui_terminal.specs.{TerminalData.TerminalData, Cursor.Stays, Cursor.MovesCursor, Resizing.Resizes}
 use Rattle.rtui_terminal.specs.{Resizing.Autoresizes}
 use Rattle.rtui_terminal.specs.InStep.{IsReady, IsInStep, IsSized, KeepsAroundViewport, rows_over}
-use Rattle.rtui_terminal.specs.{Writing.Applies, Writing.HasDrawn, Writing.cursor_placed, Drawing.DrawsFrame}
+use Rattle.rtui_terminal.specs.{Writing.Applies, Drawing.DrawsFrame}
 use Rattle.rtui_terminal.specs.Headline.{Call, Draw, Apply, Insert, Clear, Resize, Autoresize, HideCursor, ShowCursor, SetCursor}
 use Rattle.rtui_terminal.specs.Headline.{Ask, Paint, Refuse, Event, Along, last_state, inserted_by, inserted_along, MayTakeSize}
 use Rattle.rtui_terminal.specs.Headline.{Does, IsFair, HasKnownSize, IsSteady, IsKeptOrEmptied, Leaves, IsFaithful}
 use Rattle.rtui_terminal.proofs.{StepLemmas.on_same, StepLemmas.not_both, KeepLemmas.rest_of, KeepLemmas.size_more}
-use Rattle.rtui_terminal.proofs.{KeepLemmas.placed_size}
+use Rattle.rtui_terminal.proofs.{KeepLemmas.size_drawn, KeepLemmas.same_area}
 
-none_appended : (old new : List (List Look)) → new ≡ old → AppendsRows [] old new
-none_appended old new e = record { rows = []; appended = e ∙ sym (append-nil old); agree = refl }
+none_appended : {old new : List (List Look)} → new ≡ old → AppendsRows [] old new
+none_appended {old} e = record { rows = []; appended = e ∙ sym (append-nil old); agree = refl }
 
 pub all_append : (ss ts : List BufferData) (xs ys : List (List Look)) → AreRowsOfAll ss xs → AreRowsOfAll ts ys
     → AreRowsOfAll (ss ++ ts) (xs ++ ys)
@@ -40,9 +40,6 @@ appends_more ss ts a b c p q = record {
   appended = q.appended ∙ ap (λ xs. xs ++ q.rows) p.appended ∙ append_assoc a p.rows q.rows;
   agree = all_append ss ts p.rows q.rows p.agree q.agree;
 }
-
-area_same : (old new : Screen) → KeepsSizeAndHistory old new → screen_area new ≡ screen_area old
-area_same old new size = rw (size.width, size.height) refl
 
 shows_same : (sheet : BufferData) (g h : Grid) → ((a b : ℕ) → h a b ≡ g a b) → ShowsBuffer sheet g → ShowsBuffer sheet h
 shows_same sheet g h same shown = record {
@@ -81,47 +78,34 @@ module _ {B : Type 0} (screen : B → Screen) where
     grid = λ a b. q.grid a b ∙ p.grid a b;
   }
 
-  stays_keeps : (s t : TerminalData B) → Stays screen s t → Keeps s t
-  stays_keeps s t stays = record {
-    kind = ap (λ (x : TerminalData B). x.viewport) stays.rest;
-    view = ap (λ (x : TerminalData B). x.viewport_area) stays.rest;
-    previous = ap (λ (x : TerminalData B). x.previous) stays.rest;
-    size = record {
-      width = ap (λ (x : Screen). x.width) stays.screen_stays;
-      height = ap (λ (x : Screen). x.height) stays.screen_stays;
-      history = ap (λ (x : Screen). x.history) stays.screen_stays;
-    };
-    grid = λ a b. ap (λ (x : Screen). x.grid a b) stays.screen_stays;
+  -- only the cursor, and what the terminal knows of it, may have changed
+  keeps_cursor : (hidden : Bool) (known : Position) (s t : TerminalData B) {new : Screen}
+      → t ≡ record s { backend = t.backend; last_known_cursor_pos = known; hidden_cursor = hidden } → screen t.backend ≡ new
+      → new ≡ record (screen s.backend) { cursor_x = new.cursor_x; cursor_y = new.cursor_y; visible = new.visible } → Keeps s t
+  keeps_cursor hidden known s t rest here is = record {
+    kind = ap (λ (x : TerminalData B). x.viewport) rest;
+    view = ap (λ (x : TerminalData B). x.viewport_area) rest;
+    previous = ap (λ (x : TerminalData B). x.previous) rest;
+    size = subst (KeepsSizeAndHistory (screen s.backend)) (sym (here ∙ is)) (record { width = refl; height = refl; history = refl });
+    grid = λ a b. ap (λ (x : Screen). x.grid a b) (here ∙ is);
   }
+
+  stays_keeps : (s t : TerminalData B) → Stays screen s t → Keeps s t
+  stays_keeps s t stays = keeps_cursor s.hidden_cursor s.last_known_cursor_pos s t stays.rest stays.screen_stays refl
 
   pub stays_step : (s t : TerminalData B) → Stays screen s t → IsInStep screen s → IsInStep screen t
   stays_step s t stays = kept_step s t (stays_keeps s t stays)
 
   keeps_current : (s t : TerminalData B) → t ≡ record s { current = t.current } → Keeps s t
-  keeps_current s t e = record {
-    kind = ap (λ (x : TerminalData B). x.viewport) e;
-    view = ap (λ (x : TerminalData B). x.viewport_area) e;
-    previous = ap (λ (x : TerminalData B). x.previous) e;
-    size = record {
-      width = ap (λ (x : TerminalData B). (screen x.backend).width) e;
-      height = ap (λ (x : TerminalData B). (screen x.backend).height) e;
-      history = ap (λ (x : TerminalData B). (screen x.backend).history) e;
-    };
-    grid = λ a b. ap (λ (x : TerminalData B). (screen x.backend).grid a b) e;
-  }
-
-  -- a moved cursor keeps all that the headline speaks of
-  keeps_cursor : (hidden : Bool) (known : Position) (cursor : Screen → Screen) (s t : TerminalData B)
-      → MovesCursor screen hidden known cursor s t
-      → KeepsSizeAndHistory (screen s.backend) (cursor (screen s.backend))
-      → ((a b : ℕ) → (cursor (screen s.backend)).grid a b ≡ (screen s.backend).grid a b) → Keeps s t
-  keeps_cursor hidden known cursor s t m size grid = record {
-    kind = ap (λ (x : TerminalData B). x.viewport) m.rest;
-    view = ap (λ (x : TerminalData B). x.viewport_area) m.rest;
-    previous = ap (λ (x : TerminalData B). x.previous) m.rest;
-    size = subst (KeepsSizeAndHistory (screen s.backend)) (sym m.screen_cursor) size;
-    grid = λ a b. ap (λ (x : Screen). x.grid a b) m.screen_cursor ∙ grid a b;
-  }
+  keeps_current s t e =
+      let same : Keeps s (record s { current = t.current }) = record {
+        kind = refl;
+        view = refl;
+        previous = refl;
+        size = record { width = refl; height = refl; history = refl };
+        grid = λ a b. refl;
+      } in
+      subst (Keeps s) (sym e) same
 
   -- a call that inserts nothing and leaves the screen as it is
   quiet : (call : Call) (s t : TerminalData B) → inserted_by call ≡ [] → (t.previous ≡ s.previous → Leaves screen call s t)
@@ -131,7 +115,7 @@ module _ {B : Type 0} (screen : B → Screen) where
     in_step = kept_step s t k step;
     leaves = leaves k.previous;
     above = λ inline steady. subst (λ sheets. AppendsRows sheets (rows_over screen s) (rows_over screen t)) (sym none)
-        (none_appended (rows_over screen s) (rows_over screen t) (kept_rest s t k).above);
+        (none_appended (kept_rest s t k).above);
     outside = λ fixed other. kept_rest s t k;
   }
 
@@ -158,37 +142,22 @@ module _ {B : Type 0} (screen : B → Screen) where
     | inr p ↦ ap (λ (x : TerminalData B). x.viewport) p.1.rest
   ]
 
-  resized_area : (area : Rect) (s t : TerminalData B) → Resizes screen area s t
-      → screen_area (screen t.backend) ≡ screen_area (screen s.backend)
-  resized_area area s t r =
-      let w : (screen t.backend).width ≡ (screen s.backend).width = r.frame.size.width ∙ r.scrolls.width in
-      let h : (screen t.backend).height ≡ (screen s.backend).height = r.frame.size.height ∙ r.scrolls.height in
-      rw (w, h) refl
-
   autoresized_area : (s t : TerminalData B) → Autoresizes screen s t
       → screen_area (screen t.backend) ≡ screen_area (screen s.backend)
   autoresized_area s t resizes = elim (resizes.case) [
-    | inl p ↦ area_same (screen s.backend) (screen t.backend) (stays_keeps s t p.1).size
-    | inr p ↦ resized_area _ s t p.1
+    | inl p ↦ ap screen_area p.1.screen_stays
+    | inr p ↦
+        let r = p.1 in
+        same_area (screen t.backend) (screen s.backend) (r.frame.size.width ∙ r.scrolls.width) (r.frame.size.height ∙ r.scrolls.height)
   ]
-
-  drawn_area : (cursor : Option Position) (s : TerminalData B) (old new : Screen) → HasDrawn cursor s old new
-      → screen_area new ≡ screen_area old
-  drawn_area cursor s old new (between, writes, is) =
-      let placed = placed_size cursor between in
-      ap screen_area is ∙ area_same between (cursor_placed cursor between) placed
-      ∙ area_same old between (record {
-        width = writes.drawn.width;
-        height = writes.drawn.height;
-        history = writes.drawn.history;
-      })
 
   -- a draw from a state in which the screen may have taken another size
   module _ (s u t : TerminalData B) (painted : BufferData) (taken : MayTakeSize screen s u) (d : DrawsFrame screen u t)
       (is : t.previous ≡ painted) where
     drawn_size : screen_area (screen t.backend) ≡ screen_area (screen u.backend)
-    drawn_size = drawn_area d.cursor (record (d.sized) { current = t.previous }) (screen d.sized.backend)
-        (screen t.backend) d.applied.drawn ∙ autoresized_area u d.sized d.autoresized
+    drawn_size =
+        let size = size_drawn d.cursor (record (d.sized) { current = t.previous }) d.applied.drawn in
+        same_area (screen t.backend) (screen d.sized.backend) size.width size.height ∙ autoresized_area u d.sized d.autoresized
 
     untaken_rest : IsFixed s.viewport ⊎ (screen_area (screen u.backend) ≡ s.last_known_area) → IsInStep screen s
         → IsSettledBuffer t.previous → KeepsAroundViewport screen s t
@@ -204,8 +173,7 @@ module _ {B : Type 0} (screen : B → Screen) where
               ∙ taken_kind s u taken;
           in_step = d.in_step (taken_ready s u taken step) settled;
           leaves = is;
-          above = λ inline known. none_appended (rows_over screen s) (rows_over screen t)
-              (untaken_rest (inr (sym drawn_size ∙ known)) step settled).above;
+          above = λ inline known. none_appended (untaken_rest (inr (sym drawn_size ∙ known)) step settled).above;
           outside = λ fixed other. untaken_rest (inl fixed) step settled;
         }
 
@@ -217,7 +185,7 @@ module _ {B : Type 0} (screen : B → Screen) where
     after = keeps_current z t rest
 
     then_area : screen_area (screen t.backend) ≡ screen_area (screen u.backend)
-    then_area = area_same (screen z.backend) (screen t.backend) after.size ∙ autoresized_area u z resizes
+    then_area = same_area (screen t.backend) (screen z.backend) after.size.width after.size.height ∙ autoresized_area u z resizes
 
     untaken_keeps : IsFixed s.viewport ⊎ (screen_area (screen u.backend) ≡ s.last_known_area) → Keeps s t
     untaken_keeps why =
@@ -246,8 +214,7 @@ module _ {B : Type 0} (screen : B → Screen) where
       leaves = leaves (left taken resizes.case);
       above = λ inline steady.
           subst (λ sheets. AppendsRows sheets (rows_over screen s) (rows_over screen t)) (sym none)
-          (none_appended (rows_over screen s) (rows_over screen t)
-          (kept_rest s t (untaken_keeps (inr (sym then_area ∙ known steady)))).above);
+          (none_appended (kept_rest s t (untaken_keeps (inr (sym then_area ∙ known steady)))).above);
       outside = λ fixed other. kept_rest s t (untaken_keeps (inl fixed));
     }
 
@@ -264,7 +231,7 @@ module _ {B : Type 0} (screen : B → Screen) where
         kind = ap (λ (x : TerminalData B). x.viewport) a.rest;
         in_step = a.in_step step settled;
         leaves = a.painted ∙ does.0;
-        above = λ inline steady. none_appended (rows_over screen s) (rows_over screen t) (a.keeps step settled).above;
+        above = λ inline steady. none_appended (a.keeps step settled).above;
         outside = λ fixed other. a.keeps step settled;
       }
   faithful (Insert inserted) s t step does fair = record {
@@ -279,7 +246,7 @@ module _ {B : Type 0} (screen : B → Screen) where
     in_step = does.in_step step.on_screen step.area;
     leaves = subst (λ r. IsEmptied r t.previous) (step.area ∙ sym (ap (λ (x : TerminalData B). x.viewport_area) does.rest))
         does.previous;
-    above = λ inline row. none_appended (rows_over screen s) (rows_over screen t) (does.above inline step.on_screen row);
+    above = λ inline row. none_appended (does.above inline step.on_screen row);
     outside = λ fixed other. does.keeps fixed step.on_screen;
   }
   faithful (Resize area) s t step does fair = record {
@@ -292,23 +259,11 @@ module _ {B : Type 0} (screen : B → Screen) where
   faithful Autoresize s t step does fair =
       resized_faithful Autoresize s does.before t t refl (λ x. x) (λ x. x) does.taken does.then (same_current t) step
   faithful HideCursor s t step does fair =
-      quiet HideCursor s t refl (λ e. e) step (keeps_cursor _ _ (with_visible false) s t does (record {
-        width = refl;
-        height = refl;
-        history = refl;
-      }) (λ a b. refl))
+      quiet HideCursor s t refl (λ e. e) step (keeps_cursor _ _ s t does.rest does.screen_cursor refl)
   faithful ShowCursor s t step does fair =
-      quiet ShowCursor s t refl (λ e. e) step (keeps_cursor _ _ (with_visible true) s t does (record {
-        width = refl;
-        height = refl;
-        history = refl;
-      }) (λ a b. refl))
+      quiet ShowCursor s t refl (λ e. e) step (keeps_cursor _ _ s t does.rest does.screen_cursor refl)
   faithful (SetCursor p) s t step does fair =
-      quiet (SetCursor p) s t refl (λ e. e) step (keeps_cursor _ _ (with_cursor p.x p.y) s t does (record {
-        width = refl;
-        height = refl;
-        history = refl;
-      }) (λ a b. refl))
+      quiet (SetCursor p) s t refl (λ e. e) step (keeps_cursor _ _ s t does.rest does.screen_cursor refl)
   faithful Ask s t step does fair = quiet Ask s t refl (λ e. e) step (stays_keeps s t does)
   faithful Paint s t step does fair = quiet Paint s t refl (λ e. e) step (keeps_current s t does)
   faithful Refuse s t step does fair =
@@ -325,7 +280,7 @@ module _ {B : Type 0} (screen : B → Screen) where
   pub all_rows : (s : TerminalData B) (events : List (Event B)) → IsInStep screen s → IsInline s.viewport
       → Along (Does screen) s events → Along (IsFair screen) s events → Along (IsSteady screen) s events
       → AppendsRows (inserted_along events) (rows_over screen s) (rows_over screen (last_state s events))
-  all_rows s [] step inline did fair steady = none_appended (rows_over screen s) (rows_over screen s) refl
+  all_rows s [] step inline did fair steady = none_appended refl
   all_rows s (e ∷ es) step inline did fair steady =
       let here : IsFaithful screen e.call s e.after = faithful e.call s e.after step did.0 fair.0 in
       appends_more (inserted_by e.call) (inserted_along es) (rows_over screen s) (rows_over screen e.after)

@@ -12,7 +12,7 @@ use Rattle.std.specs.declared.alloc.AllocError.{AllocError}
 use Rattle.rtui_terminal.specs.{Faults.FailsOnlyByBackend, declared.terminal.error.TerminalError.TerminalError}
 use Rattle.rtui_terminal.specs.{TerminalData.TerminalData}
 use Rattle.rtui_terminal.specs.declared.terminal.error.TerminalError.TheVariants.{Backend, Memory, Area, Closure}
-use Rattle.rtui_insert.specs.{Rows.IsBlankFor, Rows.DrawsRows, Rows.nonempty_cells, Following.Follows}
+use Rattle.rtui_insert.specs.{Rows.IsBlankFor, Rows.DrawsRows, Rows.RowsFit, Rows.nonempty_cells, Following.Follows}
 use Rattle.rtui_insert.specs.Insertion.{AppendsRows, KeepsSizeAndVisibility, HasPlaceAbove, AppendsPart}
 use Rattle.rtui_insert.specs.Scrolling.{HasPushed, HasRaised, HasLowered, PushesRows, InsertsDown, InsertsUp, rows_down}
 use Rattle.rtui_insert.specs.Scrolling.{IsPushing, IsRaising, StartsPushing, StartsLowering, StartsRaising}
@@ -21,7 +21,7 @@ use Rattle.rtui_terminal.specs.{InStep.IsInStep, InStep.rows_over, Insertion.ins
 use Rattle.rtui_insert.proofs.ShownLemmas.{ShowsRows, parts_join, rows_shown, blank_first}
 use Rattle.rtui_insert.proofs.{CountLemmas.writes_rows, CountLemmas.writes_then, CountLemmas.nonempty_parts, PushLemmas.no_part}
 use Rattle.rtui_insert.proofs.PushLemmas.{still_pushing}
-use Rattle.rtui_terminal.specs.Insertion.{Inserts, StopsInserting, InsertsBy}
+use Rattle.rtui_terminal.specs.Insertion.{Inserts, IsBeginning, StopsInserting, InsertsBy}
 
 -- all rows of a buffer were appended
 pub AppendsRows-part : (s : BufferData) (n : ℕ) (old new : List (List Look)) → n ≡ s.area.height → AppendsPart s 0 n old new
@@ -57,21 +57,31 @@ shows_moved s y old new shown same = record {
       (sym (same a b a_in b_in)) (shown.at a b a_in b_in);
 }
 
+-- a rectangle's parts are those of the same one
+pub parts_of : {r q : Rect} → r ≡ q → (r.x ≡ q.x) × (r.y ≡ q.y) × (r.width ≡ q.width) × (r.height ≡ q.height)
+parts_of is = rw is (refl, refl, refl, refl)
+
+shape_more : {r s t : Screen} → KeepsSizeAndVisibility r s → KeepsSizeAndVisibility s t → KeepsSizeAndVisibility r t
+shape_more p q = record { width = q.width ∙ p.width; height = q.height ∙ p.height; visible = q.visible ∙ p.visible }
+
 module _ {B : Type 0} (screen : B → Screen) (s : TerminalData B) (inserted : BufferData)
     (over : inserted.area ≡ inserted_area s inserted.area.height) (known : 0 < s.last_known_area.height) where
-  same_height : TakesRows screen s → s.last_known_area.height ≡ (screen s.backend).height
-  same_height takes = sym (ap (λ (r : Rect). r.height) takes.known)
+  module _ (takes : TakesRows screen s) where
+    same_height : s.last_known_area.height ≡ (screen s.backend).height
+    same_height = sym (ap (λ (r : Rect). r.height) takes.known)
 
-  wide : TakesRows screen s → inserted.area.width ≡ (screen s.backend).width
-  wide takes = ap (λ (r : Rect). r.width) over ∙ takes.width
+    wide : inserted.area.width ≡ (screen s.backend).width
+    wide = ap (λ (r : Rect). r.width) over ∙ takes.width
 
-  has_place : TakesRows screen s → IsInStep screen s
-      → HasPlaceAbove inserted s.viewport_area s.last_known_area.height (screen s.backend)
-  has_place takes step = record {
-    width = wide takes;
-    height = same_height takes;
-    viewport = omega (arith, step.on_screen.bottom, same_height takes);
-  }
+    fits_first : RowsFit inserted 1 0 (screen s.backend)
+    fits_first = record { width = wide; bottom = omega (arith, same_height) }
+
+    has_place : IsInStep screen s → HasPlaceAbove inserted s.viewport_area s.last_known_area.height (screen s.backend)
+    has_place step = record {
+      width = wide;
+      height = same_height;
+      viewport = omega (arith, step.on_screen.bottom, same_height);
+    }
 
   -- above a viewport that covers the screen
   module _ (covers : s.last_known_area.height ≤ s.viewport_area.height) (some : 0 < inserted.area.height) (mid b : B)
@@ -80,102 +90,84 @@ module _ {B : Type 0} (screen : B → Screen) (s : TerminalData B) (inserted : B
       (pushed : PushesRows inserted (screen s.backend) (screen mid))
       {m : ℕ} (blank : BufferData) (is : IsBlankFor m inserted blank) (redrawn : s.previous.area ≡ s.viewport_area
       → DrawsRows blank s.previous 0 1 0 (screen mid) (screen b)) where
-    abbrev pub covered : TerminalData B
-    covered = record s { backend = b }
+    both : KeepsSizeAndVisibility (screen s.backend) (screen b)
+    both = shape_more shape_mid shape
 
-    at_top : TakesRows screen s → IsInStep screen s → s.viewport_area.y ≡ 0
-    at_top takes step = omega (arith, step.on_screen.bottom, same_height takes)
+    module _ (takes : TakesRows screen s) (step : IsInStep screen s) (settled : IsSettledBuffer inserted) where
+      at_top : s.viewport_area.y ≡ 0
+      at_top = omega (arith, step.on_screen.bottom, same_height takes)
 
-    has_pushed : TakesRows screen s → IsSettledBuffer inserted → HasPushed inserted inserted.area.height (screen s.backend)
-        (screen mid)
-    has_pushed takes settled = pushed (record { width = wide takes; bottom = omega (arith, same_height takes) }) settled
+      has_pushed : HasPushed inserted inserted.area.height (screen s.backend) (screen mid)
+      has_pushed = pushed (fits_first takes) settled
 
-    shown : TakesRows screen s → IsInStep screen s → IsSettledBuffer inserted → ShowsRows s.previous 0 1 0 (screen mid) (screen b)
-    shown takes step settled =
-        let width : s.previous.area.width ≡ s.viewport_area.width = ap (λ (r : Rect). r.width) step.area in
-        let height : s.previous.area.height ≡ s.viewport_area.height = ap (λ (r : Rect). r.height) step.area in
-        let columns : blank.area.width ≡ s.viewport_area.width = sym is.width ∙ ap (λ (r : Rect). r.width) over in
-        rows_shown blank s.previous (width ∙ sym columns) 0 1 0 (omega arith) (redrawn step.area) (record {
-          fit = record {
-            width = width ∙ takes.width ∙ sym shape_mid.width;
-            bottom = omega (arith, shape_mid.height, same_height takes);
-          };
-          inside = omega (arith, height);
-          settled = step.settled;
-          shown = blank_first blank 1 0 (screen mid) is.empty (columns ∙ takes.width ∙ sym shape_mid.width)
-              ((has_pushed takes settled).blank some);
-        })
+      shown : ShowsRows s.previous 0 1 0 (screen mid) (screen b)
+      shown =
+          let area = parts_of step.area in
+          let columns : blank.area.width ≡ s.viewport_area.width = sym is.width ∙ ap (λ (r : Rect). r.width) over in
+          rows_shown blank s.previous (area.2 ∙ sym columns) 0 1 0 (omega arith) (redrawn step.area) (record {
+            fit = record {
+              width = area.2 ∙ takes.width ∙ sym shape_mid.width;
+              bottom = omega (arith, shape_mid.height, same_height takes);
+            };
+            inside = omega (arith, area.3);
+            settled = step.settled;
+            shown = blank_first blank 1 0 (screen mid) is.empty (columns ∙ takes.width ∙ sym shape_mid.width)
+                (has_pushed.blank some);
+          })
 
-    -- all of its rows but the first are as they were
-    pub pushing_redrawn : TakesRows screen s → IsInStep screen s → IsSettledBuffer inserted
-        → IsPushing inserted (screen s.backend) (screen b)
-    pushing_redrawn takes step settled =
-        let drawn = shown takes step settled in
-        let before = has_pushed takes settled in record {
-          count = inserted.area.height;
-          inside = omega arith;
-          shape = record {
-            width = shape.width ∙ shape_mid.width;
-            height = shape.height ∙ shape_mid.height;
-            visible = shape.visible ∙ shape_mid.visible;
-          };
-          above = subst (AppendsPart inserted 0 inserted.area.height (rows_above (screen s.backend) 0))
-              (ap (λ h. h ++ []) (sym drawn.history)) before.above;
-          below = λ x y x_in y_in low. drawn.outside x y (inr (omega arith)) ∙ before.below x y x_in y_in low;
-        }
+      above_now : AppendsPart inserted 0 inserted.area.height (rows_above (screen s.backend) 0) (rows_above (screen b) 0)
+      above_now = subst (AppendsPart inserted 0 inserted.area.height (rows_above (screen s.backend) 0))
+          (ap (λ h. h ++ []) (sym shown.history)) has_pushed.above
 
-    -- each column of the viewport shows what it did
-    shown_again : TakesRows screen s → IsInStep screen s → IsSettledBuffer inserted → ShowsBuffer s.previous (screen b).grid
-    shown_again takes step settled = record {
-      at = λ x y x_in y_in.
-          let top : s.previous.area.y ≡ 0 = ap (λ (r : Rect). r.y) step.area ∙ at_top takes step in
-          let left : s.previous.area.x ≡ s.viewport_area.x = ap (λ (r : Rect). r.x) step.area in
-          let width : s.previous.area.width ≡ s.viewport_area.width = ap (λ (r : Rect). r.width) step.area in
-          let height : s.previous.area.height ≡ s.viewport_area.height = ap (λ (r : Rect). r.height) step.area in
-          let corner : s.previous.area.x ≡ 0 = omega (arith, left, step.on_screen.right, takes.width) in
-          let column : s.previous.area.x + x ≡ x = omega (arith, corner) in
-          let row : s.previous.area.y + y ≡ y = omega (arith, top) in
-          elim (cases_lt 0 y) [
-            | inl low ↦
-                let same : (screen b).grid x y ≡ (screen s.backend).grid x y =
-                (shown takes step settled).outside x y (inr (omega arith))
-                ∙ (has_pushed takes settled).below x y (omega (arith, width, takes.width))
-                (omega (arith, height, step.on_screen.bottom)) low in
-                rw (column, row) (subst (ShowsColumn s.previous.area.width s.previous.cells x y) (sym same)
-                (rw (column, row) at (step.shown.at x y x_in y_in)))
-            | inr first ↦
-                let zero_row : y ≡ 0 = omega arith in
-                rw (column, row, zero_row) ((shown takes step settled).shown x 0 x_in (omega arith))
-          ];
-    }
+      -- all of its rows but the first are as they were
+      pub pushing_redrawn : IsPushing inserted (screen s.backend) (screen b)
+      pushing_redrawn = record {
+        count = inserted.area.height;
+        inside = omega arith;
+        shape = both;
+        above = above_now;
+        below = λ x y x_in y_in low. shown.outside x y (inr (omega arith)) ∙ has_pushed.below x y x_in y_in low;
+      }
 
-    pub inserted_covered : Inserts screen inserted s covered
+      -- each column of the viewport shows what it did
+      shown_again : ShowsBuffer s.previous (screen b).grid
+      shown_again = record {
+        at = λ x y x_in y_in.
+            let area = parts_of step.area in
+            let column : s.previous.area.x + x ≡ x = omega (arith, area.0, step.on_screen.right, takes.width) in
+            let row : s.previous.area.y + y ≡ y = omega (arith, area.1, at_top) in
+            elim (cases_lt 0 y) [
+              | inl low ↦
+                  let same : (screen b).grid x y ≡ (screen s.backend).grid x y = shown.outside x y (inr (omega arith))
+                  ∙ has_pushed.below x y (omega (arith, area.2, takes.width))
+                  (omega (arith, area.3, step.on_screen.bottom)) low in
+                  rw (column, row) (subst (ShowsColumn s.previous.area.width s.previous.cells x y) (sym same)
+                  (rw (column, row) at (step.shown.at x y x_in y_in)))
+              | inr first ↦
+                  let zero_row : y ≡ 0 = omega arith in
+                  rw (column, row, zero_row) (shown.shown x 0 x_in (omega arith))
+            ];
+      }
+
+    pub inserted_covered : Inserts screen inserted s (record s { backend = b })
     inserted_covered = record {
       rest = refl;
       over = over;
       top = omega arith;
       current = stays_put s.viewport_area s.current;
       previous = stays_put s.viewport_area s.previous;
-      shape = record {
-        width = shape.width ∙ shape_mid.width;
-        height = shape.height ∙ shape_mid.height;
-        visible = shape.visible ∙ shape_mid.visible;
-      };
+      shape = both;
       above = λ takes step settled.
-          let top = at_top takes step in
-          let part = (has_pushed takes settled).above in
-          let here : rows_above (screen b) 0 ≡ rows_above (screen mid) 0 = ap (λ h. h ++ []) (shown takes step settled).history in
-          rw top (AppendsRows-part inserted inserted.area.height (rows_above (screen s.backend) 0) (rows_above (screen b) 0) refl
-          (subst (AppendsPart inserted 0 inserted.area.height (rows_above (screen s.backend) 0)) (sym here) part));
+          rw (at_top takes step settled) (AppendsRows-part inserted _ _ _ refl (above_now takes step settled));
       below = λ takes step settled blank.
-          record { at = λ x y x_in y_in past. absurd (omega (arith, shape.height, shape_mid.height, same_height takes)) };
+          record { at = λ x y x_in y_in past. absurd (omega (arith, both.height, same_height takes)) };
       moved = λ takes step settled lower a b a_in b_in. absurd (omega arith);
       kept = λ takes step settled a b a_in b_in past. absurd (omega (arith, same_height takes));
       left = λ takes step. ap (λ r. record s.previous { area = r }) step.area;
       in_step = λ takes step settled. record {
         on_screen = record {
-          right = omega (arith, step.on_screen.right, shape.width, shape_mid.width);
-          bottom = omega (arith, step.on_screen.bottom, shape.height, shape_mid.height);
+          right = omega (arith, step.on_screen.right, both.width);
+          bottom = omega (arith, step.on_screen.bottom, both.height);
         };
         area = step.area;
         settled = step.settled;
@@ -187,21 +179,19 @@ module _ {B : Type 0} (screen : B → Screen) (s : TerminalData B) (inserted : B
           let once : min inserted.area.height 1 * inserted.area.width ≡ inserted.area.width = ap (λ m. m * inserted.area.width)
           (let one : min inserted.area.height 1 ≡ 1 = omega arith in one) ∙ omega arith in
           writes_then _ _ _ (screen s.backend) (screen mid) (screen b) (omega (arith, covered, once, is.width))
-          ((has_pushed takes settled).few narrow) (writes_rows (redrawn step.area));
+          ((has_pushed takes step settled).few narrow) (writes_rows (redrawn step.area));
       most = λ takes step settled.
           let covered : (if nat_lt s.viewport_area.height s.last_known_area.height then 0
           else inserted.area.width) ≡ inserted.area.width = grind (arith, nat_tests) in
           writes_then _ _ _ (screen s.backend) (screen mid) (screen b) (omega (arith, covered, is.width))
-          (has_pushed takes settled).most (writes_rows (redrawn step.area));
+          (has_pushed takes step settled).most (writes_rows (redrawn step.area));
     }
 
   -- above one that doesn't: first it moves down, then the rows above it move up
   module _ (n : ℕ) (n_is : n ≡ rows_down inserted.area.height s.viewport_area s.last_known_area.height) (mid b : B)
       (current previous : BufferData)
-      (shape_mid : KeepsSizeAndVisibility (screen s.backend) (screen mid)) (shape : KeepsSizeAndVisibility (screen mid)
-      (screen b))
+      (shape_mid : KeepsSizeAndVisibility (screen s.backend) (screen mid))
       (down : InsertsDown inserted s.viewport_area s.last_known_area.height (screen s.backend) (screen mid) n)
-      (up : InsertsUp inserted n (s.viewport_area.y + n) (screen mid) (screen b))
       (with_current : Follows s.viewport_area (record s.viewport_area { y = s.viewport_area.y + n }) s.current current)
       (with_older : Follows s.viewport_area (record s.viewport_area { y = s.viewport_area.y + n }) s.previous previous) where
     abbrev pub moved : TerminalData B
@@ -212,204 +202,179 @@ module _ {B : Type 0} (screen : B → Screen) (s : TerminalData B) (inserted : B
       viewport_area = record s.viewport_area { y = s.viewport_area.y + n };
     }
 
-    fits : TakesRows screen s → IsInStep screen s → s.viewport_area.y + n + s.viewport_area.height ≤ (screen s.backend).height
-    fits takes step = omega (arith, n_is, step.on_screen.bottom, same_height takes)
+    module _ (takes : TakesRows screen s) (step : IsInStep screen s) where
+      fits : s.viewport_area.y + n + s.viewport_area.height ≤ (screen s.backend).height
+      fits = omega (arith, n_is, step.on_screen.bottom, same_height takes)
 
-    lowered : TakesRows screen s → IsInStep screen s → IsSettledBuffer inserted
-        → HasLowered inserted n s.viewport_area (screen s.backend) (screen mid)
-    lowered takes step settled = down (has_place takes step) settled
+      left_older : previous ≡ record s.previous { area = record s.viewport_area { y = s.viewport_area.y + n } }
+      left_older = with_older.rest ∙ ap (λ r. record s.previous { area = r }) (with_older.area.moved step.area)
 
-    raised : TakesRows screen s → IsInStep screen s → IsSettledBuffer inserted → HasRaised inserted n (inserted.area.height - n)
-        (s.viewport_area.y + n) (screen mid) (screen b)
-    raised takes step settled = up (wide takes ∙ sym shape_mid.width) (omega (arith, fits takes step, shape_mid.height)) settled
+      lowered : IsSettledBuffer inserted → HasLowered inserted n s.viewport_area (screen s.backend) (screen mid)
+      lowered = down (has_place takes step)
 
-    left_older : TakesRows screen s → IsInStep screen s
-        → previous ≡ record s.previous { area = record s.viewport_area { y = s.viewport_area.y + n } }
-    left_older takes step = with_older.rest ∙ ap (λ r. record s.previous { area = r }) (with_older.area.moved step.area)
+    module _ (shape : KeepsSizeAndVisibility (screen mid) (screen b))
+        (up : InsertsUp inserted n (s.viewport_area.y + n) (screen mid) (screen b)) where
+      all : KeepsSizeAndVisibility (screen s.backend) (screen b)
+      all = shape_more shape_mid shape
 
-    -- a row of the viewport, and of what lies below, is where it went
-    viewport_moved : TakesRows screen s → IsInStep screen s → IsSettledBuffer inserted → (x y : ℕ) → x < (screen s.backend).width
-        → y < s.viewport_area.height
-        → (screen b).grid x (s.viewport_area.y + n + y) ≡ (screen s.backend).grid x (s.viewport_area.y + y)
-    viewport_moved takes step settled x y x_in y_in =
-        (raised takes step settled).below x (s.viewport_area.y + n + y) (omega (arith, shape_mid.width))
-        (omega (arith, shape_mid.height, fits takes step)) (omega arith)
-        ∙ (lowered takes step settled).moved x y x_in y_in
+      module _ (takes : TakesRows screen s) (step : IsInStep screen s) (settled : IsSettledBuffer inserted) where
+        raised : HasRaised inserted n (inserted.area.height - n) (s.viewport_area.y + n) (screen mid) (screen b)
+        raised = up (wide takes ∙ sym shape_mid.width) (omega (arith, fits takes step, shape_mid.height)) settled
 
-    pub inserted_moved : Inserts screen inserted s moved
-    inserted_moved = record {
+        -- what lies at the viewport's new top or below it is as it was before the rows above moved
+        stays_below : (x y : ℕ) → x < (screen s.backend).width → y < (screen s.backend).height → s.viewport_area.y + n ≤ y
+            → (screen b).grid x y ≡ (screen mid).grid x y
+        stays_below x y x_in y_in low = raised.below x y (omega (arith, shape_mid.width)) (omega (arith, shape_mid.height)) low
+
+        -- a row of the viewport is where it went
+        viewport_moved : (x y : ℕ) → x < (screen s.backend).width → y < s.viewport_area.height
+            → (screen b).grid x (s.viewport_area.y + n + y) ≡ (screen s.backend).grid x (s.viewport_area.y + y)
+        viewport_moved x y x_in y_in = stays_below x _ x_in (omega (arith, fits takes step)) (omega arith)
+            ∙ (lowered takes step settled).moved x y x_in y_in
+
+        -- and what lies below it where it was
+        viewport_kept : (x y : ℕ) → x < (screen s.backend).width → y < (screen s.backend).height
+            → s.viewport_area.y + n + s.viewport_area.height ≤ y → (screen b).grid x y ≡ (screen s.backend).grid x y
+        viewport_kept x y x_in y_in past = stays_below x y x_in y_in (omega arith)
+            ∙ (lowered takes step settled).below x y x_in y_in past
+
+        moved_in_step : IsInStep screen moved
+        moved_in_step =
+            let e = left_older takes step in
+            let area = parts_of step.area in
+            let shown : ShowsBuffer (record s.previous { area = record s.previous.area { y = s.viewport_area.y + n } })
+            (screen b).grid = shows_moved s.previous (s.viewport_area.y + n) (screen s.backend) (screen b) step.shown (λ a r a_in
+            r_in. viewport_moved (s.previous.area.x + a) r (omega (arith, area.0, area.2, step.on_screen.right))
+            (omega (arith, area.3)) ∙ ap (λ k. (screen s.backend).grid (s.previous.area.x + a) (k + r)) (sym area.1)) in
+            let whole : ShowsBuffer (record s.previous { area = record s.viewport_area { y = s.viewport_area.y + n } })
+            (screen b).grid = rw step.area at shown in
+            record {
+              on_screen = record {
+                right = omega (arith, step.on_screen.right, all.width);
+                bottom = omega (arith, fits takes step, all.height);
+              };
+              area = ap (λ (o : BufferData). o.area) e;
+              settled = subst IsSettledBuffer (sym e) (rw step.area at step.settled);
+              shown = subst (λ o. ShowsBuffer o (screen b).grid) (sym e) whole;
+            }
+
+      pub inserted_moved : Inserts screen inserted s moved
+      inserted_moved =
+          let parts : n + (inserted.area.height - n) ≡ inserted.area.height = omega (arith, n_is) in
+          record {
+            rest = refl;
+            over = over;
+            top = ap (λ k. s.viewport_area.y + k) n_is;
+            current = with_current;
+            previous = with_older;
+            shape = all;
+            above = λ takes step settled.
+                AppendsRows-part inserted inserted.area.height _ _ refl
+                (parts_join (lowered takes step settled).above (raised takes step settled).above (omega arith)
+                (omega (arith, n_is)));
+            below = λ takes step settled blank. record {
+              at = λ x y x_in y_in past.
+                  let x_low : x < (screen s.backend).width = omega (arith, all.width) in
+                  let y_low : y < (screen s.backend).height = omega (arith, all.height) in
+                  viewport_kept takes step settled x y x_low y_low past ∙ blank.at x y x_low y_low (omega arith);
+            };
+            left = left_older;
+            moved = λ takes step settled lower. viewport_moved takes step settled;
+            kept = viewport_kept;
+            in_step = moved_in_step;
+            few = λ takes step settled narrow.
+                let cells : nonempty_cells inserted 0 inserted.area.height ≡ nonempty_cells inserted 0 n + nonempty_cells inserted n
+                (inserted.area.height - n) =
+                ap (nonempty_cells inserted 0) (sym parts) ∙ nonempty_parts inserted 0 n (inserted.area.height - n)
+                ∙ ap (λ k. nonempty_cells inserted 0 n + nonempty_cells inserted k (inserted.area.height - n)) (omega arith) in
+                writes_then _ _ _ (screen s.backend) (screen mid) (screen b) (omega (arith, cells))
+                ((lowered takes step settled).few narrow) ((raised takes step settled).few narrow);
+            most = λ takes step settled.
+                let cells : inserted.area.width * inserted.area.height ≡ inserted.area.width * n + inserted.area.width *
+                (inserted.area.height - n) = ap (λ h. inserted.area.width * h) (sym parts) ∙ omega arith in
+                writes_then _ _ _ (screen s.backend) (screen mid) (screen b) (omega (arith, cells))
+                (lowered takes step settled).most (raised takes step settled).most;
+          }
+
+    -- a backend failed after that move
+    pub stopped_moved : (stops_at : B → B → Type 0)
+        → FailsAfter stops_at (λ q. StartsRaising inserted n (s.viewport_area.y + n) (screen mid) (screen q)) b
+        → StopsInserting screen stops_at inserted s moved
+    stopped_moved stops_at fails = record {
       rest = refl;
-      over = over;
-      top = ap (λ k. s.viewport_area.y + k) n_is;
+      moved = inr (record {
+        top = ap (λ k. s.viewport_area.y + k) n_is;
+        between = mid;
+        lowered = λ takes step settled. subst (λ k. HasLowered inserted k s.viewport_area (screen s.backend) (screen mid)) n_is
+            (lowered takes step settled);
+        stopped = fails_weaker (λ q raising takes step settled.
+            subst (λ k. IsRaising inserted k (s.viewport_area.y + n) (screen mid) (screen q)) n_is
+            (raising (wide takes ∙ sym shape_mid.width) (omega (arith, fits takes step, shape_mid.height)) settled)) fails;
+      });
       current = with_current;
       previous = with_older;
-      shape = record {
-        width = shape.width ∙ shape_mid.width;
-        height = shape.height ∙ shape_mid.height;
-        visible = shape.visible ∙ shape_mid.visible;
-      };
-      above = λ takes step settled.
-          AppendsRows-part inserted inserted.area.height _ _ refl
-          (parts_join (lowered takes step settled).above (raised takes step settled).above (omega arith) (omega (arith, n_is)));
-      below = λ takes step settled blank. record {
-        at = λ x y x_in y_in past.
-            (raised takes step settled).below x y (omega (arith, shape.width)) (omega (arith, shape.height)) (omega arith)
-            ∙ (lowered takes step settled).below x y (omega (arith, shape.width, shape_mid.width))
-            (omega (arith, shape.height, shape_mid.height)) (omega arith)
-            ∙ blank.at x y (omega (arith, shape.width, shape_mid.width)) (omega (arith, shape.height, shape_mid.height))
-            (omega arith);
-      };
-      left = λ takes step. left_older takes step;
-      moved = λ takes step settled lower a b a_in b_in. viewport_moved takes step settled a b a_in b_in;
-      kept = λ takes step settled a b a_in b_in past.
-          (raised takes step settled).below a b (omega (arith, shape_mid.width)) (omega (arith, shape_mid.height)) (omega arith)
-          ∙ (lowered takes step settled).below a b a_in b_in (omega arith);
-      in_step = λ takes step settled.
-          let e = left_older takes step in
-          let x : s.previous.area.x ≡ s.viewport_area.x = ap (λ (r : Rect). r.x) step.area in
-          let y : s.previous.area.y ≡ s.viewport_area.y = ap (λ (r : Rect). r.y) step.area in
-          let width : s.previous.area.width ≡ s.viewport_area.width = ap (λ (r : Rect). r.width) step.area in
-          let height : s.previous.area.height ≡ s.viewport_area.height = ap (λ (r : Rect). r.height) step.area in
-          let shown : ShowsBuffer (record s.previous { area = record s.previous.area { y = s.viewport_area.y + n } })
-          (screen b).grid =
-          shows_moved s.previous (s.viewport_area.y + n) (screen s.backend) (screen b) step.shown (λ a r a_in r_in.
-          viewport_moved takes step settled (s.previous.area.x + a) r (omega (arith, x, width, step.on_screen.right))
-          (omega (arith, height))
-          ∙ ap (λ k. (screen s.backend).grid (s.previous.area.x + a) (k + r)) (sym y)) in
-          let whole : ShowsBuffer (record s.previous { area = record s.viewport_area { y = s.viewport_area.y + n } })
-          (screen b).grid = rw step.area at shown in
-          record {
-            on_screen = record {
-              right = omega (arith, step.on_screen.right, shape.width, shape_mid.width);
-              bottom = omega (arith, fits takes step, shape.height, shape_mid.height);
-            };
-            area = ap (λ (o : BufferData). o.area) e;
-            settled = subst IsSettledBuffer (sym e) (rw step.area at step.settled);
-            shown = subst (λ o. ShowsBuffer o (screen b).grid) (sym e) whole;
-          };
-      few = λ takes step settled narrow.
-          let all : n + (inserted.area.height - n) ≡ inserted.area.height = omega (arith, n_is) in
-          let parts : nonempty_cells inserted 0 inserted.area.height ≡ nonempty_cells inserted 0 n + nonempty_cells inserted n
-          (inserted.area.height - n) =
-          ap (nonempty_cells inserted 0) (sym all) ∙ nonempty_parts inserted 0 n (inserted.area.height - n)
-          ∙ ap (λ k. nonempty_cells inserted 0 n + nonempty_cells inserted k (inserted.area.height - n)) (omega arith) in
-          writes_then _ _ _ (screen s.backend) (screen mid) (screen b) (omega (arith, parts))
-          ((lowered takes step settled).few narrow) ((raised takes step settled).few narrow);
-      most = λ takes step settled.
-          let all : n + (inserted.area.height - n) ≡ inserted.area.height = omega (arith, n_is) in
-          let parts : inserted.area.width * inserted.area.height ≡ inserted.area.width * n + inserted.area.width *
-          (inserted.area.height - n) =
-          ap (λ h. inserted.area.width * h) (sym all) ∙ omega arith in
-          writes_then _ _ _ (screen s.backend) (screen mid) (screen b) (omega (arith, parts)) (lowered takes step settled).most
-          (raised takes step settled).most;
     }
 
   -- a backend failed before that move, or while rows were pushed off
   module _ (stops_at : B → B → Type 0) where
-    pub stopped_pushing : s.last_known_area.height ≤ s.viewport_area.height → (b : B)
-        → FailsAfter stops_at (λ q. TakesRows screen s → IsInStep screen s → IsSettledBuffer inserted
-        → IsPushing inserted (screen s.backend) (screen q)) b
-        → StopsInserting screen stops_at inserted s (record s { backend = b })
-    stopped_pushing covers b fails = record {
+    stopped_in_place : (b : B) → FailsAfter stops_at (λ q. TakesRows screen s → IsInStep screen s → IsSettledBuffer inserted
+        → IsBeginning screen inserted s (screen q)) b → StopsInserting screen stops_at inserted s (record s { backend = b })
+    stopped_in_place b fails = record {
       rest = refl;
-      moved = inl (record {
-        top = refl;
-        stopped = fails_weaker (λ q pushing takes step settled. record {
-          pushing = λ same. pushing takes step settled;
-          lowering = λ lower. absurd (omega (arith, covers, lower));
-        }) fails;
-      });
+      moved = inl (record { top = refl; stopped = fails });
       current = stays_put s.viewport_area s.current;
       previous = stays_put s.viewport_area s.previous;
     }
-
-    -- while they were pushed
-    pub stopped_in_push : s.last_known_area.height ≤ s.viewport_area.height → (b : B)
-        → FailsAfter stops_at (λ q. StartsPushing inserted (screen s.backend) (screen q)) b
-        → StopsInserting screen stops_at inserted s (record s { backend = b })
-    stopped_in_push covers b fails = stopped_pushing covers b (fails_weaker (λ q starts takes step settled.
-        starts (record { width = wide takes; bottom = omega (arith, same_height takes) }) settled) fails)
-
-    still_pushed : {mid : B} → PushesRows inserted (screen s.backend) (screen mid) → TakesRows screen s
-        → IsSettledBuffer inserted → IsPushing inserted (screen s.backend) (screen mid)
-    still_pushed {mid} pushed takes settled =
-        still_pushing inserted inserted.area.height (screen s.backend) (screen mid) (omega arith)
-        (pushed (record { width = wide takes; bottom = omega (arith, same_height takes) }) settled)
-
-    -- after all were
-    pub stopped_after_push : s.last_known_area.height ≤ s.viewport_area.height → (mid b : B)
-        → PushesRows inserted (screen s.backend) (screen mid) → stops_at mid b
-        → StopsInserting screen stops_at inserted s (record s { backend = b })
-    stopped_after_push covers mid b pushed stop = stopped_pushing covers b (record {
-      before = mid;
-      was = λ takes step settled. still_pushed pushed takes settled;
-      stopped = stop;
-    })
-
-    -- while the first row was drawn again
-    pub stopped_redrawing : s.last_known_area.height ≤ s.viewport_area.height → 0 < inserted.area.height → (mid b : B)
-        → KeepsSizeAndVisibility (screen s.backend) (screen mid) → PushesRows inserted (screen s.backend) (screen mid)
-        → {m : ℕ} (blank : BufferData) → IsBlankFor m inserted blank
-        → FailsAfter stops_at (λ q. (screen q ≡ screen mid) ⊎ DrawsRows blank s.previous 0 1 0 (screen mid) (screen q)) b
-        → StopsInserting screen stops_at inserted s (record s { backend = b })
-    stopped_redrawing covers some mid b shape_mid pushed blank is fails =
-        stopped_pushing covers b (fails_weaker (λ q drew takes step settled. elim drew [
-          | inl same ↦ subst (IsPushing inserted (screen s.backend)) (sym same) (still_pushed pushed takes settled)
-          | inr drawn ↦
-              let shape : KeepsSizeAndVisibility (screen mid) (screen q) = record {
-                width = drawn.drawn.width;
-                height = drawn.drawn.height;
-                visible = drawn.drawn.visible;
-              } in
-              pushing_redrawn covers some mid q shape_mid shape pushed blank is (λ same. drawn) takes step settled
-        ]) fails)
 
     pub stopped_lowering : s.viewport_area.height < s.last_known_area.height → (b : B)
         → FailsAfter stops_at (λ q. StartsLowering inserted s.viewport_area s.last_known_area.height (screen s.backend)
         (screen q)) b → StopsInserting screen stops_at inserted s (record s { backend = b })
-    stopped_lowering lower b fails = record {
-      rest = refl;
-      moved = inl (record {
-        top = refl;
-        stopped = fails_weaker (λ q lowering takes step settled. record {
-          pushing = λ covers. absurd (omega (arith, covers, lower));
-          lowering = λ same. lowering (has_place takes step) settled;
-        }) fails;
-      });
-      current = stays_put s.viewport_area s.current;
-      previous = stays_put s.viewport_area s.previous;
-    }
+    stopped_lowering lower b fails = stopped_in_place b (fails_weaker (λ q lowering takes step settled. record {
+      pushing = λ covers. absurd (omega (arith, covers, lower));
+      lowering = λ same. lowering (has_place takes step) settled;
+    }) fails)
 
-  -- a backend failed after that move
-  pub stopped_moved : (stops_at : B → B → Type 0) (n : ℕ)
-      → n ≡ rows_down inserted.area.height s.viewport_area s.last_known_area.height
-      → (mid b : B) (current previous : BufferData)
-      → KeepsSizeAndVisibility (screen s.backend) (screen mid)
-      → InsertsDown inserted s.viewport_area s.last_known_area.height (screen s.backend) (screen mid) n
-      → FailsAfter stops_at (λ q. StartsRaising inserted n (s.viewport_area.y + n) (screen mid) (screen q)) b
-      → Follows s.viewport_area (record s.viewport_area { y = s.viewport_area.y + n }) s.current current
-      → Follows s.viewport_area (record s.viewport_area { y = s.viewport_area.y + n }) s.previous previous
-      → StopsInserting screen stops_at inserted s (record s {
-        backend = b;
-        current = current;
-        previous = previous;
-        viewport_area = record s.viewport_area { y = s.viewport_area.y + n };
-      })
-  stopped_moved stops_at n n_is mid b current previous shape_mid down fails with_current with_older = record {
-    rest = refl;
-    moved = inr (record {
-      top = ap (λ k. s.viewport_area.y + k) n_is;
-      between = mid;
-      lowered = λ takes step settled. subst (λ k. HasLowered inserted k s.viewport_area (screen s.backend) (screen mid)) n_is
-          (down (has_place takes step) settled);
-      stopped = fails_weaker (λ q raising takes step settled.
-          subst (λ k. IsRaising inserted k (s.viewport_area.y + n) (screen mid) (screen q)) n_is
-          (raising (wide takes ∙ sym shape_mid.width)
-          (omega (arith, n_is, step.on_screen.bottom, same_height takes, shape_mid.height)) settled)) fails;
-    });
-    current = with_current;
-    previous = with_older;
-  }
+    module _ (covers : s.last_known_area.height ≤ s.viewport_area.height) where
+      stopped_pushing : (b : B) → FailsAfter stops_at (λ q. TakesRows screen s → IsInStep screen s → IsSettledBuffer inserted
+          → IsPushing inserted (screen s.backend) (screen q)) b
+          → StopsInserting screen stops_at inserted s (record s { backend = b })
+      stopped_pushing b fails = stopped_in_place b (fails_weaker (λ q pushing takes step settled. record {
+        pushing = λ same. pushing takes step settled;
+        lowering = λ lower. absurd (omega (arith, covers, lower));
+      }) fails)
+
+      -- while they were pushed
+      pub stopped_in_push : (b : B) → FailsAfter stops_at (λ q. StartsPushing inserted (screen s.backend) (screen q)) b
+          → StopsInserting screen stops_at inserted s (record s { backend = b })
+      stopped_in_push b fails =
+          stopped_pushing b (fails_weaker (λ q starts takes step settled. starts (fits_first takes) settled) fails)
+
+      -- after all were
+      module _ (mid b : B) (pushed : PushesRows inserted (screen s.backend) (screen mid)) where
+        still_pushed : TakesRows screen s → IsSettledBuffer inserted → IsPushing inserted (screen s.backend) (screen mid)
+        still_pushed takes settled = still_pushing inserted inserted.area.height (screen s.backend) (screen mid) (omega arith)
+            (pushed (fits_first takes) settled)
+
+        pub stopped_after_push : stops_at mid b → StopsInserting screen stops_at inserted s (record s { backend = b })
+        stopped_after_push stop = stopped_pushing b (record {
+          before = mid;
+          was = λ takes step settled. still_pushed takes settled;
+          stopped = stop;
+        })
+
+        -- while the first row was drawn again
+        pub stopped_redrawing : 0 < inserted.area.height → KeepsSizeAndVisibility (screen s.backend) (screen mid)
+            → {m : ℕ} (blank : BufferData) → IsBlankFor m inserted blank
+            → FailsAfter stops_at (λ q. (screen q ≡ screen mid) ⊎ DrawsRows blank s.previous 0 1 0 (screen mid) (screen q)) b
+            → StopsInserting screen stops_at inserted s (record s { backend = b })
+        stopped_redrawing some shape_mid blank is fails =
+            stopped_pushing b (fails_weaker (λ q drew takes step settled. elim drew [
+              | inl same ↦ subst (IsPushing inserted (screen s.backend)) (sym same) (still_pushed takes settled)
+              | inr drawn ↦
+                  pushing_redrawn covers some mid q shape_mid
+                  (record { width = drawn.drawn.width; height = drawn.drawn.height; visible = drawn.drawn.visible })
+                  pushed blank is (λ same. drawn) takes step settled
+            ]) fails)
 
 module _ {B : Type 0} (screen : B → Screen) where
   -- no rows

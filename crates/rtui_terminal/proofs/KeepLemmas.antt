@@ -2,41 +2,54 @@
 use Rattle.std.proofs.Common.{◌≡◌, ℕ, ◌+◌, ◌<◌, Option, Some, None, refl, sym, ap, ◌∙◌, subst, inl, inr, arith}
 use Rattle.rtui_geometry.specs.{declared.position.Position.Position, declared.rect.Rect.Rect}
 use Rattle.rtui_buffer.specs.{BufferData.BufferData, Shown.IsSettledBuffer}
-use Rattle.rtui_backend.specs.Screen.{Screen, KeepsSizeAndHistory, IsOnScreen, IsWithin, rows_above}
+use Rattle.rtui_backend.specs.Screen.{Screen, KeepsSizeAndHistory, IsOnScreen, IsWithin, rows_above, screen_area, size_of}
 use Rattle.rtui_backend.proofs.ScrollLemmas.{above_same}
 use Rattle.rtui_viewport.specs.{Areas.KeepsOutside, Areas.IsBlankBelow, Clearing.ClearsArea, Viewports.IsFixed}
 use Rattle.rtui_viewport.specs.{Viewports.IsInline}
 use Rattle.rtui_viewport.specs.declared.viewport.Viewport.{Viewport}
-use Rattle.rtui_viewport.specs.declared.viewport.Viewport.TheVariants.{Fullscreen, Inline, Fixed}
 use Rattle.rtui_viewport.proofs.ClearLemmas.{keeps_outside, keeps_above}
 use Rattle.rtui_terminal.specs.{TerminalData.TerminalData, TerminalData.IsInPlace, Writing.HasDrawn, Writing.cursor_placed}
 use Rattle.rtui_terminal.specs.{Cursor.Stays, Resizing.Autoresizes}
 use Rattle.rtui_terminal.specs.InStep.{IsInStep, IsSized, KeepsAroundViewport, rows_over}
+use Rattle.rtui_terminal.proofs.StepLemmas.{for_inline, for_fixed}
 
 placed_grid : (cursor : Option Position) (s : Screen) (a b : ℕ) → (cursor_placed cursor s).grid a b ≡ s.grid a b
 placed_grid None s a b = refl
 placed_grid (Some p) s a b = refl
 
-pub placed_size : (cursor : Option Position) (s : Screen) → KeepsSizeAndHistory s (cursor_placed cursor s)
+placed_size : (cursor : Option Position) (s : Screen) → KeepsSizeAndHistory s (cursor_placed cursor s)
 placed_size None s = record { width = refl; height = refl; history = refl }
 placed_size (Some p) s = record { width = refl; height = refl; history = refl }
+
+-- sizes and areas from columns and rows
+pub same_size : (r s : Screen) → r.width ≡ s.width → r.height ≡ s.height → size_of r ≡ size_of s
+same_size r s w h = rw (w, h) refl
+
+pub same_area : (r s : Screen) → r.width ≡ s.width → r.height ≡ s.height → screen_area r ≡ screen_area s
+same_area r s w h = rw (w, h) refl
 
 pub size_more : {r s t : Screen} → KeepsSizeAndHistory r s → KeepsSizeAndHistory s t → KeepsSizeAndHistory r t
 size_more p q = record { width = q.width ∙ p.width; height = q.height ∙ p.height; history = q.history ∙ p.history }
 
+-- a drawing keeps the size
+pub size_drawn : {B : Type 0} (cursor : Option Position) (s : TerminalData B) {old new : Screen} → HasDrawn cursor s old new
+    → KeepsSizeAndHistory old new
+size_drawn cursor s (between, writes, is) =
+    let drawn = writes.drawn in
+    rw is (size_more (record { width = drawn.width; height = drawn.height; history = drawn.history }) (placed_size cursor between))
+
 -- the rows above an inline viewport with a row stay where it is cleared
 pub above_cleared : (v : Viewport) (r : Rect) {s t : Screen} → IsInPlace v r → ClearsArea v r s t → IsInline v → IsOnScreen r s
     → 0 < r.height → rows_above t r.y ≡ rows_above s r.y
-above_cleared Fullscreen r at clears inline on some = absurd inline
-above_cleared (Inline n) r at clears inline on some = keeps_above n r on some (clears at)
-above_cleared (Fixed f) r at clears inline on some = absurd inline
+above_cleared v r {s} {t} at clears inline on some =
+    for_inline (λ k. IsInPlace k r → ClearsArea k r s t → rows_above t r.y ≡ rows_above s r.y)
+    (λ n at clears. keeps_above n r on some (clears at)) v inline at clears
 
 -- and all outside a fixed one
 pub outside_cleared : (v : Viewport) (r : Rect) {s t : Screen} → ClearsArea v r s t → IsFixed v → IsOnScreen r s
     → KeepsOutside r s t
-outside_cleared Fullscreen r clears fixed on = absurd fixed
-outside_cleared (Inline n) r clears fixed on = absurd fixed
-outside_cleared (Fixed f) r clears fixed on = keeps_outside r (clears on)
+outside_cleared v r {s} {t} clears fixed on =
+    for_fixed (λ k. ClearsArea k r s t → KeepsOutside r s t) (λ f clears. keeps_outside r (clears on)) v fixed clears
 
 module _ {B : Type 0} (screen : B → Screen) where
   -- what stays outside a viewport stays above it
@@ -69,11 +82,7 @@ module _ {B : Type 0} (screen : B → Screen) where
 
   pub stays_rest : (s t : TerminalData B) → Stays screen s t → KeepsAroundViewport screen s t
   stays_rest s t stays = rest_of s t (ap (λ (x : TerminalData B). x.viewport_area) stays.rest)
-      (record {
-        width = ap (λ (x : Screen). x.width) stays.screen_stays;
-        height = ap (λ (x : Screen). x.height) stays.screen_stays;
-        history = ap (λ (x : Screen). x.history) stays.screen_stays;
-      })
+      (rw stays.screen_stays (record { width = refl; height = refl; history = refl }))
       (record { at = λ a b _ _ _. ap (λ (x : Screen). x.grid a b) stays.screen_stays })
 
   -- a drawing of a settled buffer changes nothing outside
@@ -81,18 +90,11 @@ module _ {B : Type 0} (screen : B → Screen) where
       → HasDrawn cursor s (screen s.backend) (screen t.backend)
       → IsInStep screen s → IsSettledBuffer s.current → KeepsAroundViewport screen s t
   drawn_rest cursor s t view (between, writes, is) step settled =
-      let placed = placed_size cursor between in
       let on : IsOnScreen s.previous.area (screen s.backend) = subst (λ r. IsOnScreen r (screen s.backend))
       (sym step.area) step.on_screen in
       let outside : KeepsOutside s.viewport_area (screen s.backend) between =
       subst (λ r. KeepsOutside r (screen s.backend) between) step.area (writes.outside on step.settled settled) in
-      rest_of s t view
-      (subst (λ new. KeepsSizeAndHistory (screen s.backend) new) (sym is) (record {
-        width = placed.width ∙ writes.drawn.width;
-        height = placed.height ∙ writes.drawn.height;
-        history = placed.history ∙ writes.drawn.history;
-      }))
-      (record {
+      rest_of s t view (size_drawn cursor s (between, writes, is)) (record {
         at = λ a b a_in b_in out. ap (λ (x : Screen). x.grid a b) is ∙ placed_grid cursor between a b
             ∙ outside.at a b a_in b_in out;
       })

@@ -6,7 +6,8 @@ use Rattle.rtui_buffer.specs.{BufferData.BufferData, Shown.IsSettledBuffer}
 use Rattle.rtui_backend.specs.Screen.{Screen}
 use Rattle.rtui_terminal.specs.{TerminalData.TerminalData, InStep.IsInStep, Writing.Applies, Writing.ApplyErr}
 use Rattle.rtui_terminal.specs.{Resizing.Autoresizes, Resizing.AutoresizeErr}
-use Rattle.rtui_terminal.specs.Drawing.{DrawOk, FrameErr, DrawErr, TryDrawErr}
+use Rattle.rtui_terminal.specs.{Writing.RefusesArea}
+use Rattle.rtui_terminal.specs.Drawing.{DrawOk, PaintedErr, FrameErr, DrawErr, TryDrawErr}
 use Rattle.rtui_terminal.proofs.KeepLemmas.{rest_more, autoresized_rest, painted_rest}
 use Rattle.rtui_terminal.specs.declared.terminal.error.TerminalError.{TerminalError}
 use Rattle.rtui_terminal.specs.declared.terminal.error.TerminalError.TheVariants.{Backend, Memory, Area, Closure}
@@ -37,29 +38,21 @@ module _ {B X : Type 0} (screen : B → Screen) (ran : TerminalData B → Result
     closure = subst (ran sized (Ok tt) cursor) (sym applied.painted) closure;
   }
 
+  painted_err : (after : Option Position → TerminalData B → TerminalData B → Type 0)
+      → after cursor (record sized { current = painted }) t → PaintedErr screen ran after s t
+  painted_err after left =
+      record { sized = sized; autoresized = autoresized; cursor = cursor; painted = painted; closure = closure; left = left }
+
   -- what an apply answers
   pub draws_on : {T E : Type 0} (result : Result T (TerminalError E))
       → MatchResult result (λ _. Applies screen cursor (record sized { current = painted }) t)
       (ApplyErr screen cursor (record sized { current = painted }) t)
       → MatchResult result (λ _. DrawOk screen ran s t) (FrameErr screen ran s t)
   draws_on (Ok x) applied = drawn_ok applied
-  draws_on (Err (Backend e)) left = inr (record {
-    sized = sized;
-    autoresized = autoresized;
-    cursor = cursor;
-    painted = painted;
-    closure = closure;
-    left = left;
-  })
+  draws_on {E = E} (Err (Backend e)) left =
+      inr (painted_err (λ cursor painted t. ApplyErr screen {E = E} cursor painted t (Backend e)) left)
   draws_on (Err Memory) left = absurd left
-  draws_on (Err Area) left = record {
-    sized = sized;
-    autoresized = autoresized;
-    cursor = cursor;
-    painted = painted;
-    closure = closure;
-    left = left;
-  }
+  draws_on (Err Area) left = painted_err (λ _. RefusesArea) left
   draws_on (Err (Closure e)) left = absurd left
 
 -- a refused autoresize refuses the frame

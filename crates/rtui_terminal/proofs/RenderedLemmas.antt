@@ -36,14 +36,10 @@ resized-empty r area old new empty is = record {
 
 pub sized-empty : {B : Type 0} (screen : B → Screen) (s sized : TerminalData B) → Autoresizes screen s sized
     → IsEmptied s.viewport_area s.current → IsEmptied sized.viewport_area sized.current
-sized-empty {B} screen s sized found empty =
-    ⊎_elim
-    (λ (stays : IsSized screen s × Stays screen s sized).
-    let same = stays.1.rest in
-    subst (λ (t : TerminalData B). IsEmptied t.viewport_area t.current) (sym same) empty)
-    (λ (resizes : (IsSized screen s → ⊥) × Resizes screen (screen_area (screen s.backend)) s sized).
-    resized-empty s.viewport_area sized.viewport_area s.current sized.current empty resizes.1.current)
-    found.case
+sized-empty {B} screen s sized found empty = elim (found.case) [
+  | inl stays ↦ subst (λ (t : TerminalData B). IsEmptied t.viewport_area t.current) (sym stays.1.rest) empty
+  | inr resizes ↦ resized-empty s.viewport_area sized.viewport_area s.current sized.current empty resizes.1.current
+]
 
 pub shows-rendered : {B X : Type 0} (screen : B → Screen) (ran : TerminalData B → Result (Unit {0}) X → Option Position
     → BufferData → Type 0) (renders : Rect → BufferData → BufferData → Type 0) (s t : TerminalData B)
@@ -66,11 +62,10 @@ shows-rendered screen ran renders s t ready empty only drawn =
 -- a draw that finds the last known size changes nothing before its closure is called
 pub sized-stays : {B : Type 0} (screen : B → Screen) (s sized : TerminalData B) → IsSized screen s → Autoresizes screen s sized
     → Stays screen s sized
-sized-stays {B} screen s sized known found =
-    ⊎_elim
-    (λ (stays : IsSized screen s × Stays screen s sized). stays.1)
-    (λ (resizes : (IsSized screen s → ⊥) × Resizes screen (screen_area (screen s.backend)) s sized). absurd (resizes.0 known))
-    found.case
+sized-stays screen s sized known found = elim (found.case) [
+  | inl stays ↦ stays.1
+  | inr resizes ↦ absurd (resizes.0 known)
+]
 
 -- a draw that finds that size, over buffers of the viewport's area, and whose closure takes no memory and keeps that area is
 -- refused by the backend alone

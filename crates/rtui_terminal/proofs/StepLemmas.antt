@@ -9,14 +9,27 @@ use Rattle.rtui_buffer.specs.BufferData.{BufferData, IsEmptied, IsSameBuffer}
 use Rattle.rtui_buffer.proofs.EmptyLemmas.{IsSettledBuffer-empty, ShowsBuffer-empty}
 use Rattle.rtui_backend.specs.Screen.{Screen, Scrolls, IsOnGrid, IsOnScreen, screen_area, cursor_of, with_cursor}
 use Rattle.rtui_viewport.specs.{Areas.KeepsAllButLooks, Areas.Empties, Areas.is_within, Areas.IsBlankOver, Sizing.first_area}
-use Rattle.rtui_viewport.specs.Placing.{raised, area_in, cursor_found, cursor_restored, EmptiesAllIf, Places, rows_scrolled}
+use Rattle.rtui_viewport.specs.Placing.{raised, area_in, inline_area, cursor_found, cursor_restored, EmptiesAllIf, Places, rows_scrolled}
 use Rattle.rtui_viewport.specs.{Clearing.HasPlace, Clearing.ClearsArea, Clearing.is_emptied, Viewports.IsFixed}
 use Rattle.rtui_viewport.specs.{Viewports.IsInline, Viewports.rows_in}
 use Rattle.rtui_viewport.specs.declared.viewport.Viewport.{Viewport}
 use Rattle.rtui_viewport.specs.declared.viewport.Viewport.TheVariants.{Fullscreen, Inline, Fixed}
 use Rattle.rtui_viewport.proofs.ClearLemmas.{empties_more, frame_same}
 use Rattle.rtui_terminal.specs.{TerminalData.TerminalData, TerminalData.IsInPlace, InStep.IsInStep, Resizing.IsResized}
+use Rattle.rtui_terminal.specs.Resizing.{EmptiesPlaced}
 use Rattle.rtui_terminal.specs.{Starting.first_cursor}
+
+-- what holds of each inline viewport
+pub for_inline : (P : Viewport → Type 0) → ((n : ℕ) → P (Inline n)) → (v : Viewport) → IsInline v → P v
+for_inline P holds Fullscreen inline = absurd inline
+for_inline P holds (Inline n) inline = holds n
+for_inline P holds (Fixed r) inline = absurd inline
+
+-- and of each fixed one
+pub for_fixed : (P : Viewport → Type 0) → ((r : Rect) → P (Fixed r)) → (v : Viewport) → IsFixed v → P v
+for_fixed P holds Fullscreen fixed = absurd fixed
+for_fixed P holds (Inline n) fixed = absurd fixed
+for_fixed P holds (Fixed r) fixed = holds r
 
 pub blank_in_step : {B : Type 0} (screen : B → Screen) (t : TerminalData B) → EdgesFit t.viewport_area
     → IsOnScreen t.viewport_area (screen t.backend) → IsBlankOver t.viewport_area (screen t.backend)
@@ -69,33 +82,38 @@ pub emptied_twice : (e : ℕ → ℕ → Bool) (narrow : Bool) {s m t : Screen} 
 emptied_twice e true first empties = empties_more first empties
 emptied_twice e false {s} {m} {t} same empties = empties_or (subst (λ k. Empties e k t) same empties)
 
--- a fixed viewport past the edge likewise
-pub cut_after : (v : Viewport) (r : Rect) (narrow : Bool) {s m t : Screen} → EmptiesAllIf narrow s m
-    → (IsFixed v → r.y < m.height → Empties (is_within r) m t) → IsFixed v → r.y < s.height
-    → Empties (λ a b. is_within r a b || narrow) s t
-cut_after v r narrow {s} {m} {t} first cut fixed top =
-    emptied_twice (is_within r) narrow first (cut fixed (let same = (emptied_frame narrow {s = s} {m = m} first).size.height in
-    omega arith))
-
--- an emptied viewport after an emptied screen, or after an untouched one
-pub emptied_after : (v : Viewport) (r : Rect) (narrow : Bool) {s m t : Screen} → EmptiesAllIf narrow s m → ClearsArea v r m t
-    → HasPlace v r s
-    → Empties (λ a b. is_emptied v r s.height a b || narrow) s t
-emptied_after v r true {s} {m} {t} first clears place =
-    let same = first.frame.size in
-    empties_more first (subst (λ h. Empties (is_emptied v r h) m t) same.height
-    (clears (place_same v r s m same.width same.height place)))
-emptied_after v r false {s} {m} {t} same clears place =
-    empties_or (subst (λ k. Empties (is_emptied v r k.height) k t) same (clears (rw same place)))
+-- a viewport that was emptied after it was placed
+pub emptied_placed : (v : Viewport) (r : Rect) {former width o : ℕ} {old m t : Screen} (p : Places v former width o old m)
+    → ClearsArea v r m t → (IsFixed v → r.y < m.height → Empties (is_within r) m t)
+    → EmptiesPlaced v r (nat_lt width former) p.scrolled t
+emptied_placed v r {former} {width} {o} {old} {m} {t} p clears cut =
+    let size = (emptied_frame (nat_lt width former) {s = p.scrolled} {m = m} p.empties).size in
+    record {
+      empties = λ place. emptied_twice _ (nat_lt width former) p.empties (subst (λ h. Empties (is_emptied v r h) m t) size.height
+          (clears (place_same v r p.scrolled m size.width size.height place)));
+      cut = λ fixed top. emptied_twice (is_within r) (nat_lt width former) p.empties (cut fixed (omega (arith, size.height)));
+    }
 
 pub resized_same : (r : Rect) {a b c : BufferData} → IsSameBuffer a b → IsResized r b c → IsResized r a c
 resized_same r p q = record { area_is = q.area_is; cells = rw (← p.cells) q.cells }
 
+-- a viewport that became narrower keeps all but its row
+pub raised_by : (r : Rect) (b : Bool) → ((if b then record r { y = 0 } else r).x ≡ r.x)
+    × ((if b then record r { y = 0 } else r).width ≡ r.width) × ((if b then record r { y = 0 } else r).height ≡ r.height)
+raised_by r true = (refl, refl, refl)
+raised_by r false = (refl, refl, refl)
+
+-- where it was placed, an inline viewport begins in column 0
+pub placed_in_place : (v : Viewport) (former o row : ℕ) (area r : Rect) → r ≡ raised former (area_in v area o row)
+    → IsInPlace v r
+placed_in_place Fullscreen former o row area r is = tt
+placed_in_place (Inline n) former o row area r is = ap (λ (q : Rect). q.x) is
+    ∙ (raised_by (inline_area n area.width area.height o row) (nat_lt area.width former)).0
+placed_in_place (Fixed f) former o row area r is = tt
+
 -- an inline viewport isn't fixed
 pub not_both : (v : Viewport) → IsInline v → IsFixed v → ⊥
-not_both Fullscreen inline fixed = inline
-not_both (Inline n) inline fixed = fixed
-not_both (Fixed r) inline fixed = inline
+not_both v inline = for_inline (λ k. IsFixed k → ⊥) (λ n fixed. fixed) v inline
 
 -- a viewport of no columns can't become narrower
 pub never_raised : (r : Rect) → raised 0 r ≡ r

@@ -26,7 +26,8 @@ use Rattle.rtui_terminal.specs.TextRow.{StartsOverRow, HasCursor}
 use Rattle.rtui_terminal.specs.Rendered.{IsRendered}
 use Rattle.rtui_terminal.proofs.RenderedLemmas.{OnlyRenders, shows-rendered, sized-stays, refused-by-backend}
 use Rattle.rtui_terminal.proofs.StartLemmas.{starts-in-row, starts-in-step, starts-blank}
-use Rattle.rtui_terminal.proofs.{InsertionLemmas.emptied-moved, KeepLemmas.below-kept}
+use Rattle.rtui_terminal.proofs.{InsertionLemmas.emptied-moved, KeepLemmas.below-kept, KeepLemmas.same_area}
+use Rattle.rtui_terminal.proofs.{KeepLemmas.same_size}
 
 -- a list of one row
 only_row : (rows : List (List Look)) → length rows ≡ 1 → rows ≡ slice_index_or rows 0 [] ∷ []
@@ -144,13 +145,13 @@ module _ {B : Type 0} (screen : B → Screen) where
       record {
         over = record {
           kind = subst IsInline (sym (ap (λ (x : TerminalData B). x.viewport) kept)) is.kind;
-          known = ap₂ (λ w h. record { x = 0; y = 0; width = w; height = h }) inserts.shape.width inserts.shape.height ∙ is.known
-              ∙ sym (ap (λ (x : TerminalData B). x.last_known_area) kept);
+          known = same_area (screen t.backend) (screen s.backend) inserts.shape.width inserts.shape.height ∙ is.known
+              ∙ sym (ap (λ x. x.last_known_area) kept);
           row = here;
           in_step = inserts.in_step may is.in_step settled;
           current = emptied-moved screen sheet s t inserts is.current;
         };
-        size = ap₂ (λ w h. record { width = w; height = h }) inserts.shape.width inserts.shape.height;
+        size = same_size (screen t.backend) (screen s.backend) inserts.shape.width inserts.shape.height;
         top = (let top = inserts.top in omega arith);
         row = row.row;
         painted = row.painted;
@@ -192,9 +193,8 @@ module _ {B : Type 0} (screen : B → Screen) where
         over = record {
           kind = subst IsInline (sym (ap (λ (x : TerminalData B). x.viewport) applied.rest
               ∙ ap (λ (x : TerminalData B). x.viewport) stays.rest)) is.kind;
-          known = ap₂ (λ w h. record { x = 0; y = 0; width = w; height = h }) keeps.size.width keeps.size.height ∙ is.known
-              ∙ sym (ap (λ (x : TerminalData B). x.last_known_area) applied.rest
-              ∙ ap (λ (x : TerminalData B). x.last_known_area) stays.rest);
+          known = same_area (screen t.backend) (screen s.backend) keeps.size.width keeps.size.height ∙ is.known
+              ∙ sym (ap (λ x. x.last_known_area) applied.rest ∙ ap (λ x. x.last_known_area) stays.rest);
           row = kept ∙ is.row ∙ ap₂ row_area (sym keeps.size.width) (sym (ap (λ (r : Rect). r.y) kept));
           in_step = step;
           current = subst (λ (r : Rect). IsEmptied r t.current)
@@ -232,7 +232,7 @@ module _ {B : Type 0} (screen : B → Screen) where
       let keeps = drawn.keeps in
       record {
         over = drawn.over;
-        size = ap₂ (λ w h. record { width = w; height = h }) keeps.size.width keeps.size.height ∙ inserts.size;
+        size = same_size (screen t.backend) (screen s.backend) keeps.size.width keeps.size.height ∙ inserts.size;
         top = ap (λ (a : Rect). a.y) keeps.viewport_area ∙ inserts.top;
         row = inserts.row;
         painted = inserts.painted;
@@ -243,8 +243,7 @@ module _ {B : Type 0} (screen : B → Screen) where
   -- the terminal of a start over one row knows its screen's size
   starts-known : (b : B) (t : TerminalData B) → Starts screen (Inline 1) b t → screen_area (screen t.backend) ≡ t.last_known_area
   starts-known b t starts =
-      ap₂ (λ w h. record { x = 0; y = 0; width = w; height = h }) starts.scrolls.width starts.scrolls.height
-      ∙ sym starts.last_known_area
+      same_area (screen t.backend) (screen b) starts.scrolls.width starts.scrolls.height ∙ sym starts.last_known_area
 
   pub starts-sized : (b : B) (t : TerminalData B) → Starts screen (Inline 1) b t → IsSized screen t
   starts-sized b t starts = inr (starts-known b t starts)
@@ -275,7 +274,7 @@ module _ {B : Type 0} (screen : B → Screen) where
       let still = starts-blank screen (Inline 1) b s starts blank in
       record {
         over = drawn.over;
-        size = ap₂ (λ w h. record { width = w; height = h }) (keeps.size.width ∙ row.size.width)
+        size = same_size (screen t.backend) (screen b) (keeps.size.width ∙ row.size.width)
             (keeps.size.height ∙ row.size.height);
         top = ap (λ (r : Rect). r.y) (keeps.viewport_area ∙ row.viewport_area);
         above = keeps.above ∙ row.above;

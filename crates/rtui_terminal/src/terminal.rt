@@ -1,17 +1,18 @@
+use crate::terminal::frames::Frames;
 use rtui_backend::Backend;
-use rtui_buffer::Buffer;
 use rtui_geometry::{Position, Rect};
 use rtui_viewport::Viewport;
 use std::marker::Model;
 
 mod backend;
 mod buffers;
-mod compare;
-mod copies;
+mod clone;
 mod cursor;
+mod eq;
 pub mod error;
 mod following;
 pub mod frame;
+mod frames;
 pub mod init;
 mod insert;
 mod render;
@@ -28,11 +29,10 @@ mod widget;
 ///     frame.render_widget(Line::raw(alloc, "Ready")?, area)
 /// })?;
 /// ```
-#[derive(Debug)]
+#[derive(Debug, PartialEq, Eq, Hash)]
 pub struct Terminal<B: Backend> {
     pub(crate) backend: B,
-    pub(crate) current: Buffer,
-    pub(crate) previous: Buffer,
+    pub(crate) frames: Frames,
     pub(crate) viewport: Viewport,
     pub(crate) viewport_area: Rect,
     pub(crate) last_known_area: Rect,
@@ -49,14 +49,25 @@ impl<B: Backend> Model for Terminal<B> {
 
     ghost view = { λ t. record {
       backend = t.backend;
-      current = t.current;
-      previous = t.previous;
+      current = t.frames.current;
+      previous = t.frames.previous;
       viewport = t.viewport;
       viewport_area = t.viewport_area;
       last_known_area = t.last_known_area;
       last_known_cursor_pos = t.last_known_cursor_pos;
       hidden_cursor = t.hidden_cursor;
       frame_count = t.frame_count;
+    } };
+
+    ghost inverse = { λ d. record {
+      backend = d.backend;
+      frames = record { current = d.current; previous = d.previous };
+      viewport = d.viewport;
+      viewport_area = d.viewport_area;
+      last_known_area = d.last_known_area;
+      last_known_cursor_pos = d.last_known_cursor_pos;
+      hidden_cursor = d.hidden_cursor;
+      frame_count = d.frame_count;
     } };
 
     ghost invariant = { λ t. EdgesFit t.viewport_area × IsInPlace t.viewport t.viewport_area };
@@ -69,8 +80,7 @@ impl<B: Backend + Drop> Drop for Terminal<B> {
         }
         let Terminal {
             backend: _,
-            current: _,
-            previous: _,
+            frames: _,
             viewport: _,
             viewport_area: _,
             last_known_area: _,

@@ -36,8 +36,7 @@ impl<B: Backend> Terminal<B> {
     {
         let Terminal {
             backend,
-            current: _,
-            previous: _,
+            frames: _,
             viewport: _,
             viewport_area: _,
             last_known_area: _,

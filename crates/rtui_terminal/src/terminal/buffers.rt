@@ -16,7 +16,6 @@ use crate::terminal::frame::Frame;
 use rtui_backend::Backend;
 use rtui_buffer::Buffer;
 use rtui_viewport::Viewport;
-use std::mem;
 
 // Writes what differs between two buffers of one area.
 fn write_differences<B: Backend>(
@@ -49,7 +48,7 @@ impl<B: Backend> Terminal<B> {
         Frame {
             cursor_position: None,
             viewport_area,
-            buffer: &mut self.current,
+            buffer: &mut self.frames.current,
             count,
         }
     }
@@ -62,7 +61,7 @@ impl<B: Backend> Terminal<B> {
             record self.entry.now { current = sheet })) }
         ensures value { result.now ≡ self.old.current }
     {
-        &mut self.current
+        &mut self.frames.current
     }
 
     /// Writes what differs between the previous and the current buffer, and leaves both as they
@@ -79,18 +78,18 @@ impl<B: Backend> Terminal<B> {
         ensures faults { Faults result (B.failures self.old.backend) (B.failures self.new.backend) }
     {
         let area = self.viewport_area;
-        if *self.current.area() != area || *self.previous.area() != area {
+        let current = &self.frames.current;
+        let previous = &self.frames.previous;
+        if *current.area() != area || *previous.area() != area {
             return Err(TerminalError::Area);
         }
         if let Viewport::Inline(_) = self.viewport {
             let start = self.last_known_cursor_pos;
-            let last = write_following(&mut self.backend, &self.previous, &self.current, start);
+            let last = write_following(&mut self.backend, previous, current, start);
             self.last_known_cursor_pos = last.map_err(TerminalError::Backend)?;
             return Ok(());
         }
-        write_differences(&mut self.backend, &self.previous, &self.current).map_err(
-            TerminalError::Backend,
-        )
+        write_differences(&mut self.backend, previous, current).map_err(TerminalError::Backend)
     }
 
     /// Makes the current buffer the previous one, and the emptied previous one current.
@@ -100,7 +99,6 @@ impl<B: Backend> Terminal<B> {
         ensures rest { self.new
             ≡ record self.old { current = self.new.current; previous = self.new.previous } }
     {
-        self.previous.reset();
-        mem::swap(&mut self.current, &mut self.previous);
+        self.frames.swap();
     }
 }

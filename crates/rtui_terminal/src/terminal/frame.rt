@@ -154,6 +154,6 @@ impl<B: Backend> CompletedFrame<'_, B> {
         ensures { result.now ≡ self.now.terminal.now.previous }
     {
         let terminal = &*self.terminal;
-        &terminal.previous
+        &terminal.frames.previous
     }
 }

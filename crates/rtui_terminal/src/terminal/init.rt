@@ -1,13 +1,15 @@
 ghost use Rattle.std.specs.Prelude.{◌≡◌, IfOk, MatchResult};
 ghost use Rattle.rtui_viewport.specs.Viewports.{FitsEdges};
 ghost use Rattle.rtui_viewport.specs.declared.viewport.Viewport.TheVariants.{Fullscreen};
+ghost use Rattle.rtui_terminal.specs.TerminalData.{IsDefaultOver};
 ghost use Rattle.rtui_terminal.specs.Starting.{Starts, StartErr};
 
 use crate::terminal::Terminal;
 use crate::terminal::error::TerminalError;
+use crate::terminal::frames::Frames;
 use rtui_backend::Backend;
 use rtui_buffer::Buffer;
-use rtui_geometry::Rect;
+use rtui_geometry::{Position, Rect};
 use rtui_viewport::{Viewport, first_area, place_viewport};
 use std::alloc::Global;
 
@@ -79,18 +81,15 @@ impl<B: Backend + Drop> Terminal<B> {
             width: area.width,
             height: viewport.rows_in(area.height),
         };
-        let mut current = Buffer::empty(alloc, rows)?;
-        let mut previous = Buffer::empty(alloc, rows)?;
+        let mut frames = Frames::empty(alloc, rows)?;
         let placed = place_viewport(&mut backend, viewport, 0, area, 0).map_err(
             TerminalError::Backend,
         )?;
-        current.move_to(placed.area.as_position());
-        previous.move_to(placed.area.as_position());
+        frames.move_to(placed.area.as_position());
         let last_known_cursor_pos = placed.cursor.unwrap_or(area.as_position());
         Ok(Terminal {
             backend,
-            current,
-            previous,
+            frames,
             viewport,
             viewport_area: placed.area,
             last_known_area: area,
@@ -98,5 +97,28 @@ impl<B: Backend + Drop> Terminal<B> {
             hidden_cursor: false,
             frame_count: 0,
         })
+    }
+}
+
+impl<B: Backend + Default + Drop> Terminal<B> {
+    /// A terminal over a default backend, which isn't asked for its size: the viewport is empty. It
+    /// takes no memory.
+    pub fn default_in(alloc: Global) -> Self
+        ensures empty { IsDefaultOver result }
+        ensures backend { B.is_default result.backend }
+    {
+        Terminal {
+            backend: B::default(),
+            frames: Frames {
+                current: Buffer::default_in(alloc),
+                previous: Buffer::default_in(alloc),
+            },
+            viewport: Viewport::Fullscreen,
+            viewport_area: Rect::ZERO,
+            last_known_area: Rect::ZERO,
+            last_known_cursor_pos: Position::ORIGIN,
+            hidden_cursor: false,
+            frame_count: 0,
+        }
     }
 }

@@ -11,7 +11,7 @@ use crate::terminal::error::TerminalError;
 use rtui_backend::Backend;
 use rtui_buffer::Buffer;
 use rtui_geometry::Rect;
-use rtui_insert::{draw_rows, fill_rows, follow_viewport, insert_down, insert_up, push_rows};
+use rtui_insert::{draw_rows, fill_rows, insert_down, insert_up, push_rows};
 use rtui_viewport::Viewport;
 use std::alloc::AllocError;
 
@@ -37,10 +37,12 @@ impl<B: Backend> Terminal<B> {
         ensures faults { Faults result (B.failures self.old.backend) (B.failures self.new.backend) }
     {
         push_rows(&mut self.backend, blank, rows).map_err(TerminalError::Backend)?;
-        if *self.previous.area() != self.viewport_area {
+        if *self.frames.previous.area() != self.viewport_area {
             return self.backend.flush().map_err(TerminalError::Backend);
         }
-        draw_rows(&mut self.backend, blank, &self.previous, 0, 1, 0).map_err(TerminalError::Backend)
+        draw_rows(&mut self.backend, blank, &self.frames.previous, 0, 1, 0).map_err(
+            TerminalError::Backend,
+        )
     }
 
     // Inserts the rows of a buffer above an inline viewport, which moves down as far as there is
@@ -71,8 +73,7 @@ impl<B: Backend> Terminal<B> {
             TerminalError::Backend,
         )?;
         let top = former.y + down;
-        follow_viewport(&mut self.current, former, top);
-        follow_viewport(&mut self.previous, former, top);
+        self.frames.follow(former, top);
         self.viewport_area = Rect { y: top, ..former };
         insert_up(&mut self.backend, blank, rows, down, top).map_err(TerminalError::Backend)
     }
@@ -98,7 +99,7 @@ impl<B: Backend> Terminal<B> {
             height,
         };
         let known = self.last_known_area.height;
-        let alloc = self.current.allocator();
+        let alloc = self.frames.current.allocator();
         // As many empty rows as are drawn at once, and none if none are drawn.
         let most = if known == 0 {
             0

@@ -92,7 +92,7 @@ impl<B: Backend> Terminal<B> {
         self.autoresize()?;
         let area = self.viewport_area;
         let count = self.frame_count;
-        let (answer, cursor) = paint(&mut self.current, area, count, render_callback);
+        let (answer, cursor) = paint(&mut self.frames.current, area, count, render_callback);
         match answer {
             Ok(()) => {
                 self.apply(cursor)?;

@@ -1,9 +1,7 @@
 ghost use Rattle.std.specs.Prelude.{◌≡◌, OnOk, OnErr, MatchResult};
 ghost use Rattle.rtui_geometry.specs.Rect.{EdgesFit};
-ghost use Rattle.rtui_buffer.specs.BufferData.{IsSameBuffer};
-ghost use Rattle.rtui_terminal.specs.TerminalData.{HaveRoom, IsInPlace};
 ghost use Rattle.rtui_terminal.specs.Faults.{Faults, FailsOnlyByBackend};
-ghost use Rattle.rtui_terminal.specs.Resizing.{IsResized, Resizes, ResizeErr, Autoresizes, AutoresizeErr};
+ghost use Rattle.rtui_terminal.specs.Resizing.{Resizes, ResizeErr, Autoresizes, AutoresizeErr};
 ghost use Rattle.rtui_terminal.specs.Clearing.{ClearsViewport, FailsClearing};
 
 use crate::terminal::Terminal;
@@ -11,7 +9,6 @@ use crate::terminal::error::TerminalError;
 use rtui_backend::Backend;
 use rtui_geometry::Rect;
 use rtui_viewport::{changed_area, clear_area, place_viewport, restore_cursor};
-use std::alloc::AllocError;
 
 impl<B: Backend> Terminal<B> {
     /// Empties the viewport and the previous buffer, so that the next draw writes the whole frame;
@@ -36,42 +33,8 @@ impl<B: Backend> Terminal<B> {
         clear_area(&mut self.backend, self.viewport, self.viewport_area).map_err(
             TerminalError::Backend,
         )?;
-        self.previous.reset();
+        self.frames.previous.reset();
         restore_cursor(&mut self.backend, Some(cursor)).map_err(TerminalError::Backend)
-    }
-
-    // Makes room in both buffers for the cells of an area.
-    fn reserve(&mut self, area: Rect) -> Result<(), AllocError>
-        requires { EdgesFit area }
-        ensures current { IsSameBuffer self.old.current self.new.current }
-        ensures previous { IsSameBuffer self.old.previous self.new.previous }
-        ensures rest { self.new
-            ≡ record self.old { current = self.new.current; previous = self.new.previous } }
-        ensures room { OnOk result (HaveRoom area self.new) }
-        ensures lacking { OnErr result (¬ (HaveRoom area self.old)) }
-    {
-        self.current.reserve(area)?;
-        self.previous.reserve(area)
-    }
-
-    // Gives the viewport and both buffers an area, for which there is room.
-    fn set_area(&mut self, area: Rect)
-        requires fits { EdgesFit area }
-        requires place { IsInPlace self.old.viewport area }
-        requires room { HaveRoom area self.old }
-        ensures current { IsResized area self.old.current self.new.current }
-        ensures previous { IsResized area self.old.previous self.new.previous }
-        ensures rest { let t = self.new in
-            t ≡ record self.old {
-              current = t.current;
-              previous = t.previous;
-              viewport_area =
-                  area;
-            } }
-    {
-        let _ = self.current.resize(area);
-        let _ = self.previous.resize(area);
-        self.viewport_area = area;
     }
 
     /// Places the viewport on a new area of the screen, in columns and rows, sizes both buffers to
@@ -101,7 +64,7 @@ impl<B: Backend> Terminal<B> {
             width: area.width,
             height: self.viewport.rows_in(area.height),
         };
-        self.reserve(rows)?;
+        self.frames.reserve(rows)?;
         let offset = self
             .last_known_cursor_pos
             .y
@@ -114,9 +77,10 @@ impl<B: Backend> Terminal<B> {
             area,
             offset,
         ).map_err(TerminalError::Backend)?;
-        self.set_area(placed.area);
+        self.frames.set_area(placed.area);
+        self.viewport_area = placed.area;
         clear_area(&mut self.backend, self.viewport, placed.area).map_err(TerminalError::Backend)?;
-        self.previous.reset();
+        self.frames.previous.reset();
         restore_cursor(&mut self.backend, placed.cursor).map_err(TerminalError::Backend)?;
         self.last_known_area = area;
         Ok(())

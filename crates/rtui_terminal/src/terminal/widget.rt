@@ -69,6 +69,6 @@ impl<B: Backend> Terminal<B> {
                 frame.render_widget(widget, area)
             },
         )?;
-        Ok(*self.previous.area())
+        Ok(*self.frames.previous.area())
     }
 }

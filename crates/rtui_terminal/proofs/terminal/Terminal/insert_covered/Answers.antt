@@ -21,7 +21,7 @@ pub returns-then-ne-clause-ok : goal.returns-then-ne-clause-ok
 returns-then-ne-clause-ok g c =
     let pushes : c.push_rows.result ≡ Ok tt = search rules in
     let pushed = rw pushes at c.push_rows.ensures in
-    let differs : c.self.inside.previous.area ≡ c.self.inside.viewport_area → ⊥ = search rules in
+    let differs : c.self.inside.frames.previous.area ≡ c.self.inside.viewport_area → ⊥ = search rules in
     passed_ok c.flush.result _ c.map_err-then-ne.ensures.variant (λ _ flushes.
     let still = rw flushes at c.flush.ensures.ok in
     rw (← c.self.view_is)
@@ -50,7 +50,7 @@ returns-clause-err g c =
     (λ fails. rw (← c.self.view_is)
     (stopped_redrawing g.B.Backend.screen _ c.args.rows.now (rw (← c.self.view_is) at c.requires.over)
     (rw (← c.self.view_is) at c.requires.known) g.B.Backend.stops_at (rw (← c.self.view_is) at c.requires.covers)
-    c.requires.some c.push_rows.new.backend c.draw_rows.new.backend pushed.shape pushed.ok _
+    c.push_rows.new.backend c.draw_rows.new.backend pushed.ok c.requires.some pushed.shape _
     (still_blank c.requires.blank pushed.blank) fails))
 
 pub returns-then-ne-clause-err : goal.returns-then-ne-clause-err

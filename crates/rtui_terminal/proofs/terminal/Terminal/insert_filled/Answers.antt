@@ -13,8 +13,8 @@ returns-clause-ok g c =
     rw (← c.self.view_is)
     (inserted_moved g.B.Backend.screen _ c.args.rows.now (rw (← c.self.view_is) at c.requires.over)
     (rw (← c.self.view_is) at c.requires.known) c.in_ok-down.down down.count
-    c.insert_down.new.backend c.insert_up.new.backend c.follow_viewport.new.buffer c.follow_viewport-2.new.buffer down.shape
-    up.shape down.ok up.ok c.follow_viewport.ensures.follows c.follow_viewport-2.ensures.follows))
+    c.insert_down.new.backend c.insert_up.new.backend c.follow.new.self.current c.follow.new.self.previous down.shape down.ok
+    c.follow.ensures.current c.follow.ensures.previous up.shape up.ok))
 
 pub returns-in_err-down-clause-err : goal.returns-in_err-down-clause-err
 returns-in_err-down-clause-err g c =
@@ -32,6 +32,6 @@ returns-clause-err g c =
     passed_err c.insert_up.result c.map_err-2.result c.map_err-2.ensures.variant c.insert_up.ensures.err
     (λ fails. rw (← c.self.view_is)
     (stopped_moved g.B.Backend.screen _ c.args.rows.now (rw (← c.self.view_is) at c.requires.over)
-    (rw (← c.self.view_is) at c.requires.known) g.B.Backend.stops_at c.in_ok-down.down down.count
-    c.insert_down.new.backend c.insert_up.new.backend c.follow_viewport.new.buffer c.follow_viewport-2.new.buffer
-    down.shape down.ok fails c.follow_viewport.ensures.follows c.follow_viewport-2.ensures.follows))
+    (rw (← c.self.view_is) at c.requires.known) c.in_ok-down.down down.count
+    c.insert_down.new.backend c.insert_up.new.backend c.follow.new.self.current c.follow.new.self.previous
+    down.shape down.ok c.follow.ensures.current c.follow.ensures.previous g.B.Backend.stops_at fails))

@@ -15,15 +15,16 @@ returns-clause-starts g c =
     let asked = rw asks at c.first_area.ensures in
     let placed = rw (places, asked.stays) at c.place_viewport.ensures in
     let area : next ≡ area_in viewport c.in_ok-area.area 0 (screen c.args.backend).cursor_y = placed.area ∙ never_raised _ in
-    let previous : IsEmptied next c.move_to-2.new.self = placed_empty viewport c.in_ok-area.area 0 _ next _ _ area
-    (rw c.rows_in.ensures at c.in_ok-previous.ensures.emptied) (rw c.as_position-2.ensures at c.move_to-2.ensures) in
-    let current : IsEmptied next c.move_to.new.self = placed_empty viewport c.in_ok-area.area 0 _ next _ _ area
-    (rw c.rows_in.ensures at c.in_ok-current.ensures.emptied) (rw c.as_position.ensures at c.move_to.ensures) in
+    let empty = placed_empty viewport c.in_ok-area.area 0 _ next in
+    let made = rw c.rows_in.ensures at c.in_ok-frames.ensures in
+    let moved = rw c.as_position.ensures at c.move_to.ensures in
+    let current : IsEmptied next c.move_to.new.self.current = empty _ _ area made.current moved.current in
+    let previous : IsEmptied next c.move_to.new.self.previous = empty _ _ area made.previous moved.previous in
     record {
       kind = refl;
       last_known_area = asked.area;
       last_known_cursor_pos = first_cursor_is viewport (screen c.args.backend) _ _ _ asked.area placed.cursor
-          (rw c.as_position-3.ensures at c.unwrap_or-last_known_cursor_pos.ensures);
+          (rw c.as_position-2.ensures at c.unwrap_or-last_known_cursor_pos.ensures);
       viewport_area = area;
       current = current;
       previous = previous;
