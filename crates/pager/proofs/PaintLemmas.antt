@@ -11,16 +11,13 @@ use Rattle.ratatui_core.specs.Buffer.{columns, pieces_at, room_at, text_pieces, 
 use Rattle.ratatui_core.proofs.{BufferLemmas.within-wider, BufferLemmas.ready-row}
 use Rattle.ratatui_core.proofs.{BufferLemmas.ready-plain, WidgetLemmas.OnPart-clipped}
 use Rattle.rtui_boxes.specs.Boxes.{IsBoxArea}
-use Rattle.rtui_boxes.proofs.PaintLemmas.{part-has_row, part-right}
+use Rattle.rtui_boxes.proofs.PaintLemmas.{part-has_row, part-right, room-is}
 use Rattle.pager.specs.declared.view.View.{View}
 use Rattle.pager.specs.Symbols.{LineSymbol, shown_columns, line_symbol, marked_bytes, mark_style, symbols_from, is_in_view}
 use Rattle.pager.specs.Symbols.{symbols_in_view}
 use Rattle.pager.specs.Pages.{PaintsIf, PaintsIfInView, PaintsSymbols, PaintsLine, PaintsPageRow, PaintsPageRows}
 use Rattle.pager.specs.Pages.{PaintsPage, PaintsPager}
 use Rattle.pager.specs.declared.pager.Pager.{Pager}
-
-room-is : (r : Rect) (x n : ℕ) → x + n ≤ r.x + r.width → n ≤ 65535 → room_at r x n ≡ n
-room-is r x n fits small = omega arith
 
 -- a text painted in columns that its row has
 pub text-painted : (x y m n : ℕ) (style : Style) (text : List ℕ) (old new : BufferData) → m ≡ n

@@ -32,6 +32,12 @@ impl fmt::Display for TextError {
     }
 }
 
+impl From<AllocError> for TextError {
+    fn from(_: AllocError) -> Self {
+        TextError::Memory
+    }
+}
+
 impl<'a> Model for Document<'a> {
     ghost use Rattle.std.specs.Prelude.{ℕ, ◌<◌, ◌^◌, List, map, length};
 
@@ -51,10 +57,7 @@ impl<'a> Document<'a> {
     pub fn new(alloc: Global, text: &'a str) -> Result<Document<'a>, TextError>
         ensures { IfOk result (λ d. d ≡ lines text.now) }
     {
-        let lines = match collected(alloc, text) {
-            Ok(lines) => lines,
-            Err(_) => return Err(TextError::Memory),
-        };
+        let lines = collected(alloc, text)?;
         if lines.len() > 0xffff_ffff {
             return Err(TextError::Lines);
         }

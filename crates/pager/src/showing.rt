@@ -11,7 +11,6 @@ use crate::pager::Pager;
 use ratatui_ansi::{AnsiBackend, AnsiError};
 use ratatui_app::{Fault, run_and_leave};
 use ratatui_core::layout::Size;
-use ratatui_core::terminal::TerminalError;
 use ratatui_reads::Source;
 use std::alloc::Global;
 use std::io::{self, Write};
@@ -47,10 +46,7 @@ pub fn show_on<S: Source, W: Write + Drop>(
         (record { decoder = fresh_decoder; state = pager.old }) (S.coming source.old)
         pager.new (S.coming source.new)) }
 {
-    let backend = match AnsiBackend::new_on_alternate_screen(alloc, writer, size) {
-        Ok(backend) => backend,
-        Err(error) => return Err(Fault::Draw(TerminalError::Backend(error))),
-    };
+    let backend = AnsiBackend::new_on_alternate_screen(alloc, writer, size)?;
     run_and_leave(alloc, source, has_ticks, backend, pager)
 }
 
@@ -64,10 +60,8 @@ fn send<W: Write>(writer: &mut W, texts: &[&str]) -> io::Result<()> {
 
 // Has a terminal tell no longer of what it was asked to.
 fn end_telling<W: Write>(writer: &mut W) -> Result<(), Fault<AnsiError>> {
-    match send(writer, &[TELLING_NO_LONGER]) {
-        Ok(()) => Ok(()),
-        Err(error) => Err(Fault::Draw(TerminalError::Backend(AnsiError::Write(error)))),
-    }
+    send(writer, &[TELLING_NO_LONGER]).map_err(AnsiError::Write)?;
+    Ok(())
 }
 
 // Shows a text on a terminal that is lent.
@@ -86,10 +80,8 @@ fn show_to<S: Source, W: Write>(
         (record { decoder = fresh_decoder; state = pager.old }) (S.coming source.old)
         pager.new (S.coming source.new)) }
 {
-    match show_on(alloc, size, source, has_ticks, writer, pager) {
-        Ok(_) => Ok(()),
-        Err(fault) => Err(fault),
-    }
+    show_on(alloc, size, source, has_ticks, writer, pager)?;
+    Ok(())
 }
 
 /// Shows a text as [`show_on`] does, on a terminal that also tells of the mouse and of new sizes,
@@ -118,8 +110,6 @@ pub fn show<S: Source, W: Write>(
     let _ = send(writer, &[TELLING]);
     let shown = show_to(alloc, size, source, has_ticks, writer, pager);
     let ended = end_telling(writer);
-    match shown {
-        Ok(()) => ended,
-        Err(fault) => Err(fault),
-    }
+    shown?;
+    ended
 }

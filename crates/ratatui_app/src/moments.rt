@@ -47,19 +47,13 @@ pub fn run_on_glass<S: Source, W: Write + Drop, A: Application>(
         terminal.old application.new (S.coming source.new) terminal.new) }
 {
     let mut decoder = Decoder::new();
-    match draw(terminal, application) {
-        Ok(()) => {}
-        Err(error) => return Err(Fault::Draw(error)),
-    }
+    draw(terminal, application)?;
     shown_states_are_on_the_glass::<W, A>(terminal);
     for _ in 0..u64::MAX {
         if application.is_over() {
             return Ok(());
         }
-        let came = match step(source, &mut decoder, terminal, application) {
-            Ok(came) => came,
-            Err(fault) => return Err(fault),
-        };
+        let came = step(source, &mut decoder, terminal, application)?;
         shown_states_are_on_the_glass::<W, A>(terminal);
         if !came && !has_ticks {
             return Ok(());

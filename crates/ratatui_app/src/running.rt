@@ -18,6 +18,7 @@ use ratatui_core::terminal::laws::calls_leave_a_terminal_at_rest;
 use ratatui_core::terminal::{Terminal, TerminalError};
 use ratatui_input::Decoder;
 use ratatui_reads::{Source, take};
+use std::alloc::AllocError;
 use std::io::{self, ErrorKind};
 
 /// Why a run ended before the application was over.
@@ -31,6 +32,39 @@ pub enum Fault<E> {
     Draw(TerminalError<E>),
     /// The backend failed to take a size that the terminal told.
     Resize(E),
+}
+
+impl<E> From<io::Error> for Fault<E> {
+    ghost use Rattle.std.specs.Prelude.{◌≡◌};
+    ghost use Rattle.ratatui_app.specs.declared.running.Fault.TheVariants.{Read};
+
+    ghost from_gives = { λ error fault. fault ≡ Read error };
+
+    fn from(error: io::Error) -> Self {
+        Fault::Read(error)
+    }
+}
+
+impl<E> From<AllocError> for Fault<E> {
+    ghost use Rattle.std.specs.Prelude.{◌≡◌};
+    ghost use Rattle.ratatui_app.specs.declared.running.Fault.TheVariants.{Memory};
+
+    ghost from_gives = { λ _ fault. fault ≡ Memory };
+
+    fn from(_: AllocError) -> Self {
+        Fault::Memory
+    }
+}
+
+impl<E> From<TerminalError<E>> for Fault<E> {
+    ghost use Rattle.std.specs.Prelude.{◌≡◌};
+    ghost use Rattle.ratatui_app.specs.declared.running.Fault.TheVariants.{Draw};
+
+    ghost from_gives = { λ error fault. fault ≡ Draw error };
+
+    fn from(error: TerminalError<E>) -> Self {
+        Fault::Draw(error)
+    }
 }
 
 /// Draws a frame of an application.
@@ -129,10 +163,7 @@ pub fn feed<B: Resizable, A: Application>(
         (record { decoder = decoder.old; state = application.old }) terminal.old bytes.now
         (record { decoder = decoder.new; state = application.new }) terminal.new) }
 {
-    let taken = match take(bytes, decoder, application) {
-        Ok(taken) => taken,
-        Err(_) => return Err(Fault::Memory),
-    };
+    let taken = take(bytes, decoder, application)?;
     if !taken.any && !bytes.is_empty() {
         return Ok(());
     }
@@ -140,10 +171,8 @@ pub fn feed<B: Resizable, A: Application>(
         Ok(()) => {}
         Err(error) => return Err(Fault::Resize(error)),
     }
-    match draw(terminal, application) {
-        Ok(()) => Ok(()),
-        Err(error) => Err(Fault::Draw(error)),
-    }
+    draw(terminal, application)?;
+    Ok(())
 }
 
 /// Reads once, and feeds what was read. Answers whether something came.
@@ -172,14 +201,9 @@ pub fn step<S: Source, B: Resizable, A: Application>(
     ensures end { IfOk result (λ came. came ≡ false → IsUsedUp (S.coming source.new)) }
 {
     let mut buf = [0u8; 1024];
-    let count = match source.read_once(&mut buf) {
-        Ok(count) => count,
-        Err(error) => return Err(Fault::Read(error)),
-    };
-    match feed(&buf[..count], decoder, terminal, application) {
-        Ok(()) => Ok(count != 0),
-        Err(fault) => Err(fault),
-    }
+    let count = source.read_once(&mut buf)?;
+    feed(&buf[..count], decoder, terminal, application)?;
+    Ok(count != 0)
 }
 
 /// Draws a frame of an application, and then reads, takes the events of what was read and draws
@@ -213,18 +237,12 @@ pub fn run<S: Source, B: Resizable, A: Application>(
         terminal.old application.new (S.coming source.new) terminal.new) }
 {
     let mut decoder = Decoder::new();
-    match draw(terminal, application) {
-        Ok(()) => {}
-        Err(error) => return Err(Fault::Draw(error)),
-    }
+    draw(terminal, application)?;
     for _ in 0..u64::MAX {
         if application.is_over() {
             return Ok(());
         }
-        let came = match step(source, &mut decoder, terminal, application) {
-            Ok(came) => came,
-            Err(fault) => return Err(fault),
-        };
+        let came = step(source, &mut decoder, terminal, application)?;
         if !came && !has_ticks {
             return Ok(());
         }

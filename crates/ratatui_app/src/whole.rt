@@ -19,9 +19,10 @@ use ratatui_reads::Source;
 use std::alloc::Global;
 use std::io::Write;
 
-// A backend's own fault.
-fn backend_fault(error: AnsiError) -> Fault<AnsiError> {
-    Fault::Draw(TerminalError::Backend(error))
+impl From<AnsiError> for Fault<AnsiError> {
+    fn from(error: AnsiError) -> Self {
+        Fault::Draw(TerminalError::Backend(error))
+    }
 }
 
 // Begins a terminal that is asked for its size, over a viewport. A backend that can't be asked is
@@ -34,14 +35,9 @@ fn begin<W: Write + Drop>(
     requires { FitsEdges viewport }
     ensures begins { IfOk result (Begins viewport backend) }
 {
-    match backend.ask_size() {
-        Ok(()) => {}
-        Err(error) => return Err(backend_fault(error)),
-    }
-    match Terminal::with_options(alloc, backend, TerminalOptions { viewport }) {
-        Ok(terminal) => Ok(terminal),
-        Err(error) => Err(Fault::Draw(error)),
-    }
+    backend.ask_size()?;
+    let terminal = Terminal::with_options(alloc, backend, TerminalOptions { viewport })?;
+    Ok(terminal)
 }
 
 // Gives a terminal back.
@@ -50,10 +46,8 @@ fn leave<W: Write + Drop>(terminal: Terminal<AnsiBackend<W>>) -> Result<W, Fault
         → IfOk result (λ writer. IsGivenBack terminal.backend (W.contents writer)) }
 {
     let _unbroken = terminal.backend().writer();
-    match terminal.into_backend().leave() {
-        Ok(writer) => Ok(writer),
-        Err(error) => Err(backend_fault(error)),
-    }
+    let writer = terminal.into_backend().leave()?;
+    Ok(writer)
 }
 
 // Runs an application over a viewport, from beginning to end.
@@ -83,10 +77,8 @@ fn run_over<S: Source, W: Write + Drop, A: Application>(
     calls_leave_a_terminal_at_rest::<AnsiBackend<W>>();
     let ran = run_on_glass(source, has_ticks, &mut terminal, application);
     let left = leave(terminal);
-    match ran {
-        Ok(()) => left,
-        Err(fault) => Err(fault),
-    }
+    ran?;
+    left
 }
 
 /// Runs an application on a terminal that is sent bytes, from beginning to end: asks the terminal

@@ -6,15 +6,15 @@ use Rattle.std.specs.List.{prefix_len, list_all}
 use Rattle.std.proofs.lemmas.Bool.{cases_lt, cases_Bool, and_parts}
 use Rattle.std.proofs.lemmas.{List.Sums.sum_by-append, List.Folds.list_all-append}
 use Rattle.std.proofs.Math.Seq.{take-append_seam}
-use Rattle.std.proofs.lemmas.List.{take-append-le, drop-append-le, length-drop, length-take, drop-drop}
-use Rattle.ratatui_core.specs.{Text.GraphemeData, declared.text.StyledGrapheme.StyledGrapheme}
-use Rattle.rtui_paragraph.specs.Reflow.{data_of, is_break, grapheme_columns, columns_taken, fits_row, AllFit, count_fitting}
+use Rattle.std.proofs.lemmas.List.{take-append-le, drop-append-le, length-drop, length-take, drop-drop, take_rest}
+use Rattle.ratatui_core.specs.{Text.GraphemeData}
+use Rattle.rtui_paragraph.specs.Reflow.{is_break, grapheme_columns, columns_taken, fits_row, AllFit, count_fitting}
 use Rattle.rtui_paragraph.specs.Reflow.{last_end, break_at_blank, break_in_word, break_before, row_break}
 use Rattle.rtui_paragraph.specs.Reflow.{trimmed_start, split_row}
 use Rattle.rtui_paragraph.specs.Inner.{columns_ahead, IsEnough, HasLeft, left_of}
 use Rattle.rtui_paragraph.specs.declared.ahead.Ahead.{Ahead}
 use Rattle.rtui_paragraph.proofs.ReflowLemmas.{columns-next, count-next, count-full}
-use Rattle.rtui_paragraph.proofs.ReflowLemmas.{last_end-le, fit-past, row_break-is, data-count, data-drop, tail-is}
+use Rattle.rtui_paragraph.proofs.ReflowLemmas.{last_end-le, fit-past, row_break-is}
 
 -- ---- what comes after enough graphemes changes nothing of the next row
 
@@ -164,17 +164,16 @@ ahead-grown false gs g counts = omega (arith, append-columns gs g)
 -- ---- what is held, and what is left
 
 -- so many more are passed
-pub left-passed : (passed count : ℕ) (gs : List StyledGrapheme) (more : List GraphemeData) → passed + count ≤ length gs
-    → data_of (drop (passed + count) gs) ++ more ≡ drop count (data_of (drop passed gs) ++ more)
+pub left-passed : (passed count : ℕ) (gs more : List GraphemeData) → passed + count ≤ length gs
+    → drop (passed + count) gs ++ more ≡ drop count (drop passed gs ++ more)
 left-passed passed count gs more le =
     let rest = drop passed gs in
-    let long : count ≤ length (data_of rest) = omega (arith, data-count rest, length-drop passed gs) in
+    let long : count ≤ length rest = omega (arith, length-drop passed gs) in
     let further : drop count rest ≡ drop (passed + count) gs = drop-drop count passed gs ∙ ap (λ n. drop n gs) (omega arith) in
-    ap (λ xs. data_of xs ++ more) (sym further) ∙ (ap (λ xs. xs ++ more) (data-drop count rest)
-    ∙ sym (drop-append-le count (data_of rest) more long))
+    ap (λ xs. xs ++ more) (sym further) ∙ sym (drop-append-le count rest more long)
 
 -- those that were passed are no longer held
-pub left-moved : (passed : ℕ) (gs moved : List StyledGrapheme) (n : ℕ) → passed ≤ length gs → n + passed ≡ length gs
+pub left-moved : (passed : ℕ) (gs moved : List GraphemeData) (n : ℕ) → passed ≤ length gs → n + passed ≡ length gs
     → moved ≡ take n (drop passed gs ++ take passed gs)
     → moved ≡ drop passed gs
 left-moved passed gs moved n le long is =
@@ -182,13 +181,12 @@ left-moved passed gs moved n le long is =
     is ∙ (ap (λ k. take k (drop passed gs ++ take passed gs)) count ∙ take-append_seam (drop passed gs) (take passed gs))
 
 -- the row of what is held is the row of all that is left
-pub row-of-left : (width passed : ℕ) (trim : Bool) (gs : List StyledGrapheme) (more : List GraphemeData)
-    → IsEnough width trim (data_of (drop passed gs)) ⊎ (more ≡ []) → AllFit width (data_of (drop passed gs) ++ more)
-    → split_row width trim (data_of (take (length gs - passed) (drop passed gs))) ≡ split_row width trim
-    (data_of (drop passed gs) ++ more)
+pub row-of-left : (width passed : ℕ) (trim : Bool) (gs more : List GraphemeData)
+    → IsEnough width trim (drop passed gs) ⊎ (more ≡ []) → AllFit width (drop passed gs ++ more)
+    → split_row width trim (take (length gs - passed) (drop passed gs)) ≡ split_row width trim (drop passed gs ++ more)
 row-of-left width passed trim gs more enough fit =
-    let here = data_of (drop passed gs) in
-    ap (λ xs. split_row width trim (data_of xs)) (tail-is passed gs) ∙ ⊎_elim
+    let here = drop passed gs in
+    ap (split_row width trim) (take_rest gs passed) ∙ ⊎_elim
     (λ (enough : IsEnough width trim here). sym (split-append width trim here more enough (fit-front width here more fit)))
     (λ (none : more ≡ []). ap (split_row width trim) (sym (ap (λ xs. here ++ xs) none ∙ append-nil here)))
     enough

@@ -6,22 +6,14 @@ use Rattle.std.specs.List.{list_all, prefix_len}
 use Rattle.std.proofs.lemmas.Bool.{cases_lt, and_parts, cases_Bool}
 use Rattle.std.proofs.lemmas.{Bool.Decides.nat_tests, List.Elements.filter-append, List.Folds.list_all-append}
 use Rattle.std.proofs.lemmas.{List.Sums.sum_by-cons, List.Sums.sum_by-take-le}
-use Rattle.std.proofs.lemmas.List.{take-append-drop, take-take, drop-take, take_all, length-drop, length-take, length-map}
-use Rattle.std.proofs.lemmas.List.{take-map, drop-map, drop_more, drop_all, append-nil}
-use Rattle.ratatui_core.specs.{Text.GraphemeData, Text.grapheme_data, declared.text.StyledGrapheme.StyledGrapheme}
-use Rattle.rtui_paragraph.specs.Reflow.{data_of, is_break, is_of_word, grapheme_columns, columns_taken, words_of, fits_row}
+use Rattle.std.proofs.lemmas.List.{take-append-drop, take-take, drop-take, length-drop, length-take}
+use Rattle.std.proofs.lemmas.List.{drop_more, append-nil, take_rest}
+use Rattle.ratatui_core.specs.{Text.GraphemeData}
+use Rattle.rtui_paragraph.specs.Reflow.{is_break, is_of_word, grapheme_columns, columns_taken, words_of, fits_row}
 use Rattle.rtui_paragraph.specs.Reflow.{AllFit, count_fitting, last_end, leading_word}
 use Rattle.rtui_paragraph.specs.Reflow.{break_at_blank, break_in_word, break_before, row_break, trimmed_start, split_row}
 
 -- ---- graphemes one by one
-
--- the next grapheme, and those after it
-pub next-data : (gs : List StyledGrapheme) (i : ℕ) (d : StyledGrapheme) → i < length gs
-    → data_of (drop i gs) ≡ grapheme_data (slice_index_or gs i d) ∷ data_of (drop (i + 1) gs)
-next-data gs i d lt = ap data_of (drop_more gs i d lt)
-
-pub none-left : (gs : List StyledGrapheme) (i : ℕ) → length gs ≤ i → data_of (drop i gs) ≡ []
-none-left gs i le = ap data_of (drop_all i gs le)
 
 pub columns-next : (g : GraphemeData) (gs : List GraphemeData) → columns_taken (g ∷ gs) ≡ grapheme_columns g + columns_taken gs
 columns-next g gs = sum_by-cons grapheme_columns g gs
@@ -298,133 +290,98 @@ split_row-is width trim gs fit =
 
 -- ---- parts of a slice
 
-pub data-take : (n : ℕ) (gs : List StyledGrapheme) → data_of (take n gs) ≡ take n (data_of gs)
-data-take n gs = sym (take-map grapheme_data n gs)
-
-pub data-drop : (n : ℕ) (gs : List StyledGrapheme) → data_of (drop n gs) ≡ drop n (data_of gs)
-data-drop n gs = sym (drop-map grapheme_data n gs)
-
-pub data-count : (gs : List StyledGrapheme) → length (data_of gs) ≡ length gs
-data-count gs = length-map gs grapheme_data
-
-pub tail-is : (n : ℕ) (gs : List StyledGrapheme) → take (length gs - n) (drop n gs) ≡ drop n gs
-tail-is n gs = subst (λ k. take k (drop n gs) ≡ drop n gs) (length-drop n gs) (take_all (length (drop n gs)) (drop n gs)
-    (omega arith))
-
-pub data-tail : (n : ℕ) (gs : List StyledGrapheme) → data_of (take (length gs - n) (drop n gs)) ≡ drop n (data_of gs)
-data-tail n gs = ap data_of (tail-is n gs) ∙ data-drop n gs
-
 -- from the last grapheme on backwards: none of the kind stands after the first n
-module _ (p : GraphemeData → Bool) (gs : List StyledGrapheme) (n : ℕ) (d : StyledGrapheme) (some : 0 < n) (le : n ≤ length gs)
-    (none : last_end p (data_of (drop n gs)) ≡ 0) where
-  before : data_of (drop (n - 1) gs) ≡ grapheme_data (slice_index_or gs (n - 1) d) ∷ data_of (drop n gs)
+module _ (p : GraphemeData → Bool) (gs : List GraphemeData) (n : ℕ) (d : GraphemeData) (some : 0 < n) (le : n ≤ length gs)
+    (none : last_end p (drop n gs) ≡ 0) where
+  before : drop (n - 1) gs ≡ slice_index_or gs (n - 1) d ∷ drop n gs
   before = let at : n - 1 + 1 ≡ n = omega arith in
-      next-data gs (n - 1) d (omega arith) ∙ ap (λ k. grapheme_data (slice_index_or gs (n - 1) d) ∷ data_of (drop k gs)) at
+      drop_more gs (n - 1) d (omega arith) ∙ ap (λ k. slice_index_or gs (n - 1) d ∷ drop k gs) at
 
-  end-before : last_end p (data_of (drop (n - 1) gs)) ≡ (if p (grapheme_data (slice_index_or gs (n - 1) d)) then 1 else 0)
+  end-before : last_end p (drop (n - 1) gs) ≡ (if p (slice_index_or gs (n - 1) d) then 1 else 0)
   end-before = ap (last_end p) before
-      ∙ end_after-none (last_end p (data_of (drop n gs))) (p (grapheme_data (slice_index_or gs (n - 1) d))) none
+      ∙ end_after-none (last_end p (drop n gs)) (p (slice_index_or gs (n - 1) d)) none
 
-  pub none-before : p (grapheme_data (slice_index_or gs (n - 1) d)) ≡ false → last_end p (data_of (drop (n - 1) gs)) ≡ 0
-  none-before other = end-before ∙ rw other refl
-
-  pub last-before : p (grapheme_data (slice_index_or gs (n - 1) d)) ≡ true → n ≡ last_end p (data_of gs)
+  pub last-before : p (slice_index_or gs (n - 1) d) ≡ true → n ≡ last_end p gs
   last-before is =
-      let one : last_end p (data_of (drop (n - 1) gs)) ≡ 1 = end-before ∙ rw is refl in
-      let later : last_end p (drop (n - 1) (data_of gs)) ≡ 1 = ap (last_end p) (sym (data-drop (n - 1) gs)) ∙ one in
-      omega (arith, later, last_end-later p (n - 1) (data_of gs) (omega (arith, later)))
+      let one : last_end p (drop (n - 1) gs) ≡ 1 = end-before ∙ rw is refl in
+      omega (arith, one, last_end-later p (n - 1) gs (omega (arith, one)))
 
-module _ (gs : List StyledGrapheme) (n end : ℕ) (is : end ≡ last_end is_of_word (data_of (take n gs))) where
-  last-in : last_end is_of_word (take n (data_of gs)) ≡ end
-  last-in = ap (last_end is_of_word) (sym (data-take n gs)) ∙ sym is
+module _ (gs : List GraphemeData) (n end : ℕ) (is : end ≡ last_end is_of_word (take n gs)) where
+  last-in : last_end is_of_word (take n gs) ≡ end
+  last-in = sym is
 
-  pub blank-ends : 0 < end → (end, n + 1) ≡ break_at_blank (data_of gs) n
+  pub blank-ends : 0 < end → (end, n + 1) ≡ break_at_blank gs n
   blank-ends some = let t : nat_lt 0 end ≡ true = grind (arith, nat_tests) in rw (last-in, t) refl
 
-  pub blank-whole : end ≤ 0 → (n, n + 1) ≡ break_at_blank (data_of gs) n
+  pub blank-whole : end ≤ 0 → (n, n + 1) ≡ break_at_blank gs n
   blank-whole none = let t : nat_lt 0 end ≡ false = grind (arith, nat_tests) in rw (last-in, t) refl
 
-pub last-inside : (p : GraphemeData → Bool) (gs : List StyledGrapheme) (n word : ℕ) → word ≡ last_end p (data_of (take n gs))
-    → word ≤ n
-last-inside p gs n word is =
-    let le = last_end-le p (data_of (take n gs)) in
-    let count : length (data_of (take n gs)) ≤ n = omega (arith, data-count (take n gs), length-take n gs) in
-    omega arith
+pub last-inside : (p : GraphemeData → Bool) (gs : List GraphemeData) (n word : ℕ) → word ≡ last_end p (take n gs) → word ≤ n
+last-inside p gs n word is = omega (arith, last_end-le p (take n gs), length-take n gs)
 
-module _ (gs : List StyledGrapheme) (n word end : ℕ) (at : word ≡ last_end is_break (data_of (take n gs)))
-    (is : end ≡ last_end is_of_word (data_of (take word gs))) where
-  word-at : last_end is_break (take n (data_of gs)) ≡ word
-  word-at = ap (last_end is_break) (sym (data-take n gs)) ∙ sym at
+module _ (gs : List GraphemeData) (n word end : ℕ) (at : word ≡ last_end is_break (take n gs))
+    (is : end ≡ last_end is_of_word (take word gs)) where
+  word-at : last_end is_break (take n gs) ≡ word
+  word-at = sym at
 
-  end-at : last_end is_of_word (take word (data_of gs)) ≡ end
-  end-at = ap (last_end is_of_word) (sym (data-take word gs)) ∙ sym is
+  end-at : last_end is_of_word (take word gs) ≡ end
+  end-at = sym is
 
-  pub word-ends-at : 0 < end → (end, word) ≡ break_in_word (data_of gs) n
+  pub word-ends-at : 0 < end → (end, word) ≡ break_in_word gs n
   word-ends-at some = let t : nat_lt 0 end ≡ true = grind (arith, nat_tests) in rw (word-at, end-at, t) refl
 
-  pub word-broken : end ≤ 0 → (n, n) ≡ break_in_word (data_of gs) n
+  pub word-broken : end ≤ 0 → (n, n) ≡ break_in_word gs n
   word-broken none = let t : nat_lt 0 end ≡ false = grind (arith, nat_tests) in rw (word-at, end-at, t) refl
 
-module _ (gs : List StyledGrapheme) (width count : ℕ) (is : count ≡ count_fitting width (data_of gs)) where
-  count-at : count_fitting width (data_of gs) ≡ count
+module _ (gs : List GraphemeData) (width count : ℕ) (is : count ≡ count_fitting width gs) where
+  count-at : count_fitting width gs ≡ count
   count-at = sym is
 
   pub count-inside : count ≤ length gs
-  count-inside = let le = count-le (data_of gs) width in omega (arith, data-count gs)
+  count-inside = omega (arith, count-le gs width)
 
-  module _ (d : StyledGrapheme) (lt : count < length gs) where
-    next-is : drop count (data_of gs) ≡ grapheme_data (slice_index_or gs count d) ∷ data_of (drop (count + 1) gs)
-    next-is = sym (data-drop count gs) ∙ next-data gs count d lt
+  module _ (d : GraphemeData) (lt : count < length gs) where
+    next-is : drop count gs ≡ slice_index_or gs count d ∷ drop (count + 1) gs
+    next-is = drop_more gs count d lt
 
-    pub break-blank : (b : ℕ × ℕ) → b ≡ break_at_blank (data_of gs) count
-        → is_break (grapheme_data (slice_index_or gs count d)) ≡ true → b ≡ row_break width (data_of gs)
+    pub break-blank : (b : ℕ × ℕ) → b ≡ break_at_blank gs count → is_break (slice_index_or gs count d) ≡ true
+        → b ≡ row_break width gs
     break-blank b e blank = e ∙ rw (count-at, next-is, blank) refl
 
-    pub break-word : (b : ℕ × ℕ) → b ≡ break_in_word (data_of gs) count
-        → is_break (grapheme_data (slice_index_or gs count d)) ≡ false → b ≡ row_break width (data_of gs)
+    pub break-word : (b : ℕ × ℕ) → b ≡ break_in_word gs count → is_break (slice_index_or gs count d) ≡ false
+        → b ≡ row_break width gs
     break-word b e word = e ∙ rw (count-at, next-is, word) refl
 
 -- a row and where the next one begins, in a slice
-pub start-inside : (gs : List StyledGrapheme) (trim : Bool) (start : ℕ) → start ≡ trimmed_start trim (data_of gs)
-    → start ≤ length gs
-start-inside gs trim start at = let le = trimmed-le trim (data_of gs) in omega (arith, at, data-count gs)
+pub start-inside : (gs : List GraphemeData) (trim : Bool) (start : ℕ) → start ≡ trimmed_start trim gs → start ≤ length gs
+start-inside gs trim start at = omega (arith, at, trimmed-le trim gs)
 
-module _ (gs : List StyledGrapheme) (width : ℕ) (trim : Bool) (start : ℕ) (b : ℕ × ℕ) (fit : AllFit width (data_of gs))
-    (at : start ≡ trimmed_start trim (data_of gs))
-    (is : b ≡ row_break width (data_of (take (length gs - start) (drop start gs)))) where
+module _ (gs : List GraphemeData) (width : ℕ) (trim : Bool) (start : ℕ) (b : ℕ × ℕ) (fit : AllFit width gs)
+    (at : start ≡ trimmed_start trim gs)
+    (is : b ≡ row_break width (take (length gs - start) (drop start gs))) where
   abbrev rest : List GraphemeData
-  rest = drop (trimmed_start trim (data_of gs)) (data_of gs)
+  rest = drop (trimmed_start trim gs) gs
 
-  rest-at : data_of (take (length gs - start) (drop start gs)) ≡ rest
-  rest-at = data-tail start gs ∙ ap (λ s. drop s (data_of gs)) at
+  rest-at : take (length gs - start) (drop start gs) ≡ rest
+  rest-at = take_rest gs start ∙ ap (λ s. drop s gs) at
 
   break-at : b ≡ row_break width rest
   break-at = is ∙ ap (row_break width) rest-at
 
-  pub split-value : (data_of (take b.0 (take (length gs - start) (drop start gs))), start + b.1) ≡ split_row width trim
-      (data_of gs)
-  split-value = ap₂ (λ xs n. (xs, n)) (data-take b.0 (take (length gs - start) (drop start gs))
-      ∙ (ap (take b.0) rest-at ∙ ap (λ c. take c.0 rest) break-at))
-      (ap (λ s. s + b.1) at ∙ ap (λ c. trimmed_start trim (data_of gs) + c.1) break-at)
+  pub split-value : (take b.0 (take (length gs - start) (drop start gs)), start + b.1) ≡ split_row width trim gs
+  split-value = ap₂ (λ xs n. (xs, n)) (ap (take b.0) rest-at ∙ ap (λ c. take c.0 rest) break-at)
+      (ap (λ s. s + b.1) at ∙ ap (λ c. trimmed_start trim gs + c.1) break-at)
 
-  pub split-is : IsSplit width (data_of gs) (data_of (take b.0 (take (length gs - start) (drop start gs))), start + b.1)
-  split-is = subst (IsSplit width (data_of gs)) (sym split-value) (split_row-is width trim (data_of gs) fit)
+  pub split-is : IsSplit width gs (take b.0 (take (length gs - start) (drop start gs)), start + b.1)
+  split-is = subst (IsSplit width gs) (sym split-value) (split_row-is width trim gs fit)
 
   pub next-inside : start + b.1 ≤ length gs
-  next-inside = let le = split-is.inside in omega (arith, data-count gs)
+  next-inside = split-is.inside
 
   broken : IsBreak width rest b
-  broken = subst (IsBreak width rest) (sym break-at)
-      (row_break-is width rest (fit-past width (trimmed_start trim (data_of gs)) (data_of gs) fit))
+  broken = subst (IsBreak width rest) (sym break-at) (row_break-is width rest (fit-past width (trimmed_start trim gs) gs fit))
 
   pub end-inside : b.0 ≡ length (take b.0 (take (length gs - start) (drop start gs)))
   end-inside =
       let le = broken.ends in let more = broken.inside in
-      let count : length rest ≡ length gs - start = ap length (sym (data-tail start gs ∙ ap (λ s. drop s (data_of gs)) at))
-      ∙ (data-count (take (length gs - start) (drop start gs)) ∙ (ap length (tail-is start gs) ∙ length-drop start gs)) in
-      omega (
-        arith,
-        length-take b.0 (take (length gs - start) (drop start gs)),
-        ap length (tail-is start gs),
-        length-drop start gs,
-      )
+      omega (arith, length-take b.0 (take (length gs - start) (drop start gs)), ap length rest-at)

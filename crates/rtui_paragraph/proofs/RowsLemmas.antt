@@ -6,21 +6,21 @@ use Rattle.std.proofs.lemmas.{Bool.cases_lt, Bool.cases_Bool, Bool.Decides.nat_t
 use Rattle.std.proofs.lemmas.List.Elements.{All-nil, All-cons, All-head, All-tail, filter-append}
 use Rattle.std.proofs.lemmas.List.{length-drop, take-append-drop, drop_more, drop_all, append_assoc, append-nil}
 use Rattle.std.proofs.lemmas.List.{drop-map}
-use Rattle.ratatui_core.specs.{Layout.Rect, declared.text.StyledGrapheme.StyledGrapheme}
+use Rattle.ratatui_core.specs.{Layout.Rect}
 use Rattle.ratatui_core.specs.{declared.layout.HorizontalAlignment.HorizontalAlignment}
-use Rattle.ratatui_core.specs.Text.{GraphemeData, grapheme_data, LineData, has_control}
+use Rattle.ratatui_core.specs.Text.{GraphemeData, LineData, has_control}
 use Rattle.ratatui_core.specs.Buffer.{BufferData, PaintsPieces, columns, painted_width, text_width, text_pieces, right_by}
 use Rattle.ratatui_core.specs.Buffer.{position_of}
 use Rattle.ratatui_core.proofs.BufferLemmas.{PaintsPieces-append, PaintsPieces-none, grapheme-piece, pieces-wide}
 use Rattle.ratatui_core.proofs.BufferLemmas.{text_pieces-none}
 use Rattle.ratatui_core.specs.declared.layout.HorizontalAlignment.TheVariants.{Left, Center, Right}
 use Rattle.rtui_paragraph.specs.{declared.paragraph.Paragraph.Paragraph, declared.paragraph.Wrap.Wrap}
-use Rattle.rtui_paragraph.specs.Reflow.{data_of, grapheme_columns, columns_taken, words_of, is_of_word, AllFit, cut_row}
+use Rattle.rtui_paragraph.specs.Reflow.{grapheme_columns, columns_taken, words_of, is_of_word, AllFit, cut_row}
 use Rattle.rtui_paragraph.specs.Reflow.{after_columns, fits_row, split_row, rows_within, broken_rows}
 use Rattle.rtui_paragraph.specs.Paragraphs.{TextRow, alignment_of, graphemes_of, IsSingleGrapheme, row_pieces}
 use Rattle.rtui_paragraph.specs.Paragraphs.{aligned_rows, cut_line, broken_line, rows_of_lines, rows_shown, indent_of}
 use Rattle.rtui_paragraph.specs.Paragraphs.{PaintsGrapheme, PaintsGraphemes, PaintsRow, PaintsRows, PaintsOn}
-use Rattle.rtui_paragraph.proofs.ReflowLemmas.{split_row-is, fit-past, count-fits, next-data, columns-next}
+use Rattle.rtui_paragraph.proofs.ReflowLemmas.{split_row-is, fit-past, count-fits, columns-next}
 
 -- a row that fits ends in its area
 pub indent-fits : (a : HorizontalAlignment) (width room : ℕ) → width ≤ room → indent_of a width room + width ≤ room
@@ -241,25 +241,23 @@ cut-next r k first row all old now mid lt is finishes made = λ new others.
 
 -- ---- a loop over graphemes
 
-pub grapheme-turn : (row : List StyledGrapheme) (i used w width : ℕ) (d : StyledGrapheme) → i < length row
-    → w ≡ grapheme_columns (grapheme_data (slice_index_or row i d)) → used + columns_taken (data_of (drop i row)) ≤ width
-    → used + w + columns_taken (data_of (drop (i + 1) row)) ≤ width
+pub grapheme-turn : (row : List GraphemeData) (i used w width : ℕ) (d : GraphemeData) → i < length row
+    → w ≡ grapheme_columns (slice_index_or row i d) → used + columns_taken (drop i row) ≤ width
+    → used + w + columns_taken (drop (i + 1) row) ≤ width
 grapheme-turn row i used w width d lt is fits =
-    let e : columns_taken (data_of (drop i row)) ≡ w + columns_taken (data_of (drop (i + 1) row)) =
-    ap columns_taken (next-data row i d lt) ∙ (columns-next (grapheme_data (slice_index_or row i d))
-    (data_of (drop (i + 1) row)) ∙ ap (λ n. n + columns_taken (data_of (drop (i + 1) row))) (sym is)) in
+    let e : columns_taken (drop i row) ≡ w + columns_taken (drop (i + 1) row) =
+    ap columns_taken (drop_more row i d lt) ∙ (columns-next (slice_index_or row i d) (drop (i + 1) row)
+    ∙ ap (λ n. n + columns_taken (drop (i + 1) row)) (sym is)) in
     omega arith
 
-pub row-turn : (row : List StyledGrapheme) (i y x used w start : ℕ) (d : StyledGrapheme) (old now mid : BufferData)
-    → i < length row → w ≡ grapheme_columns (grapheme_data (slice_index_or row i d))
-    → FinishesRow y (x + used) (data_of (drop i row)) start (data_of row) old now
-    → PaintsGrapheme (x + used) y (grapheme_data (slice_index_or row i d)) now mid
-    → FinishesRow y (x + (used + w)) (data_of (drop (i + 1) row)) start (data_of row) old mid
+pub row-turn : (row : List GraphemeData) (i y x used w start : ℕ) (d : GraphemeData) (old now mid : BufferData)
+    → i < length row → w ≡ grapheme_columns (slice_index_or row i d) → FinishesRow y (x + used) (drop i row) start row old now
+    → PaintsGrapheme (x + used) y (slice_index_or row i d) now mid
+    → FinishesRow y (x + (used + w)) (drop (i + 1) row) start row old mid
 row-turn row i y x used w start d old now mid lt is finishes made = λ new others.
-    let place : x + (used + w) ≡ x + used + grapheme_columns (grapheme_data (slice_index_or row i d)) = omega arith in
-    row-next y (x + used) start (grapheme_data (slice_index_or row i d)) (data_of (drop i row)) (data_of (drop (i + 1) row))
-    (data_of row) old now mid (next-data row i d lt) finishes made new
-    (subst (λ z. PaintsGraphemes z y (data_of (drop (i + 1) row)) mid new) place others)
+    let place : x + (used + w) ≡ x + used + grapheme_columns (slice_index_or row i d) = omega arith in
+    row-next y (x + used) start (slice_index_or row i d) (drop i row) (drop (i + 1) row) row old now mid (drop_more row i d lt)
+    finishes made new (subst (λ z. PaintsGraphemes z y (drop (i + 1) row) mid new) place others)
 
 -- ---- a loop over the rows of a line
 

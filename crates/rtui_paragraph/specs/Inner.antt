@@ -1,8 +1,9 @@
--- What is left of a line: of one that is broken, as far as its next row needs it held, and of one that is cut.
+-- What is left of a line that is broken, of which as much is held as its next row needs, and of one that is
+-- cut.
 use Rattle.std.specs.Prelude.{◌≡◌, ℕ, ◌-◌, ◌<◌, ◌≤◌, ◌⊎◌, Bool, true, List, [], ◌++◌, length, filter, drop}
 use Rattle.ratatui_core.specs.Text.{GraphemeData, line_graphemes_left}
 use Rattle.rtui_paragraph.specs.declared.{ahead.Ahead.Ahead, cut.Cut.Cut}
-use Rattle.rtui_paragraph.specs.Reflow.{data_of, columns_taken, fits_row, trimmed_start, after_columns}
+use Rattle.rtui_paragraph.specs.Reflow.{columns_taken, fits_row, trimmed_start, after_columns}
 use Rattle.rtui_paragraph.specs.Reflow.{fitting_front}
 
 -- how many columns stand after the blanks that are left out before a row
@@ -12,7 +13,7 @@ columns_ahead trim gs = columns_taken (drop (trimmed_start trim gs) gs)
 -- the graphemes that are held for the rows to come, and those that are left of the line: of these the ones
 -- that fit a row
 abbrev pub held_of : Ahead → List GraphemeData
-held_of a = data_of (drop a.passed a.held.items)
+held_of a = drop a.passed a.held.items
 
 abbrev pub left_of : Ahead → List GraphemeData
 left_of a = held_of a ++ filter (fits_row a.width) (line_graphemes_left a.rest)

@@ -17,7 +17,7 @@ use Rattle.rtui_paragraph.specs.Reflow.{grapheme_columns, columns_taken, fits_ro
 pub record IsNewParagraph (text : TextData) (p : Paragraph) : Type 0 where
   pub text_is : p.text ≡ text
   pub no_box : p.block ≡ None
-  pub plain : p.style ≡ new_style
+  pub unstyled : p.style ≡ new_style
   pub cut : p.wrap ≡ None
   pub start : p.scroll ≡ position_of (0, 0)
   pub aligned : p.alignment ≡ Left

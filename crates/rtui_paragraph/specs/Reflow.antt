@@ -1,12 +1,8 @@
 -- A line of graphemes cut, or broken into rows.
 use Rattle.std.specs.Prelude.{◌≡◌, ℕ, zero, suc, ◌+◌, ◌-◌, ◌<◌, Bool, true, false, not, ◌&&◌, nat_le, nat_lt}
-use Rattle.std.specs.Prelude.{List, [], ◌∷◌, length, map, take, drop, filter, if◌then◌else◌, slice_index_or}
+use Rattle.std.specs.Prelude.{List, [], ◌∷◌, length, take, drop, filter, if◌then◌else◌, slice_index_or}
 use Rattle.std.specs.List.{sum_by, list_all, prefix_len}
-use Rattle.ratatui_core.specs.{Text.GraphemeData, Text.grapheme_data, Text.is_whitespace_symbol}
-use Rattle.ratatui_core.specs.{Buffer.text_width, declared.text.StyledGrapheme.StyledGrapheme}
-
-abbrev pub data_of : List StyledGrapheme → List GraphemeData
-data_of gs = map grapheme_data gs
+use Rattle.ratatui_core.specs.{Text.GraphemeData, Text.is_whitespace_symbol, Buffer.text_width}
 
 -- a blank: a grapheme at which a line may be broken
 abbrev pub is_break : GraphemeData → Bool

@@ -2,14 +2,15 @@
 
 ghost use Rattle.std.specs.Prelude.{◌≡◌, ◌+◌, ◌≤◌, ◌<◌, ◌==◌, ◌^◌, ◌++◌, ◌∷◌, [], List, length, filter, drop};
 ghost use Rattle.std.specs.Prelude.{OnOk};
-ghost use Rattle.ratatui_core.specs.Text.{GraphemeData, grapheme_data, line_graphemes_left};
-ghost use Rattle.rtui_paragraph.specs.Reflow.{data_of, grapheme_columns, columns_taken, fits_row, AllFit};
+ghost use Rattle.ratatui_core.specs.Text.{GraphemeData, line_graphemes_left};
+ghost use Rattle.rtui_paragraph.specs.Reflow.{columns_taken, fits_row, AllFit};
 ghost use Rattle.rtui_paragraph.specs.Reflow.{split_row};
 ghost use Rattle.rtui_paragraph.specs.Inner.{left_of, columns_ahead, HasLeft, IsAhead, HoldsNext};
 
+use crate::measured::Measured;
 use crate::reflow::{Row, columns_of, split_row, trimmed_start};
 use ratatui_core::buffer::CellWidth;
-use ratatui_core::text::{LineGraphemes, StyledGrapheme};
+use ratatui_core::text::LineGraphemes;
 use std::alloc::{AllocError, Global};
 
 // So many graphemes of rows that were passed are held at most, beside those of the next row.
@@ -30,23 +31,22 @@ pub(crate) struct Ahead<'t, 'a> {
 }
 
 // How many columns stand after the blanks that are left out at the front, counted up to 65535.
-fn columns_ahead(graphemes: &[StyledGrapheme<'_>], trim: bool) -> usize
-    ensures { result ≤ columns_ahead trim (data_of graphemes.now) }
+fn columns_ahead(graphemes: &[Measured<'_>], trim: bool) -> usize
+    ensures { result ≤ columns_ahead trim graphemes.now }
 {
     usize::from(columns_of(&graphemes[trimmed_start(graphemes, trim)..]))
 }
 
 // The columns ahead with those of one grapheme more; a blank that may be left out doesn't count.
-fn ahead_with(ahead: usize, trim: bool, grapheme: &StyledGrapheme<'_>, columns: u16) -> usize
+fn ahead_with(ahead: usize, trim: bool, grapheme: &Measured<'_>) -> usize
     requires few { ahead < 2 ^ 32 }
-    requires columns { columns ≡ grapheme_columns (grapheme_data grapheme.now) }
     ensures { (gs : List GraphemeData) → ahead ≤ columns_ahead trim gs
-        → result ≤ columns_ahead trim (gs ++ grapheme_data grapheme.now ∷ []) }
+        → result ≤ columns_ahead trim (gs ++ grapheme.now ∷ []) }
 {
-    if trim && ahead == 0 && grapheme.is_whitespace() {
+    if trim && ahead == 0 && grapheme.is_blank() {
         return ahead;
     }
-    ahead + usize::from(columns)
+    ahead + usize::from(grapheme.columns())
 }
 
 impl<'t, 'a> Ahead<'t, 'a> {
@@ -93,8 +93,9 @@ impl<'t, 'a> Ahead<'t, 'a> {
             if columns > self.width {
                 continue;
             }
-            ahead = ahead_with(ahead, self.trim, &grapheme, columns);
-            self.held.push(grapheme)?;
+            let measured = Measured::new(grapheme, columns);
+            ahead = ahead_with(ahead, self.trim, &measured);
+            self.held.push(measured)?;
         }
         Ok(())
     }
@@ -108,12 +109,12 @@ impl<'t, 'a> Ahead<'t, 'a> {
     }
 
     /// The next row, and how many graphemes stand before the one after it.
-    pub(crate) fn row(&self) -> (&[StyledGrapheme<'t>], usize)
+    pub(crate) fn row(&self) -> (&[Measured<'t>], usize)
         requires ready { HoldsNext self.now }
         requires fit { AllFit self.now.width (left_of self.now) }
-        ensures value { (data_of result.0.now, result.1)
+        ensures value { (result.0.now, result.1)
             ≡ split_row self.now.width self.now.trim (left_of self.now) }
-        ensures fits { columns_taken (data_of result.0.now) ≤ self.now.width }
+        ensures fits { columns_taken (result.0.now) ≤ self.now.width }
         ensures some { 0 < length (left_of self.now) → 0 < result.1 }
         ensures inside { self.now.passed + result.1 ≤ length self.now.held.items }
     {

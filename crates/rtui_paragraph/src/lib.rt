@@ -8,6 +8,7 @@
 mod ahead;
 mod cut;
 pub mod laws;
+mod measured;
 mod paragraph;
 mod reflow;
 mod styled;

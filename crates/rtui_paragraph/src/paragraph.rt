@@ -17,16 +17,17 @@ ghost use Rattle.rtui_paragraph.specs.Paragraphs.{graphemes_of, grapheme_in, Has
 ghost use Rattle.rtui_paragraph.specs.Paragraphs.{PaintsGrapheme, PaintsGraphemes, PaintsRow, PaintsRows};
 ghost use Rattle.rtui_paragraph.specs.Paragraphs.{PaintsOn, FillsText};
 ghost use Rattle.rtui_paragraph.specs.Inner.{left_of, IsAhead, left_of_cut, IsCut};
-ghost use Rattle.rtui_paragraph.specs.Reflow.{data_of, columns_taken, AllFit, broken_rows};
+ghost use Rattle.rtui_paragraph.specs.Reflow.{columns_taken, AllFit, broken_rows};
 ghost use Rattle.rtui_paragraph.specs.Reflow.{cut_row};
 
 use crate::ahead::Ahead;
 use crate::cut::Cut;
+use crate::measured::Measured;
 use crate::reflow::columns_of;
 use ratatui_core::buffer::{Buffer, CellWidth};
 use ratatui_core::layout::{HorizontalAlignment, Position, Rect};
 use ratatui_core::style::Style;
-use ratatui_core::text::{Line, StyledGrapheme, Text};
+use ratatui_core::text::{Line, Text};
 use ratatui_core::widgets::Widget;
 use rtui_boxes::{Block, render_frame};
 use std::alloc::{AllocError, Global};
@@ -362,7 +363,7 @@ fn columns_scrolled(alignment: HorizontalAlignment, columns: u16) -> u16
 // Renders a row in row k of a part, if no rows are to be skipped and the part has that row; answers
 // the row after it.
 fn render_next(
-    row: &[StyledGrapheme<'_>],
+    row: &[Measured<'_>],
     alignment: HorizontalAlignment,
     skip: &mut u16,
     part: Rect,
@@ -372,10 +373,10 @@ fn render_next(
     requires some { IsBoxArea part }
     requires inside { IsInside part buf.old.area }
     requires row { k ≤ part.height }
-    requires fits { columns_taken (data_of row.now) ≤ part.width }
+    requires fits { columns_taken row.now ≤ part.width }
     ensures within { ChangesWithin part buf.old buf.new }
     ensures row { IfOk result (λ n. n ≤ part.height) }
-    ensures ok { let rows = aligned_row alignment (data_of row.now) ∷ [] in
+    ensures ok { let rows = aligned_row alignment row.now ∷ [] in
         IfOk result (λ n. PaintsOn part k n skip.old skip.new rows buf.old buf.new) }
     ensures ready { IsReadyFrom (part.y + k) buf.old
         → IfOk result (λ n. IsReadyFrom (part.y + n) buf.new) }
@@ -463,6 +464,17 @@ fn indent(width: u16, room: u16, alignment: HorizontalAlignment) -> u16
     }
 }
 
+// The column in which a row begins: of one at the left its width doesn't matter.
+fn row_start(row: &[Measured<'_>], room: u16, alignment: HorizontalAlignment) -> u16
+    requires { columns_taken row.now ≤ room }
+    ensures { result ≡ indent_of alignment (columns_taken row.now) room }
+{
+    match alignment {
+        HorizontalAlignment::Left => 0,
+        _ => indent(columns_of(row), room, alignment),
+    }
+}
+
 // Paints a grapheme in a place of a part, in at most so many columns.
 fn put_grapheme(
     symbol: &str,
@@ -531,7 +543,7 @@ fn render_cut_row(
 // Renders graphemes that fit in row k of a part.
 #[tactic(auto, using(crate::proofs::ParagraphLemmas::within_steps))]
 fn render_row(
-    row: &[StyledGrapheme<'_>],
+    row: &[Measured<'_>],
     alignment: HorizontalAlignment,
     part: Rect,
     k: u16,
@@ -540,20 +552,20 @@ fn render_row(
     requires some { IsBoxArea part }
     requires inside { IsInside part buf.old.area }
     requires row { k < part.height }
-    requires fits { columns_taken (data_of row.now) ≤ part.width }
+    requires fits { columns_taken row.now ≤ part.width }
     ensures within { ChangesWithin part buf.old buf.new }
-    ensures ok { let shown = aligned_row alignment (data_of row.now) in
+    ensures ok { let shown = aligned_row alignment row.now in
         OnOk result (PaintsRow part (part.y + k) shown buf.old buf.new) }
     ensures ready { IsReadyFrom (part.y + k) buf.old
         → OnOk result (IsReadyFrom (part.y + k + 1) buf.new) }
 {
-    let mut used = indent(columns_of(row), part.width, alignment);
+    let mut used = row_start(row, part.width, alignment);
     for grapheme in row {
-        let columns = grapheme.symbol.cell_width();
+        let columns = grapheme.columns();
         let x = part.x + used;
         put_grapheme(
-            grapheme.symbol,
-            grapheme.style,
+            grapheme.symbol(),
+            grapheme.style(),
             columns,
             part,
             x,

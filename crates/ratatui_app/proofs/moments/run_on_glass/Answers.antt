@@ -8,7 +8,7 @@ use Rattle.ratatui_app.proofs.moments.run_on_glass.Goals as goal
 
 pub loop-init : goal.loop-init
 loop-init g c = λ rest.
-    let drawn = c.in-Ok.ensures in
+    let drawn = c.in_ok-draw.ensures in
     let shows = drawn.shows (inl rest) in (
       runs-start sender _ _ _ _ _ _ c.new-decoder.ensures drawn.draws drawn.faults
           (drawn.size (inl rest)) shows,
@@ -24,7 +24,7 @@ loop-init g c = λ rest.
 pub loop-preserved : goal.loop-preserved
 loop-preserved g c = λ rest.
     let before = c.loop.invariant rest in
-    let step = c.in-Ok-step.ensures.steps (runs-shows sender _ _ _ _ _ _ _ before.0) in (
+    let step = c.in_ok-came.ensures.steps (runs-shows sender _ _ _ _ _ _ _ before.0) in (
       runs-step sender _ _ _ _ _ _ _ (record { decoder = c.step.new.decoder; state = c.step.new.application }) _ _ _
           before.0 (λ shown. step),
       λ none. glass-step _ _ _ _ _ _ _ (record { decoder = c.step.new.decoder; state = c.step.new.application }) _ _ _
@@ -33,13 +33,13 @@ loop-preserved g c = λ rest.
           ∙ run-unfailed _ _ _ _ _ _ _ before.0 none)),
       λ no'. typed-step _ _ _ _ _ _ _ (record { decoder = c.step.new.decoder; state = c.step.new.application }) _ _ _
           (before.2 no') step
-          (came-if c.in-Ok-step.came c.args.has_ticks no' c.else-not-came.either),
+          (came-if c.in_ok-came.came c.args.has_ticks no' c.else-not-came.either),
     )
 
 pub returns-then-not-has_ticks-clause-runs : goal.returns-then-not-has_ticks-clause-runs
 returns-then-not-has_ticks-clause-runs g c = λ rest none.
     let before = c.loop.invariant rest in
-    let step = c.in-Ok-step.ensures.steps (runs-shows sender _ _ _ _ _ _ _ before.0) in (
+    let step = c.in_ok-came.ensures.steps (runs-shows sender _ _ _ _ _ _ _ before.0) in (
       c.step.new.decoder,
       glass-step _ _ _ _ _ _ _ (record { decoder = c.step.new.decoder; state = c.step.new.application }) _ _ _
           (before.1 none) step
@@ -50,7 +50,7 @@ returns-then-not-has_ticks-clause-runs g c = λ rest none.
 pub returns-then-not-has_ticks-clause-typed : goal.returns-then-not-has_ticks-clause-typed
 returns-then-not-has_ticks-clause-typed g c = λ rest no'.
     let before = c.loop.invariant rest in
-    let step = c.in-Ok-step.ensures.steps (runs-shows sender _ _ _ _ _ _ _ before.0) in
+    let step = c.in_ok-came.ensures.steps (runs-shows sender _ _ _ _ _ _ _ before.0) in
     ended-empty _ _ _ _ _ _ _ _ _ _ _ _ (before.2 no') step (search rules)
 
 pub returns-then-is_over-clause-typed : goal.returns-then-is_over-clause-typed
@@ -66,12 +66,12 @@ returns-clause-stops g c = λ rest. inr (record {
   stops = (refl, refl, stays-known (g.S.Source.coming c.loop.source));
 })
 
-pub returns-in-Err-step-clause-stops : goal.returns-in-Err-step-clause-stops
-returns-in-Err-step-clause-stops g c = λ rest. inr (record {
+pub returns-in_err-came-clause-stops : goal.returns-in_err-came-clause-stops
+returns-in_err-came-clause-stops g c = λ rest. inr (record {
   now = record { decoder = c.loop.decoder; state = c.loop.application };
   left = g.S.Source.coming c.loop.source;
   terminal = c.loop.terminal;
   ran = (c.loop.invariant rest).0;
   decoder = c.step.new.decoder;
-  stops = c.in-Err-step.ensures.stops (runs-shows sender _ _ _ _ _ _ _ (c.loop.invariant rest).0);
+  stops = c.in_err-came.ensures.stops (runs-shows sender _ _ _ _ _ _ _ (c.loop.invariant rest).0);
 })

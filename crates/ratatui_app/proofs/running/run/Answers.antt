@@ -6,8 +6,8 @@ use Rattle.ratatui_app.proofs.running.run.Goals as goal
 
 pub loop-init : goal.loop-init
 loop-init g c = λ rest. (
-  runs-start g.B.Backend _ _ _ _ _ _ c.new-decoder.ensures c.in-Ok.ensures.draws c.in-Ok.ensures.faults
-      (c.in-Ok.ensures.size (inl rest)) (c.in-Ok.ensures.shows (inl rest)),
+  runs-start g.B.Backend _ _ _ _ _ _ c.new-decoder.ensures c.in_ok-draw.ensures.draws c.in_ok-draw.ensures.faults
+      (c.in_ok-draw.ensures.size (inl rest)) (c.in_ok-draw.ensures.shows (inl rest)),
   λ no'. rw c.new-decoder.ensures (typed-start _ (record {
     decoder = fresh_decoder;
     state = c.args.application.now;
@@ -17,26 +17,26 @@ loop-init g c = λ rest. (
 pub loop-preserved : goal.loop-preserved
 loop-preserved g c = λ rest.
     let before = c.loop.invariant rest in
-    let step = c.in-Ok-step.ensures.steps
+    let step = c.in_ok-came.ensures.steps
     (runs-shows g.B.Backend _ _ _ _ _ _ _ before.0) in (
       runs-step g.B.Backend _ _ _ _ _ _ _ (record { decoder = c.step.new.decoder; state = c.step.new.application }) _ _ _
           before.0 (λ shown. step),
       λ no'. typed-step _ _ _ _ _ _ _ (record { decoder = c.step.new.decoder; state = c.step.new.application }) _ _ _
           (before.1 no') step
-          (came-if c.in-Ok-step.came c.args.has_ticks no' c.else-not-came.either),
+          (came-if c.in_ok-came.came c.args.has_ticks no' c.else-not-came.either),
     )
 
 pub returns-then-not-has_ticks-clause-runs : goal.returns-then-not-has_ticks-clause-runs
 returns-then-not-has_ticks-clause-runs g c = λ rest. (
   c.step.new.decoder,
   runs-step g.B.Backend _ _ _ _ _ _ _ (record { decoder = c.step.new.decoder; state = c.step.new.application }) _ _ _
-      (c.loop.invariant rest).0 c.in-Ok-step.ensures.steps,
+      (c.loop.invariant rest).0 c.in_ok-came.ensures.steps,
 )
 
 pub returns-then-not-has_ticks-clause-typed : goal.returns-then-not-has_ticks-clause-typed
 returns-then-not-has_ticks-clause-typed g c = λ rest no'.
     let before = c.loop.invariant rest in
-    let step = c.in-Ok-step.ensures.steps
+    let step = c.in_ok-came.ensures.steps
     (runs-shows g.B.Backend _ _ _ _ _ _ _ before.0) in
     ended-empty _ _ _ _ _ _ _ _ _ _ _ _ (before.1 no') step (search rules)
 
@@ -54,13 +54,13 @@ returns-clause-stops g c = λ rest. inr (record {
   stops = (refl, refl, stays-known (g.S.Source.coming c.loop.source));
 })
 
-pub returns-in-Err-step-clause-stops : goal.returns-in-Err-step-clause-stops
-returns-in-Err-step-clause-stops g c = λ rest. inr (record {
+pub returns-in_err-came-clause-stops : goal.returns-in_err-came-clause-stops
+returns-in_err-came-clause-stops g c = λ rest. inr (record {
   now = record { decoder = c.loop.decoder; state = c.loop.application };
   left = g.S.Source.coming c.loop.source;
   terminal = c.loop.terminal;
   ran = (c.loop.invariant rest).0;
   decoder = c.step.new.decoder;
-  stops = c.in-Err-step.ensures.stops
+  stops = c.in_err-came.ensures.stops
       (runs-shows g.B.Backend _ _ _ _ _ _ _ (c.loop.invariant rest).0);
 })

@@ -1,6 +1,7 @@
 use Rattle.std.proofs.Common.{rules, ap, arith, drop}
-use Rattle.rtui_paragraph.specs.Reflow.{data_of, columns_taken}
-use Rattle.rtui_paragraph.proofs.ReflowLemmas.{start-inside, data-tail}
+use Rattle.std.proofs.lemmas.List.{take_rest}
+use Rattle.rtui_paragraph.specs.Reflow.{columns_taken}
+use Rattle.rtui_paragraph.proofs.ReflowLemmas.{start-inside}
 use Rattle.rtui_paragraph.proofs.ahead.columns_ahead.Goals as goal
 
 pub offset_bounds-graphemes-trimmed_start : goal.offset_bounds-graphemes-trimmed_start
@@ -17,6 +18,6 @@ slice_bounds-columns_of-start c = let le =
 pub returns : goal.returns
 returns c =
     let gs = c.args.graphemes.now in
-    let tail = ap columns_taken (data-tail c.trimmed_start.result gs) in
-    let start = ap (λ s. columns_taken (drop s (data_of gs))) c.trimmed_start.ensures in
+    let tail = ap columns_taken (take_rest gs c.trimmed_start.result) in
+    let start = ap (λ s. columns_taken (drop s gs)) c.trimmed_start.ensures in
     omega (arith, c.from.ensures, c.columns_of.ensures, tail, start)

@@ -2,7 +2,7 @@ use Rattle.std.proofs.Common.{◌≡◌, ◌∙◌, ◌==◌, false, [], ◌∷�
 use Rattle.std.proofs.lemmas.Bool.Decides.{nat_tests}
 use Rattle.ratatui_core.specs.Layout.{IsInside}
 use Rattle.ratatui_core.proofs.WidgetLemmas.{within-then}
-use Rattle.rtui_paragraph.specs.{Inner.left_of, Reflow.data_of, Reflow.AllFit, Reflow.split_row, Paragraphs.aligned_row}
+use Rattle.rtui_paragraph.specs.{Inner.left_of, Reflow.AllFit, Reflow.split_row, Paragraphs.aligned_row}
 use Rattle.rtui_paragraph.specs.{Paragraphs.aligned_rows}
 use Rattle.rtui_paragraph.proofs.ReflowLemmas.{fit-past}
 use Rattle.rtui_paragraph.proofs.RowsLemmas.{rows_left, left-next, rows-line}
@@ -27,7 +27,7 @@ pub loop-alignment-preserved : goal.loop-alignment-preserved
 loop-alignment-preserved c =
     let i = c.loop-alignment.invariant in
     let gs = left_of c.loop-alignment.line in
-    let row = data_of c.row-count.result.0.now in
+    let row = c.row-count.result.0.now in
     let count = c.row-count.result.1 in
     let empty : (length gs == 0) ≡ false = sym c.is_empty-in-loop-alignment.ensures ∙ c.loop-alignment-test.true in
     let some : 0 < length gs = grind (arith, nat_tests, empty) in

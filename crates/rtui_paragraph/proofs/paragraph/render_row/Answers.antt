@@ -2,7 +2,7 @@ use Rattle.std.proofs.Common.{◌≡◌, ◌+◌, ◌≤◌, ◌∙◌, ap, subs
 use Rattle.ratatui_core.specs.Buffer.{IsReadyAt}
 use Rattle.ratatui_core.proofs.{BufferLemmas.within-same, WidgetLemmas.within-then, BufferLemmas.ready-row}
 use Rattle.rtui_boxes.proofs.{BoxLemmas.inside-within, PaintLemmas.part-has_row, PaintLemmas.part-right}
-use Rattle.rtui_paragraph.specs.{Reflow.data_of, Reflow.columns_taken, Paragraphs.indent_of, Paragraphs.PaintsGraphemes}
+use Rattle.rtui_paragraph.specs.{Reflow.columns_taken, Paragraphs.indent_of, Paragraphs.PaintsGraphemes}
 use Rattle.rtui_paragraph.proofs.RowsLemmas.{indent-fits, grapheme-turn, row-turn}
 use Rattle.rtui_paragraph.proofs.paragraph.render_row.Goals as goal
 
@@ -12,24 +12,21 @@ put_grapheme-requires-clause-inside c =
 
 pub loop-grapheme-init : goal.loop-grapheme-init
 loop-grapheme-init c =
-    let taken = columns_taken (data_of c.args.row.now) in
+    let taken = columns_taken c.args.row.now in
     let box = c.requires.some in
     let across = box.across in
-    let columns : c.columns_of.result ≡ taken = omega (arith, c.columns_of.ensures, c.requires.fits) in
-    let used : c.indent-used.result ≡ indent_of c.args.alignment taken c.args.part.width = c.indent-used.ensures
-    ∙ ap (λ n. indent_of c.args.alignment n c.args.part.width) columns in
-    let fits : c.indent-used.result + taken ≤ c.args.part.width =
-    omega (arith, used, indent-fits c.args.alignment taken c.args.part.width c.requires.fits) in
+    let fits : c.row_start-used.result + taken ≤ c.args.part.width =
+    omega (arith, c.row_start-used.ensures, indent-fits c.args.alignment taken c.args.part.width c.requires.fits) in
     record {
       fits = fits;
       within = within-same c.args.part c.args.buf.now;
       paints = λ new others. subst (λ n. PaintsGraphemes (c.args.part.x + n) (c.args.part.y + c.args.k)
-          (data_of c.args.row.now) c.args.buf.now new) used others;
+          c.args.row.now c.args.buf.now new) c.row_start-used.ensures others;
       ready = λ from.
-          let start : c.args.part.x + c.indent-used.result ≤ c.args.part.x + c.args.part.width = omega arith in
-          let right = part-right c.args.part c.args.buf.now.area (c.args.part.x + c.indent-used.result) 0 c.requires.some
+          let start : c.args.part.x + c.row_start-used.result ≤ c.args.part.x + c.args.part.width = omega arith in
+          let right = part-right c.args.part c.args.buf.now.area (c.args.part.x + c.row_start-used.result) 0 c.requires.some
           c.requires.inside (omega arith) in
-          ready-row (c.args.part.x + c.indent-used.result) (c.args.part.y + c.args.k) c.args.buf.now from
+          ready-row (c.args.part.x + c.row_start-used.result) (c.args.part.y + c.args.k) c.args.buf.now from
           (part-has_row c.args.part c.args.buf.now.area (c.args.part.y + c.args.k) c.requires.some c.requires.inside (omega arith)
           (omega arith)) (omega arith);
     }
@@ -37,16 +34,16 @@ loop-grapheme-init c =
 pub loop-grapheme-preserved : goal.loop-grapheme-preserved
 loop-grapheme-preserved c =
     let i = c.loop-grapheme.invariant in
-    let place : c.args.part.x + c.loop-grapheme.used + c.cell_width-columns.result ≡ c.args.part.x +
-    (c.loop-grapheme.used + c.cell_width-columns.result) = omega arith in
+    let place : c.args.part.x + c.loop-grapheme.used + c.columns-columns.result ≡ c.args.part.x +
+    (c.loop-grapheme.used + c.columns-columns.result) = omega arith in
     record {
-      fits = grapheme-turn c.args.row.now c.loop-grapheme.grapheme-index c.loop-grapheme.used c.cell_width-columns.result
-          c.args.part.width _ c.loop-grapheme-test.true c.cell_width-columns.ensures i.fits;
+      fits = grapheme-turn c.args.row.now c.loop-grapheme.grapheme-index c.loop-grapheme.used c.columns-columns.result
+          c.args.part.width _ c.loop-grapheme-test.true c.columns-columns.ensures i.fits;
       within = within-then c.args.part c.args.buf.now c.loop-grapheme.buf c.put_grapheme.new.buf i.within
           c.put_grapheme.ensures.within;
       paints = row-turn c.args.row.now c.loop-grapheme.grapheme-index (c.args.part.y + c.args.k) c.args.part.x
-          c.loop-grapheme.used c.cell_width-columns.result _ _ c.args.buf.now c.loop-grapheme.buf c.put_grapheme.new.buf
-          c.loop-grapheme-test.true c.cell_width-columns.ensures i.paints c.in_ok-put_grapheme.ensures.ok;
+          c.loop-grapheme.used c.columns-columns.result _ _ c.args.buf.now c.loop-grapheme.buf c.put_grapheme.new.buf
+          c.loop-grapheme-test.true c.columns-columns.ensures i.paints c.in_ok-put_grapheme.ensures.ok;
       ready = λ from. subst (λ x. IsReadyAt x (c.args.part.y + c.args.k) c.put_grapheme.new.buf) place
           (c.in_ok-put_grapheme.ensures.ready (i.ready from));
     }

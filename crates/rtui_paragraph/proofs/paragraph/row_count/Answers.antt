@@ -1,6 +1,6 @@
 use Rattle.std.proofs.Common.{◌≡◌, ◌<◌, ◌==◌, ◌∷◌, ◌∙◌, false, ap, ap₂, sym, subst, length, arith}
 use Rattle.std.proofs.lemmas.Bool.Decides.{nat_tests}
-use Rattle.rtui_paragraph.specs.{Inner.left_of, Reflow.data_of, Reflow.AllFit, Reflow.split_row}
+use Rattle.rtui_paragraph.specs.{Inner.left_of, Reflow.AllFit, Reflow.split_row}
 use Rattle.rtui_paragraph.proofs.ReflowLemmas.{fit-past}
 use Rattle.rtui_paragraph.proofs.RowsLemmas.{rows_left, left-next}
 use Rattle.rtui_paragraph.proofs.AheadLemmas.{line-step}
@@ -10,7 +10,7 @@ pub loop-line-preserved : goal.loop-line-preserved
 loop-line-preserved c =
     let i = c.loop-line.invariant in
     let gs = left_of c.loop-line.line in
-    let row = data_of c.row-taken.result.0.now in
+    let row = c.row-taken.result.0.now in
     let count = c.row-taken.result.1 in
     let empty : (length gs == 0) ≡ false = sym c.is_empty.ensures ∙ c.loop-line-test.true in
     let some : 0 < length gs = grind (arith, nat_tests, empty) in

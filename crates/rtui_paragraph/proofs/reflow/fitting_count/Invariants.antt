@@ -1,11 +1,11 @@
 use Rattle.std.proofs.Common.{◌≡◌, ◌+◌, ◌-◌, ◌≤◌, drop}
-use Rattle.rtui_paragraph.specs.Reflow.{data_of, count_fitting}
+use Rattle.rtui_paragraph.specs.Reflow.{count_fitting}
 use Rattle.rtui_paragraph.proofs.reflow.fitting_count.Given as goal
 
 abbrev pub invariant-loop-grapheme : goal.invariant-loop-grapheme
 invariant-loop-grapheme l = record {
   count : l.count ≡ l.grapheme-index;
   fits : l.used ≤ l.fn.width;
-  left : l.count + count_fitting (l.fn.width - l.used) (data_of (drop l.grapheme-index l.fn.graphemes)) ≡ count_fitting l.fn.width
-      (data_of l.fn.graphemes);
+  left : l.count + count_fitting (l.fn.width - l.used) (drop l.grapheme-index l.fn.graphemes) ≡ count_fitting l.fn.width
+      l.fn.graphemes;
 }

@@ -3,8 +3,8 @@ use Rattle.rtui_paragraph.specs.Reflow.{is_break}
 use Rattle.rtui_paragraph.proofs.ReflowLemmas.{last-before}
 use Rattle.rtui_paragraph.proofs.reflow.last_word.Goals as goal
 
-pub returns-then-is_whitespace : goal.returns-then-is_whitespace
-returns-then-is_whitespace c =
+pub returns-then-is_blank : goal.returns-then-is_blank
+returns-then-is_blank c =
     let i = c.loop-start.invariant in
     last-before is_break c.args.graphemes.now c.loop-start.start _ c.loop-start-test.true i.inside i.none
-    (sym c.is_whitespace.ensures ∙ c.if-is_whitespace.true)
+    (sym c.is_blank.ensures ∙ c.if-is_blank.true)

@@ -1,11 +1,11 @@
 use Rattle.std.proofs.Common.{◌≡◌, ◌≤◌, length, drop}
-use Rattle.rtui_paragraph.specs.Reflow.{data_of, is_break, last_end}
+use Rattle.rtui_paragraph.specs.Reflow.{is_break, last_end}
 use Rattle.rtui_paragraph.proofs.reflow.last_word.Given as goal
 
 abbrev pub invariant-loop-start : goal.invariant-loop-start
 invariant-loop-start l = record {
   inside : l.start ≤ length l.fn.graphemes;
-  none : last_end is_break (data_of (drop l.start l.fn.graphemes)) ≡ 0;
+  none : last_end is_break (drop l.start l.fn.graphemes) ≡ 0;
 }
 
 abbrev pub decreases-loop-start : goal.decreases-loop-start

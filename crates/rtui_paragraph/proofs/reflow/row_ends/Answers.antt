@@ -20,18 +20,18 @@ pub break_in_word-requires : goal.break_in_word-requires
 break_in_word-requires c = count-inside c.args.graphemes.now c.args.width c.fitting_count-count.result
     c.fitting_count-count.ensures
 
-pub returns-then-is_whitespace : goal.returns-then-is_whitespace
-returns-then-is_whitespace c =
+pub returns-then-is_blank : goal.returns-then-is_blank
+returns-then-is_blank c =
     let lt : c.fitting_count-count.result < length c.args.graphemes.now =
     (let le = count-inside c.args.graphemes.now c.args.width c.fitting_count-count.result c.fitting_count-count.ensures in
     let more = c.if-count-graphemes.false in omega arith) in
     break-blank c.args.graphemes.now c.args.width c.fitting_count-count.result c.fitting_count-count.ensures _ lt
-    c.break_at_blank.result c.break_at_blank.ensures (sym c.is_whitespace.ensures ∙ c.if-is_whitespace.true)
+    c.break_at_blank.result c.break_at_blank.ensures (sym c.is_blank.ensures ∙ c.if-is_blank.true)
 
-pub returns-else-is_whitespace : goal.returns-else-is_whitespace
-returns-else-is_whitespace c =
+pub returns-else-is_blank : goal.returns-else-is_blank
+returns-else-is_blank c =
     let lt : c.fitting_count-count.result < length c.args.graphemes.now =
     (let le = count-inside c.args.graphemes.now c.args.width c.fitting_count-count.result c.fitting_count-count.ensures in
     let more = c.if-count-graphemes.false in omega arith) in
     break-word c.args.graphemes.now c.args.width c.fitting_count-count.result c.fitting_count-count.ensures _ lt
-    c.break_in_word.result c.break_in_word.ensures (sym c.is_whitespace.ensures ∙ c.if-is_whitespace.false)
+    c.break_in_word.result c.break_in_word.ensures (sym c.is_blank.ensures ∙ c.if-is_blank.false)

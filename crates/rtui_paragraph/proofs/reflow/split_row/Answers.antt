@@ -1,5 +1,5 @@
 use Rattle.std.proofs.Common.{rules, arith}
-use Rattle.rtui_paragraph.proofs.ReflowLemmas.{start-inside, data-count, split-value, split-is, next-inside, end-inside}
+use Rattle.rtui_paragraph.proofs.ReflowLemmas.{start-inside, split-value, split-is, next-inside, end-inside}
 use Rattle.rtui_paragraph.proofs.reflow.split_row.Goals as goal
 
 pub offset_bounds-graphemes-start : goal.offset_bounds-graphemes-start
@@ -37,7 +37,7 @@ returns-clause-keeps c = (split-is c.args.graphemes.now c.args.width c.args.trim
 pub returns-clause-some : goal.returns-clause-some
 returns-clause-some c = λ some.
     (split-is c.args.graphemes.now c.args.width c.args.trim c.trimmed_start-start.result c.row_ends-end.result c.requires
-    c.trimmed_start-start.ensures c.row_ends-end.ensures).some (let e = data-count c.args.graphemes.now in omega arith)
+    c.trimmed_start-start.ensures c.row_ends-end.ensures).some some
 
 pub returns-clause-inside : goal.returns-clause-inside
 returns-clause-inside c = next-inside c.args.graphemes.now c.args.width c.args.trim c.trimmed_start-start.result

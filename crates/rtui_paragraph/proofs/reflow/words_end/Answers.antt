@@ -3,8 +3,8 @@ use Rattle.rtui_paragraph.specs.Reflow.{is_of_word}
 use Rattle.rtui_paragraph.proofs.ReflowLemmas.{last-before}
 use Rattle.rtui_paragraph.proofs.reflow.words_end.Goals as goal
 
-pub returns-then-not-is_whitespace : goal.returns-then-not-is_whitespace
-returns-then-not-is_whitespace c =
+pub returns-then-not-is_blank : goal.returns-then-not-is_blank
+returns-then-not-is_blank c =
     let i = c.loop-end.invariant in
     last-before is_of_word c.args.graphemes.now c.loop-end.end _ c.loop-end-test.true i.inside i.none
-    (ap not (sym c.is_whitespace.ensures) ∙ ap not c.if-not-is_whitespace.true)
+    (ap not (sym c.is_blank.ensures) ∙ ap not c.if-not-is_blank.true)

@@ -1,7 +1,7 @@
 use Rattle.std.proofs.Common.{◌≡◌, ◌+◌, ◌-◌, ◌∙◌, ◌++◌, length, take, drop, refl, ap, arith}
 use Rattle.std.specs.Prelude.{filter}
 use Rattle.ratatui_core.specs.Text.{line_graphemes_left}
-use Rattle.rtui_paragraph.specs.Reflow.{data_of, fits_row}
+use Rattle.rtui_paragraph.specs.Reflow.{fits_row}
 use Rattle.rtui_paragraph.proofs.AheadLemmas.{left-passed, left-moved}
 use Rattle.rtui_paragraph.proofs.ahead.Ahead.pass.Goals as goal
 
@@ -19,7 +19,7 @@ returns-then-self-gt-PASSED-clause-left c =
     left-moved (a.passed + c.args.count) a.held.items c.truncate.new.self.items n c.requires.held long (c.truncate.ensures.items
     ∙ ap (take n) c.rotate_left.ensures.items) in
     record {
-      left = ap (λ gs. data_of gs ++ filter (fits_row a.width) (line_graphemes_left a.rest)) moved
+      left = ap (λ gs. gs ++ filter (fits_row a.width) (line_graphemes_left a.rest)) moved
           ∙ left-passed a.passed c.args.count a.held.items _ c.requires.held;
       width = refl;
       trim = refl;
