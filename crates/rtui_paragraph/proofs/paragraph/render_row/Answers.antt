@@ -1,8 +1,9 @@
-use Rattle.std.proofs.Common.{◌≡◌, ◌+◌, ◌≤◌, ◌∙◌, ap, subst, arith}
+use Rattle.std.proofs.Common.{◌≡◌, ◌+◌, ◌≤◌, ◌∙◌, ap, ap₂, subst, arith}
 use Rattle.ratatui_core.specs.Buffer.{IsReadyAt}
 use Rattle.ratatui_core.proofs.{BufferLemmas.within-same, WidgetLemmas.within-then, BufferLemmas.ready-row}
 use Rattle.rtui_boxes.proofs.{BoxLemmas.inside-within, PaintLemmas.part-has_row, PaintLemmas.part-right}
-use Rattle.rtui_paragraph.specs.{Reflow.columns_taken, Paragraphs.indent_of, Paragraphs.PaintsGraphemes}
+use Rattle.rtui_paragraph.specs.{Reflow.columns_taken, Reflow.grapheme_columns}
+use Rattle.rtui_paragraph.specs.Paragraphs.{grapheme_in, PaintsGrapheme, PaintsGraphemes}
 use Rattle.rtui_paragraph.proofs.RowsLemmas.{indent-fits, grapheme-turn, row-turn}
 use Rattle.rtui_paragraph.proofs.paragraph.render_row.Goals as goal
 
@@ -34,16 +35,20 @@ loop-grapheme-init c =
 pub loop-grapheme-preserved : goal.loop-grapheme-preserved
 loop-grapheme-preserved c =
     let i = c.loop-grapheme.invariant in
+    let columns = c.columns-columns.ensures ∙ ap grapheme_columns c.grapheme-item.is in
+    let shown = ap₂ grapheme_in c.style.ensures c.symbol.ensures ∙ c.grapheme-item.is in
     let place : c.args.part.x + c.loop-grapheme.used + c.columns-columns.result ≡ c.args.part.x +
     (c.loop-grapheme.used + c.columns-columns.result) = omega arith in
     record {
       fits = grapheme-turn c.args.row.now c.loop-grapheme.grapheme-index c.loop-grapheme.used c.columns-columns.result
-          c.args.part.width _ c.loop-grapheme-test.true c.columns-columns.ensures i.fits;
+          c.args.part.width c.grapheme-item.result c.loop-grapheme-test.true columns i.fits;
       within = within-then c.args.part c.args.buf.now c.loop-grapheme.buf c.put_grapheme.new.buf i.within
           c.put_grapheme.ensures.within;
       paints = row-turn c.args.row.now c.loop-grapheme.grapheme-index (c.args.part.y + c.args.k) c.args.part.x
-          c.loop-grapheme.used c.columns-columns.result _ _ c.args.buf.now c.loop-grapheme.buf c.put_grapheme.new.buf
-          c.loop-grapheme-test.true c.columns-columns.ensures i.paints c.in_ok-put_grapheme.ensures.ok;
+          c.loop-grapheme.used c.columns-columns.result _ c.grapheme-item.result c.args.buf.now c.loop-grapheme.buf
+          c.put_grapheme.new.buf c.loop-grapheme-test.true columns i.paints
+          (subst (λ g. PaintsGrapheme (c.args.part.x + c.loop-grapheme.used) (c.args.part.y + c.args.k) g c.loop-grapheme.buf
+          c.put_grapheme.new.buf) shown c.in_ok-put_grapheme.ensures.ok);
       ready = λ from. subst (λ x. IsReadyAt x (c.args.part.y + c.args.k) c.put_grapheme.new.buf) place
           (c.in_ok-put_grapheme.ensures.ready (i.ready from));
     }

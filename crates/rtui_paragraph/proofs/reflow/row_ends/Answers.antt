@@ -1,4 +1,5 @@
-use Rattle.std.proofs.Common.{rules, ◌≤◌, ◌<◌, length, arith, sym, ◌∙◌}
+use Rattle.std.proofs.Common.{rules, ◌≤◌, ◌<◌, length, arith, ap, sym, ◌∙◌}
+use Rattle.rtui_paragraph.specs.Reflow.{is_break}
 use Rattle.rtui_paragraph.proofs.ReflowLemmas.{count-inside, break-blank, break-word}
 use Rattle.rtui_paragraph.proofs.reflow.row_ends.Goals as goal
 
@@ -26,7 +27,8 @@ returns-then-is_blank c =
     (let le = count-inside c.args.graphemes.now c.args.width c.fitting_count-count.result c.fitting_count-count.ensures in
     let more = c.if-count-graphemes.false in omega arith) in
     break-blank c.args.graphemes.now c.args.width c.fitting_count-count.result c.fitting_count-count.ensures _ lt
-    c.break_at_blank.result c.break_at_blank.ensures (sym c.is_blank.ensures ∙ c.if-is_blank.true)
+    c.break_at_blank.result c.break_at_blank.ensures
+    (ap is_break (sym c.index-graphemes-count.is) ∙ (sym c.is_blank.ensures ∙ c.if-is_blank.true))
 
 pub returns-else-is_blank : goal.returns-else-is_blank
 returns-else-is_blank c =
@@ -34,4 +36,5 @@ returns-else-is_blank c =
     (let le = count-inside c.args.graphemes.now c.args.width c.fitting_count-count.result c.fitting_count-count.ensures in
     let more = c.if-count-graphemes.false in omega arith) in
     break-word c.args.graphemes.now c.args.width c.fitting_count-count.result c.fitting_count-count.ensures _ lt
-    c.break_in_word.result c.break_in_word.ensures (sym c.is_blank.ensures ∙ c.if-is_blank.false)
+    c.break_in_word.result c.break_in_word.ensures
+    (ap is_break (sym c.index-graphemes-count.is) ∙ (sym c.is_blank.ensures ∙ c.if-is_blank.false))

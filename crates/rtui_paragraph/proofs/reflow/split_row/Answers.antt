@@ -1,4 +1,4 @@
-use Rattle.std.proofs.Common.{rules, arith}
+use Rattle.std.proofs.Common.{rules}
 use Rattle.rtui_paragraph.proofs.ReflowLemmas.{start-inside, split-value, split-is, next-inside, end-inside}
 use Rattle.rtui_paragraph.proofs.reflow.split_row.Goals as goal
 

@@ -1,10 +1,11 @@
 use Rattle.std.proofs.Common.{◌∙◌, sym, ap, not}
-use Rattle.rtui_paragraph.specs.Reflow.{is_of_word}
+use Rattle.rtui_paragraph.specs.Reflow.{is_break, is_of_word}
 use Rattle.rtui_paragraph.proofs.ReflowLemmas.{last-before}
 use Rattle.rtui_paragraph.proofs.reflow.words_end.Goals as goal
 
 pub returns-then-not-is_blank : goal.returns-then-not-is_blank
 returns-then-not-is_blank c =
     let i = c.loop-end.invariant in
+    let is = ap is_break (sym c.index-graphemes-end.is) ∙ sym c.is_blank.ensures in
     last-before is_of_word c.args.graphemes.now c.loop-end.end _ c.loop-end-test.true i.inside i.none
-    (ap not (sym c.is_blank.ensures) ∙ ap not c.if-not-is_blank.true)
+    (ap not is ∙ ap not c.if-not-is_blank.true)
