@@ -86,7 +86,7 @@ module _ {B : Type 0} (screen : B → Screen) where
     kind = ap (λ (x : TerminalData B). x.viewport) rest;
     view = ap (λ (x : TerminalData B). x.viewport_area) rest;
     previous = ap (λ (x : TerminalData B). x.previous) rest;
-    size = subst (KeepsSizeAndHistory (screen s.backend)) (sym (here ∙ is)) (record { width = refl; height = refl; history = refl });
+    size = rw (here ∙ is) (record { width = refl; height = refl; history = refl });
     grid = λ a b. ap (λ (x : Screen). x.grid a b) (here ∙ is);
   }
 
@@ -148,7 +148,8 @@ module _ {B : Type 0} (screen : B → Screen) where
     | inl p ↦ ap screen_area p.1.screen_stays
     | inr p ↦
         let r = p.1 in
-        same_area (screen t.backend) (screen s.backend) (r.frame.size.width ∙ r.scrolls.width) (r.frame.size.height ∙ r.scrolls.height)
+        same_area (screen t.backend) (screen s.backend) (r.frame.size.width ∙ r.scrolls.width)
+        (r.frame.size.height ∙ r.scrolls.height)
   ]
 
   -- a draw from a state in which the screen may have taken another size

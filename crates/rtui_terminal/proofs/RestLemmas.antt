@@ -252,7 +252,7 @@ module _ {B : Type 0} (screen : B → Screen) where
         lies = rw (view, width, height) rest.lies;
         in_step = clears.in_step rest.in_step.on_screen rest.in_step.area;
         current = rw (view, ap (λ (x : TerminalData B). x.current) clears.rest) rest.current;
-        below = λ inline. rw view (emptied_below kind s.viewport_area false (screen s.backend) (screen t.backend) inline width height
+        below = λ inline. rw view (emptied_below kind s.viewport_area false _ (screen t.backend) inline width height
             (inline_left kind _ s.viewport_area inline rest.lies) (λ _. empties_or (emptied-clear kind s t rest clears)));
       }
 

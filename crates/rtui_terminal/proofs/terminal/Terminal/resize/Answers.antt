@@ -33,7 +33,7 @@ returns-clause-outcome g c =
       previous = previous;
       scrolled = found.placed.scrolled;
       scrolls = found.placed.scrolls;
-      frame = frame_more emptied kept;
+      frame = frame_more {r = found.placed.scrolled} emptied kept;
       empties = empties.empties;
       cut = empties.cut;
       cursor = cursor_back s.viewport (screen s.backend) (screen c.place_viewport.new.backend)
