@@ -1,8 +1,7 @@
 -- A resize after the backend was asked for its size, which leaves the screen as it is.
-use Rattle.std.proofs.Common.{◌≡◌, ◌⊎◌, Result, Ok, Err, MatchResult, refl, sym, ap, inl, inr, ◌∙◌}
+use Rattle.std.proofs.Common.{◌≡◌, Result, Ok, Err, MatchResult, refl, sym, ap, inl, inr, ◌∙◌}
 use Rattle.rtui_geometry.specs.declared.rect.Rect.{Rect}
 use Rattle.rtui_backend.specs.Screen.{Screen, screen_area}
-use Rattle.rtui_viewport.specs.Viewports.{IsFixed}
 use Rattle.rtui_terminal.specs.{TerminalData.TerminalData, InStep.IsSized, declared.terminal.error.TerminalError.TerminalError}
 use Rattle.rtui_terminal.specs.declared.terminal.error.TerminalError.TheVariants.{Area, Backend, Closure, Memory}
 use Rattle.rtui_terminal.specs.Resizing.{Autoresizes, AutoresizeErr, FailsResizing, ResizeErr}

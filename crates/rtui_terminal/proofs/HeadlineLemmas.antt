@@ -1,14 +1,14 @@
 -- Each call that does what its relation says is faithful, and so is a list of them.
-use Rattle.std.proofs.Common.{◌≡◌, ◌⊎◌, ℕ, Bool, true, false, List, [], ◌∷◌, ◌++◌, Option, refl, sym, ap, ◌∙◌, subst, inl, inr}
+use Rattle.std.proofs.Common.{◌≡◌, ◌⊎◌, ℕ, Bool, List, [], ◌∷◌, ◌++◌, refl, sym, ap, ◌∙◌, subst, inl, inr}
 use Rattle.std.proofs.Common.{append_assoc, append-nil}
-use Rattle.rtui_geometry.specs.{declared.position.Position.Position, declared.rect.Rect.Rect}
+use Rattle.rtui_geometry.specs.{declared.position.Position.Position}
 use Rattle.rtui_cell.specs.{Look.Look, Grid.Grid}
 use Rattle.rtui_diff.specs.Shows.{ShowsColumn}
 use Rattle.rtui_buffer.specs.{BufferData.BufferData, BufferData.IsEmptied, Shown.IsSettledBuffer, Shown.ShowsBuffer}
 use Rattle.rtui_backend.specs.Screen.{Screen, KeepsSizeAndHistory, IsOnScreen, screen_area}
 use Rattle.rtui_viewport.specs.{Viewports.IsFixed, Viewports.IsInline}
 use Rattle.rtui_insert.specs.Insertion.{AreRowsOfAll, AppendsRows}
-use Rattle.rtui_terminal.specs.{TerminalData.TerminalData, Cursor.Stays, Cursor.MovesCursor, Resizing.Resizes}
+use Rattle.rtui_terminal.specs.{TerminalData.TerminalData, Cursor.Stays, Resizing.Resizes}
 use Rattle.rtui_terminal.specs.{Resizing.Autoresizes}
 use Rattle.rtui_terminal.specs.InStep.{IsReady, IsInStep, IsSized, KeepsAroundViewport, rows_over}
 use Rattle.rtui_terminal.specs.{Writing.Applies, Drawing.DrawsFrame}
@@ -86,7 +86,7 @@ module _ {B : Type 0} (screen : B → Screen) where
     kind = ap (λ (x : TerminalData B). x.viewport) rest;
     view = ap (λ (x : TerminalData B). x.viewport_area) rest;
     previous = ap (λ (x : TerminalData B). x.previous) rest;
-    size = subst (KeepsSizeAndHistory (screen s.backend)) (sym (here ∙ is)) (record { width = refl; height = refl; history = refl });
+    size = rw (here ∙ is) (record { width = refl; height = refl; history = refl });
     grid = λ a b. ap (λ (x : Screen). x.grid a b) (here ∙ is);
   }
 
@@ -148,7 +148,8 @@ module _ {B : Type 0} (screen : B → Screen) where
     | inl p ↦ ap screen_area p.1.screen_stays
     | inr p ↦
         let r = p.1 in
-        same_area (screen t.backend) (screen s.backend) (r.frame.size.width ∙ r.scrolls.width) (r.frame.size.height ∙ r.scrolls.height)
+        same_area (screen t.backend) (screen s.backend) (r.frame.size.width ∙ r.scrolls.width)
+        (r.frame.size.height ∙ r.scrolls.height)
   ]
 
   -- a draw from a state in which the screen may have taken another size

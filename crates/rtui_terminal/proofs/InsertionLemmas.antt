@@ -47,16 +47,6 @@ AppendsRows-part s n old new all part = record {
 stays_put : (r : Rect) (s : BufferData) → Follows r r s s
 stays_put r s = record { area = record { moved = λ is. is; stays = λ no. refl }; rest = refl }
 
--- a buffer's cells, shown further down
-shows_moved : (s : BufferData) (y : ℕ) (old new : Screen) → ShowsBuffer s old.grid
-    → ((a b : ℕ) → a < s.area.width → b < s.area.height → new.grid (s.area.x + a) (y + b) ≡ old.grid (s.area.x + a)
-    (s.area.y + b))
-    → ShowsBuffer (record s { area = record s.area { y = y } }) new.grid
-shows_moved s y old new shown same = record {
-  at = λ a b a_in b_in. subst (ShowsColumn s.area.width s.cells a b)
-      (sym (same a b a_in b_in)) (shown.at a b a_in b_in);
-}
-
 -- a rectangle's parts are those of the same one
 pub parts_of : {r q : Rect} → r ≡ q → (r.x ≡ q.x) × (r.y ≡ q.y) × (r.width ≡ q.width) × (r.height ≡ q.height)
 parts_of is = rw is (refl, refl, refl, refl)
@@ -241,13 +231,13 @@ module _ {B : Type 0} (screen : B → Screen) (s : TerminalData B) (inserted : B
         moved_in_step : IsInStep screen moved
         moved_in_step =
             let e = left_older takes step in
-            let area = parts_of step.area in
-            let shown : ShowsBuffer (record s.previous { area = record s.previous.area { y = s.viewport_area.y + n } })
-            (screen b).grid = shows_moved s.previous (s.viewport_area.y + n) (screen s.backend) (screen b) step.shown (λ a r a_in
-            r_in. viewport_moved (s.previous.area.x + a) r (omega (arith, area.0, area.2, step.on_screen.right))
-            (omega (arith, area.3)) ∙ ap (λ k. (screen s.backend).grid (s.previous.area.x + a) (k + r)) (sym area.1)) in
-            let whole : ShowsBuffer (record s.previous { area = record s.viewport_area { y = s.viewport_area.y + n } })
-            (screen b).grid = rw step.area at shown in
+            let before = rw step.area at step.shown in
+            let shown : ShowsBuffer (record s.previous { area = record s.viewport_area { y = s.viewport_area.y + n } })
+            (screen b).grid = record {
+              at = λ x y x_in y_in. subst (ShowsColumn s.viewport_area.width s.previous.cells x y)
+                  (sym (viewport_moved (s.viewport_area.x + x) y (omega (arith, step.on_screen.right)) y_in))
+                  (before.at x y x_in y_in);
+            } in
             record {
               on_screen = record {
                 right = omega (arith, step.on_screen.right, all.width);
@@ -255,7 +245,7 @@ module _ {B : Type 0} (screen : B → Screen) (s : TerminalData B) (inserted : B
               };
               area = ap (λ (o : BufferData). o.area) e;
               settled = subst IsSettledBuffer (sym e) (rw step.area at step.settled);
-              shown = subst (λ o. ShowsBuffer o (screen b).grid) (sym e) whole;
+              shown = subst (λ o. ShowsBuffer o (screen b).grid) (sym e) shown;
             }
 
       pub inserted_moved : Inserts screen inserted s moved
@@ -283,10 +273,10 @@ module _ {B : Type 0} (screen : B → Screen) (s : TerminalData B) (inserted : B
             kept = viewport_kept;
             in_step = moved_in_step;
             few = λ takes step settled narrow.
-                let cells : nonempty_cells inserted 0 inserted.area.height ≡ nonempty_cells inserted 0 n + nonempty_cells inserted n
-                (inserted.area.height - n) =
-                ap (nonempty_cells inserted 0) (sym parts) ∙ nonempty_parts inserted 0 n (inserted.area.height - n)
-                ∙ ap (λ k. nonempty_cells inserted 0 n + nonempty_cells inserted k (inserted.area.height - n)) (omega arith) in
+                let rest = inserted.area.height - n in
+                let cells : nonempty_cells inserted 0 inserted.area.height ≡ nonempty_cells inserted 0 n
+                + nonempty_cells inserted n rest = ap (nonempty_cells inserted 0) (sym parts) ∙ nonempty_parts inserted 0 n rest
+                ∙ ap (λ k. nonempty_cells inserted 0 n + nonempty_cells inserted k rest) (omega arith) in
                 writes_then _ _ _ (screen s.backend) (screen mid) (screen b) (omega (arith, cells))
                 ((lowered takes step settled).few narrow) ((raised takes step settled).few narrow);
             most = λ takes step settled.

@@ -35,8 +35,8 @@ size_more p q = record { width = q.width ∙ p.width; height = q.height ∙ p.he
 pub size_drawn : {B : Type 0} (cursor : Option Position) (s : TerminalData B) {old new : Screen} → HasDrawn cursor s old new
     → KeepsSizeAndHistory old new
 size_drawn cursor s (between, writes, is) =
-    let drawn = writes.drawn in
-    rw is (size_more (record { width = drawn.width; height = drawn.height; history = drawn.history }) (placed_size cursor between))
+    let d = writes.drawn in
+    rw is (size_more (record { width = d.width; height = d.height; history = d.history }) (placed_size cursor between))
 
 -- the rows above an inline viewport with a row stay where it is cleared
 pub above_cleared : (v : Viewport) (r : Rect) {s t : Screen} → IsInPlace v r → ClearsArea v r s t → IsInline v → IsOnScreen r s

@@ -1,14 +1,14 @@
 -- A draw whose closure only renders over an empty buffer.
-use Rattle.std.proofs.Common.{◌≡◌, ℕ, zero, suc, ◌-◌, ◌++◌, ⊎_elim, ◌∷◌, length, take, refl, sym, ap, subst, ◌∙◌, arith, Result}
+use Rattle.std.proofs.Common.{◌≡◌, ℕ, zero, suc, ◌-◌, ◌++◌, ◌∷◌, length, take, refl, sym, ap, subst, ◌∙◌, arith, Result}
 use Rattle.std.proofs.Common.{Ok, Err, Option, inl, inr, alloc_error}
 use Rattle.std.specs.declared.alloc.AllocError.{AllocError}
 use Rattle.rtui_geometry.specs.{declared.position.Position.Position, declared.rect.Rect.Rect}
 use Rattle.rtui_cell.specs.Cell.{empty_cell}
 use Rattle.rtui_buffer.specs.BufferData.{BufferData, IsEmptied, empty_cells, area_size}
-use Rattle.rtui_backend.specs.Screen.{Screen, screen_area}
+use Rattle.rtui_backend.specs.Screen.{Screen}
 use Rattle.rtui_terminal.specs.{TerminalData.HasAreas, TerminalData.TerminalData, InStep.IsReady, InStep.IsSized}
 use Rattle.rtui_terminal.specs.{Faults.IsBackendFault}
-use Rattle.rtui_terminal.specs.{declared.terminal.error.TerminalError.TerminalError, Resizing.Autoresizes, Resizing.Resizes}
+use Rattle.rtui_terminal.specs.{declared.terminal.error.TerminalError.TerminalError, Resizing.Autoresizes}
 use Rattle.rtui_terminal.specs.{Resizing.IsResized, Cursor.Stays}
 use Rattle.rtui_terminal.specs.declared.terminal.error.TerminalError.TheVariants.{Backend, Memory, Area, Closure}
 use Rattle.rtui_terminal.specs.{Drawing.DrawOk, Drawing.DrawErr, Drawing.PaintedErr, Rendered.ShowsRendered}

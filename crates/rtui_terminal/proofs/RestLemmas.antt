@@ -1,7 +1,7 @@
 -- A terminal at rest: each call of an application keeps it so.
 use Rattle.std.proofs.Common.{◌≡◌, ◌⊎◌, ℕ, ◌+◌, ◌-◌, ◌<◌, ◌≤◌, min, nat_lt, Bool, true, false, if◌then◌else◌, Option, refl, sym}
 use Rattle.std.proofs.Common.{ap, subst, ◌∙◌, inl, inr, arith, nat_le, ◌||◌}
-use Rattle.std.proofs.lemmas.{Bool.cases_lt, Bool.Decides.nat_tests}
+use Rattle.std.proofs.lemmas.{Bool.Decides.nat_tests}
 use Rattle.rtui_geometry.specs.{declared.position.Position.Position, declared.rect.Rect.Rect, declared.size.Size.Size}
 use Rattle.rtui_geometry.specs.{Rect.EdgesFit}
 use Rattle.rtui_buffer.specs.{BufferData.BufferData, BufferData.IsEmptied, Shown.IsSettledBuffer}
@@ -10,7 +10,7 @@ use Rattle.rtui_viewport.specs.declared.viewport.Viewport.{Viewport}
 use Rattle.rtui_viewport.specs.declared.viewport.Viewport.TheVariants.{Fullscreen, Inline, Fixed}
 use Rattle.rtui_viewport.specs.{Viewports.IsFixed, Viewports.IsInline, Areas.KeepsOutside, Areas.IsBlankBelow, Areas.Empties}
 use Rattle.rtui_viewport.specs.{Sizing.first_area}
-use Rattle.rtui_viewport.specs.{Placing.area_in, Placing.raised, Placing.inline_area, Clearing.HasPlace, Clearing.ClearsArea}
+use Rattle.rtui_viewport.specs.{Placing.area_in, Placing.raised, Placing.inline_area, Clearing.HasPlace}
 use Rattle.rtui_viewport.specs.{Clearing.is_emptied}
 use Rattle.rtui_viewport.specs.Lying.{FitsSize, IsAcross, MayLie}
 use Rattle.rtui_viewport.proofs.ClearLemmas.{keeps_outside}
@@ -252,7 +252,7 @@ module _ {B : Type 0} (screen : B → Screen) where
         lies = rw (view, width, height) rest.lies;
         in_step = clears.in_step rest.in_step.on_screen rest.in_step.area;
         current = rw (view, ap (λ (x : TerminalData B). x.current) clears.rest) rest.current;
-        below = λ inline. rw view (emptied_below kind s.viewport_area false (screen s.backend) (screen t.backend) inline width height
+        below = λ inline. rw view (emptied_below kind s.viewport_area false _ (screen t.backend) inline width height
             (inline_left kind _ s.viewport_area inline rest.lies) (λ _. empties_or (emptied-clear kind s t rest clears)));
       }
 

@@ -9,7 +9,8 @@ use Rattle.rtui_buffer.specs.BufferData.{BufferData, IsEmptied, IsSameBuffer}
 use Rattle.rtui_buffer.proofs.EmptyLemmas.{IsSettledBuffer-empty, ShowsBuffer-empty}
 use Rattle.rtui_backend.specs.Screen.{Screen, Scrolls, IsOnGrid, IsOnScreen, screen_area, cursor_of, with_cursor}
 use Rattle.rtui_viewport.specs.{Areas.KeepsAllButLooks, Areas.Empties, Areas.is_within, Areas.IsBlankOver, Sizing.first_area}
-use Rattle.rtui_viewport.specs.Placing.{raised, area_in, inline_area, cursor_found, cursor_restored, EmptiesAllIf, Places, rows_scrolled}
+use Rattle.rtui_viewport.specs.Placing.{raised, area_in, inline_area, cursor_found, cursor_restored, EmptiesAllIf, Places}
+use Rattle.rtui_viewport.specs.Placing.{rows_scrolled}
 use Rattle.rtui_viewport.specs.{Clearing.HasPlace, Clearing.ClearsArea, Clearing.is_emptied, Viewports.IsFixed}
 use Rattle.rtui_viewport.specs.{Viewports.IsInline, Viewports.rows_in}
 use Rattle.rtui_viewport.specs.declared.viewport.Viewport.{Viewport}

@@ -1,5 +1,5 @@
 -- One row that is drawn over, and texts inserted above it.
-use Rattle.std.proofs.Common.{◌≡◌, ℕ, zero, suc, ◌*◌, ◌≤◌, ◌<◌, List, [], ◌∷◌, ◌++◌, length, append-nil, Option, None, Some}
+use Rattle.std.proofs.Common.{◌≡◌, ℕ, ◌*◌, ◌≤◌, ◌<◌, List, [], ◌∷◌, ◌++◌, length, append-nil, Option, None, Some}
 use Rattle.std.proofs.Common.{Result, Ok, Err, OnOk, OnErr, IfErr, refl, sym, ap, ap₂, subst, ◌∙◌, inl, inr, arith, alloc_error}
 use Rattle.std.proofs.Common.{slice_index_or, mul-le-mul_left}
 use Rattle.std.specs.declared.alloc.AllocError.{AllocError}

@@ -2,7 +2,7 @@
 //! alone; above all the headline of `specs/Headline`. Calling one of these functions costs nothing
 //! and tells the caller's proof its law.
 
-ghost use Rattle.std.specs.Prelude.{ℕ, ◌<◌, Option};
+ghost use Rattle.std.specs.Prelude.{◌<◌, Option};
 ghost use Rattle.rtui_geometry.specs.declared.position.Position.{Position};
 ghost use Rattle.rtui_buffer.specs.Shown.{IsSettledBuffer};
 ghost use Rattle.rtui_buffer.specs.BufferData.{BufferData, IsEmptied};

@@ -1,10 +1,10 @@
 ghost use Rattle.std.specs.Prelude.{◌≡◌, OnOk, IfOk};
-ghost use Rattle.std.specs.Borrow.{sem, Lends};
+ghost use Rattle.std.specs.Borrow.{sem};
 ghost use Rattle.rtui_backend.specs.Screen.{size_of};
 ghost use Rattle.rtui_terminal.specs.InStep.{IsInStep};
 ghost use Rattle.rtui_terminal.specs.Faults.{Faults, FailsOnlyByBackend};
 ghost use Rattle.rtui_terminal.specs.Cursor.{Stays};
-ghost use Rattle.rtui_terminal.specs.contracts.terminal.Terminal.{the_row};
+ghost use Rattle.rtui_terminal.specs.Borrows.{LendsBackend};
 
 use crate::terminal::Terminal;
 use crate::terminal::error::TerminalError;
@@ -21,9 +21,8 @@ impl<B: Backend> Terminal<B> {
 
     /// The backend, to be written. The terminal doesn't know what is changed on its screen.
     pub fn backend_mut(&mut self) -> &mut B
-        ensures* writes_back { let row = the_row B.row B.Error.row B.Backend
-            B.Error.Debug B.Error.Display in
-            sem 𝓛 (Lends row B.row self.entry result (λ b. record self.entry.now { backend = b })) }
+        ensures* writes_back { sem 𝓛 (LendsBackend B.row B.Error.row B.Backend B.Error.Debug
+            B.Error.Display self.entry result) }
         ensures value { result.now ≡ self.old.backend }
     {
         &mut self.backend

@@ -1,13 +1,12 @@
 ghost use Rattle.std.specs.Prelude.{◌≡◌, MatchResult, OnOk};
-ghost use Rattle.std.specs.Borrow.{sem, Lends, follows};
+ghost use Rattle.std.specs.Borrow.{sem};
 ghost use Rattle.rtui_geometry.specs.Rect.{EdgesFit};
 ghost use Rattle.rtui_buffer.specs.BufferData.{IsEmptied};
-ghost use Rattle.rtui_buffer.specs.contracts.buffer.Buffer.{the_row as buffer_row};
 ghost use Rattle.rtui_backend.specs.Failures.{Counts};
 ghost use Rattle.rtui_terminal.specs.Faults.{Faults};
 ghost use Rattle.rtui_terminal.specs.Writing.{WritesDifferences, Flushes, FlushErr};
 ghost use Rattle.rtui_terminal.specs.Frames.{IsNewFrame};
-ghost use Rattle.rtui_terminal.specs.contracts.terminal.Terminal.{the_row};
+ghost use Rattle.rtui_terminal.specs.Borrows.{LendsCurrent};
 
 use crate::terminal::Terminal;
 use crate::terminal::error::TerminalError;
@@ -36,10 +35,8 @@ impl<B: Backend> Terminal<B> {
     /// A new frame over the current buffer, without a cursor. To paint outside a draw in a way that
     /// a proof sees, use `current_buffer_mut`.
     pub fn get_frame(&mut self) -> Frame<'_>
-        ensures* writes_back { let row = the_row B.row B.Error.row B.Backend
-            B.Error.Debug B.Error.Display in
-            sem 𝓛 (follows row buffer_row self.entry.ghost_name result.buffer.ghost_name (λ sheet.
-            record self.entry.now { current = sheet })) }
+        ensures* writes_back { sem 𝓛 (LendsCurrent B.row B.Error.row B.Backend B.Error.Debug
+            B.Error.Display self.entry result.buffer.ghost_name) }
         ensures value { IsNewFrame self.old.viewport_area self.old.frame_count self.old.current
             result }
     {
@@ -55,10 +52,8 @@ impl<B: Backend> Terminal<B> {
 
     /// The buffer to paint on.
     pub fn current_buffer_mut(&mut self) -> &mut Buffer
-        ensures* writes_back { let row = the_row B.row B.Error.row B.Backend
-            B.Error.Debug B.Error.Display in
-            sem 𝓛 (Lends row buffer_row self.entry result (λ sheet.
-            record self.entry.now { current = sheet })) }
+        ensures* writes_back { sem 𝓛 (LendsCurrent B.row B.Error.row B.Backend B.Error.Debug
+            B.Error.Display self.entry result.ghost_name) }
         ensures value { result.now ≡ self.old.current }
     {
         &mut self.frames.current

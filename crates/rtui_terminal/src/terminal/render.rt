@@ -1,12 +1,12 @@
-ghost use Rattle.std.specs.Prelude.{◌≡◌, ◌+◌, ◌%◌, ◌^◌, true, None, Ok, Err, IfOk, OnOk, IfErr, MatchResult};
-ghost use Rattle.std.specs.Borrow.{sem, RestsIfErr};
+ghost use Rattle.std.specs.Prelude.{◌≡◌, true, None, Ok, Err, IfOk, OnOk, MatchResult};
+ghost use Rattle.std.specs.Borrow.{sem};
 ghost use Rattle.rtui_buffer.specs.Shown.{IsSettledBuffer};
 ghost use Rattle.rtui_terminal.specs.InStep.{IsInStep, IsReady};
 ghost use Rattle.rtui_terminal.specs.Frames.{PaintsFrame, AcceptsNewFrame, AcceptsFrames, PaintsCurrent};
 ghost use Rattle.rtui_terminal.specs.Faults.{Faults};
 ghost use Rattle.rtui_terminal.specs.Writing.{Writes, WriteErr, Applies, ApplyErr};
 ghost use Rattle.rtui_terminal.specs.Drawing.{CompletesFrame, DrawOk, FrameOk, FrameErr, DrawErr, TryDrawErr};
-ghost use Rattle.rtui_terminal.specs.contracts.terminal.Terminal.{the_row};
+ghost use Rattle.rtui_terminal.specs.Borrows.{RestsIfRefused};
 
 use crate::terminal::Terminal;
 use crate::terminal::error::TerminalError;
@@ -170,11 +170,9 @@ impl<B: Backend> Terminal<B> {
     where
         F: FnOnce(&mut Frame<'_>) -> Result<(), AllocError>,
         requires { AcceptsFrames F.FnOnce render_callback self.old }
-        ensures* refused { let row = the_row B.row B.Error.row B.Backend B.Error.Debug
-            B.Error.Display in
-            sem 𝓛 (RestsIfErr row self.entry (λ frame. frame.terminal.ghost_name) result (λ t.
-            IfErr result (DrawErr B.screen (PaintsCurrent F.FnOnce render_callback) self.old t)
-            × Faults result (B.failures self.old.backend) (B.failures t.backend))) }
+        ensures* refused { let ran = PaintsCurrent F.FnOnce render_callback in
+            sem 𝓛 (RestsIfRefused B.row B.Error.row B.Backend B.Error.Debug B.Error.Display
+            self.entry (λ frame. frame.terminal) result (DrawErr B.screen ran self.old)) }
         ensures same_terminal { IfOk result (λ frame.
             frame.terminal.ghost_name ≡ self.entry.ghost_name) }
         ensures drawn { IfOk result (λ frame.
@@ -225,11 +223,9 @@ impl<B: Backend> Terminal<B> {
     where
         F: FnOnce(&mut Frame<'_>) -> Result<(), B::Error>,
         requires { AcceptsFrames F.FnOnce render_callback self.old }
-        ensures* refused { let row = the_row B.row B.Error.row B.Backend B.Error.Debug
-            B.Error.Display in
-            sem 𝓛 (RestsIfErr row self.entry (λ frame. frame.terminal.ghost_name) result (λ t.
-            IfErr result (TryDrawErr B.screen (PaintsCurrent F.FnOnce render_callback) self.old t)
-            × Faults result (B.failures self.old.backend) (B.failures t.backend))) }
+        ensures* refused { let ran = PaintsCurrent F.FnOnce render_callback in
+            sem 𝓛 (RestsIfRefused B.row B.Error.row B.Backend B.Error.Debug B.Error.Display
+            self.entry (λ frame. frame.terminal) result (TryDrawErr B.screen ran self.old)) }
         ensures same_terminal { IfOk result (λ frame.
             frame.terminal.ghost_name ≡ self.entry.ghost_name) }
         ensures drawn { IfOk result (λ frame.
@@ -260,11 +256,9 @@ impl<B: Backend> Terminal<B> {
     ///   and only the last flush failed, the buffers are swapped already, and the frame isn't
     ///   counted.
     pub fn apply_buffer(&mut self) -> Result<CompletedFrame<'_, B>, TerminalError<B::Error>>
-        ensures* refused { let row = the_row B.row B.Error.row B.Backend B.Error.Debug
-            B.Error.Display in
-            sem 𝓛 (RestsIfErr row self.entry (λ frame. frame.terminal.ghost_name) result (λ t.
-            IfErr result (ApplyErr B.screen None self.old t)
-            × Faults result (B.failures self.old.backend) (B.failures t.backend))) }
+        ensures* refused { sem 𝓛 (RestsIfRefused B.row B.Error.row B.Backend B.Error.Debug
+            B.Error.Display self.entry (λ frame. frame.terminal) result
+            (ApplyErr B.screen None self.old)) }
         ensures same_terminal { IfOk result (λ frame.
             frame.terminal.ghost_name ≡ self.entry.ghost_name) }
         ensures applied { IfOk result (λ frame. Applies B.screen None self.old frame.terminal.now) }
@@ -289,11 +283,9 @@ impl<B: Backend> Terminal<B> {
         &mut self,
         cursor_position: Option<Position>,
     ) -> Result<CompletedFrame<'_, B>, TerminalError<B::Error>>
-        ensures* refused { let row = the_row B.row B.Error.row B.Backend B.Error.Debug
-            B.Error.Display in
-            sem 𝓛 (RestsIfErr row self.entry (λ frame. frame.terminal.ghost_name) result (λ t.
-            IfErr result (ApplyErr B.screen cursor_position self.old t)
-            × Faults result (B.failures self.old.backend) (B.failures t.backend))) }
+        ensures* refused { sem 𝓛 (RestsIfRefused B.row B.Error.row B.Backend B.Error.Debug
+            B.Error.Display self.entry (λ frame. frame.terminal) result
+            (ApplyErr B.screen cursor_position self.old)) }
         ensures same_terminal { IfOk result (λ frame.
             frame.terminal.ghost_name ≡ self.entry.ghost_name) }
         ensures applied { IfOk result (λ frame.

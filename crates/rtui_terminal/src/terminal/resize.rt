@@ -1,4 +1,4 @@
-ghost use Rattle.std.specs.Prelude.{◌≡◌, OnOk, OnErr, MatchResult};
+ghost use Rattle.std.specs.Prelude.{OnOk, OnErr, MatchResult};
 ghost use Rattle.rtui_geometry.specs.Rect.{EdgesFit};
 ghost use Rattle.rtui_terminal.specs.Faults.{Faults, FailsOnlyByBackend};
 ghost use Rattle.rtui_terminal.specs.Resizing.{Resizes, ResizeErr, Autoresizes, AutoresizeErr};

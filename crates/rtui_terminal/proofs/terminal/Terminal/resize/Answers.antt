@@ -20,7 +20,8 @@ returns-clause-outcome g c =
     let found = rw (places_it, c.saturating_sub-offset.ensures) at c.place_viewport.ensures in
     let cleared = rw clears_it at c.clear_area.ensures in
     let restored = rw restores at c.restore_cursor.ensures.restored in
-    let emptied = emptied_frame _ found.placed.empties in
+    let middle = screen c.place_viewport.new.backend in
+    let emptied = emptied_frame _ {s = found.placed.scrolled} {m = middle} found.placed.empties in
     let kept = frame_restored cursor restored cleared.frame in
     let clears = clears_restored s.viewport next cursor restored cleared.cleared in
     let empties = emptied_placed s.viewport next found.placed clears
@@ -33,19 +34,19 @@ returns-clause-outcome g c =
       previous = previous;
       scrolled = found.placed.scrolled;
       scrolls = found.placed.scrolls;
-      frame = frame_more emptied kept;
+      frame = frame_more {r = found.placed.scrolled} emptied kept;
       empties = empties.empties;
       cut = empties.cut;
-      cursor = cursor_back s.viewport (screen s.backend) (screen c.place_viewport.new.backend)
+      cursor = cursor_back s.viewport (screen s.backend) middle
           (screen c.clear_area.new.backend) _ _ found.cursor found.on_grid
           (cleared.frame.size.width ∙ emptied.size.width ∙ found.placed.scrolls.width)
           (cleared.frame.size.height ∙ emptied.size.height ∙ found.placed.scrolls.height)
           found.placed.cursor cleared.cursor restored;
-      written = written_restored s.viewport next cursor found.placed.scrolled (screen c.place_viewport.new.backend) _ _
+      written = written_restored s.viewport next cursor found.placed.scrolled middle _ _
           found.placed.written emptied.size.width restored cleared.written;
       on_screen = λ known. on_same _ _ _ kept.size.width kept.size.height (found.on_screen known);
       in_step = λ on.
-          let back = on_same next _ (screen c.place_viewport.new.backend) (sym kept.size.width) (sym kept.size.height) on in
+          let back = on_same next _ middle (sym kept.size.width) (sym kept.size.height) on in
           blank_in_step screen _ found.fits on
           (blank_over _ _ back (clears (has_place _ _ _ (placed_in_place s.viewport _ _ _ _ next found.area) back))) previous;
     })
