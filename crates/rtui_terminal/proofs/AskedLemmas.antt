@@ -1,5 +1,5 @@
 -- A resize after the backend was asked for its size, which leaves the screen as it is.
-use Rattle.std.proofs.Common.{◌≡◌, Result, Ok, Err, MatchResult, refl, sym, ap, inl, inr, ◌∙◌}
+use Rattle.std.proofs.Common.{rules, ◌≡◌, Result, Ok, Err, MatchResult, refl, sym, ap, inl, inr, ◌∙◌}
 use Rattle.rtui_geometry.specs.declared.rect.Rect.{Rect}
 use Rattle.rtui_backend.specs.Screen.{Screen, screen_area}
 use Rattle.rtui_terminal.specs.{TerminalData.TerminalData, InStep.IsSized, declared.terminal.error.TerminalError.TerminalError}
@@ -10,37 +10,11 @@ use Rattle.rtui_terminal.specs.Resizing.{Resizes, ResizesBuffers}
 module _ {B : Type 0} (screen : B → Screen) (s : TerminalData B) (asked : B) (same : screen asked ≡ screen s.backend) where
   resizes-asked : (area : Rect) (t : TerminalData B) → Resizes screen area (record s { backend = asked }) t
       → Resizes screen area s t
-  resizes-asked area t is = record {
-    rest = is.rest;
-    viewport_area = rw same at is.viewport_area;
-    current = is.current;
-    previous = is.previous;
-    scrolled = is.scrolled;
-    scrolls = rw same at is.scrolls;
-    frame = is.frame;
-    empties = is.empties;
-    cut = is.cut;
-    cursor = rw same at is.cursor;
-    written = is.written;
-    on_screen = rw same at is.on_screen;
-    in_step = is.in_step;
-  }
+  resizes-asked area t is = search rules
 
   buffers-asked : (area : Rect) (t : TerminalData B) → ResizesBuffers screen area (record s { backend = asked }) t
       → ResizesBuffers screen area s t
-  buffers-asked area t is = record {
-    current = is.current;
-    previous = elim (is.previous) [
-      | inl resized ↦ inl resized
-      | inr empty ↦ inr (record {
-        previous = empty.previous;
-        scrolled = empty.scrolled;
-        scrolls = rw same at empty.scrolls;
-        emptied = empty.emptied;
-        empties = empty.empties;
-      })
-    ];
-  }
+  buffers-asked area t is = search rules
 
   fails-asked : (area : Rect) (t : TerminalData B) → FailsResizing screen area (record s { backend = asked }) t
       → FailsResizing screen area s t
