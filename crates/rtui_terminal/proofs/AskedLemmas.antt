@@ -18,14 +18,7 @@ module _ {B : Type 0} (screen : B → Screen) (s : TerminalData B) (asked : B) (
 
   fails-asked : (area : Rect) (t : TerminalData B) → FailsResizing screen area (record s { backend = asked }) t
       → FailsResizing screen area s t
-  fails-asked area t is = record {
-    rest = is.rest;
-    left = elim (is.left) [
-      | inl kept ↦ inl (record { viewport_area = kept.viewport_area; current = kept.current; previous = kept.previous })
-      | inr moved ↦ inr (buffers-asked area t moved.0, rw same at moved.1)
-    ];
-    areas = λ has. is.areas (record { current = has.current; previous = has.previous });
-  }
+  fails-asked area t is = search rules
 
   -- an autoresize by the answer of its resize
   pub autoresized-by : {T E : Type 0} (area : Rect) (t : TerminalData B) (result : Result T (TerminalError E))
@@ -42,14 +35,6 @@ module _ {B : Type 0} (screen : B → Screen) (s : TerminalData B) (asked : B) (
         in_step = λ _. resizes.in_step (resizes.on_screen refl);
       }
   autoresized-by area t (Err (Backend error)) unsized is by = ((λ fixed. unsized (inl fixed)), rw is at (fails-asked area t by))
-  autoresized-by area t (Err Memory) unsized is by =
-      let left : t.backend ≡ asked = ap (λ (x : TerminalData B). x.backend) by.1 in (
-        unsized,
-        (λ room. by.0 (rw is (record { current = room.current; previous = room.previous }))),
-        by.1 ∙ ap (λ b. record s { backend = b; current = t.current; previous = t.previous }) (sym left),
-        ap screen left ∙ same,
-        by.2,
-        by.3,
-      )
+  autoresized-by area t (Err Memory) unsized is by = search rules
   autoresized-by area t (Err Area) unsized is by = absurd by
   autoresized-by area t (Err (Closure error)) unsized is by = absurd by

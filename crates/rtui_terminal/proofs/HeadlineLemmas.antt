@@ -1,5 +1,5 @@
 -- Each call that does what its relation says is faithful, and so is a list of them.
-use Rattle.std.proofs.Common.{◌≡◌, ◌⊎◌, ℕ, Bool, List, [], ◌∷◌, ◌++◌, refl, sym, ap, ◌∙◌, subst, inl, inr}
+use Rattle.std.proofs.Common.{rules, ◌≡◌, ◌⊎◌, ℕ, Bool, List, [], ◌∷◌, ◌++◌, refl, sym, ap, ◌∙◌, subst, inl, inr}
 use Rattle.std.proofs.Common.{append_assoc, append-nil}
 use Rattle.rtui_geometry.specs.{declared.position.Position.Position}
 use Rattle.rtui_cell.specs.{Look.Look, Grid.Grid}
@@ -50,37 +50,16 @@ shows_same sheet g h same shown = record {
 
 module _ {B : Type 0} (screen : B → Screen) where
   kept_step : (s t : TerminalData B) → Keeps screen s t → IsInStep screen s → IsInStep screen t
-  kept_step s t k step = record {
-    on_screen = subst (λ r. IsOnScreen r (screen t.backend)) (sym k.view) (on_same s.viewport_area (screen s.backend)
-        (screen t.backend) k.size.width k.size.height step.on_screen);
-    area = ap (λ (x : BufferData). x.area) k.previous ∙ step.area ∙ sym k.view;
-    settled = subst IsSettledBuffer (sym k.previous) step.settled;
-    shown = subst (λ sheet. ShowsBuffer sheet (screen t.backend).grid) (sym k.previous)
-        (shows_same s.previous (screen s.backend).grid (screen t.backend).grid k.grid step.shown);
-  }
+  kept_step s t k step = search rules
 
   keeps_more : (s t u : TerminalData B) → Keeps screen s t → Keeps screen t u → Keeps screen s u
-  keeps_more s t u p q = record {
-    kind = q.kind ∙ p.kind;
-    view = q.view ∙ p.view;
-    previous = q.previous ∙ p.previous;
-    size = size_more p.size q.size;
-    grid = λ a b. q.grid a b ∙ p.grid a b;
-  }
+  keeps_more s t u p q = search rules
 
   pub stays_step : (s t : TerminalData B) → Stays screen s t → IsInStep screen s → IsInStep screen t
   stays_step s t stays = kept_step s t (stays_keeps screen s t stays)
 
   keeps_current : (s t : TerminalData B) → t ≡ record s { current = t.current } → Keeps screen s t
-  keeps_current s t e =
-      let same : Keeps screen s (record s { current = t.current }) = record {
-        kind = refl;
-        view = refl;
-        previous = refl;
-        size = record { width = refl; height = refl; history = refl };
-        grid = λ a b. refl;
-      } in
-      subst (Keeps screen s) (sym e) same
+  keeps_current s t e = search rules
 
   -- a call that inserts nothing and leaves the screen as it is
   quiet : (call : Call) (s t : TerminalData B) → inserted_by call ≡ [] → (t.previous ≡ s.previous → Leaves screen call s t)

@@ -1,5 +1,5 @@
 -- What calls keep of the rows above a viewport and of all columns outside it.
-use Rattle.std.proofs.Common.{◌≡◌, ℕ, ◌+◌, ◌<◌, Bool, Option, Some, None, refl, sym, ap, ◌∙◌, subst, inl, inr, arith}
+use Rattle.std.proofs.Common.{rules, ◌≡◌, ℕ, ◌+◌, ◌<◌, Bool, Option, Some, None, refl, sym, ap, ◌∙◌, subst, inl, inr, arith}
 use Rattle.rtui_geometry.specs.{declared.position.Position.Position, declared.rect.Rect.Rect}
 use Rattle.rtui_buffer.specs.{BufferData.BufferData, Shown.IsSettledBuffer}
 use Rattle.rtui_backend.specs.Screen.{Screen, KeepsSizeAndHistory, IsOnScreen, IsWithin, rows_above, screen_area, size_of}
@@ -95,13 +95,7 @@ module _ {B : Type 0} (screen : B → Screen) where
   pub keeps_cursor : (hidden : Bool) (known : Position) (s t : TerminalData B) {new : Screen}
       → t ≡ record s { backend = t.backend; last_known_cursor_pos = known; hidden_cursor = hidden } → screen t.backend ≡ new
       → new ≡ record (screen s.backend) { cursor_x = new.cursor_x; cursor_y = new.cursor_y; visible = new.visible } → Keeps s t
-  keeps_cursor hidden known s t rest here is = record {
-    kind = ap (λ (x : TerminalData B). x.viewport) rest;
-    view = ap (λ (x : TerminalData B). x.viewport_area) rest;
-    previous = ap (λ (x : TerminalData B). x.previous) rest;
-    size = rw (here ∙ is) (record { width = refl; height = refl; history = refl });
-    grid = λ a b. ap (λ (x : Screen). x.grid a b) (here ∙ is);
-  }
+  keeps_cursor hidden known s t rest here is = search rules
 
   pub stays_keeps : (s t : TerminalData B) → Stays screen s t → Keeps s t
   stays_keeps s t stays = keeps_cursor s.hidden_cursor s.last_known_cursor_pos s t stays.rest stays.screen_stays refl
