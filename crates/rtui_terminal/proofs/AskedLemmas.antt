@@ -1,5 +1,5 @@
 -- A resize after the backend was asked for its size, which leaves the screen as it is.
-use Rattle.std.proofs.Common.{◌≡◌, Result, Ok, Err, MatchResult, refl, sym, ap, inl, inr, ◌∙◌}
+use Rattle.std.proofs.Common.{rules, ◌≡◌, Result, Ok, Err, MatchResult, refl, sym, ap, inl, inr, ◌∙◌}
 use Rattle.rtui_geometry.specs.declared.rect.Rect.{Rect}
 use Rattle.rtui_backend.specs.Screen.{Screen, screen_area}
 use Rattle.rtui_terminal.specs.{TerminalData.TerminalData, InStep.IsSized, declared.terminal.error.TerminalError.TerminalError}
@@ -10,48 +10,15 @@ use Rattle.rtui_terminal.specs.Resizing.{Resizes, ResizesBuffers}
 module _ {B : Type 0} (screen : B → Screen) (s : TerminalData B) (asked : B) (same : screen asked ≡ screen s.backend) where
   resizes-asked : (area : Rect) (t : TerminalData B) → Resizes screen area (record s { backend = asked }) t
       → Resizes screen area s t
-  resizes-asked area t is = record {
-    rest = is.rest;
-    viewport_area = rw same at is.viewport_area;
-    current = is.current;
-    previous = is.previous;
-    scrolled = is.scrolled;
-    scrolls = rw same at is.scrolls;
-    frame = is.frame;
-    empties = is.empties;
-    cut = is.cut;
-    cursor = rw same at is.cursor;
-    written = is.written;
-    on_screen = rw same at is.on_screen;
-    in_step = is.in_step;
-  }
+  resizes-asked area t is = search rules
 
   buffers-asked : (area : Rect) (t : TerminalData B) → ResizesBuffers screen area (record s { backend = asked }) t
       → ResizesBuffers screen area s t
-  buffers-asked area t is = record {
-    current = is.current;
-    previous = elim (is.previous) [
-      | inl resized ↦ inl resized
-      | inr empty ↦ inr (record {
-        previous = empty.previous;
-        scrolled = empty.scrolled;
-        scrolls = rw same at empty.scrolls;
-        emptied = empty.emptied;
-        empties = empty.empties;
-      })
-    ];
-  }
+  buffers-asked area t is = search rules
 
   fails-asked : (area : Rect) (t : TerminalData B) → FailsResizing screen area (record s { backend = asked }) t
       → FailsResizing screen area s t
-  fails-asked area t is = record {
-    rest = is.rest;
-    left = elim (is.left) [
-      | inl kept ↦ inl (record { viewport_area = kept.viewport_area; current = kept.current; previous = kept.previous })
-      | inr moved ↦ inr (buffers-asked area t moved.0, rw same at moved.1)
-    ];
-    areas = λ has. is.areas (record { current = has.current; previous = has.previous });
-  }
+  fails-asked area t is = search rules
 
   -- an autoresize by the answer of its resize
   pub autoresized-by : {T E : Type 0} (area : Rect) (t : TerminalData B) (result : Result T (TerminalError E))
@@ -68,14 +35,6 @@ module _ {B : Type 0} (screen : B → Screen) (s : TerminalData B) (asked : B) (
         in_step = λ _. resizes.in_step (resizes.on_screen refl);
       }
   autoresized-by area t (Err (Backend error)) unsized is by = ((λ fixed. unsized (inl fixed)), rw is at (fails-asked area t by))
-  autoresized-by area t (Err Memory) unsized is by =
-      let left : t.backend ≡ asked = ap (λ (x : TerminalData B). x.backend) by.1 in (
-        unsized,
-        (λ room. by.0 (rw is (record { current = room.current; previous = room.previous }))),
-        by.1 ∙ ap (λ b. record s { backend = b; current = t.current; previous = t.previous }) (sym left),
-        ap screen left ∙ same,
-        by.2,
-        by.3,
-      )
+  autoresized-by area t (Err Memory) unsized is by = search rules
   autoresized-by area t (Err Area) unsized is by = absurd by
   autoresized-by area t (Err (Closure error)) unsized is by = absurd by

@@ -1,5 +1,5 @@
 -- Each call that does what its relation says is faithful, and so is a list of them.
-use Rattle.std.proofs.Common.{◌≡◌, ◌⊎◌, ℕ, Bool, List, [], ◌∷◌, ◌++◌, refl, sym, ap, ◌∙◌, subst, inl, inr}
+use Rattle.std.proofs.Common.{rules, ◌≡◌, ◌⊎◌, ℕ, Bool, List, [], ◌∷◌, ◌++◌, refl, sym, ap, ◌∙◌, subst, inl, inr}
 use Rattle.std.proofs.Common.{append_assoc, append-nil}
 use Rattle.rtui_geometry.specs.{declared.position.Position.Position}
 use Rattle.rtui_cell.specs.{Look.Look, Grid.Grid}
@@ -15,7 +15,8 @@ use Rattle.rtui_terminal.specs.{Writing.Applies, Drawing.DrawsFrame}
 use Rattle.rtui_terminal.specs.Headline.{Call, Draw, Apply, Insert, Clear, Resize, Autoresize, HideCursor, ShowCursor, SetCursor}
 use Rattle.rtui_terminal.specs.Headline.{Ask, Paint, Refuse, Event, Along, last_state, inserted_by, inserted_along, MayTakeSize}
 use Rattle.rtui_terminal.specs.Headline.{Does, IsFair, HasKnownSize, IsSteady, IsKeptOrEmptied, Leaves, IsFaithful}
-use Rattle.rtui_terminal.proofs.{StepLemmas.on_same, StepLemmas.not_both, KeepLemmas.rest_of, KeepLemmas.size_more}
+use Rattle.rtui_terminal.proofs.{StepLemmas.on_same, StepLemmas.not_both, KeepLemmas.size_more}
+use Rattle.rtui_terminal.proofs.KeepLemmas.{Keeps, kept_rest, keeps_cursor, stays_keeps}
 use Rattle.rtui_terminal.proofs.{KeepLemmas.size_drawn, KeepLemmas.same_area}
 
 none_appended : {old new : List (List Look)} → new ≡ old → AppendsRows [] old new
@@ -48,75 +49,28 @@ shows_same sheet g h same shown = record {
 }
 
 module _ {B : Type 0} (screen : B → Screen) where
-  -- the viewport, the previous buffer and what the screen shows stay
-  record Keeps (s t : TerminalData B) : Type 0 where
-    pub kind : t.viewport ≡ s.viewport
-    pub view : t.viewport_area ≡ s.viewport_area
-    pub previous : t.previous ≡ s.previous
-    pub size : KeepsSizeAndHistory (screen s.backend) (screen t.backend)
-    pub grid : (a b : ℕ) → (screen t.backend).grid a b ≡ (screen s.backend).grid a b
+  kept_step : (s t : TerminalData B) → Keeps screen s t → IsInStep screen s → IsInStep screen t
+  kept_step s t k step = search rules
 
-  kept_step : (s t : TerminalData B) → Keeps s t → IsInStep screen s → IsInStep screen t
-  kept_step s t k step = record {
-    on_screen = subst (λ r. IsOnScreen r (screen t.backend)) (sym k.view) (on_same s.viewport_area (screen s.backend)
-        (screen t.backend) k.size.width k.size.height step.on_screen);
-    area = ap (λ (x : BufferData). x.area) k.previous ∙ step.area ∙ sym k.view;
-    settled = subst IsSettledBuffer (sym k.previous) step.settled;
-    shown = subst (λ sheet. ShowsBuffer sheet (screen t.backend).grid) (sym k.previous)
-        (shows_same s.previous (screen s.backend).grid (screen t.backend).grid k.grid step.shown);
-  }
-
-  kept_rest : (s t : TerminalData B) → Keeps s t → KeepsAroundViewport screen s t
-  kept_rest s t k = rest_of screen s t k.view k.size (record { at = λ a b _ _ _. k.grid a b })
-
-  keeps_more : (s t u : TerminalData B) → Keeps s t → Keeps t u → Keeps s u
-  keeps_more s t u p q = record {
-    kind = q.kind ∙ p.kind;
-    view = q.view ∙ p.view;
-    previous = q.previous ∙ p.previous;
-    size = size_more p.size q.size;
-    grid = λ a b. q.grid a b ∙ p.grid a b;
-  }
-
-  -- only the cursor, and what the terminal knows of it, may have changed
-  keeps_cursor : (hidden : Bool) (known : Position) (s t : TerminalData B) {new : Screen}
-      → t ≡ record s { backend = t.backend; last_known_cursor_pos = known; hidden_cursor = hidden } → screen t.backend ≡ new
-      → new ≡ record (screen s.backend) { cursor_x = new.cursor_x; cursor_y = new.cursor_y; visible = new.visible } → Keeps s t
-  keeps_cursor hidden known s t rest here is = record {
-    kind = ap (λ (x : TerminalData B). x.viewport) rest;
-    view = ap (λ (x : TerminalData B). x.viewport_area) rest;
-    previous = ap (λ (x : TerminalData B). x.previous) rest;
-    size = rw (here ∙ is) (record { width = refl; height = refl; history = refl });
-    grid = λ a b. ap (λ (x : Screen). x.grid a b) (here ∙ is);
-  }
-
-  stays_keeps : (s t : TerminalData B) → Stays screen s t → Keeps s t
-  stays_keeps s t stays = keeps_cursor s.hidden_cursor s.last_known_cursor_pos s t stays.rest stays.screen_stays refl
+  keeps_more : (s t u : TerminalData B) → Keeps screen s t → Keeps screen t u → Keeps screen s u
+  keeps_more s t u p q = search rules
 
   pub stays_step : (s t : TerminalData B) → Stays screen s t → IsInStep screen s → IsInStep screen t
-  stays_step s t stays = kept_step s t (stays_keeps s t stays)
+  stays_step s t stays = kept_step s t (stays_keeps screen s t stays)
 
-  keeps_current : (s t : TerminalData B) → t ≡ record s { current = t.current } → Keeps s t
-  keeps_current s t e =
-      let same : Keeps s (record s { current = t.current }) = record {
-        kind = refl;
-        view = refl;
-        previous = refl;
-        size = record { width = refl; height = refl; history = refl };
-        grid = λ a b. refl;
-      } in
-      subst (Keeps s) (sym e) same
+  keeps_current : (s t : TerminalData B) → t ≡ record s { current = t.current } → Keeps screen s t
+  keeps_current s t e = search rules
 
   -- a call that inserts nothing and leaves the screen as it is
   quiet : (call : Call) (s t : TerminalData B) → inserted_by call ≡ [] → (t.previous ≡ s.previous → Leaves screen call s t)
-      → IsInStep screen s → Keeps s t → IsFaithful screen call s t
+      → IsInStep screen s → Keeps screen s t → IsFaithful screen call s t
   quiet call s t none leaves step k = record {
     kind = k.kind;
     in_step = kept_step s t k step;
     leaves = leaves k.previous;
     above = λ inline steady. subst (λ sheets. AppendsRows sheets (rows_over screen s) (rows_over screen t)) (sym none)
-        (none_appended (kept_rest s t k).above);
-    outside = λ fixed other. kept_rest s t k;
+        (none_appended (kept_rest screen s t k).above);
+    outside = λ fixed other. kept_rest screen s t k;
   }
 
   -- a size that may have been taken
@@ -182,24 +136,24 @@ module _ {B : Type 0} (screen : B → Screen) where
   module _ (call : Call) (s u z t : TerminalData B) (none : inserted_by call ≡ [])
       (leaves : IsKeptOrEmptied screen s t → Leaves screen call s t) (known : IsSteady screen call s t → HasKnownSize screen s t)
       (taken : MayTakeSize screen s u) (resizes : Autoresizes screen u z) (rest : t ≡ record z { current = t.current }) where
-    after : Keeps z t
+    after : Keeps screen z t
     after = keeps_current z t rest
 
     then_area : screen_area (screen t.backend) ≡ screen_area (screen u.backend)
     then_area = same_area (screen t.backend) (screen z.backend) after.size.width after.size.height ∙ autoresized_area u z resizes
 
-    untaken_keeps : IsFixed s.viewport ⊎ (screen_area (screen u.backend) ≡ s.last_known_area) → Keeps s t
+    untaken_keeps : IsFixed s.viewport ⊎ (screen_area (screen u.backend) ≡ s.last_known_area) → Keeps screen s t
     untaken_keeps why =
         let p = untaken s u taken why in
-        let first : Keeps u z = elim (resizes.case) [
-          | inl q ↦ stays_keeps u z q.1
+        let first : Keeps screen u z = elim (resizes.case) [
+          | inl q ↦ stays_keeps screen u z q.1
           | inr q ↦ absurd (q.0 p.1)
         ] in
-        subst (λ x. Keeps x t) p.0 (keeps_more u z t first after)
+        subst (λ x. Keeps screen x t) p.0 (keeps_more u z t first after)
 
     left : (m : MayTakeSize screen s u) → (IsSized screen u × Stays screen u z)
         ⊎ ((IsSized screen u → ⊥) × Resizes screen (screen_area (screen u.backend)) u z) → IsKeptOrEmptied screen s t
-    left (inl e) (inl p) = inl (after.previous ∙ (stays_keeps u z p.1).previous ∙ ap (λ (x : TerminalData B). x.previous) e)
+    left (inl e) (inl p) = inl (after.previous ∙ (stays_keeps screen u z p.1).previous ∙ ap (λ (x : TerminalData B). x.previous) e)
     left (inr p) (inl q) = absurd (p.1 q.0)
     left m (inr q) = inr (
       λ fixed. q.0 (inl (subst IsFixed (sym (taken_kind s u m)) fixed)),
@@ -215,8 +169,8 @@ module _ {B : Type 0} (screen : B → Screen) where
       leaves = leaves (left taken resizes.case);
       above = λ inline steady.
           subst (λ sheets. AppendsRows sheets (rows_over screen s) (rows_over screen t)) (sym none)
-          (none_appended (kept_rest s t (untaken_keeps (inr (sym then_area ∙ known steady)))).above);
-      outside = λ fixed other. kept_rest s t (untaken_keeps (inl fixed));
+          (none_appended (kept_rest screen s t (untaken_keeps (inr (sym then_area ∙ known steady)))).above);
+      outside = λ fixed other. kept_rest screen s t (untaken_keeps (inl fixed));
     }
 
   same_current : (t : TerminalData B) → t ≡ record t { current = t.current }
@@ -260,12 +214,12 @@ module _ {B : Type 0} (screen : B → Screen) where
   faithful Autoresize s t step does fair =
       resized_faithful Autoresize s does.before t t refl (λ x. x) (λ x. x) does.taken does.then (same_current t) step
   faithful HideCursor s t step does fair =
-      quiet HideCursor s t refl (λ e. e) step (keeps_cursor _ _ s t does.rest does.screen_cursor refl)
+      quiet HideCursor s t refl (λ e. e) step (keeps_cursor screen _ _ s t does.rest does.screen_cursor refl)
   faithful ShowCursor s t step does fair =
-      quiet ShowCursor s t refl (λ e. e) step (keeps_cursor _ _ s t does.rest does.screen_cursor refl)
+      quiet ShowCursor s t refl (λ e. e) step (keeps_cursor screen _ _ s t does.rest does.screen_cursor refl)
   faithful (SetCursor p) s t step does fair =
-      quiet (SetCursor p) s t refl (λ e. e) step (keeps_cursor _ _ s t does.rest does.screen_cursor refl)
-  faithful Ask s t step does fair = quiet Ask s t refl (λ e. e) step (stays_keeps s t does)
+      quiet (SetCursor p) s t refl (λ e. e) step (keeps_cursor screen _ _ s t does.rest does.screen_cursor refl)
+  faithful Ask s t step does fair = quiet Ask s t refl (λ e. e) step (stays_keeps screen s t does)
   faithful Paint s t step does fair = quiet Paint s t refl (λ e. e) step (keeps_current s t does)
   faithful Refuse s t step does fair =
       resized_faithful Refuse s does.before does.then.sized t refl (λ x. x)

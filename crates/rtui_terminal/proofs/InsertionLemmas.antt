@@ -1,5 +1,5 @@
 -- Rows that were scrolled in above a viewport, as one insertion.
-use Rattle.std.proofs.Common.{◌≡◌, ℕ, ◌+◌, ◌-◌, ◌*◌, ◌<◌, ◌≤◌, ◌++◌, min, nat_lt, if◌then◌else◌, List, [], ◌∷◌, slice_index_or}
+use Rattle.std.proofs.Common.{rules, ◌≡◌, ℕ, ◌+◌, ◌-◌, ◌*◌, ◌<◌, ◌≤◌, ◌++◌, min, nat_lt, if◌then◌else◌, List, [], ◌∷◌, slice_index_or}
 use Rattle.std.proofs.Common.{refl, sym, ap, ◌∙◌, subst, arith, append-nil, inl, inr, ◌⊎◌, Result, Ok, Err, OnOk, OnErr}
 use Rattle.std.proofs.lemmas.{Bool.cases_lt, Bool.Decides.nat_tests}
 use Rattle.rtui_geometry.specs.declared.rect.Rect.{Rect}
@@ -309,12 +309,7 @@ module _ {B : Type 0} (screen : B → Screen) (s : TerminalData B) (inserted : B
   module _ (stops_at : B → B → Type 0) where
     stopped_in_place : (b : B) → FailsAfter stops_at (λ q. TakesRows screen s → IsInStep screen s → IsSettledBuffer inserted
         → IsBeginning screen inserted s (screen q)) b → StopsInserting screen stops_at inserted s (record s { backend = b })
-    stopped_in_place b fails = record {
-      rest = refl;
-      moved = inl (record { top = refl; stopped = fails });
-      current = stays_put s.viewport_area s.current;
-      previous = stays_put s.viewport_area s.previous;
-    }
+    stopped_in_place b fails = search (rules, stays_put)
 
     pub stopped_lowering : s.viewport_area.height < s.last_known_area.height → (b : B)
         → FailsAfter stops_at (λ q. StartsLowering inserted s.viewport_area s.last_known_area.height (screen s.backend)

@@ -1,5 +1,5 @@
 -- What calls keep of the rows above a viewport and of all columns outside it.
-use Rattle.std.proofs.Common.{◌≡◌, ℕ, ◌+◌, ◌<◌, Option, Some, None, refl, sym, ap, ◌∙◌, subst, inl, inr, arith}
+use Rattle.std.proofs.Common.{rules, ◌≡◌, ℕ, ◌+◌, ◌<◌, Bool, Option, Some, None, refl, sym, ap, ◌∙◌, subst, inl, inr, arith}
 use Rattle.rtui_geometry.specs.{declared.position.Position.Position, declared.rect.Rect.Rect}
 use Rattle.rtui_buffer.specs.{BufferData.BufferData, Shown.IsSettledBuffer}
 use Rattle.rtui_backend.specs.Screen.{Screen, KeepsSizeAndHistory, IsOnScreen, IsWithin, rows_above, screen_area, size_of}
@@ -80,10 +80,28 @@ module _ {B : Type 0} (screen : B → Screen) where
     };
   }
 
+  -- the viewport, the previous buffer and what the screen shows stay
+  pub record Keeps (s t : TerminalData B) : Type 0 where
+    pub kind : t.viewport ≡ s.viewport
+    pub view : t.viewport_area ≡ s.viewport_area
+    pub previous : t.previous ≡ s.previous
+    pub size : KeepsSizeAndHistory (screen s.backend) (screen t.backend)
+    pub grid : (a b : ℕ) → (screen t.backend).grid a b ≡ (screen s.backend).grid a b
+
+  pub kept_rest : (s t : TerminalData B) → Keeps s t → KeepsAroundViewport screen s t
+  kept_rest s t k = rest_of s t k.view k.size (record { at = λ a b _ _ _. k.grid a b })
+
+  -- only the cursor, and what the terminal knows of it, may have changed
+  pub keeps_cursor : (hidden : Bool) (known : Position) (s t : TerminalData B) {new : Screen}
+      → t ≡ record s { backend = t.backend; last_known_cursor_pos = known; hidden_cursor = hidden } → screen t.backend ≡ new
+      → new ≡ record (screen s.backend) { cursor_x = new.cursor_x; cursor_y = new.cursor_y; visible = new.visible } → Keeps s t
+  keeps_cursor hidden known s t rest here is = search rules
+
+  pub stays_keeps : (s t : TerminalData B) → Stays screen s t → Keeps s t
+  stays_keeps s t stays = keeps_cursor s.hidden_cursor s.last_known_cursor_pos s t stays.rest stays.screen_stays refl
+
   pub stays_rest : (s t : TerminalData B) → Stays screen s t → KeepsAroundViewport screen s t
-  stays_rest s t stays = rest_of s t (ap (λ (x : TerminalData B). x.viewport_area) stays.rest)
-      (rw stays.screen_stays (record { width = refl; height = refl; history = refl }))
-      (record { at = λ a b _ _ _. ap (λ (x : Screen). x.grid a b) stays.screen_stays })
+  stays_rest s t stays = kept_rest s t (stays_keeps s t stays)
 
   -- a drawing of a settled buffer changes nothing outside
   pub drawn_rest : (cursor : Option Position) (s t : TerminalData B) → t.viewport_area ≡ s.viewport_area
@@ -108,12 +126,7 @@ module _ {B : Type 0} (screen : B → Screen) where
 
   pub painted_rest : (s t : TerminalData B) (painted : BufferData) → KeepsAroundViewport screen (record s { current = painted }) t
       → KeepsAroundViewport screen s t
-  painted_rest s t painted keeps = record {
-    viewport_area = keeps.viewport_area;
-    size = keeps.size;
-    above = keeps.above;
-    outside = keeps.outside;
-  }
+  painted_rest s t painted keeps = rest_of s t keeps.viewport_area keeps.size keeps.outside
 
 -- blank rows below a viewport, all around which stays
 pub below-kept : {B : Type 0} (screen : B → Screen) (s t : TerminalData B) → KeepsAroundViewport screen s t

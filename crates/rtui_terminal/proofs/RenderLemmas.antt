@@ -1,5 +1,5 @@
 -- A closure's call, and what came before and after, as one draw.
-use Rattle.std.proofs.Common.{Option, Result, Ok, Err, sym, subst, inl, inr, MatchResult}
+use Rattle.std.proofs.Common.{rules, Option, Result, Ok, Err, sym, subst, inl, inr, MatchResult}
 use Rattle.std.specs.declared.alloc.AllocError.{AllocError}
 use Rattle.rtui_geometry.specs.declared.position.Position.{Position}
 use Rattle.rtui_buffer.specs.{BufferData.BufferData, Shown.IsSettledBuffer}
@@ -15,7 +15,7 @@ use Rattle.rtui_terminal.specs.declared.terminal.error.TerminalError.TheVariants
 -- what is painted doesn't matter for what the screen shows
 pub in_step_painted : {B : Type 0} (screen : B → Screen) (s : TerminalData B) (painted : BufferData) → IsInStep screen s
     → IsInStep screen (record s { current = painted })
-in_step_painted screen s painted at = record { on_screen = at.on_screen; area = at.area; settled = at.settled; shown = at.shown }
+in_step_painted screen s painted at = search rules
 
 module _ {B X : Type 0} (screen : B → Screen) (ran : TerminalData B → Result (Unit {0}) X → Option Position → BufferData → Type 0)
     (s sized t : TerminalData B) (autoresized : Autoresizes screen s sized) (cursor : Option Position) (painted : BufferData)

@@ -1,5 +1,5 @@
 -- A draw whose closure only renders over an empty buffer.
-use Rattle.std.proofs.Common.{◌≡◌, ℕ, zero, suc, ◌-◌, ◌++◌, ◌∷◌, length, take, refl, sym, ap, subst, ◌∙◌, arith, Result}
+use Rattle.std.proofs.Common.{rules, ◌≡◌, ℕ, zero, suc, ◌-◌, ◌++◌, ◌∷◌, length, take, refl, sym, ap, subst, ◌∙◌, arith, Result}
 use Rattle.std.proofs.Common.{Ok, Err, Option, inl, inr, alloc_error}
 use Rattle.std.specs.declared.alloc.AllocError.{AllocError}
 use Rattle.rtui_geometry.specs.{declared.position.Position.Position, declared.rect.Rect.Rect}
@@ -101,14 +101,7 @@ module _ {B X : Type 0} (screen : B → Screen) (ran less : TerminalData B → R
 
   pub painted-weaker : (after : Option Position → TerminalData B → TerminalData B → Type 0) (s t : TerminalData B)
       → PaintedErr screen ran after s t → PaintedErr screen less after s t
-  painted-weaker after s t by = record {
-    sized = by.sized;
-    autoresized = by.autoresized;
-    cursor = by.cursor;
-    painted = by.painted;
-    closure = weaker _ _ _ _ by.closure;
-    left = by.left;
-  }
+  painted-weaker after s t by = search rules
 
 pub refused-weaker : {B E : Type 0} (screen : B → Screen) (ran less : TerminalData B → Result (Unit {0}) AllocError
     → Option Position → BufferData → Type 0)

@@ -36,29 +36,25 @@ only_row (row ∷ []) e = refl
 only_row (row ∷ next ∷ rows) e = absurd (omega arith)
 
 -- the one row that came in with a painted text
-record HasRow (width : ℕ) (text : List ℕ) (old new : List (List Look)) : Type 0 where
-  row : List Look
-  painted : IsRowOf width text row
-  above : new ≡ old ++ row ∷ []
-
 row-appended : (width : ℕ) (text : List ℕ) (sheet : BufferData) (old new : List (List Look)) → sheet.area ≡ row_area width 0
-    → IsPaintedText text sheet → AppendsRows (sheet ∷ []) old new → HasRow width text old new
+    → IsPaintedText text sheet → AppendsRows (sheet ∷ []) old new
+    → (row : List Look) × IsRowOf width text row × (new ≡ old ++ row ∷ [])
 row-appended width text sheet old new over painted appends =
     let wide : sheet.area.width ≡ width = ap (λ (r : Rect). r.width) over in
     let high : sheet.area.height ≡ 1 = ap (λ (r : Rect). r.height) over in
     let first : List (List Look) = appends.agree.0 in
     let are : AreRowsOf sheet first = appends.agree.3 in
     let all : appends.rows ≡ first = appends.agree.2 ∙ ap (λ rows. first ++ rows) appends.agree.4 ∙ append-nil first in
-    record {
-      row = slice_index_or first 0 [];
-      painted = record {
+    (
+      slice_index_or first 0 [],
+      record {
         sheet = sheet;
         over = over;
         painted = painted;
         agrees = subst (λ n. RowAgrees n sheet.cells 0 (slice_index_or first 0 [])) wide (are.agree 0 (omega arith));
-      };
-      above = appends.appended ∙ ap (λ rows. old ++ rows) (all ∙ only_row first (are.count ∙ high));
-    }
+      },
+      appends.appended ∙ ap (λ rows. old ++ rows) (all ∙ only_row first (are.count ∙ high)),
+    )
 
 -- a closure leaves its cursor at its place in the viewport
 abbrev pub OnlyPlaces : {B X : Type 0} → (TerminalData B → Result (Unit {0}) X → Option Position → BufferData → Type 0)
@@ -134,8 +130,7 @@ module _ {B : Type 0} (screen : B → Screen) where
       let painted : IsPaintedText text sheet =
       row-painted (RendersStr text) 0 (screen s.backend).width fills.before sheet over empty renders in
       let settled : IsSettledBuffer sheet = row-settled text sheet painted in
-      let row : HasRow (screen s.backend).width text (rows_over screen s) (rows_over screen t) =
-      row-appended (screen s.backend).width text sheet (rows_over screen s) (rows_over screen t) over painted
+      let row = row-appended (screen s.backend).width text sheet (rows_over screen s) (rows_over screen t) over painted
       (inserts.above may is.in_step settled) in
       let height : sheet.area.height ≡ 1 = ap (λ (r : Rect). r.height) over in
       let kept = inserts.rest in
@@ -153,9 +148,9 @@ module _ {B : Type 0} (screen : B → Screen) where
         };
         size = same_size (screen t.backend) (screen s.backend) inserts.shape.width inserts.shape.height;
         top = (let top = inserts.top in omega arith);
-        row = row.row;
-        painted = row.painted;
-        above = row.above;
+        row = row.0;
+        painted = row.1;
+        above = row.2;
         below = inserts.below may is.in_step settled;
       }
 
