@@ -44,8 +44,7 @@ row-appended width text sheet old new over painted appends =
     let high : sheet.area.height ≡ 1 = ap (λ (r : Rect). r.height) over in
     let first : List (List Look) = appends.agree.0 in
     let are : AreRowsOf sheet first = appends.agree.3 in
-    let all : appends.rows ≡ first = appends.agree.2 ∙ ap (λ rows. first ++ rows) appends.agree.4 ∙ append-nil first in
-    (
+    let all : appends.rows ≡ first = appends.agree.2 ∙ ap (λ rows. first ++ rows) appends.agree.4 ∙ append-nil first in (
       slice_index_or first 0 [],
       record {
         sheet = sheet;
