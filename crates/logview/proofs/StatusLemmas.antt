@@ -35,6 +35,6 @@ status-settled text sheet is =
     let blank = is.blank in
     let area = sheet.area in
     let left : blank.area.x ≡ area.x = ap (λ (r : Rect). r.x) is.emptied.area in
-    IsSettledBuffer-painted _ (pieces_at blank.area area.x area.width status_style text) blank sheet (omega (arith, left))
-    (text-ends blank.area area.x area.width status_style text) (IsSettledBuffer-empty _ _ is.emptied)
+    IsSettledBuffer-painted (record { x = area.x; y = area.y }) (pieces_at blank.area area.x area.width status_style text) blank sheet
+    (omega (arith, left)) (text-ends blank.area area.x area.width status_style text) (IsSettledBuffer-empty _ _ is.emptied)
     (IsPaintable-empty _ _ is.emptied _ _) is.rendered
