@@ -257,7 +257,7 @@ makes-blank w h old first second new wide high owns letters empties =
     record {
       bytes = all.bytes;
       appended = all.appended;
-      made = λ t left.
+      read = λ t left.
           let again : IsAsFound w h (anew t) = left-anew w h t left in
           all.read (anew t) again.phase ∙ ap (emptied w h) (letters-stand (anew t))
           ∙ ap (begun w h) (rested-left w h (anew t) again) ∙ blank-begun w h (anew t) wide high again refl;
@@ -299,11 +299,11 @@ pub saves-screen : (w h : ℕ) (old new : List ℕ) → 0 < w → 0 < h
 saves-screen w h old new wide high does = record {
   bytes = does.bytes;
   appended = does.appended;
-  saved = λ t left known.
-      let again : IsAsFound w h (anew t) = left-anew w h t left in
+  read = λ t found.
+      let again : IsAsFound w h (anew t) = left-anew w h t found.0 in
       does.read (anew t) again.phase ∙ ap (λ u. fed h (returned (cursor_moved 0 (h - 1) (own u))))
       (rested-left w h (anew t) again)
-      ∙ screen-saved w h (anew t) wide high again refl known;
+      ∙ screen-saved w h (anew t) wide high again refl found.1;
 }
 
 -- a new terminal is one that was left so

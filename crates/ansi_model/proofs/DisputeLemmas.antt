@@ -6,16 +6,17 @@ use Rattle.std.proofs.lemmas.{Bool.Decides.nat_tests, Str.IsUtf8-nil, Str.chars-
 use Rattle.std.proofs.Math.Path.{fun_ext}
 use Rattle.ratatui_core.specs.{Buffer.blank, Style.bits_of}
 use Rattle.ansi_model.specs.{declared.sgr.Sgr.Sgr, declared.pen.Pen.Pen, Sgr.inked, Parameters.color_parameters}
-use Rattle.ansi_model.specs.{Emulator.Phase.Ground, Sequences.feed}
+use Rattle.ansi_model.specs.{Emulator.Phase.Ground}
 use Rattle.ansi_model.specs.{Symbols.is_plain_char, Symbols.is_printed, Symbols.is_disputed, Symbols.printed_columns, Sends.Sends}
 use Rattle.ansi_model.specs.{Sends.Performs, Sends.typed}
 use Rattle.ansi_model.specs.Columns.{Column, Columns, is_met, overwritten}
 use Rattle.ansi_model.specs.Columns.Column.{Shows, Unknown}
 use Rattle.ansi_model.specs.Emulator.{Emulator, rested, run, prints_disputed, is_blank_in, are_blank, cursor_moved}
 use Rattle.ansi_model.specs.Drawing.{printed_at, disputed_at, drawn_at, blanked_in, WritesAt, IsDrawnBy, Paints, Prints}
-use Rattle.ansi_model.proofs.{ReadLemmas.Sends-then, TextLemmas.blank-one, ReadLemmas.and-true, MotionLemmas.not_met}
+use Rattle.ansi_model.proofs.{ReadLemmas.Leads-so, ReadLemmas.Sends-then, TextLemmas.blank-one, ReadLemmas.and-true}
+use Rattle.ansi_model.proofs.{MotionLemmas.not_met}
 use Rattle.ansi_model.proofs.{PutLemmas.none_between, SymbolLemmas.alone-disputed}
-use Rattle.ansi_model.proofs.{DrawLemmas.at-drawn, DrawLemmas.moved-drawn, PaintLemmas.Paints-then, PaintLemmas.blanked-only}
+use Rattle.ansi_model.proofs.{DrawLemmas.moved-there, PaintLemmas.Paints-then, PaintLemmas.blanked-only}
 use Rattle.ansi_model.proofs.{PaintLemmas.blanked-width, PaintLemmas.blanked-height, PaintLemmas.blanked-keeps}
 use Rattle.ansi_model.proofs.{PaintLemmas.KeepsSize}
 
@@ -218,47 +219,42 @@ over-paints x y before after symbol old first new moves sends is disputed same u
     let sgr = before.sgr in
     let both : Sends old new (λ t. typed symbol (cursor_moved x y (rested t))) =
     Sends-then old first new (λ t. cursor_moved x y (rested t)) (typed symbol) moves sends (λ t. refl) in
-    let there : (t : Emulator) → (rested t).width ≡ w → (rested t).height ≡ h → IsDrawnBy before t
-    → cursor_moved x y (rested t) ≡ drawn_at x y sgr (rested t) = λ t wide high drawn.
-    let cursor_x : min x ((rested t).width - 1) ≡ x = omega arith in
-    let cursor_y : min y ((rested t).height - 1) ≡ y = omega arith in
-    at-drawn x y sgr (cursor_moved x y (rested t)) cursor_x cursor_y drawn.sgr ∙ moved-drawn x y sgr (rested t) in
-    let shown : (t : Emulator) → (rested t).width ≡ w → (rested t).height ≡ h → IsDrawnBy before t
-    → rested (feed both.bytes t) ≡ disputed_at x y sgr symbol (rested t)
-    = λ t wide high drawn. ap rested (both.read t drawn.phase) ∙ ap (λ (v : Emulator). record v { phase = Ground })
+    Leads-so both (λ t canvas. canvas.drawn.phase) (λ t u canvas e.
+    let drawn = canvas.drawn in
+    let shown : rested u ≡ disputed_at x y sgr symbol (rested t) =
+    ap rested e ∙ ap (λ (v : Emulator). record v { phase = Ground })
     (alone-disputed symbol (cursor_moved x y (rested t)) drawn.modes is disputed refl)
-    ∙ ap (prints_disputed symbol (printed_columns symbol)) (there t wide high drawn) in
+    ∙ ap (prints_disputed symbol (printed_columns symbol)) (moved-there w h x y before t x_in y_in canvas) in
     record {
-      bytes = both.bytes;
-      appended = both.appended;
-      drawn = λ t wide high drawn. record {
-        phase = ap (λ (v : Emulator). v.phase) (both.read t drawn.phase);
-        sgr = ap (λ (v : Emulator). v.sgr) (shown t wide high drawn) ∙ sym same;
-        modes = ap (λ (v : Emulator). v.modes) (shown t wide high drawn) ∙ drawn.modes;
-        placed = subst (λ at. IfSome at (λ p. WritesAt p.x p.y (feed both.bytes t))) (sym unplaced) tt;
+      drawn = record {
+        phase = ap (λ (v : Emulator). v.phase) e;
+        sgr = ap (λ (v : Emulator). v.sgr) shown ∙ sym same;
+        modes = ap (λ (v : Emulator). v.modes) shown ∙ drawn.modes;
+        placed = subst (λ at. IfSome at (λ p. WritesAt p.x p.y u)) (sym unplaced) tt;
       };
       printed = shown;
-    }
+    })
 
 pub place-paints : (x y : ℕ) (before after : Pen) (old new : List ℕ) → Performs old new (cursor_moved x y)
     → after.sgr ≡ before.sgr → after.at ≡ Some (record { x = x; y = y })
     → (w h : ℕ) → x < w → y < h → Paints w h old before (cursor_moved x y) new after
-place-paints x y before after old new does same at w h x_in y_in = record {
-  bytes = does.bytes;
-  appended = does.appended;
-  drawn = λ t wide high drawn. subst (IsDrawnBy after) (sym (does.read t drawn.phase)) (record {
-    phase = refl;
-    sgr = drawn.sgr ∙ sym same;
-    modes = drawn.modes;
-    placed = subst (λ place. IfSome place (λ p. WritesAt p.x p.y (cursor_moved x y (rested t)))) (sym at) (record {
-      utf8 = IsUtf8-nil;
-      plain = ap (list_all is_plain_char) chars-nil;
-      column = omega arith;
-      row = omega arith;
-    });
-  });
-  printed = λ t wide high drawn. ap rested (does.read t drawn.phase);
-}
+place-paints x y before after old new does same at w h x_in y_in = Leads-so does (λ t canvas. canvas.drawn.phase) (λ t u canvas e.
+    let wide : (rested t).width ≡ w = canvas.width in
+    let high : (rested t).height ≡ h = canvas.height in
+    record {
+      drawn = subst (IsDrawnBy after) (sym e) (record {
+        phase = refl;
+        sgr = canvas.drawn.sgr ∙ sym same;
+        modes = canvas.drawn.modes;
+        placed = subst (λ place. IfSome place (λ p. WritesAt p.x p.y (cursor_moved x y (rested t)))) (sym at) (record {
+          utf8 = IsUtf8-nil;
+          plain = ap (list_all is_plain_char) chars-nil;
+          column = omega arith;
+          row = omega arith;
+        });
+      });
+      printed = ap rested e;
+    })
 
 -- the same, its premises in the order of a caller's clause
 pub put_over : (w h x y : ℕ) (before after : Pen) (symbol old first new : List ℕ) → Performs old first (cursor_moved x y)
@@ -277,14 +273,14 @@ module _ (w h x y n end : ℕ) (symbol : List ℕ) (p q r : Pen) (a b c : List �
       (subst (λ sgr. Paints w h b q (disputed_at x y sgr symbol) c r) same over)
 
   pub paints-still : end ≡ w → Prints w h a p x y p.sgr symbol c r
-  paints-still whole = record {
-    bytes = both.bytes;
-    appended = both.appended;
-    drawn = both.drawn;
-    printed = λ t wide high drawn. both.printed t wide high drawn
-        ∙ ap (λ k. disputed_at x y p.sgr symbol (blanked_in p.sgr x y k (rested t))) columns
-        ∙ still-same x y end p.sgr symbol (rested t) (omega arith) (omega arith) (omega arith);
-  }
+  paints-still whole = Leads-so both (λ t canvas. canvas) (λ t u canvas does.
+      let wide : (rested t).width ≡ w = canvas.width in
+      let high : (rested t).height ≡ h = canvas.height in
+      record {
+        drawn = does.drawn;
+        printed = does.printed ∙ ap (λ k. disputed_at x y p.sgr symbol (blanked_in p.sgr x y k (rested t))) columns
+            ∙ still-same x y end p.sgr symbol (rested t) (omega arith) (omega arith) (omega arith);
+      })
 
   pub paints-moved : (d : List ℕ) (s : Pen) → end < w → Paints w h c r (cursor_moved end y) d s
       → Prints w h a p x y p.sgr symbol d s
@@ -292,11 +288,12 @@ module _ (w h x y n end : ℕ) (symbol : List ℕ) (p q r : Pen) (a b c : List �
       let keeps : KeepsSize (λ t. disputed_at x y p.sgr symbol (blanked_in p.sgr x y n t)) = λ t. blanked-keeps p.sgr x y n t in
       let all = Paints-then w h a c d p r s (λ t. disputed_at x y p.sgr symbol (blanked_in p.sgr x y n t))
       (cursor_moved end y) keeps both move in
+      Leads-so all (λ t canvas. canvas) (λ t u canvas does.
+      let wide : (rested t).width ≡ w = canvas.width in
+      let high : (rested t).height ≡ h = canvas.height in
       record {
-        bytes = all.bytes;
-        appended = all.appended;
-        drawn = all.drawn;
-        printed = λ t wide high drawn. all.printed t wide high drawn
+        drawn = does.drawn;
+        printed = does.printed
             ∙ ap (λ k. cursor_moved end y (disputed_at x y p.sgr symbol (blanked_in p.sgr x y k (rested t)))) columns
             ∙ moved-same x y end p.sgr symbol (rested t) (omega arith) (omega arith) (omega arith);
-      }
+      })

@@ -6,13 +6,13 @@ use Rattle.std.proofs.lemmas.{Str.IsUtf8-append}
 use lib.Utf8.{encode}
 use Rattle.std.specs.{List.list_all, Bool.then_some}
 use Rattle.ratatui_core.specs.Layout.{Position}
-use Rattle.ansi_model.specs.{declared.sgr.Sgr.Sgr, declared.pen.Pen.Pen, Emulator.Phase.Ground, Sequences.feed, Sends.Sends}
+use Rattle.ansi_model.specs.{declared.sgr.Sgr.Sgr, declared.pen.Pen.Pen, Emulator.Phase.Ground, Sends.Sends}
 use Rattle.ansi_model.specs.{Sends.Performs, Sends.typed}
 use Rattle.ansi_model.specs.Emulator.{Emulator, rested, prints, cursor_moved}
 use Rattle.ansi_model.specs.Symbols.{is_plain_char, is_symbol, is_one_plain, is_printed, is_disputed, printed_columns}
-use Rattle.ansi_model.specs.Drawing.{is_at, is_place, WritesAt, IsDrawnBy, drawn_at, Prints}
+use Rattle.ansi_model.specs.Drawing.{is_at, is_place, WritesAt, IsDrawnBy, IsCanvas, drawn_at, Prints}
 use Rattle.ansi_model.specs.Modes.{no_modes}
-use Rattle.ansi_model.proofs.ReadLemmas.{Sends-then}
+use Rattle.ansi_model.proofs.ReadLemmas.{Leads-so, Sends-then}
 use Rattle.ansi_model.proofs.SymbolLemmas.{symbol-utf8, rested-modes, after-standing, alone-standing, plain-printed, plain-single}
 
 -- ---- a symbol in its place
@@ -66,9 +66,15 @@ more-plain xs ys utf8 e f = ap (list_all is_plain_char) (chars-append xs ys utf8
 pub at-drawn : (x y : ℕ) (sgr : Sgr) (t : Emulator) → t.x ≡ x → t.y ≡ y → t.sgr ≡ sgr → t ≡ drawn_at x y sgr t
 at-drawn x y sgr t ex ey ep = rw (← ex, ← ey, ← ep) refl
 
--- the cursor and the rendition are all that a move changes
-pub moved-drawn : (x y : ℕ) (sgr : Sgr) (t : Emulator) → drawn_at x y sgr (cursor_moved x y t) ≡ drawn_at x y sgr t
-moved-drawn x y sgr t = refl
+-- the cursor is all that a move on the screen changes
+pub moved-there : (w h x y : ℕ) (pen : Pen) (t : Emulator) → x < w → y < h → IsCanvas w h pen t
+    → cursor_moved x y (rested t) ≡ drawn_at x y pen.sgr (rested t)
+moved-there w h x y pen t x_in y_in canvas =
+    let wide : (rested t).width ≡ w = canvas.width in
+    let high : (rested t).height ≡ h = canvas.height in
+    let cursor_x : min x ((rested t).width - 1) ≡ x = omega arith in
+    let cursor_y : min y ((rested t).height - 1) ≡ y = omega arith in
+    at-drawn x y pen.sgr (cursor_moved x y (rested t)) cursor_x cursor_y canvas.drawn.sgr
 
 writes-at : (x y : ℕ) (at : Option Position) (t : Emulator) → is_place x y at ≡ true → IfSome at (λ p. WritesAt p.x p.y t)
     → WritesAt x y t
@@ -89,27 +95,22 @@ put-here w h x y before after c old new sends plain at same knows =
     (plain-printed c plain)).0 in
     let utf8 = symbol-utf8 symbol text in
     let columns : 1 ≡ printed_columns symbol = rw single refl in
-    let shown : (t : Emulator) → IsDrawnBy before t → rested (feed sends.bytes t) ≡ prints symbol (printed_columns symbol)
-    (drawn_at x y before.sgr (rested t)) = λ t drawn.
+    Leads-so sends (λ t is. is.drawn.phase) (λ t u is e.
+    let drawn = is.drawn in
     let here = writes-at x y before.at t at drawn.placed in
-    ap rested (sends.read t drawn.phase) ∙ ap (λ (v : Emulator). record v { phase = Ground })
+    let shown : rested u ≡ prints symbol (printed_columns symbol) (drawn_at x y before.sgr (rested t)) =
+    ap rested e ∙ ap (λ (v : Emulator). record v { phase = Ground })
     (after-standing symbol t text single (sym (rested-modes t) ∙ drawn.modes) here.utf8 here.plain)
     ∙ ap₂ (λ n v. prints symbol n v) columns (at-drawn x y before.sgr (rested t) here.column here.row drawn.sgr) in
     record {
-      bytes = sends.bytes;
-      appended = sends.appended;
-      drawn = λ t wide high drawn.
-          let here = writes-at x y before.at t at drawn.placed in
-          let e : feed sends.bytes t ≡ typed symbol t = sends.read t drawn.phase in
-          drawn-after x y before.sgr symbol after (rested t) (feed sends.bytes t) drawn.modes (ap (λ (v : Emulator). v.phase) e
-          ∙ drawn.phase) same knows (shown t drawn)
-          (λ one. (
+      drawn = drawn-after x y before.sgr symbol after (rested t) u drawn.modes (ap (λ (v : Emulator). v.phase) e ∙ drawn.phase)
+          same knows shown (λ one. (
             subst IsUtf8 (sym (ap (λ (v : Emulator). v.text) e)) (IsUtf8-append t.text symbol here.utf8 utf8),
             ap (λ (v : Emulator). list_all is_plain_char (chars v.text)) e ∙ more-plain t.text symbol here.utf8 here.plain
                 (one-plain (chars symbol) single),
           ));
-      printed = λ t wide high drawn. shown t drawn;
-    }
+      printed = shown;
+    })
 
 -- a symbol in a place, with a move
 pub put-there : (w h x y : ℕ) (before after : Pen) (symbol old first new : List ℕ) → x < w → y < h
@@ -121,31 +122,21 @@ put-there w h x y before after symbol old first new x_in y_in moves sends is agr
     let text = (and_parts (is_symbol symbol) (is_one_plain (chars symbol) || not (list_all is_plain_char (chars symbol))) is).0 in
     let both : Sends old new (λ t. typed symbol (cursor_moved x y (rested t))) =
     Sends-then old first new (λ t. cursor_moved x y (rested t)) (typed symbol) moves sends (λ t. refl) in
-    let there : (t : Emulator) → (rested t).width ≡ w → (rested t).height ≡ h → IsDrawnBy before t
-    → cursor_moved x y (rested t) ≡ drawn_at x y sgr (rested t) = λ t wide high drawn.
-    let cursor_x : min x ((rested t).width - 1) ≡ x = omega arith in
-    let cursor_y : min y ((rested t).height - 1) ≡ y = omega arith in
-    at-drawn x y sgr (cursor_moved x y (rested t)) cursor_x cursor_y drawn.sgr ∙ moved-drawn x y sgr (rested t) in
-    let shown : (t : Emulator) → (rested t).width ≡ w → (rested t).height ≡ h → IsDrawnBy before t
-    → rested (feed both.bytes t) ≡ prints symbol (printed_columns symbol) (drawn_at x y sgr (rested t))
-    = λ t wide high drawn. ap rested (both.read t drawn.phase) ∙ ap (λ (v : Emulator). record v { phase = Ground })
+    Leads-so both (λ t canvas. canvas.drawn.phase) (λ t u canvas e.
+    let drawn = canvas.drawn in
+    let shown : rested u ≡ prints symbol (printed_columns symbol) (drawn_at x y sgr (rested t)) =
+    ap rested e ∙ ap (λ (v : Emulator). record v { phase = Ground })
     (alone-standing symbol (cursor_moved x y (rested t)) drawn.modes is agreed refl)
-    ∙ ap (prints symbol (printed_columns symbol)) (there t wide high drawn) in
+    ∙ ap (prints symbol (printed_columns symbol)) (moved-there w h x y before t x_in y_in canvas) in
+    let only : u.text ≡ symbol = ap (λ (v : Emulator). v.text) e in
     record {
-      bytes = both.bytes;
-      appended = both.appended;
-      drawn = λ t wide high drawn.
-          let e : feed both.bytes t ≡ typed symbol (cursor_moved x y (rested t)) = both.read t drawn.phase in
-          let only : (feed both.bytes t).text ≡ symbol = ap (λ (v : Emulator). v.text) e in
-          drawn-after x y sgr symbol after (rested t) (feed both.bytes t) drawn.modes
-          (ap (λ (v : Emulator). v.phase) e) same knows (shown t wide high drawn)
+      drawn = drawn-after x y sgr symbol after (rested t) u drawn.modes (ap (λ (v : Emulator). v.phase) e) same knows shown
           (λ one. (
             subst IsUtf8 (sym only) (symbol-utf8 symbol text),
-            ap (λ xs. list_all is_plain_char (chars xs)) only
-                ∙ one-plain (chars symbol) one,
+            ap (λ xs. list_all is_plain_char (chars xs)) only ∙ one-plain (chars symbol) one,
           ));
       printed = shown;
-    }
+    })
 
 -- a symbol after which no place is known
 pub put_unplaced : (w h x y : ℕ) (before after : Pen) (symbol old first new : List ℕ) → Performs old first (cursor_moved x y)

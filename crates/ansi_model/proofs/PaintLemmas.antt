@@ -1,10 +1,10 @@
 -- What painting bytes do one after the other, and blanks in any rendition.
-use Rattle.std.proofs.Common.{◌≡◌, ℕ, ◌+◌, List, [], ◌++◌, zero, suc, refl, sym, ap, ◌∙◌, subst, append_assoc, append-nil}
+use Rattle.std.proofs.Common.{◌≡◌, ℕ, ◌+◌, List, zero, suc, refl, sym, ap, ◌∙◌, subst}
 use lib.Utf8.{encode}
 use Rattle.ratatui_core.specs.Buffer.{blank}
-use Rattle.ansi_model.specs.{declared.sgr.Sgr.Sgr, declared.pen.Pen.Pen, Sequences.feed, Emulator.Emulator, Emulator.rested}
-use Rattle.ansi_model.specs.Drawing.{printed_at, blanked_in, IsDrawnBy, Paints, Prints}
-use Rattle.ansi_model.proofs.{ReadLemmas.feed-append}
+use Rattle.ansi_model.specs.{declared.sgr.Sgr.Sgr, declared.pen.Pen.Pen, Emulator.Emulator, Emulator.rested}
+use Rattle.ansi_model.specs.Drawing.{printed_at, blanked_in, Paints, Prints}
+use Rattle.ansi_model.proofs.ReadLemmas.{Leads-then, Leads-none}
 
 pub blank-encoded : encode 32 ≡ blank
 unfolding encode
@@ -34,36 +34,18 @@ blanked-keeps sgr x y n t = (blanked-width sgr x y n t, blanked-height sgr x y n
 pub Paints-then : (w h : ℕ) (a b c : List ℕ) (p q r : Pen) (f g : Emulator → Emulator) → KeepsSize f → Paints w h a p f b q
     → Paints w h b q g c r → Paints w h a p (λ t. g (f t)) c r
 Paints-then w h a b c p q r f g keeps first second =
-    let fed : (t : Emulator) → feed (first.bytes ++ second.bytes) t ≡ feed second.bytes (feed first.bytes t) =
-    feed-append first.bytes second.bytes in
-    let wide : (t : Emulator) → (rested t).width ≡ w → (rested t).height ≡ h → IsDrawnBy p t
-    → (rested (feed first.bytes t)).width ≡ w =
-    λ t width height drawn. ap (λ (v : Emulator). v.width) (first.printed t width height drawn) ∙ (keeps (rested t)).0 ∙ width in
-    let high : (t : Emulator) → (rested t).width ≡ w → (rested t).height ≡ h → IsDrawnBy p t
-    → (rested (feed first.bytes t)).height ≡ h =
-    λ t width height drawn. ap (λ (v : Emulator). v.height) (first.printed t width height drawn) ∙ (keeps (rested t)).1
-    ∙ height in
-    record {
-      bytes = first.bytes ++ second.bytes;
-      appended = second.appended ∙ ap (λ xs. xs ++ second.bytes) first.appended ∙ append_assoc a first.bytes second.bytes;
-      drawn = λ t width height drawn.
-          subst (IsDrawnBy r) (sym (fed t)) (second.drawn (feed first.bytes t) (wide t width height drawn)
-          (high t width height drawn) (first.drawn t width height drawn));
-      printed = λ t width height drawn.
-          ap rested (fed t) ∙ second.printed (feed first.bytes t) (wide t width height drawn) (high t width height drawn)
-          (first.drawn t width height drawn)
-          ∙ ap g (first.printed t width height drawn);
-    }
+    Leads-then first second (λ t u is one. record {
+      width = ap (λ (v : Emulator). v.width) one.printed ∙ (keeps (rested t)).0 ∙ is.width;
+      height = ap (λ (v : Emulator). v.height) one.printed ∙ (keeps (rested t)).1 ∙ is.height;
+      drawn = one.drawn;
+    }) (λ t u v is one two. record { drawn = two.drawn; printed = two.printed ∙ ap g one.printed })
 
 pub blanks-none : (w h : ℕ) (old : List ℕ) (pen : Pen) (sgr : Sgr) (x y n : ℕ) → n ≡ 0
     → Paints w h old pen (blanked_in sgr x y n) old pen
-unfolding feed
-blanks-none w h old pen sgr x y n e = record {
-  bytes = [];
-  appended = sym (append-nil old);
-  drawn = λ t width height drawn. drawn;
-  printed = λ t width height drawn. ap (λ k. blanked_in sgr x y k (rested t)) (sym e);
-}
+blanks-none w h old pen sgr x y n e = Leads-none refl (λ t is. record {
+  drawn = is.drawn;
+  printed = ap (λ k. blanked_in sgr x y k (rested t)) (sym e);
+})
 
 pub blanks-more : (w h : ℕ) (sgr : Sgr) (x y column m k : ℕ) (old mid new : List ℕ) (before between after : Pen)
     → Paints w h old before (blanked_in sgr x y m) mid between → between.sgr ≡ sgr

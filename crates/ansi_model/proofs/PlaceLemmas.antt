@@ -1,37 +1,28 @@
 -- Symbols that are placed one by one.
 use Rattle.std.proofs.Common.{◌≡◌, ℕ, ◌||◌, not, nat_le, Bool, true, false, List, ◌++◌, encode_utf8, Option, Some, None}
-use Rattle.std.proofs.Common.{refl, sym, ap, ◌∙◌, subst, arith, append_assoc, append-nil, []}
+use Rattle.std.proofs.Common.{refl, sym, ap, ◌∙◌, subst, arith, append-nil, []}
 use Rattle.std.proofs.lemmas.Bool.Decides.{nat_tests}
 use Rattle.std.specs.{Bool.then_some, Option.is_some}
 use Rattle.ratatui_core.specs.Layout.{Position}
 use Rattle.ansi_model.specs.{declared.sgr.Sgr.Sgr, declared.pen.Pen.Pen, Symbols.is_printed, Symbols.is_plain_char}
-use Rattle.ansi_model.specs.{Drawing.is_at, Drawing.is_place, Drawing.ChangesSgr, Emulator.Emulator, Emulator.cursor_moved}
+use Rattle.ansi_model.specs.{Drawing.is_at, Drawing.is_place, Drawing.ChangesSgr, Emulator.cursor_moved}
 use Rattle.ansi_model.specs.Emulator.{holding}
 use Rattle.ansi_model.specs.Drawing.ChangesSgr.{Stays, Sets}
 use Rattle.ansi_model.specs.Sends.{Sends, Performs, typed}
 use Rattle.ansi_model.specs.Places.{Placed, PlacesEach, PlacesOn}
 use Rattle.ansi_model.specs.Places.Placed.{Begins, Moves, Prints, Types, Inks, Holds}
-use Rattle.ansi_model.proofs.SymbolLemmas.{plain-printed}
+use Rattle.ansi_model.proofs.{ReadLemmas.Leads-later, SymbolLemmas.plain-printed}
 
 -- ---- bytes before those
-
--- the same after other bytes
-later : (before old new : List ℕ) (effect : Emulator → Emulator) → Sends old new effect
-    → Sends (before ++ old) (before ++ new) effect
-later before old new effect sends = record {
-  bytes = sends.bytes;
-  appended = ap (λ xs. before ++ xs) sends.appended ∙ sym (append_assoc before old sends.bytes);
-  read = sends.read;
-}
 
 pub places-later : (before : List ℕ) {first : List ℕ} {known : Bool} {new : List ℕ} → Placed first known new
     → Placed (before ++ first) known (before ++ new)
 places-later before Begins = Begins
-places-later before (Moves x y placed does) = Moves x y (places-later before placed) (later before _ _ _ does)
-places-later before (Prints symbol is placed does) = Prints symbol is (places-later before placed) (later before _ _ _ does)
-places-later before (Types c low placed does) = Types c low (places-later before placed) (later before _ _ _ does)
-places-later before (Inks sgr placed does) = Inks sgr (places-later before placed) (later before _ _ _ does)
-places-later before (Holds on placed does) = Holds on (places-later before placed) (later before _ _ _ does)
+places-later before (Moves x y placed does) = Moves x y (places-later before placed) (Leads-later before does)
+places-later before (Prints symbol is placed does) = Prints symbol is (places-later before placed) (Leads-later before does)
+places-later before (Types c low placed does) = Types c low (places-later before placed) (Leads-later before does)
+places-later before (Inks sgr placed does) = Inks sgr (places-later before placed) (Leads-later before does)
+places-later before (Holds on placed does) = Holds on (places-later before placed) (Leads-later before does)
 
 -- symbols are placed, and then others from a place that isn't known
 pub places-then : {first mid : List ℕ} {known : Bool} {new : List ℕ} → Placed first false mid → Placed mid known new

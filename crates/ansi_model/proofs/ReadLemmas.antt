@@ -1,7 +1,7 @@
 -- What a terminal makes of appended bytes, of numbers, and of whole sequences.
 use Rattle.std.proofs.Common.{◌≡◌, ℕ, ◌+◌, ◌-◌, ◌*◌, ◌/◌, ◌%◌, ◌<◌, ◌≤◌, ◌^◌, min, List, [], ◌∷◌, ◌++◌, Bool, true, false, zero}
 use Rattle.std.proofs.Common.{suc, refl, sym, ap, ap₂, ◌∙◌, arith, ◌==◌, ◌&&◌, nat_lt, nat_eq, if◌then◌else◌, Result, Ok, Err}
-use Rattle.std.proofs.Common.{OnOk, append_assoc}
+use Rattle.std.proofs.Common.{OnOk, append_assoc, append-nil, subst}
 use Rattle.std.specs.{Result.is_ok, Fmt.decimal}
 use Rattle.std.proofs.lemmas.{Fmt.decimal_by_steps, Fmt.decimal_step, Fmt.decimal_digit, Bool.Decides.nat_tests}
 use Rattle.std.proofs.Math.Nat.{div-add-mod'}
@@ -11,7 +11,7 @@ use Rattle.ansi_model.specs.Emulator.{holding, with_sgr}
 use Rattle.ansi_model.specs.{Emulator.Phase.Ground, Emulator.Phase.Opened, Emulator.Phase.Sequence, Sequences.feed}
 use Rattle.ansi_model.specs.{Sequences.reads_in, Sequences.is_digit}
 use Rattle.ratatui_core.specs.Backend.{ClearType, All, AfterCursor, BeforeCursor, CurrentLine, UntilNewLine}
-use Rattle.ansi_model.specs.Sends.{Sends, Performs}
+use Rattle.ansi_model.specs.Sends.{Leads, Sends, Performs}
 use Rattle.ansi_model.specs.{Commands.command_bytes, declared.command.Command.Command}
 use Rattle.ansi_model.specs.{declared.command.SetCursorStyle.SetCursorStyle}
 use Rattle.ansi_model.specs.declared.command.Command.TheVariants.{EnableMouseCapture, DisableMouseCapture, EnableBracketedPaste}
@@ -32,15 +32,52 @@ unfolding feed
 feed-append [] ys t = refl
 feed-append (x ∷ xs) ys t = feed-append xs ys (reads_in t.phase x t)
 
--- one after the other
+pub after-those : (old mid new a b : List ℕ) → mid ≡ old ++ a → new ≡ mid ++ b → new ≡ old ++ (a ++ b)
+after-those old mid new a b first second = second ∙ ap (λ xs. xs ++ b) first ∙ append_assoc old a b
+
+-- bytes after others: what the first leave is what the second want
+pub Leads-then : {a b c : List ℕ} {p q : Emulator → Type 0} {f g all : Emulator → Emulator → Type 0} → Leads a b p f
+    → Leads b c q g → ((t u : Emulator) → p t → f t u → q u)
+    → ((t u v : Emulator) → p t → f t u → g u v → all t v) → Leads a c p all
+Leads-then {a} {b} {c} {all = all} first second links joins = record {
+  bytes = first.bytes ++ second.bytes;
+  appended = after-those a b c first.bytes second.bytes first.appended second.appended;
+  read = λ t is.
+      let u : Emulator = feed first.bytes t in
+      let led = first.read t is in
+      subst (all t) (sym (feed-append first.bytes second.bytes t))
+      (joins t u (feed second.bytes u) is led (second.read u (links t u is led)));
+}
+
+-- the same bytes, of which less is said
+pub Leads-so : {a b : List ℕ} {p q : Emulator → Type 0} {f g : Emulator → Emulator → Type 0} → Leads a b p f
+    → ((t : Emulator) → q t → p t) → ((t u : Emulator) → q t → f t u → g t u) → Leads a b q g
+Leads-so does wants leaves = record {
+  bytes = does.bytes;
+  appended = does.appended;
+  read = λ t is. leaves t (feed does.bytes t) is (does.read t (wants t is));
+}
+
+-- no bytes
+pub Leads-none : {a b : List ℕ} {p : Emulator → Type 0} {f : Emulator → Emulator → Type 0} → b ≡ a
+    → ((t : Emulator) → p t → f t t) → Leads a b p f
+unfolding feed
+Leads-none {a} none stays = record { bytes = []; appended = none ∙ sym (append-nil a); read = stays }
+
+-- the same bytes after others
+pub Leads-later : {a b : List ℕ} {p : Emulator → Type 0} {f : Emulator → Emulator → Type 0} (before : List ℕ) → Leads a b p f
+    → Leads (before ++ a) (before ++ b) p f
+Leads-later {a} before does = record {
+  bytes = does.bytes;
+  appended = ap (λ xs. before ++ xs) does.appended ∙ sym (append_assoc before a does.bytes);
+  read = does.read;
+}
+
+-- one action after the other
 pub Sends-then : (a b c : List ℕ) (f g : Emulator → Emulator) → Sends a b f → Sends b c g
     → ((t : Emulator) → (f t).phase ≡ Ground) → Sends a c (λ t. g (f t))
-Sends-then a b c f g first second stays = record {
-  bytes = first.bytes ++ second.bytes;
-  appended = second.appended ∙ ap (λ xs. xs ++ second.bytes) first.appended ∙ append_assoc a first.bytes second.bytes;
-  read = λ t ground. feed-append first.bytes second.bytes t ∙ ap (feed second.bytes) (first.read t ground) ∙ second.read (f t)
-      (stays t);
-}
+Sends-then a b c f g first second stays = Leads-then first second
+    (λ t u ground e. ap (λ (v : Emulator). v.phase) e ∙ stays t) (λ t u v ground e d. d ∙ ap g e)
 
 -- a text was pushed
 pub pushed : {E : Type 0} (r : Result (Unit {0}) E) (old new bs : List ℕ) (effect : Emulator → Emulator)
@@ -161,9 +198,6 @@ digits-more n old pre new big small first last =
 
 pub digits-one : (n : ℕ) (old new : List ℕ) → n < 10 → new ≡ old ++ (48 + n) ∷ [] → new ≡ old ++ decimal n
 digits-one n old new small last = last ∙ ap (λ ds. old ++ ds) (sym (decimal_digit n small))
-
-pub after-those : (old mid new a b : List ℕ) → mid ≡ old ++ a → new ≡ mid ++ b → new ≡ old ++ (a ++ b)
-after-those old mid new a b first second = second ∙ ap (λ xs. xs ++ b) first ∙ append_assoc old a b
 
 pub move-appended : (x y fx fy : ℕ) (old first second third fourth new semicolon last : List ℕ) → first ≡ old ++ 27 ∷ 91 ∷ []
     → second ≡ first ++ decimal (fy + 1) → third ≡ second ++ semicolon
@@ -499,21 +533,13 @@ fed-more : (n : ℕ) (t : Emulator) → fed (suc n) t ≡ line_fed (fed n t)
 fed-more zero t = refl
 fed-more (suc n) t = fed-more n (line_fed t)
 
--- none, one more, and all line feeds sent
-pub feeds-none : (a b : List ℕ) → Performs a b returned → Performs a b (λ t. fed 0 (returned t))
-feeds-none a b first = record { bytes = first.bytes; appended = first.appended; read = first.read }
-
+-- one more line feed sent
 pub feeds-more : (a b c : List ℕ) (k : ℕ) → Performs a b (λ t. fed k (returned t)) → Performs b c line_fed
     → Performs a c (λ t. fed (k + 1) (returned t))
 feeds-more a b c k first next =
     let rests : (t : Emulator) → fed k (returned (rested t)) ≡ rested (fed k (returned (rested t))) =
     λ t. fed-rested k (returned (rested t)) in
-    let both = Sends-then a b c (λ t. fed k (returned (rested t))) (λ t. line_fed (rested t)) first next
-    (λ t. ap (λ (u : Emulator). u.phase) (rests t)) in
     let e : suc k ≡ k + 1 = omega arith in
-    record {
-      bytes = both.bytes;
-      appended = both.appended;
-      read = λ t ground. both.read t ground ∙ ap line_fed (sym (rests t)) ∙ sym (fed-more k (returned (rested t)))
-          ∙ ap (λ n. fed n (returned (rested t))) e;
-    }
+    Leads-so (Sends-then a b c (λ t. fed k (returned (rested t))) (λ t. line_fed (rested t)) first next
+    (λ t. ap (λ (u : Emulator). u.phase) (rests t))) (λ t ground. ground) (λ t u ground does. does
+    ∙ ap line_fed (sym (rests t)) ∙ sym (fed-more k (returned (rested t))) ∙ ap (λ n. fed n (returned (rested t))) e)

@@ -1,18 +1,18 @@
 -- Regions that scroll, and what a screen shows of it.
 use Rattle.std.proofs.Common.{◌≡◌, ℕ, ◌+◌, ◌-◌, ◌<◌, ◌≤◌, ◌++◌, ◌==◌, ◌&&◌, min, nat_lt, nat_le, nat_eq, if◌then◌else◌, Bool}
-use Rattle.std.proofs.Common.{List, [], zero, suc, true, false, refl, sym, ap, ap₂, map, ◌∙◌, arith, append-nil, subst}
+use Rattle.std.proofs.Common.{List, zero, suc, true, false, refl, sym, ap, ap₂, map, ◌∙◌, arith, append-nil, subst}
 use Rattle.std.proofs.lemmas.Bool.Decides.{nat_tests}
 use Rattle.std.specs.List.{range_with_len}
 use Rattle.ratatui_core.specs.Buffer.{Look}
 use Rattle.ratatui_core.specs.Backend.{Screen, Motion, ScrollsRegion, ScrollsUp, ScrollsDown, scrolling_up, scrolling_down}
 use Rattle.ratatui_core.specs.Backend.{is_in_region, rows_above, upper_part, CurrentLine}
 use Rattle.ansi_model.specs.Columns.{Columns, look_in, blank_column, overwritten}
-use Rattle.ansi_model.specs.{Sgr.is_own, Sequences.feed, Sends.Performs}
+use Rattle.ansi_model.specs.{Sgr.is_own, Sends.Performs}
 use Rattle.ansi_model.specs.Emulator.{Emulator, rested, cursor_moved, erased, line_fed, fed, scrolled, if_so, returned}
 use Rattle.ansi_model.specs.Emulator.{columns_moved, fed_and_lowered, fed_and_lowered_by, with_region, without_region}
 use Rattle.ansi_model.specs.Emulator.{lines_deleted, lines_inserted}
 use Rattle.ansi_model.specs.Screens.{screen_shown, IsIdle, Turns, Becomes}
-use Rattle.ansi_model.proofs.ReadLemmas.{Sends-then, line_fed-rested}
+use Rattle.ansi_model.proofs.ReadLemmas.{Leads-so, Leads-none, Sends-then, line_fed-rested}
 use Rattle.ratatui_core.proofs.BackendLemmas.{moved-through}
 use Rattle.ansi_model.proofs.MotionLemmas.{IsOfRows, moved-tidy, row-emptied, up-still, down-still, up-and-down}
 use Rattle.ansi_model.proofs.ScrollLemmas.{all-known, KeepsReady, stays-idle, moved-placed, Feeds, feeds-none, feeds-next}
@@ -22,21 +22,13 @@ use Rattle.ansi_model.proofs.ScrollLemmas.{fed-feeds, region_row}
 pub Does-then : (a b c : List ℕ) (f g : Emulator → Emulator) → Performs a b f → Performs b c g
     → ((t : Emulator) → rested (f (rested t)) ≡ f (rested t)) → Performs a c (λ t. g (f t))
 Does-then a b c f g first second stays =
-    let both = Sends-then a b c (λ t. f (rested t)) (λ t. g (rested t)) first second (λ t. ap (λ (u : Emulator). u.phase)
-    (sym (stays t))) in
-    record { bytes = both.bytes; appended = both.appended; read = λ t ground. both.read t ground ∙ ap g (stays t) }
+    Leads-so (Sends-then a b c (λ t. f (rested t)) (λ t. g (rested t)) first second
+    (λ t. ap (λ (u : Emulator). u.phase) (sym (stays t)))) (λ t ground. ground) (λ t u ground e. e ∙ ap g (stays t))
 
 -- nothing sent
 pub Turns-none : (w h : ℕ) (old : List ℕ) (related : Emulator → Emulator → Type 0) → ((t : Emulator) → IsIdle w h t → related t t)
     → Turns w h old old related
-unfolding feed
-Turns-none w h old related same = record {
-  bytes = [];
-  appended = sym (append-nil old);
-  phase = λ t ground ready. ground;
-  ready = λ t ground ready. ready;
-  turned = λ t ground ready. same (rested t) ready;
-}
+Turns-none w h old related same = record { leads = Leads-none refl (λ t is. (is, same (rested t) is.idle)) }
 
 -- ---- a region, whatever its motion
 
@@ -317,15 +309,10 @@ pub rounds-more : (a b c : List ℕ) (k : ℕ) (f : Emulator → Emulator) → (
     → Performs a b (λ t. fed_and_lowered_by k (f t)) → Performs b c fed_and_lowered
     → Performs a c (λ t. fed_and_lowered_by (k + 1) (f t))
 rounds-more a b c k f stays first next =
-    let both = Does-then a b c (λ t. fed_and_lowered_by k (f t)) fed_and_lowered first next (λ t. rounds-rested k (f (rested t))
-    (stays t)) in
     let e : suc k ≡ k + 1 = omega arith in
-    record {
-      bytes = both.bytes;
-      appended = both.appended;
-      read = λ t ground. both.read t ground ∙ sym (rounds-next k (f (rested t)))
-          ∙ ap (λ n. fed_and_lowered_by n (f (rested t))) e;
-    }
+    Leads-so (Does-then a b c (λ t. fed_and_lowered_by k (f t)) fed_and_lowered first next
+    (λ t. rounds-rested k (f (rested t)) (stays t))) (λ t ground. ground)
+    (λ t u ground does. does ∙ sym (rounds-next k (f (rested t))) ∙ ap (λ n. fed_and_lowered_by n (f (rested t))) e)
 
 -- n rounds
 pub rounds-are : (n : ℕ) (t : Emulator) → t.top ≡ 0 → t.bottom ≡ 2 → t.x ≡ 0 → t.y ≡ 0 → 0 < t.width → 1 < t.height

@@ -6,12 +6,12 @@ use Rattle.std.specs.List.{list_all, range_with_len}
 use Rattle.ratatui_core.specs.Buffer.{Look, empty_look}
 use Rattle.ratatui_core.specs.Backend.{Scrolls, Appends, lines_past, scrolling_up}
 use Rattle.ansi_model.specs.Columns.{Column, Columns, look_in, is_known_column, blank_column}
-use Rattle.ansi_model.specs.{Sgr.default_sgr, Emulator.Phase.Ground, Sequences.feed, Sends.Performs}
+use Rattle.ansi_model.specs.{Sgr.default_sgr, Emulator.Phase.Ground, Sends.Performs}
 use Rattle.ansi_model.specs.Emulator.{Emulator, blank_terminal, rested, printed, line_fed, fed, scrolled, returned, cursor_moved}
 use Rattle.ansi_model.specs.Emulator.{columns_moved, if_so, row_shown, is_row_known}
 use Rattle.ansi_model.specs.Screens.{screen_shown, HaveOwnWidths, IsTidy, IsIdle, Turns, Becomes}
 use Rattle.ansi_model.specs.Beginnings.{AreKnown}
-use Rattle.ansi_model.proofs.TextLemmas.{blank-sized, sized-known}
+use Rattle.ansi_model.proofs.{ReadLemmas.Leads-so, TextLemmas.blank-sized, TextLemmas.sized-known}
 use Rattle.ratatui_core.proofs.BackendLemmas.{moved-through, moved-along}
 use Rattle.ansi_model.proofs.MotionLemmas.{moved-known, moved-tidy, tidy-along, blank-whole, up-still, up-again}
 
@@ -28,20 +28,12 @@ KeepsReady w h f related = (s : Emulator) → IsIdle w h s → IsIdle w h (f s) 
 pub turns-from : (w h : ℕ) (old new : List ℕ) (f : Emulator → Emulator) (related : Emulator → Emulator → Type 0)
     → Performs old new f → KeepsReady w h f related → Turns w h old new related
 turns-from w h old new f related does keeps = record {
-  bytes = does.bytes;
-  appended = does.appended;
-  phase = λ t ground ready. let after = (keeps (rested t) ready).0 in ap (λ (v : Emulator). v.phase) (does.read t ground)
-      ∙ after.rest.phase;
-  ready = λ t ground ready.
-      let after = (keeps (rested t) ready).0 in
-      let e : rested (feed does.bytes t) ≡ f (rested t) = ap rested (does.read t ground)
-      ∙ rested-ready w h (f (rested t)) after in
-      subst (IsIdle w h) (sym e) after;
-  turned = λ t ground ready.
-      let both = keeps (rested t) ready in
-      let e : rested (feed does.bytes t) ≡ f (rested t) = ap rested (does.read t ground)
-      ∙ rested-ready w h (f (rested t)) both.0 in
-      subst (related (rested t)) (sym e) both.1;
+  leads = Leads-so does (λ t is. is.phase) (λ t u is e.
+      let both = keeps (rested t) is.idle in
+      let rests : rested u ≡ f (rested t) = ap rested e ∙ rested-ready w h (f (rested t)) both.0 in (
+        record { phase = ap (λ (v : Emulator). v.phase) e ∙ both.0.rest.phase; idle = subst (IsIdle w h) (sym rests) both.0 },
+        subst (related (rested t)) (sym rests) both.1,
+      ));
 }
 
 -- ---- terminals that stay idle

@@ -1,9 +1,9 @@
 -- What a window makes of bytes: those that switch no screens are read by the one that it shows.
-use Rattle.std.proofs.Common.{◌≡◌, ℕ, Bool, true, List, [], ◌∷◌, ◌++◌, Option, Some, None, refl, sym, ap, ◌∙◌}
+use Rattle.std.proofs.Common.{◌≡◌, ℕ, Bool, true, List, [], ◌∷◌, ◌++◌, Option, Some, None, IfSome, refl, sym, ap, ◌∙◌}
 use Rattle.ansi_model.specs.Emulator.{Emulator, Phase, rested, with_sgr, cursor_shown, without_region}
 use Rattle.ansi_model.specs.Emulator.Phase.{Ground, Escape, Opened, Sequence, Spaced, Letters, Coding, Told, Switching}
 use Rattle.ansi_model.specs.Windows.{Window, alternate_of, come_back, settled_in, reads_on, feed_window}
-use Rattle.ansi_model.specs.{Sequences.feed, Sequences.reads_in, Sgr.default_sgr, Endings.ClosesAlternate}
+use Rattle.ansi_model.specs.{Sequences.feed, Sequences.reads_in, Sgr.default_sgr, Endings.ClosesAlternate, Endings.left_back}
 use Rattle.ansi_model.specs.{Beginnings.OpensAlternate, Beginnings.IsAsFound, Beginnings.anew}
 use Rattle.ansi_model.proofs.{ReadLemmas.feed-append, ReadLemmas.string-read, ReadLemmas.reset-read, ReadLemmas.no_region-read}
 use Rattle.ansi_model.proofs.{ReadLemmas.showing-read, CallLemmas.rested-left, CallLemmas.left-anew}
@@ -71,7 +71,7 @@ pub opens-alternate : (w h : ℕ) (old : List ℕ)
 opens-alternate w h old = record {
   bytes = _;
   appended = refl;
-  opened = λ main left.
+  read = λ main left.
       let again : IsAsFound w h (anew main) = left-anew w h main left in
       opening-read (anew main) again.phase ∙ ap (λ t. record {
         shown = alternate_of (with_sgr default_sgr t);
@@ -85,25 +85,27 @@ back-read : (t main : Emulator) → feed_window (27 ∷ 91 ∷ 63 ∷ 49 ∷ 48 
 unfolding feed_window
 back-read t main = refl
 
-pub closes-alternate : (old : List ℕ)
-    → ClosesAlternate old (old ++ (27 ∷ 91 ∷ 114 ∷ 27 ∷ 91 ∷ 63 ∷ 50 ∷ 53 ∷ 104 ∷ 27 ∷ 91 ∷ 63 ∷ 49 ∷ 48 ∷ 52 ∷ 57 ∷ 108 ∷ 27 ∷ 91
-    ∷ 48 ∷ 109 ∷ []))
-closes-alternate old = record {
-  bytes = _;
-  appended = refl;
-  closed = λ t main ground.
-      let region : List ℕ = 27 ∷ 91 ∷ 114 ∷ [] in
-      let shows : List ℕ = 27 ∷ 91 ∷ 63 ∷ 50 ∷ 53 ∷ 104 ∷ [] in
-      let switches : List ℕ = 27 ∷ 91 ∷ 63 ∷ 49 ∷ 48 ∷ 52 ∷ 57 ∷ 108 ∷ [] in
-      let resets : List ℕ = 27 ∷ 91 ∷ 48 ∷ 109 ∷ [] in
-      let ready : Emulator = cursor_shown true (without_region (rested t)) in
-      let there : Emulator = come_back main ready in
-      let settles : feed (region ++ shows) t ≡ ready = feed-append region shows t ∙ ap (feed shows) (no_region-read t ground)
-      ∙ showing-read (without_region (rested t)) refl in
-      let owns : feed resets there ≡ with_sgr default_sgr there = reset-read there refl in
-      window-append (region ++ shows) (switches ++ resets) (record { shown = t; aside = Some main })
-      ∙ ap (feed_window (switches ++ resets)) (window-read (region ++ shows) t (Some main)
-      (ap (λ (u : Emulator). u.phase) settles) ∙ ap (λ u. record { shown = u; aside = Some main }) settles)
-      ∙ window-append switches resets (record { shown = ready; aside = Some main }) ∙ ap (feed_window resets) (back-read t main)
-      ∙ window-read resets there None (ap (λ (u : Emulator). u.phase) owns) ∙ ap (λ u. record { shown = u; aside = None }) owns;
-}
+abbrev closing_bytes : List ℕ
+closing_bytes = 27 ∷ 91 ∷ 114 ∷ 27 ∷ 91 ∷ 63 ∷ 50 ∷ 53 ∷ 104 ∷ 27 ∷ 91 ∷ 63 ∷ 49 ∷ 48 ∷ 52 ∷ 57 ∷ 108 ∷ 27 ∷ 91 ∷ 48 ∷ 109 ∷ []
+
+closing-read : (t : Emulator) (aside : Option Emulator) → t.phase ≡ Ground → IfSome aside (λ main.
+    feed_window closing_bytes (record { shown = t; aside = aside }) ≡ record { shown = left_back main (rested t); aside = None })
+closing-read t None ground = tt
+closing-read t (Some main) ground =
+    let region : List ℕ = 27 ∷ 91 ∷ 114 ∷ [] in
+    let shows : List ℕ = 27 ∷ 91 ∷ 63 ∷ 50 ∷ 53 ∷ 104 ∷ [] in
+    let switches : List ℕ = 27 ∷ 91 ∷ 63 ∷ 49 ∷ 48 ∷ 52 ∷ 57 ∷ 108 ∷ [] in
+    let resets : List ℕ = 27 ∷ 91 ∷ 48 ∷ 109 ∷ [] in
+    let ready : Emulator = cursor_shown true (without_region (rested t)) in
+    let there : Emulator = come_back main ready in
+    let settles : feed (region ++ shows) t ≡ ready = feed-append region shows t ∙ ap (feed shows) (no_region-read t ground)
+    ∙ showing-read (without_region (rested t)) refl in
+    let owns : feed resets there ≡ with_sgr default_sgr there = reset-read there refl in
+    window-append (region ++ shows) (switches ++ resets) (record { shown = t; aside = Some main })
+    ∙ ap (feed_window (switches ++ resets)) (window-read (region ++ shows) t (Some main)
+    (ap (λ (u : Emulator). u.phase) settles) ∙ ap (λ u. record { shown = u; aside = Some main }) settles)
+    ∙ window-append switches resets (record { shown = ready; aside = Some main }) ∙ ap (feed_window resets) (back-read t main)
+    ∙ window-read resets there None (ap (λ (u : Emulator). u.phase) owns) ∙ ap (λ u. record { shown = u; aside = None }) owns
+
+pub closes-alternate : (old : List ℕ) → ClosesAlternate old (old ++ closing_bytes)
+closes-alternate old = record { bytes = _; appended = refl; read = λ w ground. closing-read w.shown w.aside ground }

@@ -5,7 +5,8 @@ use Rattle.ratatui_core.specs.Buffer.{Look}
 use Rattle.ansi_model.specs.{Columns.Columns, Columns.blank_column, Columns.is_known_column}
 use Rattle.ansi_model.specs.{Emulator.Emulator, Emulator.blank_terminal, Emulator.row_shown}
 use Rattle.ansi_model.specs.{Emulator.with_sgr, Emulator.Phase.Ground, Modes.no_modes, Sgr.default_sgr}
-use Rattle.ansi_model.specs.{Sequences.feed, Windows.alternate_of, Windows.feed_window}
+use Rattle.ansi_model.specs.{Sequences.feed, Sends.LeadsBy}
+use Rattle.ansi_model.specs.Windows.{Window, alternate_of, feed_window}
 
 -- a terminal of this size as another program may have left it, whatever its rendition, margins, modes, cursor
 -- and contents: it isn't in the middle of a sequence, and nothing stands off its screen
@@ -28,12 +29,14 @@ with_rows_above rows t = record t { history = rows ++ t.history }
 abbrev pub without_modes : Emulator → Emulator
 without_modes t = record t { modes = no_modes; x = 0; y = 0 }
 
+-- bytes, read by a terminal that is asked from here on
+abbrev pub feed_anew : List ℕ → Emulator → Emulator
+feed_anew bytes t = feed bytes (anew t)
+
 -- bytes were appended that make each terminal of this size a new one, however it was left; its history stays
-pub record MakesBlank (w h : ℕ) (old new : List ℕ) : Type 0 where
-  pub bytes : List ℕ
-  pub appended : new ≡ old ++ bytes
-  pub made : (t : Emulator) → IsAsFound w h t
-      → feed bytes (anew t) ≡ record (blank_terminal w h) { history = t.history }
+abbrev pub MakesBlank : ℕ → ℕ → List ℕ → List ℕ → Type 0
+MakesBlank w h old new = LeadsBy feed_anew old new (IsAsFound w h)
+    (λ t u. u ≡ record (blank_terminal w h) { history = t.history })
 
 -- it is known what stands in each column, as it is of every real terminal
 abbrev pub AreKnown : Columns → Type 0
@@ -49,20 +52,20 @@ scrolled_off w h rows t = record (blank_terminal w h) { history = rows; y = h - 
 
 -- bytes were appended that scroll the screen of each terminal of this size into its history, however it was
 -- left
-pub record SavesScreen (w h : ℕ) (old new : List ℕ) : Type 0 where
-  pub bytes : List ℕ
-  pub appended : new ≡ old ++ bytes
-  pub saved : (t : Emulator) → IsAsFound w h t → AreKnown t.columns
-      → feed bytes (anew t) ≡ scrolled_off w h (t.history ++ screen_rows t) t
+abbrev pub SavesScreen : ℕ → ℕ → List ℕ → List ℕ → Type 0
+SavesScreen w h old new = LeadsBy feed_anew old new (λ t. IsAsFound w h t × AreKnown t.columns)
+    (λ t u. u ≡ scrolled_off w h (t.history ++ screen_rows t) t)
+
+-- the same, read by a window that shows its main screen
+abbrev pub feed_main : List ℕ → Emulator → Window
+feed_main bytes main = feed_window bytes (record { shown = anew main; aside = None })
 
 -- bytes were appended that put the main screen of each window of this size aside, however it was left, and
 -- show a blank one
-pub record OpensAlternate (w h : ℕ) (old new : List ℕ) : Type 0 where
-  pub bytes : List ℕ
-  pub appended : new ≡ old ++ bytes
-  pub opened : (main : Emulator) → IsAsFound w h main
-      → let own : Emulator = with_sgr default_sgr (anew main) in
-      feed_window bytes (record { shown = anew main; aside = None }) ≡ record {
-        shown = alternate_of own;
-        aside = Some own;
-      }
+abbrev pub OpensAlternate : ℕ → ℕ → List ℕ → List ℕ → Type 0
+OpensAlternate w h old new =
+    LeadsBy feed_main old new (IsAsFound w h)
+    (λ main after. let own : Emulator = with_sgr default_sgr (anew main) in after ≡ record {
+      shown = alternate_of own;
+      aside = Some own;
+    })

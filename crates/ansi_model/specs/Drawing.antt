@@ -1,12 +1,12 @@
 -- What a symbol put in its place does to the terminal that reads it.
-use Rattle.std.specs.Prelude.{◌≡◌, ℕ, ◌+◌, zero, suc, ◌&&◌, Bool, true, false, IfSome, List, ◌++◌, ◌==◌}
+use Rattle.std.specs.Prelude.{◌≡◌, ℕ, ◌+◌, zero, suc, ◌&&◌, Bool, true, false, IfSome, List, ◌==◌}
 use Rattle.std.specs.Prelude.{chars, IsUtf8, Option, Some, None}
 use Rattle.std.specs.List.{list_all}
 use Rattle.ratatui_core.specs.{Layout.Position, Buffer.blank}
 use Rattle.ansi_model.specs.{declared.sgr.Sgr.Sgr, declared.pen.Pen.Pen, Sgr.default_sgr}
 use Rattle.ansi_model.specs.{Symbols.is_plain_char, Symbols.printed_columns, Emulator.Phase.Ground}
 use Rattle.ansi_model.specs.Emulator.{Emulator, rested, prints, prints_disputed, with_sgr}
-use Rattle.ansi_model.specs.{Sequences.feed, Sends.Performs, Modes.no_modes}
+use Rattle.ansi_model.specs.{Sends.Leads, Sends.Performs, Modes.no_modes}
 
 -- bytes were appended that set a rendition if the terminal has another, and none if it has this one
 pub data ChangesSgr (from to : Sgr) (old new : List ℕ) : Type 0 where
@@ -40,16 +40,21 @@ is_at x y pen = is_place x y pen.at
 abbrev pub drawn_at : ℕ → ℕ → Sgr → Emulator → Emulator
 drawn_at x y sgr t = record t { x = x; y = y; sgr = sgr }
 
+-- a terminal of this size that is drawn by a pen
+pub record IsCanvas (w h : ℕ) (pen : Pen) (t : Emulator) : Type 0 where
+  pub width : (rested t).width ≡ w
+  pub height : (rested t).height ≡ h
+  pub drawn : IsDrawnBy pen t
+
+-- this was done to a terminal, and it is drawn by a pen then
+pub record IsPainted (effect : Emulator → Emulator) (pen : Pen) (t u : Emulator) : Type 0 where
+  pub drawn : IsDrawnBy pen u
+  pub printed : rested u ≡ effect (rested t)
+
 -- bytes were appended that do this to each terminal of this size that is drawn by a pen, and leave it drawn
 -- by another one
-pub record Paints (w h : ℕ) (old : List ℕ) (before : Pen) (effect : Emulator → Emulator) (new : List ℕ)
-    (after : Pen) : Type 0 where
-  pub bytes : List ℕ
-  pub appended : new ≡ old ++ bytes
-  pub drawn : (t : Emulator) → (rested t).width ≡ w → (rested t).height ≡ h → IsDrawnBy before t
-      → IsDrawnBy after (feed bytes t)
-  pub printed : (t : Emulator) → (rested t).width ≡ w → (rested t).height ≡ h → IsDrawnBy before t
-      → rested (feed bytes t) ≡ effect (rested t)
+abbrev pub Paints : ℕ → ℕ → List ℕ → Pen → (Emulator → Emulator) → List ℕ → Pen → Type 0
+Paints w h old before effect new after = Leads old new (IsCanvas w h before) (IsPainted effect after)
 
 -- a symbol printed in a column and a row, in a rendition
 abbrev pub printed_at : ℕ → ℕ → Sgr → List ℕ → Emulator → Emulator

@@ -1,10 +1,10 @@
 -- How a program leaves its terminal.
-use Rattle.std.specs.Prelude.{◌≡◌, ◌-◌, true, List, ◌++◌, ℕ, Some, None}
+use Rattle.std.specs.Prelude.{◌≡◌, ◌-◌, true, List, ℕ, IfSome, None}
 use Rattle.ratatui_core.specs.Backend.{Appends, with_cursor, with_visible}
 use Rattle.ansi_model.specs.Emulator.{Emulator, rested, fed, returned, cursor_moved, cursor_shown}
 use Rattle.ansi_model.specs.Emulator.{without_region, with_sgr}
 use Rattle.ansi_model.specs.{Sgr.default_sgr, Emulator.Phase.Ground, Screens.screen_shown, Screens.IsResting}
-use Rattle.ansi_model.specs.{Windows.come_back, Windows.feed_window}
+use Rattle.ansi_model.specs.{Windows.come_back, Windows.feed_window, Sends.LeadsBy}
 
 -- a terminal of at most 65535 rows in its own colours, without margins, and with its cursor shown at the
 -- beginning of the row below its last one
@@ -28,9 +28,10 @@ abbrev pub left_back : Emulator → Emulator → Emulator
 left_back main t = with_sgr default_sgr (come_back main (cursor_shown true (without_region t)))
 
 -- bytes were appended that bring the main screen of each window back that shows its alternate one
-pub record ClosesAlternate (old new : List ℕ) : Type 0 where
-  pub bytes : List ℕ
-  pub appended : new ≡ old ++ bytes
-  pub closed : (t main : Emulator) → t.phase ≡ Ground
-      → feed_window bytes (record { shown = t; aside = Some main })
-      ≡ record { shown = left_back main (rested t); aside = None }
+abbrev pub ClosesAlternate : List ℕ → List ℕ → Type 0
+ClosesAlternate old new =
+    LeadsBy feed_window old new (λ w. w.shown.phase ≡ Ground)
+    (λ w after. IfSome w.aside (λ main. after ≡ record {
+      shown = left_back main (rested w.shown);
+      aside = None;
+    }))

@@ -1,10 +1,10 @@
 -- What a terminal shows, as the backends' contract speaks of it, and when it is ready for a call of a
 -- backend.
-use Rattle.std.specs.Prelude.{◌≡◌, ℕ, ◌+◌, ◌-◌, ◌<◌, ◌≤◌, min, Bool, true, false, List, [], ◌++◌}
+use Rattle.std.specs.Prelude.{◌≡◌, ℕ, ◌+◌, ◌-◌, ◌<◌, ◌≤◌, min, Bool, true, false, List, []}
 use Rattle.ratatui_core.specs.{Buffer.Look, Backend.Screen}
 use Rattle.ansi_model.specs.Columns.{Column, Columns, blank_column, look_in, is_continuation, overwritten}
 use Rattle.ansi_model.specs.{Columns.Column.Shows, Columns.Column.Unknown, Sgr.default_sgr}
-use Rattle.ansi_model.specs.{declared.sgr.Sgr.Sgr, Emulator.Phase.Ground, Sequences.feed}
+use Rattle.ansi_model.specs.{declared.sgr.Sgr.Sgr, Emulator.Phase.Ground, Sends.Leads}
 use Rattle.ansi_model.specs.Emulator.{Emulator, Phase, rested, run}
 use Rattle.ansi_model.specs.Modes.{Modes, no_modes}
 use Rattle.ansi_model.specs.Symbols.{printed_columns}
@@ -72,15 +72,15 @@ pub record IsIdle (w h : ℕ) (t : Emulator) : Type 0 where
   pub row : t.y < h
   pub tidy : IsTidy w t.columns
 
+-- it awaits text, and is so once its own text stands
+pub record IsReady (w h : ℕ) (t : Emulator) : Type 0 where
+  pub phase : t.phase ≡ Ground
+  pub idle : IsIdle w h (rested t)
+
 -- bytes were appended that leave each terminal ready that was so once its text stands, and related to what it
 -- was
 pub record Turns (w h : ℕ) (old new : List ℕ) (related : Emulator → Emulator → Type 0) : Type 0 where
-  pub bytes : List ℕ
-  pub appended : new ≡ old ++ bytes
-  pub phase : (t : Emulator) → t.phase ≡ Ground → IsIdle w h (rested t) → (feed bytes t).phase ≡ Ground
-  pub ready : (t : Emulator) → t.phase ≡ Ground → IsIdle w h (rested t) → IsIdle w h (rested (feed bytes t))
-  pub turned : (t : Emulator) → t.phase ≡ Ground → IsIdle w h (rested t)
-      → related (rested t) (rested (feed bytes t))
+  pub leads : Leads old new (IsReady w h) (λ t u. IsReady w h u × related (rested t) (rested u))
 
 -- a terminal's screen is related so to that of another, which it was, and these columns stand now
 pub record Becomes (related : Screen → Screen → Type 0) (standing : Columns) (s t : Emulator) : Type 0 where

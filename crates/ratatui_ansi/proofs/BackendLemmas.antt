@@ -52,8 +52,9 @@ tracked-from k kept whole = record { awaiting = kept.awaiting whole; visible = k
 
 module _ {old new : Tracker} {related : Screen → Screen → Type 0} (sent : List ℕ) {after : List ℕ}
     (call : Collects old related new) (none : string_bytes old.out ≡ []) (e : after ≡ sent ++ string_bytes new.out) where
-  read : reader old.size after ≡ feed call.bytes (reader old.size sent)
-  read = read-on old.size sent call.bytes after (e ∙ ap (λ xs. sent ++ xs) (call.appended ∙ ap (λ xs. xs ++ call.bytes) none))
+  read : reader old.size after ≡ feed call.leads.bytes (reader old.size sent)
+  read = read-on old.size sent call.leads.bytes after (e ∙ ap (λ xs. sent ++ xs) (call.leads.appended
+      ∙ ap (λ xs. xs ++ call.leads.bytes) none))
 
   -- the screen is related so to the former
   pub shown-on : IsTracked old (reader old.size sent) → related (screen_shown old.written (rested (reader old.size sent)))
@@ -61,7 +62,7 @@ module _ {old new : Tracker} {related : Screen → Screen → Type 0} (sent : Li
   shown-on awaits = subst (λ size. related (screen_shown old.written (rested (reader old.size sent)))
       (screen_shown new.written (rested (reader size after)))) (sym call.size)
       (subst (λ t. related (screen_shown old.written (rested (reader old.size sent))) (screen_shown new.written (rested t)))
-      (sym read) (call.shows (reader old.size sent) awaits))
+      (sym read) (call.leads.read (reader old.size sent) awaits).1)
 
   -- the backend is in order
   pub in-order-on : {broken broken_after : Bool} {failures failures_after : ℕ}
@@ -79,7 +80,7 @@ module _ {old new : Tracker} {related : Screen → Screen → Type 0} (sent : Li
     where
       tracked : IsTracked new (reader new.size after)
       tracked = subst (λ size. IsTracked new (reader size after)) (sym call.size)
-          (subst (IsTracked new) (sym read) (call.tracks (reader old.size sent) (tracked-from old kept whole)))
+          (subst (IsTracked new) (sym read) (call.leads.read (reader old.size sent) (tracked-from old kept whole)).0)
 
 -- and so it is if the writer was sent nothing more
 pub in-order-still : {size : Size} {place : Position} {flags draft : List Bool} {visible broken broken_after : Bool}
@@ -113,7 +114,7 @@ cursor-row {h = h} {place = place} {t = t} awaits =
 
 pub blank-read : (size : Size) (sent : List ℕ) → MakesBlank size.width size.height [] sent
     → reader size sent ≡ blank_terminal size.width size.height
-blank-read size sent blank = ap (reader size) blank.appended ∙ blank.made (blank_terminal size.width size.height)
+blank-read size sent blank = ap (reader size) blank.appended ∙ blank.read (blank_terminal size.width size.height)
     (fresh-left size.width size.height)
 
 -- what makes a terminal blank was all that was sent
@@ -123,7 +124,7 @@ blank-sent {w} {h} blank none nothing same e = rw (e, nothing, same) (rw none at
 
 blank-alike : (size : Size) (sent : List ℕ) → MakesBlank size.width size.height [] sent → IsReadAlike size sent
 blank-alike size sent blank t left =
-    ap (λ bytes. feed bytes (anew t)) blank.appended ∙ blank.made t left
+    ap (λ bytes. feed bytes (anew t)) blank.appended ∙ blank.read t left
     ∙ ap (λ rows. record (blank_terminal size.width size.height) { history = rows }) (sym (append-nil t.history))
     ∙ ap (with_rows_above t.history) (sym (blank-read size sent blank))
 
@@ -193,6 +194,6 @@ brings-back b contents sent closes alike ground tied = record {
       let phase : (feed b.sent (anew t)).phase ≡ Ground = ap (λ (u : Emulator). u.phase) (alike t left) ∙ ground in
       ap (λ bytes. feed_window bytes w) closes.appended ∙ window-append b.sent closes.bytes w
       ∙ ap (feed_window closes.bytes) (window-read b.sent (anew t) (Some main) phase)
-      ∙ closes.closed (feed b.sent (anew t)) main phase;
+      ∙ closes.read (record { shown = feed b.sent (anew t); aside = Some main }) phase;
   tied = tied;
 }

@@ -1,7 +1,7 @@
 -- What the bytes of a cell do to a terminal within a draw.
 use Rattle.std.proofs.Common.{◌≡◌, ℕ, ◌+◌, ◌-◌, ◌*◌, ◌^◌, ◌<◌, ◌≤◌, ◌==◌, ◌&&◌, not, min, nat_lt, nat_le, nat_eq, if◌then◌else◌}
 use Rattle.std.proofs.Common.{Bool, List, [], ◌∷◌, ◌++◌, IsTrue, chars, true, false, slice_index_or, IsUtf8, Option, Some, None}
-use Rattle.std.proofs.Common.{IfSome, refl, sym, ap, ap₂, ◌∙◌, arith, subst, inl, inr, append_assoc, append-nil, ◌⊎◌}
+use Rattle.std.proofs.Common.{IfSome, refl, sym, ap, ap₂, ◌∙◌, arith, subst, inl, inr, ◌⊎◌}
 use Rattle.std.proofs.lemmas.{Bool.and_parts, Bool.or_right, Bool.Decides.nat_tests, List.Folds.list_all-append, Str.encode_ascii}
 use lib.Utf8.{encode}
 use Rattle.std.specs.List.{list_all}
@@ -15,13 +15,14 @@ use Rattle.ratatui_ansi.specs.{declared.draw.DrawState.DrawState, Tracker.IsAwai
 use Rattle.ansi_model.specs.{Columns.Columns, Columns.look_in, Columns.is_continuation, Flags.AreContinuations, Flags.flag}
 use Rattle.ansi_model.specs.{Parameters.is_sendable_by}
 use Rattle.ansi_model.specs.{Sgr.default_sgr, Sgr.inked, Sgr.sgr_of, Emulator.Emulator, Emulator.rested, Emulator.with_sgr}
-use Rattle.ansi_model.specs.{Sequences.feed}
+use Rattle.ansi_model.specs.{Sends.Leads}
 use Rattle.ansi_model.specs.Symbols.{is_plain_char, is_one_plain, is_printed, printed_columns, glyph_columns}
 use Rattle.ansi_model.specs.{Screens.screen_shown, Screens.IsIdle, Drawing.ChangesSgr.Stays, Drawing.ChangesSgr.Sets}
 use Rattle.ansi_model.specs.Drawing.{printed_at, blanked, WritesAt, IsDrawnBy, ChangesSgr, Paints, Prints}
 use Rattle.ratatui_ansi.specs.Frame.{is_fit, is_sendable_on, IsGlyph, IsVacant, IsDrawing, AreMarked, Covers, SendsUpdates}
 use Rattle.ratatui_ansi.specs.Frame.{SendsDraw}
-use Rattle.ansi_model.proofs.{ReadLemmas.feed-append, SymbolLemmas.plain-printed, SymbolLemmas.plain-single}
+use Rattle.ansi_model.proofs.ReadLemmas.{Leads-then, Leads-so, Leads-none}
+use Rattle.ansi_model.proofs.{SymbolLemmas.plain-printed, SymbolLemmas.plain-single}
 use Rattle.ansi_model.proofs.{SymbolLemmas.one-undisputed, GlyphLemmas.printed-width, SgrLemmas.equal-number}
 use Rattle.ratatui_ansi.proofs.TailLemmas.{continuation-empty, laid-shown, IsTail}
 use Rattle.ansi_model.proofs.PaintLemmas.{Paints-then}
@@ -157,31 +158,25 @@ lay-sends w h x y n end cell before after flags flags_after old new fit en colum
     let tail : (t : Emulator) → IsDrawing w h before flags t → IsTail (x + n) end y (rested t).columns =
     λ t is. tail-of w h (x + n) end y flags (rested t).columns is.continuations is.ready.tidy.beyond row ordered inside set unset
     in
-    let laid_at : (t : Emulator) → IsDrawing w h before flags t
-    → IsLaid x y n end (look_of cell) (rested t) (rested (feed both.bytes t)) = λ t is.
-    subst (IsLaid x y n end (look_of cell) (rested t)) (sym (both.printed t is.ready.rest.width is.ready.rest.height is.drawn))
+    Leads-so both (λ t is. record { width = is.ready.rest.width; height = is.ready.rest.height; drawn = is.drawn })
+    (λ t v is did.
+    let u = rested v in
+    let at : IsLaid x y n end (look_of cell) (rested t) u = subst (IsLaid x y n end (look_of cell) (rested t)) (sym did.printed)
     (subst (λ look. IsLaid x y n end look (rested t) (blanked (x + n) y m (printed_at x y (sgr_of cell) symbol (rested t))))
     (ink-look cell)
     (laid-by w h x y n end (sgr_of cell) symbol (rested t) is.ready columns some fits inside row (left t is) (tail t is))) in
-    record {
-      bytes = both.bytes;
-      appended = both.appended;
-      drawing = λ t is.
-          let at = laid_at t is in
-          let u = rested (feed both.bytes t) in
-          let wide : u.width ≡ w = ap (λ (v : Emulator). v.width) at.only ∙ is.ready.rest.width in
-          record {
-            drawn = both.drawn t is.ready.rest.width is.ready.rest.height is.drawn;
-            ready = laid-ready w h x y n end (look_of cell) (rested t) u is.ready (sym columns
-                ∙ ap (λ (look : Look). printed_columns look.symbol) (ink-look cell)) fits row (left t is) (tail t is) at;
-            continuations = laid-flags w h x y n end (look_of cell)
-                (rested t) u flags flags_after is.continuations ordered inside some at marked;
-            cursor = cursor-at end y w u.x u.y u.width at.x_at at.y_at wide ∙ sym cursor;
-          };
-      draws = λ t is.
-          laid-draws w h x y n end cell (rested t) (rested (feed both.bytes t)) before.written after.written is.ready.rest.width
-          is.ready.rest.height (tail t is) en some fits row (laid_at t is) count;
-    }
+    let wide : u.width ≡ w = ap (λ (v : Emulator). v.width) at.only ∙ is.ready.rest.width in (
+      record {
+        drawn = did.drawn;
+        ready = laid-ready w h x y n end (look_of cell) (rested t) u is.ready (sym columns
+            ∙ ap (λ (look : Look). printed_columns look.symbol) (ink-look cell)) fits row (left t is) (tail t is) at;
+        continuations = laid-flags w h x y n end (look_of cell)
+            (rested t) u flags flags_after is.continuations ordered inside some at marked;
+        cursor = cursor-at end y w u.x u.y u.width at.x_at at.y_at wide ∙ sym cursor;
+      },
+      laid-draws w h x y n end cell (rested t) u before.written after.written is.ready.rest.width
+          is.ready.rest.height (tail t is) en some fits row at count,
+    ))
 
 -- a rendition, a symbol, and blanks in what is left of another one
 pub cell-sends : (w h x y : ℕ) (cell : Cell) (glyph : Glyph) (end : ℕ) (before after : DrawState) (inked drawn : Pen)
@@ -236,17 +231,14 @@ pub still-sends : (w h : ℕ) (u : Update) (before after : DrawState) (flags : L
     → after.cursor ≡ before.cursor → after.written ≡ min (before.written + 1) (2 ^ 64 - 1)
     → ((c : Columns) → AreContinuations w h flags c → (a b : ℕ) → look_in (c a b) ≡ put w h u (λ i j. look_in (c i j)) a b)
     → SendsUpdates w h old before flags (u ∷ []) old after flags
-unfolding feed
-still-sends w h u before after flags old pen cursor count same = record {
-  bytes = [];
-  appended = sym (append-nil old);
-  drawing = λ t is. record {
+still-sends w h u before after flags old pen cursor count same = Leads-none refl (λ t is. (
+  record {
     drawn = subst (λ b. IsDrawnBy b t) (sym pen) is.drawn;
     ready = is.ready;
     continuations = is.continuations;
     cursor = is.cursor ∙ sym cursor;
-  };
-  draws = λ t is. record {
+  },
+  record {
     history = refl;
     width = refl;
     height = refl;
@@ -254,8 +246,8 @@ still-sends w h u before after flags old pen cursor count same = record {
     grid = λ a b. rw (is.ready.rest.width, is.ready.rest.height) (same (rested t).columns is.continuations a b);
     written = λ below. omega arith;
     full = λ above. omega arith;
-  };
-}
+  },
+))
 
 pub put-off : (w h : ℕ) (u : Update) → (nat_lt u.x w && nat_lt u.y h) ≡ false → (c : Columns) (a b : ℕ)
     → look_in (c a b) ≡ put w h u (λ i j. look_in (c i j)) a b
@@ -313,28 +305,13 @@ sendable-push w h colors us u all sent = list_all-append (is_sendable_on w h col
 -- ---- a draw
 
 pub sends-none : (w h : ℕ) (old : List ℕ) (d : DrawState) (flags : List Bool) → SendsUpdates w h old d flags [] old d flags
-unfolding feed
-sends-none w h old d flags = record {
-  bytes = [];
-  appended = sym (append-nil old);
-  drawing = λ t is. is;
-  draws = λ t is. Draws-none (screen_shown d.written (rested t));
-}
+sends-none w h old d flags = Leads-none refl (λ t is. (is, Draws-none (screen_shown d.written (rested t))))
 
 pub sends-push : (w h : ℕ) (a b c : List ℕ) (p q r : DrawState) (f g k : List Bool) (us : List Update) (u : Update)
     → SendsUpdates w h a p f us b q g → SendsUpdates w h b q g (u ∷ []) c r k
     → SendsUpdates w h a p f (us ++ u ∷ []) c r k
 sends-push w h a b c p q r f g k us u first second =
-    let fed : (t : Emulator) → feed (first.bytes ++ second.bytes) t ≡ feed second.bytes (feed first.bytes t) =
-    feed-append first.bytes second.bytes in
-    record {
-      bytes = first.bytes ++ second.bytes;
-      appended = second.appended ∙ ap (λ xs. xs ++ second.bytes) first.appended ∙ append_assoc a first.bytes second.bytes;
-      drawing = λ t is. subst (IsDrawing w h r k) (sym (fed t)) (second.drawing (feed first.bytes t) (first.drawing t is));
-      draws = λ t is.
-          subst (λ v. Draws (screen_shown p.written (rested t)) (us ++ u ∷ []) (screen_shown r.written (rested v))) (sym (fed t))
-          (Draws-push (first.draws t is) (second.draws (feed first.bytes t) (first.drawing t is)));
-    }
+    Leads-then first second (λ s t is did. did.0) (λ s t v is did more. (more.0, Draws-push did.1 more.1))
 
 -- a draw begins with the own rendition and an unknown place
 pub begins : (w h : ℕ) (d : DrawState) (cursor : Position) (flags : List Bool) (t : Emulator) → d.pen.sgr ≡ default_sgr
@@ -383,46 +360,31 @@ with-own w h t own ready = record {
 }
 
 -- and ends with the own rendition
+ends : (w h : ℕ) (old new : List ℕ) (d : DrawState) (flags : List Bool) → ChangesSgr d.pen.sgr default_sgr old new
+    → Leads old new (IsDrawing w h d flags) (λ t u. IsAwaiting w h d.cursor flags u
+    × (screen_shown d.written (rested u) ≡ screen_shown d.written (rested t)))
+ends w h old new d flags (Stays same none) = Leads-none none (λ t is. (
+  record {
+    phase = is.drawn.phase;
+    ready = with-own w h (rested t) (is.drawn.sgr ∙ same) is.ready;
+    continuations = is.continuations;
+    placed = is.cursor;
+  },
+  refl,
+))
+ends w h old new d flags (Sets does) = Leads-so does (λ t is. is.drawn.phase) (λ t u is e.
+    subst (λ v. IsAwaiting w h d.cursor flags v × (screen_shown d.written (rested v) ≡ screen_shown d.written (rested t)))
+    (sym e) (record { phase = refl; ready = is.ready; continuations = is.continuations; placed = is.cursor }, refl))
+
 pub draw-sends : (w h : ℕ) (old mid new : List ℕ) (before after : DrawState) (cursor : Position) (written : ℕ)
     (flags flags_after : List Bool) (us : List Update) → before.pen.sgr ≡ default_sgr
     → before.pen.at ≡ None → before.cursor ≡ cursor → before.written ≡ written
     → SendsUpdates w h old before flags us mid after flags_after → ChangesSgr after.pen.sgr default_sgr mid new
     → SendsDraw w h old cursor written flags us new after.cursor after.written flags_after
 draw-sends w h old mid new before after cursor written flags flags_after us own unplaced at count sends changes =
-    let start = λ (t : Emulator) (is : IsAwaiting w h cursor flags t). begins w h before cursor flags t own unplaced at is in
-    elim changes [
-      | Stays same none ↦ record {
-        bytes = sends.bytes;
-        appended = none ∙ sends.appended;
-        awaiting = λ t is.
-            let end = sends.drawing t (start t is) in
-            record {
-              phase = end.drawn.phase;
-              ready = with-own w h (rested (feed sends.bytes t)) (end.drawn.sgr ∙ same) end.ready;
-              continuations = end.continuations;
-              placed = end.cursor;
-            };
-        draws = λ t is. subst (λ n. Draws (screen_shown n (rested t)) us
-            (screen_shown after.written (rested (feed sends.bytes t)))) count (sends.draws t (start t is));
-      }
-      | Sets does ↦
-          let fed : (t : Emulator) → IsAwaiting w h cursor flags t
-          → feed (sends.bytes ++ does.bytes) t ≡ with_sgr default_sgr (rested (feed sends.bytes t)) = λ t is.
-          feed-append sends.bytes does.bytes t ∙ does.read (feed sends.bytes t) (sends.drawing t (start t is)).drawn.phase in
-          record {
-            bytes = sends.bytes ++ does.bytes;
-            appended = does.appended ∙ ap (λ xs. xs ++ does.bytes) sends.appended ∙ append_assoc old sends.bytes does.bytes;
-            awaiting = λ t is.
-                let end = sends.drawing t (start t is) in
-                let last : IsAwaiting w h after.cursor flags_after (with_sgr default_sgr (rested (feed sends.bytes t))) =
-                record { phase = refl; ready = end.ready; continuations = end.continuations; placed = end.cursor } in
-                subst (IsAwaiting w h after.cursor flags_after) (sym (fed t is)) last;
-            draws = λ t is.
-                let before_count = subst (λ n. Draws (screen_shown n (rested t)) us
-                (screen_shown after.written (rested (feed sends.bytes t)))) count (sends.draws t (start t is)) in
-                let same : Draws (screen_shown written (rested t)) us
-                (screen_shown after.written (rested (with_sgr default_sgr (rested (feed sends.bytes t))))) = before_count in
-                subst (λ v. Draws (screen_shown written (rested t)) us (screen_shown after.written (rested v)))
-                (sym (fed t is)) same;
-          }
-    ]
+    let drawn : Leads old mid (IsAwaiting w h cursor flags) (λ t u. IsDrawing w h after flags_after u
+    × Draws (screen_shown written (rested t)) us (screen_shown after.written (rested u))) =
+    Leads-so sends (λ t is. begins w h before cursor flags t own unplaced at is) (λ t u is did.
+    (did.0, subst (λ n. Draws (screen_shown n (rested t)) us (screen_shown after.written (rested u))) count did.1)) in
+    Leads-then drawn (ends w h mid new after flags_after changes) (λ t u is did. did.0) (λ t u v is did more.
+    (more.0, subst (Draws (screen_shown written (rested t)) us) (sym more.1) did.1))

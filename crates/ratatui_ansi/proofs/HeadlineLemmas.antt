@@ -1,5 +1,5 @@
 -- From the screen that a backend stands for to the terminal that has read its bytes.
-use Rattle.std.proofs.Common.{◌≡◌, ℕ, ◌<◌, ◌≤◌, Option, ◌++◌, List, [], ◌∷◌, inl, refl, sym, ap, ◌∙◌, true, false, subst}
+use Rattle.std.proofs.Common.{◌≡◌, ℕ, ◌<◌, ◌≤◌, Option, List, [], ◌∷◌, inl, refl, sym, ap, ◌∙◌, true, false, subst}
 use Rattle.ratatui_core.specs.{Layout.Size, Backend.Screen, Buffer.Grid, Buffer.Look, Buffer.ShowsBuffer, Buffer.IsSettledBuffer}
 use Rattle.ratatui_core.specs.Terminal.{TerminalData, IsInStep, DrawsFrame}
 use Rattle.ratatui_core.specs.Headline.{Event, Along, last_state, IsFaithful, Draw}

@@ -1,19 +1,18 @@
 -- A symbol that is printed, and blanks in what is left of another one.
-use Rattle.std.proofs.Common.{◌≡◌, ℕ, ◌+◌, ◌-◌, ◌*◌, ◌<◌, ◌≤◌, ◌&&◌, nat_lt, nat_le, if◌then◌else◌, Bool, List, [], true, false}
+use Rattle.std.proofs.Common.{◌≡◌, ℕ, ◌+◌, ◌-◌, ◌*◌, ◌<◌, ◌≤◌, ◌&&◌, nat_lt, nat_le, if◌then◌else◌, Bool, List, true, false}
 use Rattle.std.proofs.Common.{zero, suc, slice_index_or, Option, Some, None, IfSome, refl, sym, ap, ◌∙◌, arith, subst, inl, inr}
-use Rattle.std.proofs.Common.{append-nil}
 use Rattle.std.proofs.lemmas.{Bool.cases_lt, Bool.Decides.nat_tests, Str.chars-nil, Str.IsUtf8-nil}
 use Rattle.std.specs.List.{list_all}
 use Rattle.ratatui_core.specs.{Layout.Position, Buffer.blank, Buffer.Look, Buffer.empty_look}
 use Rattle.ansi_model.specs.{declared.sgr.Sgr.Sgr, declared.pen.Pen.Pen, Columns.Columns, Columns.is_continuation}
 use Rattle.ansi_model.specs.{Flags.AreContinuations}
-use Rattle.ansi_model.specs.{Sgr.default_sgr, Sgr.inked, Symbols.is_plain_char, Symbols.printed_columns, Sequences.feed}
+use Rattle.ansi_model.specs.{Sgr.default_sgr, Sgr.inked, Symbols.is_plain_char, Symbols.printed_columns}
 use Rattle.ansi_model.specs.Emulator.{Emulator, rested, run, with_sgr}
 use Rattle.ansi_model.specs.Screens.{IsWhole, IsBlankBeyond, IsIdle, put_columns}
 use Rattle.ansi_model.specs.Drawing.{printed_at, blanked, WritesAt, IsDrawnBy, ChangesSgr, Paints}
 use Rattle.ansi_model.specs.Drawing.ChangesSgr.{Stays, Sets}
 use Rattle.ratatui_ansi.specs.Frame.{AreMarked}
-use Rattle.ansi_model.proofs.{MotionLemmas.tidy-along, TextLemmas.blank-one}
+use Rattle.ansi_model.proofs.{ReadLemmas.Leads-so, ReadLemmas.Leads-none, MotionLemmas.tidy-along, TextLemmas.blank-one}
 use Rattle.ansi_model.proofs.PaintLemmas.{OnlyPrinted, blanked-only, blanked-width, blanked-height, Paints-then}
 use Rattle.rtui_grid.proofs.PlaceLemmas.{by_rows}
 use Rattle.ratatui_ansi.proofs.TailLemmas.{torn, put-torn, torn-more, torn-all, laid-sized, laid-whole, laid-beyond}
@@ -78,32 +77,24 @@ placed-with sgr t (Some p) known = record {
 
 pub sgr-paints : (w h : ℕ) (before : Pen) (sgr : Sgr) (old new : List ℕ) → ChangesSgr before.sgr sgr old new
     → Paints w h old before (with_sgr sgr) new (record before { sgr = sgr })
-unfolding feed
-sgr-paints w h before sgr old new (Stays same none) = record {
-  bytes = [];
-  appended = none ∙ sym (append-nil old);
-  drawn = λ t width height drawn. record {
-    phase = drawn.phase;
-    sgr = drawn.sgr ∙ same;
-    modes = drawn.modes;
-    placed = drawn.placed;
+sgr-paints w h before sgr old new (Stays same none) = Leads-none none (λ t is. record {
+  drawn = record {
+    phase = is.drawn.phase;
+    sgr = is.drawn.sgr ∙ same;
+    modes = is.drawn.modes;
+    placed = is.drawn.placed;
   };
-  printed = λ t width height drawn. with_sgr-same sgr (rested t) (drawn.sgr ∙ same);
-}
-sgr-paints w h before sgr old new (Sets does) =
-    let fed : (t : Emulator) → IsDrawnBy before t → feed does.bytes t ≡ with_sgr sgr (rested t) =
-    λ t drawn. does.read t drawn.phase in
-    record {
-      bytes = does.bytes;
-      appended = does.appended;
-      drawn = λ t width height drawn. subst (IsDrawnBy (record before { sgr = sgr })) (sym (fed t drawn)) (record {
-        phase = refl;
-        sgr = refl;
-        modes = drawn.modes;
-        placed = placed-with sgr t before.at drawn.placed;
-      });
-      printed = λ t width height drawn. ap rested (fed t drawn);
-    }
+  printed = with_sgr-same sgr (rested t) (is.drawn.sgr ∙ same);
+})
+sgr-paints w h before sgr old new (Sets does) = Leads-so does (λ t is. is.drawn.phase) (λ t u is e. record {
+  drawn = subst (IsDrawnBy (record before { sgr = sgr })) (sym e) (record {
+    phase = refl;
+    sgr = refl;
+    modes = is.drawn.modes;
+    placed = placed-with sgr t before.at is.drawn.placed;
+  });
+  printed = ap rested e;
+})
 
 blanked-sgr : (x y n : ℕ) (t : Emulator) → blanked x y (suc n) (with_sgr default_sgr t) ≡ blanked x y (suc n) t
 blanked-sgr x y zero t = refl
@@ -119,14 +110,11 @@ blanks-own w h x y n m old mid new before between after changes pens done some =
     let both : Paints w h old before (λ t. blanked x y n (with_sgr default_sgr t)) new after =
     Paints-then w h old mid new before between after (with_sgr default_sgr) (blanked x y n)
     (λ t. (refl, refl)) sgr_set done in
-    record {
-      bytes = both.bytes;
-      appended = both.appended;
-      drawn = both.drawn;
-      printed = λ t wide high drawn. both.printed t wide high drawn
-          ∙ ap (λ k. blanked x y k (with_sgr default_sgr (rested t))) some ∙ blanked-sgr x y m (rested t)
+    Leads-so both (λ t is. is) (λ t u is did. record {
+      drawn = did.drawn;
+      printed = did.printed ∙ ap (λ k. blanked x y k (with_sgr default_sgr (rested t))) some ∙ blanked-sgr x y m (rested t)
           ∙ ap (λ k. blanked x y k (rested t)) (sym some);
-    }
+    })
 
 -- ---- a symbol, and blanks in what is left of another one
 

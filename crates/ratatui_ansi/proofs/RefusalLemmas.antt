@@ -55,6 +55,7 @@ stops-draw steps content update w h colors old d cursor written flags refusal ow
   stops = λ t is.
       let start = begins w h d cursor flags t own unplaced at is in
       let u = feed stops.sends.bytes t in
+      let did = stops.sends.read t start in
       record {
         front = stops.front;
         item = stops.item;
@@ -62,9 +63,8 @@ stops-draw steps content update w h colors old d cursor written flags refusal ow
         gives = stops.gives;
         between = screen_shown stops.after.written (rested u);
         draws = subst (λ n. Draws (screen_shown n (rested t)) (map update stops.front)
-            (screen_shown stops.after.written (rested u))) count (stops.sends.draws t start);
-        refused = refused-on w h colors stops.after stops.flags_after u (update stops.item) refusal
-            (stops.sends.drawing t start) stops.refused;
+            (screen_shown stops.after.written (rested u))) count did.1;
+        refused = refused-on w h colors stops.after stops.flags_after u (update stops.item) refusal did.0 stops.refused;
       };
 }
 

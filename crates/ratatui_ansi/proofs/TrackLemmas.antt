@@ -1,7 +1,7 @@
 -- From what bytes do to a ready terminal to what a backend keeps of it.
-use Rattle.std.proofs.Common.{◌≡◌, ℕ, ◌+◌, ◌-◌, ◌*◌, ◌<◌, ◌≤◌, ◌++◌, ◌&&◌, ◌||◌, min, nat_lt, nat_le, nat_eq, if◌then◌else◌, Bool}
-use Rattle.std.proofs.Common.{List, length, true, false, string_bytes, refl, sym, ap, ap₂, ◌∙◌, arith, append_assoc, append-nil}
-use Rattle.std.proofs.Common.{[], subst}
+use Rattle.std.proofs.Common.{◌≡◌, ℕ, ◌+◌, ◌-◌, ◌*◌, ◌<◌, ◌≤◌, ◌&&◌, ◌||◌, min, nat_lt, nat_le, nat_eq, if◌then◌else◌, Bool}
+use Rattle.std.proofs.Common.{List, length, true, false, string_bytes, refl, sym, ap, ap₂, ◌∙◌, arith}
+use Rattle.std.proofs.Common.{subst}
 use Rattle.std.proofs.lemmas.Bool.{false≢true}
 use Rattle.std.proofs.lemmas.Bool.Decides.{nat_tests}
 use mathlib.Core.Bool.{beq}
@@ -10,11 +10,12 @@ use Rattle.ratatui_core.specs.Backend.{Screen, Motion, scrolling_up, Draws, Scro
 use Rattle.ratatui_core.specs.Backend.{with_visible, cursor_of, ClearType, All, AfterCursor, BeforeCursor, is_cleared}
 use Rattle.ansi_model.specs.Columns.{Columns, look_in, blank_column, overwritten}
 use Rattle.ansi_model.specs.Emulator.{Emulator, rested, columns_moved, cursor_moved, erased, keeps_history}
-use Rattle.ansi_model.specs.{Sequences.feed, Flags.flag, Flags.AreContinuations, Flags.is_cut, Sends.Performs}
+use Rattle.ansi_model.specs.{Sends.Leads, Flags.flag, Flags.AreContinuations, Flags.is_cut, Sends.Performs}
 use Rattle.ansi_model.specs.Screens.{screen_shown, IsIdle, Turns, Becomes}
 use Rattle.ratatui_ansi.specs.{declared.tracker.Tracker.Tracker, Frame.SendsDraw}
 use Rattle.ratatui_ansi.specs.Tracker.{IsAwaiting, IsTracked, IsTracker, Collects}
-use Rattle.ansi_model.proofs.{ReadLemmas.feed-append, FlagLemmas.AreContinuations-along, EraseLemmas.erasing}
+use Rattle.ansi_model.proofs.ReadLemmas.{Leads-then, Leads-so, Leads-none}
+use Rattle.ansi_model.proofs.{FlagLemmas.AreContinuations-along, EraseLemmas.erasing}
 use Rattle.ansi_model.proofs.{EraseLemmas.part-erased, EraseLemmas.part-tidy}
 use Rattle.ratatui_ansi.proofs.TailLemmas.{continuation-empty}
 use Rattle.ratatui_core.proofs.BackendLemmas.{moved-through}
@@ -25,32 +26,15 @@ use Rattle.ansi_model.proofs.ScrollLemmas.{rested-ready, stays-idle, moved-place
 pub record SendsCall (w h : ℕ) (old new : List ℕ) (cursor : Position) (flags : List Bool) (cursor_after : Position)
     (flags_after : List Bool)
     (related : Screen → Screen → Type 0) : Type 0 where
-  pub bytes : List ℕ
-  pub appended : new ≡ old ++ bytes
-  pub awaiting : (t : Emulator) → IsAwaiting w h cursor flags t → IsAwaiting w h cursor_after flags_after (feed bytes t)
-  pub shows : (written : ℕ) (t : Emulator) → IsAwaiting w h cursor flags t
-      → related (screen_shown written (rested t)) (screen_shown written (rested (feed bytes t)))
+  pub leads : Leads old new (IsAwaiting w h cursor flags) (λ t u. IsAwaiting w h cursor_after flags_after u
+      × ((written : ℕ) → related (screen_shown written (rested t)) (screen_shown written (rested u))))
 
 -- one after the other
 pub Turns-then : (w h : ℕ) (a b c : List ℕ) (first second : Emulator → Emulator → Type 0) → Turns w h a b first
     → Turns w h b c second → Turns w h a c (λ s u. (t : Emulator) × first s t × second t u)
-Turns-then w h a b c first second one two =
-    let joined : (t : Emulator) → feed (one.bytes ++ two.bytes) t ≡ feed two.bytes (feed one.bytes t) =
-    feed-append one.bytes two.bytes in
-    record {
-      bytes = one.bytes ++ two.bytes;
-      appended = two.appended ∙ ap (λ xs. xs ++ two.bytes) one.appended ∙ append_assoc a one.bytes two.bytes;
-      phase = λ t ground ready. ap (λ (u : Emulator). u.phase) (joined t) ∙ two.phase (feed one.bytes t)
-          (one.phase t ground ready) (one.ready t ground ready);
-      ready = λ t ground ready. subst (λ u. IsIdle w h (rested u)) (sym (joined t))
-          (two.ready (feed one.bytes t) (one.phase t ground ready) (one.ready t ground ready));
-      turned = λ t ground ready. subst (λ u. (m : Emulator) × first (rested t) m × second m (rested u)) (sym (joined t)) (
-        rested (feed one.bytes t),
-        one.turned t ground ready,
-        two.turned (feed one.bytes t) (one.phase t ground ready)
-            (one.ready t ground ready),
-      );
-    }
+Turns-then w h a b c first second one two = record {
+  leads = Leads-then one.leads two.leads (λ t u is did. did.0) (λ t u v is did more. (more.0, (rested u, did.1, more.1)));
+}
 
 -- what is known of a ready terminal after a call
 pub record IsKept (w h : ℕ) (place : Position) (flags : List Bool) (related : Screen → Screen → Type 0)
@@ -66,19 +50,12 @@ pub call-from : (w h : ℕ) (a b : List ℕ) (place place_after : Position) (fla
     → IsKept w h place_after flags_after related s t)
     → SendsCall w h a b place flags place_after flags_after related
 call-from w h a b place place_after flags flags_after turned related turns kept =
-    let all = λ (t : Emulator) (awaiting : IsAwaiting w h place flags t). kept (rested t)
-    (rested (feed turns.bytes t)) awaiting.ready awaiting.placed awaiting.continuations
-    (turns.turned t awaiting.phase awaiting.ready) in
     record {
-      bytes = turns.bytes;
-      appended = turns.appended;
-      awaiting = λ t awaiting. record {
-        phase = turns.phase t awaiting.phase awaiting.ready;
-        ready = turns.ready t awaiting.phase awaiting.ready;
-        placed = (all t awaiting).cursor;
-        continuations = (all t awaiting).continuations;
-      };
-      shows = λ written t awaiting. (all t awaiting).screens written;
+      leads = Leads-so turns.leads (λ t is. record { phase = is.phase; idle = is.ready }) (λ t u is did.
+          let all = kept (rested t) (rested u) is.ready is.placed is.continuations did.1 in (
+            record { phase = did.0.phase; ready = did.0.idle; placed = all.cursor; continuations = all.continuations },
+            all.screens,
+          ));
     }
 
 -- ---- the cursor
@@ -222,24 +199,18 @@ pub call-does : (w h : ℕ) (a b : List ℕ) (place place_after : Position) (fla
     → IsIdle w h (f s) × IsKept w h place_after flags_after related s (f s))
     → SendsCall w h a b place flags place_after flags_after related
 call-does w h a b place place_after flags flags_after f related does kept = record {
-  bytes = does.bytes;
-  appended = does.appended;
-  awaiting = λ t awaiting.
-      let both = kept (rested t) awaiting.ready awaiting.placed awaiting.continuations in
-      let u : Emulator = f (rested t) in
-      let stays : rested u ≡ u = rested-ready w h u both.0 in
-      let after : IsAwaiting w h place_after flags_after u = record {
-        phase = both.0.rest.phase;
-        ready = subst (IsIdle w h) (sym stays) both.0;
-        placed = ap (λ v. cursor_of (screen_shown 0 v)) stays ∙ both.1.cursor;
-        continuations = subst (λ v. AreContinuations w h flags_after v.columns) (sym stays) both.1.continuations;
-      } in
-      subst (IsAwaiting w h place_after flags_after) (sym (does.read t awaiting.phase)) after;
-  shows = λ written t awaiting.
-      let both = kept (rested t) awaiting.ready awaiting.placed awaiting.continuations in
-      let e : rested (feed does.bytes t) ≡ f (rested t) = ap rested (does.read t awaiting.phase)
-      ∙ rested-ready w h (f (rested t)) both.0 in
-      subst (λ v. related (screen_shown written (rested t)) (screen_shown written v)) (sym e) (both.1.screens written);
+  leads = Leads-so does (λ t is. is.phase) (λ t u is e.
+      let both = kept (rested t) is.ready is.placed is.continuations in
+      let rests : rested u ≡ f (rested t) = ap rested e ∙ rested-ready w h (f (rested t)) both.0 in (
+        record {
+          phase = ap (λ (v : Emulator). v.phase) e ∙ both.0.rest.phase;
+          ready = subst (IsIdle w h) (sym rests) both.0;
+          placed = ap (λ v. cursor_of (screen_shown 0 v)) rests ∙ both.1.cursor;
+          continuations = subst (λ (v : Emulator). AreContinuations w h flags_after v.columns) (sym rests) both.1.continuations;
+        },
+        λ written. subst (λ v. related (screen_shown written (rested t)) (screen_shown written v)) (sym rests)
+            (both.1.screens written),
+      ));
 }
 
 pub part-kept : (w h x y : ℕ) (part : ClearType) (place : Position) (flags flags_after : List Bool) → x < w → y < h → place.x < w
@@ -302,12 +273,10 @@ module _ (old new : Tracker) (place : Position) (visible : Bool) (written : ℕ)
     (draft : length new.draft.items ≡ old.size.width * old.size.height) (same : new.continuations.items ≡ flags)
     (count : length flags ≡ length old.continuations.items) where
   -- bytes that keep a tracked terminal so were collected
-  gathers : (bytes : List ℕ) → string_bytes new.out ≡ string_bytes old.out ++ bytes
-      → ((t : Emulator) → IsTracked old t → IsAwaiting old.size.width old.size.height place flags (feed bytes t))
-      → ((t : Emulator) → IsTracked old t → (rested (feed bytes t)).visible ≡ visible)
-      → ((t : Emulator) → IsTracked old t → related (screen_shown old.written (rested t))
-      (screen_shown written (rested (feed bytes t)))) → Collects old related new
-  gathers bytes appended tracks sees shows =
+  gathers : Leads (string_bytes old.out) (string_bytes new.out) (IsTracked old) (λ t u.
+      IsAwaiting old.size.width old.size.height place flags u × ((rested u).visible ≡ visible)
+      × related (screen_shown old.written (rested t)) (screen_shown written (rested u))) → Collects old related new
+  gathers does =
       let size : new.size ≡ old.size = ap (λ (k : Tracker). k.size) rest in
       record {
         tracker = record {
@@ -321,18 +290,17 @@ module _ (old new : Tracker) (place : Position) (visible : Bool) (written : ℕ)
         colors = ap (λ (k : Tracker). k.has_underline_colors) rest;
         ambiguous = ap (λ (k : Tracker). k.ambiguous_is_wide) rest;
         synchronized = ap (λ (k : Tracker). k.is_synchronized) rest;
-        bytes = bytes;
-        appended = appended;
-        tracks = λ t awaits. record {
-          awaiting = subst (λ (s : Size). IsAwaiting s.width s.height new.cursor new.continuations.items (feed bytes t))
-              (sym size)
-              (subst (λ p. IsAwaiting old.size.width old.size.height p new.continuations.items (feed bytes t))
-              (sym (ap (λ (k : Tracker). k.cursor) rest))
-              (subst (λ xs. IsAwaiting old.size.width old.size.height place xs (feed bytes t)) (sym same) (tracks t awaits)));
-          visible = sees t awaits ∙ sym (ap (λ (k : Tracker). k.is_visible) rest);
-        };
-        shows = λ t awaits. subst (λ n. related (screen_shown old.written (rested t)) (screen_shown n (rested (feed bytes t))))
-            (sym (ap (λ (k : Tracker). k.written) rest)) (shows t awaits);
+        leads = Leads-so does (λ t tracked. tracked) (λ t u tracked did. (
+          record {
+            awaiting = subst (λ (s : Size). IsAwaiting s.width s.height new.cursor new.continuations.items u) (sym size)
+                (subst (λ p. IsAwaiting old.size.width old.size.height p new.continuations.items u)
+                (sym (ap (λ (k : Tracker). k.cursor) rest))
+                (subst (λ xs. IsAwaiting old.size.width old.size.height place xs u) (sym same) did.0));
+            visible = did.1 ∙ sym (ap (λ (k : Tracker). k.is_visible) rest);
+          },
+          subst (λ n. related (screen_shown old.written (rested t)) (screen_shown n (rested u)))
+              (sym (ap (λ (k : Tracker). k.written) rest)) did.2,
+        ));
       }
 
 -- a call that draws no cells was collected
@@ -340,9 +308,9 @@ called : (old new : Tracker) (place : Position) (visible : Bool) (flags : List B
     → IsTracker old
     → new ≡ record old { out = new.out; cursor = place; is_visible = visible; continuations = new.continuations }
     → new.continuations.items ≡ flags → length flags ≡ length old.continuations.items
-    → (sends : SendsCall old.size.width old.size.height (string_bytes old.out)
-    (string_bytes new.out) old.cursor old.continuations.items place flags related)
-    → ((t : Emulator) → IsTracked old t → (rested (feed sends.bytes t)).visible ≡ visible) → Collects old related new
+    → SendsCall old.size.width old.size.height (string_bytes old.out)
+    (string_bytes new.out) old.cursor old.continuations.items place flags related
+    → ((p q : Screen) → p.visible ≡ old.is_visible → related p q → q.visible ≡ visible) → Collects old related new
 called old new place visible flags is rest same count sends sees =
     let draft : new.draft ≡ old.draft = ap (λ (k : Tracker). k.draft) rest in
     let whole : new ≡ record old {
@@ -361,8 +329,8 @@ called old new place visible flags is rest same count sends sees =
       draft = d;
     }) (sym draft) in
     gathers old new place visible old.written flags is whole (ap (λ (k : Tracker). length k.draft.items) rest
-    ∙ is.draft_count) same count sends.bytes sends.appended
-    (λ t tracked. sends.awaiting t tracked.awaiting) sees (λ t tracked. sends.shows old.written t tracked.awaiting)
+    ∙ is.draft_count) same count (Leads-so sends.leads (λ t tracked. tracked.awaiting) (λ t u tracked did.
+    (did.0, sees _ _ tracked.visible (did.1 old.written), did.1 old.written)))
 
 -- one that shows a hidden cursor no more than before, nor hides it
 pub collected : (old new : Tracker) (place : Position) (flags : List Bool) {related : Screen → Screen → Type 0} → IsTracker old
@@ -372,8 +340,7 @@ pub collected : (old new : Tracker) (place : Position) (flags : List Bool) {rela
     → SendsCall old.size.width old.size.height (string_bytes old.out)
     (string_bytes new.out) old.cursor old.continuations.items place flags related → Collects old related new
 collected old new place flags is rest same count keeps sends =
-    called old new place old.is_visible flags is rest same count sends
-    (λ t tracked. keeps _ _ (sends.shows old.written t tracked.awaiting) ∙ tracked.visible)
+    called old new place old.is_visible flags is rest same count sends (λ p q was shows. keeps p q shows ∙ was)
 
 -- a cursor was hidden or shown
 pub shown-collected : (old new : Tracker) (visible : Bool) → IsTracker old
@@ -386,8 +353,7 @@ shown-collected old new visible is rest sends =
     let same : new.continuations ≡ old.continuations = ap (λ (k : Tracker). k.continuations) rest in
     called old new old.cursor visible old.continuations.items is
     (rest ∙ ap (λ c. record old { out = new.out; is_visible = visible; continuations = c }) (sym same))
-    (ap (λ c. c.items) same) refl sends
-    (λ t tracked. ap (λ (q : Screen). q.visible) (sends.shows old.written t tracked.awaiting))
+    (ap (λ c. c.items) same) refl sends (λ p q was shows. ap (λ (s : Screen). s.visible) shows)
 
 same-flags : (a b : Bool) → beq a b ≡ true → a ≡ b
 same-flags true true e = refl
@@ -398,18 +364,17 @@ same-flags false false e = refl
 -- or was so already
 pub shown-already : (k : Tracker) (visible : Bool) → IsTracker k → beq visible k.is_visible ≡ true
     → Collects k (λ s t. t ≡ with_visible visible s) k
-unfolding feed
 shown-already k visible is same = record {
   tracker = is;
   size = refl;
   colors = refl;
   ambiguous = refl;
   synchronized = refl;
-  bytes = [];
-  appended = sym (append-nil (string_bytes k.out));
-  tracks = λ t tracked. tracked;
-  shows = λ t tracked. ap (λ v. with_visible v (screen_shown k.written (rested t)))
-      (tracked.visible ∙ sym (same-flags visible k.is_visible same));
+  leads = Leads-none refl (λ t tracked. (
+    tracked,
+    ap (λ v. with_visible v (screen_shown k.written (rested t)))
+        (tracked.visible ∙ sym (same-flags visible k.is_visible same)),
+  ));
 }
 
 -- a draw was
@@ -421,9 +386,8 @@ pub drawn-collected : (old new : Tracker) (place : Position) (written : ℕ) (fl
     (string_bytes new.out) place written flags
     → Collects old (λ s t. Draws s us t) new
 drawn-collected old new place written flags is rest draft same count sends =
-    gathers old new place old.is_visible written flags is rest (ap length draft ∙ is.count) same count sends.bytes sends.appended
-    (λ t tracked. sends.awaiting t tracked.awaiting) (λ t tracked. (sends.draws t tracked.awaiting).visible ∙ tracked.visible)
-    (λ t tracked. sends.draws t tracked.awaiting)
+    gathers old new place old.is_visible written flags is rest (ap length draft ∙ is.count) same count
+    (Leads-so sends (λ t tracked. tracked.awaiting) (λ t u tracked did. (did.0, did.1.visible ∙ tracked.visible, did.1)))
 
 -- ---- the clears
 
@@ -436,10 +400,7 @@ weaker old new first second call follows = record {
   colors = call.colors;
   ambiguous = call.ambiguous;
   synchronized = call.synchronized;
-  bytes = call.bytes;
-  appended = call.appended;
-  tracks = call.tracks;
-  shows = λ t awaits. follows t (screen_shown new.written (rested (feed call.bytes t))) awaits (call.shows t awaits);
+  leads = Leads-so call.leads (λ t tracked. tracked) (λ t u tracked did. (did.0, follows t _ tracked did.1));
 }
 
 clears-by : (kind done : ClearType) (x y : ℕ) (p q : Screen)

@@ -1,11 +1,11 @@
 -- Draws within a synchronized update.
-use Rattle.std.proofs.Common.{◌≡◌, ℕ, Bool, true, false, List, [], ◌++◌, refl, sym, ap, ◌∙◌, subst, append_assoc}
+use Rattle.std.proofs.Common.{◌≡◌, ℕ, Bool, true, false, List, [], ◌++◌, refl, sym, ap, ◌∙◌, subst, append_assoc, append-nil}
 use Rattle.ratatui_core.specs.{Layout.Position, Buffer.Update, Backend.Draws, Backend.cursor_of}
 use Rattle.ansi_model.specs.Emulator.{Emulator, rested, holding}
 use Rattle.ansi_model.specs.{Modes.no_modes, Sequences.feed, Sends.Performs, Sends.IsWithinUpdate, Screens.screen_shown}
 use Rattle.ansi_model.specs.{Screens.IsIdle, Flags.AreContinuations}
-use Rattle.ansi_model.proofs.{ReadLemmas.feed-append, ReadLemmas.after-those, ScrollLemmas.rested-ready, HistoryLemmas.feed-held}
-use Rattle.ansi_model.proofs.{HistoryLemmas.rested-held}
+use Rattle.ansi_model.proofs.{ReadLemmas.feed-append, ReadLemmas.after-those, ReadLemmas.Leads-later}
+use Rattle.ansi_model.proofs.{ScrollLemmas.rested-ready, HistoryLemmas.feed-held, HistoryLemmas.rested-held}
 use Rattle.ratatui_ansi.specs.{Tracker.IsAwaiting, Frame.SendsDraw}
 
 -- an awaiting terminal rests
@@ -43,7 +43,7 @@ module _ {w h : ℕ} {old opened drawn new : List ℕ} {cursor after : Position}
       let s : Emulator = rested t in
       let u : Emulator = feed sends.bytes s in
       let held = feed-held sends.bytes true s in
-      let drew = sends.awaiting s (rests-awaiting awaits) in
+      let drew = (sends.read s (rests-awaiting awaits)).0 in
       feed-append opens.bytes (sends.bytes ++ closes.bytes) t ∙ ap (feed (sends.bytes ++ closes.bytes))
       (opens.read t awaits.phase)
       ∙ feed-append sends.bytes closes.bytes (holding true s) ∙ ap (feed closes.bytes) held.1
@@ -56,15 +56,14 @@ module _ {w h : ℕ} {old opened drawn new : List ℕ} {cursor after : Position}
     bytes = bytes;
     appended = after-those old opened new opens.bytes (sends.bytes ++ closes.bytes) opens.appended
         (after-those opened drawn new sends.bytes closes.bytes sends.appended closes.appended);
-    awaiting = λ t awaits. subst (IsAwaiting w h after flags_after) (sym (update-read t awaits))
-        (rests-awaiting (sends.awaiting (rested t) (rests-awaiting awaits)));
-    draws = λ t awaits.
+    read = λ t awaits.
         let u : Emulator = feed sends.bytes (rested t) in
-        let there : rested (feed bytes t) ≡ rested u = ap rested (update-read t awaits)
-        ∙ rests (sends.awaiting (rested t) (rests-awaiting awaits)) in
-        subst (λ x. Draws (screen_shown written (rested t)) us (screen_shown count x)) (sym there)
-        (subst (λ x. Draws (screen_shown written x) us (screen_shown count (rested u))) (rests awaits)
-        (sends.draws (rested t) (rests-awaiting awaits)));
+        let did = sends.read (rested t) (rests-awaiting awaits) in
+        let there : rested (feed bytes t) ≡ rested u = ap rested (update-read t awaits) ∙ rests did.0 in (
+          subst (IsAwaiting w h after flags_after) (sym (update-read t awaits)) (rests-awaiting did.0),
+          subst (λ x. Draws (screen_shown written (rested t)) us (screen_shown count x)) (sym there)
+              (subst (λ x. Draws (screen_shown written x) us (screen_shown count (rested u))) (rests awaits) did.1),
+        );
   }
 
   pub update-within : IsWithinUpdate old new
@@ -80,17 +79,10 @@ pub within-sent : (before out more after : List ℕ) → IsWithinUpdate out more
     → IsWithinUpdate before after
 within-sent before out more after within none e = record {
   opened = before ++ within.opened;
-  opens = record {
-    bytes = within.opens.bytes;
-    appended = ap (λ xs. before ++ xs) (within.opens.appended ∙ ap (λ xs. xs ++ within.opens.bytes) none);
-    read = within.opens.read;
-  };
+  opens = subst (λ xs. Performs xs (before ++ within.opened) (holding true))
+      (ap (λ xs. before ++ xs) none ∙ append-nil before) (Leads-later before within.opens);
   bytes = within.bytes;
-  closes = record {
-    bytes = within.closes.bytes;
-    appended = e ∙ ap (λ xs. before ++ xs) within.closes.appended
-        ∙ sym (append_assoc before (within.opened ++ within.bytes) within.closes.bytes)
-        ∙ ap (λ xs. xs ++ within.closes.bytes) (sym (append_assoc before within.opened within.bytes));
-    read = within.closes.read;
-  };
+  closes = subst (λ xs. Performs xs after (holding false)) (sym (append_assoc before within.opened within.bytes))
+      (subst (λ xs. Performs (before ++ (within.opened ++ within.bytes)) xs (holding false)) (sym e)
+      (Leads-later before within.closes));
 }

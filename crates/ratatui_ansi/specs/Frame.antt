@@ -1,6 +1,6 @@
 -- What a draw knows of the terminal, and what its bytes do to it.
 use Rattle.std.specs.Prelude.{◌≡◌, ℕ, ◌+◌, ◌-◌, ◌*◌, ◌<◌, ◌≤◌, ◌==◌, ◌&&◌, ◌||◌, ◌⊎◌, not, nat_lt, nat_le}
-use Rattle.std.specs.Prelude.{Bool, true, false, if◌then◌else◌, List, ◌++◌, length, string_bytes}
+use Rattle.std.specs.Prelude.{Bool, true, false, if◌then◌else◌, List, length, string_bytes}
 use Rattle.ratatui_core.specs.{Layout.Position, Backend.Draws, Backend.cursor_of}
 use Rattle.ratatui_core.specs.Buffer.{symbol_text, look_of, empty_look, width_of, Update, Cell}
 use Rattle.ansi_model.specs.{declared.pen.Pen.Pen, declared.glyph.Glyph.Glyph, declared.sgr.Sgr.Sgr}
@@ -10,7 +10,7 @@ use Rattle.ratatui_ansi.specs.{declared.tracker.Tracker.Tracker, Tracker.IsAwait
 use Rattle.ratatui_ansi.specs.declared.draw.Refusal.TheVariants as Refused
 use Rattle.ansi_model.specs.{Sgr.default_sgr, Sgr.sgr_of, Parameters.is_sendable_by, Emulator.Emulator}
 use Rattle.ansi_model.specs.{Emulator.rested, Emulator.with_sgr}
-use Rattle.ansi_model.specs.{Symbols.is_printed, Symbols.printed_columns, Symbols.IsGlyphOf, Sequences.feed}
+use Rattle.ansi_model.specs.{Symbols.is_printed, Symbols.printed_columns, Symbols.IsGlyphOf, Sends.Leads}
 use Rattle.ansi_model.specs.{Screens.screen_shown, Screens.IsIdle}
 use Rattle.ansi_model.specs.Drawing.{blanked, IsDrawnBy, Paints}
 
@@ -92,25 +92,18 @@ pub record IsDrawing (w h : ℕ) (d : DrawState) (flags : List Bool) (t : Emulat
   pub cursor : cursor_of (screen_shown d.written (rested t)) ≡ d.cursor
 
 -- bytes were appended that draw these updates, in order, on each terminal within such a draw
-pub record SendsUpdates (w h : ℕ) (old : List ℕ) (before : DrawState) (flags : List Bool) (us : List Update)
-    (new : List ℕ) (after : DrawState)
-    (flags_after : List Bool) : Type 0 where
-  pub bytes : List ℕ
-  pub appended : new ≡ old ++ bytes
-  pub drawing : (t : Emulator) → IsDrawing w h before flags t → IsDrawing w h after flags_after (feed bytes t)
-  pub draws : (t : Emulator) → IsDrawing w h before flags t
-      → Draws (screen_shown before.written (rested t)) us (screen_shown after.written (rested (feed bytes t)))
+abbrev pub SendsUpdates : ℕ → ℕ → List ℕ → DrawState → List Bool → List Update → List ℕ → DrawState
+    → List Bool → Type 0
+SendsUpdates w h old before flags us new after flags_after =
+    Leads old new (IsDrawing w h before flags) (λ t u. IsDrawing w h after flags_after u
+    × Draws (screen_shown before.written (rested t)) us (screen_shown after.written (rested u)))
 
 -- bytes were appended that draw these updates, in order, on each terminal between two calls
-pub record SendsDraw (w h : ℕ) (old : List ℕ) (cursor : Position) (written : ℕ) (flags : List Bool)
-    (us : List Update) (new : List ℕ)
-    (cursor_after : Position) (written_after : ℕ) (flags_after : List Bool) : Type 0 where
-  pub bytes : List ℕ
-  pub appended : new ≡ old ++ bytes
-  pub awaiting : (t : Emulator) → IsAwaiting w h cursor flags t
-      → IsAwaiting w h cursor_after flags_after (feed bytes t)
-  pub draws : (t : Emulator) → IsAwaiting w h cursor flags t
-      → Draws (screen_shown written (rested t)) us (screen_shown written_after (rested (feed bytes t)))
+abbrev pub SendsDraw : ℕ → ℕ → List ℕ → Position → ℕ → List Bool → List Update → List ℕ → Position → ℕ
+    → List Bool → Type 0
+SendsDraw w h old cursor written flags us new cursor_after written_after flags_after =
+    Leads old new (IsAwaiting w h cursor flags) (λ t u. IsAwaiting w h cursor_after flags_after u
+    × Draws (screen_shown written (rested t)) us (screen_shown written_after (rested u)))
 
 -- what a draw of these updates sends to a tracked terminal was collected, and its flags stand in the draft
 abbrev pub Drafts : Tracker → List Update → Position → ℕ → Tracker → Type 0

@@ -5,7 +5,7 @@ use Rattle.ratatui_core.specs.Backend.{Screen, cursor_of, Appends, Clears, Scrol
 use Rattle.ratatui_core.specs.Backend.{with_cursor, with_visible}
 use Rattle.ansi_model.specs.{Columns.blank_column, Commands.command_bytes, Commands.AsksSize}
 use Rattle.ansi_model.specs.{Beginnings.MakesBlank, Emulator.Emulator, Emulator.rested, Emulator.Phase.Ground}
-use Rattle.ansi_model.specs.{Sequences.feed}
+use Rattle.ansi_model.specs.{Sends.Leads}
 use Rattle.ansi_model.specs.{Screens.screen_shown, Screens.IsIdle, Flags.AreContinuations, Flags.is_clear_cut}
 use Rattle.ratatui_ansi.specs.{declared.draw.Refusal.Refusal, declared.tracker.Tracker.Tracker}
 use Rattle.ratatui_ansi.specs.{declared.tracker.Call.Call}
@@ -45,11 +45,8 @@ pub record Collects (old : Tracker) (related : Screen → Screen → Type 0) (ne
   pub colors : new.has_underline_colors ≡ old.has_underline_colors
   pub ambiguous : new.ambiguous_is_wide ≡ old.ambiguous_is_wide
   pub synchronized : new.is_synchronized ≡ old.is_synchronized
-  pub bytes : List ℕ
-  pub appended : string_bytes new.out ≡ string_bytes old.out ++ bytes
-  pub tracks : (t : Emulator) → IsTracked old t → IsTracked new (feed bytes t)
-  pub shows : (t : Emulator) → IsTracked old t
-      → related (screen_shown old.written (rested t)) (screen_shown new.written (rested (feed bytes t)))
+  pub leads : Leads (string_bytes old.out) (string_bytes new.out) (IsTracked old) (λ t u. IsTracked new u
+      × related (screen_shown old.written (rested t)) (screen_shown new.written (rested u)))
 
 -- all is as it was but what was collected, and the draft
 pub record KeepsTracked (old new : Tracker) : Type 0 where

@@ -35,7 +35,8 @@ impl<W: Write + Drop> AnsiBackend<W> {
         self.send(Call::Command(command))
     }
 
-    /// From now on the terminal encloses what is pasted in marks on its input, or no longer. The screen stays.
+    /// From now on the terminal encloses what is pasted in marks on its input, or no longer. The
+    /// screen stays.
     ///
     /// # Errors
     ///

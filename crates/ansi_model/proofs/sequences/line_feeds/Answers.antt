@@ -1,9 +1,9 @@
 use Rattle.std.proofs.Common.{string_bytes, [], ◌∷◌}
-use Rattle.ansi_model.proofs.ReadLemmas.{feeds-none, feeds-more, feed-read, return-read}
+use Rattle.ansi_model.proofs.ReadLemmas.{feeds-more, feed-read, return-read}
 use Rattle.ansi_model.proofs.sequences.line_feeds.Goals as goal
 
 pub loop-init : goal.loop-init
-loop-init c = feeds-none _ _ (record { bytes = _; appended = c.in_ok-push_str.ensures.bytes; read = return-read })
+loop-init c = record { bytes = _; appended = c.in_ok-push_str.ensures.bytes; read = return-read }
 
 pub loop-preserved : goal.loop-preserved
 loop-preserved c =

@@ -1,4 +1,4 @@
-use Rattle.std.proofs.Common.{◌++◌, ap, sym, ◌∙◌, subst}
+use Rattle.std.proofs.Common.{◌++◌, ap, ◌∙◌, subst}
 use Rattle.std.specs.Io.KnownBytes.{Appends}
 use Rattle.ratatui_ansi.proofs.{BackendLemmas.brings-back, HeadlineLemmas.read-by-all, HeadlineLemmas.leaves-terminal}
 use Rattle.ratatui_ansi.proofs.backend.AnsiBackend.leave.Goals as goal
