@@ -6,7 +6,8 @@ use tui::style::{Color, Style};
 use tui::text::{Spans, Text};
 use tui::widgets::{Block, Borders, List, ListItem, ListState, Paragraph, StatefulWidget, Widget, Wrap};
 
-fn sum(b: &Buffer) -> u64 {
+/// A sum over a buffer of tui.
+pub fn sum(b: &Buffer) -> u64 {
     let mut s = 0xCBF29CE484222325;
     for cell in &b.content {
         for byte in cell.symbol.as_bytes() {

@@ -1,5 +1,6 @@
 //! What a frame shows.
 use crate::boxes::Border;
+use crate::dashboard;
 use crate::texts::{SENTENCE, wide};
 use ratatui_core::buffer::Buffer;
 use ratatui_core::layout::Rect;
@@ -28,6 +29,8 @@ pub enum Picture {
     Colors,
     /// Boxes side by side, or the blanks in which they stood, by the round.
     Boxes,
+    /// A paragraph, a list and gauges, by the round.
+    Dashboard,
 }
 
 /// A picture, and the texts that it is made of.
@@ -160,6 +163,7 @@ impl Paint {
             }
             Picture::Boxes if round % 2 == 0 => Border::apart().grid(alloc, buffer),
             Picture::Boxes => Ok(()),
+            Picture::Dashboard => dashboard::paint(alloc, buffer, round),
         }
     }
 }

@@ -2,7 +2,7 @@
 use crate::memory::Memory;
 use crate::pictures::{Paint, Picture, texts};
 use crate::texts::{LOG, sum};
-use crate::{Done, Size};
+use crate::{Done, Size, dashboard};
 use ratatui_ansi::AnsiBackend;
 use ratatui_core::backend::{Backend, TestBackend};
 use ratatui_core::buffer::Buffer;
@@ -110,12 +110,18 @@ fn rounds<B: Backend + Drop>(
     Ok(())
 }
 
-// A sum over what the last round paints.
+// A sum over what the last round paints; of a dashboard over its upper part, since the twin's gauge
+// is filled by other symbols.
 fn last_sum(alloc: Global, size: Size, act: Act) -> Result<u64, AllocError> {
     let rows = act.viewport.unwrap_or(size.height);
     let mut last = Buffer::empty(alloc, Rect::new(0, 0, size.width, rows))?;
-    let paint = Paint::new(alloc, act.picture.unwrap_or(Picture::Nothing))?;
-    paint.paint(alloc, &mut last, act.shown_in(size.count.saturating_sub(1)))?;
+    let picture = act.picture.unwrap_or(Picture::Nothing);
+    let round = act.shown_in(size.count.saturating_sub(1));
+    if picture == Picture::Dashboard {
+        dashboard::paint_upper(alloc, &mut last, round)?;
+    } else {
+        Paint::new(alloc, picture)?.paint(alloc, &mut last, round)?;
+    }
     Ok(sum(&last))
 }
 
