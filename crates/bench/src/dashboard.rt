@@ -92,11 +92,11 @@ fn paint_list(alloc: Global, area: Rect, buf: &mut Buffer, round: u64) -> Result
     let highlight = Style::new()
         .bg(Color::Rgb(40, 60, 110))
         .add_modifier(Modifier::BOLD);
-    List::new(items(alloc)?)
+    let list = List::new(items(alloc)?)
         .block(block)
         .highlight_symbol(symbol)
-        .highlight_style(highlight)
-        .render(area, buf, &mut state)
+        .highlight_style(highlight);
+    StatefulWidget::render(&list, area, buf, &mut state)
 }
 
 fn paint_gauge(alloc: Global, area: Rect, buf: &mut Buffer, round: u64) -> Result<(), AllocError> {
