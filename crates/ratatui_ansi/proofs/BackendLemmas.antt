@@ -70,7 +70,7 @@ module _ {old new : Tracker} {related : Screen → Screen → Type 0} (sent : Li
       → broken_after ≡ false → IsInOrder new.size new.cursor new.continuations.items new.draft.items new.is_visible broken_after
       failures_after after
   in-order-on kept whole works = record {
-    tracker = call.tracker;
+    tracker = call.fits;
     unfailed = λ _. works;
     awaiting = λ _. tracked.awaiting;
     seen = λ _. tracked.visible;
@@ -144,7 +144,7 @@ pub begun : {size : Size} {k : Tracker} {sent : List ℕ} {broken : Bool} {failu
     → IsInOrder k.size k.cursor k.continuations.items k.draft.items k.is_visible broken failures sent
 begun {size} {k} {sent} {broken} {failures} begins blank works =
     let fits : FitsScreen size k.continuations.items k.draft.items =
-    subst (λ s. FitsScreen s k.continuations.items k.draft.items) begins.size begins.tracker in
+    subst (λ s. FitsScreen s k.continuations.items k.draft.items) begins.size begins.fits in
     let high : 0 < size.height = fits.rows in
     let place : Position = record { x = 0; y = 0 } in
     let order : IsInOrder size place k.continuations.items k.draft.items k.is_visible broken failures sent = record {

@@ -279,11 +279,11 @@ module _ (old new : Tracker) (place : Position) (visible : Bool) (written : ℕ)
   gathers does =
       let size : new.size ≡ old.size = ap (λ (k : Tracker). k.size) rest in
       record {
-        tracker = record {
-          columns = subst (λ (s : Size). 0 < s.width) (sym size) is.columns;
-          rows = subst (λ (s : Size). 0 < s.height) (sym size) is.rows;
-          most = subst (λ (s : Size). s.height ≤ 65535) (sym size) is.most;
-          count = ap length same ∙ count ∙ is.count ∙ ap (λ (s : Size). s.width * s.height) (sym size);
+        fits = record {
+          columns = subst (λ (s : Size). 0 < s.width) (sym size) is.fits.columns;
+          rows = subst (λ (s : Size). 0 < s.height) (sym size) is.fits.rows;
+          most = subst (λ (s : Size). s.height ≤ 65535) (sym size) is.fits.most;
+          count = ap length same ∙ count ∙ is.fits.count ∙ ap (λ (s : Size). s.width * s.height) (sym size);
           draft_count = draft ∙ ap (λ (s : Size). s.width * s.height) (sym size);
         };
         size = size;
@@ -329,7 +329,7 @@ called old new place visible flags is rest same count sends sees =
       draft = d;
     }) (sym draft) in
     gathers old new place visible old.written flags is whole (ap (λ (k : Tracker). length k.draft.items) rest
-    ∙ is.draft_count) same count (Leads-so sends.leads (λ t tracked. tracked.awaiting) (λ t u tracked did.
+    ∙ is.fits.draft_count) same count (Leads-so sends.leads (λ t tracked. tracked.awaiting) (λ t u tracked did.
     (did.0, sees _ _ tracked.visible (did.1 old.written), did.1 old.written)))
 
 -- one that shows a hidden cursor no more than before, nor hides it
@@ -365,7 +365,7 @@ same-flags false false e = refl
 pub shown-already : (k : Tracker) (visible : Bool) → IsTracker k → beq visible k.is_visible ≡ true
     → Collects k (λ s t. t ≡ with_visible visible s) k
 shown-already k visible is same = record {
-  tracker = is;
+  fits = is.fits;
   size = refl;
   colors = refl;
   ambiguous = refl;
@@ -386,7 +386,7 @@ pub drawn-collected : (old new : Tracker) (place : Position) (written : ℕ) (fl
     (string_bytes new.out) place written flags
     → Collects old (λ s t. Draws s us t) new
 drawn-collected old new place written flags is rest draft same count sends =
-    gathers old new place old.is_visible written flags is rest (ap length draft ∙ is.count) same count
+    gathers old new place old.is_visible written flags is rest (ap length draft ∙ is.fits.count) same count
     (Leads-so sends (λ t tracked. tracked.awaiting) (λ t u tracked did. (did.0, did.1.visible ∙ tracked.visible, did.1)))
 
 -- ---- the clears
@@ -395,7 +395,7 @@ weaker : (old new : Tracker) (first second : Screen → Screen → Type 0) → C
     → ((t : Emulator) (q : Screen) → IsTracked old t → first (screen_shown old.written (rested t)) q
     → second (screen_shown old.written (rested t)) q) → Collects old second new
 weaker old new first second call follows = record {
-  tracker = call.tracker;
+  fits = call.fits;
   size = call.size;
   colors = call.colors;
   ambiguous = call.ambiguous;

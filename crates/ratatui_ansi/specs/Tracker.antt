@@ -28,9 +28,11 @@ pub record FitsScreen (size : Size) (flags draft : List Bool) : Type 0 where
   pub count : length flags ≡ size.width * size.height
   pub draft_count : length draft ≡ size.width * size.height
 
--- so it is of what is tracked
-abbrev pub IsTracker : Tracker → Type 0
-IsTracker k = FitsScreen k.size k.continuations.items k.draft.items
+-- so it is of what is tracked, and the cursor is on the screen
+pub record IsTracker (k : Tracker) : Type 0 where
+  pub fits : FitsScreen k.size k.continuations.items k.draft.items
+  pub column : k.cursor.x < k.size.width
+  pub row : k.cursor.y < k.size.height
 
 -- a terminal between two calls, as it is tracked
 pub record IsTracked (k : Tracker) (t : Emulator) : Type 0 where
@@ -40,7 +42,7 @@ pub record IsTracked (k : Tracker) (t : Emulator) : Type 0 where
 -- a call's bytes were collected: they relate the screen of each tracked terminal so to the former, and it is
 -- tracked as the call left it
 pub record Collects (old : Tracker) (related : Screen → Screen → Type 0) (new : Tracker) : Type 0 where
-  pub tracker : IsTracker new
+  pub fits : FitsScreen new.size new.continuations.items new.draft.items
   pub size : new.size ≡ old.size
   pub colors : new.has_underline_colors ≡ old.has_underline_colors
   pub ambiguous : new.ambiguous_is_wide ≡ old.ambiguous_is_wide
@@ -55,7 +57,7 @@ pub record KeepsTracked (old new : Tracker) : Type 0 where
 
 -- a blank screen of this size is tracked, and what makes a terminal show it was collected
 pub record BeginsBlank (given : Size) (k : Tracker) : Type 0 where
-  pub tracker : IsTracker k
+  pub fits : FitsScreen k.size k.continuations.items k.draft.items
   pub size : k.size ≡ given
   pub cursor : k.cursor ≡ record { x = 0; y = 0 }
   pub visible : k.is_visible ≡ true

@@ -159,9 +159,7 @@ impl Tracker {
 
     // Moves the cursor's row down by `n`, and scrolls what goes past the last row.
     fn append(&mut self, n: u16) -> Result<(), AllocError>
-        requires tracker { IsTracker self.old }
-        requires column { self.old.cursor.x < self.old.size.width }
-        requires row { self.old.cursor.y < self.old.size.height }
+        requires { IsTracker self.old }
         ensures ok { OnOk result (Collects self.old (λ s t. Appends s n t) self.new) }
         ensures err { OnErr result (KeepsTracked self.old self.new) }
     {
@@ -180,9 +178,7 @@ impl Tracker {
 
     // Moves the rows of a region up; the cursor stays.
     fn scroll_up(&mut self, region: Range<u16>, n: u16) -> Result<(), AllocError>
-        requires tracker { IsTracker self.old }
-        requires column { self.old.cursor.x < self.old.size.width }
-        requires row { self.old.cursor.y < self.old.size.height }
+        requires { IsTracker self.old }
         ensures ok { OnOk result (Collects self.old
             (ScrollsUp region.start region.end n) self.new) }
         ensures err { OnErr result (KeepsTracked self.old self.new) }
@@ -196,9 +192,7 @@ impl Tracker {
 
     // Moves the rows of a region down; the cursor stays.
     fn scroll_down(&mut self, region: Range<u16>, n: u16) -> Result<(), AllocError>
-        requires tracker { IsTracker self.old }
-        requires column { self.old.cursor.x < self.old.size.width }
-        requires row { self.old.cursor.y < self.old.size.height }
+        requires { IsTracker self.old }
         ensures ok { OnOk result (Collects self.old
             (ScrollsDown region.start region.end n) self.new) }
         ensures err { OnErr result (KeepsTracked self.old self.new) }
@@ -213,9 +207,7 @@ impl Tracker {
     // Whether a clear would cut a symbol that has to stay, as one does from a cursor on that is in
     // a continuation column.
     fn cuts(&self, clear_type: ClearType) -> bool
-        requires tracker { IsTracker self.now }
-        requires column { self.now.cursor.x < self.now.size.width }
-        requires row { self.now.cursor.y < self.now.size.height }
+        requires { IsTracker self.now }
         ensures { result ≡ is_clear_cut clear_type self.now.size.width
             self.now.cursor.x self.now.cursor.y self.now.continuations.items }
     {
@@ -230,9 +222,7 @@ impl Tracker {
 
     // Empties the screen; the cursor stays.
     fn clear_all(&mut self) -> Result<(), AllocError>
-        requires tracker { IsTracker self.old }
-        requires column { self.old.cursor.x < self.old.size.width }
-        requires row { self.old.cursor.y < self.old.size.height }
+        requires { IsTracker self.old }
         ensures ok { OnOk result (Collects self.old (λ s t. Clears s All t) self.new) }
         ensures err { OnErr result (KeepsTracked self.old self.new) }
     {
@@ -245,8 +235,6 @@ impl Tracker {
     // Empties what a clear does for a cursor in column x and row y; the cursor stays where it is.
     fn clear_at(&mut self, clear_type: ClearType, x: u16, y: u16) -> Result<(), AllocError>
         requires tracker { IsTracker self.old }
-        requires column { self.old.cursor.x < self.old.size.width }
-        requires row { self.old.cursor.y < self.old.size.height }
         requires at_column { x < self.old.size.width }
         requires at_row { y < self.old.size.height }
         requires uncut { is_cut clear_type self.old.size.width x y
@@ -266,8 +254,6 @@ impl Tracker {
     // Empties a part of the screen; the cursor stays.
     fn clear(&mut self, clear_type: ClearType) -> Result<(), AllocError>
         requires tracker { IsTracker self.old }
-        requires column { self.old.cursor.x < self.old.size.width }
-        requires row { self.old.cursor.y < self.old.size.height }
         requires uncut { is_clear_cut clear_type self.old.size.width
             self.old.cursor.x self.old.cursor.y self.old.continuations.items ≡ false }
         ensures ok { OnOk result (Collects self.old (λ s t. Clears s clear_type t) self.new) }
@@ -294,9 +280,7 @@ impl Tracker {
 
     // The same, refused with the cursor's place if that would cut a symbol.
     fn clear_uncut(&mut self, clear_type: ClearType) -> Result<(), Refusal>
-        requires tracker { IsTracker self.old }
-        requires column { self.old.cursor.x < self.old.size.width }
-        requires row { self.old.cursor.y < self.old.size.height }
+        requires { IsTracker self.old }
         ensures ok { OnOk result (Collects self.old (λ s t. Clears s clear_type t) self.new) }
         ensures err { OnErr result (KeepsTracked self.old self.new) }
         ensures why { IfErr result (IsUncollected (Called.Clear clear_type) self.old) }
@@ -311,9 +295,7 @@ impl Tracker {
     /// Collects what a call sends, after what was collected before. If it is refused all else
     /// stays.
     pub(crate) fn collect(&mut self, call: Call) -> Result<(), Refusal>
-        requires tracker { IsTracker self.old }
-        requires column { self.old.cursor.x < self.old.size.width }
-        requires row { self.old.cursor.y < self.old.size.height }
+        requires { IsTracker self.old }
         ensures ok { OnOk result (Collects self.old (CallDoes call) self.new) }
         ensures bytes { OnOk result
             (IsCommanded call (string_bytes self.old.out) (string_bytes self.new.out)) }

@@ -14,8 +14,8 @@ returns-clause-ok c =
     let count : length flags ≡ length k.continuations.items = c.raise_flags.auto.flags ∙ ap length lent.value in
     let row : c.min.result ≡ min (k.cursor.y + c.args.n) (h - 1) = omega arith in
     rw row
-    (collected k _ _ flags c.requires.tracker refl same count (λ p q appended. appended.scrolled.visible)
+    (collected k _ _ flags c.requires refl same count (λ p q appended. appended.scrolled.visible)
     (call-from w h _ _ k.cursor _ k.continuations.items flags _ _
-    (c.in_ok-append_lines.ensures w h c.requires.tracker.columns c.requires.tracker.rows)
+    (c.in_ok-append_lines.ensures w h c.requires.fits.columns c.requires.fits.rows)
     (λ s t ready at continuations became. append-kept w h c.args.n k.cursor k.continuations.items flags s t ready
     at c.requires.row (rw (c.saturating_sub.ensures, lent.value) at c.raise_flags.ensures) continuations became)))

@@ -12,5 +12,5 @@ returns-clause-ok c =
     let flags = k.continuations.items in
     on_ok_weaker c.ask_size.result (λ turns.
     collected k _ k.cursor flags c.requires refl refl refl (λ p q e. ap (λ (s : Screen). s.visible) e)
-    (call-from w h _ _ k.cursor k.cursor flags flags _ _ (turns w h c.requires.columns c.requires.rows)
+    (call-from w h _ _ k.cursor k.cursor flags flags _ _ (turns w h c.requires.fits.columns c.requires.fits.rows)
     (back-kept w h k.cursor flags))) c.ask_size.ensures.turns

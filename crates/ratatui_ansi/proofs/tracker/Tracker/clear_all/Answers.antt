@@ -16,8 +16,8 @@ returns-clause-ok c =
     let same = with_items_is k.continuations flags (c.clear_flags.auto.flags ∙ lent.len) in
     let count : length flags ≡ length k.continuations.items = c.clear_flags.auto.flags ∙ ap length lent.value in
     let cleared = rw lent.value at c.clear_flags.ensures in
-    collected k _ k.cursor flags c.requires.tracker refl same count (λ p q cleared. ap (λ (s : Screen). s.visible) cleared.rest)
+    collected k _ k.cursor flags c.requires refl same count (λ p q cleared. ap (λ (s : Screen). s.visible) cleared.rest)
     (call-from w h _ _ k.cursor k.cursor k.continuations.items flags _ _
-    (c.in_ok-clear_screen.ensures c.requires.tracker.columns c.requires.tracker.rows)
+    (c.in_ok-clear_screen.ensures c.requires.fits.columns c.requires.fits.rows)
     (λ s t ready at continuations became. emptied-kept w h k.cursor k.continuations.items flags s t
     (columns_moved (emptying h) s.columns) at (cleared w h s.columns continuations) became))

@@ -25,5 +25,5 @@ returns-clause-ok c =
     (Does-then _ _ _ (λ t. erased kind (cursor_moved x y t)) (cursor_moved place.x place.y)
     (Does-then _ _ _ (cursor_moved x y) (erased kind) c.in_ok-move_to.ensures c.in_ok-erase.ensures (λ t. refl))
     c.in_ok-move_to-2.ensures (λ t. refl))
-    (part-kept w h x y kind place k.continuations.items flags c.requires.at_column c.requires.at_row c.requires.column
-    c.requires.row c.requires.uncut c.requires.sure (rw lent.value at c.clear_part_flags.ensures)))
+    (part-kept w h x y kind place k.continuations.items flags c.requires.at_column c.requires.at_row c.requires.tracker.column
+    c.requires.tracker.row c.requires.uncut c.requires.sure (rw lent.value at c.clear_part_flags.ensures)))

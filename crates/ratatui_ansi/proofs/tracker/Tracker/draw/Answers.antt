@@ -16,7 +16,7 @@ returns-clause-ok g c =
       written = c.in_ok-cursor.written;
     } in
     let was = ap (λ v. v.items) c.swap.ensures.y_after ∙ ap (λ (s : Tracker). s.continuations.items) kept.rest in
-    let count = kept.draft_count ∙ c.requires.tracker.draft_count ∙ sym c.requires.tracker.count in (
+    let count = kept.draft_count ∙ c.requires.tracker.fits.draft_count ∙ sym c.requires.tracker.fits.count in (
       d.0,
       d.1,
       drawn-collected k (taken u) c.in_ok-cursor.cursor c.in_ok-cursor.written u.draft.items c.requires.tracker

@@ -11,6 +11,7 @@ returns-clause-ok c =
     let flags = k.continuations.items in
     rw (c.min.ensures, c.min-2.ensures)
     (collected k _ _ flags c.requires refl refl refl (λ p q e. ap (λ (s : Screen). s.visible) e)
-    (call-from w h _ _ k.cursor _ flags flags _ _ (c.in_ok-set_cursor_position.ensures w h c.requires.columns c.requires.rows)
+    (call-from w h _ _ k.cursor _ flags flags _ _
+    (c.in_ok-set_cursor_position.ensures w h c.requires.fits.columns c.requires.fits.rows)
     (λ s t ready at continuations became. cursor-kept w h c.args.position.x c.args.position.y flags s t ready continuations
     became)))
