@@ -10,4 +10,5 @@ pub returns-clause-settled : goal.returns-clause-settled
 returns-clause-settled c = λ emptied.
     let has : HasPosition c.args.buffer.now.area c.args.position = search rules in
     on-ok c.set_string.result (IsSettledBuffer-painted c.args.position _ c.args.buffer.now c.set_string.new.self has.left
-    (text-ends _ _ _ _ _) (IsSettledBuffer-empty _ _ emptied) (IsPaintable-empty _ _ emptied _ _)) c.set_string.ensures.paints.ok
+    (text-ends c.args.buffer.now.area c.args.position.x 65535 c.new.result c.args.text.now)
+    (IsSettledBuffer-empty _ _ emptied) (IsPaintable-empty _ _ emptied _ _)) c.set_string.ensures.paints.ok
