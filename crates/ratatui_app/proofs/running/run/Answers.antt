@@ -1,4 +1,5 @@
 use Rattle.std.proofs.Common.{rules, inl, inr, refl}
+use Rattle.std.proofs.lemmas.Result.{err_from_is_err_and}
 use Rattle.ratatui_input.specs.Encodings.{fresh_decoder}
 use Rattle.ratatui_reads.proofs.MomentLemmas.{typed-start, typed-step, ended-over, ended-empty}
 use Rattle.ratatui_app.proofs.RunLemmas.{runs-start, runs-step, runs-shows, stays-known, came-if}
@@ -55,12 +56,14 @@ returns-clause-stops g c = λ rest. inr (record {
 })
 
 pub returns-in_err-came-clause-stops : goal.returns-in_err-came-clause-stops
-returns-in_err-came-clause-stops g c = λ rest. inr (record {
-  now = record { decoder = c.loop.decoder; state = c.loop.application };
-  left = g.S.Source.coming c.loop.source;
-  terminal = c.loop.terminal;
-  ran = (c.loop.invariant rest).0;
-  decoder = c.step.new.decoder;
-  stops = c.in_err-came.ensures.stops
-      (runs-shows g.B.Backend _ _ _ _ _ _ _ (c.loop.invariant rest).0);
-})
+returns-in_err-came-clause-stops g c = λ rest.
+    let passed = err_from_is_err_and c.from_residual-in_err-came.result c.from_residual-in_err-came.ensures.1 in
+    rw (passed.1, passed.2) (inr (record {
+      now = record { decoder = c.loop.decoder; state = c.loop.application };
+      left = g.S.Source.coming c.loop.source;
+      terminal = c.loop.terminal;
+      ran = (c.loop.invariant rest).0;
+      decoder = c.step.new.decoder;
+      stops = c.in_err-came.ensures.stops
+          (runs-shows g.B.Backend _ _ _ _ _ _ _ (c.loop.invariant rest).0);
+    }))
