@@ -12,11 +12,11 @@ use Rattle.ansi_model.specs.{Sends.Performs, Sends.typed}
 use Rattle.ansi_model.specs.Columns.{Column, Columns, is_met, overwritten}
 use Rattle.ansi_model.specs.Columns.Column.{Shows, Unknown}
 use Rattle.ansi_model.specs.Emulator.{Emulator, rested, run, prints_disputed, is_blank_in, are_blank, cursor_moved}
-use Rattle.ansi_model.specs.Drawing.{printed_at, disputed_at, drawn_at, blanked_in, WritesAt, IsDrawnBy, Paints, Prints}
+use Rattle.ansi_model.specs.Drawing.{printed_at, disputed_at, drawn_at, blanked_in, WritesAt, IsDrawnBy, PenSends, Prints}
 use Rattle.ansi_model.proofs.{ReadLemmas.Leads-so, ReadLemmas.Sends-then, TextLemmas.blank-one, ReadLemmas.and-true}
 use Rattle.ansi_model.proofs.{MotionLemmas.not_met}
 use Rattle.ansi_model.proofs.{PutLemmas.none_between, SymbolLemmas.alone-disputed}
-use Rattle.ansi_model.proofs.{DrawLemmas.moved-there, PaintLemmas.Paints-then, PaintLemmas.blanked-only}
+use Rattle.ansi_model.proofs.{DrawLemmas.moved-there, PaintLemmas.PenSends-then, PaintLemmas.blanked-only}
 use Rattle.ansi_model.proofs.{PaintLemmas.blanked-width, PaintLemmas.blanked-height, PaintLemmas.blanked-keeps}
 use Rattle.ansi_model.proofs.{PaintLemmas.KeepsSize}
 
@@ -214,7 +214,7 @@ still-same x y end sgr symbol t ends whole row =
 pub over-paints : (x y : ℕ) (before after : Pen) (symbol old first new : List ℕ) → Performs old first (cursor_moved x y)
     → Sends first new (typed symbol) → is_printed symbol ≡ true
     → is_disputed symbol ≡ true → after.sgr ≡ before.sgr → after.at ≡ None → (w h : ℕ) → x < w → y < h
-    → Paints w h old before (disputed_at x y before.sgr symbol) new after
+    → PenSends w h old before (disputed_at x y before.sgr symbol) new after
 over-paints x y before after symbol old first new moves sends is disputed same unplaced w h x_in y_in =
     let sgr = before.sgr in
     let both : Sends old new (λ t. typed symbol (cursor_moved x y (rested t))) =
@@ -237,7 +237,7 @@ over-paints x y before after symbol old first new moves sends is disputed same u
 
 pub place-paints : (x y : ℕ) (before after : Pen) (old new : List ℕ) → Performs old new (cursor_moved x y)
     → after.sgr ≡ before.sgr → after.at ≡ Some (record { x = x; y = y })
-    → (w h : ℕ) → x < w → y < h → Paints w h old before (cursor_moved x y) new after
+    → (w h : ℕ) → x < w → y < h → PenSends w h old before (cursor_moved x y) new after
 place-paints x y before after old new does same at w h x_in y_in = Leads-so does (λ t canvas. canvas.drawn.phase) (λ t u canvas e.
     let wide : (rested t).width ≡ w = canvas.width in
     let high : (rested t).height ≡ h = canvas.height in
@@ -260,17 +260,17 @@ place-paints x y before after old new does same at w h x_in y_in = Leads-so does
 pub put_over : (w h x y : ℕ) (before after : Pen) (symbol old first new : List ℕ) → Performs old first (cursor_moved x y)
     → Sends first new (typed symbol) → is_printed symbol ≡ true
     → after.sgr ≡ before.sgr → after.at ≡ None → is_disputed symbol ≡ true → x < w → y < h
-    → Paints w h old before (disputed_at x y before.sgr symbol) new after
+    → PenSends w h old before (disputed_at x y before.sgr symbol) new after
 put_over w h x y before after symbol old first new moves sends is same unplaced disputed x_in y_in =
     over-paints x y before after symbol old first new moves sends is disputed same unplaced w h x_in y_in
 
 -- blanks and a symbol over them, and a move after it or none
 module _ (w h x y n end : ℕ) (symbol : List ℕ) (p q r : Pen) (a b c : List ℕ) (columns : n ≡ printed_columns symbol)
     (ends : x + n ≡ end) (fits : end ≤ w) (row : y < h) (same : q.sgr ≡ p.sgr)
-    (blanks : Paints w h a p (blanked_in p.sgr x y n) b q) (over : Paints w h b q (disputed_at x y q.sgr symbol) c r) where
-  both : Paints w h a p (λ t. disputed_at x y p.sgr symbol (blanked_in p.sgr x y n t)) c r
-  both = Paints-then w h a b c p q r (blanked_in p.sgr x y n) (disputed_at x y p.sgr symbol) (blanked-keeps p.sgr x y n) blanks
-      (subst (λ sgr. Paints w h b q (disputed_at x y sgr symbol) c r) same over)
+    (blanks : PenSends w h a p (blanked_in p.sgr x y n) b q) (over : PenSends w h b q (disputed_at x y q.sgr symbol) c r) where
+  both : PenSends w h a p (λ t. disputed_at x y p.sgr symbol (blanked_in p.sgr x y n t)) c r
+  both = PenSends-then w h a b c p q r (blanked_in p.sgr x y n) (disputed_at x y p.sgr symbol) (blanked-keeps p.sgr x y n) blanks
+      (subst (λ sgr. PenSends w h b q (disputed_at x y sgr symbol) c r) same over)
 
   pub paints-still : end ≡ w → Prints w h a p x y p.sgr symbol c r
   paints-still whole = Leads-so both (λ t canvas. canvas) (λ t u canvas does.
@@ -282,11 +282,11 @@ module _ (w h x y n end : ℕ) (symbol : List ℕ) (p q r : Pen) (a b c : List �
             ∙ still-same x y end p.sgr symbol (rested t) (omega arith) (omega arith) (omega arith);
       })
 
-  pub paints-moved : (d : List ℕ) (s : Pen) → end < w → Paints w h c r (cursor_moved end y) d s
+  pub paints-moved : (d : List ℕ) (s : Pen) → end < w → PenSends w h c r (cursor_moved end y) d s
       → Prints w h a p x y p.sgr symbol d s
   paints-moved d s inside move =
       let keeps : KeepsSize (λ t. disputed_at x y p.sgr symbol (blanked_in p.sgr x y n t)) = λ t. blanked-keeps p.sgr x y n t in
-      let all = Paints-then w h a c d p r s (λ t. disputed_at x y p.sgr symbol (blanked_in p.sgr x y n t))
+      let all = PenSends-then w h a c d p r s (λ t. disputed_at x y p.sgr symbol (blanked_in p.sgr x y n t))
       (cursor_moved end y) keeps both move in
       Leads-so all (λ t canvas. canvas) (λ t u canvas does.
       let wide : (rested t).width ≡ w = canvas.width in

@@ -53,8 +53,8 @@ pub record IsPainted (effect : Emulator → Emulator) (pen : Pen) (t u : Emulato
 
 -- bytes were appended that do this to each terminal of this size that is drawn by a pen, and leave it drawn
 -- by another one
-abbrev pub Paints : ℕ → ℕ → List ℕ → Pen → (Emulator → Emulator) → List ℕ → Pen → Type 0
-Paints w h old before effect new after = Leads old new (IsCanvas w h before) (IsPainted effect after)
+abbrev pub PenSends : ℕ → ℕ → List ℕ → Pen → (Emulator → Emulator) → List ℕ → Pen → Type 0
+PenSends w h old before effect new after = Leads old new (IsCanvas w h before) (IsPainted effect after)
 
 -- a symbol printed in a column and a row, in a rendition
 abbrev pub printed_at : ℕ → ℕ → Sgr → List ℕ → Emulator → Emulator
@@ -67,7 +67,7 @@ disputed_at x y sgr symbol t = prints_disputed symbol (printed_columns symbol) (
 -- bytes were appended that print a symbol in a column and a row of a screen of this size, in a rendition, and
 -- nothing else
 abbrev pub Prints : ℕ → ℕ → List ℕ → Pen → ℕ → ℕ → Sgr → List ℕ → List ℕ → Pen → Type 0
-Prints w h old before x y sgr symbol new after = Paints w h old before (printed_at x y sgr symbol) new after
+Prints w h old before x y sgr symbol new after = PenSends w h old before (printed_at x y sgr symbol) new after
 
 -- blanks printed in so many columns of a row, one by one, in a rendition
 abbrev pub blanked_in : Sgr → ℕ → ℕ → ℕ → Emulator → Emulator

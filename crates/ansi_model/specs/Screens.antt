@@ -73,14 +73,14 @@ pub record IsIdle (w h : ℕ) (t : Emulator) : Type 0 where
   pub tidy : IsTidy w t.columns
 
 -- it awaits text, and is so once its own text stands
-pub record IsReady (w h : ℕ) (t : Emulator) : Type 0 where
+pub record RestsIdle (w h : ℕ) (t : Emulator) : Type 0 where
   pub phase : t.phase ≡ Ground
   pub idle : IsIdle w h (rested t)
 
 -- bytes were appended that leave each terminal ready that was so once its text stands, and related to what it
 -- was
 pub record Turns (w h : ℕ) (old new : List ℕ) (related : Emulator → Emulator → Type 0) : Type 0 where
-  pub leads : Leads old new (IsReady w h) (λ t u. IsReady w h u × related (rested t) (rested u))
+  pub leads : Leads old new (RestsIdle w h) (λ t u. RestsIdle w h u × related (rested t) (rested u))
 
 -- a terminal's screen is related so to that of another, which it was, and these columns stand now
 pub record Becomes (related : Screen → Screen → Type 0) (standing : Columns) (s t : Emulator) : Type 0 where

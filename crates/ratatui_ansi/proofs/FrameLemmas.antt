@@ -18,14 +18,14 @@ use Rattle.ansi_model.specs.{Sgr.default_sgr, Sgr.inked, Sgr.sgr_of, Emulator.Em
 use Rattle.ansi_model.specs.{Sends.Leads}
 use Rattle.ansi_model.specs.Symbols.{is_plain_char, is_one_plain, is_printed, printed_columns, glyph_columns}
 use Rattle.ansi_model.specs.{Screens.screen_shown, Screens.IsIdle, Drawing.ChangesSgr.Stays, Drawing.ChangesSgr.Sets}
-use Rattle.ansi_model.specs.Drawing.{printed_at, blanked, WritesAt, IsDrawnBy, ChangesSgr, Paints, Prints}
+use Rattle.ansi_model.specs.Drawing.{printed_at, blanked, WritesAt, IsDrawnBy, ChangesSgr, PenSends, Prints}
 use Rattle.ratatui_ansi.specs.Frame.{is_fit, is_sendable_on, IsGlyph, IsVacant, IsDrawing, AreMarked, Covers, SendsUpdates}
 use Rattle.ratatui_ansi.specs.Frame.{SendsDraw}
 use Rattle.ansi_model.proofs.ReadLemmas.{Leads-then, Leads-so, Leads-none}
 use Rattle.ansi_model.proofs.{SymbolLemmas.plain-printed, SymbolLemmas.plain-single}
 use Rattle.ansi_model.proofs.{SymbolLemmas.one-undisputed, GlyphLemmas.printed-width, SgrLemmas.equal-number}
 use Rattle.ratatui_ansi.proofs.TailLemmas.{continuation-empty, laid-shown, IsTail}
-use Rattle.ansi_model.proofs.PaintLemmas.{Paints-then}
+use Rattle.ansi_model.proofs.PaintLemmas.{PenSends-then}
 use Rattle.ratatui_ansi.proofs.LayLemmas.{sgr-paints, IsLaid, laid-by, laid-ready, tail-of, laid-flags}
 
 -- ---- what the screen shows
@@ -138,7 +138,7 @@ cursor-at end y w ux uy uw ex ey ew = rw (ex, ey, ew) refl
 
 pub lay-sends : (w h x y n end : ℕ) (cell : Cell) (before after : DrawState) (flags flags_after : List Bool) (old new : List ℕ)
     → Fits (w - x) cell → width_of cell ≡ n → x < w → y < h
-    → Paints w h old before.pen (λ t. blanked (x + n) y (end - (x + n))
+    → PenSends w h old before.pen (λ t. blanked (x + n) y (end - (x + n))
     (printed_at x y (sgr_of cell) (symbol_text cell.symbol) t)) new after.pen
     → slice_index_or flags (y * w + x) false ≡ false → x + n ≤ end → end ≤ w
     → ((k : ℕ) → x + n ≤ k → k < end → slice_index_or flags (y * w + k) false ≡ true)
@@ -194,15 +194,16 @@ cell-sends w h x y cell glyph end before after inked drawn flags flags_after old
     let symbol = symbol_text cell.symbol in
     let n = glyph_columns glyph in
     let m = end - (x + n) in
-    let sgr_set : Paints w h old before.pen (with_sgr sgr) first inked = subst (Paints w h old before.pen (with_sgr sgr) first)
+    let sgr_set : PenSends w h old before.pen (with_sgr sgr) first inked =
+    subst (PenSends w h old before.pen (with_sgr sgr) first)
     (sym pens) (sgr-paints w h before.pen sgr old first changes) in
     let here : Prints w h first inked x y sgr symbol mid drawn = subst (λ p. Prints w h first inked x y p symbol mid drawn)
     (ap (λ (b : Pen). b.sgr) pens) prints in
-    let two : Paints w h old before.pen (printed_at x y sgr symbol) mid drawn =
-    Paints-then w h old first mid before.pen inked drawn (with_sgr sgr) (printed_at x y sgr symbol)
+    let two : PenSends w h old before.pen (printed_at x y sgr symbol) mid drawn =
+    PenSends-then w h old first mid before.pen inked drawn (with_sgr sgr) (printed_at x y sgr symbol)
     (λ t. (refl, refl)) sgr_set here in
-    let both : Paints w h old before.pen (λ t. blanked (x + n) y m (printed_at x y sgr symbol t)) new after.pen
-    = Paints-then w h old mid new before.pen drawn after.pen (printed_at x y sgr symbol) (blanked (x + n) y m)
+    let both : PenSends w h old before.pen (λ t. blanked (x + n) y m (printed_at x y sgr symbol t)) new after.pen
+    = PenSends-then w h old mid new before.pen drawn after.pen (printed_at x y sgr symbol) (blanked (x + n) y m)
     (λ t. (refl, refl)) two (covers.paints h row) in
     let fit = fit-parts (w - x) cell (rw is.fits refl) in
     lay-sends w h x y n end cell before after flags flags_after old new fit (sym (is.symbol.columns ∙ fit.columns)) column row

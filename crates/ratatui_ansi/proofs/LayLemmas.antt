@@ -9,11 +9,11 @@ use Rattle.ansi_model.specs.{Flags.AreContinuations}
 use Rattle.ansi_model.specs.{Sgr.default_sgr, Sgr.inked, Symbols.is_plain_char, Symbols.printed_columns}
 use Rattle.ansi_model.specs.Emulator.{Emulator, rested, run, with_sgr}
 use Rattle.ansi_model.specs.Screens.{IsWhole, IsBlankBeyond, IsIdle, put_columns}
-use Rattle.ansi_model.specs.Drawing.{printed_at, blanked, WritesAt, IsDrawnBy, ChangesSgr, Paints}
+use Rattle.ansi_model.specs.Drawing.{printed_at, blanked, WritesAt, IsDrawnBy, ChangesSgr, PenSends}
 use Rattle.ansi_model.specs.Drawing.ChangesSgr.{Stays, Sets}
 use Rattle.ratatui_ansi.specs.Frame.{AreMarked}
 use Rattle.ansi_model.proofs.{ReadLemmas.Leads-so, ReadLemmas.Leads-none, MotionLemmas.tidy-along, TextLemmas.blank-one}
-use Rattle.ansi_model.proofs.PaintLemmas.{OnlyPrinted, blanked-only, blanked-width, blanked-height, Paints-then}
+use Rattle.ansi_model.proofs.PaintLemmas.{OnlyPrinted, blanked-only, blanked-width, blanked-height, PenSends-then}
 use Rattle.rtui_grid.proofs.PlaceLemmas.{by_rows}
 use Rattle.ratatui_ansi.proofs.TailLemmas.{torn, put-torn, torn-more, torn-all, laid-sized, laid-whole, laid-beyond}
 use Rattle.ratatui_ansi.proofs.TailLemmas.{laid-continuations, IsTail, laid}
@@ -76,7 +76,7 @@ placed-with sgr t (Some p) known = record {
 }
 
 pub sgr-paints : (w h : ℕ) (before : Pen) (sgr : Sgr) (old new : List ℕ) → ChangesSgr before.sgr sgr old new
-    → Paints w h old before (with_sgr sgr) new (record before { sgr = sgr })
+    → PenSends w h old before (with_sgr sgr) new (record before { sgr = sgr })
 sgr-paints w h before sgr old new (Stays same none) = Leads-none none (λ t is. record {
   drawn = record {
     phase = is.drawn.phase;
@@ -103,12 +103,12 @@ blanked-sgr x y (suc n) t = ap (printed_at (x + suc n) y default_sgr blank) (bla
 -- blanks after the own rendition
 pub blanks-own : (w h x y n m : ℕ) (old mid new : List ℕ) (before between after : Pen) → ChangesSgr before.sgr default_sgr old mid
     → between ≡ record before { sgr = default_sgr }
-    → Paints w h mid between (blanked x y n) new after → n ≡ suc m → Paints w h old before (blanked x y n) new after
+    → PenSends w h mid between (blanked x y n) new after → n ≡ suc m → PenSends w h old before (blanked x y n) new after
 blanks-own w h x y n m old mid new before between after changes pens done some =
-    let sgr_set : Paints w h old before (with_sgr default_sgr) mid between =
-    subst (Paints w h old before (with_sgr default_sgr) mid) (sym pens) (sgr-paints w h before default_sgr old mid changes) in
-    let both : Paints w h old before (λ t. blanked x y n (with_sgr default_sgr t)) new after =
-    Paints-then w h old mid new before between after (with_sgr default_sgr) (blanked x y n)
+    let sgr_set : PenSends w h old before (with_sgr default_sgr) mid between =
+    subst (PenSends w h old before (with_sgr default_sgr) mid) (sym pens) (sgr-paints w h before default_sgr old mid changes) in
+    let both : PenSends w h old before (λ t. blanked x y n (with_sgr default_sgr t)) new after =
+    PenSends-then w h old mid new before between after (with_sgr default_sgr) (blanked x y n)
     (λ t. (refl, refl)) sgr_set done in
     Leads-so both (λ t is. is) (λ t u is did. record {
       drawn = did.drawn;

@@ -12,7 +12,7 @@ use Rattle.ansi_model.specs.{Sgr.default_sgr, Sgr.sgr_of, Parameters.is_sendable
 use Rattle.ansi_model.specs.{Emulator.rested, Emulator.with_sgr}
 use Rattle.ansi_model.specs.{Symbols.is_printed, Symbols.printed_columns, Symbols.IsGlyphOf, Sends.Leads}
 use Rattle.ansi_model.specs.{Screens.screen_shown, Screens.IsIdle}
-use Rattle.ansi_model.specs.Drawing.{blanked, IsDrawnBy, Paints}
+use Rattle.ansi_model.specs.Drawing.{blanked, IsDrawnBy, PenSends}
 
 -- ---- cells
 
@@ -79,7 +79,7 @@ pub record Covers (w x y n : ℕ) (old : List ℕ) (flags : List Bool) (before :
   pub inside : end ≤ w
   pub set : (k : ℕ) → x + n ≤ k → k < end → flag flags (y * w + k) ≡ true
   pub unset : end < w → flag flags (y * w + end) ≡ false
-  pub paints : (h : ℕ) → y < h → Paints w h old before (blanked (x + n) y (end - (x + n))) new after
+  pub paints : (h : ℕ) → y < h → PenSends w h old before (blanked (x + n) y (end - (x + n))) new after
   pub sgr : (after.sgr ≡ before.sgr) ⊎ (after.sgr ≡ default_sgr)
   pub marked : AreMarked (y * w + x) (y * w + (x + n)) (y * w + end) flags flags_after
 

@@ -10,7 +10,7 @@ ghost use Rattle.ansi_model.specs.declared.glyph.Glyph.TheVariants.{Plain};
 ghost use Rattle.ansi_model.specs.Sgr.{default_sgr, sgr_of};
 ghost use Rattle.ansi_model.specs.Parameters.{is_sendable_by};
 ghost use Rattle.ansi_model.specs.Symbols.{printed_columns, IsGlyphOf};
-ghost use Rattle.ansi_model.specs.Drawing.{blanked, ChangesSgr, Paints, Prints};
+ghost use Rattle.ansi_model.specs.Drawing.{blanked, ChangesSgr, PenSends, Prints};
 ghost use Rattle.ansi_model.specs.Places.{PlacesOn, PlacesEach};
 ghost use Rattle.ratatui_ansi.specs.Frame.{is_fit, is_sendable_on, IsGlyph, IsVacant, IsUnsendableSgr};
 ghost use Rattle.ratatui_ansi.specs.Frame.{RefusesUpdate, Covers, SendsUpdates, SendsDraw};
@@ -125,7 +125,7 @@ fn is_vacant(cell: &Cell) -> bool
 #[inline(never)]
 fn put_blanks(out: &mut String, pen: &mut Pen, x: u16, y: u16, end: u16) -> Result<(), AllocError>
     requires { x < end }
-    ensures paints { OnOk result ((w h : ℕ) → end ≤ w → y < h → Paints w h (string_bytes out.old)
+    ensures paints { OnOk result ((w h : ℕ) → end ≤ w → y < h → PenSends w h (string_bytes out.old)
         pen.old (blanked x y (end - x)) (string_bytes out.new) pen.new) }
     ensures sgr { OnOk result (pen.new.sgr ≡ default_sgr) }
     ensures places { OnOk result

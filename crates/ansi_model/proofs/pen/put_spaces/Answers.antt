@@ -1,5 +1,5 @@
 use Rattle.std.proofs.Common.{◌≡◌, ◌+◌, ◌-◌, string_bytes, refl, subst, ◌∙◌, arith}
-use Rattle.ansi_model.specs.Drawing.{blanked_in, Paints}
+use Rattle.ansi_model.specs.Drawing.{blanked_in, PenSends}
 use Rattle.ansi_model.proofs.PaintLemmas.{blanks-none, blanks-more}
 use Rattle.ansi_model.proofs.PlaceLemmas.{places-on, places-on-then}
 use Rattle.ansi_model.proofs.pen.put_spaces.Goals as goal
@@ -25,6 +25,6 @@ loop-column-preserved c = record {
 pub returns-clause-paints : goal.returns-clause-paints
 returns-clause-paints c = λ w h inside row.
     let at_end : c.loop-column.column ≡ c.args.end = omega arith in
-    subst (λ k. Paints w h (string_bytes c.args.out.now) c.args.pen.now (blanked_in c.args.pen.now.sgr c.args.x c.args.y
+    subst (λ k. PenSends w h (string_bytes c.args.out.now) c.args.pen.now (blanked_in c.args.pen.now.sgr c.args.x c.args.y
     (k - c.args.x)) (string_bytes c.loop-column.out) c.loop-column.pen) at_end
     (c.loop-column.invariant.paints w h inside row)
