@@ -7,7 +7,7 @@ use Rattle.std.proofs.lemmas.{Bool.cases_lt, Bool.Decides.nat_tests, Str.length-
 use Rattle.unicode_width.specs.Width.{char_width, str_width}
 use Rattle.unicode_width.proofs.{Computing.unicode_width, Rules.width_or_zero-le}
 use Rattle.ratatui_core.specs.Buffer.{text_width}
-use Rattle.ratatui_core.proofs.BufferLemmas.{one_byte, one_character}
+use Rattle.ratatui_core.proofs.BufferLemmas.{one_byte, char_alone}
 use Rattle.ansi_model.specs.declared.glyph.Glyph.TheVariants.{Plain, Whole}
 use Rattle.ansi_model.specs.Symbols.{is_plain_char, is_shown, columns_of_char, is_one_plain, is_printed, printed_columns}
 use Rattle.ansi_model.specs.Symbols.{IsGlyphOf}
@@ -50,7 +50,7 @@ text-columns : (text : List ℕ) (c : ℕ) → 0xA0 < c → IsUtf8 text → char
 unfolding text_width
 text-columns text c above utf8 only =
     let long : (length text == 1) ≡ false = rw (sym (one-encoded text c utf8 only)) (longer c above) in
-    let width = some-width c (str_width false (c ∷ [])) (one_character c above) in
+    let width = some-width c (str_width false (c ∷ [])) (char_alone c above) in
     let small : columns_of_char c ≤ 3 = width_or_zero-le false c in
     let kept : min (columns_of_char c) 65535 ≡ columns_of_char c = omega arith in
     rw (long, only, ← width) kept

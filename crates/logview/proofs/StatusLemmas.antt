@@ -35,6 +35,7 @@ status-settled text sheet is =
     let blank = is.blank in
     let area = sheet.area in
     let left : blank.area.x ≡ area.x = ap (λ (r : Rect). r.x) is.emptied.area in
-    IsSettledBuffer-painted (record { x = area.x; y = area.y }) (pieces_at blank.area area.x area.width status_style text) blank sheet
+    let pieces = pieces_at blank.area area.x area.width status_style text in
+    IsSettledBuffer-painted (record { x = area.x; y = area.y }) pieces blank sheet
     (omega (arith, left)) (text-ends blank.area area.x area.width status_style text) (IsSettledBuffer-empty _ _ is.emptied)
     (IsPaintable-empty _ _ is.emptied _ _) is.rendered

@@ -17,7 +17,7 @@ pub use Rattle.rtui_buffer.proofs.ShortLemmas.{text-short, ascii-short}
 pub use Rattle.rtui_buffer.proofs.PaintsLemmas.{IsSettledBuffer-painted, front-beside, front-settled}
 pub use Rattle.rtui_buffer.proofs.ColumnLemmas.{text-ends}
 -- A text of one byte takes one column; those of a text of one character above U+00A0 are the character's.
-pub use Rattle.rtui_cell.proofs.WidthLemmas.{one_byte, one_character}
+pub use Rattle.rtui_cell.proofs.WidthLemmas.{one_byte, char_alone}
 -- A change of each cell of an area, and what stays within one.
 pub use Rattle.rtui_changes.proofs.ChangeLemmas.{Changes-within, within-same, within-wider, on-ok, has-or-not}
 -- Plain cells are settled, and painting keeps a buffer ready for more.

@@ -108,7 +108,15 @@ impl Answer {
 // Whether a character is written by its number.
 fn is_numbered(ch: char) -> bool {
     ch.is_control()
-        || matches!(ch, '\u{ad}' | '\u{180e}' | '\u{200b}'..='\u{200f}' | '\u{2060}' | '\u{fe00}'..='\u{fe0f}' | '\u{feff}')
+        || matches!(
+            ch,
+            '\u{ad}'
+                | '\u{180e}'
+                | '\u{200b}'..='\u{200f}'
+                | '\u{2060}'
+                | '\u{fe00}'..='\u{fe0f}'
+                | '\u{feff}'
+        )
 }
 
 fn escape(ch: char, out: &mut String) -> Result<(), AllocError> {

@@ -12,7 +12,8 @@ use Rattle.rtui_text.specs.Text.{LineData}
 use Rattle.rtui_buffer.specs.BufferData.{empty_cells, row_cells}
 use Rattle.rtui_buffer.specs.{Painting.HasPieces, Painted.painted}
 use Rattle.rtui_buffer.specs.Line.{line_pieces, line_row, line_rows, line_at, ShowsLines}
-use Rattle.rtui_buffer.proofs.{EmptyLemmas.cell-empty, LineLemmas.columns-line, LineLemmas.AreWide-line, PaintedLemmas.HasPieces-painted}
+use Rattle.rtui_buffer.proofs.{EmptyLemmas.cell-empty, LineLemmas.columns-line, LineLemmas.AreWide-line}
+use Rattle.rtui_buffer.proofs.{PaintedLemmas.HasPieces-painted}
 use Rattle.rtui_buffer.proofs.SettledLemmas.{IsSettled-empty, IsSettled-painted, unmarked_empty}
 
 pub HasPieces-row : (w : ℕ) (l : LineData) → HasPieces 0 (line_pieces w l.style l.spans) (empty_cells w) (line_row w l)

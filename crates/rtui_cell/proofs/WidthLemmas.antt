@@ -29,9 +29,9 @@ one_step c above =
     third (c == 0x0A) ((c == 0x0D) && false) (nat_le c 0xA0) _ _ _ _ line (rw back refl) low
 
 -- above U+00A0 it is the character's
-pub one_character : (c : ℕ) → 0xA0 < c → char_width false c ≡ Some (str_width false (c ∷ []))
+pub char_alone : (c : ℕ) → 0xA0 < c → char_width false c ≡ Some (str_width false (c ∷ []))
 unfolding char_width str_width
-one_character c above =
+char_alone c above =
     let small : nat_lt c 0x7F ≡ false = grind (arith, nat_tests) in
     let large : nat_le 0xA0 c ≡ true = grind (arith, nat_tests) in
     let none : (alone false c).0 ≡ 0 + (alone false c).0 = omega arith in

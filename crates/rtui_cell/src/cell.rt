@@ -254,7 +254,7 @@ impl Cell {
 
     /// Whether the text is a single byte, as a blank if none is set, and the cell has no option. It
     /// takes one column then.
-    #[tactic(auto, using(crate::proofs::CellLemmas::single_byte_width), unfolding(crate::specs::Cell::is_single_byte))]
+    #[tactic(auto, unfolding(crate::specs::Cell::is_single_byte))]
     pub fn is_single_byte(&self) -> bool
         ensures value { result ≡ is_single_byte self.now }
         ensures narrow { IsTrue result → width_of self.now ≡ 1 }

@@ -19,7 +19,7 @@ pub trait CellWidth {
 impl CellWidth for &str {
     ghost columns = { λ text. text_width text.now };
 
-    #[tactic(auto, using(crate::proofs::WidthLemmas::one_character), unfolding(crate::specs::Width::text_width))]
+    #[tactic(auto, using(crate::proofs::WidthLemmas::char_alone), unfolding(crate::specs::Width::text_width))]
     fn cell_width(&self) -> u16 {
         if self.len() == 1 {
             return 1;
@@ -37,7 +37,7 @@ impl CellWidth for &str {
 }
 
 // The Unicode width of a text of this character alone.
-#[tactic(auto, using(crate::proofs::WidthLemmas::one_character))]
+#[tactic(auto, using(crate::proofs::WidthLemmas::char_alone))]
 fn character_columns(character: char) -> u16
     requires { 0xA0 < character }
     ensures { result ≡ min (str_width false (character ∷ [])) 65535 }

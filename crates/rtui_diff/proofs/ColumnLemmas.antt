@@ -114,7 +114,11 @@ behind_look len ns j k st lt x unskipped = elim (st.behind j k lt x) [
 -- a cell covers the places up to the next one
 pub next_covers : (len : ℕ) (ns : List Cell) (i k : ℕ) → Settled len ns → i < len → i < k → k < next_place ns i
     → Covers ns i k
-next_covers len ns i k st lt a b = record { before = a; unskipped = wide_unskipped len ns i st lt (omega arith); reaches = omega arith }
+next_covers len ns i k st lt a b = record {
+  before = a;
+  unskipped = wide_unskipped len ns i st lt (omega arith);
+  reaches = omega arith;
+}
 
 pub next_bound : (len : ℕ) (ns : List Cell) (i : ℕ) → Settled len ns → i < len → next_place ns i ≤ len
 next_bound len ns i st lt = elim (cases_Bool (is_skipped (cell ns i))) [

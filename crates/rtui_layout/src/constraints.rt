@@ -4,8 +4,12 @@ ghost use Rattle.std.specs.Cmp.{partial_equiv_from_equiv};
 ghost use Rattle.std.specs.Cmp.Lexicographic.{pointwise, lists_equiv};
 ghost use Rattle.std.specs.Hash as fed;
 ghost use Rattle.std.specs.Hash.{items_Alike};
-ghost use Rattle.rtui_layout.specs.contracts.constraint.ConstraintEq.TheImpl.Laws.{laws-law as constraint_laws};
-ghost use Rattle.rtui_layout.specs.contracts.constraint.ConstraintHash.TheImpl.Laws.{respects_eq-law as constraint_hashes};
+ghost use Rattle.rtui_layout.specs.contracts.constraint.ConstraintEq.TheImpl.Laws.{
+  laws-law as constraint_laws,
+};
+ghost use Rattle.rtui_layout.specs.contracts.constraint.ConstraintHash.TheImpl.Laws.{
+  respects_eq-law as constraint_hashes,
+};
 
 use crate::constraint::Constraint;
 use std::alloc::{AllocError, Global};

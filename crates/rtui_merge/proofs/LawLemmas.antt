@@ -43,3 +43,5 @@ differ_in_arms a b arms e f = cc (symbol_of-arms_of a arms e, symbol_of-arms_of 
 pub are_box_drawings : AreBoxDrawings
 unfolding symbols encode_utf8
 are_box_drawings = refl
+
+pub ruleset border_symbols = (are_box_drawings, found_by_arms, differ_in_arms)

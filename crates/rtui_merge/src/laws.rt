@@ -18,7 +18,7 @@ pub fn fuzzy_keeps_exact()
 {}
 
 /// The border symbols and their arms: each symbol is found by its arms, and no two have the same.
-#[tactic(auto, using(crate::proofs::LawLemmas::are_box_drawings, crate::proofs::LawLemmas::found_by_arms, crate::proofs::LawLemmas::differ_in_arms))]
+#[tactic(auto, using(crate::proofs::LawLemmas::border_symbols))]
 pub fn border_symbols()
     ensures box_drawings { AreBoxDrawings }
     ensures found { FoundByArms }

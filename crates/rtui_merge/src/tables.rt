@@ -252,7 +252,7 @@ impl BorderSymbol {
     }
 
     /// The text of the symbol with these arms, if there is one.
-    #[tactic(auto, using(crate::proofs::ArmsLemmas::symbol_of_crossing), unfolding(crate::specs::Shapes::is_mixed))]
+    #[tactic(auto, unfolding(crate::specs::Shapes::is_mixed))]
     fn crossing(self) -> Option<&'static str>
         requires { IsTrue (is_mixed self) }
         ensures { option_copied result ≡ symbol_of self }

@@ -153,7 +153,8 @@ module _ {B : Type 0} (screen : B → Screen) where
 
     left : (m : MayTakeSize screen s u) → (IsSized screen u × Stays screen u z)
         ⊎ ((IsSized screen u → ⊥) × Resizes screen (screen_area (screen u.backend)) u z) → IsKeptOrEmptied screen s t
-    left (inl e) (inl p) = inl (after.previous ∙ (stays_keeps screen u z p.1).previous ∙ ap (λ (x : TerminalData B). x.previous) e)
+    left (inl e) (inl p) =
+        inl (after.previous ∙ (stays_keeps screen u z p.1).previous ∙ ap (λ (x : TerminalData B). x.previous) e)
     left (inr p) (inl q) = absurd (p.1 q.0)
     left m (inr q) = inr (
       λ fixed. q.0 (inl (subst IsFixed (sym (taken_kind s u m)) fixed)),

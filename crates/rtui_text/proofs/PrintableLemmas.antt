@@ -298,7 +298,12 @@ pub ruleset front_rules = (front-boundary, graphemes-front)
 
 pub ruleset longest_rules = (longest-front, longest-front_cut)
 
-pub ruleset columns_rules = (columns-printable)
+-- a text's columns, as they are defined
+pub columns-is : (text : List ℕ) → text_columns text ≡ str_width false (chars text) - count_by is_sound_mark (chars text)
+unfolding text_columns
+columns-is text = refl
+
+pub ruleset columns_rules = (columns-printable, columns-is)
 
 -- the bytes of a front
 pub front-bytes : (text : List ℕ) (n : ℕ) → IsPrintableFront text n → ArePrintable (take n text)

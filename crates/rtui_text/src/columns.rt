@@ -6,7 +6,7 @@ use unicode_width::UnicodeWidthStr;
 
 /// How many columns a text takes in a line: its Unicode width less the half-width katakana sound
 /// marks.
-#[tactic(auto, using(crate::proofs::PrintableLemmas::columns_rules), unfolding(rtui_cell::specs::Width::text_columns))]
+#[tactic(auto, using(crate::proofs::PrintableLemmas::columns_rules))]
 pub fn text_columns(text: &str) -> usize
     ensures value { result ≡ text_columns text.now }
     ensures bound { result ≤ 2 * length text.now }

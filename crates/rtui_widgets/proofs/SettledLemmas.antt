@@ -11,7 +11,8 @@ pub text-settled : (r area : Rect) (text : List ℕ) (old new : BufferData) → 
     → area.x ≤ old.area.x + old.area.width → RendersStr text area old new → IsSettledBuffer new
 text-settled r area text old new empty left right paints =
     IsSettledBuffer-painted _ (pieces_at old.area area.x area.width new_style text) old new left
-    (text-ends old.area area.x area.width new_style text) (IsSettledBuffer-empty _ _ empty) (IsPaintable-empty _ _ empty _ _) paints
+    (text-ends old.area area.x area.width new_style text) (IsSettledBuffer-empty _ _ empty)
+    (IsPaintable-empty _ _ empty _ _) paints
 
 pub has-first-row : (r : Rect) (s : BufferData) → 0 < r.height → IsEmptied r s → HasFirstRow r s
 has-first-row r s some empty =

@@ -6,7 +6,8 @@ use Rattle.rtui_backend.specs.{Print.printed_screen, TestBackend.screen_of, decl
 use Rattle.rtui_terminal.specs.TerminalData.{TerminalData}
 use Rattle.screenplay.specs.{Run.view_of_scene, Run.IsStart, Run.IsCauseOfStep, Run.EndsEarly, Playing.IsPlaying, Playing.Plays}
 use Rattle.screenplay.specs.{Playing.view_in}
-use Rattle.screenplay.specs.{Print.printed_from, Print.step_of, Print.steps_of, Engine.PrintsActs, Engine.PrintsRun, Engine.PrintsText}
+use Rattle.screenplay.specs.{Print.printed_from, Print.step_of, Print.steps_of}
+use Rattle.screenplay.specs.{Engine.PrintsActs, Engine.PrintsRun, Engine.PrintsText}
 use Rattle.screenplay.specs.{declared.act.Act.Act, declared.act.Act.TheVariants.Play, declared.act.Act.TheVariants.Show}
 use Rattle.screenplay.specs.{declared.scene.PlayCause.PlayCause, declared.scene.Scene.Scene, declared.scene.Stage.Stage}
 use Rattle.screenplay.specs.{declared.act.Plan.Plan}
@@ -35,7 +36,8 @@ HasPlayed-none stage acts t playing start = record {
 module _ (stage : Stage) (acts left : List Act) (n : ℕ) (s : TerminalData TestBackend) (text : List ℕ) where
   module _ (plan : Plan) (h : HasPlayed stage acts (Play plan ∷ left) n s text) where
     -- one more step was played
-    pub HasPlayed-step : (t : TerminalData TestBackend) → Plays stage (step_of plan) s t → HasPlayed stage acts left (n + 1) t text
+    pub HasPlayed-step : (t : TerminalData TestBackend) → Plays stage (step_of plan) s t
+        → HasPlayed stage acts left (n + 1) t text
     HasPlayed-step t plays = record {
       first = h.first;
       later = h.later ++ scene_in t ∷ [];
@@ -51,7 +53,10 @@ module _ (stage : Stage) (acts left : List Act) (n : ℕ) (s : TerminalData Test
         → (scenes : List Scene) × EndsEarly stage (steps_of acts) scenes (n + 1) cause
     EndsEarly-next cause why = (
       h.first ∷ h.later,
-      (omega (arith, h.count), IsPlay-refused stage (steps_of acts) (steps_of left) (step_of plan) (h.first ∷ h.later) s h.ran cause why),
+      (
+        omega (arith, h.count),
+        IsPlay-refused stage (steps_of acts) (steps_of left) (step_of plan) (h.first ∷ h.later) s h.ran cause why,
+      ),
     )
 
   -- the scene was printed

@@ -59,7 +59,8 @@ module _ (text : TextData) where
     painted = made.painted;
   }
 
-  HasUnsettled-front : (area : Rect) (puts : List (ℕ × ℕ × ℕ)) → HasUnsettled area (front_of text) puts → HasUnsettled area text puts
+  HasUnsettled-front : (area : Rect) (puts : List (ℕ × ℕ × ℕ)) → HasUnsettled area (front_of text) puts
+      → HasUnsettled area text puts
   HasUnsettled-front area puts has = record {
     frame = has.frame;
     made = IsFrame-front area puts has.frame has.made;

@@ -1,6 +1,6 @@
 -- A script as it is read, a line at a time: what stands after each; and what is made of its text.
-use Rattle.std.specs.Prelude.{◌==◌, nat_le, if◌then◌else◌, ℕ, List, [], ◌∷◌, ◌++◌, length, take, Option, Some, None}
-use Rattle.std.specs.Prelude.{option_and_then}
+use Rattle.std.specs.Prelude.{◌==◌, nat_le, if◌then◌else◌, ℕ, List, [], ◌∷◌, ◌++◌, length, take}
+use Rattle.std.specs.Prelude.{Option, Some, None, option_and_then}
 use Rattle.rtui_text.specs.Text.{TextData, raw_line, text_of}
 use Rattle.screenplay.specs.{declared.act.Act.Act, declared.script.Command.Command}
 use Rattle.screenplay.specs.{declared.script.Script.Script}

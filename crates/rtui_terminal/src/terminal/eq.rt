@@ -9,7 +9,9 @@ ghost use Rattle.std.specs.Ordering.{on, eq_of_both};
 ghost use Rattle.rtui_geometry.specs.contracts.rect.RectEq.TheImpl.Laws.{laws-law as rect_laws};
 ghost use Rattle.rtui_geometry.specs.contracts.rect.RectHash.TheImpl.Laws.{respects_eq-law as rect_hashes};
 ghost use Rattle.rtui_buffer.specs.contracts.buffer.index.BufferEq.TheImpl.Laws.{laws-law as buffer_laws};
-ghost use Rattle.rtui_buffer.specs.contracts.buffer.index.BufferHash.TheImpl.Laws.{respects_eq-law as buffer_hashes};
+ghost use Rattle.rtui_buffer.specs.contracts.buffer.index.BufferHash.TheImpl.Laws.{
+  respects_eq-law as buffer_hashes,
+};
 
 use crate::terminal::frame::CompletedFrame;
 use rtui_backend::Backend;

@@ -48,5 +48,7 @@ returns-in_default-add_scene-2-clause-fault c =
     let before = c.loop-index.invariant in
     let left = left_next c.args.steps.now c.loop-index.index c.index-steps-index.result c.loop-index-test.true
     c.index-steps-index.is in
-    rw (c.fault-in_default-add_scene-2.ensures, (err-unless-ok c.add_scene-in-loop-index.result _ c.in_default-add_scene-2.not-Ok c.add_scene-in-loop-index.ensures.err))
+    let refused = err-unless-ok c.add_scene-in-loop-index.result _ c.in_default-add_scene-2.not-Ok
+    c.add_scene-in-loop-index.ensures.err in
+    rw (c.fault-in_default-add_scene-2.ensures, refused)
     (sym before.count, IsPlay-refused c.args.stage c.args.steps.now _ _ _ c.loop-index.terminal (rw left at before.ran) Memory tt)

@@ -1,6 +1,7 @@
 use Rattle.std.proofs.lemmas.Result.{on_ok_weaker, IfErr-weaker}
 use Rattle.screenplay.specs.Playing.{view_in}
-use Rattle.screenplay.proofs.FrontLemmas.{Plays-draw-front, Plays-insert-front, IsCauseOfStep-draw-front, IsCauseOfStep-insert-front}
+use Rattle.screenplay.proofs.FrontLemmas.{Plays-draw-front, Plays-insert-front}
+use Rattle.screenplay.proofs.FrontLemmas.{IsCauseOfStep-draw-front, IsCauseOfStep-insert-front}
 use Rattle.screenplay.proofs.playing.play_plan.Goals as goal
 
 pub returns-in_ok-text-in-Draw-clause-ok : goal.returns-in_ok-text-in-Draw-clause-ok

@@ -9,7 +9,8 @@ loop-line-preserved c =
     let at = c.loop-line.start in
     let n = at + c.from.result - at in
     let row = take n (drop at c.loop-line.cells) in
-    let put : c.paint_spans.new.cells ≡ painted 0 (line_pieces c.args.width c.line-item.result.style c.line-item.result.spans) row =
+    let pieces = line_pieces c.args.width c.line-item.result.style c.line-item.result.spans in
+    let put : c.paint_spans.new.cells ≡ painted 0 pieces row =
     c.in_ok-paint_spans.ensures.paints.cells
     ∙ ap (λ ps. painted 0 ps row) (front-all _ _ _ _ c.in_ok-paint_spans.ensures.paints)
     ∙ ap (λ spans. painted 0 (line_pieces c.args.width c.line.inside.style spans) row) c.as_slice.ensures

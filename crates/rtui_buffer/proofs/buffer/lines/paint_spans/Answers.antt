@@ -14,10 +14,11 @@ loop-span-preserved c =
     let style : c.patch-style.result ≡ patch c.args.base c.span-item.result.style = c.patch-style.ensures
     ∙ ap (λ s. patch c.args.base s.style) c.span.view_is in
     let ran = rw (style, c.text.ensures) at c.in_ok-used.ensures in
+    let pieces = span-pieces c.args.base c.loop-span.used c.args.room _ _ c.span-item.result
+    c.loop-span-test.true c.span-item.is in
     record {
       within = omega (arith, ran.fits);
-      so_far = rw ran.columns (so_far-next _ _ _ _ _ _ i.so_far _ _ _
-          (span-pieces c.args.base c.loop-span.used c.args.room _ _ c.span-item.result c.loop-span-test.true c.span-item.is) ran.paints);
+      so_far = rw ran.columns (so_far-next _ _ _ _ _ _ i.so_far _ _ _ pieces ran.paints);
     }
 
 pub returns-in_err-used-clause-paints : goal.returns-in_err-used-clause-paints
@@ -26,8 +27,9 @@ returns-in_err-used-clause-paints c =
     let style : c.patch-style.result ≡ patch c.args.base c.span-item.result.style = c.patch-style.ensures
     ∙ ap (λ s. patch c.args.base s.style) c.span.view_is in
     let refused = rw (style, c.text.ensures) at c.in_err-used.ensures in
-    so_far-within _ _ _ _ _ _ i.so_far _ _ _ (span-pieces c.args.base c.loop-span.used c.args.room _ _ c.span-item.result c.loop-span-test.true c.span-item.is)
-    _ (search rules) refused.paints
+    let pieces = span-pieces c.args.base c.loop-span.used c.args.room _ _ c.span-item.result
+    c.loop-span-test.true c.span-item.is in
+    so_far-within _ _ _ _ _ _ i.so_far _ _ _ pieces _ (search rules) refused.paints
 
 pub returns-then-used-room : goal.returns-then-used-room
 returns-then-used-room c =
