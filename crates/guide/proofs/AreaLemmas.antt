@@ -1,11 +1,11 @@
 -- What a layout of a row and of what is left makes of an area.
-use Rattle.std.proofs.Common.{ℕ, ◌≡◌, ◌≤◌, ◌<◌, ◌+◌, List, [], ◌∷◌, arith}
+use Rattle.std.proofs.Common.{◌≡◌, ◌≤◌, ◌<◌, ◌+◌, List, [], ◌∷◌, arith}
 use Rattle.std.proofs.lemmas.Bool.Decides.{nat_tests}
 use Rattle.std.proofs.lemmas.List.Elements.{All-head, All-tail}
 use Rattle.ratatui_core.specs.Layout.{Rect, LayoutData, default_layout, inner, IsSplit, LeavesNoSpace, IsPartAlong, bottom_edge}
 use Rattle.ratatui_core.specs.declared.layout.Direction.TheVariants.{Vertical}
 use Rattle.ratatui_core.specs.declared.layout.Constraint.TheVariants.{Length, Fill}
-use Rattle.guide.specs.Areas.{TakesRowsOf, IsHeadAndBody}
+use Rattle.guide.specs.Areas.{IsHeadAndBody}
 
 -- the layout of a row and of what is left
 abbrev pub head_layout : LayoutData

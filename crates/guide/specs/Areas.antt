@@ -1,5 +1,5 @@
 -- An area divided by rows.
-use Rattle.std.specs.Prelude.{ℕ, ◌≡◌, ◌+◌, ◌-◌, ◌≤◌, ◌<◌, List, [], ◌∷◌}
+use Rattle.std.specs.Prelude.{ℕ, ◌≡◌, ◌+◌, ◌-◌, List, [], ◌∷◌}
 use Rattle.ratatui_core.specs.Layout.{Rect}
 
 -- the rectangle has the columns of another one, and these rows

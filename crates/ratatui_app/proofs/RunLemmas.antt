@@ -16,7 +16,7 @@ use Rattle.ratatui_reads.proofs.ReadLemmas.{nonempty}
 use Rattle.ratatui_reads.proofs.MomentLemmas.{ran-start, ran-step, ran-shows}
 use Rattle.ratatui_app.specs.Showing
 use Rattle.ratatui_app.specs.Showing.{Device, App, rules_of, stage, ShowsState}
-use Rattle.ratatui_app.specs.Showing.{Moves, StepsTo, RunsTo, MayDraw, HasNewSize, FeedsTo}
+use Rattle.ratatui_app.specs.Showing.{StepsTo, RunsTo, MayDraw, HasNewSize, FeedsTo}
 use Rattle.ratatui_app.specs.Showing.{TakesOrKeepsSize, LacksFrame, RefusesState, Stops, StopsFeeding, RestsUnfixed}
 use Rattle.ratatui_app.specs.declared.running.Fault.{Fault}
 use Rattle.ratatui_app.specs.declared.running.Fault.TheVariants.{Read, Memory, Draw, Resize}

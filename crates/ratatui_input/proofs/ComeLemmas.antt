@@ -12,7 +12,6 @@ use Rattle.ratatui_events.specs.declared.event.Event.{Event}
 use Rattle.ratatui_events.specs.declared.event.Event.TheVariants.{Unknown}
 use Rattle.ratatui_events.specs.declared.key.KeyCode.TheVariants.{Enter}
 use Rattle.ratatui_events.specs.declared.key.KeyEventKind.TheVariants.{Press}
-use Rattle.ratatui_events.specs.Key.{held}
 use Rattle.ratatui_input.specs.declared.decoder.Partial.{Partial}
 use Rattle.ratatui_input.specs.declared.decoder.State.{State}
 use Rattle.ratatui_input.specs.declared.decoder.State.TheVariants.{Ground, Escape, Single, Bracket, Function, Numbers, Click}

@@ -9,7 +9,6 @@ use Rattle.ratatui_events.specs.declared.event.Event.TheVariants.{Unknown}
 use Rattle.ratatui_events.specs.declared.key.KeyCode.{KeyCode}
 use Rattle.ratatui_events.specs.declared.key.KeyCode.TheVariants.{Enter}
 use Rattle.ratatui_events.specs.declared.mouse.MouseEventKind.{MouseEventKind}
-use Rattle.ratatui_events.specs.Key.{held}
 use Rattle.ratatui_input.specs.declared.sequence.Sequence.{Sequence}
 use Rattle.ratatui_input.specs.Keys.{letter_key, number_key, code_key, tab_key}
 use Rattle.ratatui_input.specs.KeyTables.{IsLetter, IsTilde}

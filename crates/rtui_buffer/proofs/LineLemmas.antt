@@ -12,7 +12,7 @@ use Rattle.std.proofs.lemmas.List.{take_at, Elements.All-take}
 use Rattle.rtui_buffer.specs.{PaintedText.AreShort, Line.line_pieces}
 use Rattle.rtui_buffer.proofs.PaintLemmas.{painted-nil, painted-cons}
 use Rattle.rtui_buffer.proofs.PaintedLemmas.{AreWide-kept, columns-kept}
-use Rattle.rtui_buffer.proofs.TextLemmas.{text_pieces-none, columns-none, Paints-none}
+use Rattle.rtui_buffer.proofs.TextLemmas.{text_pieces-none, columns-none}
 
 pub columns-append : (ps qs : List Piece) → columns (ps ++ qs) ≡ columns ps + columns qs
 columns-append ps qs = sum_by-append piece_width ps qs

@@ -1,11 +1,11 @@
 -- A chart of narrow texts and marks keeps cells plain.
-use Rattle.std.proofs.Common.{◌≡◌, ℕ, ◌+◌, ◌<◌, ◌≤◌, ◌==◌, ◌⊎◌, ⊎_elim, inl, inr, Bool, true, false, if◌then◌else◌, List, [], ◌∷◌}
+use Rattle.std.proofs.Common.{◌≡◌, ℕ, ◌+◌, ◌<◌, ◌≤◌, ◌==◌, Bool, true, false, if◌then◌else◌, List, [], ◌∷◌}
 use Rattle.std.proofs.Common.{All, Option, Some, None, length, sym, subst, arith, lit<, refl, nat_le}
 use Rattle.std.specs.{Char.encode_utf8, List.list_all}
-use Rattle.std.proofs.lemmas.{Bool.cases_lt, Bool.and_parts, Bool.Decides.nat_tests}
+use Rattle.std.proofs.lemmas.{Bool.and_parts, Bool.Decides.nat_tests}
 use Rattle.std.proofs.lemmas.List.Elements.{All-nil, All-cons, All-head, All-tail}
 use Rattle.unicode_width.proofs.Computing.{unicode_width}
-use Rattle.ratatui_core.specs.Layout.{Rect, intersected, corner}
+use Rattle.ratatui_core.specs.Layout.{Rect, corner}
 use Rattle.ratatui_core.specs.{Style.Style, Text.LineData}
 use Rattle.ratatui_core.specs.Symbols.{plain_border}
 use Rattle.ratatui_core.specs.declared.symbols.Marker.{Marker}

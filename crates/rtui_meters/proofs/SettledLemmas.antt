@@ -1,5 +1,5 @@
 -- Gauges of narrow symbols keep a buffer settled.
-use Rattle.std.proofs.Common.{◌≡◌, ℕ, zero, suc, ◌+◌, ◌-◌, ◌<◌, ◌≤◌, true, ◌&&◌, nat_lt, ◌==◌, List}
+use Rattle.std.proofs.Common.{◌≡◌, ℕ, zero, suc, ◌+◌, ◌-◌, ◌≤◌, true, ◌&&◌, nat_lt, ◌==◌, List}
 use Rattle.std.proofs.Common.{[], ◌∷◌, inr, refl, subst, arith, codes, slice_index_or, map}
 use Rattle.std.proofs.Common.{drop}
 use Rattle.std.specs.{List.list_all}

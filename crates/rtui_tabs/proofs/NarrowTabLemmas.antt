@@ -1,7 +1,7 @@
 -- Tabs of narrow texts keep cells plain.
-use Rattle.std.proofs.Common.{◌≡◌, ℕ, zero, suc, ◌+◌, ◌-◌, ◌<◌, ◌≤◌, ◌==◌, ◌⊎◌, ⊎_elim, inl, inr, Bool, true, false}
+use Rattle.std.proofs.Common.{◌≡◌, ℕ, zero, suc, ◌+◌, ◌-◌, ◌≤◌, ◌==◌, Bool, true, false}
 use Rattle.std.proofs.Common.{if◌then◌else◌, List, [], ◌∷◌, ◌++◌, All, Option, Some, None, refl, subst, arith, codes}
-use Rattle.std.proofs.lemmas.{Bool.cases_lt, List.Elements.All-nil, List.Elements.All-append, List.Elements.All-head}
+use Rattle.std.proofs.lemmas.{List.Elements.All-nil, List.Elements.All-append, List.Elements.All-head}
 use Rattle.std.proofs.lemmas.{List.Elements.All-tail}
 use Rattle.ratatui_core.specs.Layout.{Rect, Position, intersected, corner}
 use Rattle.ratatui_core.specs.{Style.Style, Style.patch, Text.SpanData, Text.LineData, Text.ArePrintable}
@@ -9,7 +9,7 @@ use Rattle.ratatui_core.specs.Buffer.{BufferData, Piece, text_pieces, line_piece
 use Rattle.ratatui_core.specs.Buffer.{HasNarrowGraphemes, PaintsPieces, text_width}
 use Rattle.ratatui_core.specs.Widgets.{first_row}
 use Rattle.ratatui_core.proofs.BufferLemmas.{pieces-narrow, pieces-plain, styled-plain, over-all, from-over}
-use Rattle.rtui_boxes.specs.{declared.block.Block.Block, Boxes.IsNarrowIfBox, Framed.inner_if, Framed.IsBare, Titles.InTurn}
+use Rattle.rtui_boxes.specs.{declared.block.Block.Block, Boxes.IsNarrowIfBox, Framed.inner_if, Titles.InTurn}
 use Rattle.rtui_boxes.proofs.InnerLemmas.{plain-framed, bare-or}
 use Rattle.rtui_tabs.specs.declared.tabs.Tabs.{Tabs as TabsData}
 use Rattle.rtui_tabs.specs.Tabs.{TabPart, PlacedPart, placed_parts, after_parts, after_part, tab_parts, title_parts, tabs_from}

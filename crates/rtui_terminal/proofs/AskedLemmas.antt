@@ -1,20 +1,15 @@
 -- A resize after the backend was asked for its size, which leaves the screen as it is.
-use Rattle.std.proofs.Common.{rules, ◌≡◌, Result, Ok, Err, MatchResult, refl, sym, ap, inl, inr, ◌∙◌}
+use Rattle.std.proofs.Common.{rules, ◌≡◌, Result, Ok, Err, MatchResult, refl, inl, inr}
 use Rattle.rtui_geometry.specs.declared.rect.Rect.{Rect}
 use Rattle.rtui_backend.specs.Screen.{Screen, screen_area}
 use Rattle.rtui_terminal.specs.{TerminalData.TerminalData, InStep.IsSized, declared.terminal.error.TerminalError.TerminalError}
 use Rattle.rtui_terminal.specs.declared.terminal.error.TerminalError.TheVariants.{Area, Backend, Closure, Memory}
-use Rattle.rtui_terminal.specs.Resizing.{Autoresizes, AutoresizeErr, FailsResizing, ResizeErr}
-use Rattle.rtui_terminal.specs.Resizing.{Resizes, ResizesBuffers}
+use Rattle.rtui_terminal.specs.Resizing.{Resizes, Autoresizes, AutoresizeErr, FailsResizing, ResizeErr}
 
 module _ {B : Type 0} (screen : B → Screen) (s : TerminalData B) (asked : B) (same : screen asked ≡ screen s.backend) where
   resizes-asked : (area : Rect) (t : TerminalData B) → Resizes screen area (record s { backend = asked }) t
       → Resizes screen area s t
   resizes-asked area t is = search rules
-
-  buffers-asked : (area : Rect) (t : TerminalData B) → ResizesBuffers screen area (record s { backend = asked }) t
-      → ResizesBuffers screen area s t
-  buffers-asked area t is = search rules
 
   fails-asked : (area : Rect) (t : TerminalData B) → FailsResizing screen area (record s { backend = asked }) t
       → FailsResizing screen area s t

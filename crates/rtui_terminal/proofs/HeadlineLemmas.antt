@@ -1,11 +1,9 @@
 -- Each call that does what its relation says is faithful, and so is a list of them.
-use Rattle.std.proofs.Common.{rules, ◌≡◌, ◌⊎◌, ℕ, Bool, List, [], ◌∷◌, ◌++◌, refl, sym, ap, ◌∙◌, subst, inl, inr}
+use Rattle.std.proofs.Common.{rules, ◌≡◌, ◌⊎◌, List, [], ◌∷◌, ◌++◌, refl, sym, ap, ◌∙◌, subst, inl, inr}
 use Rattle.std.proofs.Common.{append_assoc, append-nil}
-use Rattle.rtui_geometry.specs.{declared.position.Position.Position}
-use Rattle.rtui_cell.specs.{Look.Look, Grid.Grid}
-use Rattle.rtui_diff.specs.Shows.{ShowsColumn}
-use Rattle.rtui_buffer.specs.{BufferData.BufferData, BufferData.IsEmptied, Shown.IsSettledBuffer, Shown.ShowsBuffer}
-use Rattle.rtui_backend.specs.Screen.{Screen, KeepsSizeAndHistory, IsOnScreen, screen_area}
+use Rattle.rtui_cell.specs.Look.{Look}
+use Rattle.rtui_buffer.specs.{BufferData.BufferData, BufferData.IsEmptied, Shown.IsSettledBuffer}
+use Rattle.rtui_backend.specs.Screen.{Screen, screen_area}
 use Rattle.rtui_viewport.specs.{Viewports.IsFixed, Viewports.IsInline}
 use Rattle.rtui_insert.specs.Insertion.{AreRowsOfAll, AppendsRows}
 use Rattle.rtui_terminal.specs.{TerminalData.TerminalData, Cursor.Stays, Resizing.Resizes}
@@ -15,7 +13,7 @@ use Rattle.rtui_terminal.specs.{Writing.Applies, Drawing.DrawsFrame}
 use Rattle.rtui_terminal.specs.Headline.{Call, Draw, Apply, Insert, Clear, Resize, Autoresize, HideCursor, ShowCursor, SetCursor}
 use Rattle.rtui_terminal.specs.Headline.{Ask, Paint, Refuse, Event, Along, last_state, inserted_by, inserted_along, MayTakeSize}
 use Rattle.rtui_terminal.specs.Headline.{Does, IsFair, HasKnownSize, IsSteady, IsKeptOrEmptied, Leaves, IsFaithful}
-use Rattle.rtui_terminal.proofs.{StepLemmas.on_same, StepLemmas.not_both, KeepLemmas.size_more}
+use Rattle.rtui_terminal.proofs.{StepLemmas.not_both}
 use Rattle.rtui_terminal.proofs.KeepLemmas.{Keeps, kept_rest, keeps_cursor, stays_keeps}
 use Rattle.rtui_terminal.proofs.{KeepLemmas.size_drawn, KeepLemmas.same_area}
 
@@ -40,12 +38,6 @@ appends_more ss ts a b c p q = record {
   rows = p.rows ++ q.rows;
   appended = q.appended ∙ ap (λ xs. xs ++ q.rows) p.appended ∙ append_assoc a p.rows q.rows;
   agree = all_append ss ts p.rows q.rows p.agree q.agree;
-}
-
-shows_same : (sheet : BufferData) (g h : Grid) → ((a b : ℕ) → h a b ≡ g a b) → ShowsBuffer sheet g → ShowsBuffer sheet h
-shows_same sheet g h same shown = record {
-  at = λ a b a_in b_in. subst (ShowsColumn sheet.area.width sheet.cells a b)
-      (sym (same _ _)) (shown.at a b a_in b_in);
 }
 
 module _ {B : Type 0} (screen : B → Screen) where

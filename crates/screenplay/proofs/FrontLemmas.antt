@@ -1,6 +1,6 @@
 -- A text of more lines than a screen has rows: what is drawn or inserted of it.
-use Rattle.std.proofs.Common.{◌≡◌, ℕ, ◌+◌, ◌-◌, ◌<◌, ◌≤◌, min, max, List, [], length, take, get_or-take, length-take}
-use Rattle.std.proofs.Common.{refl, sym, ap, subst, ◌∙◌, arith, map, inl, inr}
+use Rattle.std.proofs.Common.{◌≡◌, ℕ, ◌-◌, ◌<◌, ◌≤◌, min, List, [], length, take, get_or-take, length-take}
+use Rattle.std.proofs.Common.{refl, sym, ap, ◌∙◌, arith, map, inl, inr}
 use Rattle.std.proofs.lemmas.{Grind.common_steps, Bool.cases_lt, List.take_all, List.take-map, List.length-map}
 use Rattle.rtui_geometry.specs.{declared.rect.Rect.Rect, Rect.intersected}
 use Rattle.rtui_cell.specs.declared.cell.Cell.{Cell}
@@ -8,9 +8,9 @@ use Rattle.rtui_text.specs.Text.{TextData, line_of, raw_line, text_of}
 use Rattle.rtui_buffer.specs.BufferData.{BufferData}
 use Rattle.rtui_backend.specs.declared.test.TestBackend.{TestBackend}
 use Rattle.rtui_terminal.specs.TerminalData.{TerminalData}
-use Rattle.rtui_widgets.specs.Rendering.{RendersText, text_line, text_row}
-use Rattle.screenplay.specs.Run.{View, IsFrame, HasUnsettled, IsCauseOfStep, IsInserted, row_count, text_area}
-use Rattle.screenplay.specs.{Playing.Plays, Playing.view_in, Inner.front_of, declared.scene.Stage.Stage}
+use Rattle.rtui_widgets.specs.Rendering.{text_line, text_row}
+use Rattle.screenplay.specs.Run.{View, IsFrame, HasUnsettled, IsCauseOfStep, row_count}
+use Rattle.screenplay.specs.{Playing.Plays, Inner.front_of, declared.scene.Stage.Stage}
 use Rattle.screenplay.specs.{declared.scene.PlayCause.PlayCause}
 use Rattle.screenplay.specs.declared.scene.PlayCause.TheVariants.{Memory, Unsettled}
 use Rattle.screenplay.specs.declared.scene.Step.TheVariants.{Draw, Insert}

@@ -1,4 +1,4 @@
-use Rattle.std.proofs.Common.{List, rules, subst, arith}
+use Rattle.std.proofs.Common.{rules, subst, arith}
 use Rattle.ratatui_core.specs.Layout.{LayoutData, IsSplit, inner}
 use Rattle.guide.proofs.AreaLemmas.{head_layout, no_margin, head_and_body}
 use Rattle.guide.proofs.areas.head_and_body.Goals as goal

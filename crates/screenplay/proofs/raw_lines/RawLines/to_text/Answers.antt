@@ -1,4 +1,4 @@
-use Rattle.std.proofs.Common.{◌∙◌, ap, sym}
+use Rattle.std.proofs.Common.{◌∙◌, ap}
 use Rattle.screenplay.specs.Inner.{front_of}
 use Rattle.screenplay.proofs.FrontLemmas.{front-whole}
 use Rattle.screenplay.proofs.raw_lines.RawLines.to_text.Goals as goal
