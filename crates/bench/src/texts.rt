@@ -7,11 +7,13 @@ use std::alloc::{AllocError, Global};
 
 /// Two sentences and a half, 193 columns.
 pub const SENTENCE: &str =
-    "The quick brown fox jumps over the lazy dog, and then it sleeps in the sun. The quick brown fox jumps over the lazy dog, and then it sleeps in the sun. The quick brown fox jumps over the lazy dog";
+    "The quick brown fox jumps over the lazy dog, and then it sleeps in the sun. \
+     The quick brown fox jumps over the lazy dog, and then it sleeps in the sun. \
+     The quick brown fox jumps over the lazy dog";
 
 /// A line of a log.
-pub const LOG: &str =
-    "2026-11-23T12:30:00.123Z INFO worker-7 request GET /api/v1/items/4711 took 12.3 ms, status 200, 1834 bytes\n";
+pub const LOG: &str = "2026-11-23T12:30:00.123Z INFO worker-7 request GET \
+    /api/v1/items/4711 took 12.3 ms, status 200, 1834 bytes\n";
 
 // Graphemes of one and of many characters, of one column and of two.
 const MARKS: &str = "日本語👨‍👩‍👧‍👦e\u{301}한글🇯🇵👍🏽ñ😀漢字✈️Ω";

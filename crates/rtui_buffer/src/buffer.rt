@@ -191,6 +191,8 @@ impl Buffer {
         ensures* writes_back { let p = position_of (x, y) in
             sem 𝓛 (Lends the_row cell_row self.entry result (with_cell self.old p)) }
         ensures value { result.now ≡ cell_in self.old (position_of (x, y)) }
+        ensures inside { let p = position_of (x, y) in
+            cell_index self.old.area p < length self.old.cells }
     {
         let place = self.index_of(x, y);
         &mut self.content[place]

@@ -1,11 +1,11 @@
 -- Changes of each cell of an area: one cell, one after the other, and what stays.
 use Rattle.std.proofs.Common.{◌≡◌, ◌≢◌, ℕ, suc, ◌+◌, ◌-◌, ◌*◌, ◌<◌, ◌≤◌, ◌⊎◌, ⊎_elim, inl, inr, List, length, refl, sym, ap}
-use Rattle.std.proofs.Common.{subst, ◌∙◌, arith, min, max, Result, Ok, Err, OnOk, OnErr}
+use Rattle.std.proofs.Common.{◌∙◌, arith, min, max, Result, Ok, Err, OnOk, OnErr}
 use Rattle.std.proofs.lemmas.{Bool.cases_lt, List.get_or-set_other, List.get_or-set_same}
 use Rattle.rtui_geometry.specs.{declared.rect.Rect.Rect, declared.position.Position.Position}
 use Rattle.rtui_geometry.specs.Rect.{HasPosition, right_edge, bottom_edge, IsInside, intersected}
 use Rattle.rtui_cell.specs.{declared.cell.Cell.Cell, Cell.empty_cell}
-use Rattle.rtui_buffer.specs.BufferData.{BufferData, cell_in, with_cell, cell_index, area_size, position_of}
+use Rattle.rtui_buffer.specs.BufferData.{BufferData, cell_in, with_cell, cell_index, position_of}
 use Rattle.rtui_widgets.specs.Rendering.{ChangesWithin}
 use Rattle.rtui_buffer.specs.Clipped.{IsClipped}
 use Rattle.rtui_changes.specs.Changes.{ChangesEach, row_part, place_at, IsRowOfArea, AreLight}
@@ -17,9 +17,6 @@ columns_to r y x = record { x = r.x; y = y; width = x - r.x; height = 1 }
 -- the first rows of a rectangle, up to one
 abbrev pub rows_to : Rect → ℕ → Rect
 rows_to r y = record { x = r.x; y = r.y; width = r.width; height = y - r.y }
-
-place-fits : (w h a b : ℕ) → a < w → b < h → b * w + a < w * h
-place-fits w h a b la lb = let k : h ≡ suc b + (h - suc b) = omega arith in rw k (omega arith)
 
 rows-apart : (w a b c d : ℕ) → a < w → b < d → b * w + a ≡ d * w + c → ⊥
 rows-apart w a b c d la lt e = let k : d ≡ suc b + (d - suc b) = omega arith in let e2 = rw k at e in omega arith
@@ -36,11 +33,8 @@ places-apart w a b c d la lc other e =
     (cases_lt b d)
 
 module _ (s : BufferData) (p : Position) (c : Cell) (has : HasPosition s.area p) where
-  pub put-here : length s.cells ≡ area_size s.area → cell_in (with_cell s p c) p ≡ c
-  put-here count =
-      let l = has.left in let r = has.right in let t = has.top in let b = has.bottom in
-      get_or-set_same s.cells (cell_index s.area p) c empty_cell
-      (rw count (place-fits s.area.width s.area.height (p.x - s.area.x) (p.y - s.area.y) (omega arith) (omega arith)))
+  pub put-here : cell_index s.area p < length s.cells → cell_in (with_cell s p c) p ≡ c
+  put-here inside = get_or-set_same s.cells (cell_index s.area p) c empty_cell inside
 
   pub put-elsewhere : (q : Position) → HasPosition s.area q → (q.x ≡ p.x → q.y ≡ p.y → ⊥)
       → cell_in (with_cell s p c) q ≡ cell_in s q
@@ -51,16 +45,16 @@ module _ (s : BufferData) (p : Position) (c : Cell) (has : HasPosition s.area p)
       (places-apart s.area.width (q.x - s.area.x) (q.y - s.area.y) (p.x - s.area.x) (p.y - s.area.y) (omega arith) (omega arith)
       (λ ex ey. other (omega arith) (omega arith)))
 
-pub Changes-put : (s new : BufferData) (p : Position) (f : Position → Cell → Cell) → length s.cells ≡ area_size s.area
+pub Changes-put : (s new : BufferData) (p : Position) (f : Position → Cell → Cell) → cell_index s.area p < length s.cells
     → HasPosition s.area p
     → new ≡ with_cell s p (f p (cell_in s p)) → ChangesEach (place_at p) f s new
-Changes-put s new p f count has is = rw is (record {
+Changes-put s new p f place has is = rw is (record {
   area = refl;
   room = refl;
   inside = λ q in_own here.
       let l = here.left in let r = here.right in let t = here.top in let b = here.bottom in
       let ex : q.x ≡ p.x = omega arith in let ey : q.y ≡ p.y = omega arith in
-      rw (ex, ey) (put-here s p (f p (cell_in s p)) has count);
+      rw (ex, ey) (put-here s p (f p (cell_in s p)) has place);
   outside = λ q in_own off. put-elsewhere s p (f p (cell_in s p)) has q in_own
       (λ ex ey. let r = has.right in let b = has.bottom in
       off (record { left = omega arith; right = omega arith; top = omega arith; bottom = omega arith }));
@@ -218,12 +212,11 @@ on-ok (Ok x) f p = f p
 on-ok (Err e) f p = tt
 
 pub put-changes : {A E : Type 0} (r : Result A E) (s : BufferData) (p : Position) (c lent : Cell) (f : Position → Cell → Cell)
-    (cells : List Cell) → cells ≡ s.cells → length cells ≡ area_size s.area
-    → HasPosition s.area p → lent ≡ cell_in s p → OnOk r (c ≡ f p lent) → OnOk r (ChangesEach (place_at p) f s (with_cell s p c))
-put-changes (Ok x) s p c lent f cells same count has here made =
-    Changes-put s (with_cell s p c) p f (subst (λ cs. length cs ≡ area_size s.area) same count) has (ap (with_cell s p)
-    (made ∙ ap (f p) here))
-put-changes (Err e) s p c lent f cells same count has here made = tt
+    → cell_index s.area p < length s.cells → HasPosition s.area p → lent ≡ cell_in s p → OnOk r (c ≡ f p lent)
+    → OnOk r (ChangesEach (place_at p) f s (with_cell s p c))
+put-changes (Ok x) s p c lent f place has here made =
+    Changes-put s (with_cell s p c) p f place has (ap (with_cell s p) (made ∙ ap (f p) here))
+put-changes (Err e) s p c lent f place has here made = tt
 
 pub row-place : (part : Rect) (x y : ℕ) → IsRowOfArea part y → part.x ≤ x → x < right_edge part
     → HasPosition part (position_of (x, y))

@@ -42,7 +42,6 @@ fn change_one<C: CellChange>(buf: &mut Buffer, x: u16, y: u16, change: &C) -> Re
         C.is_light change.now p (cell_in buf.old p) → IsOk result }
 {
     let alloc = buf.allocator();
-    let _cells = buf.content();
     change.change(alloc, Position { x, y }, &mut buf[Position { x, y }])
 }
 

@@ -371,7 +371,8 @@ fn plays_are_shown(rt: HostRuntime) -> Result<(), Fail> {
 // What another program leaves: rows that scrolled off, a symbol over halves of others, a rendition,
 // margins, a hidden cursor, and every mode that changes how text is taken.
 pub(crate) const LEFT: &str =
-    "ab\n\n\n\n\r\u{1b}[1;1Hコココ\u{1b}[1;2Hコ\u{1b}[?25l\u{1b}[0;1;31m\u{1b}[2;3r\u{1b}[4h\u{1b}[?6h\u{1b}[?69h\u{1b}[?7l\u{1b}[?2026h\u{e}\u{1b}(0\u{1b}%@";
+    "ab\n\n\n\n\r\u{1b}[1;1Hコココ\u{1b}[1;2Hコ\u{1b}[?25l\u{1b}[0;1;31m\u{1b}[2;3r\
+     \u{1b}[4h\u{1b}[?6h\u{1b}[?69h\u{1b}[?7l\u{1b}[?2026h\u{e}\u{1b}(0\u{1b}%@";
 
 // Whether a text, which is what another text has from its end on, makes a terminal blank that read
 // the other.

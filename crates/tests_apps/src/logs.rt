@@ -38,7 +38,8 @@ static PRINTED: [(&str, &str); 17] = [
     ("3 2\na\n\n\nb", "^a  \n^   \n^   \n|b  \n|lin\n"),
     (
         "10 2\n1\n2\n3\n4\n5\n6\n7\n8\n9\n",
-        "^1         \n^2         \n^3         \n^4         \n^5         \n^6         \n^7         \n^8         \n|9         \n|lines: 9  \n",
+        "^1         \n^2         \n^3         \n^4         \n^5         \n\
+         ^6         \n^7         \n^8         \n|9         \n|lines: 9  \n",
     ),
 ];
 

@@ -29,7 +29,16 @@ impl Drop for CursorOnly<'_> {
 impl Backend for CursorOnly<'_> {
     type Error = TestError;
 
-    ghost screen = { λ b. record { history = []; width = 0; height = 0; grid = λ _ _. empty_look; cursor_x = 0; cursor_y = 0; visible = b.visible.now; written = 0 } };
+    ghost screen = { λ b. record {
+      history = [];
+      width = 0;
+      height = 0;
+      grid = λ _ _. empty_look;
+      cursor_x = 0;
+      cursor_y = 0;
+      visible = b.visible.now;
+      written = 0;
+    } };
 
     ghost failures = { λ b. b.failures };
 
@@ -152,7 +161,16 @@ struct Refusing {
 impl Backend for Refusing {
     type Error = TestError;
 
-    ghost screen = { λ b. record { history = []; width = b.size.width; height = b.size.height; grid = λ _ _. empty_look; cursor_x = 0; cursor_y = 0; visible = true; written = 0 } };
+    ghost screen = { λ b. record {
+      history = [];
+      width = b.size.width;
+      height = b.size.height;
+      grid = λ _ _. empty_look;
+      cursor_x = 0;
+      cursor_y = 0;
+      visible = true;
+      written = 0;
+    } };
 
     ghost failures = { λ b. b.failures };
 

@@ -1,6 +1,6 @@
 //! Cells by position, and equality.
 
-ghost use Rattle.std.specs.Prelude.{◌≡◌, ◌++◌};
+ghost use Rattle.std.specs.Prelude.{◌≡◌, ◌<◌, ◌++◌, length};
 ghost use Rattle.std.specs.Borrow.{sem, Lends};
 ghost use Rattle.std.specs.Hash as fed;
 ghost use Rattle.std.specs.Hash.{on_Alike, items_Alike, and-Alike};
@@ -14,7 +14,7 @@ ghost use Rattle.rtui_cell.specs.contracts.cell.Cell.{the_row as cell_row};
 ghost use Rattle.rtui_cell.specs.contracts.cell.CellEq.TheImpl.Laws.{laws-law as cell_laws};
 ghost use Rattle.rtui_cell.specs.contracts.cell.CellHash.TheImpl.Laws.{respects_eq-law as cell_hashes};
 ghost use Rattle.rtui_buffer.specs.contracts.buffer.Buffer.{the_row};
-ghost use Rattle.rtui_buffer.specs.BufferData.{cell_in, with_cell, position_of};
+ghost use Rattle.rtui_buffer.specs.BufferData.{cell_in, cell_index, with_cell, position_of};
 
 use crate::buffer::Buffer;
 use rtui_cell::Cell;
@@ -41,6 +41,7 @@ impl IndexMut<Position> for Buffer {
         ensures* writes_back { sem 𝓛 (Lends the_row cell_row self.entry result
             (with_cell self.old position)) }
         ensures value { result.now ≡ cell_in self.old position }
+        ensures inside { cell_index self.old.area position < length self.old.cells }
     {
         self.get_mut(position.x, position.y)
     }
@@ -65,6 +66,8 @@ impl IndexMut<(u16, u16)> for Buffer {
         ensures* writes_back { let p = position_of position in
             sem 𝓛 (Lends the_row cell_row self.entry result (with_cell self.old p)) }
         ensures value { result.now ≡ cell_in self.old (position_of position) }
+        ensures inside { let p = position_of position in
+            cell_index self.old.area p < length self.old.cells }
     {
         self.get_mut(position.0, position.1)
     }

@@ -6,5 +6,4 @@ pub returns-clause-changes : goal.returns-clause-changes
 returns-clause-changes g c =
     put-changes c.change.result c.args.buf.now (position_of (c.args.x, c.args.y)) c.change.new.cell c.index_mut.result.now
     (g.C.CellChange.made c.args.change.now)
-    c.content-cells.result.now c.content-cells.ensures.cells c.content-cells.ensures.count c.requires c.index_mut.ensures.value
-    c.change.ensures.ok
+    c.index_mut.ensures.inside c.requires c.index_mut.ensures.value c.change.ensures.ok
