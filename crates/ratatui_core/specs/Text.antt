@@ -6,7 +6,7 @@ pub use Rattle.rtui_text.specs.Graphemes.{GraphemeData, grapheme_data, has_contr
 pub use Rattle.rtui_text.specs.Graphemes.{line_graphemes, span_graphemes_left, line_graphemes_left}
 pub use Rattle.rtui_text.specs.Graphemes.{is_whitespace_symbol}
 pub use Rattle.rtui_text.specs.Display.{printed_span, printed_spans, line_content, printed_lines}
-pub use Rattle.rtui_text.specs.Printable.{ArePrintable}
+pub use Rattle.rtui_text.specs.Printable.{IsPrintable, ArePrintable}
 pub use Rattle.rtui_text.specs.Masked.{MaskedData, mask_value}
 pub use Rattle.rtui_text.specs.LineHead.{line_head, text_head}
 pub use Rattle.rtui_text.specs.Hashing.{text_Alike, char_Alike}

@@ -1,5 +1,5 @@
 -- Changes of each cell of an area: one cell, one after the other, and what stays.
-use Rattle.std.proofs.Common.{◌≡◌, ◌≢◌, ℕ, suc, ◌+◌, ◌-◌, ◌*◌, ◌<◌, ◌≤◌, ◌⊎◌, ⊎_elim, inl, inr, List, length, refl, sym, ap}
+use Rattle.std.proofs.Common.{◌≡◌, ◌≢◌, ℕ, suc, ◌+◌, ◌-◌, ◌*◌, ◌<◌, ◌≤◌, ◌⊎◌, ⊎_elim, inl, inr, length, refl, sym, ap}
 use Rattle.std.proofs.Common.{◌∙◌, arith, min, max, Result, Ok, Err, OnOk, OnErr}
 use Rattle.std.proofs.lemmas.{Bool.cases_lt, List.get_or-set_other, List.get_or-set_same}
 use Rattle.rtui_geometry.specs.{declared.rect.Rect.Rect, declared.position.Position.Position}
