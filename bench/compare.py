@@ -25,7 +25,7 @@ from shared import refuse
 
 # All workloads that README.md names. The twin has the widgets of tui 0.19, and the peers have keys and areas.
 WORKLOADS = (
-    "app_text app_boxes app_colors app_wide app_few app_dashboard app_scroll "
+    "app_text app_boxes app_colors app_wide app_few app_dashboard app_keys app_scroll "
     "draw_all draw_dots draw_none draw_wide inline_all inline_few insert_kept insert_1 insert_10 insert_1000 "
     "text_ascii text_wide line_ascii text_widget text_raw line_center line_right line_cut span_marks spans_2000 "
     "widths_letters widths_wide boxes_exact boxes_fuzzy diff_letters diff_empty diff_wide style reset sets fill_reset "

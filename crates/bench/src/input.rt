@@ -1,7 +1,9 @@
 //! Workloads on keys and areas.
 ghost use Rattle.std.specs.Prelude.{◌<◌, ◌^◌};
 
+use crate::terminals::sending;
 use crate::{Done, Size};
+use ratatui_app::{Counter, draw, feed};
 use ratatui_core::layout::{Constraint, Layout, Rect, SplitInto};
 use ratatui_input::Decoder;
 use std::alloc::{AllocError, Global};
@@ -19,6 +21,29 @@ fn decodes(alloc: Global, size: Size, text: &str) -> Done {
         }
     }
     Ok(Some((size.count, events)))
+}
+
+// A key fed to an application each round, which counts up and down, from the key's byte to the bytes
+// that are sent: how many those were, and the last count.
+fn frames(alloc: Global, size: Size) -> Done {
+    let mut terminal = sending(alloc, size, None)?;
+    let mut decoder = Decoder::new();
+    let mut counter = Counter {
+        count: 0,
+        is_over: false,
+    };
+    if draw(&mut terminal, &counter).is_err() {
+        return Err(AllocError);
+    }
+    let before = terminal.backend().writer().flushed();
+    for round in 0..size.count {
+        let key = if round % 4 < 2 { "+" } else { "-" };
+        if feed(key.as_bytes(), &mut decoder, &mut terminal, &mut counter).is_err() {
+            return Err(AllocError);
+        }
+    }
+    let after = terminal.backend().writer().flushed();
+    Ok(Some((after.wrapping_sub(before), u64::from(counter.count))))
 }
 
 // A row cut into N parts each round; the sum counts their columns.
@@ -62,6 +87,7 @@ pub fn run(alloc: Global, name: &str, size: Size) -> Done {
         "keys_text" => decodes(alloc, size, "the quick brown fox jumps over "),
         "keys_arrows" => decodes(alloc, size, "\u{1b}[A\u{1b}[B\u{1b}[1;5C"),
         "keys_mouse" => decodes(alloc, size, "\u{1b}[<0;12;34M\u{1b}[<35;13;34m"),
+        "app_keys" => frames(alloc, size),
         "split_3" => splits::<3>(size, &row(alloc, 3)?),
         "split_8" => splits::<8>(size, &row(alloc, 8)?),
         "split_20" => splits::<20>(size, &row(alloc, 20)?),

@@ -134,17 +134,28 @@ pub fn on_screen(alloc: Global, size: Size, act: Act) -> Done {
     Ok(Some((backend.cells_written(), sum(backend.buffer()))))
 }
 
-/// Does rounds of an application that sends bytes: how many it flushed in them, and a sum over the
-/// last picture.
-pub fn on_bytes(alloc: Global, size: Size, act: Act) -> Done {
+/// A terminal that sends bytes to memory, with a viewport of so many rows or the whole screen; what
+/// it sends first was flushed.
+pub fn sending(
+    alloc: Global,
+    size: Size,
+    rows: Option<u16>,
+) -> Result<Terminal<AnsiBackend<Memory>>, AllocError> {
     let screen = ScreenSize::new(size.width, size.height);
     let Ok(backend) = AnsiBackend::new(alloc, Memory::new(alloc), screen) else {
         return Err(AllocError);
     };
-    let mut terminal = terminal_of(alloc, backend, act.viewport)?;
+    let mut terminal = terminal_of(alloc, backend, rows)?;
     if terminal.backend_mut().flush().is_err() {
         return Err(AllocError);
     }
+    Ok(terminal)
+}
+
+/// Does rounds of an application that sends bytes: how many it flushed in them, and a sum over the
+/// last picture.
+pub fn on_bytes(alloc: Global, size: Size, act: Act) -> Done {
+    let mut terminal = sending(alloc, size, act.viewport)?;
     let before = terminal.backend().writer().flushed();
     rounds(alloc, &mut terminal, act, size.count)?;
     let after = terminal.backend().writer().flushed();

@@ -39,6 +39,11 @@ use Rattle.ratatui_input.specs.KeyTables.{pad_delete, pad_keypad_begin}
 use Rattle.ratatui_input.specs.Pieces.{IsCodePoint, named_code, private_code}
 use Rattle.ratatui_input.proofs.StandLemmas.{same, lies, lies-not}
 
+-- one entry holds, and those after it do
+infixr 20 ◌▸◌
+◌▸◌ : {A B : Type 0} → A → B → A × B
+a ▸ b = (a, b)
+
 abbrev pub AllAre : (ℕ → KeyCode → Type 0) → List (ℕ × KeyCode) → Type 0
 AllAre P [] = Unit {0}
 AllAre P (e ∷ table) = P e.0 e.1 × AllAre P table
@@ -64,100 +69,17 @@ abbrev pub LetterOrEnter : ℕ → KeyCode → Type 0
 LetterOrEnter b code = IsLetter b code ⊎ ((b ≡ 77) × (code ≡ Enter))
 
 pub letters : AllAre LetterOrEnter LETTERS
-letters = (
-  inl letter_up,
-  (
-    inl letter_down,
-    (
-      inl letter_right,
-      (
-        inl letter_left,
-        (
-          inl letter_keypad_begin,
-          (
-            inl letter_end,
-            (
-              inl letter_home,
-              (
-                inl letter_f1,
-                (inl letter_f2, (inl letter_f3, (inl letter_f4, (inl letter_back_tab, (inr (refl, refl), tt))))),
-              ),
-            ),
-          ),
-        ),
-      ),
-    ),
-  ),
-)
+letters =
+    inl letter_up ▸ inl letter_down ▸ inl letter_right ▸ inl letter_left ▸ inl letter_keypad_begin ▸ inl letter_end ▸
+    inl letter_home ▸ inl letter_f1 ▸ inl letter_f2 ▸ inl letter_f3 ▸ inl letter_f4 ▸ inl letter_back_tab ▸
+    inr (refl, refl) ▸ tt
 
 tildes : AllAre IsTilde NUMBERS
-tildes = (
-  tilde_home,
-  (
-    tilde_insert,
-    (
-      tilde_delete,
-      (
-        tilde_end,
-        (
-          tilde_page_up,
-          (
-            tilde_page_down,
-            (
-              tilde7_home,
-              (
-                tilde8_end,
-                (
-                  tilde_f1,
-                  (
-                    tilde_f2,
-                    (
-                      tilde_f3,
-                      (
-                        tilde_f4,
-                        (
-                          tilde_f5,
-                          (
-                            tilde_f6,
-                            (
-                              tilde_f7,
-                              (
-                                tilde_f8,
-                                (
-                                  tilde_f9,
-                                  (
-                                    tilde_f10,
-                                    (
-                                      tilde_f11,
-                                      (
-                                        tilde_f12,
-                                        (
-                                          tilde_f13,
-                                          (
-                                            tilde_f14,
-                                            (tilde_f15, (tilde_f16, (tilde_f17, (tilde_f18, (tilde_f19, (tilde_f20, tt)))))),
-                                          ),
-                                        ),
-                                      ),
-                                    ),
-                                  ),
-                                ),
-                              ),
-                            ),
-                          ),
-                        ),
-                      ),
-                    ),
-                  ),
-                ),
-              ),
-            ),
-          ),
-        ),
-      ),
-    ),
-  ),
-)
+tildes =
+    tilde_home ▸ tilde_insert ▸ tilde_delete ▸ tilde_end ▸ tilde_page_up ▸ tilde_page_down ▸ tilde7_home ▸
+    tilde8_end ▸ tilde_f1 ▸ tilde_f2 ▸ tilde_f3 ▸ tilde_f4 ▸ tilde_f5 ▸ tilde_f6 ▸ tilde_f7 ▸ tilde_f8 ▸ tilde_f9 ▸
+    tilde_f10 ▸ tilde_f11 ▸ tilde_f12 ▸ tilde_f13 ▸ tilde_f14 ▸ tilde_f15 ▸ tilde_f16 ▸ tilde_f17 ▸ tilde_f18 ▸
+    tilde_f19 ▸ tilde_f20 ▸ tt
 
 abbrev pub IsName : ℕ → KeyCode → Type 0
 IsName n code = IsCode n code false
@@ -166,199 +88,23 @@ abbrev pub IsPad : ℕ → KeyCode → Type 0
 IsPad n code = IsCode n code true
 
 pub names : AllAre IsName CODES
-names = (
-  code_esc,
-  (
-    code_enter,
-    (
-      code_tab,
-      (
-        code_backspace,
-        (
-          code_caps_lock,
-          (
-            code_scroll_lock,
-            (
-              code_num_lock,
-              (
-                code_print_screen,
-                (
-                  code_pause,
-                  (
-                    code_menu,
-                    (
-                      code_media_play,
-                      (
-                        code_media_pause,
-                        (
-                          code_media_play_pause,
-                          (
-                            code_media_reverse,
-                            (
-                              code_media_stop,
-                              (
-                                code_media_fast_forward,
-                                (
-                                  code_media_rewind,
-                                  (
-                                    code_media_track_next,
-                                    (
-                                      code_media_track_previous,
-                                      (
-                                        code_media_record,
-                                        (
-                                          code_media_lower_volume,
-                                          (
-                                            code_media_raise_volume,
-                                            (
-                                              code_media_mute_volume,
-                                              (
-                                                code_modifier_left_shift,
-                                                (
-                                                  code_modifier_left_control,
-                                                  (
-                                                    code_modifier_left_alt,
-                                                    (
-                                                      code_modifier_left_super,
-                                                      (
-                                                        code_modifier_left_hyper,
-                                                        (
-                                                          code_modifier_left_meta,
-                                                          (
-                                                            code_modifier_right_shift,
-                                                            (
-                                                              code_modifier_right_control,
-                                                              (
-                                                                code_modifier_right_alt,
-                                                                (
-                                                                  code_modifier_right_super,
-                                                                  (
-                                                                    code_modifier_right_hyper,
-                                                                    (
-                                                                      code_modifier_right_meta,
-                                                                      (
-                                                                        code_modifier_iso_level3_shift,
-                                                                        (
-                                                                          code_modifier_iso_level5_shift,
-                                                                          (
-                                                                            code_f13,
-                                                                            (
-                                                                              code_f14,
-                                                                              (
-                                                                                code_f15,
-                                                                                (code_f16, (code_f17, (code_f18, (code_f19, (code_f20, (code_f21, tt)))))),
-                                                                              ),
-                                                                            ),
-                                                                          ),
-                                                                        ),
-                                                                      ),
-                                                                    ),
-                                                                  ),
-                                                                ),
-                                                              ),
-                                                            ),
-                                                          ),
-                                                        ),
-                                                      ),
-                                                    ),
-                                                  ),
-                                                ),
-                                              ),
-                                            ),
-                                          ),
-                                        ),
-                                      ),
-                                    ),
-                                  ),
-                                ),
-                              ),
-                            ),
-                          ),
-                        ),
-                      ),
-                    ),
-                  ),
-                ),
-              ),
-            ),
-          ),
-        ),
-      ),
-    ),
-  ),
-)
+names =
+    code_esc ▸ code_enter ▸ code_tab ▸ code_backspace ▸ code_caps_lock ▸ code_scroll_lock ▸ code_num_lock ▸
+    code_print_screen ▸ code_pause ▸ code_menu ▸ code_media_play ▸ code_media_pause ▸ code_media_play_pause ▸
+    code_media_reverse ▸ code_media_stop ▸ code_media_fast_forward ▸ code_media_rewind ▸ code_media_track_next ▸
+    code_media_track_previous ▸ code_media_record ▸ code_media_lower_volume ▸ code_media_raise_volume ▸
+    code_media_mute_volume ▸ code_modifier_left_shift ▸ code_modifier_left_control ▸ code_modifier_left_alt ▸
+    code_modifier_left_super ▸ code_modifier_left_hyper ▸ code_modifier_left_meta ▸ code_modifier_right_shift ▸
+    code_modifier_right_control ▸ code_modifier_right_alt ▸ code_modifier_right_super ▸ code_modifier_right_hyper ▸
+    code_modifier_right_meta ▸ code_modifier_iso_level3_shift ▸ code_modifier_iso_level5_shift ▸ code_f13 ▸
+    code_f14 ▸ code_f15 ▸ code_f16 ▸ code_f17 ▸ code_f18 ▸ code_f19 ▸ code_f20 ▸ code_f21 ▸ tt
 
 pub pads : AllAre IsPad KEYPAD
-pads = (
-  pad_char48,
-  (
-    pad_char49,
-    (
-      pad_char50,
-      (
-        pad_char51,
-        (
-          pad_char52,
-          (
-            pad_char53,
-            (
-              pad_char54,
-              (
-                pad_char55,
-                (
-                  pad_char56,
-                  (
-                    pad_char57,
-                    (
-                      pad_char46,
-                      (
-                        pad_char47,
-                        (
-                          pad_char42,
-                          (
-                            pad_char45,
-                            (
-                              pad_char43,
-                              (
-                                pad_enter,
-                                (
-                                  pad_char61,
-                                  (
-                                    pad_char44,
-                                    (
-                                      pad_left,
-                                      (
-                                        pad_right,
-                                        (
-                                          pad_up,
-                                          (
-                                            pad_down,
-                                            (
-                                              pad_page_up,
-                                              (pad_page_down, (pad_home, (pad_end, (pad_insert, (pad_delete, (pad_keypad_begin, tt)))))),
-                                            ),
-                                          ),
-                                        ),
-                                      ),
-                                    ),
-                                  ),
-                                ),
-                              ),
-                            ),
-                          ),
-                        ),
-                      ),
-                    ),
-                  ),
-                ),
-              ),
-            ),
-          ),
-        ),
-      ),
-    ),
-  ),
-)
+pads =
+    pad_char48 ▸ pad_char49 ▸ pad_char50 ▸ pad_char51 ▸ pad_char52 ▸ pad_char53 ▸ pad_char54 ▸ pad_char55 ▸
+    pad_char56 ▸ pad_char57 ▸ pad_char46 ▸ pad_char47 ▸ pad_char42 ▸ pad_char45 ▸ pad_char43 ▸ pad_enter ▸
+    pad_char61 ▸ pad_char44 ▸ pad_left ▸ pad_right ▸ pad_up ▸ pad_down ▸ pad_page_up ▸ pad_page_down ▸ pad_home ▸
+    pad_end ▸ pad_insert ▸ pad_delete ▸ pad_keypad_begin ▸ tt
 
 pub letter-of : (b : ℕ) (code : KeyCode) → letter_key b ≡ Some code → LetterOrEnter b code
 letter-of b code e = at-table LetterOrEnter LETTERS b code letters e

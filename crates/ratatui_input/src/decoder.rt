@@ -327,6 +327,7 @@ impl Decoder {
     }
 
     /// Reads one more byte.
+    #[inline(always)]
     #[tactic(auto, unfolding(crate::specs::Decoding::byte_told))]
     pub fn feed(&mut self, byte: u8) -> Fed
         ensures { (events_of result, self.new) ≡ byte_told self.old byte }

@@ -1,10 +1,15 @@
 -- A paragraph in its box, and a grapheme painted in its columns.
-use Rattle.std.proofs.Common.{◌≡◌, ℕ, ◌+◌, ◌≤◌, Option, subst, ◌∙◌, Result, Ok, Err, OnOk}
+use Rattle.std.proofs.Common.{◌≡◌, ℕ, ◌+◌, ◌<◌, ◌≤◌, List, [], ◌∷◌, length, Option, refl, subst, ◌∙◌, arith}
+use Rattle.std.proofs.Common.{Result, Ok, Err, OnOk}
+use Rattle.std.proofs.lemmas.List.{get_or-set_same, get_or-set_other, length-set}
 use Rattle.std.specs.declared.alloc.AllocError.{AllocError}
-use Rattle.ratatui_core.specs.{Layout.Rect, Layout.EdgesFit, Style.Style, Text.GraphemeData}
+use Rattle.ratatui_core.specs.{Layout.Rect, Layout.Position, Layout.EdgesFit, Style.Style, Text.GraphemeData}
+use Rattle.ratatui_core.specs.Text.{IsPrintable, ArePrintable}
 use Rattle.ratatui_core.specs.Buffer.{BufferData, IsPlainFrom, IsReadyFrom, IsSettledBuffer, PaintsPieces, pieces_at}
-use Rattle.ratatui_core.specs.Buffer.{text_pieces, position_of}
+use Rattle.ratatui_core.specs.Buffer.{text_pieces, position_of, cell_index, cell_in, with_cell, empty_cell}
+use Rattle.ratatui_core.specs.Buffer.{Cell, Piece, piece_of, piece_at, columns, shown, painted_width}
 use Rattle.ratatui_core.proofs.{BufferLemmas.settled-plain, BufferLemmas.ready-plain, BufferLemmas.within-same}
+use Rattle.ratatui_core.proofs.BufferLemmas.{grapheme-piece, graphemes-singles, printable-plain, one_byte}
 use Rattle.ratatui_core.proofs.{WidgetLemmas.within-then}
 use Rattle.rtui_boxes.specs.{declared.block.Block.Block, Boxes.IsNarrowIfBox, Framed.IsFramed, Framed.RendersInFrame}
 use Rattle.rtui_boxes.proofs.{PaintLemmas.room-is, InnerLemmas.plain-framed, InnerLemmas.framed-area}
@@ -40,3 +45,39 @@ grapheme-painted x y n g old new is fits small paints =
     ∙ is) paints
 
 pub ruleset within_steps = (within-same, within-then)
+
+-- a cell of a buffer that shows a piece of one column
+pub piece-painted : (p : Position) (q : Piece) (s : BufferData) (c : Cell) → cell_index s.area p < length s.cells
+    → columns (q ∷ []) ≡ 1 → c ≡ shown q (cell_in s p) → PaintsPieces p (q ∷ []) s (with_cell s p c)
+piece-painted p q s c inside one is =
+    let at = cell_index s.area p in
+    record {
+      area = refl;
+      room = refl;
+      cells = record {
+        starts = λ k k_in.
+            let first : k ≡ 0 = omega arith in
+            let here : at + 0 ≡ at = omega arith in
+            rw (first, here) (get_or-set_same s.cells at c empty_cell inside ∙ is);
+        behind = λ k j k_in some j_in.
+            let first : k ≡ 0 = omega arith in
+            let narrow : columns (piece_at (q ∷ []) k ∷ []) ≡ 1 = rw first one in
+            absurd (omega (arith, narrow));
+        outside = record {
+          count = length-set s.cells at c;
+          before = λ k low. get_or-set_other s.cells at k c empty_cell (λ e. omega (arith, e));
+          behind = λ k high. get_or-set_other s.cells at k c empty_cell (λ e. omega (arith, e, one));
+        };
+      };
+    }
+
+-- a printable character of ASCII is one piece
+pub byte-pieces : (room b : ℕ) (style : Style) → IsPrintable b → 0 < room
+    → text_pieces room style (b ∷ []) ≡ piece_of style (b ∷ []) ∷ []
+unfolding painted_width
+byte-pieces room b style printable some =
+    let all : ArePrintable (b ∷ []) = λ k low. let first : k ≡ 0 = omega arith in rw first printable in
+    let shows = printable-plain b printable in
+    let one = one_byte b in
+    grapheme-piece room style (b ∷ []) (graphemes-singles (b ∷ []) all) (rw (shows, one) (omega arith))
+    (rw (shows, one) (omega arith))

@@ -1,11 +1,11 @@
 //! A text in an area.
 
 ghost use Rattle.std.specs.Prelude.{◌≡◌, ◌+◌, ◌<◌, ◌≤◌, ◌∷◌, [], min, length, Some, None, IsOk, IfOk, OnOk};
-ghost use Rattle.std.specs.Prelude.{All};
-ghost use Rattle.ratatui_core.specs.Layout.{IsInside};
+ghost use Rattle.std.specs.Prelude.{All, IfSome};
+ghost use Rattle.ratatui_core.specs.Layout.{HasPosition, IsInside};
 ghost use Rattle.ratatui_core.specs.Buffer.{IsSettledBuffer, IsReadyAt, IsReadyFrom, position_of};
-ghost use Rattle.ratatui_core.specs.Buffer.{IsShort, HaveShortGraphemes, text_width};
-ghost use Rattle.ratatui_core.specs.Text.{raw_text};
+ghost use Rattle.ratatui_core.specs.Buffer.{IsShort, HaveShortGraphemes, text_width, Paints, piece_of};
+ghost use Rattle.ratatui_core.specs.Text.{raw_text, IsPrintable};
 ghost use Rattle.ratatui_core.specs.Widgets.{ChangesWithin};
 ghost use Rattle.ratatui_core.specs.declared.layout.HorizontalAlignment.TheVariants.{Left, Center, Right};
 ghost use Rattle.rtui_boxes.specs.Boxes.{IsBoxArea};
@@ -475,7 +475,34 @@ fn row_start(row: &[Measured<'_>], room: u16, alignment: HorizontalAlignment) ->
     }
 }
 
-// Paints a grapheme in a place of a part, in at most so many columns.
+// The character of ASCII that is a whole grapheme, if it is printable.
+fn printable_byte(symbol: &str) -> Option<u8>
+    ensures { IfSome result (λ b. (symbol.now ≡ b ∷ []) × IsPrintable b) }
+{
+    let byte = *symbol.as_bytes().first()?;
+    if symbol.len() == 1 && (0x20..0x7F).contains(&byte) {
+        Some(byte)
+    } else {
+        None
+    }
+}
+
+// Paints a printable character of ASCII straight into its cell.
+fn put_byte(byte: u8, style: Style, x: u16, y: u16, buf: &mut Buffer) -> Result<(), AllocError>
+    requires place { HasPosition buf.old.area (position_of (x, y)) }
+    requires printable { IsPrintable byte }
+    ensures paints { let ps = piece_of style (byte ∷ []) ∷ [] in
+        Paints (position_of (x, y)) ps result buf.old buf.new }
+    ensures succeeds { IsOk result }
+{
+    let alloc = buf.allocator();
+    let cell = &mut buf[(x, y)];
+    cell.set_char(alloc, char::from(byte))?;
+    cell.set_style(style);
+    Ok(())
+}
+
+// Paints a grapheme in a place of a part, in the columns that it takes.
 fn put_grapheme(
     symbol: &str,
     style: Style,
@@ -498,6 +525,9 @@ fn put_grapheme(
     ensures ready { IsReadyAt x y buf.old → OnOk result (IsReadyAt (x + columns) y buf.new) }
     ensures short { IsShort symbol.now → IsOk result }
 {
+    if let Some(byte) = printable_byte(symbol) {
+        return put_byte(byte, style, x, y, buf);
+    }
     buf.set_stringn(x, y, symbol, usize::from(columns), style)?;
     Ok(())
 }
