@@ -28,7 +28,7 @@ static NAMES: [&str; 24] = [
     "rtui_diff",
     "rtui_buffer",
     "rtui_widgets",
-    "rtui_changes",
+    "rtui_canvas",
     "rtui_backend",
     "rtui_viewport",
     "rtui_insert",

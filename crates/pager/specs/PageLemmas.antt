@@ -2,7 +2,7 @@
 use Rattle.std.proofs.Common.{subst, sym}
 use Rattle.ratatui_core.specs.{Layout.Rect, Layout.EdgesFit, Buffer.BufferData, Buffer.IsEmptied}
 use Rattle.ratatui_core.specs.{Buffer.IsSettledBuffer}
-use Rattle.rtui_changes.proofs.PlainLemmas.{plain-emptied}
+use Rattle.rtui_widgets.proofs.PlainLemmas.{plain-emptied}
 use Rattle.pager.specs.declared.pager.Pager.{Pager}
 use Rattle.pager.specs.Pages.{PaintsPager}
 

@@ -19,18 +19,18 @@ pub use Rattle.rtui_buffer.proofs.ColumnLemmas.{text-ends}
 -- A text of one byte takes one column; those of a text of one character above U+00A0 are the character's.
 pub use Rattle.rtui_cell.proofs.WidthLemmas.{one_byte, char_alone}
 -- A change of each cell of an area, and what stays within one.
-pub use Rattle.rtui_changes.proofs.ChangeLemmas.{Changes-within, within-same, within-wider, on-ok, has-or-not}
+pub use Rattle.rtui_widgets.proofs.ChangeLemmas.{Changes-within, within-same, within-wider, on-ok, has-or-not}
 -- Plain cells are settled, and painting keeps a buffer ready for more.
-pub use Rattle.rtui_changes.proofs.PlainLemmas.{plain-styled, plain-with_symbol, plain-if, settled-plain, put-ready, ready-next}
-pub use Rattle.rtui_changes.proofs.PlainLemmas.{ready-row, ready-plain, changed-settled, painted-settled, plain-changed}
+pub use Rattle.rtui_widgets.proofs.PlainLemmas.{plain-styled, plain-with_symbol, plain-if, settled-plain, put-ready, ready-next}
+pub use Rattle.rtui_widgets.proofs.PlainLemmas.{ready-row, ready-plain, changed-settled, painted-settled, plain-changed}
 -- Texts whose graphemes take one column each keep cells plain.
-pub use Rattle.rtui_changes.proofs.NarrowTextLemmas.{text-plain, line-stays, pieces-narrow, pieces-plain, changed-plain}
-pub use Rattle.rtui_changes.proofs.NarrowTextLemmas.{styled-plain, parts-plain, over-all, from-over}
+pub use Rattle.rtui_widgets.proofs.NarrowTextLemmas.{text-plain, line-stays, pieces-narrow, pieces-plain, changed-plain}
+pub use Rattle.rtui_widgets.proofs.NarrowTextLemmas.{styled-plain, parts-plain, over-all, from-over}
 -- Parts that are changed apart from each other.
-pub use Rattle.rtui_changes.proofs.PartLemmas.{Parts-none, Parts-next, Parts-within}
+pub use Rattle.rtui_widgets.proofs.PartsLemmas.{Parts-none, Parts-next, Parts-within}
 -- What is joined of narrow symbols takes a column and no memory, and each block symbol is narrow.
-pub use Rattle.rtui_narrow.proofs.NarrowLemmas.{narrow-test, joined-short, joined-columns}
-pub use Rattle.rtui_narrow.proofs.SetLemmas.{blocks-narrow}
+pub use Rattle.rtui_cell.proofs.NarrowLemmas.{narrow-test, joined-short, joined-columns}
+pub use Rattle.rtui_symbols.proofs.SetLemmas.{blocks-narrow}
 -- A printable character of ASCII is no control character, and each of a text is a grapheme.
 pub use Rattle.rtui_text.proofs.PrintableLemmas.{printable-plain}
-pub use Rattle.rtui_changes.proofs.PrintableTextLemmas.{graphemes-singles}
+pub use Rattle.rtui_widgets.proofs.PrintableTextLemmas.{graphemes-singles}

@@ -36,7 +36,7 @@ pub use Rattle.rtui_buffer.specs.Line.{line_pieces_at, lines_area, IsOfLines, ra
 pub use Rattle.rtui_buffer.specs.RowsDiff.{IsRowsDiff}
 pub use Rattle.rtui_buffer.specs.Overlay.{no_area, IsOverlay}
 -- Changes of cells by position, plain cells, and parts that are changed apart from each other.
-pub use Rattle.rtui_changes.specs.Changes.{ChangesEach, MakesEach, AreLight, place_at}
-pub use Rattle.rtui_changes.specs.Plain.{IsPlain, IsPlainOver, IsPlainFrom, IsReadyAt, IsReadyFrom}
-pub use Rattle.rtui_changes.specs.Parts.{MakesParts}
-pub use Rattle.rtui_changes.specs.NarrowTexts.{HasNarrowGraphemes, AreNarrowSpans, IsNarrowLine, IsNarrowText}
+pub use Rattle.rtui_widgets.specs.Changes.{ChangesEach, MakesEach, AreLight, place_at}
+pub use Rattle.rtui_widgets.specs.Plain.{IsPlain, IsPlainOver, IsPlainFrom, IsReadyAt, IsReadyFrom}
+pub use Rattle.rtui_widgets.specs.Parts.{MakesParts}
+pub use Rattle.rtui_widgets.specs.NarrowTexts.{HasNarrowGraphemes, AreNarrowSpans, IsNarrowLine, IsNarrowText}

@@ -16,4 +16,4 @@ unfoldable pub use Rattle.rtui_merge.specs.Merge.{exact, fuzzy, merged, Unites}
 pub use Rattle.rtui_merge.specs.Laws.{MergesWithItself, FuzzyKeepsExact, FoundByArms, DifferInArms}
 pub use Rattle.rtui_merge.specs.Laws.{AreBoxDrawings}
 -- Symbols that take at most one column, and no memory in a cell.
-pub use Rattle.rtui_narrow.specs.Narrow.{IsNarrow, is_narrow, AreNarrowTexts}
+pub use Rattle.rtui_cell.specs.Narrow.{IsNarrow, is_narrow, AreNarrowTexts}

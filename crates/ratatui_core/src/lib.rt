@@ -15,7 +15,7 @@ pub mod buffer {
     pub use rtui_buffer::{
         Buffer, BufferDiff, Cell, CellDiffOption, CellWidth, diff_rows, lines_width, texts_width,
     };
-    pub use rtui_changes::{CellChange, change_area};
+    pub use rtui_widgets::{CellChange, change_area};
 
     /// Laws of cells and of buffers.
     pub mod laws {
@@ -31,7 +31,7 @@ pub mod buffer {
             default_option_is_none, equality_is_by_looks, hashing_names_every_field,
             set_style_twice_sets_patch, width_is_columns_and_sound_marks,
         };
-        pub use rtui_changes::laws::{
+        pub use rtui_widgets::laws::{
             empty_buffers_are_plain, narrow_texts_keep_cells_plain, plain_buffers_are_settled,
             printable_texts_are_narrow,
         };
@@ -81,7 +81,11 @@ pub mod symbols {
 
     /// Symbols take one column each.
     pub mod narrow {
-        pub use rtui_narrow::laws;
+        /// Laws of narrow symbols.
+        pub mod laws {
+            pub use rtui_cell::laws::{joined_symbols_are_narrow, joined_symbols_are_short};
+            pub use rtui_symbols::narrow::{borders, lines, scrollbars, symbols_are_narrow};
+        }
     }
 
     /// Joining the symbols of borders.

@@ -64,9 +64,8 @@ impl<'b, 'a> CellChange for Filling<'b, 'a> {
     fn change(&self, alloc: Global, position: Position, cell: &mut Cell) -> Result<(), AllocError> {
         let from_top = position.y.saturating_sub(self.area.y);
         let row = self.area.height.saturating_sub(from_top).saturating_sub(1);
-        cell.set_symbol(alloc, level_of(self.set, left_at(self.eighths, row)))?;
-        cell.set_style(self.style);
-        Ok(())
+        let symbol = level_of(self.set, left_at(self.eighths, row));
+        cell.put(alloc, symbol, self.style)
     }
 }
 

@@ -46,9 +46,7 @@ impl<'b, 'a> CellChange for LongFilling<'b, 'a> {
         } else {
             self.set.empty
         };
-        cell.set_symbol(alloc, symbol)?;
-        cell.set_style(self.style);
-        Ok(())
+        cell.put(alloc, symbol, self.style)
     }
 }
 

@@ -215,10 +215,10 @@ impl<'a> Block<'a> {
     pub fn inner(&self, area: Rect) -> Rect
         ensures { result ≡ inner_of self.now area }
     {
-        let left = one_if(self.has_side(Borders::LEFT));
-        let right = one_if(self.has_side(Borders::RIGHT));
-        let top = one_if(self.has_row(Borders::TOP, TitlePosition::Top));
-        let bottom = one_if(self.has_row(Borders::BOTTOM, TitlePosition::Bottom));
+        let left = u16::from(self.has_side(Borders::LEFT));
+        let right = u16::from(self.has_side(Borders::RIGHT));
+        let top = u16::from(self.has_row(Borders::TOP, TitlePosition::Top));
+        let bottom = u16::from(self.has_row(Borders::BOTTOM, TitlePosition::Bottom));
         let columns = self.padding.left.saturating_add(self.padding.right);
         let rows = self.padding.top.saturating_add(self.padding.bottom);
         let x = area.x.saturating_add(left).min(area.right());
@@ -235,8 +235,8 @@ impl<'a> Block<'a> {
     pub fn rows_around(&self) -> usize
         ensures { result ≡ rows_around self.now }
     {
-        let top = usize::from(one_if(self.has_row(Borders::TOP, TitlePosition::Top)));
-        let bottom = usize::from(one_if(self.has_row(Borders::BOTTOM, TitlePosition::Bottom)));
+        let top = usize::from(self.has_row(Borders::TOP, TitlePosition::Top));
+        let bottom = usize::from(self.has_row(Borders::BOTTOM, TitlePosition::Bottom));
         let padding = self.padding.top.saturating_add(self.padding.bottom);
         top + bottom + usize::from(padding)
     }
@@ -276,14 +276,6 @@ pub(crate) fn is_in_row(title: &Title<'_>, own: TitlePosition, position: TitlePo
         (TitlePosition::Bottom, TitlePosition::Bottom) => true,
         _ => false,
     }
-}
-
-// 1 for true.
-pub(crate) fn one_if(b: bool) -> u16
-    ensures value { result ≡ one_if b }
-    ensures bit { result ≤ 1 }
-{
-    if b { 1 } else { 0 }
 }
 
 // A number less three others.

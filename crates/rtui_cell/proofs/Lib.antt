@@ -2,3 +2,4 @@ pub mod DerivedLemmas
 pub mod CellLemmas
 pub mod WidthLemmas
 pub mod MarkLemmas
+pub mod NarrowLemmas

@@ -5,3 +5,4 @@ pub mod Look
 pub mod Cell
 pub mod Equality
 pub mod Grid
+pub mod Narrow

@@ -172,6 +172,22 @@ impl Cell {
         self.set_symbol(alloc, ch.encode_utf8(&mut bytes))
     }
 
+    /// Sets the text, and lays a style over the cell.
+    ///
+    /// # Errors
+    ///
+    /// Those of [`set_symbol`](Cell::set_symbol).
+    #[inline(always)]
+    pub fn put(&mut self, alloc: Global, symbol: &str, style: Style) -> Result<(), AllocError>
+        ensures ok { OnOk result (self.new ≡ styled style (with_symbol symbol.now self.old)) }
+        ensures err { OnErr result (self.new ≡ self.old) }
+        ensures short { IsShort symbol.now → IsOk result }
+    {
+        self.set_symbol(alloc, symbol)?;
+        self.set_style(style);
+        Ok(())
+    }
+
     /// Sets the colour of the text.
     pub fn set_fg(&mut self, color: Color) -> &mut Self
         ensures same { result.ghost_name ≡ self.entry.ghost_name }

@@ -4,7 +4,10 @@
 ghost use Rattle.std.specs.Prelude.{◌≡◌, ◌≢◌, ℕ, ◌+◌, ◌++◌, ◌↔◌, List, length, min, count_by, chars, IsTrue};
 ghost use Rattle.std.specs.Hash as fed;
 ghost use Rattle.rtui_style.specs.Style.{patch};
-ghost use Rattle.rtui_cell.specs.Symbol.{symbol_text};
+ghost use Rattle.rtui_merge.specs.Merge.{merged};
+ghost use Rattle.rtui_merge.specs.declared.MergeStrategy.{MergeStrategy};
+ghost use Rattle.rtui_cell.specs.Symbol.{symbol_text, IsShort};
+ghost use Rattle.rtui_cell.specs.Narrow.{IsNarrow};
 ghost use Rattle.rtui_cell.specs.Cell.{styled};
 ghost use Rattle.rtui_cell.specs.Width.{text_width, text_columns, is_sound_mark};
 ghost use Rattle.rtui_cell.specs.Equality.{is_same, IsEqual};
@@ -52,4 +55,16 @@ pub fn set_style_twice_sets_patch(cell: &Cell, first: Style, second: Style)
 pub fn width_is_columns_and_sound_marks()
     ensures { (text : List ℕ) → length text ≢ 1 → text_width text
         ≡ min (text_columns text + count_by is_sound_mark (chars text)) 65535 }
+{}
+
+/// What is joined of narrow symbols is narrow, by each strategy.
+pub fn joined_symbols_are_narrow()
+    ensures { (m : MergeStrategy) (prev next : List ℕ) → IsNarrow prev → IsNarrow next
+        → IsNarrow (merged m prev next) }
+{}
+
+/// What is joined of symbols that take no memory takes none, by each strategy.
+pub fn joined_symbols_are_short()
+    ensures { (m : MergeStrategy) (prev next : List ℕ) → IsShort prev → IsShort next
+        → IsShort (merged m prev next) }
 {}

@@ -223,9 +223,7 @@ impl CellChange for Ruling {
     ghost is_light = { λ _ _ _. ⊥ };
 
     fn change(&self, alloc: Global, _: Position, cell: &mut Cell) -> Result<(), AllocError> {
-        cell.set_symbol(alloc, self.symbol)?;
-        cell.set_style(self.style);
-        Ok(())
+        cell.put(alloc, self.symbol, self.style)
     }
 }
 

@@ -5,7 +5,7 @@ use Rattle.std.proofs.lemmas.{Bool.cases_lt, List.Elements.All-nil, List.Element
 use Rattle.ratatui_core.specs.{Layout.Rect, Layout.intersected, Style.Style, Style.patch, Text.LineData}
 use Rattle.ratatui_core.specs.Buffer.{BufferData, Cell, width_of, text_width, IsStyled, IsPlain}
 use Rattle.ratatui_core.specs.Buffer.{IsPlainOver, IsPlainFrom, IsNarrowLine, IsNarrowText}
-use Rattle.rtui_changes.proofs.NarrowTextLemmas.{line-plain}
+use Rattle.rtui_widgets.proofs.NarrowTextLemmas.{line-plain}
 use Rattle.ratatui_core.proofs.BufferLemmas.{width-empty, text-plain, changed-plain, styled-plain, parts-plain}
 use Rattle.ratatui_core.proofs.BufferLemmas.{over-all, from-over}
 use Rattle.rtui_boxes.specs.{Boxes.IsNarrowIfBox, Framed.inner_if}

@@ -395,7 +395,7 @@ impl<'a> List<'a> {
             let item = &items[offset + k];
             let rows = item.height() as u16;
             let part = self.item_part(inner, used, rows);
-            let is_selected = is_at(selected, offset + k);
+            let is_selected = selected == Some(offset + k);
             self.render_item(item, is_selected, has_columns, part, buf)?;
             used += rows;
         }
@@ -423,34 +423,13 @@ impl<'a> List<'a> {
             return Ok(());
         }
         let height = usize::from(inner.height);
-        let selected = at_most(state.selected, items.len() - 1);
+        let selected = state.selected.map(|index| index.min(items.len() - 1));
         let offset = offset_for(items, self.scroll_padding, selected, state.offset, height);
         let count = count_from(items, offset, height);
         self.render_items(selected, offset, count, inner, buf)?;
         state.selected = selected;
         state.offset = offset;
         Ok(())
-    }
-}
-
-// Whether an item is the selected one.
-fn is_at(selected: Option<usize>, index: usize) -> bool
-    ensures { result ≡ is_selected_at selected index }
-{
-    match selected {
-        Some(selected) => selected == index,
-        None => false,
-    }
-}
-
-// A number, but at most another one.
-fn at_most(number: Option<usize>, last: usize) -> Option<usize>
-    ensures value { result ≡ at_most last number }
-    ensures within { IfSome result (λ n. n ≤ last) }
-{
-    match number {
-        Some(number) => Some(number.min(last)),
-        None => None,
     }
 }
 

@@ -253,13 +253,11 @@ impl Fill {
         let front = self.style.fg.unwrap_or(Color::Reset);
         let back = self.style.bg.unwrap_or(Color::Reset);
         if self.is_under_label(position) {
-            cell.set_symbol(alloc, " ")?;
-            cell.set_style(self.style);
+            cell.put(alloc, " ", self.style)?;
             cell.fg = back;
             cell.bg = front;
         } else {
-            cell.set_symbol(alloc, FULL_BLOCK)?;
-            cell.set_style(self.style);
+            cell.put(alloc, FULL_BLOCK, self.style)?;
             cell.fg = front;
             cell.bg = back;
         }

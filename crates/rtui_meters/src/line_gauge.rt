@@ -232,13 +232,10 @@ impl<'a> CellChange for LineFill<'a> {
 
     fn change(&self, alloc: Global, position: Position, cell: &mut Cell) -> Result<(), AllocError> {
         if position.x < self.end {
-            cell.set_symbol(alloc, self.filled_symbol)?;
-            cell.set_style(self.filled_style);
+            cell.put(alloc, self.filled_symbol, self.filled_style)
         } else {
-            cell.set_symbol(alloc, self.unfilled_symbol)?;
-            cell.set_style(self.unfilled_style);
+            cell.put(alloc, self.unfilled_symbol, self.unfilled_style)
         }
-        Ok(())
     }
 }
 

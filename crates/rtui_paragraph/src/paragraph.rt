@@ -479,12 +479,11 @@ fn row_start(row: &[Measured<'_>], room: u16, alignment: HorizontalAlignment) ->
 fn printable_byte(symbol: &str) -> Option<u8>
     ensures { IfSome result (λ b. (symbol.now ≡ b ∷ []) × IsPrintable b) }
 {
-    let byte = *symbol.as_bytes().first()?;
-    if symbol.len() == 1 && (0x20..0x7F).contains(&byte) {
-        Some(byte)
-    } else {
-        None
+    let bytes = symbol.as_bytes();
+    if bytes.len() == 1 && bytes[0] >= 0x20 && bytes[0] < 0x7F {
+        return Some(bytes[0]);
     }
+    None
 }
 
 // Paints a printable character of ASCII straight into its cell.

@@ -257,7 +257,7 @@ impl<'a> Scrollbar<'a> {
         ensures { let length = bar_length self.now.orientation area in
             result ≡ track_length self.now length }
     {
-        let arrows = count_of(self.begin_symbol) + count_of(self.end_symbol);
+        let arrows = u16::from(self.begin_symbol.is_some()) + u16::from(self.end_symbol.is_some());
         self.length(area).saturating_sub(arrows)
     }
 
@@ -268,7 +268,7 @@ impl<'a> Scrollbar<'a> {
         ensures { result ≡ marks_of self.now state.now area }
     {
         let track = self.track_length(area);
-        let begin = count_of(self.begin_symbol);
+        let begin = u16::from(self.begin_symbol.is_some());
         let (thumb, length) = state.thumb(track, self.length(area));
         Marks {
             is_vertical: self.orientation.is_vertical(),
@@ -290,17 +290,6 @@ fn symbols_for<'a>(orientation: ScrollbarOrientation) -> Set<'a>
         DOUBLE_VERTICAL
     } else {
         DOUBLE_HORIZONTAL
-    }
-}
-
-// 1 if there is a symbol.
-fn count_of(symbol: Option<&str>) -> u16
-    ensures value { result ≡ arrow_count symbol.entry }
-    ensures bit { result ≤ 1 }
-{
-    match symbol {
-        Some(_) => 1,
-        None => 0,
     }
 }
 

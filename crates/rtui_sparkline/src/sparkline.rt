@@ -294,9 +294,7 @@ impl<'b, 'a> CellChange for Bars<'b, 'a> {
             return Ok(());
         }
         let bar = bars[number];
-        cell.set_symbol(alloc, self.symbol(bar, position.y))?;
-        cell.set_style(self.style(bar));
-        Ok(())
+        cell.put(alloc, self.symbol(bar, position.y), self.style(bar))
     }
 }
 

@@ -51,16 +51,6 @@ fn render_cells(
     Ok(())
 }
 
-// Whether a row is the selected one.
-fn is_at(selected: Option<usize>, index: usize) -> bool
-    ensures { result ≡ is_selected_at selected index }
-{
-    match selected {
-        Some(selected) => selected == index,
-        None => false,
-    }
-}
-
 // An area, if there is to be one.
 fn area_if(is_some: bool, area: Rect) -> Option<Rect>
     ensures { result ≡ area_if is_some area }
@@ -177,7 +167,7 @@ impl<'a> Table<'a> {
                 return Ok(selected);
             }
             let row = &rows[k];
-            let is_selected = is_at(state.selected, k);
+            let is_selected = state.selected == Some(k);
             let part = row.cells_area(left);
             self.render_row(row, is_selected, symbol_columns, columns, part, buf)?;
             selected = selected.or(area_if(is_selected, part));

@@ -10,3 +10,8 @@ pub mod PartLemmas
 pub mod ShortLemmas
 pub mod AsciiLemmas
 pub mod SettledLemmas
+pub mod ChangeLemmas
+pub mod PlainLemmas
+pub mod PartsLemmas
+pub mod NarrowTextLemmas
+pub mod PrintableTextLemmas

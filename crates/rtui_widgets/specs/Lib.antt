@@ -4,3 +4,7 @@ pub mod Rendering
 pub mod Refused
 pub mod Clipped
 pub mod Inner
+pub mod Changes
+pub mod Plain
+pub mod Parts
+pub mod NarrowTexts

@@ -72,24 +72,13 @@ fn put_next(
     ensures err { OnErr result (row.new ≡ row.old) }
 {
     if is_first || (x > 0 && width > 0) {
-        set(alloc, &mut row[x], grapheme, style)?;
+        row[x].put(alloc, grapheme, style)?;
     } else if width == 0 && x > 0 {
         append(alloc, &mut row[x - 1], grapheme, style)?;
     } else {
         append(alloc, &mut row[x], grapheme, style)?;
     }
     empty_behind(row, x, width);
-    Ok(())
-}
-
-// Sets a cell's symbol, in a style.
-fn set(alloc: Global, cell: &mut Cell, symbol: &str, style: Style) -> Result<(), AllocError>
-    ensures ok { OnOk result (cell.new ≡ with_grapheme style symbol.now cell.old) }
-    ensures short { IsShort symbol.now → IsOk result }
-    ensures err { OnErr result (cell.new ≡ cell.old) }
-{
-    cell.set_symbol(alloc, symbol)?;
-    cell.set_style(style);
     Ok(())
 }
 

@@ -259,19 +259,8 @@ fn put_piece(
     ensures err { OnErr result (cells.new ≡ cells.old) }
     ensures short { IsShort symbol.now → IsOk result }
 {
-    show(alloc, &mut cells[at], symbol, style)?;
+    cells[at].put(alloc, symbol, style)?;
     empty_part(cells, at + 1, at + width);
-    Ok(())
-}
-
-// Shows a grapheme in a cell, in a style.
-fn show(alloc: Global, cell: &mut Cell, symbol: &str, style: Style) -> Result<(), AllocError>
-    ensures ok { OnOk result (cell.new ≡ shown (piece_of style symbol.now) cell.old) }
-    ensures err { OnErr result (cell.new ≡ cell.old) }
-    ensures short { IsShort symbol.now → IsOk result }
-{
-    cell.set_symbol(alloc, symbol)?;
-    cell.set_style(style);
     Ok(())
 }
 

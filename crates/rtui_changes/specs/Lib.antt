@@ -1,4 +1,0 @@
-pub mod Changes
-pub mod Plain
-pub mod Parts
-pub mod NarrowTexts

@@ -1,2 +1,0 @@
-pub mod NarrowLemmas
-pub mod SetLemmas

@@ -1,5 +1,0 @@
-use Rattle.rtui_narrow.proofs.SetLemmas.{bars-narrow, blocks-narrow, plain-border-narrow, line-narrow}
-use Rattle.rtui_narrow.proofs.laws.symbols_are_narrow.Goals as goal
-
-pub returns : goal.returns
-returns c = record { bars = bars-narrow; blocks = blocks-narrow; border = plain-border-narrow; lines = line-narrow }
