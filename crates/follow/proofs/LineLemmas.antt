@@ -7,8 +7,8 @@ use Rattle.ratatui_core.specs.Layout.{Size}
 use Rattle.ratatui_ansi.specs.{Backend.BackendState, Backend.shown_by, declared.error.AnsiError.AnsiError}
 use Rattle.logview.specs.{Views.IsViewOf, declared.view.LogView.LogView}
 use Rattle.logview.proofs.LogLemmas.{view_more}
-use Rattle.follow.specs.{Ends.StopsAtNext, Ends.StopsAfter, Ends.StopsText, declared.fault.Fault.Fault}
-use Rattle.follow.specs.declared.fault.Fault.TheVariants.{Terminal, Read, Write, Lines}
+use Rattle.follow.specs.{Ends.StopsAtNext, Ends.StopsAfter, Ends.StopsText, declared.error.FollowError.FollowError}
+use Rattle.follow.specs.declared.error.FollowError.TheVariants.{Terminal, Read, Write, Lines}
 use Rattle.follow.specs.Lines.{shown_line, AreLinesOf, ShowsInput, MovesOn}
 
 some-same : {A : Type 0} {a b : A} → Some a ≡ Some b → b ≡ a
@@ -83,14 +83,15 @@ ended None left now u v w read moves = tt
 ended (Some text) None now u v w read moves = λ size view. absurd (none-some (read size view).rest_is)
 ended (Some text) (Some rest) now u v w read moves = λ size view. has-read-all size text rest now v w (read size view) moves
 
-after-some : {W : Type 0} (text : List ℕ) (v w : LogView (BackendState W) AnsiError) (fault : Fault) → StopsAtNext text v w fault
+after-some : {W : Type 0} (text : List ℕ) (v w : LogView (BackendState W) AnsiError) (fault : FollowError)
+    → StopsAtNext text v w fault
     → StopsAfter text v w fault
 after-some text v w (Terminal error) stops = stops
 after-some text v w (Read error) stops = stops
 after-some text v w (Write error) stops = absurd stops
 after-some text v w Lines stops = absurd stops
 
-stops-after : {W : Type 0} (size : Size) (text rest : List ℕ) (v w : LogView (BackendState W) AnsiError) (fault : Fault)
+stops-after : {W : Type 0} (size : Size) (text rest : List ℕ) (v w : LogView (BackendState W) AnsiError) (fault : FollowError)
     → HasRead size text (Some rest) v → StopsAfter rest v w fault
     → StopsText size text w fault
 stops-after size text rest v w fault read stops =
@@ -105,7 +106,7 @@ stops-after size text rest v w fault read stops =
     }
 
 -- the next line isn't shown
-pub stopped : {W : Type 0} (first left : Option (List ℕ)) (u v w : LogView (BackendState W) AnsiError) (fault : Fault)
+pub stopped : {W : Type 0} (first left : Option (List ℕ)) (u v w : LogView (BackendState W) AnsiError) (fault : FollowError)
     → IfSome first (λ text. (size : Size) → IsViewOf shown_by size [] u → HasRead size text left v)
     → IfSome left (λ text. StopsAtNext text v w fault)
     → IfSome first (λ text. (size : Size) → IsViewOf shown_by size [] u → StopsText size text w fault)

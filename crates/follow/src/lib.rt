@@ -15,11 +15,11 @@ ghost use Rattle.follow.specs.Lines.{MovesOn, ShowsInput};
 ghost use Rattle.follow.specs.Shown.{FollowsText};
 ghost use Rattle.follow.specs.Ends.{StopsAtNext, StopsText, IsOfShowing, EndsBy};
 
-mod fault;
+mod error;
 mod shown;
 
 use ansi_model::leaving;
-pub use fault::Fault;
+pub use error::FollowError;
 use logview::LogView;
 use ratatui_ansi::AnsiBackend;
 use ratatui_core::terminal::TerminalError;
@@ -34,7 +34,7 @@ fn push_line<R: BufRead, W: Write + Drop>(
     view: &mut LogView<AnsiBackend<W>>,
     line: &mut String,
     shown: &mut String,
-) -> Result<bool, Fault>
+) -> Result<bool, FollowError>
     ensures ok { IfOk result (λ is_more. IfSome (R.remaining reader.old) (λ text.
         MovesOn text is_more (R.remaining reader.new) view.old view.new)) }
     ensures stopped { IfErr result (λ fault. IfSome (R.remaining reader.old) (λ text.
@@ -47,7 +47,7 @@ fn push_line<R: BufRead, W: Write + Drop>(
     shown.clear();
     let count = match reader.read_line(line) {
         Ok(count) => count,
-        Err(error) => return Err(Fault::Read(error)),
+        Err(error) => return Err(FollowError::Read(error)),
     };
     if count == 0 {
         return Ok(false);
@@ -62,7 +62,7 @@ fn push_lines<R: BufRead, W: Write + Drop>(
     alloc: Global,
     reader: &mut R,
     view: &mut LogView<AnsiBackend<W>>,
-) -> Result<(), Fault>
+) -> Result<(), FollowError>
     ensures ok { OnOk result (IfSome (R.remaining reader.old) (λ text. (size : Size)
         → IsViewOf shown_by size [] view.old
         → (R.remaining reader.new ≡ Some []) × ShowsInput size text view.new)) }
@@ -80,7 +80,7 @@ fn push_lines<R: BufRead, W: Write + Drop>(
             return Ok(());
         }
     }
-    Err(Fault::Lines)
+    Err(FollowError::Lines)
 }
 
 // Writes a text whole, and has it sent on.
@@ -102,11 +102,11 @@ fn send<W: Write>(writer: &mut W, text: &str) -> io::Result<()>
 ///
 /// # Errors
 ///
-/// - [`Fault::Terminal`]: the terminal refused a line, or memory was refused. The lines before it
+/// - [`FollowError::Terminal`]: the terminal refused a line, or memory was refused. The lines before it
 ///   are shown.
-/// - [`Fault::Read`]: the reader failed. All lines that it gave are shown.
-/// - [`Fault::Write`]: all was read and shown, but what gives the terminal back can't be written.
-/// - [`Fault::Lines`]: there are more lines than can be counted.
+/// - [`FollowError::Read`]: the reader failed. All lines that it gave are shown.
+/// - [`FollowError::Write`]: all was read and shown, but what gives the terminal back can't be written.
+/// - [`FollowError::Lines`]: there are more lines than can be counted.
 ///
 /// The writer is dropped then.
 pub fn follow<R: BufRead, W: Write + Drop>(
@@ -114,7 +114,7 @@ pub fn follow<R: BufRead, W: Write + Drop>(
     reader: &mut R,
     writer: W,
     size: Size,
-) -> Result<W, Fault>
+) -> Result<W, FollowError>
     ensures ok { OnOk result
         (IfSome (R.remaining reader.old) (λ _. R.remaining reader.new ≡ Some [])) }
     ensures shown { IsAlwaysKnown W.contents → IfOk result (λ taken.
@@ -124,7 +124,7 @@ pub fn follow<R: BufRead, W: Write + Drop>(
 {
     let backend = match AnsiBackend::new(alloc, writer, size) {
         Ok(backend) => backend,
-        Err(error) => return Err(Fault::Terminal(TerminalError::Backend(error))),
+        Err(error) => return Err(FollowError::Terminal(TerminalError::Backend(error))),
     };
     let mut view = LogView::new(alloc, backend)?;
     let shown = push_lines(alloc, reader, &mut view);
@@ -133,6 +133,6 @@ pub fn follow<R: BufRead, W: Write + Drop>(
     shown?;
     match left {
         Ok(()) => Ok(writer),
-        Err(error) => Err(Fault::Write(error)),
+        Err(error) => Err(FollowError::Write(error)),
     }
 }

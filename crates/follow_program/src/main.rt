@@ -9,16 +9,16 @@
 mod size;
 
 use crate::size::{command, size_of};
-use follow::{Fault, follow};
+use follow::{FollowError, follow};
 use rtui_geometry::Size;
 use std::env;
 use std::io::{self, BufWriter};
 use std::process::ExitCode;
 
 // Shows standard input on a terminal of this size.
-fn run(rt: &HostRuntime, size: Size) -> Result<(), Fault> {
+fn run(rt: &HostRuntime, size: Size) -> Result<(), FollowError> {
     let mut reader = rt.reader();
-    let writer = BufWriter::new(rt.alloc(), io::writer(rt)).map_err(Fault::Write)?;
+    let writer = BufWriter::new(rt.alloc(), io::writer(rt)).map_err(FollowError::Write)?;
     let _writer = follow(rt.alloc(), &mut reader, writer, size)?;
     Ok(())
 }

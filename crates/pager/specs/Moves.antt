@@ -1,7 +1,7 @@
 -- What each event makes of a pager: its place, its search, and what it shows.
 use Rattle.std.specs.Prelude.{ℕ, Bool, true, false, not, ◌+◌, ◌-◌, ◌*◌, ◌/◌, ◌==◌, nat_lt, min, max}
 use Rattle.std.specs.Prelude.{if◌then◌else◌, List, [], ◌∷◌, ◌++◌, length, take, encode_utf8, Option, Some}
-use Rattle.std.specs.Prelude.{None}
+use Rattle.std.specs.Prelude.{None, ◌^◌}
 use Rattle.std.specs.List.{flat_map}
 use Rattle.ratatui_core.specs.Layout.{Size}
 use Rattle.ratatui_events.specs.declared.event.Event.{Event}
@@ -77,7 +77,7 @@ after_move WheelUp p = back 3 p
 after_move ToStart p = at_line (or_number 1 p - 1) p
 after_move ToEnd p = at_line (or_number (length p.document) p - 1) p
 after_move ToLeft p = record p { left = p.left - or_number (half_width p) p }
-after_move ToRight p = record p { left = min (p.left + or_number (half_width p) p) 4294967295 }
+after_move ToRight p = record p { left = min (p.left + or_number (half_width p) p) (2 ^ 32 - 1) }
 after_move Numbers p = at_line p.top (record p { has_numbers = not p.has_numbers })
 after_move Wrap p = at_line p.top (record p { wraps = not p.wraps; left = 0 })
 after_move Help p = record p { mode = Helping }

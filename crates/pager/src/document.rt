@@ -5,8 +5,8 @@ ghost use Rattle.std.specs.Str.Lines.{lines};
 ghost use Rattle.pager.specs.Search.{numbered_line};
 
 use std::alloc::{AllocError, Global};
-use std::fmt;
 use std::marker::Model;
+use thiserror::Error;
 
 /// The lines of a text, which it borrows.
 #[derive(Drop)]
@@ -15,21 +15,14 @@ pub struct Document<'a> {
 }
 
 /// Why a text has no `Document`.
-#[derive(Debug, Clone, Copy, PartialEq, Eq)]
+#[derive(Debug, Drop, Clone, Copy, PartialEq, Eq, Error)]
 pub enum TextError {
     /// Memory was refused.
+    #[error("no memory")]
     Memory,
     /// It has more than `u32::MAX` lines.
+    #[error("too many lines")]
     Lines,
-}
-
-impl fmt::Display for TextError {
-    fn fmt<W: fmt::Write>(&self, f: &mut fmt::Formatter<W>) -> fmt::Result {
-        match self {
-            TextError::Memory => write!(f, "no memory"),
-            TextError::Lines => write!(f, "too many lines"),
-        }
-    }
 }
 
 impl From<AllocError> for TextError {

@@ -5,7 +5,7 @@ use crate::frames::Stage;
 use crate::recording::{Player, Recording};
 use pager::show;
 use ratatui_ansi::AnsiError;
-use ratatui_app::Fault;
+use ratatui_app::RunError;
 use ratatui_core::terminal::TerminalError;
 use std::alloc::Global;
 use std::io::{self, ErrorKind, Write};
@@ -91,14 +91,14 @@ impl Write for Owned {
 }
 
 // What a fault is about.
-fn name_of(fault: &Fault<AnsiError>) -> &'static str {
+fn name_of(fault: &RunError<AnsiError>) -> &'static str {
     match fault {
-        Fault::Memory
-        | Fault::Draw(TerminalError::Memory)
-        | Fault::Draw(TerminalError::Backend(AnsiError::Memory))
-        | Fault::Resize(AnsiError::Memory) => "no memory",
-        Fault::Read(_) => "no more reads",
-        Fault::Draw(_) | Fault::Resize(_) => "no draw",
+        RunError::Memory
+        | RunError::Draw(TerminalError::Memory)
+        | RunError::Draw(TerminalError::Backend(AnsiError::Memory))
+        | RunError::Resize(AnsiError::Memory) => "no memory",
+        RunError::Read(_) => "no more reads",
+        RunError::Draw(_) | RunError::Resize(_) => "no draw",
     }
 }
 

@@ -9,11 +9,11 @@
 //! status is 1; with wrong words it is 2.
 #![tactic(auto)]
 
-mod fault;
+mod error;
 mod size;
 mod words;
 
-use crate::fault::Refusal;
+use crate::error::PagerError;
 use crate::size::{Given, is_terminal, size_for};
 use crate::words::{command, given_by, name_of};
 use pager::{Document, OwnText, Pager, show};
@@ -29,28 +29,28 @@ fn page<R: Read>(
     keys: &mut R,
     has_ticks: bool,
     given: Given,
-) -> Result<(), Refusal> {
+) -> Result<(), PagerError> {
     let alloc = rt.alloc();
-    let document = Document::new(alloc, text).map_err(Refusal::Text)?;
-    let name = OwnText::new(String::from_str(alloc, name).map_err(|_| Refusal::Memory)?);
+    let document = Document::new(alloc, text).map_err(PagerError::Text)?;
+    let name = OwnText::new(String::from_str(alloc, name).map_err(|_| PagerError::Memory)?);
     let pattern = OwnText::new(String::new(alloc));
-    let mut writer = BufWriter::new(alloc, io::writer(rt)).map_err(Refusal::Write)?;
+    let mut writer = BufWriter::new(alloc, io::writer(rt)).map_err(PagerError::Write)?;
     let size = size_for(rt, given, keys, has_ticks, &mut writer)?;
     let mut pager = Pager::new(document, name, pattern, size);
-    show(alloc, size, keys, has_ticks, &mut writer, &mut pager).map_err(Refusal::Run)
+    show(alloc, size, keys, has_ticks, &mut writer, &mut pager).map_err(PagerError::Run)
 }
 
 // Shows a file; the keys are standard input's.
-fn page_file(rt: &HostRuntime, path: &str, given: Given) -> Result<(), Refusal> {
-    let text = fs::read_to_string(rt, path).map_err(Refusal::Read)?;
+fn page_file(rt: &HostRuntime, path: &str, given: Given) -> Result<(), PagerError> {
+    let text = fs::read_to_string(rt, path).map_err(PagerError::Read)?;
     let has_ticks = is_terminal(rt);
     page(rt, path, text.as_str(), &mut rt.reader(), has_ticks, given)
 }
 
 // Shows standard input; the keys are the terminal's.
-fn page_input(rt: &HostRuntime, given: Given) -> Result<(), Refusal> {
-    let text = io::read_to_string(rt.alloc(), rt.reader()).map_err(Refusal::Read)?;
-    let mut keys = fs::open(rt, "/dev/tty").map_err(Refusal::Keys)?;
+fn page_input(rt: &HostRuntime, given: Given) -> Result<(), PagerError> {
+    let text = io::read_to_string(rt.alloc(), rt.reader()).map_err(PagerError::Read)?;
+    let mut keys = fs::open(rt, "/dev/tty").map_err(PagerError::Keys)?;
     page(rt, "standard input", text.as_str(), &mut keys, true, given)
 }
 

@@ -1,6 +1,6 @@
 //! The size of the terminal: from the words, the environment, or the terminal itself.
 
-use crate::fault::Refusal;
+use crate::error::PagerError;
 use ratatui_core::layout::Size;
 use ratatui_events::Event;
 use ratatui_input::Decoder;
@@ -57,10 +57,12 @@ fn told_size<R: Read>(keys: &mut R) -> io::Result<Option<Size>> {
 }
 
 // Asks a terminal for its size.
-fn asked_size<R: Read, W: Write>(keys: &mut R, writer: &mut W) -> Result<Option<Size>, Refusal> {
-    writer.write_all(ASKING.as_bytes()).map_err(Refusal::Write)?;
-    writer.flush().map_err(Refusal::Write)?;
-    told_size(keys).map_err(Refusal::Keys)
+fn asked_size<R: Read, W: Write>(keys: &mut R, writer: &mut W) -> Result<Option<Size>, PagerError> {
+    writer
+        .write_all(ASKING.as_bytes())
+        .map_err(PagerError::Write)?;
+    writer.flush().map_err(PagerError::Write)?;
+    told_size(keys).map_err(PagerError::Keys)
 }
 
 /// The size of the terminal: each number is the word's, or else the variable's; if one is unknown,
@@ -71,7 +73,7 @@ pub fn size_for<R: Read, W: Write>(
     keys: &mut R,
     is_terminal: bool,
     writer: &mut W,
-) -> Result<Size, Refusal> {
+) -> Result<Size, PagerError> {
     let columns = given.columns.or_else(|| number_in(rt, "COLUMNS"));
     let rows = given.rows.or_else(|| number_in(rt, "LINES"));
     if let (Some(width), Some(height)) = (columns, rows) {

@@ -6,7 +6,7 @@ use row_words::answer::Answer;
 use row_words::args::Args;
 use row_words::buffers::put_row;
 use row_words::cells::look_words;
-use row_words::fault::Fault;
+use row_words::error::RowError;
 use row_words::names::named;
 use row_words::tokens::Token;
 use std::alloc::{AllocError, Global};
@@ -55,14 +55,14 @@ fn put_rows_above(backend: &TestBackend, out: &mut String) -> Result<(), AllocEr
 
 /// What is seen of a backend: its screen, its cursor, and the rows that left the screen at its top,
 /// or how many if there are many.
-pub fn put_backend(backend: &TestBackend, answer: &mut Answer) -> Result<(), Fault> {
+pub fn put_backend(backend: &TestBackend, answer: &mut Answer) -> Result<(), RowError> {
     answer.put(backend.buffer())?;
     put_cursor(backend, &mut answer.text)?;
     Ok(put_rows_above(backend, &mut answer.text)?)
 }
 
 // Adds what a call was refused for, if it was.
-fn told(outcome: Result<(), TestError>, answer: &mut Answer) -> Result<(), Fault> {
+fn told(outcome: Result<(), TestError>, answer: &mut Answer) -> Result<(), RowError> {
     match outcome {
         Ok(()) => Ok(()),
         Err(error) => answer.refused(&error),
@@ -70,7 +70,11 @@ fn told(outcome: Result<(), TestError>, answer: &mut Answer) -> Result<(), Fault
 }
 
 // Draws cells, each after its column and row.
-fn draw(backend: &mut TestBackend, args: &mut Args<'_>, answer: &mut Answer) -> Result<(), Fault> {
+fn draw(
+    backend: &mut TestBackend,
+    args: &mut Args<'_>,
+    answer: &mut Answer,
+) -> Result<(), RowError> {
     let (places, cells) = items(args)?;
     let mut items = Vec::new(args.alloc);
     for (place, cell) in places.iter().zip(cells.iter()) {
@@ -80,7 +84,7 @@ fn draw(backend: &mut TestBackend, args: &mut Args<'_>, answer: &mut Answer) -> 
 }
 
 // The places and the cells of a draw.
-fn items(args: &mut Args<'_>) -> Result<(Vec<Position>, Vec<Cell>), Fault> {
+fn items(args: &mut Args<'_>) -> Result<(Vec<Position>, Vec<Cell>), RowError> {
     let mut cells = Vec::new(args.alloc);
     let mut places = Vec::new(args.alloc);
     for _ in 0..args.len() {
@@ -98,7 +102,7 @@ pub fn call(
     word: &str,
     args: &mut Args<'_>,
     answer: &mut Answer,
-) -> Result<(), Fault> {
+) -> Result<(), RowError> {
     match word {
         "clear_screen" => told(backend.clear(), answer),
         "flush_screen" => told(backend.flush(), answer),
@@ -115,7 +119,7 @@ fn call_with(
     word: &str,
     args: &mut Args<'_>,
     answer: &mut Answer,
-) -> Result<(), Fault> {
+) -> Result<(), RowError> {
     match word {
         "append_lines" => told(backend.append_lines(args.u16()?), answer),
         "clear_region" => told(backend.clear_region(args.value::<ClearType>()?), answer),
@@ -137,7 +141,7 @@ fn call_with_pair(
     (one, other): (u16, u16),
     args: &mut Args<'_>,
     answer: &mut Answer,
-) -> Result<(), Fault> {
+) -> Result<(), RowError> {
     match word {
         "move_cursor_by_numbers" => told(backend.set_cursor(one, other), answer),
         "size_screen" => Ok(backend.resize(one, other)?),
@@ -151,7 +155,7 @@ fn scroll(
     rows: Range<u16>,
     count: u16,
     answer: &mut Answer,
-) -> Result<(), Fault> {
+) -> Result<(), RowError> {
     if word == "scroll_region_up" {
         told(backend.scroll_region_up(rows, count), answer)
     } else {
@@ -165,7 +169,7 @@ fn ask(
     word: &str,
     args: &mut Args<'_>,
     answer: &mut Answer,
-) -> Result<(), Fault> {
+) -> Result<(), RowError> {
     match word {
         "size" => answer.told(backend.size()),
         "window_size" => put_window_size(backend.window_size(), answer),
@@ -178,7 +182,7 @@ fn ask(
 fn put_window_size(
     outcome: Result<WindowSize, TestError>,
     answer: &mut Answer,
-) -> Result<(), Fault> {
+) -> Result<(), RowError> {
     match outcome {
         Ok(size) => {
             answer.add(size.columns_rows)?;
@@ -194,7 +198,7 @@ fn see(
     word: &str,
     args: &mut Args<'_>,
     answer: &mut Answer,
-) -> Result<(), Fault> {
+) -> Result<(), RowError> {
     match word {
         "cursor_position" => answer.add(backend.cursor_position()),
         "cursor_visible" => answer.add(backend.cursor_visible()),
@@ -211,49 +215,49 @@ fn compare(
     word: &str,
     args: &mut Args<'_>,
     answer: &mut Answer,
-) -> Result<(), Fault> {
+) -> Result<(), RowError> {
     match word {
         "lines_are" => answer.add(backend.lines_are(args.texts()?.as_slice())),
         "scrollback_is" => answer.add(backend.scrollback_is(args.texts()?.as_slice())),
         "buffer_is" => answer.add(backend.buffer_is(&filled(args)?)),
-        _ => Err(Fault::Unread),
+        _ => Err(RowError::Unread),
     }
 }
 
 // A buffer of an area that is full of one cell.
-fn filled(args: &mut Args<'_>) -> Result<Buffer, Fault> {
+fn filled(args: &mut Args<'_>) -> Result<Buffer, RowError> {
     let area = args.area()?;
     let cell = args.cell()?;
     Ok(Buffer::filled(args.alloc, area, cell)?)
 }
 
 // Adds what a backend writes of itself.
-fn put_written(backend: &TestBackend, alloc: Global, answer: &mut Answer) -> Result<(), Fault> {
+fn put_written(backend: &TestBackend, alloc: Global, answer: &mut Answer) -> Result<(), RowError> {
     let mut written = Vec::new(alloc);
     if backend.write_to(&mut written).is_err() {
-        return Err(Fault::Memory);
+        return Err(RowError::Memory);
     }
-    let text = String::from_utf8(written).map_err(|_| Fault::Unread)?;
+    let text = String::from_utf8(written).map_err(|_| RowError::Unread)?;
     answer.add(text.as_str())
 }
 
-fn made(args: &mut Args<'_>) -> Result<TestBackend, Fault> {
+fn made(args: &mut Args<'_>) -> Result<TestBackend, RowError> {
     match args.word()? {
         "new" => Ok(TestBackend::new(args.alloc, args.u16()?, args.u16()?)?),
         "with_lines" => made_with_lines(args.alloc, args.texts()?.as_slice()),
-        _ => Err(Fault::Unread),
+        _ => Err(RowError::Unread),
     }
 }
 
-fn made_with_lines(alloc: Global, lines: &[&str]) -> Result<TestBackend, Fault> {
+fn made_with_lines(alloc: Global, lines: &[&str]) -> Result<TestBackend, RowError> {
     if lines.len() > 65535 || texts_width(lines) > 65535 {
-        return Err(Fault::Requires);
+        return Err(RowError::Requires);
     }
     Ok(TestBackend::with_lines(alloc, lines)?)
 }
 
 /// A part of the screen by its name, read and printed.
-pub fn clear_type(args: &mut Args<'_>, answer: &mut Answer) -> Result<(), Fault> {
+pub fn clear_type(args: &mut Args<'_>, answer: &mut Answer) -> Result<(), RowError> {
     named::<ClearType>(args, answer)
 }
 
@@ -263,7 +267,7 @@ fn step(
     alloc: Global,
     tokens: &[Token],
     answer: &mut Answer,
-) -> Result<(), Fault> {
+) -> Result<(), RowError> {
     let mut args = Args::new(alloc, tokens);
     let word = args.word()?;
     ask(backend, word, &mut args, answer)?;
@@ -277,13 +281,13 @@ pub fn backend(
     args: &mut Args<'_>,
     later: &[Vec<Token>],
     answer: &mut Answer,
-) -> Result<(), Fault> {
+) -> Result<(), RowError> {
     let mut backend = made(args)?;
     for each in later {
         let tokens = each.as_slice();
         let mut own = Answer::new(alloc);
         let mut done = step(&mut backend, alloc, tokens, &mut own);
-        if let Err(Fault::Memory) = done {
+        if let Err(RowError::Memory) = done {
             own = Answer::new(alloc);
             done = step(&mut backend, alloc, tokens, &mut own);
         }

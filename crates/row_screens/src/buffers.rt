@@ -10,21 +10,21 @@ use ratatui_core::widgets::Widget;
 use row_words::answer::Answer;
 use row_words::args::Args;
 use row_words::buffers::put_row;
-use row_words::fault::Fault;
+use row_words::error::RowError;
 use row_words::texts::alike;
 use row_words::tokens::Token;
 use std::alloc::Global;
 use std::mem;
 
 // Refuses a place that isn't in a row of the area, or is before its first column.
-fn row_at(area: Rect, x: u16, y: u16) -> Result<(), Fault>
+fn row_at(area: Rect, x: u16, y: u16) -> Result<(), RowError>
     ensures row { OnOk result (HasRow area y) }
     ensures column { OnOk result (area.x ≤ x) }
 {
     if area.x <= x && area.y <= y && y - area.y < area.height {
         Ok(())
     } else {
-        Err(Fault::Requires)
+        Err(RowError::Requires)
     }
 }
 
@@ -34,7 +34,7 @@ fn paint(
     word: &str,
     args: &mut Args<'_>,
     answer: &mut Answer,
-) -> Result<(), Fault> {
+) -> Result<(), RowError> {
     match word {
         "set_string" => set_string(buffer, args),
         "set_stringn" => answer.add(set_stringn(buffer, args)?),
@@ -47,20 +47,20 @@ fn paint(
     }
 }
 
-fn set_string(buffer: &mut Buffer, args: &mut Args<'_>) -> Result<(), Fault> {
+fn set_string(buffer: &mut Buffer, args: &mut Args<'_>) -> Result<(), RowError> {
     let ((x, y), text) = (args.pair()?, args.text()?);
     row_at(*buffer.area(), x, y)?;
     Ok(buffer.set_string(x, y, text, args.style())?)
 }
 
-fn set_stringn(buffer: &mut Buffer, args: &mut Args<'_>) -> Result<(u16, u16), Fault> {
+fn set_stringn(buffer: &mut Buffer, args: &mut Args<'_>) -> Result<(u16, u16), RowError> {
     let ((x, y), text) = (args.pair()?, args.text()?);
     let max = args.value::<usize>()?;
     row_at(*buffer.area(), x, y)?;
     Ok(buffer.set_stringn(x, y, text, max, args.style())?)
 }
 
-fn set_span(buffer: &mut Buffer, args: &mut Args<'_>) -> Result<(u16, u16), Fault> {
+fn set_span(buffer: &mut Buffer, args: &mut Args<'_>) -> Result<(u16, u16), RowError> {
     let (place, span) = (args.position()?, args.span()?);
     put_span(buffer, place, &span, args.u16()?)
 }
@@ -70,12 +70,12 @@ fn put_span(
     place: Position,
     span: &Span<'_>,
     max: u16,
-) -> Result<(u16, u16), Fault> {
+) -> Result<(u16, u16), RowError> {
     row_at(*buffer.area(), place.x, place.y)?;
     Ok(buffer.set_span(place.x, place.y, span, max)?)
 }
 
-fn set_line(buffer: &mut Buffer, args: &mut Args<'_>) -> Result<(u16, u16), Fault> {
+fn set_line(buffer: &mut Buffer, args: &mut Args<'_>) -> Result<(u16, u16), RowError> {
     let (place, line) = (args.position()?, args.line()?);
     put_line(buffer, place, &line, args.u16()?)
 }
@@ -85,13 +85,18 @@ fn put_line(
     place: Position,
     line: &Line<'_>,
     max: u16,
-) -> Result<(u16, u16), Fault> {
+) -> Result<(u16, u16), RowError> {
     row_at(*buffer.area(), place.x, place.y)?;
     Ok(buffer.set_line(place.x, place.y, line, max)?)
 }
 
 // Renders a string, a span, a line or a text on a buffer.
-fn render(buffer: &mut Buffer, kind: &str, area: Rect, args: &mut Args<'_>) -> Result<(), Fault> {
+fn render(
+    buffer: &mut Buffer,
+    kind: &str,
+    area: Rect,
+    args: &mut Args<'_>,
+) -> Result<(), RowError> {
     match kind {
         "str" | "string" => render_text(buffer, kind, area, args),
         "span" | "lent_span" => render_span(buffer, kind, area, args.span()?),
@@ -105,7 +110,7 @@ fn render_text(
     kind: &str,
     area: Rect,
     args: &mut Args<'_>,
-) -> Result<(), Fault> {
+) -> Result<(), RowError> {
     let text = args.text()?;
     row_at(*buffer.area(), area.x, area.y)?;
     if kind == "str" {
@@ -115,7 +120,12 @@ fn render_text(
     }
 }
 
-fn render_span(buffer: &mut Buffer, kind: &str, area: Rect, span: Span<'_>) -> Result<(), Fault> {
+fn render_span(
+    buffer: &mut Buffer,
+    kind: &str,
+    area: Rect,
+    span: Span<'_>,
+) -> Result<(), RowError> {
     let done = match kind {
         "span" => span.render(area, buffer),
         _ => (&span).render(area, buffer),
@@ -123,7 +133,12 @@ fn render_span(buffer: &mut Buffer, kind: &str, area: Rect, span: Span<'_>) -> R
     Ok(done?)
 }
 
-fn render_line(buffer: &mut Buffer, kind: &str, area: Rect, line: Line<'_>) -> Result<(), Fault> {
+fn render_line(
+    buffer: &mut Buffer,
+    kind: &str,
+    area: Rect,
+    line: Line<'_>,
+) -> Result<(), RowError> {
     let done = match kind {
         "line" => line.render(area, buffer),
         "lent_line" => (&line).render(area, buffer),
@@ -132,11 +147,16 @@ fn render_line(buffer: &mut Buffer, kind: &str, area: Rect, line: Line<'_>) -> R
     Ok(done?)
 }
 
-fn render_lines(buffer: &mut Buffer, kind: &str, area: Rect, text: Text<'_>) -> Result<(), Fault> {
+fn render_lines(
+    buffer: &mut Buffer,
+    kind: &str,
+    area: Rect,
+    text: Text<'_>,
+) -> Result<(), RowError> {
     let done = match kind {
         "text" => text.render(area, buffer),
         "lent_text" => (&text).render(area, buffer),
-        _ => return Err(Fault::Unread),
+        _ => return Err(RowError::Unread),
     };
     Ok(done?)
 }
@@ -147,7 +167,7 @@ fn reshape(
     word: &str,
     args: &mut Args<'_>,
     answer: &mut Answer,
-) -> Result<(), Fault> {
+) -> Result<(), RowError> {
     match word {
         "reset" => {
             buffer.reset();
@@ -166,7 +186,7 @@ fn reshape(
     }
 }
 
-fn give_area(buffer: &mut Buffer, word: &str, args: &mut Args<'_>) -> Result<(), Fault> {
+fn give_area(buffer: &mut Buffer, word: &str, args: &mut Args<'_>) -> Result<(), RowError> {
     let area = args.area()?;
     let done = match word {
         "resize" => buffer.resize(area),
@@ -175,10 +195,10 @@ fn give_area(buffer: &mut Buffer, word: &str, args: &mut Args<'_>) -> Result<(),
     Ok(done?)
 }
 
-fn move_to(buffer: &mut Buffer, to: Position) -> Result<(), Fault> {
+fn move_to(buffer: &mut Buffer, to: Position) -> Result<(), RowError> {
     let size = buffer.area().as_size();
     if size.width > u16::MAX - to.x || size.height > u16::MAX - to.y {
-        return Err(Fault::Requires);
+        return Err(RowError::Requires);
     }
     buffer.move_to(to);
     Ok(())
@@ -190,9 +210,9 @@ fn change_cell(
     lending: &str,
     position: Position,
     args: &mut Args<'_>,
-) -> Result<(), Fault> {
+) -> Result<(), RowError> {
     if !buffer.area().contains(position) {
-        return Err(Fault::Requires);
+        return Err(RowError::Requires);
     }
     let word = args.word()?;
     match lending {
@@ -200,13 +220,18 @@ fn change_cell(
         "index_mut" => change(&mut buffer[position], word, args),
         _ => match buffer.cell_mut(position) {
             Some(cell) => change(cell, word, args),
-            None => Err(Fault::Requires),
+            None => Err(RowError::Requires),
         },
     }
 }
 
 // Asks a buffer something.
-fn ask(buffer: &Buffer, word: &str, args: &mut Args<'_>, answer: &mut Answer) -> Result<(), Fault> {
+fn ask(
+    buffer: &Buffer,
+    word: &str,
+    args: &mut Args<'_>,
+    answer: &mut Answer,
+) -> Result<(), RowError> {
     match word {
         "area" => answer.add(*buffer.area()),
         "len" => answer.add(buffer.content().len()),
@@ -219,14 +244,14 @@ fn ask(buffer: &Buffer, word: &str, args: &mut Args<'_>, answer: &mut Answer) ->
     }
 }
 
-fn put_row_of(buffer: &Buffer, y: u16, answer: &mut Answer) -> Result<(), Fault> {
+fn put_row_of(buffer: &Buffer, y: u16, answer: &mut Answer) -> Result<(), RowError> {
     row_at(*buffer.area(), buffer.area().x, y)?;
     Ok(put_row(buffer.row(y), &mut answer.text)?)
 }
 
-fn put_position_of(buffer: &Buffer, index: usize, answer: &mut Answer) -> Result<(), Fault> {
+fn put_position_of(buffer: &Buffer, index: usize, answer: &mut Answer) -> Result<(), RowError> {
     if index >= buffer.content().len() {
-        return Err(Fault::Requires);
+        return Err(RowError::Requires);
     }
     answer.add(buffer.pos_of(index))
 }
@@ -237,7 +262,7 @@ fn ask_at(
     word: &str,
     position: Position,
     answer: &mut Answer,
-) -> Result<(), Fault> {
+) -> Result<(), RowError> {
     if word == "cell" {
         return match buffer.cell(position) {
             Some(cell) => answer.put(cell),
@@ -245,19 +270,19 @@ fn ask_at(
         };
     }
     if !buffer.area().contains(position) {
-        return Err(Fault::Requires);
+        return Err(RowError::Requires);
     }
     match word {
         "index_of" => answer.add(buffer.index_of(position.x, position.y)),
         "get" => answer.put(buffer.get(position.x, position.y)),
         "index" => answer.put(&buffer[position]),
         "index_pair" => answer.put(&buffer[(position.x, position.y)]),
-        _ => Err(Fault::Unread),
+        _ => Err(RowError::Unread),
     }
 }
 
 // A buffer of its own, or of cells, texts or lines.
-fn made(args: &mut Args<'_>) -> Result<Buffer, Fault> {
+fn made(args: &mut Args<'_>) -> Result<Buffer, RowError> {
     let alloc = args.alloc;
     match args.word()? {
         "empty" => Ok(Buffer::empty(alloc, args.area()?)?),
@@ -265,20 +290,20 @@ fn made(args: &mut Args<'_>) -> Result<Buffer, Fault> {
         "default" => Ok(Buffer::default_in(alloc)),
         "from_texts" => made_from_texts(alloc, args.texts()?.as_slice()),
         "with_lines" => made_with_lines(alloc, args.lines()?.lines.as_slice()),
-        _ => Err(Fault::Unread),
+        _ => Err(RowError::Unread),
     }
 }
 
-fn made_from_texts(alloc: Global, texts: &[&str]) -> Result<Buffer, Fault> {
+fn made_from_texts(alloc: Global, texts: &[&str]) -> Result<Buffer, RowError> {
     if texts.len() > 65535 || texts_width(texts) > 65535 {
-        return Err(Fault::Requires);
+        return Err(RowError::Requires);
     }
     Ok(Buffer::from_texts(alloc, texts)?)
 }
 
-fn made_with_lines(alloc: Global, lines: &[Line<'_>]) -> Result<Buffer, Fault> {
+fn made_with_lines(alloc: Global, lines: &[Line<'_>]) -> Result<Buffer, RowError> {
     if lines.len() > 65535 || lines_width(lines) > 65535 {
-        return Err(Fault::Requires);
+        return Err(RowError::Requires);
     }
     Ok(Buffer::with_lines(alloc, lines)?)
 }
@@ -289,10 +314,10 @@ fn put_diff(
     former: &Buffer,
     next: &Buffer,
     answer: &mut Answer,
-) -> Result<(), Fault> {
+) -> Result<(), RowError> {
     let (area, other) = (*former.area(), *next.area());
     if other.x != area.x || other.y != area.y || other.width != area.width {
-        return Err(Fault::Requires);
+        return Err(RowError::Requires);
     }
     for (x, y, cell) in former.diff_iter(next) {
         answer.put_update(x, y, cell)?;
@@ -307,14 +332,14 @@ fn put_diff_of_rows(
     next: &Buffer,
     args: &mut Args<'_>,
     answer: &mut Answer,
-) -> Result<(), Fault> {
+) -> Result<(), RowError> {
     let ((first, next_first), count) = (args.pair()?, args.u16()?);
     let (area, other) = (*former.area(), *next.area());
     if other.width != area.width
         || u32::from(first) + u32::from(count) > u32::from(area.height)
         || u32::from(next_first) + u32::from(count) > u32::from(other.height)
     {
-        return Err(Fault::Requires);
+        return Err(RowError::Requires);
     }
     let mut given = 0usize;
     for (x, y, cell) in diff_rows(former, first, next, next_first, count) {
@@ -353,7 +378,7 @@ fn both(
     word: &str,
     args: &mut Args<'_>,
     answer: &mut Answer,
-) -> Result<(), Fault> {
+) -> Result<(), RowError> {
     match word {
         "other" => {
             *former = mem::replace(buffer, made(args)?);
@@ -378,7 +403,7 @@ fn step(
     alloc: Global,
     tokens: &[Token],
     answer: &mut Answer,
-) -> Result<bool, Fault> {
+) -> Result<bool, RowError> {
     let mut args = Args::new(alloc, tokens);
     let word = args.word()?;
     both(former, buffer, word, &mut args, answer)?;
@@ -393,7 +418,7 @@ pub fn buffer(
     args: &mut Args<'_>,
     later: &[Vec<Token>],
     answer: &mut Answer,
-) -> Result<(), Fault> {
+) -> Result<(), RowError> {
     let mut former = Buffer::default_in(alloc);
     let mut buffer = made(args)?;
     let mut asked = false;
@@ -401,7 +426,7 @@ pub fn buffer(
         let tokens = each.as_slice();
         let mut own = Answer::new(alloc);
         let mut done = step(&mut former, &mut buffer, alloc, tokens, &mut own);
-        if let Err(Fault::Memory) = done {
+        if let Err(RowError::Memory) = done {
             own = Answer::new(alloc);
             done = step(&mut former, &mut buffer, alloc, tokens, &mut own);
         }

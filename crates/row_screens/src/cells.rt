@@ -3,14 +3,14 @@ use ratatui_core::buffer::{Cell, CellWidth};
 use ratatui_core::style::Color;
 use row_words::answer::Answer;
 use row_words::args::Args;
-use row_words::fault::Fault;
+use row_words::error::RowError;
 use row_words::names::strategy_of;
 use row_words::texts::alike;
 use row_words::tokens::Token;
 use std::alloc::Global;
 
 /// A call that changes a cell.
-pub fn change(cell: &mut Cell, word: &str, args: &mut Args<'_>) -> Result<(), Fault> {
+pub fn change(cell: &mut Cell, word: &str, args: &mut Args<'_>) -> Result<(), RowError> {
     match word {
         "set_symbol" | "append_symbol" | "merge_symbol" => {
             change_symbol(cell, word, args.text()?, args)
@@ -33,7 +33,7 @@ fn change_symbol(
     word: &str,
     text: &str,
     args: &mut Args<'_>,
-) -> Result<(), Fault> {
+) -> Result<(), RowError> {
     let alloc = args.alloc;
     let done = match word {
         "set_symbol" => cell.set_symbol(alloc, text),
@@ -52,7 +52,7 @@ fn colour(cell: &mut Cell, word: &str, color: Color) {
 }
 
 // Changes how a cell is drawn, or makes it an empty one.
-fn change_drawing(cell: &mut Cell, word: &str, args: &mut Args<'_>) -> Result<(), Fault> {
+fn change_drawing(cell: &mut Cell, word: &str, args: &mut Args<'_>) -> Result<(), RowError> {
     match word {
         "set_skip" => {
             cell.set_skip(args.value::<bool>()?);
@@ -61,7 +61,7 @@ fn change_drawing(cell: &mut Cell, word: &str, args: &mut Args<'_>) -> Result<()
             cell.set_diff_option(args.option()?);
         }
         "reset" => cell.reset(),
-        _ => return Err(Fault::Unread),
+        _ => return Err(RowError::Unread),
     }
     Ok(())
 }
@@ -72,7 +72,7 @@ fn is_change(word: &str) -> bool {
 }
 
 // Asks a cell something.
-fn ask(cell: &Cell, word: &str, args: &mut Args<'_>, answer: &mut Answer) -> Result<(), Fault> {
+fn ask(cell: &Cell, word: &str, args: &mut Args<'_>, answer: &mut Answer) -> Result<(), RowError> {
     match word {
         "symbol" => answer.add(cell.symbol()),
         "cell_width" => answer.add(cell.cell_width()),
@@ -82,23 +82,23 @@ fn ask(cell: &Cell, word: &str, args: &mut Args<'_>, answer: &mut Answer) -> Res
         "clone" => answer.add(cell.clone(args.alloc)?),
         "clone_from" => answer.add(cloned_from(args.cell()?, cell, args.alloc)?),
         "equal" => alike(cell, &args.cell()?, answer),
-        _ => Err(Fault::Unread),
+        _ => Err(RowError::Unread),
     }
 }
 
-fn cloned_from(mut cell: Cell, source: &Cell, alloc: Global) -> Result<Cell, Fault> {
+fn cloned_from(mut cell: Cell, source: &Cell, alloc: Global) -> Result<Cell, RowError> {
     cell.clone_from(alloc, source)?;
     Ok(cell)
 }
 
-fn made(args: &mut Args<'_>) -> Result<Cell, Fault> {
+fn made(args: &mut Args<'_>) -> Result<Cell, RowError> {
     match args.word()? {
         "new" => Ok(Cell::new(args.alloc, args.text()?)?),
         "from_char" => Ok(Cell::from_char(args.alloc, args.char()?)?),
         "EMPTY" => Ok(Cell::EMPTY),
         "default" => Ok(Cell::default()),
         "cell" => args.cell(),
-        _ => Err(Fault::Unread),
+        _ => Err(RowError::Unread),
     }
 }
 
@@ -108,7 +108,7 @@ fn step(
     alloc: Global,
     tokens: &[Token],
     answer: &mut Answer,
-) -> Result<(), Fault> {
+) -> Result<(), RowError> {
     let mut args = Args::new(alloc, tokens);
     let word = args.word()?;
     if is_change(word) {
@@ -126,13 +126,13 @@ pub fn cell(
     args: &mut Args<'_>,
     later: &[Vec<Token>],
     answer: &mut Answer,
-) -> Result<(), Fault> {
+) -> Result<(), RowError> {
     let mut cell = made(args)?;
     for each in later {
         let tokens = each.as_slice();
         let mut own = Answer::new(alloc);
         let mut done = step(&mut cell, alloc, tokens, &mut own);
-        if let Err(Fault::Memory) = done {
+        if let Err(RowError::Memory) = done {
             own = Answer::new(alloc);
             done = step(&mut cell, alloc, tokens, &mut own);
         }

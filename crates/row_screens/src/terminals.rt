@@ -11,7 +11,7 @@ use ratatui_core::text::Text;
 use ratatui_core::widgets::Widget;
 use row_words::answer::{Answer, Show};
 use row_words::args::Args;
-use row_words::fault::Fault;
+use row_words::error::RowError;
 use row_words::tokens::Token;
 use std::alloc::{AllocError, Global};
 
@@ -32,7 +32,7 @@ struct Picture<'a> {
     cursor: Option<Position>,
 }
 
-fn read_content<'a>(args: &mut Args<'a>) -> Result<Content<'a>, Fault> {
+fn read_content<'a>(args: &mut Args<'a>) -> Result<Content<'a>, RowError> {
     let by_characters = args.takes("chars");
     let text = args.lines()?;
     Ok(Content {
@@ -42,7 +42,7 @@ fn read_content<'a>(args: &mut Args<'a>) -> Result<Content<'a>, Fault> {
 }
 
 // A content, and after a comma `cursor` and its place.
-fn read_picture<'a>(args: &mut Args<'a>) -> Result<Picture<'a>, Fault> {
+fn read_picture<'a>(args: &mut Args<'a>) -> Result<Picture<'a>, RowError> {
     let content = read_content(args)?;
     args.skip_comma();
     let cursor = if args.takes("cursor") {
@@ -53,14 +53,14 @@ fn read_picture<'a>(args: &mut Args<'a>) -> Result<Picture<'a>, Fault> {
     Ok(Picture { content, cursor })
 }
 
-fn read_viewport(args: &mut Args<'_>) -> Result<Viewport, Fault>
+fn read_viewport(args: &mut Args<'_>) -> Result<Viewport, RowError>
     ensures { IfOk result FitsEdges }
 {
     match args.word()? {
         "screen" => Ok(Viewport::Fullscreen),
         "inline" => Ok(Viewport::Inline(args.u16()?)),
         "fixed" => Ok(Viewport::Fixed(args.area()?)),
-        _ => Err(Fault::Unread),
+        _ => Err(RowError::Unread),
     }
 }
 
@@ -193,7 +193,7 @@ fn insert_refused(terminal: &mut Terminal<TestBackend>) -> Outcome {
 }
 
 // Gives the current buffer the viewport's area.
-fn mend_buffer(terminal: &mut Terminal<TestBackend>) -> Result<(), Fault> {
+fn mend_buffer(terminal: &mut Terminal<TestBackend>) -> Result<(), RowError> {
     let area = terminal.viewport_area();
     let area = Rect::new(area.x, area.y, area.width, area.height);
     Ok(terminal.current_buffer_mut().resize(area)?)
@@ -205,7 +205,7 @@ fn call(
     word: &str,
     args: &mut Args<'_>,
     answer: &mut Answer,
-) -> Result<(), Fault> {
+) -> Result<(), RowError> {
     match word {
         "clear" => told(terminal.clear(), answer),
         "autoresize" => told(terminal.autoresize(), answer),
@@ -227,7 +227,7 @@ fn call_with(
     word: &str,
     args: &mut Args<'_>,
     answer: &mut Answer,
-) -> Result<(), Fault> {
+) -> Result<(), RowError> {
     match word {
         "draw" | "draw_anew" | "try_draw" => {
             told(
@@ -291,7 +291,7 @@ fn touch(
     word: &str,
     args: &mut Args<'_>,
     answer: &mut Answer,
-) -> Result<(), Fault> {
+) -> Result<(), RowError> {
     match word {
         "swap_buffers" => {
             terminal.swap_buffers();
@@ -311,13 +311,13 @@ fn touch(
 }
 
 // Paints on the current buffer.
-fn paint(terminal: &mut Terminal<TestBackend>, args: &mut Args<'_>) -> Result<(), Fault> {
+fn paint(terminal: &mut Terminal<TestBackend>, args: &mut Args<'_>) -> Result<(), RowError> {
     let content = read_content(args)?;
     Ok(content.paint(args.alloc, terminal.current_buffer_mut())?)
 }
 
 // Adds the area, the size and the number of the next frame.
-fn put_frame(terminal: &mut Terminal<TestBackend>, answer: &mut Answer) -> Result<(), Fault> {
+fn put_frame(terminal: &mut Terminal<TestBackend>, answer: &mut Answer) -> Result<(), RowError> {
     let frame = terminal.get_frame();
     answer.add(frame.area())?;
     answer.add(frame.size())?;
@@ -325,11 +325,11 @@ fn put_frame(terminal: &mut Terminal<TestBackend>, answer: &mut Answer) -> Resul
 }
 
 // Adds what a call was refused for, if it was for anything but memory.
-fn told(outcome: Outcome, answer: &mut Answer) -> Result<(), Fault> {
+fn told(outcome: Outcome, answer: &mut Answer) -> Result<(), RowError> {
     match outcome {
         Ok(()) => Ok(()),
-        Err(TerminalError::Memory) => Err(Fault::Memory),
-        Err(TerminalError::Backend(TestError::Memory)) => Err(Fault::Lost),
+        Err(TerminalError::Memory) => Err(RowError::Memory),
+        Err(TerminalError::Backend(TestError::Memory)) => Err(RowError::Lost),
         Err(error) => answer.refused(&error),
     }
 }
@@ -340,7 +340,7 @@ fn step(
     alloc: Global,
     tokens: &[Token],
     answer: &mut Answer,
-) -> Result<(), Fault> {
+) -> Result<(), RowError> {
     let mut args = Args::new(alloc, tokens);
     let word = args.word()?;
     call(terminal, word, &mut args, answer)?;
@@ -353,17 +353,17 @@ fn step_again(
     terminal: &mut Terminal<TestBackend>,
     alloc: Global,
     tokens: &[Token],
-) -> Result<Answer, Fault> {
+) -> Result<Answer, RowError> {
     let mut answer = Answer::new(alloc);
     match step(terminal, alloc, tokens, &mut answer) {
         Ok(()) => return Ok(answer),
-        Err(Fault::Memory) => {}
+        Err(RowError::Memory) => {}
         Err(fault) => return Err(fault),
     }
     let mut answer = Answer::new(alloc);
     match step(terminal, alloc, tokens, &mut answer) {
         Ok(()) => {}
-        Err(Fault::Memory) => answer.refused(&TerminalError::<TestError>::Memory)?,
+        Err(RowError::Memory) => answer.refused(&TerminalError::<TestError>::Memory)?,
         Err(fault) => return Err(fault),
     }
     Ok(answer)
@@ -376,7 +376,7 @@ fn fill(backend: &mut TestBackend, symbol: &Cell) -> Result<(), TestError> {
 }
 
 // A screen of a size, prepared.
-fn screen(args: &mut Args<'_>) -> Result<TestBackend, Fault> {
+fn screen(args: &mut Args<'_>) -> Result<TestBackend, RowError> {
     let (width, height) = args.pair()?;
     let mut backend = TestBackend::new(args.alloc, width, height)?;
     prepare(&mut backend, args)?;
@@ -385,7 +385,7 @@ fn screen(args: &mut Args<'_>) -> Result<TestBackend, Fault> {
 
 // What stands after commas: `full` with a symbol for each cell, `cursor` with its place,
 // `fail_after` with a number.
-fn prepare(backend: &mut TestBackend, args: &mut Args<'_>) -> Result<(), Fault> {
+fn prepare(backend: &mut TestBackend, args: &mut Args<'_>) -> Result<(), RowError> {
     args.skip_comma();
     if args.takes("full") {
         fill_screen(backend, args)?;
@@ -400,18 +400,18 @@ fn prepare(backend: &mut TestBackend, args: &mut Args<'_>) -> Result<(), Fault> 
     Ok(())
 }
 
-fn fill_screen(backend: &mut TestBackend, args: &mut Args<'_>) -> Result<(), Fault> {
+fn fill_screen(backend: &mut TestBackend, args: &mut Args<'_>) -> Result<(), RowError> {
     let symbol = Cell::new(args.alloc, args.text()?)?;
     args.skip_comma();
-    fill(backend, &symbol).map_err(|_| Fault::Memory)
+    fill(backend, &symbol).map_err(|_| RowError::Memory)
 }
 
-fn place_cursor(backend: &mut TestBackend, args: &mut Args<'_>) -> Result<(), Fault> {
+fn place_cursor(backend: &mut TestBackend, args: &mut Args<'_>) -> Result<(), RowError> {
     let position = args.position()?;
     args.skip_comma();
     backend
         .set_cursor_position(position)
-        .map_err(|_| Fault::Memory)
+        .map_err(|_| RowError::Memory)
 }
 
 // Makes calls on a terminal; what is seen of its screen at the end, and its viewport.
@@ -420,7 +420,7 @@ fn play(
     alloc: Global,
     steps: &[Vec<Token>],
     answer: &mut Answer,
-) -> Result<(), Fault> {
+) -> Result<(), RowError> {
     for step in steps {
         let own = step_again(terminal, alloc, step.as_slice())?;
         answer.join(&own)?;
@@ -437,7 +437,7 @@ pub fn terminal(
     args: &mut Args<'_>,
     later: &[Vec<Token>],
     answer: &mut Answer,
-) -> Result<(), Fault> {
+) -> Result<(), RowError> {
     let backend = screen(args)?;
     let viewport = read_viewport(args)?;
     args.end()?;

@@ -4,12 +4,12 @@ use ratatui_core::style::Style;
 use ratatui_core::text::{Line, Span, Spans};
 use row_words::answer::Answer;
 use row_words::args::Args;
-use row_words::fault::Fault;
+use row_words::error::RowError;
 use row_words::texts::alike;
 use row_words::tokens::Token;
 use std::alloc::Global;
 
-fn made<'a>(args: &mut Args<'a>) -> Result<Line<'a>, Fault> {
+fn made<'a>(args: &mut Args<'a>) -> Result<Line<'a>, RowError> {
     match args.word()? {
         "default" => Ok(Line::default_in(args.alloc)),
         "line" => args.line(),
@@ -19,7 +19,7 @@ fn made<'a>(args: &mut Args<'a>) -> Result<Line<'a>, Fault> {
     }
 }
 
-fn made_of_text<'a>(word: &str, text: &'a str, args: &mut Args<'a>) -> Result<Line<'a>, Fault> {
+fn made_of_text<'a>(word: &str, text: &'a str, args: &mut Args<'a>) -> Result<Line<'a>, RowError> {
     let made = match word {
         "raw" => Line::raw(args.alloc, text),
         "styled" => Line::styled(args.alloc, text, args.style()),
@@ -29,30 +29,30 @@ fn made_of_text<'a>(word: &str, text: &'a str, args: &mut Args<'a>) -> Result<Li
 }
 
 // A line of the spans of another one.
-fn made_of<'a>(word: &str, alloc: Global, line: Line<'a>) -> Result<Line<'a>, Fault> {
+fn made_of<'a>(word: &str, alloc: Global, line: Line<'a>) -> Result<Line<'a>, RowError> {
     match word {
         "try_from_iter" => Ok(Line::try_from_iter(alloc, line)?),
         _ => made_of_spans(word, alloc, line.spans),
     }
 }
 
-fn made_of_spans<'a>(word: &str, alloc: Global, spans: Spans<'a>) -> Result<Line<'a>, Fault> {
+fn made_of_spans<'a>(word: &str, alloc: Global, spans: Spans<'a>) -> Result<Line<'a>, RowError> {
     match word {
         "from_vec" => Ok(Line::from(spans.into_vec())),
         _ => made_of_slice(word, alloc, spans.as_slice()),
     }
 }
 
-fn made_of_slice<'a>(word: &str, alloc: Global, spans: &[Span<'a>]) -> Result<Line<'a>, Fault> {
+fn made_of_slice<'a>(word: &str, alloc: Global, spans: &[Span<'a>]) -> Result<Line<'a>, RowError> {
     match word {
         "from_slice" => Ok(Line::from_slice(alloc, spans)?),
         "from_spans" => Ok(Line::from(Spans::from_slice(alloc, spans)?)),
-        _ => Err(Fault::Unread),
+        _ => Err(RowError::Unread),
     }
 }
 
 // A line after a call that changes it.
-fn changed<'a>(line: Line<'a>, word: &str, args: &mut Args<'a>) -> Result<Line<'a>, Fault> {
+fn changed<'a>(line: Line<'a>, word: &str, args: &mut Args<'a>) -> Result<Line<'a>, RowError> {
     match word {
         "spans" | "try_extend" => with_line(line, word, args.line()?),
         "try_add" | "push_span" => with_span(line, word, args.span()?),
@@ -62,7 +62,7 @@ fn changed<'a>(line: Line<'a>, word: &str, args: &mut Args<'a>) -> Result<Line<'
     }
 }
 
-fn with_line<'a>(mut line: Line<'a>, word: &str, other: Line<'a>) -> Result<Line<'a>, Fault> {
+fn with_line<'a>(mut line: Line<'a>, word: &str, other: Line<'a>) -> Result<Line<'a>, RowError> {
     if word == "spans" {
         return Ok(line.spans(other.spans.as_slice())?);
     }
@@ -70,7 +70,7 @@ fn with_line<'a>(mut line: Line<'a>, word: &str, other: Line<'a>) -> Result<Line
     Ok(line)
 }
 
-fn with_span<'a>(mut line: Line<'a>, word: &str, span: Span<'a>) -> Result<Line<'a>, Fault> {
+fn with_span<'a>(mut line: Line<'a>, word: &str, span: Span<'a>) -> Result<Line<'a>, RowError> {
     if word == "try_add" {
         return Ok(line.try_add(span)?);
     }
@@ -79,7 +79,7 @@ fn with_span<'a>(mut line: Line<'a>, word: &str, span: Span<'a>) -> Result<Line<
 }
 
 // A line after a call that sets its style or its alignment.
-fn set<'a>(line: Line<'a>, word: &str, args: &mut Args<'a>) -> Result<Line<'a>, Fault> {
+fn set<'a>(line: Line<'a>, word: &str, args: &mut Args<'a>) -> Result<Line<'a>, RowError> {
     match word {
         "style" => Ok(line.style(args.style())),
         "patch_style" => Ok(line.patch_style(args.style())),
@@ -87,7 +87,7 @@ fn set<'a>(line: Line<'a>, word: &str, args: &mut Args<'a>) -> Result<Line<'a>, 
         "left_aligned" => Ok(line.left_aligned()),
         "centered" => Ok(line.centered()),
         "right_aligned" => Ok(line.right_aligned()),
-        _ => Err(Fault::Unread),
+        _ => Err(RowError::Unread),
     }
 }
 
@@ -120,7 +120,7 @@ fn ask<'a>(
     word: &str,
     args: &mut Args<'a>,
     answer: &mut Answer,
-) -> Result<(), Fault> {
+) -> Result<(), RowError> {
     match word {
         "width" => answer.add(line.width()),
         "print" => answer.print(args.alloc, line),
@@ -131,14 +131,14 @@ fn ask<'a>(
     }
 }
 
-fn put_graphemes(line: &Line<'_>, style: Style, answer: &mut Answer) -> Result<(), Fault> {
+fn put_graphemes(line: &Line<'_>, style: Style, answer: &mut Answer) -> Result<(), RowError> {
     for grapheme in line.styled_graphemes(style) {
         answer.add(grapheme)?;
     }
     Ok(())
 }
 
-fn put_texts(line: &Line<'_>, answer: &mut Answer) -> Result<(), Fault> {
+fn put_texts(line: &Line<'_>, answer: &mut Answer) -> Result<(), RowError> {
     for span in line.iter() {
         answer.add(span.text())?;
     }
@@ -151,7 +151,7 @@ fn ask_copy<'a>(
     word: &str,
     args: &mut Args<'a>,
     answer: &mut Answer,
-) -> Result<(), Fault> {
+) -> Result<(), RowError> {
     match word {
         "clone" => answer.add(line),
         "try_into_string" => answer.add(line.try_into_string()?.as_str()),
@@ -161,15 +161,19 @@ fn ask_copy<'a>(
 
 fn put_sum<'a>(
     line: Line<'a>,
-    other: Result<Line<'a>, Fault>,
+    other: Result<Line<'a>, RowError>,
     answer: &mut Answer,
-) -> Result<(), Fault> {
+) -> Result<(), RowError> {
     let text = line.try_add_line(other?)?;
     answer.add(text)
 }
 
 // A line after one call on it.
-fn step<'a>(line: Line<'a>, args: &mut Args<'a>, answer: &mut Answer) -> Result<Line<'a>, Fault> {
+fn step<'a>(
+    line: Line<'a>,
+    args: &mut Args<'a>,
+    answer: &mut Answer,
+) -> Result<Line<'a>, RowError> {
     let word = args.word()?;
     if !is_question(word) {
         return changed(line, word, args);
@@ -184,7 +188,7 @@ pub fn line<'a>(
     args: &mut Args<'a>,
     later: &'a [Vec<Token>],
     answer: &mut Answer,
-) -> Result<(), Fault> {
+) -> Result<(), RowError> {
     let mut line = made(args)?;
     for each in later {
         let mut args = Args::new(alloc, each.as_slice());

@@ -3,14 +3,14 @@ use ratatui_core::style::Style;
 use ratatui_core::text::{Line, Span};
 use row_words::answer::Answer;
 use row_words::args::Args;
-use row_words::fault::Fault;
+use row_words::error::RowError;
 use row_words::texts::alike;
 use row_words::tokens::Token;
 use std::alloc::{AllocError, Global};
 use std::borrow::CowStr;
 use std::mem;
 
-fn made<'a>(args: &mut Args<'a>) -> Result<Span<'a>, Fault> {
+fn made<'a>(args: &mut Args<'a>) -> Result<Span<'a>, RowError> {
     match args.word()? {
         "default" => Ok(Span::default()),
         "span" => args.span(),
@@ -18,24 +18,24 @@ fn made<'a>(args: &mut Args<'a>) -> Result<Span<'a>, Fault> {
     }
 }
 
-fn made_of_text<'a>(word: &str, text: &'a str, args: &mut Args<'a>) -> Result<Span<'a>, Fault> {
+fn made_of_text<'a>(word: &str, text: &'a str, args: &mut Args<'a>) -> Result<Span<'a>, RowError> {
     match word {
         "raw" => Ok(Span::raw(text)),
         "styled" => Ok(Span::styled(text, args.style())),
         "from" => Ok(Span::from(text)),
         "from_string" => Ok(Span::from(String::from_str(args.alloc, text)?)),
         "from_cow" => Ok(Span::from(CowStr::Borrowed(text))),
-        _ => Err(Fault::Unread),
+        _ => Err(RowError::Unread),
     }
 }
 
-fn changed<'a>(span: Span<'a>, word: &str, args: &mut Args<'a>) -> Result<Span<'a>, Fault> {
+fn changed<'a>(span: Span<'a>, word: &str, args: &mut Args<'a>) -> Result<Span<'a>, RowError> {
     match word {
         "content" => Ok(span.content(args.text()?)),
         "style" => Ok(span.style(args.style())),
         "patch_style" => Ok(span.patch_style(args.style())),
         "reset_style" => Ok(span.reset_style()),
-        _ => Err(Fault::Unread),
+        _ => Err(RowError::Unread),
     }
 }
 
@@ -49,7 +49,12 @@ fn is_question(word: &str) -> bool {
 }
 
 // Asks a span something.
-fn ask(span: &Span<'_>, word: &str, args: &mut Args<'_>, answer: &mut Answer) -> Result<(), Fault> {
+fn ask(
+    span: &Span<'_>,
+    word: &str,
+    args: &mut Args<'_>,
+    answer: &mut Answer,
+) -> Result<(), RowError> {
     match word {
         "width" => answer.add(span.width()),
         "text" => answer.add(span.text()),
@@ -61,7 +66,7 @@ fn ask(span: &Span<'_>, word: &str, args: &mut Args<'_>, answer: &mut Answer) ->
     }
 }
 
-fn put_graphemes(span: &Span<'_>, style: Style, answer: &mut Answer) -> Result<(), Fault> {
+fn put_graphemes(span: &Span<'_>, style: Style, answer: &mut Answer) -> Result<(), RowError> {
     for grapheme in span.styled_graphemes(style) {
         answer.add(grapheme)?;
     }
@@ -73,13 +78,18 @@ fn put_sum(
     other: Span<'_>,
     alloc: Global,
     answer: &mut Answer,
-) -> Result<(), Fault> {
+) -> Result<(), RowError> {
     let line = span.clone(alloc)?.try_add(alloc, other)?;
     answer.add(line)
 }
 
 // Adds a copy of a span, or a line that is made of it.
-fn ask_copy(span: Span<'_>, word: &str, alloc: Global, answer: &mut Answer) -> Result<(), Fault> {
+fn ask_copy(
+    span: Span<'_>,
+    word: &str,
+    alloc: Global,
+    answer: &mut Answer,
+) -> Result<(), RowError> {
     match word {
         "clone" => answer.add(span),
         _ => {
@@ -102,7 +112,7 @@ fn aligned<'a>(span: Span<'a>, word: &str, alloc: Global) -> Result<Line<'a>, Al
 }
 
 // One call on a span.
-fn step<'a>(span: &mut Span<'a>, args: &mut Args<'a>, answer: &mut Answer) -> Result<(), Fault> {
+fn step<'a>(span: &mut Span<'a>, args: &mut Args<'a>, answer: &mut Answer) -> Result<(), RowError> {
     let word = args.word()?;
     if is_question(word) {
         ask(span, word, args, answer)?;
@@ -118,7 +128,7 @@ pub fn span<'a>(
     args: &mut Args<'a>,
     later: &'a [Vec<Token>],
     answer: &mut Answer,
-) -> Result<(), Fault> {
+) -> Result<(), RowError> {
     let mut span = made(args)?;
     for each in later {
         step(&mut span, &mut Args::new(alloc, each.as_slice()), answer)?;

@@ -3,7 +3,7 @@ use ratatui_core::style::{Color, Stylize};
 use ratatui_core::text::StyledGrapheme;
 use row_words::answer::{Answer, Show};
 use row_words::args::Args;
-use row_words::fault::Fault;
+use row_words::error::RowError;
 use std::borrow::CowStr;
 
 // It on a background.
@@ -128,7 +128,11 @@ fn colored<T: Stylize + Drop>(item: T, word: &str, color: Color) -> T::Item {
 }
 
 // A call on it.
-fn called<T: Stylize + Drop>(item: T, args: &mut Args<'_>, answer: &mut Answer) -> Result<(), Fault>
+fn called<T: Stylize + Drop>(
+    item: T,
+    args: &mut Args<'_>,
+    answer: &mut Answer,
+) -> Result<(), RowError>
 where
     T::Item: Show + Drop,
 {
@@ -137,13 +141,13 @@ where
         word @ ("fg" | "bg") => answer.add(colored(item, word, args.color()?)),
         word => match styled(item, word, args) {
             Some(item) => answer.add(item),
-            None => Err(Fault::Unread),
+            None => Err(RowError::Unread),
         },
     }
 }
 
 /// A call on what has a style: what it is, and after a comma the call.
-pub fn stylize(args: &mut Args<'_>, answer: &mut Answer) -> Result<(), Fault> {
+pub fn stylize(args: &mut Args<'_>, answer: &mut Answer) -> Result<(), RowError> {
     match args.word()? {
         "span" => called(args.span()?, args, answer),
         "line" => called(args.line()?, args, answer),
@@ -157,13 +161,13 @@ fn stylize_text(
     text: &str,
     args: &mut Args<'_>,
     answer: &mut Answer,
-) -> Result<(), Fault> {
+) -> Result<(), RowError> {
     match word {
         "str" => called(text, args, answer),
         "String" => called(String::from_str(args.alloc, text)?, args, answer),
         "CowStr" => called(CowStr::Borrowed(text), args, answer),
         "grapheme" => called(StyledGrapheme::new(text, args.style()), args, answer),
         "is_whitespace" => answer.add(StyledGrapheme::new(text, args.style()).is_whitespace()),
-        _ => Err(Fault::Unread),
+        _ => Err(RowError::Unread),
     }
 }

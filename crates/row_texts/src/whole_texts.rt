@@ -4,13 +4,13 @@ use ratatui_core::style::Style;
 use ratatui_core::text::{Line, Lines, Masked, Span, Text, ToLine, ToSpan, ToText};
 use row_words::answer::Answer;
 use row_words::args::Args;
-use row_words::fault::Fault;
+use row_words::error::RowError;
 use row_words::texts::alike;
 use row_words::tokens::Token;
 use std::alloc::Global;
 use std::fmt::Display;
 
-fn made<'a>(args: &mut Args<'a>) -> Result<Text<'a>, Fault> {
+fn made<'a>(args: &mut Args<'a>) -> Result<Text<'a>, RowError> {
     match args.word()? {
         "default" => Ok(Text::default_in(args.alloc)),
         "text" => args.lines(),
@@ -19,7 +19,7 @@ fn made<'a>(args: &mut Args<'a>) -> Result<Text<'a>, Fault> {
     }
 }
 
-fn made_of_text<'a>(word: &str, text: &'a str, args: &mut Args<'a>) -> Result<Text<'a>, Fault> {
+fn made_of_text<'a>(word: &str, text: &'a str, args: &mut Args<'a>) -> Result<Text<'a>, RowError> {
     let made = match word {
         "raw" => Text::raw(args.alloc, text),
         "styled" => Text::styled(args.alloc, text, args.style()),
@@ -28,7 +28,7 @@ fn made_of_text<'a>(word: &str, text: &'a str, args: &mut Args<'a>) -> Result<Te
     Ok(made?)
 }
 
-fn made_of_part<'a>(word: &str, args: &mut Args<'a>) -> Result<Text<'a>, Fault> {
+fn made_of_part<'a>(word: &str, args: &mut Args<'a>) -> Result<Text<'a>, RowError> {
     match word {
         "from_span" => Ok(Text::from_span(args.alloc, args.span()?)?),
         "from_line" => Ok(Text::from_line(args.alloc, args.line()?)?),
@@ -37,7 +37,7 @@ fn made_of_part<'a>(word: &str, args: &mut Args<'a>) -> Result<Text<'a>, Fault> 
 }
 
 // A text of the lines of another one.
-fn made_of<'a>(word: &str, alloc: Global, text: Text<'a>) -> Result<Text<'a>, Fault> {
+fn made_of<'a>(word: &str, alloc: Global, text: Text<'a>) -> Result<Text<'a>, RowError> {
     match word {
         "from_slice" => Ok(Text::from_slice(alloc, text.lines.as_slice())?),
         "try_from_iter" => Ok(Text::try_from_iter(alloc, text)?),
@@ -45,16 +45,16 @@ fn made_of<'a>(word: &str, alloc: Global, text: Text<'a>) -> Result<Text<'a>, Fa
     }
 }
 
-fn made_of_lines<'a>(word: &str, lines: Lines<'a>) -> Result<Text<'a>, Fault> {
+fn made_of_lines<'a>(word: &str, lines: Lines<'a>) -> Result<Text<'a>, RowError> {
     match word {
         "from_vec" => Ok(Text::from(lines.into_vec())),
         "from_lines" => Ok(Text::from(lines)),
-        _ => Err(Fault::Unread),
+        _ => Err(RowError::Unread),
     }
 }
 
 // A text after a call that changes it.
-fn changed<'a>(text: Text<'a>, word: &str, args: &mut Args<'a>) -> Result<Text<'a>, Fault> {
+fn changed<'a>(text: Text<'a>, word: &str, args: &mut Args<'a>) -> Result<Text<'a>, RowError> {
     match word {
         "try_add" | "append" | "try_extend" => with_text(text, word, args.lines()?),
         "try_add_line" | "push_line" => with_line(text, word, args.line()?),
@@ -65,7 +65,7 @@ fn changed<'a>(text: Text<'a>, word: &str, args: &mut Args<'a>) -> Result<Text<'
     }
 }
 
-fn with_text<'a>(mut text: Text<'a>, word: &str, other: Text<'a>) -> Result<Text<'a>, Fault> {
+fn with_text<'a>(mut text: Text<'a>, word: &str, other: Text<'a>) -> Result<Text<'a>, RowError> {
     match word {
         "append" => text.append(other)?,
         "try_extend" => text.try_extend(other)?,
@@ -74,7 +74,7 @@ fn with_text<'a>(mut text: Text<'a>, word: &str, other: Text<'a>) -> Result<Text
     Ok(text)
 }
 
-fn with_line<'a>(mut text: Text<'a>, word: &str, line: Line<'a>) -> Result<Text<'a>, Fault> {
+fn with_line<'a>(mut text: Text<'a>, word: &str, line: Line<'a>) -> Result<Text<'a>, RowError> {
     if word == "try_add_line" {
         return Ok(text.try_add_line(line)?);
     }
@@ -82,13 +82,13 @@ fn with_line<'a>(mut text: Text<'a>, word: &str, line: Line<'a>) -> Result<Text<
     Ok(text)
 }
 
-fn with_span<'a>(mut text: Text<'a>, span: Span<'a>) -> Result<Text<'a>, Fault> {
+fn with_span<'a>(mut text: Text<'a>, span: Span<'a>) -> Result<Text<'a>, RowError> {
     text.push_span(span)?;
     Ok(text)
 }
 
 // A text after a call that sets its style or its alignment.
-fn set<'a>(text: Text<'a>, word: &str, args: &mut Args<'a>) -> Result<Text<'a>, Fault> {
+fn set<'a>(text: Text<'a>, word: &str, args: &mut Args<'a>) -> Result<Text<'a>, RowError> {
     match word {
         "style" => Ok(text.style(args.style())),
         "patch_style" => Ok(text.patch_style(args.style())),
@@ -96,7 +96,7 @@ fn set<'a>(text: Text<'a>, word: &str, args: &mut Args<'a>) -> Result<Text<'a>, 
         "left_aligned" => Ok(text.left_aligned()),
         "centered" => Ok(text.centered()),
         "right_aligned" => Ok(text.right_aligned()),
-        _ => Err(Fault::Unread),
+        _ => Err(RowError::Unread),
     }
 }
 
@@ -117,7 +117,12 @@ fn is_question(word: &str) -> bool {
 }
 
 // Asks a text something.
-fn ask(text: &Text<'_>, word: &str, args: &mut Args<'_>, answer: &mut Answer) -> Result<(), Fault> {
+fn ask(
+    text: &Text<'_>,
+    word: &str,
+    args: &mut Args<'_>,
+    answer: &mut Answer,
+) -> Result<(), RowError> {
     match word {
         "width" => answer.add(text.width()),
         "height" => answer.add(text.height()),
@@ -128,7 +133,7 @@ fn ask(text: &Text<'_>, word: &str, args: &mut Args<'_>, answer: &mut Answer) ->
     }
 }
 
-fn put_lines(alloc: Global, text: &Text<'_>, answer: &mut Answer) -> Result<(), Fault> {
+fn put_lines(alloc: Global, text: &Text<'_>, answer: &mut Answer) -> Result<(), RowError> {
     for line in text.iter() {
         answer.print(alloc, line)?;
     }
@@ -136,7 +141,11 @@ fn put_lines(alloc: Global, text: &Text<'_>, answer: &mut Answer) -> Result<(), 
 }
 
 // A text after one call on it.
-fn step<'a>(text: Text<'a>, args: &mut Args<'a>, answer: &mut Answer) -> Result<Text<'a>, Fault> {
+fn step<'a>(
+    text: Text<'a>,
+    args: &mut Args<'a>,
+    answer: &mut Answer,
+) -> Result<Text<'a>, RowError> {
     let word = args.word()?;
     if !is_question(word) {
         return changed(text, word, args);
@@ -151,7 +160,7 @@ pub fn text<'a>(
     args: &mut Args<'a>,
     later: &'a [Vec<Token>],
     answer: &mut Answer,
-) -> Result<(), Fault> {
+) -> Result<(), RowError> {
     let mut text = made(args)?;
     for each in later {
         let mut args = Args::new(alloc, each.as_slice());
@@ -166,7 +175,7 @@ pub fn text<'a>(
 }
 
 /// A call on a masked text: the text, its mask, and what is asked.
-pub fn masked(args: &mut Args<'_>, answer: &mut Answer) -> Result<(), Fault> {
+pub fn masked(args: &mut Args<'_>, answer: &mut Answer) -> Result<(), RowError> {
     let word = args.word()?;
     let (text, mask) = (args.text()?, args.char()?);
     match word {
@@ -187,7 +196,7 @@ fn ask_masked(
     word: &str,
     alloc: Global,
     answer: &mut Answer,
-) -> Result<(), Fault> {
+) -> Result<(), RowError> {
     match word {
         "mask_char" => answer.print(alloc, &masked.mask_char()),
         "print" => answer.print(alloc, masked),
@@ -195,7 +204,7 @@ fn ask_masked(
         "debug" => answer.add(format!(in alloc; "{masked:?}")?.as_str()),
         "to_text" => answer.add(masked.to_text(alloc)?),
         "clone" => answer.add(masked.clone(alloc)? == *masked),
-        _ => Err(Fault::Unread),
+        _ => Err(RowError::Unread),
     }
 }
 
@@ -204,17 +213,17 @@ fn printed<T: Display>(
     value: &T,
     alloc: Global,
     answer: &mut Answer,
-) -> Result<(), Fault> {
+) -> Result<(), RowError> {
     match word {
         "to_span" => answer.add(value.to_span(alloc)?),
         "to_line" => answer.add(value.to_line(alloc)?),
         "to_text" => answer.add(value.to_text(alloc)?),
-        _ => Err(Fault::Unread),
+        _ => Err(RowError::Unread),
     }
 }
 
 /// What prints as a span, a line or a text.
-pub fn to_text(args: &mut Args<'_>, answer: &mut Answer) -> Result<(), Fault> {
+pub fn to_text(args: &mut Args<'_>, answer: &mut Answer) -> Result<(), RowError> {
     let alloc = args.alloc;
     let word = args.word()?;
     match args.word()? {
@@ -226,6 +235,6 @@ pub fn to_text(args: &mut Args<'_>, answer: &mut Answer) -> Result<(), Fault> {
         "u64" => printed(word, &args.value::<u64>()?, alloc, answer),
         "position" => printed(word, &args.position()?, alloc, answer),
         "span" => printed(word, &args.span()?, alloc, answer),
-        _ => Err(Fault::Unread),
+        _ => Err(RowError::Unread),
     }
 }

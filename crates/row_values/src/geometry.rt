@@ -2,12 +2,12 @@
 use ratatui_core::layout::{Columns, Margin, Offset, Position, Positions, Rect, Rows, Size};
 use row_words::answer::Answer;
 use row_words::args::Args;
-use row_words::fault::Fault;
+use row_words::error::RowError;
 use row_words::tokens::Token;
 use std::alloc::Global;
 
 /// A call on a rectangle.
-pub fn rect(args: &mut Args<'_>, answer: &mut Answer) -> Result<(), Fault> {
+pub fn rect(args: &mut Args<'_>, answer: &mut Answer) -> Result<(), RowError> {
     match args.word()? {
         "ZERO" => answer.add(Rect::ZERO),
         "MIN" => answer.add(Rect::MIN),
@@ -24,7 +24,7 @@ fn rect_itself(
     rect: Rect,
     args: &mut Args<'_>,
     answer: &mut Answer,
-) -> Result<(), Fault> {
+) -> Result<(), RowError> {
     match word {
         "new" => answer.add(Rect::new(rect.x, rect.y, rect.width, rect.height)),
         "from_position_size" => {
@@ -52,7 +52,7 @@ fn rect_with(
     rect: Rect,
     args: &mut Args<'_>,
     answer: &mut Answer,
-) -> Result<(), Fault> {
+) -> Result<(), RowError> {
     match word {
         "inner" | "outer" | "resize" | "contains" => {
             rect_and_pair(word, rect, args.pair()?, answer)
@@ -71,7 +71,7 @@ fn rect_and_pair(
     rect: Rect,
     (one, other): (u16, u16),
     answer: &mut Answer,
-) -> Result<(), Fault> {
+) -> Result<(), RowError> {
     match word {
         "inner" => answer.add(rect.inner(Margin::new(one, other))),
         "outer" => answer.add(rect.outer(Margin::new(one, other))),
@@ -80,7 +80,7 @@ fn rect_and_pair(
     }
 }
 
-fn rect_and_rect(word: &str, rect: Rect, other: Rect, answer: &mut Answer) -> Result<(), Fault> {
+fn rect_and_rect(word: &str, rect: Rect, other: Rect, answer: &mut Answer) -> Result<(), RowError> {
     match word {
         "union" => answer.add(rect.union(other)),
         "intersection" => answer.add(rect.intersection(other)),
@@ -89,7 +89,7 @@ fn rect_and_rect(word: &str, rect: Rect, other: Rect, answer: &mut Answer) -> Re
     }
 }
 
-fn rect_moved(word: &str, rect: Rect, offset: Offset, answer: &mut Answer) -> Result<(), Fault> {
+fn rect_moved(word: &str, rect: Rect, offset: Offset, answer: &mut Answer) -> Result<(), RowError> {
     let mut moved = rect;
     match word {
         "offset" => moved = rect.offset(offset),
@@ -98,13 +98,13 @@ fn rect_moved(word: &str, rect: Rect, offset: Offset, answer: &mut Answer) -> Re
         "sub" => moved = rect - offset,
         "add_assign" => moved += offset,
         "sub_assign" => moved -= offset,
-        _ => return Err(Fault::Unread),
+        _ => return Err(RowError::Unread),
     }
     answer.add(moved)
 }
 
 /// A call on a position.
-pub fn position(args: &mut Args<'_>, answer: &mut Answer) -> Result<(), Fault> {
+pub fn position(args: &mut Args<'_>, answer: &mut Answer) -> Result<(), RowError> {
     match args.word()? {
         "ORIGIN" => answer.add(Position::ORIGIN),
         "MIN" => answer.add(Position::MIN),
@@ -119,7 +119,7 @@ fn position_itself(
     position: Position,
     args: &mut Args<'_>,
     answer: &mut Answer,
-) -> Result<(), Fault> {
+) -> Result<(), RowError> {
     match word {
         "new" => answer.add(Position::new(position.x, position.y)),
         "from_pair" => answer.add(Position::from((position.x, position.y))),
@@ -130,7 +130,7 @@ fn position_itself(
     }
 }
 
-fn put_pair((one, other): (u16, u16), answer: &mut Answer) -> Result<(), Fault> {
+fn put_pair((one, other): (u16, u16), answer: &mut Answer) -> Result<(), RowError> {
     answer.add(one)?;
     answer.add(other)
 }
@@ -140,7 +140,7 @@ fn position_compared(
     position: Position,
     other: Position,
     answer: &mut Answer,
-) -> Result<(), Fault> {
+) -> Result<(), RowError> {
     if word == "less" {
         answer.add(position < other)
     } else {
@@ -153,7 +153,7 @@ fn position_moved(
     position: Position,
     offset: Offset,
     answer: &mut Answer,
-) -> Result<(), Fault> {
+) -> Result<(), RowError> {
     let mut moved = position;
     match word {
         "offset" => moved = position.offset(offset),
@@ -162,13 +162,13 @@ fn position_moved(
         "sub" => moved = position - offset,
         "add_assign" => moved += offset,
         "sub_assign" => moved -= offset,
-        _ => return Err(Fault::Unread),
+        _ => return Err(RowError::Unread),
     }
     answer.add(moved)
 }
 
 /// A call on an offset.
-pub fn offset(args: &mut Args<'_>, answer: &mut Answer) -> Result<(), Fault> {
+pub fn offset(args: &mut Args<'_>, answer: &mut Answer) -> Result<(), RowError> {
     match args.word()? {
         "ZERO" => answer.add(Offset::ZERO),
         "MIN" => answer.add(Offset::MIN),
@@ -184,18 +184,18 @@ fn offset_itself(
     offset: Offset,
     args: &mut Args<'_>,
     answer: &mut Answer,
-) -> Result<(), Fault> {
+) -> Result<(), RowError> {
     match word {
         "new" => answer.add(Offset::new(offset.x, offset.y)),
         "equal" => answer.add(offset == args.offset()?),
         "neg" if offset.x != i32::MIN && offset.y != i32::MIN => answer.add(-offset),
-        "neg" => Err(Fault::Requires),
-        _ => Err(Fault::Unread),
+        "neg" => Err(RowError::Requires),
+        _ => Err(RowError::Unread),
     }
 }
 
 /// A call on a size.
-pub fn size(args: &mut Args<'_>, answer: &mut Answer) -> Result<(), Fault> {
+pub fn size(args: &mut Args<'_>, answer: &mut Answer) -> Result<(), RowError> {
     match args.word()? {
         "ZERO" => answer.add(Size::ZERO),
         "MIN" => answer.add(Size::MIN),
@@ -210,7 +210,7 @@ fn size_itself(
     size: Size,
     args: &mut Args<'_>,
     answer: &mut Answer,
-) -> Result<(), Fault> {
+) -> Result<(), RowError> {
     match word {
         "new" => answer.add(Size::new(size.width, size.height)),
         "area" => answer.add(size.area()),
@@ -218,12 +218,12 @@ fn size_itself(
         "to_pair" => put_pair(<(u16, u16)>::from(size), answer),
         "print" => answer.print(args.alloc, &size),
         "equal" => answer.add(size == args.size()?),
-        _ => Err(Fault::Unread),
+        _ => Err(RowError::Unread),
     }
 }
 
 /// A call on a margin.
-pub fn margin(args: &mut Args<'_>, answer: &mut Answer) -> Result<(), Fault> {
+pub fn margin(args: &mut Args<'_>, answer: &mut Answer) -> Result<(), RowError> {
     match args.word()? {
         "default" => answer.add(Margin::default()),
         "from" => answer.add(Margin::from(args.u16()?)),
@@ -236,41 +236,41 @@ fn margin_itself(
     margin: Margin,
     args: &mut Args<'_>,
     answer: &mut Answer,
-) -> Result<(), Fault> {
+) -> Result<(), RowError> {
     match word {
         "new" => answer.add(Margin::new(margin.horizontal, margin.vertical)),
         "print" => answer.print(args.alloc, &margin),
         "equal" => answer.add(margin == args.margin()?),
-        _ => Err(Fault::Unread),
+        _ => Err(RowError::Unread),
     }
 }
 
-fn walk_rows(rows: &mut Rows, word: &str, answer: &mut Answer) -> Result<(), Fault> {
+fn walk_rows(rows: &mut Rows, word: &str, answer: &mut Answer) -> Result<(), RowError> {
     match word {
         "next" => answer.add(rows.next()),
         "next_back" => answer.add(rows.next_back()),
         "left" => answer.add(rows.size_hint().0),
         "at_most" => answer.add(rows.size_hint().1),
-        _ => Err(Fault::Unread),
+        _ => Err(RowError::Unread),
     }
 }
 
-fn walk_columns(columns: &mut Columns, word: &str, answer: &mut Answer) -> Result<(), Fault> {
+fn walk_columns(columns: &mut Columns, word: &str, answer: &mut Answer) -> Result<(), RowError> {
     match word {
         "next" => answer.add(columns.next()),
         "next_back" => answer.add(columns.next_back()),
         "left" => answer.add(columns.size_hint().0),
         "at_most" => answer.add(columns.size_hint().1),
-        _ => Err(Fault::Unread),
+        _ => Err(RowError::Unread),
     }
 }
 
-fn walk_positions(places: &mut Positions, word: &str, answer: &mut Answer) -> Result<(), Fault> {
+fn walk_positions(places: &mut Positions, word: &str, answer: &mut Answer) -> Result<(), RowError> {
     match word {
         "next" => answer.add(places.next()),
         "left" => answer.add(places.size_hint().0),
         "at_most" => answer.add(places.size_hint().1),
-        _ => Err(Fault::Unread),
+        _ => Err(RowError::Unread),
     }
 }
 
@@ -282,7 +282,7 @@ enum Walk {
     Positions(Positions),
 }
 
-fn walk_of(word: &str, area: Rect) -> Result<Walk, Fault> {
+fn walk_of(word: &str, area: Rect) -> Result<Walk, RowError> {
     match word {
         "rows" => Ok(Walk::Rows(area.rows())),
         "Rows::new" => Ok(Walk::Rows(Rows::new(area))),
@@ -290,7 +290,7 @@ fn walk_of(word: &str, area: Rect) -> Result<Walk, Fault> {
         "Columns::new" => Ok(Walk::Columns(Columns::new(area))),
         "positions" => Ok(Walk::Positions(area.positions())),
         "Positions::new" => Ok(Walk::Positions(Positions::new(area))),
-        _ => Err(Fault::Unread),
+        _ => Err(RowError::Unread),
     }
 }
 
@@ -300,7 +300,7 @@ pub fn iterators(
     args: &mut Args<'_>,
     later: &[Vec<Token>],
     answer: &mut Answer,
-) -> Result<(), Fault> {
+) -> Result<(), RowError> {
     let mut walk = walk_of(args.word()?, args.rect()?)?;
     for step in later {
         let word = Args::new(alloc, step.as_slice()).word()?;

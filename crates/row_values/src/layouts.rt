@@ -4,7 +4,7 @@ use ratatui_core::layout::{
 };
 use row_words::answer::Answer;
 use row_words::args::Args;
-use row_words::fault::Fault;
+use row_words::error::RowError;
 use row_words::names::named;
 use row_words::tokens::Token;
 use std::alloc::{AllocError, Global};
@@ -12,7 +12,7 @@ use std::convert::AsRef;
 use std::mem;
 
 /// A call on a direction, a flex, an alignment, a constraint, a spacing, or lists of constraints.
-pub fn layout_part(args: &mut Args<'_>, answer: &mut Answer) -> Result<(), Fault> {
+pub fn layout_part(args: &mut Args<'_>, answer: &mut Answer) -> Result<(), RowError> {
     match args.word()? {
         "Direction" => named::<Direction>(args, answer),
         "Flex" => named::<Flex>(args, answer),
@@ -25,7 +25,7 @@ pub fn layout_part(args: &mut Args<'_>, answer: &mut Answer) -> Result<(), Fault
     }
 }
 
-fn default_part(name: &str, alloc: Global, answer: &mut Answer) -> Result<(), Fault> {
+fn default_part(name: &str, alloc: Global, answer: &mut Answer) -> Result<(), RowError> {
     match name {
         "Direction" => answer.print(alloc, &Direction::default()),
         "Flex" => answer.print(alloc, &Flex::default()),
@@ -33,11 +33,11 @@ fn default_part(name: &str, alloc: Global, answer: &mut Answer) -> Result<(), Fa
         "VerticalAlignment" => answer.print(alloc, &VerticalAlignment::default()),
         "Constraint" => answer.add(Constraint::default()),
         "Spacing" => answer.add(Spacing::default()),
-        _ => Err(Fault::Unread),
+        _ => Err(RowError::Unread),
     }
 }
 
-fn asked_part(word: &str, args: &mut Args<'_>, answer: &mut Answer) -> Result<(), Fault> {
+fn asked_part(word: &str, args: &mut Args<'_>, answer: &mut Answer) -> Result<(), RowError> {
     if word == "perpendicular" {
         return answer.print(args.alloc, &args.value::<Direction>()?.perpendicular());
     }
@@ -50,16 +50,16 @@ fn asked_part(word: &str, args: &mut Args<'_>, answer: &mut Answer) -> Result<()
 }
 
 // A spacing made of a number of a type.
-fn spacing(kind: &str, args: &mut Args<'_>) -> Result<Spacing, Fault> {
+fn spacing(kind: &str, args: &mut Args<'_>) -> Result<Spacing, RowError> {
     match kind {
         "i32" => Ok(Spacing::from(args.value::<i32>()?)),
         "i16" => Ok(Spacing::from(args.value::<i16>()?)),
         "u16" => Ok(Spacing::from(args.u16()?)),
-        _ => Err(Fault::Unread),
+        _ => Err(RowError::Unread),
     }
 }
 
-fn made_constraint(word: &str, args: &mut Args<'_>, answer: &mut Answer) -> Result<(), Fault> {
+fn made_constraint(word: &str, args: &mut Args<'_>, answer: &mut Answer) -> Result<(), RowError> {
     match word {
         "Constraint::from" => answer.add(Constraint::from(args.u16()?)),
         _ => constraint(word, args.constraint()?, args, answer),
@@ -67,7 +67,7 @@ fn made_constraint(word: &str, args: &mut Args<'_>, answer: &mut Answer) -> Resu
 }
 
 // Constraints of one kind, made of numbers.
-fn list(kind: &str, args: &mut Args<'_>, answer: &mut Answer) -> Result<(), Fault> {
+fn list(kind: &str, args: &mut Args<'_>, answer: &mut Answer) -> Result<(), RowError> {
     let alloc = args.alloc;
     if kind == "ratios" {
         let ratios = args.ratios()?;
@@ -81,7 +81,7 @@ fn list(kind: &str, args: &mut Args<'_>, answer: &mut Answer) -> Result<(), Faul
         "mins" => Constraint::from_mins(alloc, numbers),
         "fills" => Constraint::from_fills(alloc, numbers),
         "percentages" => Constraint::from_percentages(alloc, numbers),
-        _ => return Err(Fault::Unread),
+        _ => return Err(RowError::Unread),
     };
     put_list(constraints, answer)
 }
@@ -89,18 +89,18 @@ fn list(kind: &str, args: &mut Args<'_>, answer: &mut Answer) -> Result<(), Faul
 fn put_list(
     constraints: Result<Vec<Constraint>, AllocError>,
     answer: &mut Answer,
-) -> Result<(), Fault> {
+) -> Result<(), RowError> {
     put_constraints(constraints?.as_slice(), answer)
 }
 
-fn put_constraints(constraints: &[Constraint], answer: &mut Answer) -> Result<(), Fault> {
+fn put_constraints(constraints: &[Constraint], answer: &mut Answer) -> Result<(), RowError> {
     for constraint in constraints {
         answer.add(*constraint)?;
     }
     Ok(())
 }
 
-fn flex(question: &str, flex: Flex, answer: &mut Answer) -> Result<(), Fault> {
+fn flex(question: &str, flex: Flex, answer: &mut Answer) -> Result<(), RowError> {
     match question {
         "is_legacy" => answer.add(flex.is_legacy()),
         "is_start" => answer.add(flex.is_start()),
@@ -109,7 +109,7 @@ fn flex(question: &str, flex: Flex, answer: &mut Answer) -> Result<(), Fault> {
         "is_space_between" => answer.add(flex.is_space_between()),
         "is_space_evenly" => answer.add(flex.is_space_evenly()),
         "is_space_around" => answer.add(flex.is_space_around()),
-        _ => Err(Fault::Unread),
+        _ => Err(RowError::Unread),
     }
 }
 
@@ -118,7 +118,7 @@ fn constraint(
     constraint: Constraint,
     args: &mut Args<'_>,
     answer: &mut Answer,
-) -> Result<(), Fault> {
+) -> Result<(), RowError> {
     match word {
         "is_min" => answer.add(constraint.is_min()),
         "is_max" => answer.add(constraint.is_max()),
@@ -133,7 +133,7 @@ fn constraint(
             answer.add(*lent)
         }
         "equal" => answer.add(constraint == args.constraint()?),
-        _ => Err(Fault::Unread),
+        _ => Err(RowError::Unread),
     }
 }
 
@@ -143,7 +143,7 @@ fn taken(layout: &mut Layout, alloc: Global) -> Layout {
 }
 
 // A call that changes a layout.
-fn change(layout: &mut Layout, args: &mut Args<'_>) -> Result<(), Fault> {
+fn change(layout: &mut Layout, args: &mut Args<'_>) -> Result<(), RowError> {
     let alloc = args.alloc;
     match args.word()? {
         "direction" => turn(layout, args.value::<Direction>()?, alloc),
@@ -155,17 +155,17 @@ fn change(layout: &mut Layout, args: &mut Args<'_>) -> Result<(), Fault> {
     }
 }
 
-fn turn(layout: &mut Layout, direction: Direction, alloc: Global) -> Result<(), Fault> {
+fn turn(layout: &mut Layout, direction: Direction, alloc: Global) -> Result<(), RowError> {
     *layout = taken(layout, alloc).direction(direction);
     Ok(())
 }
 
-fn set_flex(layout: &mut Layout, flex: Flex, alloc: Global) -> Result<(), Fault> {
+fn set_flex(layout: &mut Layout, flex: Flex, alloc: Global) -> Result<(), RowError> {
     *layout = taken(layout, alloc).flex(flex);
     Ok(())
 }
 
-fn set_spacing(layout: &mut Layout, spacing: i32, alloc: Global) -> Result<(), Fault> {
+fn set_spacing(layout: &mut Layout, spacing: i32, alloc: Global) -> Result<(), RowError> {
     *layout = taken(layout, alloc).spacing(Spacing::from(spacing));
     Ok(())
 }
@@ -174,28 +174,28 @@ fn set_constraints(
     layout: &mut Layout,
     constraints: &[Constraint],
     alloc: Global,
-) -> Result<(), Fault> {
+) -> Result<(), RowError> {
     *layout = taken(layout, alloc).constraints(constraints)?;
     Ok(())
 }
 
-fn copy(layout: &mut Layout, alloc: Global) -> Result<(), Fault> {
+fn copy(layout: &mut Layout, alloc: Global) -> Result<(), RowError> {
     *layout = layout.clone(alloc)?;
     Ok(())
 }
 
-fn set_margin(layout: &mut Layout, word: &str, margin: u16, alloc: Global) -> Result<(), Fault> {
+fn set_margin(layout: &mut Layout, word: &str, margin: u16, alloc: Global) -> Result<(), RowError> {
     let former = taken(layout, alloc);
     *layout = match word {
         "margin" => former.margin(margin),
         "horizontal_margin" => former.horizontal_margin(margin),
         "vertical_margin" => former.vertical_margin(margin),
-        _ => return Err(Fault::Unread),
+        _ => return Err(RowError::Unread),
     };
     Ok(())
 }
 
-fn made(args: &mut Args<'_>) -> Result<Layout, Fault> {
+fn made(args: &mut Args<'_>) -> Result<Layout, RowError> {
     match args.word()? {
         "default" => Ok(Layout::default_in(args.alloc)),
         "new" => made_in(args.value::<Direction>()?, args),
@@ -203,21 +203,21 @@ fn made(args: &mut Args<'_>) -> Result<Layout, Fault> {
     }
 }
 
-fn made_in(direction: Direction, args: &mut Args<'_>) -> Result<Layout, Fault> {
+fn made_in(direction: Direction, args: &mut Args<'_>) -> Result<Layout, RowError> {
     let constraints = args.constraints()?;
     Ok(Layout::new(args.alloc, direction, constraints.as_slice())?)
 }
 
-fn made_along(word: &str, alloc: Global, constraints: &[Constraint]) -> Result<Layout, Fault> {
+fn made_along(word: &str, alloc: Global, constraints: &[Constraint]) -> Result<Layout, RowError> {
     match word {
         "vertical" => Ok(Layout::vertical(alloc, constraints)?),
         "horizontal" => Ok(Layout::horizontal(alloc, constraints)?),
-        _ => Err(Fault::Unread),
+        _ => Err(RowError::Unread),
     }
 }
 
 // Adds what a layout is made of.
-fn put_layout(layout: &Layout, alloc: Global, answer: &mut Answer) -> Result<(), Fault> {
+fn put_layout(layout: &Layout, alloc: Global, answer: &mut Answer) -> Result<(), RowError> {
     answer.print(alloc, &layout.direction_of())?;
     answer.add(layout.margin_of())?;
     answer.print(alloc, &layout.flex_of())?;
@@ -231,7 +231,7 @@ pub fn layout(
     args: &mut Args<'_>,
     later: &[Vec<Token>],
     answer: &mut Answer,
-) -> Result<(), Fault> {
+) -> Result<(), RowError> {
     let mut layout = made(args)?;
     for step in later {
         change(&mut layout, &mut Args::new(alloc, step.as_slice()))?;

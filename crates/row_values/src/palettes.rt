@@ -4,7 +4,7 @@ use ratatui_core::style::palette::material::{self, AccentedPalette, NonAccentedP
 use ratatui_core::style::palette::tailwind::{self, Palette};
 use row_words::answer::Answer;
 use row_words::args::Args;
-use row_words::fault::Fault;
+use row_words::error::RowError;
 use row_words::names::entry_of;
 
 static TAILWIND: [(&str, Palette); 22] = [
@@ -57,14 +57,14 @@ static NOT_ACCENTED: [(&str, NonAccentedPalette); 3] = [
     ("BLUE_GRAY", material::BLUE_GRAY),
 ];
 
-fn put_all(shades: &[Color], answer: &mut Answer) -> Result<(), Fault> {
+fn put_all(shades: &[Color], answer: &mut Answer) -> Result<(), RowError> {
     for shade in shades {
         answer.add(*shade)?;
     }
     Ok(())
 }
 
-fn put_tailwind(palette: &Palette, answer: &mut Answer) -> Result<(), Fault> {
+fn put_tailwind(palette: &Palette, answer: &mut Answer) -> Result<(), RowError> {
     let shades = [
         palette.c50,
         palette.c100,
@@ -81,7 +81,7 @@ fn put_tailwind(palette: &Palette, answer: &mut Answer) -> Result<(), Fault> {
     put_all(&shades, answer)
 }
 
-fn put_accented(palette: &AccentedPalette, answer: &mut Answer) -> Result<(), Fault> {
+fn put_accented(palette: &AccentedPalette, answer: &mut Answer) -> Result<(), RowError> {
     let shades = [
         palette.c50,
         palette.c100,
@@ -101,7 +101,7 @@ fn put_accented(palette: &AccentedPalette, answer: &mut Answer) -> Result<(), Fa
     put_all(&shades, answer)
 }
 
-fn put_not_accented(palette: &NonAccentedPalette, answer: &mut Answer) -> Result<(), Fault> {
+fn put_not_accented(palette: &NonAccentedPalette, answer: &mut Answer) -> Result<(), RowError> {
     let shades = [
         palette.c50,
         palette.c100,
@@ -117,30 +117,33 @@ fn put_not_accented(palette: &NonAccentedPalette, answer: &mut Answer) -> Result
     put_all(&shades, answer)
 }
 
-fn tailwind_shades(name: &str, answer: &mut Answer) -> Result<(), Fault> {
+fn tailwind_shades(name: &str, answer: &mut Answer) -> Result<(), RowError> {
     match name {
         "BLACK" => answer.add(tailwind::BLACK),
         "WHITE" => answer.add(tailwind::WHITE),
-        _ => put_tailwind(entry_of(&TAILWIND, name).ok_or(Fault::Unread)?, answer),
+        _ => put_tailwind(entry_of(&TAILWIND, name).ok_or(RowError::Unread)?, answer),
     }
 }
 
-fn material_shades(name: &str, answer: &mut Answer) -> Result<(), Fault> {
+fn material_shades(name: &str, answer: &mut Answer) -> Result<(), RowError> {
     match name {
         "BLACK" => answer.add(material::BLACK),
         "WHITE" => answer.add(material::WHITE),
         _ => match entry_of(&ACCENTED, name) {
             Some(palette) => put_accented(palette, answer),
-            None => put_not_accented(entry_of(&NOT_ACCENTED, name).ok_or(Fault::Unread)?, answer),
+            None => put_not_accented(
+                entry_of(&NOT_ACCENTED, name).ok_or(RowError::Unread)?,
+                answer,
+            ),
         },
     }
 }
 
 /// The shades of a palette, or black or white, by its name.
-pub fn palette(args: &mut Args<'_>, answer: &mut Answer) -> Result<(), Fault> {
+pub fn palette(args: &mut Args<'_>, answer: &mut Answer) -> Result<(), RowError> {
     match args.word()? {
         "tailwind" => tailwind_shades(args.word()?, answer),
         "material" => material_shades(args.word()?, answer),
-        _ => Err(Fault::Unread),
+        _ => Err(RowError::Unread),
     }
 }

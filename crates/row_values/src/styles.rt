@@ -3,12 +3,12 @@ use bitflags::Flags;
 use ratatui_core::style::{Color, Modifier, Style};
 use row_words::answer::Answer;
 use row_words::args::Args;
-use row_words::fault::Fault;
+use row_words::error::RowError;
 use row_words::tokens::Token;
 use std::alloc::Global;
 
 /// A call on a colour.
-pub fn color(args: &mut Args<'_>, answer: &mut Answer) -> Result<(), Fault> {
+pub fn color(args: &mut Args<'_>, answer: &mut Answer) -> Result<(), RowError> {
     match args.word()? {
         "default" => answer.add(Color::default()),
         "parse" => parse(args.text()?, args.alloc, answer),
@@ -18,7 +18,7 @@ pub fn color(args: &mut Args<'_>, answer: &mut Answer) -> Result<(), Fault> {
     }
 }
 
-fn parse(text: &str, alloc: Global, answer: &mut Answer) -> Result<(), Fault> {
+fn parse(text: &str, alloc: Global, answer: &mut Answer) -> Result<(), RowError> {
     match text.parse::<Color>() {
         Ok(color) => answer.add(color),
         Err(error) => answer.print(alloc, &error),
@@ -30,7 +30,7 @@ fn color_itself(
     color: Color,
     args: &mut Args<'_>,
     answer: &mut Answer,
-) -> Result<(), Fault> {
+) -> Result<(), RowError> {
     if word == "print" {
         answer.print(args.alloc, &color)
     } else {
@@ -39,7 +39,7 @@ fn color_itself(
 }
 
 // A colour made of three bytes, or of four, of which the last says nothing.
-fn color_of_bytes(word: &str, args: &mut Args<'_>) -> Result<Color, Fault> {
+fn color_of_bytes(word: &str, args: &mut Args<'_>) -> Result<Color, RowError> {
     let (red, green) = byte_pair(args)?;
     let blue = args.value::<u8>()?;
     match word {
@@ -49,20 +49,24 @@ fn color_of_bytes(word: &str, args: &mut Args<'_>) -> Result<Color, Fault> {
     }
 }
 
-fn byte_pair(args: &mut Args<'_>) -> Result<(u8, u8), Fault> {
+fn byte_pair(args: &mut Args<'_>) -> Result<(u8, u8), RowError> {
     Ok((args.value::<u8>()?, args.value::<u8>()?))
 }
 
-fn color_of_four(word: &str, (red, green, blue): (u8, u8, u8), alpha: u8) -> Result<Color, Fault> {
+fn color_of_four(
+    word: &str,
+    (red, green, blue): (u8, u8, u8),
+    alpha: u8,
+) -> Result<Color, RowError> {
     match word {
         "from_array_of_4" => Ok(Color::from([red, green, blue, alpha])),
         "from_quadruple" => Ok(Color::from((red, green, blue, alpha))),
-        _ => Err(Fault::Unread),
+        _ => Err(RowError::Unread),
     }
 }
 
 /// A call on modifiers.
-pub fn modifier(args: &mut Args<'_>, answer: &mut Answer) -> Result<(), Fault> {
+pub fn modifier(args: &mut Args<'_>, answer: &mut Answer) -> Result<(), RowError> {
     match args.word()? {
         "bits" => answer.add(args.modifier().bits()),
         "empty" => answer.add(Modifier::empty()),
@@ -80,7 +84,7 @@ pub fn modifier(args: &mut Args<'_>, answer: &mut Answer) -> Result<(), Fault> {
 }
 
 // A set of modifiers made of its number or of a name.
-fn made_modifier(kind: &str, args: &mut Args<'_>, answer: &mut Answer) -> Result<(), Fault> {
+fn made_modifier(kind: &str, args: &mut Args<'_>, answer: &mut Answer) -> Result<(), RowError> {
     if kind == "name" {
         return answer.add(Modifier::from_name(args.text()?));
     }
@@ -89,12 +93,17 @@ fn made_modifier(kind: &str, args: &mut Args<'_>, answer: &mut Answer) -> Result
         "bits" => answer.add(Modifier::from_bits(bits)),
         "bits_truncate" => answer.add(Modifier::from_bits_truncate(bits)),
         "bits_retain" => answer.add(Modifier::from_bits_retain(bits)),
-        _ => Err(Fault::Unread),
+        _ => Err(RowError::Unread),
     }
 }
 
 // A call on two sets of modifiers.
-fn modifiers(word: &str, one: Modifier, other: Modifier, answer: &mut Answer) -> Result<(), Fault> {
+fn modifiers(
+    word: &str,
+    one: Modifier,
+    other: Modifier,
+    answer: &mut Answer,
+) -> Result<(), RowError> {
     match word {
         "contains" => answer.add(one.contains(other)),
         "intersects" => answer.add(one.intersects(other)),
@@ -104,7 +113,7 @@ fn modifiers(word: &str, one: Modifier, other: Modifier, answer: &mut Answer) ->
 }
 
 // Two sets of modifiers joined by a call or an operator.
-fn joined(word: &str, one: Modifier, other: Modifier) -> Result<Modifier, Fault> {
+fn joined(word: &str, one: Modifier, other: Modifier) -> Result<Modifier, RowError> {
     match word {
         "union" => Ok(one.union(other)),
         "or" => Ok(one | other),
@@ -119,7 +128,7 @@ fn joined(word: &str, one: Modifier, other: Modifier) -> Result<Modifier, Fault>
 }
 
 // A set of modifiers after a call that changes it.
-fn changed_by(word: &str, mut one: Modifier, other: Modifier) -> Result<Modifier, Fault> {
+fn changed_by(word: &str, mut one: Modifier, other: Modifier) -> Result<Modifier, RowError> {
     match word {
         "insert" => one.insert(other),
         "or_assign" => one |= other,
@@ -130,13 +139,13 @@ fn changed_by(word: &str, mut one: Modifier, other: Modifier) -> Result<Modifier
         "and_assign" => one &= other,
         "set" => one.set(other, true),
         "unset" => one.set(other, false),
-        _ => return Err(Fault::Unread),
+        _ => return Err(RowError::Unread),
     }
     Ok(one)
 }
 
 // A style made from its parts.
-fn made(word: &str, args: &mut Args<'_>) -> Result<Style, Fault> {
+fn made(word: &str, args: &mut Args<'_>) -> Result<Style, RowError> {
     match word {
         "new" => Ok(Style::new()),
         "default" => Ok(Style::default()),
@@ -148,7 +157,7 @@ fn made(word: &str, args: &mut Args<'_>) -> Result<Style, Fault> {
     }
 }
 
-fn made_of_several(word: &str, args: &mut Args<'_>) -> Result<Style, Fault> {
+fn made_of_several(word: &str, args: &mut Args<'_>) -> Result<Style, RowError> {
     if word == "from_modifiers" {
         return Ok(Style::from((args.modifier(), args.modifier())));
     }
@@ -159,17 +168,22 @@ fn made_of_several(word: &str, args: &mut Args<'_>) -> Result<Style, Fault> {
     }
 }
 
-fn made_of_colors(word: &str, fg: Color, bg: Color, args: &mut Args<'_>) -> Result<Style, Fault> {
+fn made_of_colors(
+    word: &str,
+    fg: Color,
+    bg: Color,
+    args: &mut Args<'_>,
+) -> Result<Style, RowError> {
     match word {
         "from_colors" => Ok(Style::from((fg, bg))),
         "from_colors_modifier" => Ok(Style::from((fg, bg, args.modifier()))),
         "from_colors_modifiers" => { Ok(Style::from((fg, bg, args.modifier(), args.modifier()))) }
-        _ => Err(Fault::Unread),
+        _ => Err(RowError::Unread),
     }
 }
 
 // One call on a style.
-fn step(style: &mut Style, args: &mut Args<'_>, answer: &mut Answer) -> Result<(), Fault> {
+fn step(style: &mut Style, args: &mut Args<'_>, answer: &mut Answer) -> Result<(), RowError> {
     match args.word()? {
         "has_modifier" => answer.add(style.has_modifier(args.modifier())),
         "equal" => answer.add(*style == args.style()),
@@ -181,13 +195,13 @@ fn step(style: &mut Style, args: &mut Args<'_>, answer: &mut Answer) -> Result<(
 }
 
 // A style after a call that sets a part of it.
-fn changed(style: Style, word: &str, args: &mut Args<'_>) -> Result<Style, Fault> {
+fn changed(style: Style, word: &str, args: &mut Args<'_>) -> Result<Style, RowError> {
     match word {
         "fg" | "bg" | "underline_color" => Ok(colored(style, word, args.color()?)),
         "add_modifier" => Ok(style.add_modifier(args.modifier())),
         "remove_modifier" => Ok(style.remove_modifier(args.modifier())),
         "patch" => Ok(style.patch(args.style())),
-        _ => named(style, word).ok_or(Fault::Unread),
+        _ => named(style, word).ok_or(RowError::Unread),
     }
 }
 
@@ -213,7 +227,7 @@ pub fn style(
     args: &mut Args<'_>,
     later: &[Vec<Token>],
     answer: &mut Answer,
-) -> Result<(), Fault> {
+) -> Result<(), RowError> {
     let mut style = made(args.word()?, args)?;
     for each in later {
         step(&mut style, &mut Args::new(alloc, each.as_slice()), answer)?;

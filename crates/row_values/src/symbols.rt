@@ -4,7 +4,7 @@ use ratatui_core::symbols::{
 };
 use row_words::answer::Answer;
 use row_words::args::Args;
-use row_words::fault::Fault;
+use row_words::error::RowError;
 use row_words::names::{entry_of, named};
 
 // Symbols that have names of their own.
@@ -208,7 +208,7 @@ static BORDERS: [(&str, border::Set<'static>); 18] = [
 ];
 
 // Adds symbols, one after another, as one text.
-fn put_joined(symbols: &[&str], answer: &mut Answer) -> Result<(), Fault> {
+fn put_joined(symbols: &[&str], answer: &mut Answer) -> Result<(), RowError> {
     let mut joined = String::new(*answer.text.allocator());
     for symbol in symbols {
         joined.push_str(symbol)?;
@@ -216,7 +216,7 @@ fn put_joined(symbols: &[&str], answer: &mut Answer) -> Result<(), Fault> {
     answer.add(joined.as_str())
 }
 
-fn put_characters(symbols: &[char], answer: &mut Answer) -> Result<(), Fault> {
+fn put_characters(symbols: &[char], answer: &mut Answer) -> Result<(), RowError> {
     let mut joined = String::new(*answer.text.allocator());
     for symbol in symbols {
         joined.push(*symbol)?;
@@ -224,7 +224,7 @@ fn put_characters(symbols: &[char], answer: &mut Answer) -> Result<(), Fault> {
     answer.add(joined.as_str())
 }
 
-fn put_bar(set: &bar::Set<'_>, answer: &mut Answer) -> Result<(), Fault> {
+fn put_bar(set: &bar::Set<'_>, answer: &mut Answer) -> Result<(), RowError> {
     let symbols = [
         set.full,
         set.seven_eighths,
@@ -239,7 +239,7 @@ fn put_bar(set: &bar::Set<'_>, answer: &mut Answer) -> Result<(), Fault> {
     put_joined(&symbols, answer)
 }
 
-fn put_block(set: &block::Set<'_>, answer: &mut Answer) -> Result<(), Fault> {
+fn put_block(set: &block::Set<'_>, answer: &mut Answer) -> Result<(), RowError> {
     let symbols = [
         set.full,
         set.seven_eighths,
@@ -254,7 +254,7 @@ fn put_block(set: &block::Set<'_>, answer: &mut Answer) -> Result<(), Fault> {
     put_joined(&symbols, answer)
 }
 
-fn put_line(set: &line::Set<'_>, answer: &mut Answer) -> Result<(), Fault> {
+fn put_line(set: &line::Set<'_>, answer: &mut Answer) -> Result<(), RowError> {
     let symbols = [
         set.vertical,
         set.horizontal,
@@ -271,7 +271,7 @@ fn put_line(set: &line::Set<'_>, answer: &mut Answer) -> Result<(), Fault> {
     put_joined(&symbols, answer)
 }
 
-fn put_border(set: &border::Set<'_>, answer: &mut Answer) -> Result<(), Fault> {
+fn put_border(set: &border::Set<'_>, answer: &mut Answer) -> Result<(), RowError> {
     let symbols = [
         set.top_left,
         set.top_right,
@@ -285,23 +285,23 @@ fn put_border(set: &border::Set<'_>, answer: &mut Answer) -> Result<(), Fault> {
     put_joined(&symbols, answer)
 }
 
-fn put_scrollbar(set: &scrollbar::Set<'_>, answer: &mut Answer) -> Result<(), Fault> {
+fn put_scrollbar(set: &scrollbar::Set<'_>, answer: &mut Answer) -> Result<(), RowError> {
     put_joined(&[set.track, set.thumb, set.begin, set.end], answer)
 }
 
 // A symbol, or a set that has a table, by its name.
-fn by_name(name: &str, answer: &mut Answer) -> Result<(), Fault> {
+fn by_name(name: &str, answer: &mut Answer) -> Result<(), RowError> {
     if let Some(symbol) = entry_of(&SYMBOLS, name) {
         return answer.add(*symbol);
     }
     match entry_of(&LINES, name) {
         Some(set) => put_line(set, answer),
-        None => put_border(entry_of(&BORDERS, name).ok_or(Fault::Unread)?, answer),
+        None => put_border(entry_of(&BORDERS, name).ok_or(RowError::Unread)?, answer),
     }
 }
 
 // A set that has no table, by its name.
-fn set_by_name(name: &str, answer: &mut Answer) -> Result<(), Fault> {
+fn set_by_name(name: &str, answer: &mut Answer) -> Result<(), RowError> {
     match name {
         "bar::NINE_LEVELS" => put_bar(&bar::NINE_LEVELS, answer),
         "bar::THREE_LEVELS" => put_bar(&bar::THREE_LEVELS, answer),
@@ -315,19 +315,19 @@ fn set_by_name(name: &str, answer: &mut Answer) -> Result<(), Fault> {
     }
 }
 
-fn scrollbar_by_name(name: &str, answer: &mut Answer) -> Result<(), Fault> {
+fn scrollbar_by_name(name: &str, answer: &mut Answer) -> Result<(), RowError> {
     match name {
         "DOUBLE_VERTICAL" => put_scrollbar(&scrollbar::DOUBLE_VERTICAL, answer),
         "DOUBLE_HORIZONTAL" => put_scrollbar(&scrollbar::DOUBLE_HORIZONTAL, answer),
         "VERTICAL" => put_scrollbar(&scrollbar::VERTICAL, answer),
         "HORIZONTAL" => put_scrollbar(&scrollbar::HORIZONTAL, answer),
         "Set::default" => put_scrollbar(&scrollbar::Set::default(), answer),
-        _ => Err(Fault::Unread),
+        _ => Err(RowError::Unread),
     }
 }
 
 /// A symbol, a set of symbols or a table of patterns; or a marker that is read from its name.
-pub fn symbols(args: &mut Args<'_>, answer: &mut Answer) -> Result<(), Fault> {
+pub fn symbols(args: &mut Args<'_>, answer: &mut Answer) -> Result<(), RowError> {
     match args.word()? {
         "braille::BRAILLE" => put_characters(&braille::BRAILLE, answer),
         "pixel::QUADRANTS" => put_characters(&pixel::QUADRANTS, answer),
@@ -344,7 +344,7 @@ pub fn symbols(args: &mut Args<'_>, answer: &mut Answer) -> Result<(), Fault> {
     }
 }
 
-fn put_halves(answer: &mut Answer) -> Result<(), Fault> {
+fn put_halves(answer: &mut Answer) -> Result<(), RowError> {
     let halves = [half_block::UPPER, half_block::LOWER, half_block::FULL];
     put_characters(&halves, answer)
 }

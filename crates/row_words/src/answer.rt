@@ -1,5 +1,5 @@
 //! What calls answer, as text.
-use crate::fault::Fault;
+use crate::error::RowError;
 use ratatui_core::buffer::Cell;
 use ratatui_core::layout::{Margin, Offset, Position, Rect, Size};
 use std::alloc::{AllocError, Global};
@@ -30,7 +30,7 @@ impl Answer {
     }
 
     /// Adds the answers of a call.
-    pub fn join(&mut self, answer: &Answer) -> Result<(), Fault> {
+    pub fn join(&mut self, answer: &Answer) -> Result<(), RowError> {
         if !answer.is_empty() {
             self.part()?;
             self.text.push_str(answer.text.as_str())?;
@@ -48,19 +48,19 @@ impl Answer {
     }
 
     /// Adds a value.
-    pub fn add<T: Show + Drop>(&mut self, value: T) -> Result<(), Fault> {
+    pub fn add<T: Show + Drop>(&mut self, value: T) -> Result<(), RowError> {
         self.put(&value)
     }
 
     /// Adds a value that is lent.
-    pub fn put<T: Show>(&mut self, value: &T) -> Result<(), Fault> {
+    pub fn put<T: Show>(&mut self, value: &T) -> Result<(), RowError> {
         self.part()?;
         value.show(&mut self.text)?;
         Ok(())
     }
 
     /// Adds a cell that is given, after its column and row.
-    pub fn put_update(&mut self, x: u16, y: u16, cell: &Cell) -> Result<(), Fault> {
+    pub fn put_update(&mut self, x: u16, y: u16, cell: &Cell) -> Result<(), RowError> {
         self.part()?;
         write!(self.text, "{x} {y} ")?;
         cell.show(&mut self.text)?;
@@ -68,14 +68,14 @@ impl Answer {
     }
 
     /// Adds a word.
-    pub fn word(&mut self, word: &str) -> Result<(), Fault> {
+    pub fn word(&mut self, word: &str) -> Result<(), RowError> {
         self.part()?;
         self.text.push_str(word)?;
         Ok(())
     }
 
     /// Adds what a call was refused for.
-    pub fn refused<T: Display>(&mut self, error: &T) -> Result<(), Fault> {
+    pub fn refused<T: Display>(&mut self, error: &T) -> Result<(), RowError> {
         self.part()?;
         write!(self.text, "refused: {error}")?;
         Ok(())
@@ -85,7 +85,7 @@ impl Answer {
     pub fn told<T: Show + Drop, E: Display + Drop>(
         &mut self,
         outcome: Result<T, E>,
-    ) -> Result<(), Fault> {
+    ) -> Result<(), RowError> {
         match outcome {
             Ok(value) => self.put(&value),
             Err(error) => self.refused(&error),
@@ -94,7 +94,7 @@ impl Answer {
 
     /// Adds what is printed of a value, as a text between quotes, and says so if its alternate form
     /// (`{:#}`) is another text.
-    pub fn print<T: Display>(&mut self, alloc: Global, value: &T) -> Result<(), Fault> {
+    pub fn print<T: Display>(&mut self, alloc: Global, value: &T) -> Result<(), RowError> {
         let printed = value.to_string(alloc)?;
         self.part()?;
         if format!(in alloc; "{value:#}")? != printed {

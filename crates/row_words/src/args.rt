@@ -2,7 +2,7 @@
 ghost use Rattle.std.specs.Prelude.{IfOk};
 ghost use Rattle.rtui_geometry.specs.Rect.{EdgesFit};
 
-use crate::fault::Fault;
+use crate::error::RowError;
 use crate::tokens::Token;
 use ratatui_core::layout::{Margin, Offset, Position, Rect, Size};
 use std::alloc::Global;
@@ -34,27 +34,27 @@ impl<'a> Args<'a> {
     }
 
     /// The next word.
-    pub fn word(&mut self) -> Result<&'a str, Fault> {
+    pub fn word(&mut self) -> Result<&'a str, RowError> {
         match self.token() {
             Some(Token::Word(word)) => Ok(word.as_str()),
-            _ => Err(Fault::Unread),
+            _ => Err(RowError::Unread),
         }
     }
 
     /// The next text.
-    pub fn text(&mut self) -> Result<&'a str, Fault> {
+    pub fn text(&mut self) -> Result<&'a str, RowError> {
         match self.token() {
             Some(Token::Text(text)) => Ok(text.as_str()),
-            _ => Err(Fault::Unread),
+            _ => Err(RowError::Unread),
         }
     }
 
     /// Refuses what is left over.
-    pub fn end(&self) -> Result<(), Fault> {
+    pub fn end(&self) -> Result<(), RowError> {
         if self.is_empty() {
             Ok(())
         } else {
-            Err(Fault::Unread)
+            Err(RowError::Unread)
         }
     }
 
@@ -104,28 +104,28 @@ impl<'a> Args<'a> {
     }
 
     /// The only character of the next text.
-    pub fn char(&mut self) -> Result<char, Fault> {
-        self.text()?.chars().next().ok_or(Fault::Unread)
+    pub fn char(&mut self) -> Result<char, RowError> {
+        self.text()?.chars().next().ok_or(RowError::Unread)
     }
 
     /// The next word, as a value that it names.
-    pub fn value<T: FromStr>(&mut self) -> Result<T, Fault>
+    pub fn value<T: FromStr>(&mut self) -> Result<T, RowError>
     where
         T::Err: Drop,
     {
-        self.word()?.parse::<T>().map_err(|_| Fault::Unread)
+        self.word()?.parse::<T>().map_err(|_| RowError::Unread)
     }
 
-    pub fn u16(&mut self) -> Result<u16, Fault> {
+    pub fn u16(&mut self) -> Result<u16, RowError> {
         self.value::<u16>()
     }
 
     /// Two numbers.
-    pub fn pair(&mut self) -> Result<(u16, u16), Fault> {
+    pub fn pair(&mut self) -> Result<(u16, u16), RowError> {
         Ok((self.u16()?, self.u16()?))
     }
 
-    pub fn rect(&mut self) -> Result<Rect, Fault> {
+    pub fn rect(&mut self) -> Result<Rect, RowError> {
         let ((x, y), (width, height)) = (self.pair()?, self.pair()?);
         Ok(Rect {
             x,
@@ -136,7 +136,7 @@ impl<'a> Args<'a> {
     }
 
     /// A rectangle for a call that requires one which ends at column and row 65535 at the latest.
-    pub fn area(&mut self) -> Result<Rect, Fault>
+    pub fn area(&mut self) -> Result<Rect, RowError>
         ensures { IfOk result EdgesFit }
     {
         let area = self.rect()?;
@@ -144,21 +144,21 @@ impl<'a> Args<'a> {
         if cut == area {
             Ok(cut)
         } else {
-            Err(Fault::Requires)
+            Err(RowError::Requires)
         }
     }
 
-    pub fn position(&mut self) -> Result<Position, Fault> {
+    pub fn position(&mut self) -> Result<Position, RowError> {
         let (x, y) = self.pair()?;
         Ok(Position { x, y })
     }
 
-    pub fn size(&mut self) -> Result<Size, Fault> {
+    pub fn size(&mut self) -> Result<Size, RowError> {
         let (width, height) = self.pair()?;
         Ok(Size { width, height })
     }
 
-    pub fn margin(&mut self) -> Result<Margin, Fault> {
+    pub fn margin(&mut self) -> Result<Margin, RowError> {
         let (horizontal, vertical) = self.pair()?;
         Ok(Margin {
             horizontal,
@@ -166,7 +166,7 @@ impl<'a> Args<'a> {
         })
     }
 
-    pub fn offset(&mut self) -> Result<Offset, Fault> {
+    pub fn offset(&mut self) -> Result<Offset, RowError> {
         Ok(Offset {
             x: self.value::<i32>()?,
             y: self.value::<i32>()?,
@@ -174,7 +174,7 @@ impl<'a> Args<'a> {
     }
 
     /// The texts that are left.
-    pub fn texts(&mut self) -> Result<Vec<&'a str>, Fault> {
+    pub fn texts(&mut self) -> Result<Vec<&'a str>, RowError> {
         let mut texts = Vec::new(self.alloc);
         self.skip_comma();
         for _ in 0..self.len() {

@@ -1,7 +1,7 @@
 //! Cells as words.
 use crate::answer::{Show, quote};
 use crate::args::Args;
-use crate::fault::Fault;
+use crate::error::RowError;
 use crate::styles::put_style;
 use ratatui_core::buffer::{Cell, CellDiffOption};
 use ratatui_core::style::{Color, Style};
@@ -67,21 +67,21 @@ impl Show for Cell {
 
 impl<'a> Args<'a> {
     /// How a cell is drawn.
-    pub fn option(&mut self) -> Result<CellDiffOption, Fault> {
+    pub fn option(&mut self) -> Result<CellDiffOption, RowError> {
         match self.word()? {
             "None" => Ok(CellDiffOption::None),
             "Skip" => Ok(CellDiffOption::Skip),
             "AlwaysUpdate" => Ok(CellDiffOption::AlwaysUpdate),
             "ForcedWidth" => match NonZeroU16::new(self.u16()?) {
                 Some(width) => Ok(CellDiffOption::ForcedWidth(width)),
-                None => Err(Fault::Unread),
+                None => Err(RowError::Unread),
             },
-            _ => Err(Fault::Unread),
+            _ => Err(RowError::Unread),
         }
     }
 
     /// A cell: its symbol, its style, and how it is drawn.
-    pub fn cell(&mut self) -> Result<Cell, Fault> {
+    pub fn cell(&mut self) -> Result<Cell, RowError> {
         let mut cell = Cell::new(self.alloc, self.text()?)?;
         cell.set_style(self.style());
         if self.takes("skip") {

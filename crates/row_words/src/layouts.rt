@@ -1,7 +1,7 @@
 //! Constraints and spacings as words.
 use crate::answer::Show;
 use crate::args::Args;
-use crate::fault::Fault;
+use crate::error::RowError;
 use ratatui_core::layout::{Constraint, Spacing};
 use std::alloc::AllocError;
 
@@ -40,21 +40,21 @@ fn constraint_of(word: &str, number: u16) -> Option<Constraint> {
 }
 
 impl<'a> Args<'a> {
-    pub fn constraint(&mut self) -> Result<Constraint, Fault> {
+    pub fn constraint(&mut self) -> Result<Constraint, RowError> {
         let word = self.word()?;
         if word == "Ratio" {
             let (part, whole) = self.ratio()?;
             return Ok(Constraint::Ratio(part, whole));
         }
-        constraint_of(word, self.u16()?).ok_or(Fault::Unread)
+        constraint_of(word, self.u16()?).ok_or(RowError::Unread)
     }
 
-    fn ratio(&mut self) -> Result<(u32, u32), Fault> {
+    fn ratio(&mut self) -> Result<(u32, u32), RowError> {
         Ok((self.value::<u32>()?, self.value::<u32>()?))
     }
 
     /// The constraints that are left.
-    pub fn constraints(&mut self) -> Result<Vec<Constraint>, Fault> {
+    pub fn constraints(&mut self) -> Result<Vec<Constraint>, RowError> {
         let mut all = Vec::new(self.alloc);
         for _ in 0..self.len() {
             if !self.is_empty() {
@@ -65,7 +65,7 @@ impl<'a> Args<'a> {
     }
 
     /// The numbers that are left.
-    pub fn numbers(&mut self) -> Result<Vec<u16>, Fault> {
+    pub fn numbers(&mut self) -> Result<Vec<u16>, RowError> {
         let mut all = Vec::new(self.alloc);
         for _ in 0..self.len() {
             if !self.is_empty() {
@@ -76,7 +76,7 @@ impl<'a> Args<'a> {
     }
 
     /// The pairs of numbers that are left.
-    pub fn ratios(&mut self) -> Result<Vec<(u32, u32)>, Fault> {
+    pub fn ratios(&mut self) -> Result<Vec<(u32, u32)>, RowError> {
         let mut all = Vec::new(self.alloc);
         for _ in 0..self.len() {
             if !self.is_empty() {

@@ -5,7 +5,7 @@ pub mod answer;
 pub mod args;
 pub mod buffers;
 pub mod cells;
-pub mod fault;
+pub mod error;
 pub mod layouts;
 pub mod names;
 pub mod styles;

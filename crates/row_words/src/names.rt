@@ -1,7 +1,7 @@
 //! Values that have names.
 use crate::answer::Answer;
 use crate::args::Args;
-use crate::fault::Fault;
+use crate::error::RowError;
 use ratatui_core::symbols::merge::MergeStrategy;
 use std::fmt::Display;
 use std::str::FromStr;
@@ -20,7 +20,7 @@ pub fn entry_of<'t, T>(table: &'t [(&str, T)], name: &str) -> Option<&'t T> {
 pub fn named<T: FromStr + Display + Drop>(
     args: &mut Args<'_>,
     answer: &mut Answer,
-) -> Result<(), Fault>
+) -> Result<(), RowError>
 where
     T::Err: Display + Drop,
 {
@@ -32,12 +32,12 @@ where
 }
 
 /// How borders are joined, by a name.
-pub fn strategy_of(word: &str) -> Result<MergeStrategy, Fault> {
+pub fn strategy_of(word: &str) -> Result<MergeStrategy, RowError> {
     match word {
         "replace" => Ok(MergeStrategy::Replace),
         "exact" => Ok(MergeStrategy::Exact),
         "fuzzy" => Ok(MergeStrategy::Fuzzy),
         "default" => Ok(MergeStrategy::default()),
-        _ => Err(Fault::Unread),
+        _ => Err(RowError::Unread),
     }
 }

@@ -1,7 +1,7 @@
 //! Colours, modifiers and styles as words.
 use crate::answer::Show;
 use crate::args::Args;
-use crate::fault::Fault;
+use crate::error::RowError;
 use crate::names::entry_of;
 use bitflags::Flags;
 use ratatui_core::style::{Color, Modifier, Style};
@@ -82,7 +82,7 @@ impl<'a> Args<'a> {
         set
     }
 
-    pub fn color(&mut self) -> Result<Color, Fault> {
+    pub fn color(&mut self) -> Result<Color, RowError> {
         self.value::<Color>()
     }
 }

@@ -1,7 +1,7 @@
 //! Spans, lines, texts, graphemes and masked texts: as words, and calls on them.
 use crate::answer::{Answer, Show, quote};
 use crate::args::Args;
-use crate::fault::Fault;
+use crate::error::RowError;
 use crate::styles::put_style;
 use ratatui_core::layout::HorizontalAlignment;
 use ratatui_core::style::Style;
@@ -11,13 +11,13 @@ use std::hash::{BuildHasher, BuildHasherDefault, FoldHasher, Hash};
 
 impl<'a> Args<'a> {
     /// A span: a text, and its style.
-    pub fn span(&mut self) -> Result<Span<'a>, Fault> {
+    pub fn span(&mut self) -> Result<Span<'a>, RowError> {
         Ok(Span::styled(self.text()?, self.style()))
     }
 
     /// A line: spans with a `+` between two, after them `style` with its words, and `aligned` with
     /// how.
-    pub fn line(&mut self) -> Result<Line<'a>, Fault> {
+    pub fn line(&mut self) -> Result<Line<'a>, RowError> {
         self.skip_comma();
         let mut line = Line::default_in(self.alloc);
         for _ in 0..self.len() {
@@ -29,7 +29,7 @@ impl<'a> Args<'a> {
     }
 
     // Reads a part of a line; whether there was one.
-    fn read_part(&mut self, line: &mut Line<'a>) -> Result<bool, Fault> {
+    fn read_part(&mut self, line: &mut Line<'a>) -> Result<bool, RowError> {
         if let Some(text) = self.next_text() {
             line.push_span(Span::styled(text, self.style()))?;
         } else if self.takes("style") {
@@ -44,7 +44,7 @@ impl<'a> Args<'a> {
 
     /// A text: lines with a `/` between two, and after a `//` the style and alignment of the whole;
     /// `nothing` has no lines.
-    pub fn lines(&mut self) -> Result<Text<'a>, Fault> {
+    pub fn lines(&mut self) -> Result<Text<'a>, RowError> {
         self.skip_comma();
         let mut text = Text::default_in(self.alloc);
         if !self.takes("nothing") {
@@ -57,7 +57,7 @@ impl<'a> Args<'a> {
         Ok(text)
     }
 
-    fn read_lines(&mut self, text: &mut Text<'a>) -> Result<(), Fault> {
+    fn read_lines(&mut self, text: &mut Text<'a>) -> Result<(), RowError> {
         text.push_line(self.line()?)?;
         for _ in 0..self.len() {
             if !self.takes("/") {
@@ -68,7 +68,7 @@ impl<'a> Args<'a> {
         Ok(())
     }
 
-    fn alignment(&mut self) -> Result<Option<HorizontalAlignment>, Fault> {
+    fn alignment(&mut self) -> Result<Option<HorizontalAlignment>, RowError> {
         if self.takes("aligned") {
             Ok(Some(self.value::<HorizontalAlignment>()?))
         } else {
@@ -83,9 +83,9 @@ pub fn hash_of<T: Hash>(value: &T) -> u64 {
 }
 
 /// Whether two values are equal with equal hashes, or differ.
-pub fn alike<T: PartialEq + Hash>(one: &T, other: &T, answer: &mut Answer) -> Result<(), Fault> {
+pub fn alike<T: PartialEq + Hash>(one: &T, other: &T, answer: &mut Answer) -> Result<(), RowError> {
     if one == other && hash_of(one) != hash_of(other) {
-        return Err(Fault::Unread);
+        return Err(RowError::Unread);
     }
     answer.add(one == other)
 }

@@ -1,5 +1,5 @@
 //! What a row is made of: steps between bars, and their words, texts and commas.
-use crate::fault::Fault;
+use crate::error::RowError;
 use std::alloc::{AllocError, Global};
 use std::mem;
 
@@ -122,7 +122,7 @@ impl Tokens {
 }
 
 /// The steps of a call.
-pub fn steps_of(alloc: Global, call: &str) -> Result<Vec<Vec<Token>>, Fault> {
+pub fn steps_of(alloc: Global, call: &str) -> Result<Vec<Vec<Token>>, RowError> {
     let mut tokens = Tokens {
         alloc,
         steps: Vec::new(alloc),
@@ -134,7 +134,7 @@ pub fn steps_of(alloc: Global, call: &str) -> Result<Vec<Vec<Token>>, Fault> {
         tokens.take(ch)?;
     }
     if tokens.place != Place::Plain {
-        return Err(Fault::Unread);
+        return Err(RowError::Unread);
     }
     tokens.end_step()?;
     Ok(tokens.steps)

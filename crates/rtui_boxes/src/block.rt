@@ -6,7 +6,7 @@ ghost use Rattle.ratatui_core.specs.Symbols.{border_texts};
 ghost use Rattle.ratatui_core.specs.Text.{raw_line};
 ghost use Rattle.rtui_boxes.specs.Kinds.{border_of_kind};
 ghost use Rattle.rtui_boxes.specs.Boxes.{AddsTitle, IsNewBlock, has_side, has_row, has_title, is_in_row};
-ghost use Rattle.rtui_boxes.specs.Boxes.{one_if, inner_of, rows_around};
+ghost use Rattle.rtui_boxes.specs.Boxes.{inner_of, rows_around};
 
 use crate::border_type::BorderType;
 use crate::borders::Borders;

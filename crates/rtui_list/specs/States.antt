@@ -1,5 +1,5 @@
 -- The state of a list.
-use Rattle.std.specs.Prelude.{ℕ, ◌+◌, ◌-◌, min, Option, Some, None}
+use Rattle.std.specs.Prelude.{ℕ, ◌+◌, ◌-◌, min, Option, Some, None, ◌^◌}
 use Rattle.std.specs.Borrow.{Lends, MutBor, Fml, usize}
 use Rattle.std.specs.contracts.option.Option as option
 use Rattle.rtui_list.specs.{declared.state.ListState.ListState, contracts.state.ListState.the_row}
@@ -12,11 +12,11 @@ selecting (Some index) s = record s { selected = Some index }
 -- the next item, or the first one
 abbrev pub next_of : Option ℕ → ℕ
 next_of None = 0
-next_of (Some index) = min (index + 1) 18446744073709551615
+next_of (Some index) = min (index + 1) (2 ^ 64 - 1)
 
 -- the item before, or a number after all
 abbrev pub previous_of : Option ℕ → ℕ
-previous_of None = 18446744073709551615
+previous_of None = 2 ^ 64 - 1
 previous_of (Some index) = index - 1
 
 -- what is lent of a state is its field: the state ends with the last value of what is lent, all else as

@@ -1,13 +1,14 @@
 -- A paragraph in its box, and a grapheme painted in its columns.
-use Rattle.std.proofs.Common.{◌≡◌, ℕ, ◌+◌, ◌<◌, ◌≤◌, List, [], ◌∷◌, length, Option, refl, subst, ◌∙◌, arith}
-use Rattle.std.proofs.Common.{Result, Ok, Err, OnOk}
+use Rattle.std.proofs.Common.{◌≡◌, ℕ, ◌+◌, ◌<◌, ◌≤◌, List, [], ◌∷◌, length, slice_index, Option, refl, ap, subst, ◌∙◌}
+use Rattle.std.proofs.Common.{arith, Result, Ok, Err, OnOk, IsOk}
 use Rattle.std.proofs.lemmas.List.{get_or-set_same, get_or-set_other, length-set}
 use Rattle.std.specs.declared.alloc.AllocError.{AllocError}
 use Rattle.ratatui_core.specs.{Layout.Rect, Layout.Position, Layout.EdgesFit, Style.Style, Text.GraphemeData}
-use Rattle.ratatui_core.specs.Text.{IsPrintable, ArePrintable}
-use Rattle.ratatui_core.specs.Buffer.{BufferData, IsPlainFrom, IsReadyFrom, IsSettledBuffer, PaintsPieces, pieces_at}
+use Rattle.ratatui_core.specs.Text.{ArePrintable}
+use Rattle.ratatui_core.specs.Buffer.{BufferData, IsPlainFrom, IsReadyFrom, IsSettledBuffer, PaintsPieces, Paints}
+use Rattle.ratatui_core.specs.Buffer.{pieces_at}
 use Rattle.ratatui_core.specs.Buffer.{text_pieces, position_of, cell_index, cell_in, with_cell, empty_cell}
-use Rattle.ratatui_core.specs.Buffer.{Cell, Piece, piece_of, piece_at, columns, shown, painted_width}
+use Rattle.ratatui_core.specs.Buffer.{Cell, Piece, piece_of, piece_at, columns, shown, painted_width, text_width}
 use Rattle.ratatui_core.proofs.{BufferLemmas.settled-plain, BufferLemmas.ready-plain, BufferLemmas.within-same}
 use Rattle.ratatui_core.proofs.BufferLemmas.{grapheme-piece, graphemes-singles, printable-plain, one_byte}
 use Rattle.ratatui_core.proofs.{WidgetLemmas.within-then}
@@ -71,13 +72,36 @@ piece-painted p q s c inside one is =
       };
     }
 
--- a printable character of ASCII is one piece
-pub byte-pieces : (room b : ℕ) (style : Style) → IsPrintable b → 0 < room
-    → text_pieces room style (b ∷ []) ≡ piece_of style (b ∷ []) ∷ []
+-- a printable character of ASCII takes a column, and is one piece
+pub printable-width : (text : List ℕ) → length text ≡ 1 → text_width text ≡ 1
+unfolding text_width
+printable-width text one = rw one refl
+
+pub printable-piece : (room : ℕ) (style : Style) (text : List ℕ) → length text ≡ 1 → ArePrintable text → 0 < room
+    → text_pieces room style text ≡ piece_of style text ∷ []
 unfolding painted_width
-byte-pieces room b style printable some =
-    let all : ArePrintable (b ∷ []) = λ k low. let first : k ≡ 0 = omega arith in rw first printable in
-    let shows = printable-plain b printable in
-    let one = one_byte b in
-    grapheme-piece room style (b ∷ []) (graphemes-singles (b ∷ []) all) (rw (shows, one) (omega arith))
-    (rw (shows, one) (omega arith))
+printable-piece room style [] one all some = absurd (omega (arith, one))
+printable-piece room style (b ∷ []) one all some =
+    let shows = printable-plain b (all 0 (omega arith)) in
+    let width = one_byte b in
+    grapheme-piece room style (b ∷ []) (graphemes-singles (b ∷ []) all) (rw (shows, width) (omega arith))
+    (rw (shows, width) (omega arith))
+printable-piece room style (b ∷ c ∷ cs) one all some = absurd (omega (arith, one))
+
+-- which it is by its byte
+pub printable-byte : (text : List ℕ) → length text ≡ 1 → 0x20 ≤ slice_index text 0 → slice_index text 0 < 0x7F
+    → ArePrintable text
+printable-byte text one low high k k_in =
+    let first : k ≡ 0 = omega (arith, one) in
+    rw first (record { low = low; high = high })
+
+pub ruleset printable_steps = (printable-byte)
+
+-- a call that shows a piece of one column in a cell
+pub put-paints : {A : Type 0} (r : Result A AllocError) (p : Position) (q : Piece) (s : BufferData) (c lent : Cell)
+    → cell_index s.area p < length s.cells → columns (q ∷ []) ≡ 1 → IsOk r → lent ≡ cell_in s p
+    → OnOk r (c ≡ shown q lent) → Paints p (q ∷ []) r s (with_cell s p c)
+put-paints (Ok x) p q s c lent inside one ok here made =
+    let painted = piece-painted p q s c inside one (made ∙ ap (shown q) here) in
+    record { front = record { front = q ∷ []; rest = []; is = refl; stands = painted }; ok = painted; short = λ _. refl }
+put-paints (Err e) p q s c lent inside one ok here made = absurd (cc)

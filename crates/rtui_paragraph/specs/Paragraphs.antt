@@ -1,6 +1,6 @@
 -- A paragraph: its rows, and what it changes.
 use Rattle.std.specs.Prelude.{◌≡◌, ℕ, ◌+◌, ◌-◌, ◌/◌, ◌==◌, min, length, if◌then◌else◌, nat_lt, false, List}
-use Rattle.std.specs.Prelude.{[], ◌∷◌, ◌++◌, map, filter, take, drop, Option, Some, None, unwrap_or, All}
+use Rattle.std.specs.Prelude.{[], ◌∷◌, ◌++◌, map, filter, take, drop, Option, Some, None, unwrap_or, All, ◌^◌}
 use Rattle.std.specs.List.{flat_map}
 use Rattle.ratatui_core.specs.{Layout.Rect, Layout.EdgesFit, Style.Style, Style.new_style, Style.patch}
 use Rattle.ratatui_core.specs.{declared.layout.HorizontalAlignment.HorizontalAlignment}
@@ -72,7 +72,7 @@ paragraph_rows p width = rows_of_lines p.wrap p width p.text.lines
 -- how many rows a paragraph takes in a width, with those of its box
 abbrev pub rows_taken : Paragraph → ℕ → ℕ
 rows_taken p width = if width == 0 then 0 else min (length (paragraph_rows p width) + rows_around_if p.block)
-    18446744073709551615
+    (2 ^ 64 - 1)
 
 -- in which column of the room a row of this width begins
 abbrev pub indent_of : HorizontalAlignment → ℕ → ℕ → ℕ

@@ -1,11 +1,11 @@
 //! A text in an area.
 
 ghost use Rattle.std.specs.Prelude.{◌≡◌, ◌+◌, ◌<◌, ◌≤◌, ◌∷◌, [], min, length, Some, None, IsOk, IfOk, OnOk};
-ghost use Rattle.std.specs.Prelude.{All, IfSome};
+ghost use Rattle.std.specs.Prelude.{All, IsTrue, ◌^◌, ◌-◌};
 ghost use Rattle.ratatui_core.specs.Layout.{HasPosition, IsInside};
 ghost use Rattle.ratatui_core.specs.Buffer.{IsSettledBuffer, IsReadyAt, IsReadyFrom, position_of};
 ghost use Rattle.ratatui_core.specs.Buffer.{IsShort, HaveShortGraphemes, text_width, Paints, piece_of};
-ghost use Rattle.ratatui_core.specs.Text.{raw_text, IsPrintable};
+ghost use Rattle.ratatui_core.specs.Text.{raw_text, ArePrintable};
 ghost use Rattle.ratatui_core.specs.Widgets.{ChangesWithin};
 ghost use Rattle.ratatui_core.specs.declared.layout.HorizontalAlignment.TheVariants.{Left, Center, Right};
 ghost use Rattle.rtui_boxes.specs.Boxes.{IsBoxArea};
@@ -172,7 +172,7 @@ impl<'a> Paragraph<'a> {
     // How many rows the text takes in so many columns.
     fn count_rows(&self, alloc: Global, width: u16) -> Result<usize, AllocError>
         ensures rows { IfOk result (λ n.
-            n ≡ min (length (paragraph_rows self.now width)) 18446744073709551615) }
+            n ≡ min (length (paragraph_rows self.now width)) (2 ^ 64 - 1)) }
         ensures short { self.now.wrap ≡ None → IsOk result }
     {
         match self.wrap {
@@ -184,7 +184,7 @@ impl<'a> Paragraph<'a> {
     // How many rows the lines take that are broken.
     fn count_broken_rows(&self, alloc: Global, width: u16, wrap: Wrap) -> Result<usize, AllocError>
         ensures { let rows = rows_of_lines (Some wrap) self.now width self.now.text.lines in
-            IfOk result (λ n. n ≡ min (length rows) 18446744073709551615) }
+            IfOk result (λ n. n ≡ min (length rows) (2 ^ 64 - 1)) }
     {
         let mut count = 0usize;
         for line in self.text.lines.as_slice() {
@@ -202,7 +202,7 @@ impl<'a> Paragraph<'a> {
         wrap: Wrap,
     ) -> Result<usize, AllocError>
         ensures { let rows = broken_line self.now width wrap line.now in
-            IfOk result (λ n. n ≡ min (length rows) 18446744073709551615) }
+            IfOk result (λ n. n ≡ min (length rows) (2 ^ 64 - 1)) }
     {
         let graphemes = line.styled_graphemes(self.text.style);
         row_count(Ahead::new(alloc, graphemes, width, wrap.trim))
@@ -439,7 +439,7 @@ fn row_count(line: Ahead<'_, '_>) -> Result<usize, AllocError>
     requires ahead { IsAhead line }
     requires fit { AllFit line.width (left_of line) }
     ensures { let rows = broken_rows line.entry.width line.entry.trim (left_of line.entry) in
-        IfOk result (λ n. n ≡ min (length rows) 18446744073709551615) }
+        IfOk result (λ n. n ≡ min (length rows) (2 ^ 64 - 1)) }
 {
     let mut line = line;
     let mut count = 0usize;
@@ -475,30 +475,32 @@ fn row_start(row: &[Measured<'_>], room: u16, alignment: HorizontalAlignment) ->
     }
 }
 
-// The character of ASCII that is a whole grapheme, if it is printable.
-fn printable_byte(symbol: &str) -> Option<u8>
-    ensures { IfSome result (λ b. (symbol.now ≡ b ∷ []) × IsPrintable b) }
+// Whether a grapheme is one printable character of ASCII.
+#[tactic(auto, using(crate::proofs::ParagraphLemmas::printable_steps))]
+fn is_printable(symbol: &str) -> bool
+    ensures one { IsTrue result → length symbol.now ≡ 1 }
+    ensures printable { IsTrue result → ArePrintable symbol.now }
 {
     let bytes = symbol.as_bytes();
-    if bytes.len() == 1 && bytes[0] >= 0x20 && bytes[0] < 0x7F {
-        return Some(bytes[0]);
-    }
-    None
+    bytes.len() == 1 && bytes[0] >= 0x20 && bytes[0] < 0x7F
 }
 
-// Paints a printable character of ASCII straight into its cell.
-fn put_byte(byte: u8, style: Style, x: u16, y: u16, buf: &mut Buffer) -> Result<(), AllocError>
+// Paints a character of one byte and one column straight into its cell.
+fn put_printable(
+    symbol: &str,
+    style: Style,
+    x: u16,
+    y: u16,
+    buf: &mut Buffer,
+) -> Result<(), AllocError>
     requires place { HasPosition buf.old.area (position_of (x, y)) }
-    requires printable { IsPrintable byte }
-    ensures paints { let ps = piece_of style (byte ∷ []) ∷ [] in
+    requires one { length symbol.now ≡ 1 }
+    ensures paints { let ps = piece_of style symbol.now ∷ [] in
         Paints (position_of (x, y)) ps result buf.old buf.new }
     ensures succeeds { IsOk result }
 {
     let alloc = buf.allocator();
-    let cell = &mut buf[(x, y)];
-    cell.set_char(alloc, char::from(byte))?;
-    cell.set_style(style);
-    Ok(())
+    buf[(x, y)].put(alloc, symbol, style)
 }
 
 // Paints a grapheme in a place of a part, in the columns that it takes.
@@ -524,8 +526,8 @@ fn put_grapheme(
     ensures ready { IsReadyAt x y buf.old → OnOk result (IsReadyAt (x + columns) y buf.new) }
     ensures short { IsShort symbol.now → IsOk result }
 {
-    if let Some(byte) = printable_byte(symbol) {
-        return put_byte(byte, style, x, y, buf);
+    if is_printable(symbol) {
+        return put_printable(symbol, style, x, y, buf);
     }
     buf.set_stringn(x, y, symbol, usize::from(columns), style)?;
     Ok(())

@@ -1,7 +1,7 @@
 -- A scroll bar: where it stands, and where its thumb is.
 use Rattle.std.specs.Prelude.{◌≡◌, ℕ, zero, suc, Bool, true, false, ◌+◌, ◌-◌, ◌*◌, ◌/◌, ◌<◌, ◌⊎◌, nat_lt, min}
 use Rattle.std.specs.Prelude.{max, List, [], ◌∷◌, codes, encode_utf8_all, Option, Some, None, if◌then◌else◌}
-use Rattle.std.specs.Prelude.{All, ⊤}
+use Rattle.std.specs.Prelude.{All, ⊤, ◌^◌}
 use Rattle.std.specs.Borrow.{Bor}
 use Rattle.ratatui_core.specs.{Layout.Rect, Layout.Position, Symbols.scrollbar_texts, Style.Style}
 use Rattle.ratatui_core.specs.{Style.new_style, declared.symbols.scrollbar.Set.Set}
@@ -22,7 +22,7 @@ use Rattle.rtui_scrollbar.specs.declared.scrollbar.ScrollbarOrientation.TheVaria
 
 -- the position is one further, as far as the content goes
 abbrev pub moved_on : ScrollbarState → ScrollbarState
-moved_on s = record s { position = min (min (s.position + 1) 18446744073709551615) (s.content_length - 1) }
+moved_on s = record s { position = min (min (s.position + 1) (2 ^ 64 - 1)) (s.content_length - 1) }
 
 -- one on or back
 abbrev pub scrolled_by : ScrollDirection → ScrollbarState → ScrollbarState

@@ -2,7 +2,7 @@
 
 ghost use Rattle.std.specs.Prelude.{◌≡◌};
 
-use follow::{Fault, follow};
+use follow::{FollowError, follow};
 use rtui_geometry::Size;
 use std::alloc::Global;
 use std::io::{self, BufReader, ErrorKind, Read, Write};
@@ -85,13 +85,13 @@ enum End {
     Lines,
 }
 
-fn end_of<T: Drop>(ended: Result<T, Fault>) -> End {
+fn end_of<T: Drop>(ended: Result<T, FollowError>) -> End {
     match ended {
         Ok(_) => End::Whole,
-        Err(Fault::Terminal(_)) => End::Terminal,
-        Err(Fault::Read(_)) => End::Read,
-        Err(Fault::Write(_)) => End::Write,
-        Err(Fault::Lines) => End::Lines,
+        Err(FollowError::Terminal(_)) => End::Terminal,
+        Err(FollowError::Read(_)) => End::Read,
+        Err(FollowError::Write(_)) => End::Write,
+        Err(FollowError::Lines) => End::Lines,
     }
 }
 

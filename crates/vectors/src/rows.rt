@@ -5,7 +5,7 @@ use row_texts::{lines, spans, stylize, whole_texts};
 use row_values::{borders, geometry, layouts, palettes, styles, symbols};
 use row_words::answer::Answer;
 use row_words::args::Args;
-use row_words::fault::Fault;
+use row_words::error::RowError;
 use row_words::tokens::{Token, steps_of};
 use std::alloc::{AllocError, Global};
 
@@ -28,7 +28,7 @@ impl Tally {
 }
 
 // Makes the call of a row that has but one.
-fn make_call(subject: &str, args: &mut Args<'_>, answer: &mut Answer) -> Result<(), Fault> {
+fn make_call(subject: &str, args: &mut Args<'_>, answer: &mut Answer) -> Result<(), RowError> {
     match subject {
         "rect" => geometry::rect(args, answer),
         "position" => geometry::position(args, answer),
@@ -47,7 +47,7 @@ fn make_call(subject: &str, args: &mut Args<'_>, answer: &mut Answer) -> Result<
         "stylize" => stylize::stylize(args, answer),
         "masked" => whole_texts::masked(args, answer),
         "to_text" => whole_texts::to_text(args, answer),
-        _ => Err(Fault::Unread),
+        _ => Err(RowError::Unread),
     }
 }
 
@@ -57,9 +57,9 @@ fn make_calls(
     subject: &str,
     steps: &[Vec<Token>],
     answer: &mut Answer,
-) -> Result<(), Fault> {
+) -> Result<(), RowError> {
     let Some((first, later)) = steps.split_first() else {
-        return Err(Fault::Unread);
+        return Err(RowError::Unread);
     };
     let mut args = Args::new(alloc, first.as_slice());
     let done = match subject {
@@ -74,14 +74,14 @@ fn make_calls(
         "line" => lines::line(alloc, &mut args, later, answer),
         "text" => whole_texts::text(alloc, &mut args, later, answer),
         _ if later.is_empty() => make_call(subject, &mut args, answer),
-        _ => Err(Fault::Unread),
+        _ => Err(RowError::Unread),
     };
     done?;
     args.end()
 }
 
 // What the calls of a row answer.
-fn answer_of(alloc: Global, subject: &str, call: &str) -> Result<String, Fault> {
+fn answer_of(alloc: Global, subject: &str, call: &str) -> Result<String, RowError> {
     let mut answer = Answer::new(alloc);
     let steps = steps_of(alloc, call)?;
     make_calls(alloc, subject, steps.as_slice(), &mut answer)?;

@@ -7,7 +7,7 @@ ghost use Rattle.rtui_boxes.specs.Boxes.{drawn, joins, has_side, inset, IsBoxAre
 ghost use Rattle.rtui_boxes.specs.Boxes.{top_side, bottom_side, stroke, side_strokes, corner_strokes};
 ghost use Rattle.rtui_boxes.specs.Boxes.{DrawsStrokes};
 
-use crate::block::{Block, one_if};
+use crate::block::Block;
 use crate::borders::Borders;
 use ratatui_core::buffer::{Buffer, Cell, CellChange, change_area};
 use ratatui_core::layout::{Position, Rect};
@@ -128,7 +128,7 @@ impl<'a> Block<'a> {
         ensures value { result ≡ inset self.now side }
         ensures bit { result ≤ 1 }
     {
-        one_if(joins(self.merge_borders) && self.has_side(side))
+        u16::from(joins(self.merge_borders) && self.has_side(side))
     }
 
     fn left_side(&self, area: Rect) -> Rect

@@ -11,7 +11,7 @@ ghost use Rattle.rtui_boxes.specs.Boxes.{placed_titles, IsBoxArea, KeepsOffTitle
 ghost use Rattle.rtui_boxes.specs.Lines.{IsShortTitle};
 ghost use Rattle.rtui_boxes.specs.Boxes.{HasShortTitles, centre_width, AreShortTitles};
 
-use crate::block::{Block, is_in_row, one_if};
+use crate::block::{Block, is_in_row};
 use crate::borders::Borders;
 use crate::title::{Title, TitlePosition};
 use ratatui_core::buffer::Buffer;
@@ -91,8 +91,8 @@ impl<'a> Block<'a> {
         requires { IsBoxArea area }
         ensures { result ≡ titles_area self.now area position }
     {
-        let left = one_if(self.has_side(Borders::LEFT));
-        let right = one_if(self.has_side(Borders::RIGHT));
+        let left = u16::from(self.has_side(Borders::LEFT));
+        let right = u16::from(self.has_side(Borders::RIGHT));
         let y = match position {
             TitlePosition::Top => area.y,
             TitlePosition::Bottom => area.y + (area.height - 1),

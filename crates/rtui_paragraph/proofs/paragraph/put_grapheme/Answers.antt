@@ -1,44 +1,42 @@
-use Rattle.std.proofs.Common.{◌≡◌, ℕ, false, true, List, [], ◌∷◌, ap, ◌∙◌, arith, Ok}
+use Rattle.std.proofs.Common.{◌≡◌, false, true, [], ◌∷◌, arith, Ok}
 use Rattle.ratatui_core.specs.Buffer.{piece_of, pieces_at, position_of, room_at, text_width}
 use Rattle.rtui_paragraph.specs.Paragraphs.{grapheme_in}
-use Rattle.ratatui_core.proofs.{BufferLemmas.text-keeps, BufferLemmas.put-ready, BufferLemmas.one_byte}
+use Rattle.ratatui_core.proofs.{BufferLemmas.text-keeps, BufferLemmas.put-ready}
 use Rattle.rtui_boxes.proofs.PaintLemmas.{part-has_row, part-starts, part-right, paints-within, short-painted}
 use Rattle.rtui_boxes.proofs.PaintLemmas.{part-place}
-use Rattle.rtui_paragraph.proofs.ParagraphLemmas.{grapheme-painted, byte-pieces}
+use Rattle.rtui_paragraph.proofs.ParagraphLemmas.{grapheme-painted, printable-width, printable-piece}
 use Rattle.rtui_paragraph.proofs.paragraph.put_grapheme.Goals as goal
 
-one-column : (symbol : List ℕ) (b n : ℕ) → symbol ≡ b ∷ [] → n ≡ text_width symbol → n ≡ 1
-one-column symbol b n is width = width ∙ ap text_width is ∙ one_byte b
-
-pub put_byte-requires-clause-place : goal.put_byte-requires-clause-place
-put_byte-requires-clause-place c =
-    let one = one-column c.args.symbol.now c.in-Some.byte c.args.columns c.in-Some.ensures.0 c.requires.width in
+pub put_printable-requires-clause-place : goal.put_printable-requires-clause-place
+put_printable-requires-clause-place c =
+    let one = printable-width c.args.symbol.now (c.is_printable.ensures.one c.if-is_printable.true) in
     c.requires.inside (position_of (c.args.x, c.args.y)) (part-place c.args.part c.args.x c.args.y c.requires.some
-    c.requires.left (omega (arith, one)) c.requires.top c.requires.bottom)
+    c.requires.left (omega (arith, one, c.requires.width)) c.requires.top c.requires.bottom)
 
-pub returns-in-Some-clause-within : goal.returns-in-Some-clause-within
-returns-in-Some-clause-within c =
-    let one = one-column c.args.symbol.now c.in-Some.byte c.args.columns c.in-Some.ensures.0 c.requires.width in
-    paints-within c.put_byte.result c.args.part c.args.x c.args.y
-    (piece_of c.args.style (c.in-Some.byte ∷ []) ∷ []) c.args.buf.now c.put_byte.new.buf
-    c.requires.some c.requires.inside c.requires.left (omega (arith, one, one_byte c.in-Some.byte))
-    c.requires.top c.requires.bottom c.put_byte.ensures.paints
+pub returns-then-is_printable-clause-within : goal.returns-then-is_printable-clause-within
+returns-then-is_printable-clause-within c =
+    let one = printable-width c.args.symbol.now (c.is_printable.ensures.one c.if-is_printable.true) in
+    paints-within c.put_printable.result c.args.part c.args.x c.args.y (piece_of c.args.style c.args.symbol.now ∷ [])
+    c.args.buf.now c.put_printable.new.buf c.requires.some c.requires.inside c.requires.left
+    (omega (arith, one, c.requires.width)) c.requires.top c.requires.bottom c.put_printable.ensures.paints
 
-pub returns-in-Some-clause-ok : goal.returns-in-Some-clause-ok
-returns-in-Some-clause-ok c =
-    let b = c.in-Some.byte in
-    let pieces = byte-pieces (text_width (b ∷ [])) b c.args.style c.in-Some.ensures.1 (omega (arith, one_byte b)) in
-    rw (c.in-Some.ensures.0, pieces) c.put_byte.ensures.paints.ok
+pub returns-then-is_printable-clause-ok : goal.returns-then-is_printable-clause-ok
+returns-then-is_printable-clause-ok c =
+    let text = c.args.symbol.now in
+    let one = c.is_printable.ensures.one c.if-is_printable.true in
+    let all = c.is_printable.ensures.printable c.if-is_printable.true in
+    rw (printable-piece (text_width text) c.args.style text one all (omega (arith, printable-width text one)))
+    c.put_printable.ensures.paints.ok
 
-pub returns-in-Some-clause-ready : goal.returns-in-Some-clause-ready
-returns-in-Some-clause-ready c = λ ready.
-    let one = one-column c.args.symbol.now c.in-Some.byte c.args.columns c.in-Some.ensures.0 c.requires.width in
-    put-ready c.put_byte.result c.args.x c.args.y c.args.columns (piece_of c.args.style (c.in-Some.byte ∷ []) ∷ [])
-    c.args.buf.now c.put_byte.new.buf ready
+pub returns-then-is_printable-clause-ready : goal.returns-then-is_printable-clause-ready
+returns-then-is_printable-clause-ready c = λ ready.
+    let one = printable-width c.args.symbol.now (c.is_printable.ensures.one c.if-is_printable.true) in
+    put-ready c.put_printable.result c.args.x c.args.y c.args.columns (piece_of c.args.style c.args.symbol.now ∷ [])
+    c.args.buf.now c.put_printable.new.buf ready
     (part-has_row c.args.part c.args.buf.now.area c.args.y c.requires.some c.requires.inside c.requires.top c.requires.bottom)
     (part-starts c.args.part c.args.buf.now.area c.args.x c.requires.some c.requires.inside c.requires.left)
     (part-right c.args.part c.args.buf.now.area c.args.x c.args.columns c.requires.some c.requires.inside c.requires.right)
-    (omega (arith, one, one_byte c.in-Some.byte)) c.put_byte.ensures.paints
+    (omega (arith, one, c.requires.width)) c.put_printable.ensures.paints
 
 pub set_stringn-requires-clause-row : goal.set_stringn-requires-clause-row
 set_stringn-requires-clause-row c = part-has_row c.args.part c.args.buf.now.area c.args.y c.requires.some c.requires.inside

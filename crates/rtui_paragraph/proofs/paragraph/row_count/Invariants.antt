@@ -1,4 +1,4 @@
-use Rattle.std.proofs.Common.{◌≡◌, ◌+◌, min, length}
+use Rattle.std.proofs.Common.{◌≡◌, ◌+◌, min, length, ◌^◌, ◌-◌}
 use Rattle.rtui_paragraph.specs.{Inner.HoldsNext, Inner.left_of, Reflow.AllFit}
 use Rattle.rtui_paragraph.proofs.RowsLemmas.{rows_left}
 use Rattle.rtui_paragraph.proofs.paragraph.row_count.Given as goal
@@ -9,8 +9,8 @@ invariant-loop-line l = record {
   width : l.line.width ≡ l.fn.line.width;
   trim : l.line.trim ≡ l.fn.line.trim;
   fit : AllFit l.fn.line.width (left_of l.line);
-  rows : min (l.count + length (rows_left l.fn.line.width l.fn.line.trim (left_of l.line))) 18446744073709551615
-      ≡ min (length (rows_left l.fn.line.width l.fn.line.trim (left_of l.fn.line))) 18446744073709551615;
+  rows : min (l.count + length (rows_left l.fn.line.width l.fn.line.trim (left_of l.line))) (2 ^ 64 - 1)
+      ≡ min (length (rows_left l.fn.line.width l.fn.line.trim (left_of l.fn.line))) (2 ^ 64 - 1);
 }
 
 abbrev pub decreases-loop-line : goal.decreases-loop-line

@@ -1,4 +1,4 @@
-use Rattle.std.proofs.Common.{◌≡◌, ◌≤◌, ◌+◌}
+use Rattle.std.proofs.Common.{◌≡◌, ◌≤◌, ◌+◌, ◌^◌, ◌-◌}
 use Rattle.ratatui_core.specs.{Widgets.ChangesWithin, Buffer.IsReadyFrom}
 use Rattle.pager.specs.Places.{breaking, page_place, places_after}
 use Rattle.pager.specs.Pages.{PaintsPageRows}
@@ -6,7 +6,7 @@ use Rattle.pager.proofs.pager.Pager.paint_rows.Given as goal
 
 abbrev pub invariant-loop-k : goal.invariant-loop-k
 invariant-loop-k l = record {
-  line : l.place.line ≤ 4294967295 + l.k;
+  line : l.place.line ≤ 2 ^ 32 - 1 + l.k;
   place : l.place ≡ places_after (breaking l.fn.self) l.k (page_place l.fn.self);
   within : ChangesWithin l.fn.part l.fn.buf l.buf;
   paints : PaintsPageRows l.fn.self l.fn.part l.k l.fn.buf l.buf;

@@ -3,7 +3,7 @@ use std::alloc::{AllocError, AllocFailed};
 
 /// Why a call of a row gave no answer.
 #[derive(Debug, Clone, Copy, PartialEq, Eq)]
-pub enum Fault {
+pub enum RowError {
     /// The row doesn't say a call.
     Unread,
     /// What the call requires isn't met.
@@ -14,30 +14,30 @@ pub enum Fault {
     Lost,
 }
 
-impl From<AllocError> for Fault {
-    fn from(_: AllocError) -> Fault {
-        Fault::Memory
+impl From<AllocError> for RowError {
+    fn from(_: AllocError) -> RowError {
+        RowError::Memory
     }
 }
 
-impl<T: Drop> From<AllocFailed<T>> for Fault {
-    fn from(_: AllocFailed<T>) -> Fault {
-        Fault::Memory
+impl<T: Drop> From<AllocFailed<T>> for RowError {
+    fn from(_: AllocFailed<T>) -> RowError {
+        RowError::Memory
     }
 }
 
-impl Fault {
+impl RowError {
     /// Whether memory was refused.
     pub fn is_memory(self) -> bool {
-        matches!(self, Fault::Memory | Fault::Lost)
+        matches!(self, RowError::Memory | RowError::Lost)
     }
 
     /// The word that stands for an answer.
     pub fn word(self) -> &'static str {
         match self {
-            Fault::Unread => "unread",
-            Fault::Requires => "requires",
-            Fault::Memory | Fault::Lost => "no memory",
+            RowError::Unread => "unread",
+            RowError::Requires => "requires",
+            RowError::Memory | RowError::Lost => "no memory",
         }
     }
 }

@@ -1,0 +1,47 @@
+//! Why a text isn't shown.
+
+use pager::TextError;
+use ratatui_ansi::AnsiError;
+use ratatui_app::RunError;
+use std::io;
+
+/// Why a text isn't shown, or not to its end.
+#[derive(Debug, Drop)]
+pub enum PagerError {
+    /// The text can't be read.
+    Read(io::Error),
+    /// It has no lines that can be counted.
+    Text(TextError),
+    /// The terminal's keys can't be read.
+    Keys(io::Error),
+    /// Standard output can't be written.
+    Write(io::Error),
+    /// Memory was refused.
+    Memory,
+    /// The run stopped.
+    Run(RunError<AnsiError>),
+}
+
+// Tells why a run stopped.
+fn tell_fault(rt: &HostRuntime, fault: RunError<AnsiError>) -> io::Result<()> {
+    match fault {
+        RunError::Read(error) => eprintln!(rt; "pager: the keys: {error}"),
+        RunError::Memory => eprintln!(rt; "pager: no memory"),
+        RunError::Draw(error) => eprintln!(rt; "pager: {error}"),
+        RunError::Resize(error) => eprintln!(rt; "pager: {error}"),
+    }
+}
+
+impl PagerError {
+    /// Tells it in one line of standard error.
+    pub fn tell(self, rt: &HostRuntime, name: &str) -> io::Result<()> {
+        match self {
+            PagerError::Read(error) => eprintln!(rt; "pager: {name}: {error}"),
+            PagerError::Text(error) => eprintln!(rt; "pager: {name}: {error}"),
+            PagerError::Keys(error) => eprintln!(rt; "pager: /dev/tty: {error}"),
+            PagerError::Write(error) => eprintln!(rt; "pager: standard output: {error}"),
+            PagerError::Memory => eprintln!(rt; "pager: no memory"),
+            PagerError::Run(fault) => tell_fault(rt, fault),
+        }
+    }
+}
