@@ -9,7 +9,7 @@ ghost use Rattle.pager.specs.Paging.{paging, IsPaged};
 
 use crate::pager::Pager;
 use ratatui_ansi::{AnsiBackend, AnsiError};
-use ratatui_app::{RunError, run_and_leave};
+use ratatui_app::{AppError, run_and_leave};
 use ratatui_core::layout::Size;
 use ratatui_reads::Source;
 use std::alloc::Global;
@@ -38,7 +38,7 @@ pub fn show_on<S: Source, W: Write + Drop>(
     has_ticks: bool,
     writer: W,
     pager: &mut Pager<'_>,
-) -> Result<W, RunError<AnsiError>>
+) -> Result<W, AppError<AnsiError>>
     ensures paged { IfOk result (λ left. IsPaged W size
         (record { decoder = fresh_decoder; state = pager.old }) (S.coming source.old)
         pager.new (S.coming source.new) (W.contents writer) (W.contents left)) }
@@ -59,7 +59,7 @@ fn send<W: Write>(writer: &mut W, texts: &[&str]) -> io::Result<()> {
 }
 
 // Has a terminal tell no longer of what it was asked to.
-fn end_telling<W: Write>(writer: &mut W) -> Result<(), RunError<AnsiError>> {
+fn end_telling<W: Write>(writer: &mut W) -> Result<(), AppError<AnsiError>> {
     send(writer, &[TELLING_NO_LONGER]).map_err(AnsiError::Write)?;
     Ok(())
 }
@@ -72,7 +72,7 @@ fn show_to<S: Source, W: Write>(
     has_ticks: bool,
     writer: &mut W,
     pager: &mut Pager<'_>,
-) -> Result<(), RunError<AnsiError>>
+) -> Result<(), AppError<AnsiError>>
     ensures paged { OnOk result ((before after : Option (List ℕ)) × IsPaged (MutBor W) size
         (record { decoder = fresh_decoder; state = pager.old }) (S.coming source.old)
         pager.new (S.coming source.new) before after) }
@@ -99,7 +99,7 @@ pub fn show<S: Source, W: Write>(
     has_ticks: bool,
     writer: &mut W,
     pager: &mut Pager<'_>,
-) -> Result<(), RunError<AnsiError>>
+) -> Result<(), AppError<AnsiError>>
     ensures paged { OnOk result ((before after : Option (List ℕ)) × IsPaged (MutBor W) size
         (record { decoder = fresh_decoder; state = pager.old }) (S.coming source.old)
         pager.new (S.coming source.new) before after) }

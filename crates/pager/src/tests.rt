@@ -1,7 +1,7 @@
 //! Pages after keys.
 
 use crate::{Document, OwnText, Pager};
-use ratatui_app::{RunError, run};
+use ratatui_app::{AppError, run};
 use ratatui_core::backend::TestBackend;
 use ratatui_core::layout::Size;
 use ratatui_core::terminal::Terminal;

@@ -5,7 +5,7 @@ use crate::frames::Stage;
 use crate::recording::{Player, Recording};
 use pager::show;
 use ratatui_ansi::AnsiError;
-use ratatui_app::RunError;
+use ratatui_app::AppError;
 use ratatui_core::terminal::TerminalError;
 use std::alloc::Global;
 use std::io::{self, ErrorKind, Write};
@@ -91,14 +91,14 @@ impl Write for Owned {
 }
 
 // What a fault is about.
-fn name_of(fault: &RunError<AnsiError>) -> &'static str {
+fn name_of(fault: &AppError<AnsiError>) -> &'static str {
     match fault {
-        RunError::Memory
-        | RunError::Draw(TerminalError::Memory)
-        | RunError::Draw(TerminalError::Backend(AnsiError::Memory))
-        | RunError::Resize(AnsiError::Memory) => "no memory",
-        RunError::Read(_) => "no more reads",
-        RunError::Draw(_) | RunError::Resize(_) => "no draw",
+        AppError::Memory
+        | AppError::Draw(TerminalError::Memory)
+        | AppError::Draw(TerminalError::Backend(AnsiError::Memory))
+        | AppError::Resize(AnsiError::Memory) => "no memory",
+        AppError::Read(_) => "no more reads",
+        AppError::Draw(_) | AppError::Resize(_) => "no draw",
     }
 }
 

@@ -3,7 +3,7 @@
 use crate::frames::Stage;
 use crate::recording::{Player, Recording};
 use crate::refused::{reads_given_back, writes_given_back};
-use ratatui_app::{RunError, run};
+use ratatui_app::{AppError, run};
 use ratatui_core::backend::TestBackend;
 use ratatui_core::terminal::Terminal;
 use std::io;
@@ -26,10 +26,10 @@ fn played(
     }
     let told = match run(player, true, &mut terminal, &mut pager) {
         Ok(()) => "over",
-        Err(RunError::Read(_)) => "read",
-        Err(RunError::Memory) => "memory",
-        Err(RunError::Draw(_)) => "draw",
-        Err(RunError::Resize(_)) => "resize",
+        Err(AppError::Read(_)) => "read",
+        Err(AppError::Memory) => "memory",
+        Err(AppError::Draw(_)) => "draw",
+        Err(AppError::Resize(_)) => "resize",
     };
     Some((terminal, told))
 }

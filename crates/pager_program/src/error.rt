@@ -2,7 +2,7 @@
 
 use pager::TextError;
 use ratatui_ansi::AnsiError;
-use ratatui_app::RunError;
+use ratatui_app::AppError;
 use std::io;
 
 /// Why a text isn't shown, or not to its end.
@@ -19,16 +19,16 @@ pub enum PagerError {
     /// Memory was refused.
     Memory,
     /// The run stopped.
-    Run(RunError<AnsiError>),
+    Run(AppError<AnsiError>),
 }
 
 // Tells why a run stopped.
-fn tell_fault(rt: &HostRuntime, fault: RunError<AnsiError>) -> io::Result<()> {
+fn tell_fault(rt: &HostRuntime, fault: AppError<AnsiError>) -> io::Result<()> {
     match fault {
-        RunError::Read(error) => eprintln!(rt; "pager: the keys: {error}"),
-        RunError::Memory => eprintln!(rt; "pager: no memory"),
-        RunError::Draw(error) => eprintln!(rt; "pager: {error}"),
-        RunError::Resize(error) => eprintln!(rt; "pager: {error}"),
+        AppError::Read(error) => eprintln!(rt; "pager: the keys: {error}"),
+        AppError::Memory => eprintln!(rt; "pager: no memory"),
+        AppError::Draw(error) => eprintln!(rt; "pager: {error}"),
+        AppError::Resize(error) => eprintln!(rt; "pager: {error}"),
     }
 }
 

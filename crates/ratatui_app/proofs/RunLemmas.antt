@@ -18,8 +18,8 @@ use Rattle.ratatui_app.specs.Showing
 use Rattle.ratatui_app.specs.Showing.{Device, App, rules_of, stage, ShowsState}
 use Rattle.ratatui_app.specs.Showing.{StepsTo, RunsTo, MayDraw, HasNewSize, FeedsTo}
 use Rattle.ratatui_app.specs.Showing.{TakesOrKeepsSize, LacksFrame, RefusesState, Stops, StopsFeeding, RestsUnfixed}
-use Rattle.ratatui_app.specs.declared.running.RunError.{RunError}
-use Rattle.ratatui_app.specs.declared.running.RunError.TheVariants.{Read, Memory, Draw, Resize}
+use Rattle.ratatui_app.specs.declared.running.AppError.{AppError}
+use Rattle.ratatui_app.specs.declared.running.AppError.TheVariants.{Read, Memory, Draw, Resize}
 
 is-nil : (l : List ℕ) → length l ≡ 0 → l ≡ []
 is-nil [] e = refl
@@ -115,14 +115,14 @@ module _ {B X S : Type 0} (device : Device B X) (app : App S) where
 
   -- or stopped
   pub stops-fed : {E : Type 0} (before : Between S) (all : Coming) (t : TerminalData B) (after : Between S)
-      (rest : Coming) (t' : TerminalData B) (room : ℕ) (bytes piece : List ℕ) (fault : RunError E) → room ≡ read_room
+      (rest : Coming) (t' : TerminalData B) (room : ℕ) (bytes piece : List ℕ) (fault : AppError E) → room ≡ read_room
       → GivesRead room all rest bytes → piece ≡ bytes → StopsFeeding device app before t piece after t' fault
       → Stops device app before all t after rest t' fault
   stops-fed before all t after rest t' room bytes piece fault has k e stops =
       by-fault fault (subst (λ (n : ℕ). GivesRead n all rest piece) has
       (subst (λ (l : List ℕ). GivesRead room all rest l) (sym e) k)) stops
     where
-      by-fault : {E : Type 0} (fault : RunError E) → GivesRead read_room all rest piece
+      by-fault : {E : Type 0} (fault : AppError E) → GivesRead read_room all rest piece
           → StopsFeeding device app before t piece after t' fault → Stops device app before all t after rest t' fault
       by-fault (Read error) given stops = absurd stops
       by-fault Memory given stops = (piece, given, stops)

@@ -10,8 +10,8 @@ use Rattle.ratatui_input.specs.declared.decoder.Decoder.{Decoder}
 use Rattle.ratatui_reads.specs.Reads.{Between, Rules, told_by, after_read, RefusesAmong}
 use Rattle.ratatui_reads.specs.Moments.{Stage, Ran, Feeds, Steps}
 use Rattle.ratatui_reads.specs.Sources.{Coming, GivesRead, StaysKnown, IsUsedUp, read_room}
-use Rattle.ratatui_app.specs.declared.running.RunError.{RunError}
-use Rattle.ratatui_app.specs.declared.running.RunError.TheVariants.{Read, Memory, Draw, Resize}
+use Rattle.ratatui_app.specs.declared.running.AppError.{AppError}
+use Rattle.ratatui_app.specs.declared.running.AppError.TheVariants.{Read, Memory, Draw, Resize}
 
 -- a backend and its errors: its screen, how many of its calls failed, and whether all was sent
 abbrev pub Device : Type 0 → Type 0 → Type 1
@@ -112,7 +112,7 @@ module _ {B X S : Type 0} (device : Device B X) (app : App S) where
   -- where bytes and their frame stop: at a refused update the terminal stayed, and the events before it were
   -- taken; where the backend failed to take a size, all of the terminal stayed but the backend
   abbrev pub StopsFeeding : {E : Type 0} → Between S → TerminalData B → List ℕ → Between S → TerminalData B
-      → RunError E → Type 0
+      → AppError E → Type 0
   StopsFeeding before t bytes after t' (Read error) = ⊥
   StopsFeeding before t bytes after t' Memory =
       (t' ≡ t) × RefusesAmong (rules_of app) (told_by before.decoder bytes).0 before.state after.state
@@ -123,14 +123,14 @@ module _ {B X S : Type 0} (device : Device B X) (app : App S) where
   -- where a read, its events and its frame stop: at a failed read nothing has changed, and else the source
   -- gave bytes
   abbrev pub Stops : {E : Type 0} → Between S → Coming → TerminalData B → Between S → Coming → TerminalData B
-      → RunError E → Type 0
+      → AppError E → Type 0
   Stops before all t after rest t' (Read error) = (after ≡ before) × (t' ≡ t) × StaysKnown all rest
   Stops before all t after rest t' fault =
       (bytes : List ℕ) × GivesRead read_room all rest bytes × StopsFeeding before t bytes after t' fault
 
   -- a run up to some moment, after which the next read stopped
   pub record StopsLater {E : Type 0} (t0 : TerminalData B) (first : Between S) (all : Coming) (state : S)
-      (rest : Coming) (t' : TerminalData B) (fault : RunError E) : Type 0 where
+      (rest : Coming) (t' : TerminalData B) (fault : AppError E) : Type 0 where
     pub now : Between S
     pub left : Coming
     pub terminal : TerminalData B
@@ -140,7 +140,7 @@ module _ {B X S : Type 0} (device : Device B X) (app : App S) where
 
   -- the first frame was refused, and nothing was read
   abbrev pub RefusesFirst : {E : Type 0} → Between S → Coming → TerminalData B → S → Coming → TerminalData B
-      → RunError E → Type 0
+      → AppError E → Type 0
   RefusesFirst first all t state rest t' (Draw error) =
       (state ≡ first.state) × (rest ≡ all) × RefusesState device app state t t' error
   RefusesFirst first all t state rest t' (Read error) = ⊥
@@ -149,7 +149,7 @@ module _ {B X S : Type 0} (device : Device B X) (app : App S) where
 
   -- a run that stopped: the first frame was refused, or a later read stopped
   abbrev pub StopsRun : {E : Type 0} → Between S → Coming → TerminalData B → S → Coming → TerminalData B
-      → RunError E → Type 0
+      → AppError E → Type 0
   StopsRun first all t state rest t' fault =
       RefusesFirst first all t state rest t' fault ⊎ StopsLater t first all state rest t' fault
 

@@ -17,5 +17,5 @@ pub use by_hand::count_by_hand;
 pub use counter::Counter;
 pub use from_blank::count_from_blank;
 pub use moments::run_on_glass;
-pub use running::{RunError, draw, feed, run, step};
+pub use running::{AppError, draw, feed, run, step};
 pub use whole::{run_and_leave, run_inline_and_leave};

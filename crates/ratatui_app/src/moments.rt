@@ -10,7 +10,7 @@ ghost use Rattle.ratatui_app.specs.Glass.{sender, RunsAlongGlass};
 
 use crate::application::Application;
 use crate::laws::shown_states_are_on_the_glass;
-use crate::running::{RunError, draw, step};
+use crate::running::{AppError, draw, step};
 use ratatui_ansi::{AnsiBackend, AnsiError};
 use ratatui_core::terminal::Terminal;
 use ratatui_input::Decoder;
@@ -29,7 +29,7 @@ pub fn run_on_glass<S: Source, W: Write + Drop, A: Application>(
     has_ticks: bool,
     terminal: &mut Terminal<AnsiBackend<W>>,
     application: &mut A,
-) -> Result<(), RunError<AnsiError>>
+) -> Result<(), AppError<AnsiError>>
     ensures runs { RestsUnfixed shown_by terminal.old → terminal.old.backend.failures ≡ 0
         → OnOk result ((decoder : Decoder) × RunsAlongGlass A.Application terminal.old
         (record { decoder = fresh_decoder; state = application.old }) (S.coming source.old)
@@ -59,5 +59,5 @@ pub fn run_on_glass<S: Source, W: Write + Drop, A: Application>(
             return Ok(());
         }
     }
-    Err(RunError::Read(io::Error::from(ErrorKind::Other)))
+    Err(AppError::Read(io::Error::from(ErrorKind::Other)))
 }

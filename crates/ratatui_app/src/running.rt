@@ -23,7 +23,7 @@ use std::io::{self, ErrorKind};
 
 /// Why a run ended before the application was over.
 #[derive(Debug, Drop)]
-pub enum RunError<E> {
+pub enum AppError<E> {
     /// The source failed.
     Read(io::Error),
     /// An update was refused memory.
@@ -34,36 +34,36 @@ pub enum RunError<E> {
     Resize(E),
 }
 
-impl<E> From<io::Error> for RunError<E> {
+impl<E> From<io::Error> for AppError<E> {
     ghost use Rattle.std.specs.Prelude.{◌≡◌};
-    ghost use Rattle.ratatui_app.specs.declared.running.RunError.TheVariants.{Read};
+    ghost use Rattle.ratatui_app.specs.declared.running.AppError.TheVariants.{Read};
 
     ghost from_gives = { λ error fault. fault ≡ Read error };
 
     fn from(error: io::Error) -> Self {
-        RunError::Read(error)
+        AppError::Read(error)
     }
 }
 
-impl<E> From<AllocError> for RunError<E> {
+impl<E> From<AllocError> for AppError<E> {
     ghost use Rattle.std.specs.Prelude.{◌≡◌};
-    ghost use Rattle.ratatui_app.specs.declared.running.RunError.TheVariants.{Memory};
+    ghost use Rattle.ratatui_app.specs.declared.running.AppError.TheVariants.{Memory};
 
     ghost from_gives = { λ _ fault. fault ≡ Memory };
 
     fn from(_: AllocError) -> Self {
-        RunError::Memory
+        AppError::Memory
     }
 }
 
-impl<E> From<TerminalError<E>> for RunError<E> {
+impl<E> From<TerminalError<E>> for AppError<E> {
     ghost use Rattle.std.specs.Prelude.{◌≡◌};
-    ghost use Rattle.ratatui_app.specs.declared.running.RunError.TheVariants.{Draw};
+    ghost use Rattle.ratatui_app.specs.declared.running.AppError.TheVariants.{Draw};
 
     ghost from_gives = { λ error fault. fault ≡ Draw error };
 
     fn from(error: TerminalError<E>) -> Self {
-        RunError::Draw(error)
+        AppError::Draw(error)
     }
 }
 
@@ -153,7 +153,7 @@ pub fn feed<B: Resizable, A: Application>(
     decoder: &mut Decoder,
     terminal: &mut Terminal<B>,
     application: &mut A,
-) -> Result<(), RunError<B::Error>>
+) -> Result<(), AppError<B::Error>>
     ensures fed { ShowsState B.Backend A.Application application.old terminal.old
         → OnOk result (FeedsTo B.Backend A.Application
         (record { decoder = decoder.old; state = application.old }) terminal.old bytes.now
@@ -169,7 +169,7 @@ pub fn feed<B: Resizable, A: Application>(
     }
     match resize(terminal, taken.size) {
         Ok(()) => {}
-        Err(error) => return Err(RunError::Resize(error)),
+        Err(error) => return Err(AppError::Resize(error)),
     }
     draw(terminal, application)?;
     Ok(())
@@ -185,7 +185,7 @@ pub fn step<S: Source, B: Resizable, A: Application>(
     decoder: &mut Decoder,
     terminal: &mut Terminal<B>,
     application: &mut A,
-) -> Result<bool, RunError<B::Error>>
+) -> Result<bool, AppError<B::Error>>
     ensures steps { ShowsState B.Backend A.Application application.old terminal.old
         → IfOk result (StepsTo B.Backend A.Application
         (record { decoder = decoder.old; state = application.old }) (S.coming source.old)
@@ -218,7 +218,7 @@ pub fn run<S: Source, B: Resizable, A: Application>(
     has_ticks: bool,
     terminal: &mut Terminal<B>,
     application: &mut A,
-) -> Result<(), RunError<B::Error>>
+) -> Result<(), AppError<B::Error>>
     ensures runs { RestsUnfixed B.screen terminal.old → OnOk result (
         (decoder : Decoder) × RunsTo B.Backend A.Application
         terminal.old
@@ -247,5 +247,5 @@ pub fn run<S: Source, B: Resizable, A: Application>(
             return Ok(());
         }
     }
-    Err(RunError::Read(io::Error::from(ErrorKind::Other)))
+    Err(AppError::Read(io::Error::from(ErrorKind::Other)))
 }

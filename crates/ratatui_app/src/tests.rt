@@ -1,6 +1,6 @@
 //! A counter run over bytes that come in pieces.
 
-use crate::{Counter, RunError, run, run_and_leave, run_inline_and_leave};
+use crate::{AppError, Counter, run, run_and_leave, run_inline_and_leave};
 use ratatui_ansi::AnsiBackend;
 use ratatui_core::backend::{Backend, TestBackend};
 use ratatui_core::layout::{Position, Size};
@@ -25,7 +25,7 @@ fn shows(alloc: Global, pieces: &[&[u8]], has_ticks: bool, line: &str, is_fine: 
     let ended = run(&mut source, has_ticks, &mut terminal, &mut counter);
     let fine = match ended {
         Ok(()) => true,
-        Err(RunError::Read(_)) => false,
+        Err(AppError::Read(_)) => false,
         Err(_) => return false,
     };
     fine == is_fine && terminal.backend().lines_are(&[line, "    "])
@@ -45,7 +45,7 @@ fn shows_on(alloc: Global, pieces: &[&[u8]], lines: &[&str]) -> bool {
     };
     let mut source = Pieces::new(pieces);
     match run(&mut source, false, &mut terminal, &mut counter) {
-        Err(RunError::Read(_)) => terminal.backend().lines_are(lines),
+        Err(AppError::Read(_)) => terminal.backend().lines_are(lines),
         _ => false,
     }
 }
@@ -70,7 +70,7 @@ fn shows_inline(alloc: Global, row: u16, pieces: &[&[u8]], lines: &[&str]) -> bo
     };
     let mut source = Pieces::new(pieces);
     match run(&mut source, true, &mut terminal, &mut counter) {
-        Err(RunError::Read(_)) => terminal.backend().lines_are(lines),
+        Err(AppError::Read(_)) => terminal.backend().lines_are(lines),
         _ => false,
     }
 }

@@ -11,7 +11,7 @@ ghost use Rattle.ratatui_app.specs.Glass.{Begins, IsGivenBack, RunsWhole};
 
 use crate::application::Application;
 use crate::moments::run_on_glass;
-use crate::running::RunError;
+use crate::running::AppError;
 use ratatui_ansi::{AnsiBackend, AnsiError};
 use ratatui_core::terminal::laws::calls_leave_a_terminal_at_rest;
 use ratatui_core::terminal::{Terminal, TerminalError, TerminalOptions, Viewport};
@@ -19,9 +19,9 @@ use ratatui_reads::Source;
 use std::alloc::Global;
 use std::io::Write;
 
-impl From<AnsiError> for RunError<AnsiError> {
+impl From<AnsiError> for AppError<AnsiError> {
     fn from(error: AnsiError) -> Self {
-        RunError::Draw(TerminalError::Backend(error))
+        AppError::Draw(TerminalError::Backend(error))
     }
 }
 
@@ -31,7 +31,7 @@ fn begin<W: Write + Drop>(
     alloc: Global,
     viewport: Viewport,
     mut backend: AnsiBackend<W>,
-) -> Result<Terminal<AnsiBackend<W>>, RunError<AnsiError>>
+) -> Result<Terminal<AnsiBackend<W>>, AppError<AnsiError>>
     requires { FitsEdges viewport }
     ensures begins { IfOk result (Begins viewport backend) }
 {
@@ -41,7 +41,7 @@ fn begin<W: Write + Drop>(
 }
 
 // Gives a terminal back.
-fn leave<W: Write + Drop>(terminal: Terminal<AnsiBackend<W>>) -> Result<W, RunError<AnsiError>>
+fn leave<W: Write + Drop>(terminal: Terminal<AnsiBackend<W>>) -> Result<W, AppError<AnsiError>>
     ensures { terminal.backend.failures ≡ 0
         → IfOk result (λ writer. IsGivenBack terminal.backend (W.contents writer)) }
 {
@@ -58,7 +58,7 @@ fn run_over<S: Source, W: Write + Drop, A: Application>(
     has_ticks: bool,
     backend: AnsiBackend<W>,
     application: &mut A,
-) -> Result<W, RunError<AnsiError>>
+) -> Result<W, AppError<AnsiError>>
     requires { FitsEdges viewport }
     ensures runs { (IsFixed viewport → ⊥) → FitsSize viewport (size_of (shown_by backend))
         → IsBlank (shown_by backend) → backend.failures ≡ 0
@@ -94,7 +94,7 @@ pub fn run_and_leave<S: Source, W: Write + Drop, A: Application>(
     has_ticks: bool,
     backend: AnsiBackend<W>,
     application: &mut A,
-) -> Result<W, RunError<AnsiError>>
+) -> Result<W, AppError<AnsiError>>
     ensures runs { IsBlank (shown_by backend) → backend.failures ≡ 0
         → IfOk result (λ writer. RunsWhole A.Application Fullscreen backend
         (record { decoder = fresh_decoder; state = application.old }) (S.coming source.old)
@@ -128,7 +128,7 @@ pub fn run_inline_and_leave<S: Source, W: Write + Drop, A: Application>(
     has_ticks: bool,
     backend: AnsiBackend<W>,
     application: &mut A,
-) -> Result<W, RunError<AnsiError>>
+) -> Result<W, AppError<AnsiError>>
     ensures runs { 0 < rows → IsBlank (shown_by backend) → backend.failures ≡ 0
         → IfOk result (λ writer. RunsWhole A.Application (Inline rows) backend
         (record { decoder = fresh_decoder; state = application.old }) (S.coming source.old)

@@ -2,7 +2,7 @@
 use crate::outcome::{Outcome, judged, judged_at};
 use rtui_terminal::Viewport;
 use rtui_text::Text;
-use screenplay::{PlayCause, PlayFault, Puts, RunFault, Scene, Stage, Step, play, run};
+use screenplay::{PlayCause, PlayFault, Puts, RunError, Scene, Stage, Step, play, run};
 use std::alloc::{AllocError, Global};
 
 fn steps(alloc: Global) -> Result<Vec<Step<'static>>, AllocError> {
@@ -72,8 +72,8 @@ fn run_script(alloc: Global, written: &mut Vec<u8>) -> Ran {
     let mut reader = SCRIPT.as_bytes();
     match run(alloc, &mut reader, written) {
         Ok(()) => Ran::Whole,
-        Err(RunFault::Memory) | Err(RunFault::Write) => Ran::Refused,
-        Err(RunFault::Step(fault)) if fault.cause == PlayCause::Memory => Ran::RefusedAt(
+        Err(RunError::Memory) | Err(RunError::Write) => Ran::Refused,
+        Err(RunError::Step(fault)) if fault.cause == PlayCause::Memory => Ran::RefusedAt(
             fault.step,
         ),
         Err(_) => Ran::Otherwise,

@@ -1,20 +1,20 @@
 -- How a program ends that prints a script.
 use Rattle.std.specs.Prelude.{◌≡◌, ℕ, zero, suc, List, [], ◌++◌, Option, codes}
 use Rattle.std.specs.Io.KnownBytes.{Appends}
-use Rattle.screenplay.specs.{Engine.IsRunFault, Engine.PrintsRun, Engine.run_fault_text}
-use Rattle.screenplay.specs.{declared.fault.RunFault.RunFault}
-use Rattle.screenplay.specs.declared.fault.RunFault.TheVariants.{Write}
+use Rattle.screenplay.specs.{Engine.IsRunFault, Engine.PrintsRun, Engine.run_error_text}
+use Rattle.screenplay.specs.{declared.error.RunError.RunError}
+use Rattle.screenplay.specs.declared.error.RunError.TheVariants.{Write}
 
 -- the line that tells a fault; a failed write has none
-abbrev pub run_fault_line : RunFault → List ℕ
+abbrev pub run_fault_line : RunError → List ℕ
 run_fault_line Write = []
-run_fault_line fault = run_fault_text fault ++ codes "\n"
+run_fault_line fault = run_error_text fault ++ codes "\n"
 
 -- the script was refused for a fault, which was told; only if the writer failed can anything have been
 -- written
 pub record IsScriptRefused {W E : Type 0} (told_to : E → Option (List ℕ)) (bytes : List ℕ) (w w' : W)
     (e e' : E) : Type 0 where
-  pub fault : RunFault
+  pub fault : RunError
   pub why : IsRunFault bytes fault
   pub told : Appends (told_to e) (told_to e') (run_fault_line fault)
   pub nothing_written : (fault ≡ Write → ⊥) → w' ≡ w

@@ -6,10 +6,10 @@ use Rattle.screenplay.specs.{Run.view_of_scene, Print.printed_from, Print.steps_
 use Rattle.screenplay.specs.{declared.act.Act.Act, declared.script.Script.Script, declared.scene.Scene.Scene}
 use Rattle.screenplay.specs.{declared.scene.Stage.Stage}
 use Rattle.screenplay.specs.{declared.scene.StepError.StepError, declared.scene.PlayCause.PlayCause}
-use Rattle.screenplay.specs.{declared.fault.RunFault.RunFault}
+use Rattle.screenplay.specs.{declared.error.RunError.RunError}
 use Rattle.screenplay.specs.declared.scene.PlayCause.TheVariants as cause
-use Rattle.screenplay.specs.declared.fault.RunFault.TheVariants.{Line, Step as AtStep, NotText, Read, Memory}
-use Rattle.screenplay.specs.declared.fault.RunFault.TheVariants.{Write}
+use Rattle.screenplay.specs.declared.error.RunError.TheVariants.{Line, Step as AtStep, NotText, Read, Memory}
+use Rattle.screenplay.specs.declared.error.RunError.TheVariants.{Write}
 
 -- the bytes are this script
 pub record IsScript (bytes : List ℕ) (script : Script) : Type 0 where
@@ -44,7 +44,7 @@ pub record HasStepError (bytes : List ℕ) (error : StepError) : Type 0 where
   pub ends : EndsEarly stage (steps_of script.acts) scenes error.step error.cause
 
 -- why nothing of these bytes was printed, or with a failed writer a part of what a run of them prints
-abbrev pub IsRunFault : List ℕ → RunFault → Type 0
+abbrev pub IsRunFault : List ℕ → RunError → Type 0
 IsRunFault bytes (Line n) = IsUtf8 bytes × IsFirstBadLine (lines bytes) n
 IsRunFault bytes (AtStep error) = HasStepError bytes error
 IsRunFault bytes NotText = IsUtf8 bytes → ⊥
@@ -53,7 +53,7 @@ IsRunFault bytes Memory = Unit {0}
 IsRunFault bytes Write = (text : List ℕ) × PrintsText bytes text
 
 -- a step of the acts can't be played, or memory was refused
-abbrev pub StopsAtStep : Stage → List Act → RunFault → Type 0
+abbrev pub StopsAtStep : Stage → List Act → RunError → Type 0
 StopsAtStep stage acts (AtStep error) = (scenes : List Scene)
     × EndsEarly stage (steps_of acts) scenes error.step error.cause
 StopsAtStep stage acts Memory = Unit {0}
@@ -65,10 +65,10 @@ cause_text cause.Memory = codes "memory"
 cause_text (cause.Unsettled area) = codes "unsettled"
 
 -- the line for standard error
-abbrev pub run_fault_text : RunFault → List ℕ
-run_fault_text (Line n) = codes "line " ++ decimal n ++ codes ": bad command"
-run_fault_text (AtStep fault) = codes "step " ++ decimal fault.step ++ codes ": " ++ cause_text fault.cause
-run_fault_text NotText = codes "input: not text"
-run_fault_text Read = codes "input: read failed"
-run_fault_text Memory = codes "input: no memory"
-run_fault_text Write = []
+abbrev pub run_error_text : RunError → List ℕ
+run_error_text (Line n) = codes "line " ++ decimal n ++ codes ": bad command"
+run_error_text (AtStep fault) = codes "step " ++ decimal fault.step ++ codes ": " ++ cause_text fault.cause
+run_error_text NotText = codes "input: not text"
+run_error_text Read = codes "input: read failed"
+run_error_text Memory = codes "input: no memory"
+run_error_text Write = []

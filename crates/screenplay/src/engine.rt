@@ -8,10 +8,10 @@ ghost use Rattle.rtui_backend.specs.TestBackend.{screen_of};
 ghost use Rattle.screenplay.specs.Run.{IsGoodStage};
 ghost use Rattle.screenplay.specs.Engine.{IsRunFault, IsScript, PrintsActs, PrintsRun, PrintsText};
 ghost use Rattle.screenplay.specs.Engine.{StopsAtStep};
-ghost use Rattle.screenplay.specs.declared.fault.RunFault.TheVariants.{Step as AtStep, Read, Memory, Write};
+ghost use Rattle.screenplay.specs.declared.error.RunError.TheVariants.{Step as AtStep, Read, Memory, Write};
 
 use crate::act::Act;
-use crate::fault::RunFault;
+use crate::error::RunError;
 use crate::playing::{open, play_plan};
 use crate::scene::{PlayCause, Stage, StepError};
 use crate::script::{Script, ScriptError, read_script};
@@ -22,7 +22,7 @@ use std::io::{self, ErrorKind, Read, Write};
 use std::str;
 
 // All that a reader has left.
-fn read_bytes<R: Read>(alloc: Global, reader: &mut R) -> Result<Vec<u8>, RunFault>
+fn read_bytes<R: Read>(alloc: Global, reader: &mut R) -> Result<Vec<u8>, RunError>
     ensures ok { IfOk result (λ bytes. IfSome (R.remaining reader.old) (λ all. bytes.items ≡ all)) }
     ensures err { IfErr result (λ fault.
         IfSome (R.remaining reader.old) (λ bytes. IsRunFault bytes fault)) }
@@ -31,8 +31,8 @@ fn read_bytes<R: Read>(alloc: Global, reader: &mut R) -> Result<Vec<u8>, RunFaul
     let mut bytes = Vec::new(alloc);
     match reader.read_to_end(&mut bytes) {
         Ok(_) => Ok(bytes),
-        Err(error) if error.kind() == ErrorKind::OutOfMemory => Err(RunFault::Memory),
-        Err(_) => Err(RunFault::Read),
+        Err(error) if error.kind() == ErrorKind::OutOfMemory => Err(RunError::Memory),
+        Err(_) => Err(RunError::Read),
     }
 }
 
@@ -45,7 +45,7 @@ fn write_text<W: Write>(writer: &mut W, text: &[u8]) -> io::Result<()>
 }
 
 // The script that these bytes are.
-fn script_of(alloc: Global, bytes: &[u8]) -> Result<Script<'_>, RunFault>
+fn script_of(alloc: Global, bytes: &[u8]) -> Result<Script<'_>, RunError>
     ensures ok { IfOk result (IsScript bytes.now) }
     ensures stage { IfOk result (λ script. IfSome script.stage IsGoodStage) }
     ensures err { IfErr result (IsRunFault bytes.now) }
@@ -53,16 +53,16 @@ fn script_of(alloc: Global, bytes: &[u8]) -> Result<Script<'_>, RunFault>
     ensures not_write { IfErr result (λ fault. fault ≡ Write → ⊥) }
 {
     let Ok(text) = str::from_utf8(bytes) else {
-        return Err(RunFault::NotText);
+        return Err(RunError::NotText);
     };
     read_script(alloc, text).map_err(|error| match error {
-        ScriptError::Line(number) => RunFault::Line(number),
-        ScriptError::Memory => RunFault::Memory,
+        ScriptError::Line(number) => RunError::Line(number),
+        ScriptError::Memory => RunError::Memory,
     })
 }
 
 // Adds the printed text of what the screen shows.
-fn show(text: &mut Vec<u8>, terminal: &Terminal<TestBackend>) -> Result<(), RunFault>
+fn show(text: &mut Vec<u8>, terminal: &Terminal<TestBackend>) -> Result<(), RunError>
     ensures ok { OnOk result (text.new.items
         ≡ text.old.items ++ printed_screen (screen_of terminal.now.backend)) }
     ensures err { IfErr result (λ fault. fault ≡ Memory) }
@@ -70,17 +70,17 @@ fn show(text: &mut Vec<u8>, terminal: &Terminal<TestBackend>) -> Result<(), RunF
     terminal
         .backend()
         .write_to(text)
-        .map_err(|_| RunFault::Memory)
+        .map_err(|_| RunError::Memory)
 }
 
-fn step_fault(step: usize, cause: PlayCause) -> RunFault
+fn step_fault(step: usize, cause: PlayCause) -> RunError
     ensures { result ≡ AtStep (record { step = step; cause = cause }) }
 {
-    RunFault::Step(StepError { step, cause })
+    RunError::Step(StepError { step, cause })
 }
 
 // Plays the acts of a script on its stage; it gives the text of what they show.
-fn play_acts(alloc: Global, stage: Stage, acts: &[Act<'_>]) -> Result<Vec<u8>, RunFault>
+fn play_acts(alloc: Global, stage: Stage, acts: &[Act<'_>]) -> Result<Vec<u8>, RunError>
     requires { IsGoodStage stage }
     ensures ok { IfOk result (λ text. PrintsActs stage acts.now text.items) }
     ensures fault { IfErr result (StopsAtStep stage acts.now) }
@@ -115,7 +115,7 @@ fn play_acts(alloc: Global, stage: Stage, acts: &[Act<'_>]) -> Result<Vec<u8>, R
 /// - `Step`: this step can't be played.
 /// - `NotText`: the bytes aren't UTF-8.
 /// - `Memory`: memory was refused.
-pub fn printed_text(alloc: Global, bytes: &[u8]) -> Result<Vec<u8>, RunFault>
+pub fn printed_text(alloc: Global, bytes: &[u8]) -> Result<Vec<u8>, RunError>
     ensures printed { IfOk result (λ text. PrintsText bytes.now text.items) }
     ensures fault { IfErr result (IsRunFault bytes.now) }
     ensures not_read { IfErr result (λ fault. fault ≡ Read → ⊥) }
@@ -134,7 +134,7 @@ pub fn printed_text(alloc: Global, bytes: &[u8]) -> Result<Vec<u8>, RunFault>
 ///
 /// Those of [`printed_text`]; `Read` if the reader failed; and `Write` if the writer failed. With
 /// any but `Write` nothing was written.
-pub fn run<R: Read, W: Write>(alloc: Global, reader: &mut R, writer: &mut W) -> Result<(), RunFault>
+pub fn run<R: Read, W: Write>(alloc: Global, reader: &mut R, writer: &mut W) -> Result<(), RunError>
     ensures printed { OnOk result (IfSome (R.remaining reader.old) (λ bytes.
         PrintsRun bytes (W.contents writer.old) (W.contents writer.new))) }
     ensures fault { IfErr result (λ fault.
@@ -144,5 +144,5 @@ pub fn run<R: Read, W: Write>(alloc: Global, reader: &mut R, writer: &mut W) -> 
 {
     let bytes = read_bytes(alloc, reader)?;
     let text = printed_text(alloc, bytes.as_slice())?;
-    write_text(writer, text.as_slice()).map_err(|_| RunFault::Write)
+    write_text(writer, text.as_slice()).map_err(|_| RunError::Write)
 }

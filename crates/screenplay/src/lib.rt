@@ -11,7 +11,7 @@
 
 mod act;
 mod engine;
-mod fault;
+mod error;
 pub mod laws;
 mod playing;
 mod printing;
@@ -20,7 +20,7 @@ mod scene;
 mod script;
 
 pub use engine::{printed_text, run};
-pub use fault::RunFault;
+pub use error::RunError;
 pub use playing::play;
 pub use printing::print_script;
 pub use scene::{PlayCause, PlayFault, Puts, Scene, Stage, Step, StepError};

@@ -6,18 +6,18 @@ ghost use Rattle.std.specs.Process.{exit_status};
 ghost use Rattle.screenplay.specs.Ending.{EndsScript, run_fault_line};
 
 use crate::engine::run;
-use crate::fault::RunFault;
+use crate::error::RunError;
 use std::alloc::Global;
 use std::io::{self, Read, Write};
 use std::process::ExitCode;
 
 // Writes the line that tells a fault; that a write failed isn't told.
-fn tell<E: Write>(errors: &mut E, fault: RunFault) -> io::Result<()>
+fn tell<E: Write>(errors: &mut E, fault: RunError) -> io::Result<()>
     ensures { OnOk result
         (Appends (E.contents errors.old) (E.contents errors.new) (run_fault_line fault)) }
 {
     match fault {
-        RunFault::Write => Ok(()),
+        RunError::Write => Ok(()),
         fault => writeln!(errors, "{fault}"),
     }
 }

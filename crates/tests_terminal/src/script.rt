@@ -1,5 +1,5 @@
 //! Scripts, run over bytes in memory.
-use screenplay::{RunFault, run};
+use screenplay::{RunError, run};
 use std::alloc::{AllocError, Global};
 use std::io::{self, Read};
 use std::process::Abort;
@@ -12,7 +12,7 @@ fn prints(alloc: Global, script: &str, printed: &str) -> bool {
     run(alloc, &mut reader, &mut written).is_ok() && written.as_slice() == printed.as_bytes()
 }
 
-fn reads_as(alloc: Global, fault: RunFault, text: &str) -> Result<bool, AllocError> {
+fn reads_as(alloc: Global, fault: RunError, text: &str) -> Result<bool, AllocError> {
     Ok(fault.to_string(alloc)?.as_str() == text)
 }
 
@@ -85,7 +85,7 @@ fn is_no_text(alloc: Global, bytes: &[u8]) -> bool {
     let mut written = Vec::new(alloc);
     let mut reader = bytes;
     match run(alloc, &mut reader, &mut written) {
-        Err(RunFault::NotText) => written.is_empty(),
+        Err(RunError::NotText) => written.is_empty(),
         _ => false,
     }
 }
@@ -148,7 +148,7 @@ fn fails_behind(alloc: Global, script: &str, writes: usize) -> bool {
     let mut reader = script.as_bytes();
     let mut writer = Narrow { left: writes };
     match run(alloc, &mut reader, &mut writer) {
-        Err(RunFault::Write) => true,
+        Err(RunError::Write) => true,
         _ => false,
     }
 }
@@ -214,7 +214,7 @@ impl io::Write for Unflushed {
 fn fails_to_flush(alloc: Global, script: &str) -> bool {
     let mut reader = script.as_bytes();
     match run(alloc, &mut reader, &mut Unflushed) {
-        Err(RunFault::Write) => true,
+        Err(RunError::Write) => true,
         _ => false,
     }
 }
@@ -250,7 +250,7 @@ fn names_a_failed_read(rt: HostRuntime) -> Result<(), Fail> {
 fn fails_to_read_on(alloc: Global) -> Result<bool, AllocError> {
     let mut written = Vec::new(alloc);
     match run(alloc, &mut Breaking { is_broken: false }, &mut written) {
-        Err(RunFault::Read) => Ok(written.is_empty()),
+        Err(RunError::Read) => Ok(written.is_empty()),
         _ => Ok(false),
     }
 }
@@ -265,7 +265,7 @@ fn names_a_read_that_fails_later(rt: HostRuntime) -> Result<(), Fail> {
 fn fails_to_write(alloc: Global, script: &str) -> Result<bool, AllocError> {
     let mut reader = script.as_bytes();
     match run(alloc, &mut reader, &mut Full) {
-        Err(RunFault::Write) => reads_as(alloc, RunFault::Write, ""),
+        Err(RunError::Write) => reads_as(alloc, RunError::Write, ""),
         _ => Ok(false),
     }
 }

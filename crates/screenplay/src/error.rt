@@ -5,7 +5,7 @@ use std::fmt;
 
 /// Why a script wasn't read, played or printed. With any but `Write`, nothing was written.
 #[derive(Debug, Drop)]
-pub enum RunFault {
+pub enum RunError {
     /// The line of this number, counted from 1, is the first bad one.
     Line(usize),
     /// A step couldn't be played.
@@ -21,26 +21,26 @@ pub enum RunFault {
 }
 
 /// The line for standard error; for `Write` none.
-impl fmt::Display for RunFault {
+impl fmt::Display for RunError {
     ghost use Rattle.std.specs.Prelude.{Some};
-    ghost use Rattle.screenplay.specs.Engine.{run_fault_text};
+    ghost use Rattle.screenplay.specs.Engine.{run_error_text};
 
-    ghost output = { λ fault. Some (run_fault_text fault) };
+    ghost output = { λ fault. Some (run_error_text fault) };
 
     fn fmt<W: fmt::Write>(&self, f: &mut fmt::Formatter<W>) -> fmt::Result {
         match self {
-            RunFault::Line(number) => write!(f, "line {number}: bad command"),
-            RunFault::Step(fault) => {
+            RunError::Line(number) => write!(f, "line {number}: bad command"),
+            RunError::Step(fault) => {
                 let step = fault.step;
                 match fault.cause {
                     PlayCause::Memory => write!(f, "step {step}: memory"),
                     PlayCause::Unsettled(_) => write!(f, "step {step}: unsettled"),
                 }
             }
-            RunFault::NotText => f.write_str("input: not text"),
-            RunFault::Read => f.write_str("input: read failed"),
-            RunFault::Memory => f.write_str("input: no memory"),
-            RunFault::Write => Ok(()),
+            RunError::NotText => f.write_str("input: not text"),
+            RunError::Read => f.write_str("input: read failed"),
+            RunError::Memory => f.write_str("input: no memory"),
+            RunError::Write => Ok(()),
         }
     }
 }
