@@ -22,16 +22,6 @@ pub enum PagerError {
     Run(AppError<AnsiError>),
 }
 
-// Tells why a run stopped.
-fn tell_fault(rt: &HostRuntime, fault: AppError<AnsiError>) -> io::Result<()> {
-    match fault {
-        AppError::Read(error) => eprintln!(rt; "pager: the keys: {error}"),
-        AppError::Memory => eprintln!(rt; "pager: no memory"),
-        AppError::Draw(error) => eprintln!(rt; "pager: {error}"),
-        AppError::Resize(error) => eprintln!(rt; "pager: {error}"),
-    }
-}
-
 impl PagerError {
     /// Tells it in one line of standard error.
     pub fn tell(self, rt: &HostRuntime, name: &str) -> io::Result<()> {
@@ -41,7 +31,7 @@ impl PagerError {
             PagerError::Keys(error) => eprintln!(rt; "pager: /dev/tty: {error}"),
             PagerError::Write(error) => eprintln!(rt; "pager: standard output: {error}"),
             PagerError::Memory => eprintln!(rt; "pager: no memory"),
-            PagerError::Run(fault) => tell_fault(rt, fault),
+            PagerError::Run(error) => eprintln!(rt; "pager: {error}"),
         }
     }
 }

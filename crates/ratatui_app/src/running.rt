@@ -19,18 +19,25 @@ use ratatui_core::terminal::{Terminal, TerminalError};
 use ratatui_input::Decoder;
 use ratatui_reads::{Source, take};
 use std::alloc::AllocError;
+use std::fmt::Display;
 use std::io::{self, ErrorKind};
+use thiserror::Error;
 
 /// Why a run ended before the application was over.
-#[derive(Debug, Drop)]
+#[derive(Debug, Drop, Error)]
+#[error_bound(E: Display)]
 pub enum AppError<E> {
     /// The source failed.
+    #[error("the keys: {0}")]
     Read(io::Error),
     /// An update was refused memory.
+    #[error("no memory")]
     Memory,
     /// A draw was refused.
+    #[error("{0}")]
     Draw(TerminalError<E>),
     /// The backend failed to take a size that the terminal told.
+    #[error("{0}")]
     Resize(E),
 }
 
