@@ -1,5 +1,7 @@
 -- An item of a list over its part, and items one after the other.
-use Rattle.std.proofs.Common.{◌≡◌, ℕ, ◌+◌, ◌-◌, ◌<◌, ◌≤◌, Bool, List, length, Option, refl, sym, ◌∙◌, arith, is_some}
+use Rattle.std.proofs.Common.{◌≡◌, ℕ, ◌+◌, ◌-◌, ◌<◌, ◌≤◌, Bool, List, length, min, nat_eq, refl, sym, ap, ◌∙◌, arith, is_some}
+use Rattle.std.proofs.Common.{Option, Some, None, MatchOption, IsSomeAnd, IfSome}
+use Rattle.std.specs.Option.{option_eq}
 use Rattle.std.proofs.Math.ListN.{get_or}
 use Rattle.std.proofs.lemmas.List.{get_or_default}
 use Rattle.ratatui_core.specs.Layout.{Rect, Position, HasPosition, IsInside}
@@ -11,7 +13,7 @@ use Rattle.rtui_list.specs.{declared.list.List.List as ListData, declared.list.L
 use Rattle.rtui_list.specs.declared.list.ListDirection.TheVariants.{TopToBottom, BottomToTop}
 use Rattle.rtui_list.specs.{declared.item.ListItem.ListItem, Windows.item_rows, Windows.rows_before, Windows.Fit}
 use Rattle.rtui_list.specs.Items.{item_part, without_columns, part_row, MarksRow, is_marked, RendersItem, nth_item}
-use Rattle.rtui_list.specs.Items.{part_of_item, ShowsItems, is_selected_at, has_mark_columns, shown_as}
+use Rattle.rtui_list.specs.Items.{part_of_item, ShowsItems, is_selected_at, has_mark_columns, shown_as, at_most}
 use Rattle.rtui_list.proofs.WindowLemmas.{rows-next, rows-grow}
 
 pub rows-apart : (r : Rect) (k j : ℕ) → k < j → (p : Position) → HasPosition (part_row r k) p → HasPosition (part_row r j) p → ⊥
@@ -142,3 +144,19 @@ items-next l selected offset k count r used rows item is_selected has_columns pa
     Parts-next k (part_of_item l r offset) (shown_as l selected offset r) old mid new shown
     (λ i less p one two. shown-apart l offset count i k r box inside fit less lt p one two)
     (rw (← place, same, ← at, ← columns_) made) (rw (← place) within)
+
+-- the selected number is asked for by equality
+pub selected-by : (selected : Option ℕ) (k : ℕ) → option_eq nat_eq selected (Some k) ≡ is_selected_at selected k
+selected-by None k = refl
+selected-by (Some n) k = refl
+
+-- a number is cut to another one
+pub cut-by : (last : ℕ) (o cut : Option ℕ) → MatchOption o (cut ≡ None) (λ n. IsSomeAnd cut (λ m. m ≡ min n last))
+    → cut ≡ at_most last o
+cut-by last None cut is = is
+cut-by last (Some n) (Some m) is = ap Some is
+cut-by last (Some n) None is = absurd is
+
+pub cut-inside : (n : ℕ) (o : Option ℕ) → 0 < n → IfSome (at_most (n - 1) o) (λ m. m < n)
+cut-inside n None some = tt
+cut-inside n (Some m) some = omega arith

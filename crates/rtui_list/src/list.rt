@@ -423,7 +423,8 @@ impl<'a> List<'a> {
             return Ok(());
         }
         let height = usize::from(inner.height);
-        let selected = state.selected.map(|index| index.min(items.len() - 1));
+        let last = items.len() - 1;
+        let selected = state.selected.map(|index| index.min(last));
         let offset = offset_for(items, self.scroll_padding, selected, state.offset, height);
         let count = count_from(items, offset, height);
         self.render_items(selected, offset, count, inner, buf)?;

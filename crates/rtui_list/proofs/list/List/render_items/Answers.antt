@@ -1,7 +1,7 @@
-use Rattle.std.proofs.Common.{◌≡◌, ◌+◌, false, true, sym, subst, arith}
+use Rattle.std.proofs.Common.{◌≡◌, ◌+◌, false, true, sym, subst, ◌∙◌, arith}
 use Rattle.ratatui_core.proofs.{BufferLemmas.within-wider, WidgetLemmas.within-then}
 use Rattle.rtui_list.proofs.WindowLemmas.{rows-next}
-use Rattle.rtui_list.proofs.ItemLemmas.{item-fits, item-in, item-down, items-next, items-within}
+use Rattle.rtui_list.proofs.ItemLemmas.{item-fits, item-in, item-down, items-next, items-within, selected-by}
 use Rattle.rtui_list.specs.Items.{IsShortItem}
 use Rattle.rtui_list.proofs.list.List.render_items.Goals as goal
 
@@ -53,14 +53,15 @@ returns-in_err-render_item-clause-within c =
 pub loop-k-preserved : goal.loop-k-preserved
 loop-k-preserved c =
     let is = rw c.as_slice-items.ensures.value at c.index-items-offset.is in
+    let selected = c.eq-is_selected.ensures ∙ selected-by c.args.selected (c.args.offset + c.loop-k.k) in
     let next = rows-next c.args.self.now.items.items (c.args.offset + c.loop-k.k) c.index-items-offset.result (omega arith) is in
     record {
       used = (let e : c.args.offset + (c.loop-k.k + 1) ≡ c.args.offset + c.loop-k.k + 1 = omega arith in
           rw e (omega (arith, next, c.height-rows.ensures)));
       shown = items-next c.args.self.now c.args.selected c.args.offset c.loop-k.k c.args.count c.args.inner c.loop-k.used
-          c.height-rows.result c.index-items-offset.result c.is_at-is_selected.result c.has_columns-has_columns.result
+          c.height-rows.result c.index-items-offset.result c.eq-is_selected.result c.has_columns-has_columns.result
           c.item_part-part.result c.args.buf.now c.loop-k.buf c.render_item.new.buf c.requires.some c.requires.items
-          c.requires.fits (omega arith) is c.loop-k.invariant.used c.height-rows.ensures c.is_at-is_selected.ensures
+          c.requires.fits (omega arith) is c.loop-k.invariant.used c.height-rows.ensures selected
           (rw (← c.is_some.ensures) c.has_columns-has_columns.ensures) c.item_part-part.ensures c.loop-k.invariant.shown
           c.in_ok-render_item.ensures.ok c.in_ok-render_item.ensures.within;
     }
