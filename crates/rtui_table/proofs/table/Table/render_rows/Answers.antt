@@ -1,5 +1,6 @@
 use Rattle.std.proofs.Common.{◌≡◌, ◌+◌, ◌∙◌, drop, ap, arith}
 use Rattle.ratatui_core.proofs.{BufferLemmas.within-wider, WidgetLemmas.within-then}
+use Rattle.rtui_list.proofs.{ItemLemmas.selected-by}
 use Rattle.rtui_table.specs.Rows.{stacked_rows, cells_area, full_height, below}
 use Rattle.rtui_table.specs.Tables.{rows_parts, placed_rows, placed_row_parts}
 use Rattle.rtui_table.proofs.PartLemmas.{rows-next, area-next, rows-end, rows-stop, area-end, finishing-next, finishing-end}
@@ -45,6 +46,7 @@ loop-k-preserved c =
     let is = rw c.as_slice-rows.ensures.value at c.index-rows-k.is in
     let at : c.below-left.result ≡ below (full_height c.index-rows-k.result) c.loop-k.left = c.below-left.ensures
     ∙ ap (λ n. below n c.loop-k.left) c.height_with_margin.ensures.value in
+    let selected = c.eq-is_selected.ensures ∙ selected-by c.args.state.selected c.loop-k.k in
     record {
       area = rw at (below-area (full_height c.index-rows-k.result) c.loop-k.left c.loop-k.invariant.area);
       columns = rw at c.loop-k.invariant.columns;
@@ -67,8 +69,8 @@ loop-k-preserved c =
           (placed_rows c.args.self.now c.args.state c.args.area)) c.args.buf.now c.loop-k.buf c.render_row.new.buf
           (rows-next c.args.self.now c.args.state.selected c.args.symbol_columns c.args.columns.now c.loop-k.left c.loop-k.k
           c.args.self.now.rows.items c.index-rows-k.result (omega arith) (omega arith) is) c.loop-k.invariant.rest
-          (rw (c.is_at-is_selected.ensures, c.cells_area-part.ensures) at c.in_ok-render_row.ensures.ok));
-      found = rw (at, c.or-selected.ensures, c.area_if.ensures, c.is_at-is_selected.ensures, c.cells_area-part.ensures)
+          (rw (selected, c.cells_area-part.ensures) at c.in_ok-render_row.ensures.ok));
+      found = rw (at, c.or-selected.ensures, c.area_if.ensures, selected, c.cells_area-part.ensures)
           (area-next c.args.self.now c.args.state.selected c.args.symbol_columns c.args.columns.now c.loop-k.left c.loop-k.k
           c.args.self.now.rows.items c.index-rows-k.result (omega arith)
           (omega arith) is c.loop-k.selected _ c.loop-k.invariant.found);
