@@ -1,31 +1,33 @@
 -- What the bytes of a cell do to a terminal within a draw.
 use Rattle.std.proofs.Common.{◌≡◌, ℕ, ◌+◌, ◌-◌, ◌*◌, ◌^◌, ◌<◌, ◌≤◌, ◌==◌, ◌&&◌, not, min, nat_lt, nat_le, nat_eq, if◌then◌else◌}
-use Rattle.std.proofs.Common.{Bool, List, [], ◌∷◌, ◌++◌, IsTrue, chars, true, false, slice_index_or, IsUtf8, Option, Some, None}
-use Rattle.std.proofs.Common.{IfSome, refl, sym, ap, ap₂, ◌∙◌, arith, subst, inl, inr, ◌⊎◌}
+use Rattle.std.proofs.Common.{Bool, List, [], ◌∷◌, ◌++◌, IsTrue, chars, true, false, IsUtf8, Option, Some, None}
+use Rattle.std.proofs.Common.{IfSome, length, refl, sym, ap, ap₂, ◌∙◌, arith, subst, inl, inr, ◌⊎◌}
 use Rattle.std.proofs.lemmas.{Bool.and_parts, Bool.or_right, Bool.Decides.nat_tests, List.Folds.list_all-append, Str.encode_ascii}
 use lib.Utf8.{encode}
-use Rattle.std.specs.List.{list_all}
 use Rattle.ratatui_core.specs.{Layout.Position, Backend.Draws}
 use Rattle.ratatui_core.specs.Buffer.{blank, symbol_text, Look, look_of, empty_look, width_of, text_width, Update, put, Cell}
 use Rattle.ratatui_core.proofs.{BackendLemmas.Draws-none, BackendLemmas.Draws-push, BufferLemmas.one_byte}
 use Rattle.ratatui_core.specs.DiffOption as DiffOption
 use Rattle.ansi_model.specs.{declared.sgr.Sgr.Sgr, declared.pen.Pen.Pen, declared.glyph.Glyph.Glyph}
 use Rattle.ansi_model.specs.{declared.glyph.Glyph.TheVariants.Plain}
-use Rattle.ratatui_ansi.specs.{declared.draw.DrawState.DrawState, Tracker.IsAwaiting}
+use Rattle.ratatui_ansi.specs.{declared.draw.Draw.Draw, declared.draw.DrawState.DrawState, declared.draw.Target.Target}
+use Rattle.ratatui_ansi.specs.{Tracker.IsAwaiting}
 use Rattle.ansi_model.specs.{Columns.Columns, Columns.look_in, Columns.is_continuation, Flags.AreContinuations, Flags.flag}
 use Rattle.ansi_model.specs.{Parameters.is_sendable_by}
 use Rattle.ansi_model.specs.{Sgr.default_sgr, Sgr.inked, Sgr.sgr_of, Emulator.Emulator, Emulator.rested, Emulator.with_sgr}
 use Rattle.ansi_model.specs.{Sends.Leads}
 use Rattle.ansi_model.specs.Symbols.{is_plain_char, is_one_plain, is_printed, printed_columns, glyph_columns}
 use Rattle.ansi_model.specs.{Screens.screen_shown, Screens.IsIdle, Drawing.ChangesSgr.Stays, Drawing.ChangesSgr.Sets}
-use Rattle.ansi_model.specs.Drawing.{printed_at, blanked, WritesAt, IsDrawnBy, ChangesSgr, PenSends, Prints}
-use Rattle.ratatui_ansi.specs.Frame.{is_fit, is_sendable_on, IsGlyph, IsVacant, IsDrawing, AreMarked, Covers, SendsUpdates}
-use Rattle.ratatui_ansi.specs.Frame.{SendsDraw}
+use Rattle.ansi_model.specs.Drawing.{printed_at, blanked, WritesAt, ChangesSgr}
+use Rattle.ratatui_ansi.specs.Frame.{update_in, draw_bytes, is_covered, is_fit, is_sendable_on, IsGlyph, IsVacant, IsDraw}
+use Rattle.ratatui_ansi.specs.Frame.{BeginsDraw, IsUncovered, KeepsDraw, OnlyPens, DrawSends, SetsSgr, PrintsSymbol}
+use Rattle.ratatui_ansi.specs.Frame.{AreCovered, Covers, IsDrawing, SendsUpdates, DrawsUpdates, SendsDraw}
 use Rattle.ansi_model.proofs.ReadLemmas.{Leads-then, Leads-so, Leads-none}
 use Rattle.ansi_model.proofs.{SymbolLemmas.plain-printed, SymbolLemmas.plain-single}
 use Rattle.ansi_model.proofs.{SymbolLemmas.one-undisputed, GlyphLemmas.printed-width, SgrLemmas.equal-number}
 use Rattle.ratatui_ansi.proofs.TailLemmas.{continuation-empty, laid-shown, IsTail}
-use Rattle.ansi_model.proofs.PaintLemmas.{PenSends-then}
+use Rattle.ansi_model.proofs.{PaintLemmas.PenSends-then, PlaceLemmas.places-on, PlaceLemmas.places-on-then}
+use Rattle.ansi_model.proofs.{PlaceLemmas.places-sgr}
 use Rattle.ratatui_ansi.proofs.LayLemmas.{sgr-paints, IsLaid, laid-by, laid-ready, tail-of, laid-flags}
 
 -- ---- what the screen shows
@@ -53,11 +55,36 @@ laid-draws w h x y n end cell s u written after wide high tail en some fits row 
   full = λ above. omega arith;
 }
 
+-- ---- a vacant cell
+
+pub vacant-is : (c : Cell) → symbol_text c.symbol ≡ blank → sgr_of c ≡ default_sgr → width_of c ≡ 1 → IsVacant c
+vacant-is c text sgr width = record { look = sym (ink-look c) ∙ ap₂ inked text sgr; width = width }
+
+pub vacant-text : (c : Cell) → IsVacant c → symbol_text c.symbol ≡ blank
+vacant-text c is = ap (λ (look : Look). look.symbol) (ink-look c ∙ is.look)
+
+pub vacant-sgr : (c : Cell) → IsVacant c → sgr_of c ≡ default_sgr
+vacant-sgr c is =
+    ap (λ (look : Look). let sgr : Sgr = record {
+      fg = look.fg;
+      bg = look.bg;
+      underline_color = look.underline_color;
+      modifier = look.modifier;
+    } in sgr) (ink-look c ∙ is.look)
+
 -- ---- renditions
 
 own-sendable : (colors : Bool) → is_sendable_by colors default_sgr ≡ true
 own-sendable true = refl
 own-sendable false = refl
+
+sendable-sgr : (w h : ℕ) (colors : Bool) (u : Update) → is_sendable_by colors (sgr_of u.cell) ≡ true
+    → is_sendable_on w h colors u ≡ true
+sendable-sgr w h colors u sent = rw sent (or_right (not (nat_lt u.x w && nat_lt u.y h)) true refl)
+
+sendable-vacant : (w h : ℕ) (colors : Bool) (u : Update) → IsVacant u.cell → is_sendable_on w h colors u ≡ true
+sendable-vacant w h colors u vacant = sendable-sgr w h colors u (ap (is_sendable_by colors) (vacant-sgr u.cell vacant)
+    ∙ own-sendable colors)
 
 -- ---- a cell
 
@@ -136,123 +163,119 @@ cursor-at : (end y w ux uy uw : ℕ) → ux ≡ end → uy ≡ y → uw ≡ w �
     let goal : Position = record { x = min end (w - 1); y = y } in at ≡ goal
 cursor-at end y w ux uy uw ex ey ew = rw (ex, ey, ew) refl
 
-pub lay-sends : (w h x y n end : ℕ) (cell : Cell) (before after : DrawState) (flags flags_after : List Bool) (old new : List ℕ)
-    → Fits (w - x) cell → width_of cell ≡ n → x < w → y < h
-    → PenSends w h old before.pen (λ t. blanked (x + n) y (end - (x + n))
-    (printed_at x y (sgr_of cell) (symbol_text cell.symbol) t)) new after.pen
-    → slice_index_or flags (y * w + x) false ≡ false → x + n ≤ end → end ≤ w
-    → ((k : ℕ) → x + n ≤ k → k < end → slice_index_or flags (y * w + k) false ≡ true)
-    → (end < w → slice_index_or flags (y * w + end) false ≡ false)
-    → AreMarked (y * w + x) (y * w + (x + n)) (y * w + end) flags flags_after
-    → after.cursor ≡ record { x = min end (w - 1); y = y } → after.written ≡ min (before.written + 1) (2 ^ 64 - 1)
-    → SendsUpdates w h old before flags (record { x = x; y = y; cell = cell } ∷ []) new after flags_after
-lay-sends w h x y n end cell before after flags flags_after old new fit en column row both uncut ordered inside set unset marked
-    cursor count =
+lay-sends : (p : Position) (n end : ℕ) (cell : Cell) (a e : Draw) → IsUncovered a p → Fits (a.target.width - p.x) cell
+    → width_of cell ≡ n → e.target ≡ a.target
+    → DrawSends a (λ t. blanked (p.x + n) p.y (end - (p.x + n)) (printed_at p.x p.y (sgr_of cell) (symbol_text cell.symbol) t)) e
+    → AreCovered a.target.width p n end a.continuations.now e.continuations.now
+    → e.state.cursor ≡ record { x = min end (a.target.width - 1); y = p.y }
+    → e.state.written ≡ min (a.state.written + 1) (2 ^ 64 - 1)
+    → SendsUpdates a (update_in p cell ∷ []) e
+lay-sends p n end cell a e free fit en same both covers cursor count =
+    let x = p.x in
+    let y = p.y in
+    let w = a.target.width in
+    let h = a.target.height in
     let symbol = symbol_text cell.symbol in
     let m = end - (x + n) in
     let columns : printed_columns symbol ≡ n = fit.columns ∙ en in
     let some : 0 < n = let s = fit.some in omega arith in
-    let fits : x + n ≤ w = let i = fit.inside in omega arith in
-    let left : (t : Emulator) → IsDrawing w h before flags t → is_continuation ((rested t).columns x y) ≡ false =
-    λ t is. sym (is.continuations.each x y column row) ∙ uncut in
-    let tail : (t : Emulator) → IsDrawing w h before flags t → IsTail (x + n) end y (rested t).columns =
-    λ t is. tail-of w h (x + n) end y flags (rested t).columns is.continuations is.ready.tidy.beyond row ordered inside set unset
-    in
+    let fits : x + n ≤ w = let i = fit.inside in let c = free.column in omega arith in
+    let left : (t : Emulator) → IsDrawing a t → is_continuation ((rested t).columns x y) ≡ false =
+    λ t is. sym (is.continuations.each x y free.column free.row) ∙ free.uncut in
+    let tail : (t : Emulator) → IsDrawing a t → IsTail (x + n) end y (rested t).columns =
+    λ t is. tail-of w h (x + n) end y a.continuations.now (rested t).columns is.continuations is.ready.tidy.beyond free.row
+    covers.ordered covers.inside covers.set covers.unset in
     Leads-so both (λ t is. record { width = is.ready.rest.width; height = is.ready.rest.height; drawn = is.drawn })
     (λ t v is did.
     let u = rested v in
     let at : IsLaid x y n end (look_of cell) (rested t) u = subst (IsLaid x y n end (look_of cell) (rested t)) (sym did.printed)
     (subst (λ look. IsLaid x y n end look (rested t) (blanked (x + n) y m (printed_at x y (sgr_of cell) symbol (rested t))))
     (ink-look cell)
-    (laid-by w h x y n end (sgr_of cell) symbol (rested t) is.ready columns some fits inside row (left t is) (tail t is))) in
+    (laid-by w h x y n end (sgr_of cell) symbol (rested t) is.ready columns some fits covers.inside free.row (left t is)
+    (tail t is))) in
     let wide : u.width ≡ w = ap (λ (v : Emulator). v.width) at.only ∙ is.ready.rest.width in (
       record {
         drawn = did.drawn;
-        ready = laid-ready w h x y n end (look_of cell) (rested t) u is.ready (sym columns
-            ∙ ap (λ (look : Look). printed_columns look.symbol) (ink-look cell)) fits row (left t is) (tail t is) at;
-        continuations = laid-flags w h x y n end (look_of cell)
-            (rested t) u flags flags_after is.continuations ordered inside some at marked;
+        ready = rw same (laid-ready w h x y n end (look_of cell) (rested t) u is.ready (sym columns
+            ∙ ap (λ (look : Look). printed_columns look.symbol) (ink-look cell)) fits free.row (left t is) (tail t is) at);
+        continuations = rw same (laid-flags w h x y n end (look_of cell) (rested t) u a.continuations.now e.continuations.now
+            is.continuations covers.ordered covers.inside some at covers.marked);
         cursor = cursor-at end y w u.x u.y u.width at.x_at at.y_at wide ∙ sym cursor;
       },
-      laid-draws w h x y n end cell (rested t) u before.written after.written is.ready.rest.width
-          is.ready.rest.height (tail t is) en some fits row at count,
+      laid-draws w h x y n end cell (rested t) u a.state.written e.state.written is.ready.rest.width
+          is.ready.rest.height (tail t is) en some fits free.row at count,
     ))
 
+-- one more item was counted
+abbrev pub one-more : DrawState → DrawState
+one-more d = record d { written = min (d.written + 1) (2 ^ 64 - 1) }
+
 -- a rendition, a symbol, and blanks in what is left of another one
-pub cell-sends : (w h x y : ℕ) (cell : Cell) (glyph : Glyph) (end : ℕ) (before after : DrawState) (inked drawn : Pen)
-    (flags flags_after : List Bool) (old first mid new : List ℕ) → x < w → y < h
-    → IsGlyph (w - x) cell glyph → ChangesSgr before.pen.sgr (sgr_of cell) old first
-    → inked ≡ record before.pen { sgr = sgr_of cell }
-    → Prints w h first inked x y inked.sgr (symbol_text cell.symbol) mid drawn
-    → Covers w x y (glyph_columns glyph) mid flags drawn end new flags_after after.pen
-    → slice_index_or flags (y * w + x) false ≡ false → after.cursor ≡ record { x = min end (w - 1); y = y }
-    → after.written ≡ min (before.written + 1) (2 ^ 64 - 1)
-    → SendsUpdates w h old before flags (record { x = x; y = y; cell = cell } ∷ []) new after flags_after
-cell-sends w h x y cell glyph end before after inked drawn flags flags_after old first mid new column row is changes pens prints
-    covers uncut cursor count =
+pub cell-draws : (p : Position) (cell : Cell) (glyph : Glyph) (end : ℕ) (a b c d : Draw) → IsDraw a → IsUncovered a p
+    → IsGlyph (a.target.width - p.x) cell glyph → OnlyPens a b → SetsSgr a (sgr_of cell) b → OnlyPens b c
+    → PrintsSymbol b p (symbol_text cell.symbol) c → KeepsDraw c d → Covers c p (glyph_columns glyph) end d
+    → DrawsUpdates a (update_in p cell ∷ [])
+    (record d { state = one-more (record d.state { cursor = record { x = min end (d.target.width - 1); y = p.y } }) })
+cell-draws p cell glyph end a b c d draw free is ab sets bc prints cd covers =
     let sgr = sgr_of cell in
-    let symbol = symbol_text cell.symbol in
-    let n = glyph_columns glyph in
-    let m = end - (x + n) in
-    let sgr_set : PenSends w h old before.pen (with_sgr sgr) first inked =
-    subst (PenSends w h old before.pen (with_sgr sgr) first)
-    (sym pens) (sgr-paints w h before.pen sgr old first changes) in
-    let here : Prints w h first inked x y sgr symbol mid drawn = subst (λ p. Prints w h first inked x y p symbol mid drawn)
-    (ap (λ (b : Pen). b.sgr) pens) prints in
-    let two : PenSends w h old before.pen (printed_at x y sgr symbol) mid drawn =
-    PenSends-then w h old first mid before.pen inked drawn (with_sgr sgr) (printed_at x y sgr symbol)
-    (λ t. (refl, refl)) sgr_set here in
-    let both : PenSends w h old before.pen (λ t. blanked (x + n) y m (printed_at x y sgr symbol t)) new after.pen
-    = PenSends-then w h old mid new before.pen drawn after.pen (printed_at x y sgr symbol) (blanked (x + n) y m)
-    (λ t. (refl, refl)) two (covers.paints h row) in
-    let fit = fit-parts (w - x) cell (rw is.fits refl) in
-    lay-sends w h x y n end cell before after flags flags_after old new fit (sym (is.symbol.columns ∙ fit.columns)) column row
-    both uncut covers.ordered covers.inside covers.set covers.unset covers.marked cursor count
-
--- ---- a vacant cell
-
-pub vacant-is : (c : Cell) → symbol_text c.symbol ≡ blank → sgr_of c ≡ default_sgr → width_of c ≡ 1 → IsVacant c
-vacant-is c text sgr width = record { look = sym (ink-look c) ∙ ap₂ inked text sgr; width = width }
-
-pub vacant-text : (c : Cell) → IsVacant c → symbol_text c.symbol ≡ blank
-vacant-text c is = ap (λ (look : Look). look.symbol) (ink-look c ∙ is.look)
-
-pub vacant-sgr : (c : Cell) → IsVacant c → sgr_of c ≡ default_sgr
-vacant-sgr c is =
-    ap (λ (look : Look). let sgr : Sgr = record {
-      fg = look.fg;
-      bg = look.bg;
-      underline_color = look.underline_color;
-      modifier = look.modifier;
-    } in sgr) (ink-look c ∙ is.look)
+    let w = a.target.width in
+    let h = a.target.height in
+    let to_c : c.target ≡ a.target = bc.keeps.target ∙ ab.keeps.target in
+    let to_d : d.target ≡ a.target = cd.target ∙ to_c in
+    let set : DrawSends a (with_sgr sgr) b = rw sets.pen (sgr-paints w h a.state.pen sgr _ _ sets.changes) in
+    let printed = rw ab.keeps.target at (subst (λ s. DrawSends b (printed_at p.x p.y s (symbol_text cell.symbol)) c)
+    (ap (λ (q : Pen). q.sgr) sets.pen) prints.prints) in
+    let cleared = rw to_c at covers.paints in
+    let both = PenSends-then w h _ _ _ _ _ _ _ _ (λ t. (refl, refl)) (PenSends-then w h _ _ _ _ _ _ _ _
+    (λ t. (refl, refl)) set printed) cleared in
+    let fit = fit-parts (w - p.x) cell (rw is.fits refl) in
+    let count = λ (d : DrawState). d.written in
+    record {
+      sends = lay-sends p (glyph_columns glyph) end cell a _ free fit (sym (is.symbol.columns ∙ fit.columns)) to_d both
+          (rw (to_c, bc.flags, ab.flags) at covers.flags)
+          (ap (λ (t : Target). record { x = min end (t.width - 1); y = p.y }) to_d)
+          (ap (λ k. min (k + 1) (2 ^ 64 - 1)) (ap count covers.state ∙ ap count bc.state ∙ ap count ab.state));
+      sendable = rw (sendable-sgr w h a.target.has_underline_colors (update_in p cell) sets.sendable) refl;
+      places = places-on-then (rw sets.pen (places-sgr a.state.pen sgr _ _ sets.changes))
+          (places-on-then prints.places covers.places);
+      ready = record {
+        count = rw to_d (cd.count ∙ ap length (bc.flags ∙ ab.flags) ∙ draw.count);
+        sgr = rw to_d (elim covers.sgr [
+          | inl q ↦ rw (q, prints.sgr, sets.pen) sets.sendable
+          | inr q ↦ rw q (own-sendable a.target.has_underline_colors)
+        ]);
+      };
+    }
 
 -- ---- cells of which nothing is sent
 
-pub still-sends : (w h : ℕ) (u : Update) (before after : DrawState) (flags : List Bool) (old : List ℕ) → after.pen ≡ before.pen
-    → after.cursor ≡ before.cursor → after.written ≡ min (before.written + 1) (2 ^ 64 - 1)
-    → ((c : Columns) → AreContinuations w h flags c → (a b : ℕ) → look_in (c a b) ≡ put w h u (λ i j. look_in (c i j)) a b)
-    → SendsUpdates w h old before flags (u ∷ []) old after flags
-still-sends w h u before after flags old pen cursor count same = Leads-none refl (λ t is. (
-  record {
-    drawn = subst (λ b. IsDrawnBy b t) (sym pen) is.drawn;
-    ready = is.ready;
-    continuations = is.continuations;
-    cursor = is.cursor ∙ sym cursor;
-  },
-  record {
-    history = refl;
-    width = refl;
-    height = refl;
-    visible = refl;
-    grid = λ a b. rw (is.ready.rest.width, is.ready.rest.height) (same (rested t).columns is.continuations a b);
-    written = λ below. omega arith;
-    full = λ above. omega arith;
-  },
-))
+still-draws : (u : Update) (a : Draw) → IsDraw a
+    → is_sendable_on a.target.width a.target.height a.target.has_underline_colors u ≡ true
+    → ((c : Columns) → AreContinuations a.target.width a.target.height a.continuations.now c
+    → (i j : ℕ) → look_in (c i j) ≡ put a.target.width a.target.height u (λ k l. look_in (c k l)) i j)
+    → DrawsUpdates a (u ∷ []) (record a { state = one-more a.state })
+still-draws u a draw sendable same = record {
+  sends = Leads-none refl (λ t is. (
+    record { drawn = is.drawn; ready = is.ready; continuations = is.continuations; cursor = is.cursor },
+    record {
+      history = refl;
+      width = refl;
+      height = refl;
+      visible = refl;
+      grid = λ i j. rw (is.ready.rest.width, is.ready.rest.height) (same (rested t).columns is.continuations i j);
+      written = λ below. omega arith;
+      full = λ above. omega arith;
+    },
+  ));
+  sendable = rw sendable refl;
+  places = places-on _ _;
+  ready = record { count = draw.count; sgr = draw.sgr };
+}
 
-pub put-off : (w h : ℕ) (u : Update) → (nat_lt u.x w && nat_lt u.y h) ≡ false → (c : Columns) (a b : ℕ)
-    → look_in (c a b) ≡ put w h u (λ i j. look_in (c i j)) a b
-put-off w h u off c a b = rw off refl
+pub draws-off : (p : Position) (cell : Cell) (a : Draw) → IsDraw a
+    → (nat_lt p.x a.target.width && nat_lt p.y a.target.height) ≡ false
+    → DrawsUpdates a (update_in p cell ∷ []) (record a { state = one-more a.state })
+draws-off p cell a draw off = still-draws (update_in p cell) a draw (rw off refl) (λ c are i j. rw off refl)
 
 kept : (w x y a b : ℕ) (c : Columns) → look_in (c x y) ≡ empty_look
     → look_in (c a b) ≡ (if nat_eq b y then
@@ -275,7 +298,7 @@ kept w x y a b c shows =
       | false ↦ λ e. refl
     ] refl
 
-pub put-vacant : (w h : ℕ) (u : Update) (flags : List Bool) → u.x < w → u.y < h → flag flags (u.y * w + u.x) ≡ true
+put-vacant : (w h : ℕ) (u : Update) (flags : List Bool) → u.x < w → u.y < h → flag flags (u.y * w + u.x) ≡ true
     → IsVacant u.cell
     → (c : Columns) → AreContinuations w h flags c → (a b : ℕ) → look_in (c a b) ≡ put w h u (λ i j. look_in (c i j)) a b
 put-vacant w h u flags column row covered vacant c are a b =
@@ -284,45 +307,44 @@ put-vacant w h u flags column row covered vacant c are a b =
     let shows : look_in (c u.x u.y) ≡ empty_look = continuation-empty (c u.x u.y) (sym (are.each u.x u.y column row) ∙ covered) in
     rw (x_test, y_test, vacant.look, vacant.width) (kept w u.x u.y a b c shows)
 
--- ---- which renditions are sent
-
-pub sendable-off : (w h : ℕ) (colors : Bool) (u : Update) → (nat_lt u.x w && nat_lt u.y h) ≡ false
-    → is_sendable_on w h colors u ≡ true
-sendable-off w h colors u off = rw off refl
-
-pub sendable-sgr : (w h : ℕ) (colors : Bool) (u : Update) → is_sendable_by colors (sgr_of u.cell) ≡ true
-    → is_sendable_on w h colors u ≡ true
-sendable-sgr w h colors u sent = rw sent (or_right (not (nat_lt u.x w && nat_lt u.y h)) true refl)
-
-pub sendable-vacant : (w h : ℕ) (colors : Bool) (u : Update) → IsVacant u.cell → is_sendable_on w h colors u ≡ true
-sendable-vacant w h colors u vacant = sendable-sgr w h colors u (ap (is_sendable_by colors) (vacant-sgr u.cell vacant)
-    ∙ own-sendable colors)
-
-pub sendable-push : (w h : ℕ) (colors : Bool) (us : List Update) (u : Update) → list_all (is_sendable_on w h colors) us ≡ true
-    → is_sendable_on w h colors u ≡ true
-    → list_all (is_sendable_on w h colors) (us ++ u ∷ []) ≡ true
-sendable-push w h colors us u all sent = list_all-append (is_sendable_on w h colors) us (u ∷ []) ∙ rw (all, sent) refl
+pub draws-vacant : (p : Position) (cell : Cell) (a : Draw) → IsDraw a → p.x < a.target.width → p.y < a.target.height
+    → is_covered a p.x p.y ≡ true → IsVacant cell
+    → DrawsUpdates a (update_in p cell ∷ []) (record a { state = one-more a.state })
+draws-vacant p cell a draw column row covered vacant =
+    let w = a.target.width in
+    let h = a.target.height in
+    let u = update_in p cell in
+    still-draws u a draw (sendable-vacant w h a.target.has_underline_colors u vacant)
+    (put-vacant w h u a.continuations.now column row covered vacant)
 
 -- ---- a draw
 
-pub sends-none : (w h : ℕ) (old : List ℕ) (d : DrawState) (flags : List Bool) → SendsUpdates w h old d flags [] old d flags
-sends-none w h old d flags = Leads-none refl (λ t is. (is, Draws-none (screen_shown d.written (rested t))))
+pub draws-none : (d : Draw) → IsDraw d → DrawsUpdates d [] d
+draws-none d is = record {
+  sends = Leads-none refl (λ t here. (here, Draws-none (screen_shown d.state.written (rested t))));
+  sendable = refl;
+  places = places-on _ _;
+  ready = is;
+}
 
-pub sends-push : (w h : ℕ) (a b c : List ℕ) (p q r : DrawState) (f g k : List Bool) (us : List Update) (u : Update)
-    → SendsUpdates w h a p f us b q g → SendsUpdates w h b q g (u ∷ []) c r k
-    → SendsUpdates w h a p f (us ++ u ∷ []) c r k
-sends-push w h a b c p q r f g k us u first second =
-    Leads-then first second (λ s t is did. did.0) (λ s t v is did more. (more.0, Draws-push did.1 more.1))
+pub draws-push : (us : List Update) (u : Update) (a b c : Draw) → KeepsDraw a b → DrawsUpdates a us b → DrawsUpdates b (u ∷ []) c
+    → DrawsUpdates a (us ++ u ∷ []) c
+draws-push us u a b c keeps first second = record {
+  sends = Leads-then first.sends second.sends (λ s t is did. did.0) (λ s t v is did more. (more.0, Draws-push did.1 more.1));
+  sendable = list_all-append _ us (u ∷ []) ∙ rw (first.sendable, rw keeps.target at second.sendable) refl;
+  places = places-on-then first.places second.places;
+  ready = second.ready;
+}
 
 -- a draw begins with the own rendition and an unknown place
-pub begins : (w h : ℕ) (d : DrawState) (cursor : Position) (flags : List Bool) (t : Emulator) → d.pen.sgr ≡ default_sgr
-    → d.pen.at ≡ None → d.cursor ≡ cursor → IsAwaiting w h cursor flags t → IsDrawing w h d flags t
-begins w h d cursor flags t own unplaced at is = record {
+pub begins : (d : Draw) (t : Emulator) → BeginsDraw d
+    → IsAwaiting d.target.width d.target.height d.state.cursor d.continuations.now t → IsDrawing d t
+begins d t start is = record {
   drawn = record {
     phase = is.phase;
-    sgr = is.ready.rest.sgr ∙ sym own;
+    sgr = is.ready.rest.sgr ∙ sym start.sgr;
     modes = is.ready.rest.modes;
-    placed = subst (λ at. IfSome at (λ p. WritesAt p.x p.y t)) (sym unplaced) tt;
+    placed = subst (λ at. IfSome at (λ p. WritesAt p.x p.y t)) (sym start.place) tt;
   };
   ready = record {
     rest = record {
@@ -340,7 +362,7 @@ begins w h d cursor flags t own unplaced at is = record {
     tidy = is.ready.tidy;
   };
   continuations = is.continuations;
-  cursor = is.placed ∙ sym at;
+  cursor = is.placed;
 }
 
 with-own : (w h : ℕ) (t : Emulator) → t.sgr ≡ default_sgr → IsIdle w h (with_sgr default_sgr t) → IsIdle w h t
@@ -361,31 +383,29 @@ with-own w h t own ready = record {
 }
 
 -- and ends with the own rendition
-ends : (w h : ℕ) (old new : List ℕ) (d : DrawState) (flags : List Bool) → ChangesSgr d.pen.sgr default_sgr old new
-    → Leads old new (IsDrawing w h d flags) (λ t u. IsAwaiting w h d.cursor flags u
-    × (screen_shown d.written (rested u) ≡ screen_shown d.written (rested t)))
-ends w h old new d flags (Stays same none) = Leads-none none (λ t is. (
+ends : (new : List ℕ) (d : Draw) → ChangesSgr d.state.pen.sgr default_sgr (draw_bytes d) new
+    → Leads (draw_bytes d) new (IsDrawing d) (λ t u.
+    IsAwaiting d.target.width d.target.height d.state.cursor d.continuations.now u
+    × (screen_shown d.state.written (rested u) ≡ screen_shown d.state.written (rested t)))
+ends new d (Stays same none) = Leads-none none (λ t is. (
   record {
     phase = is.drawn.phase;
-    ready = with-own w h (rested t) (is.drawn.sgr ∙ same) is.ready;
+    ready = with-own d.target.width d.target.height (rested t) (is.drawn.sgr ∙ same) is.ready;
     continuations = is.continuations;
     placed = is.cursor;
   },
   refl,
 ))
-ends w h old new d flags (Sets does) = Leads-so does (λ t is. is.drawn.phase) (λ t u is e.
-    subst (λ v. IsAwaiting w h d.cursor flags v × (screen_shown d.written (rested v) ≡ screen_shown d.written (rested t)))
+ends new d (Sets does) = Leads-so does (λ t is. is.drawn.phase) (λ t u is e.
+    subst (λ v. IsAwaiting d.target.width d.target.height d.state.cursor d.continuations.now v
+    × (screen_shown d.state.written (rested v) ≡ screen_shown d.state.written (rested t)))
     (sym e) (record { phase = refl; ready = is.ready; continuations = is.continuations; placed = is.cursor }, refl))
 
-pub draw-sends : (w h : ℕ) (old mid new : List ℕ) (before after : DrawState) (cursor : Position) (written : ℕ)
-    (flags flags_after : List Bool) (us : List Update) → before.pen.sgr ≡ default_sgr
-    → before.pen.at ≡ None → before.cursor ≡ cursor → before.written ≡ written
-    → SendsUpdates w h old before flags us mid after flags_after → ChangesSgr after.pen.sgr default_sgr mid new
-    → SendsDraw w h old cursor written flags us new after.cursor after.written flags_after
-draw-sends w h old mid new before after cursor written flags flags_after us own unplaced at count sends changes =
-    let drawn : Leads old mid (IsAwaiting w h cursor flags) (λ t u. IsDrawing w h after flags_after u
-    × Draws (screen_shown written (rested t)) us (screen_shown after.written (rested u))) =
-    Leads-so sends (λ t is. begins w h before cursor flags t own unplaced at is) (λ t u is did.
-    (did.0, subst (λ n. Draws (screen_shown n (rested t)) us (screen_shown after.written (rested u))) count did.1)) in
-    Leads-then drawn (ends w h mid new after flags_after changes) (λ t u is did. did.0) (λ t u v is did more.
-    (more.0, subst (Draws (screen_shown written (rested t)) us) (sym more.1) did.1))
+pub draw-sends : (old mid : Draw) (new : List ℕ) (us : List Update) → BeginsDraw old → KeepsDraw old mid → SendsUpdates old us mid
+    → ChangesSgr mid.state.pen.sgr default_sgr (draw_bytes mid) new
+    → SendsDraw old.target.width old.target.height (draw_bytes old) old.state.cursor old.state.written old.continuations.now
+    us new mid.state.cursor mid.state.written mid.continuations.now
+draw-sends old mid new us start keeps sends changes =
+    let drawn = Leads-so sends (λ t is. begins old t start is) (λ t u is did. did) in
+    Leads-then drawn (ends new mid changes) (λ t u is did. did.0) (λ t u v is did more.
+    (rw keeps.target at more.0, subst (Draws (screen_shown old.state.written (rested t)) us) (sym more.1) did.1))

@@ -11,9 +11,10 @@ use Rattle.ansi_model.specs.Emulator.{Emulator, rested, run, with_sgr}
 use Rattle.ansi_model.specs.Screens.{IsWhole, IsBlankBeyond, IsIdle, put_columns}
 use Rattle.ansi_model.specs.Drawing.{printed_at, blanked, WritesAt, IsDrawnBy, ChangesSgr, PenSends}
 use Rattle.ansi_model.specs.Drawing.ChangesSgr.{Stays, Sets}
-use Rattle.ratatui_ansi.specs.Frame.{AreMarked}
+use Rattle.ratatui_ansi.specs.{declared.draw.Draw.Draw, Frame.AreMarked, Frame.AreCovered, Frame.Covers}
 use Rattle.ansi_model.proofs.{ReadLemmas.Leads-so, ReadLemmas.Leads-none, MotionLemmas.tidy-along, TextLemmas.blank-one}
-use Rattle.ansi_model.proofs.PaintLemmas.{OnlyPrinted, blanked-only, blanked-width, blanked-height, PenSends-then}
+use Rattle.ansi_model.proofs.PaintLemmas.{OnlyPrinted, blanked-only, blanked-width, blanked-height, PenSends-then, blanks-none}
+use Rattle.ansi_model.proofs.PlaceLemmas.{places-on}
 use Rattle.rtui_grid.proofs.PlaceLemmas.{by_rows}
 use Rattle.ratatui_ansi.proofs.TailLemmas.{torn, put-torn, torn-more, torn-all, laid-sized, laid-whole, laid-beyond}
 use Rattle.ratatui_ansi.proofs.TailLemmas.{laid-continuations, IsTail, laid}
@@ -213,6 +214,30 @@ pub one-marked : (first past_it end : ℕ) (flags : List Bool) → slice_index_o
     → (k : ℕ) → slice_index_or flags k false ≡ (if nat_le first k && nat_lt k end then nat_lt first k
     && nat_lt k past_it else slice_index_or flags k false)
 one-marked first past_it end flags unset short k = grind (arith, nat_tests)
+
+pub are-covered : (w : ℕ) (p : Position) (n end start : ℕ) (flags after : List Bool) → start ≡ p.y * w → p.x + n ≤ end → end ≤ w
+    → ((k : ℕ) → p.x + n ≤ k → k < end → slice_index_or flags (start + k) false ≡ true)
+    → (end < w → slice_index_or flags (start + end) false ≡ false)
+    → AreMarked (p.y * w + p.x) (p.y * w + (p.x + n)) (p.y * w + end) flags after → AreCovered w p n end flags after
+are-covered w p n end start flags after row ordered inside set unset marked = record {
+  ordered = ordered;
+  inside = inside;
+  set = λ k low high. rw row at (set k low high);
+  unset = λ within. rw row at (unset within);
+  marked = marked;
+}
+
+-- a symbol that covers none of another one
+pub covers-none : (p : Position) (n end : ℕ) (d : Draw) (flags : List Bool)
+    → AreCovered d.target.width p n end d.continuations.now flags → end ≤ p.x + n
+    → Covers d p n end (record d { continuations = record d.continuations { now = flags } })
+covers-none p n end d flags covered none = record {
+  flags = covered;
+  paints = blanks-none d.target.width d.target.height _ _ default_sgr (p.x + n) p.y (end - (p.x + n)) (omega arith);
+  sgr = inl refl;
+  places = places-on _ _;
+  state = refl;
+}
 
 pub tail-of : (w h from end y : ℕ) (flags : List Bool) (c : Columns) → AreContinuations w h flags c → IsBlankBeyond w c → y < h
     → from ≤ end → end ≤ w

@@ -1,18 +1,18 @@
 -- What refused calls leave, and where a draw stops.
-use Rattle.std.proofs.Common.{◌≡◌, ℕ, ◌+◌, ◌*◌, ◌<◌, Bool, true, IsTrue, List, map, Option, None, Result, Ok, Err, IsErr}
+use Rattle.std.proofs.Common.{◌≡◌, ℕ, ◌+◌, ◌*◌, ◌<◌, Bool, true, IsTrue, List, Option, Result, Ok, Err, IsErr}
 use Rattle.std.proofs.Common.{IsErrAnd, IfErr, OnOk, OnErr, sym, subst, ◌∙◌}
 use Rattle.std.proofs.lemmas.Bool.{false≢true}
 use Rattle.ratatui_core.specs.{Layout.Position, Buffer.Update}
 use Rattle.ratatui_core.specs.Layout as layout
-use Rattle.ratatui_core.specs.Backend.{Draws, ClearType, All, AfterCursor, BeforeCursor, CurrentLine, UntilNewLine}
+use Rattle.ratatui_core.specs.Backend.{ClearType, All, AfterCursor, BeforeCursor, CurrentLine, UntilNewLine}
 use Rattle.ratatui_ansi.specs.{declared.error.AnsiError.AnsiError, declared.tracker.Tracker.Tracker, declared.tracker.Call.Call}
 use Rattle.ratatui_ansi.specs.declared.error.AnsiError.TheVariants.{Memory, Symbol, Style, Cut, Size, Broken, Write}
 use Rattle.ratatui_ansi.specs.declared.tracker.Call.TheVariants as Called
-use Rattle.ratatui_ansi.specs.{declared.draw.DrawState.DrawState, declared.draw.Refusal.Refusal, Backend.BackendState}
+use Rattle.ratatui_ansi.specs.{declared.draw.Draw.Draw, declared.draw.Refusal.Refusal, Backend.BackendState}
 use Rattle.ratatui_ansi.specs.declared.draw.Refusal.TheVariants as Refused
 use Rattle.ratatui_ansi.specs.{Tracker.IsAwaiting, Tracker.IsTracked, Tracker.IsUncollected, Errors.error_of, Frame.RefusesUpdate}
-use Rattle.ratatui_ansi.specs.{Frame.IsDrawing}
-use Rattle.ansi_model.specs.{Flags.flag, Flags.is_clear_cut, Sgr.default_sgr, Screens.screen_shown, Sequences.feed}
+use Rattle.ratatui_ansi.specs.{Frame.IsDrawing, Frame.BeginsDraw}
+use Rattle.ansi_model.specs.{Flags.flag, Flags.is_clear_cut, Screens.screen_shown, Sequences.feed}
 use Rattle.ansi_model.specs.{Emulator.Emulator, Emulator.rested}
 use Rattle.ratatui_ansi.specs.Refusals.{IsOfClearing, IsOfCall, FailsToResize, names_cell, has_place, IsRefusedOn, StopsWithin}
 use Rattle.ratatui_ansi.specs.Refusals.{StopsDraw, Answers, StopsSending}
@@ -27,44 +27,40 @@ stops_sending (Err error) old new state = (error, state)
 
 -- ---- where a draw stops
 
-refused-on : (w h : ℕ) (colors : Bool) (d : DrawState) (flags : List Bool) (t : Emulator) (u : Update) (refusal : Refusal)
-    → IsDrawing w h d flags t → RefusesUpdate w h colors flags u refusal
-    → IsRefusedOn colors (screen_shown d.written (rested t)) u refusal
-refused-on w h colors d flags t u Refused.Memory is because = tt
-refused-on w h colors d flags t u (Refused.Symbol p) is because = (
+refused-on : (d : Draw) (t : Emulator) (u : Update) (refusal : Refusal) → IsDrawing d t → RefusesUpdate d u refusal
+    → IsRefusedOn d.target.has_underline_colors (screen_shown d.state.written (rested t)) u refusal
+refused-on d t u Refused.Memory is because = tt
+refused-on d t u (Refused.Symbol p) is because = (
   rw (is.ready.rest.width, is.ready.rest.height) because.0,
   rw is.ready.rest.width because.2,
 )
-refused-on w h colors d flags t u (Refused.Style p) is because = (
+refused-on d t u (Refused.Style p) is because = (
   rw (is.ready.rest.width, is.ready.rest.height) because.0,
   because.2,
 )
-refused-on w h colors d flags t u (Refused.Cut p) is because = (
+refused-on d t u (Refused.Cut p) is because = (
   rw (is.ready.rest.width, is.ready.rest.height) because.0,
   covered-continuation (rested t).columns is.ready.tidy.sized is.ready.tidy.whole u.x u.y
       (sym (is.continuations.each u.x u.y because.0.column because.0.row) ∙ because.1),
   because.2,
 )
 
-pub stops-draw : {S A : Type 0} (steps : S → Option A → S → Type 0) (content : S) (update : A → Update) (w h : ℕ) (colors : Bool)
-    (old : List ℕ) (d : DrawState) (cursor : Position) (written : ℕ) (flags : List Bool)
-    (refusal : Refusal) → d.pen.sgr ≡ default_sgr → d.pen.at ≡ None → d.cursor ≡ cursor → d.written ≡ written
-    → StopsWithin steps content update w h colors old d flags refusal
-    → StopsDraw steps content update w h colors cursor written flags refusal
-stops-draw steps content update w h colors old d cursor written flags refusal own unplaced at count stops = record {
+pub stops-draw : {S A : Type 0} (steps : S → Option A → S → Type 0) (content : S) (update : A → Update) (d : Draw)
+    (refusal : Refusal) → BeginsDraw d → StopsWithin steps content update d refusal
+    → StopsDraw steps content update d.target.width d.target.height d.target.has_underline_colors d.state.cursor d.state.written
+    d.continuations.now refusal
+stops-draw steps content update d refusal start stops = record {
   stops = λ t is.
-      let start = begins w h d cursor flags t own unplaced at is in
       let u = feed stops.sends.bytes t in
-      let did = stops.sends.read t start in
+      let did = stops.sends.read t (begins d t start is) in
       record {
         front = stops.front;
         item = stops.item;
         rest = stops.rest;
         gives = stops.gives;
-        between = screen_shown stops.after.written (rested u);
-        draws = subst (λ n. Draws (screen_shown n (rested t)) (map update stops.front)
-            (screen_shown stops.after.written (rested u))) count did.1;
-        refused = refused-on w h colors stops.after stops.flags_after u (update stops.item) refusal did.0 stops.refused;
+        between = screen_shown stops.between.state.written (rested u);
+        draws = did.1;
+        refused = rw stops.keeps.target at (refused-on stops.between u (update stops.item) refusal did.0 stops.refused);
       };
 }
 

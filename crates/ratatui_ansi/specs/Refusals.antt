@@ -5,14 +5,14 @@ use Rattle.std.specs.{Borrow.Bor, Iterator.YieldsThen, Iterator.YieldsFirstBy}
 use Rattle.ratatui_core.specs.{Layout.Position, Buffer.Update, Buffer.Cell, Buffer.update_by, Backend.Screen}
 use Rattle.ratatui_core.specs.{Backend.Draws, Backend.cursor_of}
 use Rattle.ratatui_core.specs.Layout as layout
-use Rattle.ratatui_ansi.specs.{declared.error.AnsiError.AnsiError, declared.draw.DrawState.DrawState}
+use Rattle.ratatui_ansi.specs.{declared.error.AnsiError.AnsiError, declared.draw.Draw.Draw}
 use Rattle.ratatui_ansi.specs.{declared.draw.Refusal.Refusal, declared.tracker.Call.Call}
 use Rattle.ratatui_ansi.specs.declared.error.AnsiError.TheVariants.{Memory, Symbol, Style, Cut, Size, Broken}
 use Rattle.ratatui_ansi.specs.declared.error.AnsiError.TheVariants.{Write}
 use Rattle.ratatui_ansi.specs.declared.draw.Refusal.TheVariants as Refused
 use Rattle.ratatui_ansi.specs.declared.tracker.Call.TheVariants as Called
 use Rattle.ratatui_ansi.specs.{Backend.BackendState, Tracker.IsAwaiting, Covered.IsCovered, Errors.error_of}
-use Rattle.ratatui_ansi.specs.Frame.{is_fit, IsVacant, IsOnScreenAt, RefusesUpdate, SendsUpdates}
+use Rattle.ratatui_ansi.specs.Frame.{is_fit, IsVacant, IsOnScreenAt, KeepsDraw, RefusesUpdate, SendsUpdates}
 use Rattle.ansi_model.specs.{Parameters.is_sendable_by, Sgr.sgr_of, Screens.screen_shown, Emulator.Emulator}
 use Rattle.ansi_model.specs.{Emulator.rested}
 
@@ -167,17 +167,15 @@ StopsBy steps content update colors old error =
 
 -- the same within a draw: the bytes of the items before it were appended
 pub record StopsWithin {S A : Type 0} (steps : S → Option A → S → Type 0) (content : S) (update : A → Update)
-    (w h : ℕ) (colors : Bool) (old : List ℕ) (before : DrawState)
-    (flags : List Bool) (refusal : Refusal) : Type 0 where
+    (old : Draw) (refusal : Refusal) : Type 0 where
   pub front : List A
   pub item : A
   pub rest : S
   pub gives : YieldsThen steps content front (Some item) rest
-  pub new : List ℕ
-  pub after : DrawState
-  pub flags_after : List Bool
-  pub sends : SendsUpdates w h old before flags (map update front) new after flags_after
-  pub refused : RefusesUpdate w h colors flags_after (update item) refusal
+  pub between : Draw
+  pub keeps : KeepsDraw old between
+  pub sends : SendsUpdates old (map update front) between
+  pub refused : RefusesUpdate between (update item) refusal
 
 -- the same for each terminal between two calls
 pub record StopsDraw {S A : Type 0} (steps : S → Option A → S → Type 0) (content : S) (update : A → Update)

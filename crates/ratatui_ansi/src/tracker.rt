@@ -18,13 +18,13 @@ ghost use Rattle.ratatui_ansi.specs.Refusals.{has_place, StopsDraw, RefusesTrack
 ghost use Rattle.ratatui_ansi.specs.Tracker.{IsTracker, KeepsTracked, Collects, CallDoes, IsCommanded};
 ghost use Rattle.ratatui_ansi.specs.Tracker.{IsUncollected, BeginsBlank};
 
-use crate::draw::{Refusal, Target, draw_cells};
+use crate::draw::{Draw, DrawState, Refusal, Target};
 use crate::error::AnsiError;
 use ansi_model::{
-    Command, append_lines, ask_size, blank_flags, clear_flags, clear_part_flags, clear_screen,
-    erase, is_continuation, lower_flags, make_blank, move_to, push_command, push_title,
-    raise_flags, scroll_region_down, scroll_region_up, set_cursor_position, set_visible,
-    symbol_end, update_begin, update_end,
+    Command, Pen, Sgr, append_lines, ask_size, blank_flags, clear_flags, clear_part_flags,
+    clear_screen, erase, is_continuation, lower_flags, make_blank, move_to, push_command,
+    push_title, raise_flags, scroll_region_down, scroll_region_up, set_cursor_position,
+    set_visible, symbol_end, update_begin, update_end,
 };
 use ratatui_core::backend::{AsCell, ClearType};
 use ratatui_core::layout::{Position, Size};
@@ -339,20 +339,25 @@ impl Tracker {
     {
         let draft = self.draft.as_mut_slice();
         draft.copy_from_slice(self.continuations.as_slice());
-        let target = Target {
-            width: self.size.width,
-            height: self.size.height,
-            has_underline_colors: self.has_underline_colors,
+        let mut draw = Draw {
+            out: &mut self.out,
+            continuations: draft,
+            target: Target {
+                width: self.size.width,
+                height: self.size.height,
+                has_underline_colors: self.has_underline_colors,
+            },
+            state: DrawState {
+                pen: Pen {
+                    sgr: Sgr::DEFAULT,
+                    at: None,
+                    ambiguous_is_wide: self.ambiguous_is_wide,
+                },
+                cursor: self.cursor,
+                written: self.written,
+            },
         };
-        draw_cells(
-            &mut self.out,
-            draft,
-            target,
-            self.ambiguous_is_wide,
-            self.cursor,
-            self.written,
-            content,
-        )
+        draw.draw_cells(content)
     }
 
     // The same within a synchronized update.
