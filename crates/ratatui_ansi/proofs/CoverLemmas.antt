@@ -15,7 +15,7 @@ use Rattle.ansi_model.specs.{Columns.Column.Unknown, Columns.Column.Shows as Sta
 use Rattle.ansi_model.specs.{Symbols.printed_columns}
 use Rattle.ratatui_ansi.specs.{Covered.IsCovered, Covered.IsOpen, Covered.IsOrdinary, Frame.IsVacant, Refusals.lent_update}
 use Rattle.ratatui_ansi.specs.{Refusals.StopsInDiff}
-use Rattle.ratatui_ansi.specs.declared.draw.Refusal.TheVariants.{Cut}
+use Rattle.ratatui_ansi.specs.declared.draw.CellError.TheVariants.{Cut}
 use Rattle.ansi_model.specs.Screens.{HasOwnWidth, HaveOwnWidths, IsWhole, IsWholeAt}
 
 -- ---- a column after the first one of its symbol is covered

@@ -8,8 +8,8 @@ use Rattle.ratatui_core.specs.Backend.{ClearType, All, AfterCursor, BeforeCursor
 use Rattle.ratatui_ansi.specs.{declared.error.AnsiError.AnsiError, declared.tracker.Tracker.Tracker, declared.tracker.Call.Call}
 use Rattle.ratatui_ansi.specs.declared.error.AnsiError.TheVariants.{Memory, Symbol, Style, Cut, Size, Broken, Write}
 use Rattle.ratatui_ansi.specs.declared.tracker.Call.TheVariants as Called
-use Rattle.ratatui_ansi.specs.{declared.draw.Draw.Draw, declared.draw.Refusal.Refusal, Backend.BackendState}
-use Rattle.ratatui_ansi.specs.declared.draw.Refusal.TheVariants as Refused
+use Rattle.ratatui_ansi.specs.{declared.draw.Draw.Draw, declared.draw.CellError.CellError, Backend.BackendState}
+use Rattle.ratatui_ansi.specs.declared.draw.CellError.TheVariants as Refused
 use Rattle.ratatui_ansi.specs.{Tracker.IsAwaiting, Tracker.IsTracked, Tracker.IsUncollected, Errors.error_of, Frame.RefusesUpdate}
 use Rattle.ratatui_ansi.specs.{Frame.IsDrawing, Frame.BeginsDraw}
 use Rattle.ansi_model.specs.{Flags.flag, Flags.is_clear_cut, Screens.screen_shown, Sequences.feed}
@@ -27,7 +27,7 @@ stops_sending (Err error) old new state = (error, state)
 
 -- ---- where a draw stops
 
-refused-on : (d : Draw) (t : Emulator) (u : Update) (refusal : Refusal) → IsDrawing d t → RefusesUpdate d u refusal
+refused-on : (d : Draw) (t : Emulator) (u : Update) (refusal : CellError) → IsDrawing d t → RefusesUpdate d u refusal
     → IsRefusedOn d.target.has_underline_colors (screen_shown d.state.written (rested t)) u refusal
 refused-on d t u Refused.Memory is because = tt
 refused-on d t u (Refused.Symbol p) is because = (
@@ -46,7 +46,7 @@ refused-on d t u (Refused.Cut p) is because = (
 )
 
 pub stops-draw : {S A : Type 0} (steps : S → Option A → S → Type 0) (content : S) (update : A → Update) (d : Draw)
-    (refusal : Refusal) → BeginsDraw d → StopsWithin steps content update d refusal
+    (refusal : CellError) → BeginsDraw d → StopsWithin steps content update d refusal
     → StopsDraw steps content update d.target.width d.target.height d.target.has_underline_colors d.state.cursor d.state.written
     d.continuations.now refusal
 stops-draw steps content update d refusal start stops = record {
@@ -65,7 +65,7 @@ stops-draw steps content update d refusal start stops = record {
 }
 
 -- an error that names a cell comes from a refusal that has a place
-pub named-place : (refusal : Refusal) → IsTrue (names_cell (error_of refusal)) → IsTrue (has_place refusal)
+pub named-place : (refusal : CellError) → IsTrue (names_cell (error_of refusal)) → IsTrue (has_place refusal)
 named-place Refused.Memory named = named
 named-place (Refused.Symbol p) named = named
 named-place (Refused.Style p) named = named
@@ -114,7 +114,7 @@ size-stays (Err Broken) size old new same fails own = absurd fails
 size-stays (Err (Write error)) size old new same fails own = fails.1 ∙ own
 
 -- why a call wasn't sent
-pub uncollected-why : (k : Tracker) (t : Emulator) (call : Call) (written : ℕ) (refusal : Refusal) → 0 < k.size.width
+pub uncollected-why : (k : Tracker) (t : Emulator) (call : Call) (written : ℕ) (refusal : CellError) → 0 < k.size.width
     → IsTracked k t → IsUncollected call k refusal → IsOfCall call (screen_shown written (rested t)) (error_of refusal)
 uncollected-why k t (Called.Move p) written Refused.Memory wide is why = tt
 uncollected-why k t (Called.Show visible) written Refused.Memory wide is why = tt

@@ -1,8 +1,8 @@
 -- The printed texts of errors.
 use Rattle.std.specs.Prelude.{ℕ, List, ◌++◌, Option, None, Some, codes}
 use Rattle.ratatui_core.specs.Layout.{position_text}
-use Rattle.ratatui_ansi.specs.{declared.draw.Refusal.Refusal, declared.error.AnsiError.AnsiError}
-use Rattle.ratatui_ansi.specs.declared.draw.Refusal.TheVariants as Refused
+use Rattle.ratatui_ansi.specs.{declared.draw.CellError.CellError, declared.error.AnsiError.AnsiError}
+use Rattle.ratatui_ansi.specs.declared.draw.CellError.TheVariants as Refused
 use Rattle.ratatui_ansi.specs.declared.error.AnsiError.TheVariants.{Memory, Symbol, Style, Cut, Size, Broken}
 use Rattle.ratatui_ansi.specs.declared.error.AnsiError.TheVariants.{Write}
 
@@ -17,7 +17,7 @@ ansi_error_text Broken = Some (codes "broken")
 ansi_error_text (Write error) = None
 
 -- the error of a cell that isn't drawn
-abbrev pub error_of : Refusal → AnsiError
+abbrev pub error_of : CellError → AnsiError
 error_of Refused.Memory = Memory
 error_of (Refused.Symbol p) = Symbol p
 error_of (Refused.Style p) = Style p

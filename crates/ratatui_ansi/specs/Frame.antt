@@ -6,9 +6,9 @@ use Rattle.ratatui_core.specs.{Layout.Position, Backend.Draws, Backend.cursor_of
 use Rattle.ratatui_core.specs.Buffer.{symbol_text, look_of, empty_look, width_of, Update, Cell}
 use Rattle.ansi_model.specs.{declared.glyph.Glyph.Glyph, declared.sgr.Sgr.Sgr}
 use Rattle.ansi_model.specs.{Flags.AreContinuations, Flags.flag, Places.PlacesOn}
-use Rattle.ratatui_ansi.specs.{declared.draw.Draw.Draw, declared.draw.Refusal.Refusal}
+use Rattle.ratatui_ansi.specs.{declared.draw.Draw.Draw, declared.draw.CellError.CellError}
 use Rattle.ratatui_ansi.specs.{declared.tracker.Tracker.Tracker, Tracker.IsAwaiting}
-use Rattle.ratatui_ansi.specs.declared.draw.Refusal.TheVariants as Refused
+use Rattle.ratatui_ansi.specs.declared.draw.CellError.TheVariants as Refused
 use Rattle.ansi_model.specs.{Sgr.default_sgr, Sgr.sgr_of, Parameters.is_sendable_by, Emulator.Emulator}
 use Rattle.ansi_model.specs.{Emulator.rested, Emulator.with_sgr}
 use Rattle.ansi_model.specs.{Symbols.is_printed, Symbols.printed_columns, Symbols.IsGlyphOf, Sends.Leads}
@@ -104,7 +104,7 @@ DrawPlaces old new = PlacesOn (draw_bytes old) old.state.pen (draw_bytes new) ne
 -- an update was refused: for want of memory, or in its place, which isn't covered from the left, because its
 -- symbol doesn't fit or its rendition can't be sent to a terminal with colours of the underline or without,
 -- or because it isn't vacant and the place is covered
-abbrev pub RefusesUpdate : Draw → Update → Refusal → Type 0
+abbrev pub RefusesUpdate : Draw → Update → CellError → Type 0
 RefusesUpdate d u Refused.Memory = Unit {0}
 RefusesUpdate d u (Refused.Symbol p) = IsOnScreenAt d.target.width d.target.height p u
     × (is_covered d u.x u.y ≡ false) × (is_fit (d.target.width - u.x) u.cell ≡ false)
@@ -115,7 +115,7 @@ RefusesUpdate d u (Refused.Cut p) = IsOnScreenAt d.target.width d.target.height 
     × (is_covered d u.x u.y ≡ true) × (IsVacant u.cell → ⊥)
 
 -- a rendition wasn't set: for want of memory, or since it can't be sent
-abbrev pub IsUnsendableSgr : Draw → Position → Sgr → Refusal → Type 0
+abbrev pub IsUnsendableSgr : Draw → Position → Sgr → CellError → Type 0
 IsUnsendableSgr d place sgr Refused.Memory = Unit {0}
 IsUnsendableSgr d place sgr (Refused.Style p) = (p ≡ place)
     × (is_sendable_by d.target.has_underline_colors sgr ≡ false)
@@ -141,7 +141,7 @@ pub record AreMarked (first past_it end : ℕ) (flags after : List Bool) : Type 
   pub each : (k : ℕ) → flag after k
       ≡ (if nat_le first k && nat_lt k end then nat_lt first k && nat_lt k past_it else flag flags k)
 
--- in a row the flags behind a symbol of n columns were set up to column `end`, and all are the symbol's now
+-- in a row the flags after a symbol of n columns were set up to column `end`, and all are the symbol's now
 pub record AreCovered (w : ℕ) (p : Position) (n end : ℕ) (flags after : List Bool) : Type 0 where
   pub ordered : p.x + n ≤ end
   pub inside : end ≤ w
@@ -149,7 +149,7 @@ pub record AreCovered (w : ℕ) (p : Position) (n end : ℕ) (flags after : List
   pub unset : end < w → flag flags (p.y * w + end) ≡ false
   pub marked : AreMarked (p.y * w + p.x) (p.y * w + (p.x + n)) (p.y * w + end) flags after
 
--- a symbol of n columns covers its place: what it left of another one behind it, up to column `end`, was
+-- a symbol of n columns covers its place: what it left of another one after it, up to column `end`, was
 -- emptied, and the cursor and the count stay
 pub record Covers (old : Draw) (p : Position) (n end : ℕ) (new : Draw) : Type 0 where
   pub flags : AreCovered old.target.width p n end old.continuations.now new.continuations.now

@@ -6,10 +6,10 @@ use Rattle.ratatui_core.specs.{Layout.Position, Buffer.Update, Buffer.Cell, Buff
 use Rattle.ratatui_core.specs.{Backend.Draws, Backend.cursor_of}
 use Rattle.ratatui_core.specs.Layout as layout
 use Rattle.ratatui_ansi.specs.{declared.error.AnsiError.AnsiError, declared.draw.Draw.Draw}
-use Rattle.ratatui_ansi.specs.{declared.draw.Refusal.Refusal, declared.tracker.Call.Call}
+use Rattle.ratatui_ansi.specs.{declared.draw.CellError.CellError, declared.tracker.Call.Call}
 use Rattle.ratatui_ansi.specs.declared.error.AnsiError.TheVariants.{Memory, Symbol, Style, Cut, Size, Broken}
 use Rattle.ratatui_ansi.specs.declared.error.AnsiError.TheVariants.{Write}
-use Rattle.ratatui_ansi.specs.declared.draw.Refusal.TheVariants as Refused
+use Rattle.ratatui_ansi.specs.declared.draw.CellError.TheVariants as Refused
 use Rattle.ratatui_ansi.specs.declared.tracker.Call.TheVariants as Called
 use Rattle.ratatui_ansi.specs.{Backend.BackendState, Tracker.IsAwaiting, Covered.IsCovered, Errors.error_of}
 use Rattle.ratatui_ansi.specs.Frame.{is_fit, IsVacant, IsOnScreenAt, KeepsDraw, RefusesUpdate, SendsUpdates}
@@ -117,7 +117,7 @@ FailsToResize size old new _ = ⊥
 -- ---- cells that aren't drawn
 
 -- whether a refusal, or an error, names a cell's place
-abbrev pub has_place : Refusal → Bool
+abbrev pub has_place : CellError → Bool
 has_place Refused.Memory = false
 has_place _ = true
 
@@ -129,7 +129,7 @@ names_cell _ = false
 
 -- why an update isn't drawn on a screen: its symbol doesn't fit, its rendition can't be sent, or it isn't
 -- vacant while a symbol covers its place
-abbrev pub IsRefusedOn : Bool → Screen → Update → Refusal → Type 0
+abbrev pub IsRefusedOn : Bool → Screen → Update → CellError → Type 0
 IsRefusedOn colors s u Refused.Memory = Unit {0}
 IsRefusedOn colors s u (Refused.Symbol p) = IsOnScreenAt s.width s.height p u
     × (is_fit (s.width - u.x) u.cell ≡ false)
@@ -144,7 +144,7 @@ lent_update item = update_by (λ cell. cell.now) item
 
 -- an item isn't drawn on the screen that the items before it would have made of this one
 pub record StopsAt {S A : Type 0} (steps : S → Option A → S → Type 0) (content : S) (update : A → Update)
-    (colors : Bool) (old : Screen) (refusal : Refusal) : Type 0 where
+    (colors : Bool) (old : Screen) (refusal : CellError) : Type 0 where
   pub front : List A
   pub item : A
   pub rest : S
@@ -154,7 +154,7 @@ pub record StopsAt {S A : Type 0} (steps : S → Option A → S → Type 0) (con
   pub refused : IsRefusedOn colors between (update item) refusal
 
 -- a draw of these updates, as a diff gives them, stops at one of them
-abbrev pub StopsInDiff : List Update → Bool → Screen → Refusal → Type 0
+abbrev pub StopsInDiff : List Update → Bool → Screen → CellError → Type 0
 StopsInDiff us colors old refusal =
     StopsAt (YieldsFirstBy lent_update (λ rest. rest)) us lent_update colors old refusal
 
@@ -162,12 +162,12 @@ StopsInDiff us colors old refusal =
 abbrev pub StopsBy : {S A : Type 0} → (S → Option A → S → Type 0) → S → (A → Update) → Bool → Screen
     → AnsiError → Type 0
 StopsBy steps content update colors old error =
-    IsTrue (names_cell error) → (refusal : Refusal) × (error ≡ error_of refusal)
+    IsTrue (names_cell error) → (refusal : CellError) × (error ≡ error_of refusal)
     × StopsAt steps content update colors old refusal
 
 -- the same within a draw: the bytes of the items before it were appended
 pub record StopsWithin {S A : Type 0} (steps : S → Option A → S → Type 0) (content : S) (update : A → Update)
-    (old : Draw) (refusal : Refusal) : Type 0 where
+    (old : Draw) (refusal : CellError) : Type 0 where
   pub front : List A
   pub item : A
   pub rest : S
@@ -180,6 +180,6 @@ pub record StopsWithin {S A : Type 0} (steps : S → Option A → S → Type 0) 
 -- the same for each terminal between two calls
 pub record StopsDraw {S A : Type 0} (steps : S → Option A → S → Type 0) (content : S) (update : A → Update)
     (w h : ℕ) (colors : Bool) (cursor : Position) (written : ℕ)
-    (flags : List Bool) (refusal : Refusal) : Type 0 where
+    (flags : List Bool) (refusal : CellError) : Type 0 where
   pub stops : (t : Emulator) → IsAwaiting w h cursor flags t
       → StopsAt steps content update colors (screen_shown written (rested t)) refusal

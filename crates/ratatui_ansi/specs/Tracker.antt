@@ -7,9 +7,9 @@ use Rattle.ansi_model.specs.{Columns.blank_column, Commands.command_bytes, Comma
 use Rattle.ansi_model.specs.{Beginnings.MakesBlank, Emulator.Emulator, Emulator.rested, Emulator.Phase.Ground}
 use Rattle.ansi_model.specs.{Sends.Leads}
 use Rattle.ansi_model.specs.{Screens.screen_shown, Screens.IsIdle, Flags.AreContinuations, Flags.is_clear_cut}
-use Rattle.ratatui_ansi.specs.{declared.draw.Refusal.Refusal, declared.tracker.Tracker.Tracker}
+use Rattle.ratatui_ansi.specs.{declared.draw.CellError.CellError, declared.tracker.Tracker.Tracker}
 use Rattle.ratatui_ansi.specs.{declared.tracker.Call.Call}
-use Rattle.ratatui_ansi.specs.declared.draw.Refusal.TheVariants as Refused
+use Rattle.ratatui_ansi.specs.declared.draw.CellError.TheVariants as Refused
 use Rattle.ratatui_ansi.specs.declared.tracker.Call.TheVariants as Called
 
 -- a terminal between two calls: it awaits text and is idle, with its cursor there and these flags
@@ -89,7 +89,7 @@ IsCutByCall (Called.Clear kind) k = is_clear_cut kind k.size.width k.cursor.x k.
 IsCutByCall _ k = ⊥
 
 -- why a call wasn't collected: for want of memory, or since it would cut a symbol
-abbrev pub IsUncollected : Call → Tracker → Refusal → Type 0
+abbrev pub IsUncollected : Call → Tracker → CellError → Type 0
 IsUncollected call k Refused.Memory = Unit {0}
 IsUncollected call k (Refused.Cut p) = (p ≡ k.cursor) × IsCutByCall call k
 IsUncollected call k _ = ⊥

@@ -66,7 +66,7 @@ pub struct Draw<'a, 'b> {
 
 /// Why a cell isn't drawn.
 #[derive(Debug, Clone, Copy, PartialEq, Eq)]
-pub enum Refusal {
+pub enum CellError {
     /// Memory was refused.
     Memory,
     /// The symbol in this place isn't printed as one, or not in the columns that its cell takes, or
@@ -78,14 +78,14 @@ pub enum Refusal {
     Cut(Position),
 }
 
-impl From<AllocError> for Refusal {
+impl From<AllocError> for CellError {
     ghost use Rattle.std.specs.Prelude.{◌≡◌};
-    ghost use Rattle.ratatui_ansi.specs.declared.draw.Refusal.TheVariants.{Memory};
+    ghost use Rattle.ratatui_ansi.specs.declared.draw.CellError.TheVariants.{Memory};
 
     ghost from_gives = { λ _ refusal. refusal ≡ Memory };
 
-    fn from(_: AllocError) -> Refusal {
-        Refusal::Memory
+    fn from(_: AllocError) -> CellError {
+        CellError::Memory
     }
 }
 
@@ -210,14 +210,14 @@ impl Draw<'_, '_> {
     // Sets the rendition of the cell in a place; apart, so that the path of a cell in the pen's
     // rendition stays short.
     #[inline(never)]
-    fn set_sgr_of(&mut self, place: Position, cell: &Cell) -> Result<(), Refusal>
+    fn set_sgr_of(&mut self, place: Position, cell: &Cell) -> Result<(), CellError>
         ensures keeps { OnlyPens self.old self.new }
         ensures sets { OnOk result (SetsSgr self.old (sgr_of cell.now) self.new) }
         ensures refused { IfErr result (IsUnsendableSgr self.old place (sgr_of cell.now)) }
     {
         let sgr = Sgr::of(cell);
         if !sgr.is_sendable_by(self.target.has_underline_colors) {
-            return Err(Refusal::Style(place));
+            return Err(CellError::Style(place));
         }
         set_sgr(self.out, &mut self.state.pen, &sgr)?;
         Ok(())
@@ -225,7 +225,7 @@ impl Draw<'_, '_> {
 
     // Sets the rendition of the cell in a place, if the pen has another.
     #[inline(always)]
-    fn take_sgr(&mut self, place: Position, cell: &Cell) -> Result<(), Refusal>
+    fn take_sgr(&mut self, place: Position, cell: &Cell) -> Result<(), CellError>
         requires { IsDraw self.old }
         ensures keeps { OnlyPens self.old self.new }
         ensures sets { OnOk result (SetsSgr self.old (sgr_of cell.now) self.new) }
@@ -239,7 +239,7 @@ impl Draw<'_, '_> {
 
     // Draws a cell in its place, if no symbol covers it from the left, and counts it.
     #[inline(always)]
-    fn draw_glyph(&mut self, place: Position, cell: &Cell, glyph: Glyph) -> Result<(), Refusal>
+    fn draw_glyph(&mut self, place: Position, cell: &Cell, glyph: Glyph) -> Result<(), CellError>
         requires draw { IsDraw self.old }
         requires uncovered { IsUncovered self.old place }
         requires glyph { IsGlyph (self.old.target.width - place.x) cell.now glyph }
@@ -276,7 +276,7 @@ impl Draw<'_, '_> {
     /// - `Style`: the rendition can't be sent.
     /// - `Cut`: the cell would cut a symbol of which the first column stays.
     /// - `Memory`: memory was refused.
-    pub fn draw_cell(&mut self, place: Position, cell: &Cell) -> Result<(), Refusal>
+    pub fn draw_cell(&mut self, place: Position, cell: &Cell) -> Result<(), CellError>
         requires { IsDraw self.old }
         ensures keeps { KeepsDraw self.old self.new }
         ensures drawn { OnOk result
@@ -294,14 +294,14 @@ impl Draw<'_, '_> {
                 self.state.count();
                 return Ok(());
             }
-            return Err(Refusal::Cut(place));
+            return Err(CellError::Cut(place));
         }
         // Most symbols are printable ASCII: their path stands alone, so that it stays short.
         if let Some(c) = printable_of(cell) {
             return self.draw_glyph(place, cell, Glyph::Plain(c));
         }
         let Some(glyph) = glyph_in(width - x, cell) else {
-            return Err(Refusal::Symbol(place));
+            return Err(CellError::Symbol(place));
         };
         self.draw_glyph(place, cell, glyph)
     }
@@ -310,7 +310,7 @@ impl Draw<'_, '_> {
     fn draw_all<C: AsCell, I: Iterator<Item = (u16, u16, C)>>(
         &mut self,
         content: I,
-    ) -> Result<(), Refusal>
+    ) -> Result<(), CellError>
         requires draw { IsDraw self.old }
         requires can { I.can_next content }
         requires finite { IsFinite (I.remaining content) }
@@ -343,7 +343,7 @@ impl Draw<'_, '_> {
     pub fn draw_cells<C: AsCell, I: Iterator<Item = (u16, u16, C)>>(
         &mut self,
         content: I,
-    ) -> Result<(Position, u64), Refusal>
+    ) -> Result<(Position, u64), CellError>
         requires begins { BeginsDraw self.old }
         requires can { I.can_next content }
         requires finite { IsFinite (I.remaining content) }

@@ -2,7 +2,7 @@
 
 ghost use Rattle.ratatui_ansi.specs.Errors.{ansi_error_text};
 
-use crate::draw::Refusal;
+use crate::draw::CellError;
 use ratatui_core::layout::Position;
 use std::alloc::AllocError;
 use std::error::Error;
@@ -70,18 +70,18 @@ impl From<io::Error> for AnsiError {
     }
 }
 
-impl From<Refusal> for AnsiError {
+impl From<CellError> for AnsiError {
     ghost use Rattle.std.specs.Prelude.{◌≡◌};
     ghost use Rattle.ratatui_ansi.specs.Errors.{error_of};
 
     ghost from_gives = { λ refusal error. error ≡ error_of refusal };
 
-    fn from(refusal: Refusal) -> AnsiError {
+    fn from(refusal: CellError) -> AnsiError {
         match refusal {
-            Refusal::Memory => AnsiError::Memory,
-            Refusal::Symbol(place) => AnsiError::Symbol(place),
-            Refusal::Style(place) => AnsiError::Style(place),
-            Refusal::Cut(place) => AnsiError::Cut(place),
+            CellError::Memory => AnsiError::Memory,
+            CellError::Symbol(place) => AnsiError::Symbol(place),
+            CellError::Style(place) => AnsiError::Style(place),
+            CellError::Cut(place) => AnsiError::Cut(place),
         }
     }
 }

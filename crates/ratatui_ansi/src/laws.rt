@@ -7,7 +7,7 @@ ghost use Rattle.ratatui_core.specs.Backend.{Screen};
 ghost use Rattle.ratatui_core.specs.Buffer.{Update, Cell, cell_at, IsDiff, IsSettled, Shows};
 ghost use Rattle.ratatui_ansi.specs.Covered.{IsOpen, IsOrdinary};
 ghost use Rattle.ratatui_ansi.specs.Refusals.{StopsInDiff};
-ghost use Rattle.ratatui_ansi.specs.declared.draw.Refusal.TheVariants.{Cut};
+ghost use Rattle.ratatui_ansi.specs.declared.draw.CellError.TheVariants.{Cut};
 ghost use Rattle.ratatui_ansi.specs.Headline.{IsHeadlineOfBytes};
 
 use crate::backend::AnsiBackend;

@@ -22,5 +22,5 @@ mod tracker;
 pub use ansi_model::SetCursorStyle;
 pub use backend::AnsiBackend;
 pub use checked::draw_for_all;
-pub use draw::Refusal;
+pub use draw::CellError;
 pub use error::AnsiError;

@@ -18,7 +18,7 @@ ghost use Rattle.ratatui_ansi.specs.Refusals.{has_place, StopsDraw, RefusesTrack
 ghost use Rattle.ratatui_ansi.specs.Tracker.{IsTracker, KeepsTracked, Collects, CallDoes, IsCommanded};
 ghost use Rattle.ratatui_ansi.specs.Tracker.{IsUncollected, BeginsBlank};
 
-use crate::draw::{Draw, DrawState, Refusal, Target};
+use crate::draw::{CellError, Draw, DrawState, Target};
 use crate::error::AnsiError;
 use ansi_model::{
     Command, Pen, Sgr, append_lines, ask_size, blank_flags, clear_flags, clear_part_flags,
@@ -279,14 +279,14 @@ impl Tracker {
     }
 
     // The same, refused with the cursor's place if that would cut a symbol.
-    fn clear_uncut(&mut self, clear_type: ClearType) -> Result<(), Refusal>
+    fn clear_uncut(&mut self, clear_type: ClearType) -> Result<(), CellError>
         requires { IsTracker self.old }
         ensures ok { OnOk result (Collects self.old (λ s t. Clears s clear_type t) self.new) }
         ensures err { OnErr result (KeepsTracked self.old self.new) }
         ensures why { IfErr result (IsUncollected (Called.Clear clear_type) self.old) }
     {
         if self.cuts(clear_type) {
-            return Err(Refusal::Cut(self.cursor));
+            return Err(CellError::Cut(self.cursor));
         }
         self.clear(clear_type)?;
         Ok(())
@@ -294,7 +294,7 @@ impl Tracker {
 
     /// Collects what a call sends, after what was collected before. If it is refused all else
     /// stays.
-    pub(crate) fn collect(&mut self, call: Call) -> Result<(), Refusal>
+    pub(crate) fn collect(&mut self, call: Call) -> Result<(), CellError>
         requires { IsTracker self.old }
         ensures ok { OnOk result (Collects self.old (CallDoes call) self.new) }
         ensures bytes { OnOk result
@@ -320,7 +320,7 @@ impl Tracker {
     fn draft<C: AsCell, I: Iterator<Item = (u16, u16, C)>>(
         &mut self,
         content: I,
-    ) -> Result<(Position, u64), Refusal>
+    ) -> Result<(Position, u64), CellError>
         requires tracker { IsTracker self.old }
         requires can { I.can_next content }
         requires finite { IsFinite (I.remaining content) }
@@ -364,7 +364,7 @@ impl Tracker {
     fn draft_update<C: AsCell, I: Iterator<Item = (u16, u16, C)>>(
         &mut self,
         content: I,
-    ) -> Result<(Position, u64), Refusal>
+    ) -> Result<(Position, u64), CellError>
         requires tracker { IsTracker self.old }
         requires can { I.can_next content }
         requires finite { IsFinite (I.remaining content) }
@@ -393,7 +393,7 @@ impl Tracker {
     fn draft_as_told<C: AsCell, I: Iterator<Item = (u16, u16, C)>>(
         &mut self,
         content: I,
-    ) -> Result<(Position, u64), Refusal>
+    ) -> Result<(Position, u64), CellError>
         requires tracker { IsTracker self.old }
         requires can { I.can_next content }
         requires finite { IsFinite (I.remaining content) }
@@ -424,7 +424,7 @@ impl Tracker {
     pub(crate) fn draw<C: AsCell, I: Iterator<Item = (u16, u16, C)>>(
         &mut self,
         content: I,
-    ) -> Result<(), Refusal>
+    ) -> Result<(), CellError>
         requires tracker { IsTracker self.old }
         requires can { I.can_next content }
         requires finite { IsFinite (I.remaining content) }
