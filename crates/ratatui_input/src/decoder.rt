@@ -99,6 +99,8 @@ fn with_alt(key: KeyEvent, is_alt: bool) -> Event
 }
 
 // What a byte is with nothing before it, or after ESC.
+// The path of most bytes is inlined where `feed` is called: a call hands whole events over in memory.
+#[inline(always)]
 #[tactic(auto, unfolding(crate::specs::Decoding::first))]
 fn first(byte: u8, is_alt: bool) -> Next
     ensures { result ≡ first byte is_alt }
@@ -115,6 +117,7 @@ fn first(byte: u8, is_alt: bool) -> Next
     }
 }
 
+#[inline(always)]
 #[tactic(auto, unfolding(crate::specs::Decoding::after_escape))]
 fn after_escape(byte: u8) -> Next
     ensures { result ≡ after_escape byte }
@@ -127,6 +130,7 @@ fn after_escape(byte: u8) -> Next
     }
 }
 
+#[inline(always)]
 #[tactic(auto, unfolding(crate::specs::Decoding::after_bracket))]
 fn after_bracket(byte: u8) -> Next
     ensures { result ≡ after_bracket byte }
@@ -142,6 +146,7 @@ fn after_bracket(byte: u8) -> Next
     }
 }
 
+#[inline(always)]
 #[tactic(auto, unfolding(crate::specs::Decoding::in_sequence))]
 fn in_sequence(sequence: Sequence, byte: u8) -> Next
     ensures { result ≡ in_sequence sequence byte }
@@ -226,6 +231,7 @@ fn in_character(partial: Partial, byte: u8) -> Next
     Next::Whole(character_event(code, partial.is_alt))
 }
 
+#[inline(always)]
 #[tactic(auto, unfolding(crate::specs::Decoding::stepped, crate::specs::Decoding::after_click))]
 fn step(state: State, byte: u8) -> Next
     ensures { result ≡ stepped state byte }
@@ -304,6 +310,7 @@ impl Decoder {
     }
 
     // An event as it is read: within a paste, keys are characters.
+    #[inline(always)]
     #[tactic(auto, unfolding(crate::specs::Decoding::read))]
     fn read(&mut self, event: Event) -> Event
         ensures told { result ≡ (read self.old.is_pasting event).0 }
