@@ -2,22 +2,36 @@
 //! compared. `tools/recipes` says which lines of examples stand in no crate.
 #![tactic(auto)]
 
+#[cfg(test)]
 mod buffers;
+#[cfg(test)]
 mod canvases;
+#[cfg(test)]
 mod charts;
+#[cfg(test)]
 mod clones;
+#[cfg(test)]
 mod geometry;
+#[cfg(test)]
 mod input;
+#[cfg(test)]
 mod styles;
+#[cfg(test)]
 mod tables;
+#[cfg(test)]
 mod terminals;
+#[cfg(test)]
 mod texts;
+#[cfg(test)]
 mod widgets;
 
+#[cfg(test)]
 use ratatui_core::buffer::Buffer;
+#[cfg(test)]
 use ratatui_core::layout::Position;
 
 // The symbol of a cell, or nothing outside the buffer.
+#[cfg(test)]
 fn symbol_at(buffer: &Buffer, x: u16, y: u16) -> &str {
     match buffer.cell(Position { x, y }) {
         Some(cell) => cell.symbol(),
