@@ -1,4 +1,5 @@
 //! The backend in memory, and calls on it.
+use crate::terminals::counts_calls;
 use ratatui_core::backend::{Backend, ClearType, TestBackend, TestError, WindowSize};
 use ratatui_core::buffer::{Buffer, Cell, texts_width};
 use ratatui_core::layout::Position;
@@ -275,7 +276,7 @@ fn step(
 }
 
 /// A backend, and calls on it; what is seen of it at the end. A call that is refused memory is made
-/// once more, over what it left.
+/// once more, over what it left, unless the backend counts its calls to fail.
 pub fn backend(
     alloc: Global,
     args: &mut Args<'_>,
@@ -283,11 +284,13 @@ pub fn backend(
     answer: &mut Answer,
 ) -> Result<(), RowError> {
     let mut backend = made(args)?;
+    let mut is_counted = false;
     for each in later {
         let tokens = each.as_slice();
+        is_counted = is_counted || counts_calls(tokens);
         let mut own = Answer::new(alloc);
         let mut done = step(&mut backend, alloc, tokens, &mut own);
-        if let Err(RowError::Memory) = done {
+        if !is_counted && matches!(done, Err(RowError::Memory)) {
             own = Answer::new(alloc);
             done = step(&mut backend, alloc, tokens, &mut own);
         }

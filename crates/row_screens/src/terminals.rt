@@ -348,16 +348,17 @@ fn step(
 }
 
 // The same, made once more over what it left if memory was refused; it can be refused for want of
-// memory only if it is so twice.
+// memory only if it is so twice. Where calls of the backend are counted, none is made twice.
 fn step_again(
     terminal: &mut Terminal<TestBackend>,
     alloc: Global,
     tokens: &[Token],
+    is_counted: bool,
 ) -> Result<Answer, RowError> {
     let mut answer = Answer::new(alloc);
     match step(terminal, alloc, tokens, &mut answer) {
         Ok(()) => return Ok(answer),
-        Err(RowError::Memory) => {}
+        Err(RowError::Memory) if !is_counted => {}
         Err(fault) => return Err(fault),
     }
     let mut answer = Answer::new(alloc);
@@ -375,17 +376,25 @@ fn fill(backend: &mut TestBackend, symbol: &Cell) -> Result<(), TestError> {
     backend.draw(area.positions().map(|place| (place.x, place.y, symbol)))
 }
 
-// A screen of a size, prepared.
-fn screen(args: &mut Args<'_>) -> Result<TestBackend, RowError> {
+// Whether a step tells the backend after how many calls it fails.
+pub(crate) fn counts_calls(tokens: &[Token]) -> bool {
+    match tokens.first() {
+        Some(Token::Word(word)) => word.as_str() == "fail_after",
+        _ => false,
+    }
+}
+
+// A screen of a size, prepared, and whether its calls are counted.
+fn screen(args: &mut Args<'_>) -> Result<(TestBackend, bool), RowError> {
     let (width, height) = args.pair()?;
     let mut backend = TestBackend::new(args.alloc, width, height)?;
-    prepare(&mut backend, args)?;
-    Ok(backend)
+    let is_counted = prepare(&mut backend, args)?;
+    Ok((backend, is_counted))
 }
 
 // What stands after commas: `full` with a symbol for each cell, `cursor` with its place,
-// `fail_after` with a number.
-fn prepare(backend: &mut TestBackend, args: &mut Args<'_>) -> Result<(), RowError> {
+// `fail_after` with a number; whether that stands there.
+fn prepare(backend: &mut TestBackend, args: &mut Args<'_>) -> Result<bool, RowError> {
     args.skip_comma();
     if args.takes("full") {
         fill_screen(backend, args)?;
@@ -393,11 +402,12 @@ fn prepare(backend: &mut TestBackend, args: &mut Args<'_>) -> Result<(), RowErro
     if args.takes("cursor") {
         place_cursor(backend, args)?;
     }
-    if args.takes("fail_after") {
+    let is_counted = args.takes("fail_after");
+    if is_counted {
         backend.fail_after(args.value::<u64>()?);
         args.skip_comma();
     }
-    Ok(())
+    Ok(is_counted)
 }
 
 fn fill_screen(backend: &mut TestBackend, args: &mut Args<'_>) -> Result<(), RowError> {
@@ -419,10 +429,14 @@ fn play(
     terminal: &mut Terminal<TestBackend>,
     alloc: Global,
     steps: &[Vec<Token>],
+    is_counted: bool,
     answer: &mut Answer,
 ) -> Result<(), RowError> {
+    let mut is_counted = is_counted;
     for step in steps {
-        let own = step_again(terminal, alloc, step.as_slice())?;
+        let tokens = step.as_slice();
+        is_counted = is_counted || counts_calls(tokens);
+        let own = step_again(terminal, alloc, tokens, is_counted)?;
         answer.join(&own)?;
     }
     put_backend(terminal.backend(), answer)?;
@@ -431,18 +445,19 @@ fn play(
 }
 
 /// A terminal, and calls on it; what is seen of its screen at the end, and its viewport. A call
-/// that is refused memory is made once more, over what it left.
+/// that is refused memory is made once more, over what it left, unless the backend counts its calls
+/// to fail.
 pub fn terminal(
     alloc: Global,
     args: &mut Args<'_>,
     later: &[Vec<Token>],
     answer: &mut Answer,
 ) -> Result<(), RowError> {
-    let backend = screen(args)?;
+    let (backend, is_counted) = screen(args)?;
     let viewport = read_viewport(args)?;
     args.end()?;
     match Terminal::with_options(alloc, backend, TerminalOptions { viewport }) {
-        Ok(mut terminal) => play(&mut terminal, alloc, later, answer),
-        Err(error) => answer.refused(&error),
+        Ok(mut terminal) => play(&mut terminal, alloc, later, is_counted, answer),
+        Err(error) => told(Err(error), answer),
     }
 }
