@@ -9,6 +9,7 @@
 
 mod columns;
 mod grapheme;
+mod items;
 mod line;
 mod lines;
 mod masked;
@@ -20,6 +21,7 @@ mod text;
 
 pub use columns::text_columns;
 pub use grapheme::{LineGraphemes, StyledGrapheme, has_control};
+pub use items::Items;
 pub use line::Line;
 pub use lines::Lines;
 pub use masked::Masked;

@@ -7,8 +7,6 @@ ghost use Rattle.std.specs.Hash as fed;
 ghost use Rattle.std.specs.Hash.{on_Alike, and-Alike};
 ghost use Rattle.std.specs.Cmp.{and_equiv, on_equiv, partial_equiv_from_equiv};
 ghost use Rattle.std.specs.Ordering.{on, eq_of_both};
-ghost use Rattle.rtui_text.specs.contracts.lines.LinesEq.TheImpl.Laws.{laws-law as lines_laws};
-ghost use Rattle.rtui_text.specs.contracts.lines.LinesHash.TheImpl.Laws.{respects_eq-law as lines_hashes};
 ghost use Rattle.rtui_text.specs.contracts.line.LineHeadEq.TheImpl.Laws.{laws-law as head_laws};
 ghost use Rattle.rtui_text.specs.contracts.line.LineHeadHash.TheImpl.Laws.{respects_eq-law as head_hashes};
 ghost use Rattle.rtui_style.specs.Style.{patch, reset_style};
