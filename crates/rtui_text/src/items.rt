@@ -72,7 +72,7 @@ impl<T: Drop> Items<T> {
 
     /// The list of the items; takes no memory.
     pub fn into_vec(self) -> Vec<T>
-        ensures { result.items ≡ self.entry }
+        ensures { result.items ≡ self }
     {
         let Items { items } = self;
         items
@@ -98,7 +98,7 @@ impl<T: Drop> Items<T> {
     ///
     /// `AllocError` if memory is refused; nothing has changed then.
     pub fn push(&mut self, item: T) -> Result<(), AllocError>
-        ensures ok { OnOk result (self.new ≡ self.old ++ item.entry ∷ []) }
+        ensures ok { OnOk result (self.new ≡ self.old ++ item ∷ []) }
         ensures err { OnErr result (self.new ≡ self.old) }
     {
         self.items.push(item)?;
@@ -111,7 +111,7 @@ impl<T: Drop> Items<T> {
     ///
     /// `AllocError` if memory is refused; nothing has changed then.
     pub fn append(&mut self, mut others: Items<T>) -> Result<(), AllocError>
-        ensures ok { OnOk result (self.new ≡ self.old ++ others.entry) }
+        ensures ok { OnOk result (self.new ≡ self.old ++ others) }
         ensures err { OnErr result (self.new ≡ self.old) }
     {
         self.items.append(&mut others.items)

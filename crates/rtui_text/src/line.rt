@@ -4,9 +4,12 @@ ghost use Rattle.std.specs.Iterator.{IsFinite, Drains, ExtendsWithItems};
 ghost use Rattle.std.specs.Slice.Iter.{iter_rest, iter_mut_rest};
 ghost use Rattle.std.specs.Vec.Iter.{into_iter_items};
 ghost use Rattle.std.specs.Hash as fed;
-ghost use Rattle.std.specs.Hash.{on_Alike, and-Alike};
+ghost use Rattle.std.specs.Hash.{on_Alike, and-Alike, items_Alike};
 ghost use Rattle.std.specs.Cmp.{and_equiv, on_equiv, partial_equiv_from_equiv};
+ghost use Rattle.std.specs.Cmp.Lexicographic.{lists_equiv};
 ghost use Rattle.std.specs.Ordering.{on, eq_of_both};
+ghost use Rattle.rtui_text.specs.contracts.span.SpanEq.TheImpl.Laws.{laws-law as span_laws};
+ghost use Rattle.rtui_text.specs.contracts.span.SpanHash.TheImpl.Laws.{respects_eq-law as span_hashes};
 ghost use Rattle.rtui_text.specs.contracts.line.LineHeadEq.TheImpl.Laws.{laws-law as head_laws};
 ghost use Rattle.rtui_text.specs.contracts.line.LineHeadHash.TheImpl.Laws.{respects_eq-law as head_hashes};
 ghost use Rattle.rtui_style.specs.Style.{patch, reset_style};
@@ -436,7 +439,7 @@ impl<'a> PartialEq for Line<'a> {
 
     ghost laws = { partial_equiv_from_equiv (and_equiv
         (on_equiv line_head head_laws)
-        (on_equiv (λ l. l.spans) spans_laws)) };
+        (on_equiv (λ l. l.spans) (lists_equiv span_laws))) };
 
     fn eq(&self, other: &Self) -> bool {
         self.head() == other.head() && self.spans == other.spans
@@ -446,7 +449,7 @@ impl<'a> PartialEq for Line<'a> {
 impl<'a> Eq for Line<'a> {
     ghost use Rattle.rtui_text.specs.LineHead.{line_head};
 
-    ghost laws = { and_equiv (on_equiv line_head head_laws) (on_equiv (λ l. l.spans) spans_laws) };
+    ghost laws = { and_equiv (on_equiv line_head head_laws) (on_equiv (λ l. l.spans) (lists_equiv span_laws)) };
 }
 
 impl<'a> Hash for Line<'a> {
@@ -457,7 +460,7 @@ impl<'a> Hash for Line<'a> {
 
     ghost respects_eq = { (and-Alike
         (on_Alike line_head (record { fed = head_hashes }))
-        (on_Alike (λ l. l.spans) (record { fed = spans_hashes }))).fed };
+        (on_Alike (λ l. l.spans) (items_Alike (record { fed = span_hashes })))).fed };
 
     fn hash<H: Hasher>(&self, state: &mut H) {
         self.head().hash(state);

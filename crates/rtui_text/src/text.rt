@@ -4,9 +4,12 @@ ghost use Rattle.std.specs.Iterator.{IsFinite, Drains, ExtendsWithItems};
 ghost use Rattle.std.specs.Slice.Iter.{iter_rest, iter_mut_rest};
 ghost use Rattle.std.specs.Vec.Iter.{into_iter_items};
 ghost use Rattle.std.specs.Hash as fed;
-ghost use Rattle.std.specs.Hash.{on_Alike, and-Alike};
+ghost use Rattle.std.specs.Hash.{on_Alike, and-Alike, items_Alike};
 ghost use Rattle.std.specs.Cmp.{and_equiv, on_equiv, partial_equiv_from_equiv};
+ghost use Rattle.std.specs.Cmp.Lexicographic.{lists_equiv};
 ghost use Rattle.std.specs.Ordering.{on, eq_of_both};
+ghost use Rattle.rtui_text.specs.contracts.line.LineEq.TheImpl.Laws.{laws-law as line_laws};
+ghost use Rattle.rtui_text.specs.contracts.line.LineHash.TheImpl.Laws.{respects_eq-law as line_hashes};
 ghost use Rattle.rtui_text.specs.contracts.line.LineHeadEq.TheImpl.Laws.{laws-law as head_laws};
 ghost use Rattle.rtui_text.specs.contracts.line.LineHeadHash.TheImpl.Laws.{respects_eq-law as head_hashes};
 ghost use Rattle.rtui_style.specs.Style.{patch, reset_style};
@@ -430,7 +433,7 @@ impl<'a> PartialEq for Text<'a> {
 
     ghost laws = { partial_equiv_from_equiv (and_equiv
         (on_equiv text_head head_laws)
-        (on_equiv (λ t. t.lines) lines_laws)) };
+        (on_equiv (λ t. t.lines) (lists_equiv line_laws))) };
 
     fn eq(&self, other: &Self) -> bool {
         self.head() == other.head() && self.lines == other.lines
@@ -440,7 +443,7 @@ impl<'a> PartialEq for Text<'a> {
 impl<'a> Eq for Text<'a> {
     ghost use Rattle.rtui_text.specs.LineHead.{text_head};
 
-    ghost laws = { and_equiv (on_equiv text_head head_laws) (on_equiv (λ t. t.lines) lines_laws) };
+    ghost laws = { and_equiv (on_equiv text_head head_laws) (on_equiv (λ t. t.lines) (lists_equiv line_laws)) };
 }
 
 impl<'a> Hash for Text<'a> {
@@ -451,7 +454,7 @@ impl<'a> Hash for Text<'a> {
 
     ghost respects_eq = { (and-Alike
         (on_Alike text_head (record { fed = head_hashes }))
-        (on_Alike (λ t. t.lines) (record { fed = lines_hashes }))).fed };
+        (on_Alike (λ t. t.lines) (items_Alike (record { fed = line_hashes })))).fed };
 
     fn hash<H: Hasher>(&self, state: &mut H) {
         self.head().hash(state);
