@@ -2,7 +2,7 @@
 use Rattle.std.proofs.Common.{ℕ, ◌≡◌, ◌≤◌, min, List, [], ◌∷◌, refl, arith}
 use Rattle.std.proofs.lemmas.List.Sums.{sum_by-cons, sum_by-le-sum_by}
 use Rattle.rtui_split.specs.declared.part.Part.{Part}
-use Rattle.rtui_split.specs.Shares.{if_in, wanted_in, capped_in}
+use Rattle.rtui_split.specs.Inner.Shares.{if_in, wanted_in, capped_in}
 
 pub capped_later : (t a b : ℕ) (ps : List Part) → a ≤ b → capped_in t a ps ≤ capped_in t b ps
 capped_later t a b ps later = sum_by-le-sum_by (λ p. min (if_in t p) a) (λ p. min (if_in t p) b) ps (λ p. omega arith)

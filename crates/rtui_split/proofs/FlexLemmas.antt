@@ -8,12 +8,14 @@ use Rattle.std.proofs.lemmas.List.Sums.{sum_by-cons}
 use Rattle.rtui_layout.specs.declared.flex.Flex.{Flex}
 use Rattle.rtui_layout.specs.declared.flex.Flex.TheVariants.{Legacy, Start, End, Center, SpaceBetween, SpaceAround, SpaceEvenly}
 use Rattle.rtui_split.specs.declared.{flex.Spaces.Spaces, flex.Room.Room, part.Part.Part}
-use Rattle.rtui_split.specs.Shares.{wanted_before, if_before, IsGranted, IsDenied, IsShared}
+use Rattle.rtui_split.specs.Inner.Shares.{wanted_before, if_before, IsGranted, IsDenied, IsShared}
 use Rattle.rtui_split.specs.Ragged.{IsAtMost}
-use Rattle.rtui_split.specs.Spaces.{FitsBefore, IsArranged, IsPacked, IsSpread, KeepsWishes, least_spaces}
-use Rattle.rtui_split.specs.Spaces.{IsFlexed, IsFlexedIn, GivesWishes, lead, first_share, middle_share}
+use Rattle.rtui_split.specs.Spaces.{IsPacked, KeepsWishes, least_spaces}
+use Rattle.rtui_split.specs.Inner.Spaces.{FitsBefore, IsArranged, IsSpread}
+use Rattle.rtui_split.specs.Spaces.{IsFlexed}
+use Rattle.rtui_split.specs.Inner.Spaces.{IsFlexedIn, GivesWishes, lead, first_share, middle_share}
 use Rattle.rtui_split.proofs.ShareLemmas.{before-later, one_granted, granted_le}
-use Rattle.rtui_split.specs.Shares.{DifferLeast}
+use Rattle.rtui_split.specs.Inner.Shares.{DifferLeast}
 
 -- so much more for each
 pub sum-plus : (m : ℕ) (xs : List ℕ) → sum_by (λ s. s + m) xs ≡ sum xs + length xs * m

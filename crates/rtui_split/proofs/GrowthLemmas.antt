@@ -11,7 +11,8 @@ use Rattle.rtui_geometry.specs.declared.rect.Rect.{Rect}
 use Rattle.rtui_layout.specs.Layout.{LayoutData}
 use Rattle.rtui_layout.specs.declared.constraint.Constraint.{Constraint}
 use Rattle.rtui_layout.specs.declared.constraint.Constraint.TheVariants.{Min, Max, Length, Percentage, Ratio, Fill}
-use Rattle.rtui_split.specs.{Wishes.turn, Wishes.wish, Wishes.wished_before, Shares.TakesNothing}
+use Rattle.rtui_split.specs.{Wishes.turn, Wishes.wish, Wishes.wished_before}
+use Rattle.rtui_split.specs.Wishes.{TakesNothing}
 use Rattle.rtui_split.specs.Spaces.{least_spaces}
 use Rattle.rtui_split.specs.Split.{cells_of, size_at, HasTaker, NoneTakes, IsCutAt, SharesRest, gap_units}
 use Rattle.std.specs.List.{AllZip}

@@ -8,11 +8,14 @@ use Rattle.std.proofs.lemmas.List.Elements.{All-head, All-tail}
 use Rattle.rtui_layout.specs.declared.constraint.Constraint.{Constraint}
 use Rattle.rtui_layout.specs.declared.constraint.Constraint.TheVariants.{Min, Max, Length, Percentage, Ratio, Fill}
 use Rattle.rtui_split.specs.declared.{flex.Room.Room, part.Part.Part, level.Takers.Takers}
-use Rattle.rtui_split.specs.Shares.{wanted_before, sized, size_of_constraint, constraints_of, ComeFirst, IsDenied, IsShared}
-use Rattle.rtui_split.specs.Shares.{IsFilled}
-use Rattle.rtui_split.specs.Shares.{TakesNothingIn, TakeNothingIn}
+use Rattle.rtui_split.specs.Inner.Shares.{wanted_before, sized, size_of_constraint, constraints_of}
+use Rattle.rtui_split.specs.Inner.Shares.{ComeFirst, IsDenied, IsShared}
+use Rattle.rtui_split.specs.Inner.Shares.{IsFilled}
+use Rattle.rtui_split.specs.Inner.Shares.{TakeNothingIn}
+use Rattle.rtui_split.specs.Wishes.{TakesNothingIn}
 use Rattle.rtui_split.specs.Inner.{IsStretched, IsStretchableAt}
-use Rattle.rtui_split.specs.Spaces.{FitsBefore, IsLegacy, least_spaces}
+use Rattle.rtui_split.specs.Spaces.{least_spaces}
+use Rattle.rtui_split.specs.Inner.Spaces.{FitsBefore, IsLegacy}
 use Rattle.rtui_split.proofs.FlexLemmas.{lt_or_le, not_le}
 use Rattle.rtui_split.proofs.{ShareLemmas.before-later, LevelLemmas.fill_le}
 use Rattle.std.proofs.lemmas.List.Sums.{sum_by-set}

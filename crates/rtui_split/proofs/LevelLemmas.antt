@@ -8,7 +8,9 @@ use Rattle.rtui_layout.specs.declared.constraint.Constraint.TheVariants.{Min, Ma
 use Rattle.rtui_split.specs.declared.{part.Part.Part, level.Takers.Takers}
 use Rattle.std.proofs.lemmas.List.Sums.{sum_by-cons}
 use Rattle.std.proofs.lemmas.List.Elements.{All-head, All-tail, All-nil, All-cons}
-use Rattle.rtui_split.specs.Shares.{sized, size_of_constraint, TakesNothingIn, TakeNothingIn, if_before, wanted_before, weights}
+use Rattle.rtui_split.specs.Inner.Shares.{sized, size_of_constraint, TakeNothingIn, if_before}
+use Rattle.rtui_split.specs.Inner.Shares.{wanted_before, weights}
+use Rattle.rtui_split.specs.Wishes.{TakesNothingIn}
 use Rattle.rtui_split.specs.Wishes.{weight_in}
 
 -- a share at a higher level is no smaller

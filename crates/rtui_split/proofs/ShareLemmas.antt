@@ -10,10 +10,14 @@ use Rattle.rtui_layout.specs.declared.constraint.Constraint.{Constraint}
 use Rattle.rtui_layout.specs.declared.constraint.Constraint.TheVariants.{Min, Max, Length, Percentage, Ratio, Fill}
 use Rattle.rtui_split.specs.declared.{part.Part.Part, level.Takers.Takers}
 use Rattle.rtui_split.specs.Wishes.{turn}
-use Rattle.rtui_split.specs.Shares.{if_before, if_in, wanted_before, wanted_in, sized, size_of_constraint, TakesNothing}
-use Rattle.rtui_split.specs.Shares.{TakesNothingIn, Settled}
-use Rattle.rtui_split.specs.Shares.{IsGranted, IsModest, IsDenied, IsShared, IsFilled, TakeNothingIn, TakeNothing, weights}
-use Rattle.rtui_split.specs.Shares.{IsLevelled, ComeFirst, DifferLeast}
+use Rattle.rtui_split.specs.Inner.Shares.{if_before, if_in, wanted_before, wanted_in, sized}
+use Rattle.rtui_split.specs.Inner.Shares.{size_of_constraint}
+use Rattle.rtui_split.specs.Wishes.{TakesNothing}
+use Rattle.rtui_split.specs.Inner.Shares.{Settled}
+use Rattle.rtui_split.specs.Wishes.{TakesNothingIn}
+use Rattle.rtui_split.specs.Inner.Shares.{IsGranted, IsModest, IsDenied, IsShared, IsFilled}
+use Rattle.rtui_split.specs.Inner.Shares.{TakeNothingIn, TakeNothing, weights}
+use Rattle.rtui_split.specs.Inner.Shares.{IsLevelled, ComeFirst, DifferLeast}
 use Rattle.rtui_split.proofs.{Lists.AllZip-weaker, Lists.AllZip-mapped, LevelLemmas.fill_le}
 
 one_before_next : (t : ℕ) (p : Part) → if_before (t + 1) p ≡ if_before t p + if_in t p

@@ -15,23 +15,28 @@ use Rattle.rtui_layout.specs.declared.direction.Direction.TheVariants.{Horizonta
 use Rattle.rtui_split.specs.declared.{flex.Spaces.Spaces, part.Part.Part}
 use Rattle.rtui_split.specs.Cut.{first_cell, area_end, length_of, IsPartAlong, InOrder, IsSpace, Alternate, SpansAcross}
 use Rattle.rtui_split.specs.{Spacers.AreSpacers, declared.place.Lane.Lane}
-use Rattle.rtui_split.specs.Shares.{part_in, wanted_before, if_before, sized, TakesNothing, IsGranted, IsModest}
-use Rattle.rtui_split.specs.Spaces.{least_spaces, KeepsWishes, FitsBefore, HasRoomForSpaces, IsCutTo, IsArranged}
+use Rattle.rtui_split.specs.Inner.Shares.{part_in, wanted_before, if_before, sized, IsGranted}
+use Rattle.rtui_split.specs.Inner.Shares.{IsModest}
+use Rattle.rtui_split.specs.Wishes.{TakesNothing}
+use Rattle.rtui_split.specs.Spaces.{least_spaces, KeepsWishes}
+use Rattle.rtui_split.specs.Inner.Spaces.{FitsBefore, HasRoomForSpaces, IsCutTo, IsArranged}
 use Rattle.rtui_split.specs.Split.{IsCutFrom, LeavesNothing}
 use Rattle.rtui_split.specs.declared.flex.Room.{Room}
-use Rattle.rtui_split.specs.Split.{gap_units, FitWishes, IsLane, HasWish, WithinWish, IsGivenBefore, IsWithinWish, IsSplit}
+use Rattle.rtui_split.specs.Split.{gap_units, FitWishes, HasWish, WithinWish, IsGivenBefore, IsWithinWish, IsSplit}
+use Rattle.rtui_split.specs.Inner.Lanes.{IsLane}
 use Rattle.rtui_split.specs.Split.{AreExact, IsLevel, HasLeast}
-use Rattle.rtui_split.specs.Spaces.{IsFilledBeside, GivesWishes, IsLegacy}
-use Rattle.rtui_split.specs.Shares.{constraints_of, ComeFirst, TakesNothingIn, TakeNothingIn}
+use Rattle.rtui_split.specs.Inner.Spaces.{IsFilledBeside, GivesWishes, IsLegacy}
+use Rattle.rtui_split.specs.Inner.Shares.{constraints_of, ComeFirst, TakeNothingIn}
+use Rattle.rtui_split.specs.Wishes.{TakesNothingIn}
 use Rattle.rtui_split.specs.Inner.{IsStretched}
 use Rattle.rtui_split.specs.Split.{TakeInOrder, HaveNoFill, StretchOne, HasPlacesInOrder, fill_size}
 use Rattle.std.proofs.Math.ListN.{set}
 use Rattle.rtui_split.proofs.Lists.{AllZip-unmapped, AllZip-weaker}
-use Rattle.rtui_split.specs.Shares.{if_in, capped_in, HasAtLeast, IsLevelled}
+use Rattle.rtui_split.specs.Inner.Shares.{if_in, capped_in, HasAtLeast, IsLevelled}
 use Rattle.rtui_split.specs.Split.{least_wish, HasLevel, AreLevelled}
 use Rattle.rtui_split.specs.Split.{size_at, total_weight, NoneTakes, IsDeniedFrom, HasExactPlaces}
 use Rattle.rtui_split.specs.{Wishes.weight_in, Cut.AreEdges, Spaces.IsFlexed}
-use Rattle.rtui_split.specs.Shares.{IsDenied, TakeNothing, weights}
+use Rattle.rtui_split.specs.Inner.Shares.{IsDenied, TakeNothing, weights}
 use Rattle.rtui_split.proofs.{LevelLemmas.one_weight, FlexLemmas.lt_or_le, FlexLemmas.sum-plus}
 use Rattle.rtui_layout.specs.declared.flex.Flex.TheVariants.{Legacy, Start, End, Center, SpaceBetween, SpaceAround, SpaceEvenly}
 use Rattle.std.proofs.lemmas.Bool.Decides.{nat_tests}
@@ -41,7 +46,7 @@ use Rattle.rtui_split.specs.Split.{IsCutAt, HasTaker, SharesRest}
 use Rattle.std.proofs.lemmas.List.Elements.{All-head, All-tail}
 use Rattle.std.proofs.lemmas.List.{length-map}
 use Rattle.rtui_split.specs.Wishes.{wish_in, wish_before}
-use Rattle.rtui_split.specs.Shares.{DifferLeast}
+use Rattle.rtui_split.specs.Inner.Shares.{DifferLeast}
 use Rattle.rtui_split.specs.Ragged.{IsLeastRagged}
 use Rattle.rtui_split.specs.Split.{AreLeastRagged}
 

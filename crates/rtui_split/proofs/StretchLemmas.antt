@@ -7,7 +7,7 @@ use Rattle.std.proofs.lemmas.List.Elements.{All-append, All-nil, All-cons, All-p
 use Rattle.rtui_layout.specs.declared.constraint.Constraint.{Constraint}
 use Rattle.rtui_split.specs.declared.part.Part.{Part}
 use Rattle.rtui_split.specs.Wishes.{patience}
-use Rattle.rtui_split.specs.Shares.{constraints_of}
+use Rattle.rtui_split.specs.Inner.Shares.{constraints_of}
 use Rattle.rtui_split.specs.Inner.{IsStretchableAt}
 
 -- one part more

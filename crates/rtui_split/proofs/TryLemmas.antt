@@ -9,14 +9,15 @@ use Rattle.std.proofs.lemmas.Bool.Decides.{nat_tests}
 use Rattle.std.proofs.lemmas.List.Sums.{sum_by-cons}
 use Rattle.std.proofs.lemmas.List.Elements.{All-head, All-tail}
 use Rattle.rtui_split.specs.declared.{part.Part.Part, draft.Draft.Draft}
-use Rattle.rtui_split.specs.Shares.{if_in, wanted_in, capped_in, HasAtLeast, ComeFirst, IsOfTurn}
+use Rattle.rtui_split.specs.Inner.Shares.{if_in, wanted_in, capped_in, HasAtLeast, ComeFirst}
+use Rattle.rtui_split.specs.Inner.Shares.{IsOfTurn}
 use Rattle.rtui_split.specs.Inner.{tries_in, HaveTried}
-use Rattle.rtui_split.specs.Shares.{TriesItsWish}
-use Rattle.rtui_split.specs.Shares.{wanted_before, IsLevelled}
+use Rattle.rtui_split.specs.Inner.Shares.{TriesItsWish}
+use Rattle.rtui_split.specs.Inner.Shares.{wanted_before, IsLevelled}
 use Rattle.rtui_split.proofs.ShareLemmas.{before-first}
 use Rattle.rtui_split.proofs.Lists.{drop_cons}
 use Rattle.rtui_split.specs.Ragged.{Run}
-use Rattle.rtui_split.specs.Shares.{if_before, DifferLeast}
+use Rattle.rtui_split.specs.Inner.Shares.{if_before, DifferLeast}
 use Rattle.rtui_split.specs.Ragged.{IsAtMost, IsLeastRagged}
 use Rattle.rtui_split.specs.Inner.{tries}
 use Rattle.std.proofs.Common.{map}

@@ -9,7 +9,7 @@ use Rattle.std.specs.List.{AllZip}
 use Rattle.rtui_split.specs.Ragged.{Run}
 use Rattle.rtui_split.specs.declared.{part.Part.Part, draft.Draft.Draft}
 use Rattle.rtui_split.specs.declared.smooth.Run as coded
-use Rattle.rtui_split.specs.Shares.{if_in, if_before}
+use Rattle.rtui_split.specs.Inner.Shares.{if_in, if_before}
 use Rattle.rtui_split.specs.Ragged.{IsAtMost}
 use Rattle.rtui_split.specs.Ragged.{IsRunOf, ComesNoLater}
 use Rattle.rtui_split.specs.Inner.{tries, as_run, KeepsUpTo, IsFirstRun, StartsAt}

@@ -1,11 +1,14 @@
 -- Words that only private contracts use: they follow the code.
+pub mod Lanes
+pub mod Shares
+pub mod Spaces
 use Rattle.std.specs.Prelude.{ℕ, ◌≡◌, ◌+◌, ◌<◌, ◌≤◌, min, List, [], ◌∷◌, ◌++◌, ⊤, length, map}
 use Rattle.std.specs.Prelude.{slice_set, slice_index_or, slice_index}
 use Rattle.rtui_layout.specs.declared.constraint.Constraint.{Constraint}
 use Rattle.rtui_split.specs.declared.{part.Part.Part, draft.Draft.Draft}
 use Rattle.rtui_split.specs.declared.smooth.Run as coded
 use Rattle.rtui_split.specs.Wishes.{patience, IsStretchable}
-use Rattle.rtui_split.specs.Shares.{if_in, constraints_of}
+use Rattle.rtui_split.specs.Inner.Shares.{if_in, constraints_of}
 use Rattle.rtui_split.specs.Ragged.{Run, IsRunOf, ComesNoLater, growth_before, growth_after}
 
 -- what the parts of this turn try together, each at most its wish

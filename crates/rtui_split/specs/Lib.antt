@@ -3,7 +3,6 @@ pub mod Flexed
 pub mod Growth
 pub mod Inner
 pub mod Ragged
-pub mod Shares
 pub mod Spacers
 pub mod Spaces
 pub mod Split

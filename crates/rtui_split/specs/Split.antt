@@ -13,14 +13,14 @@ use Rattle.rtui_layout.specs.declared.constraint.Constraint.TheVariants.{Min, Ma
 use Rattle.rtui_layout.specs.declared.constraint.Constraint.TheVariants.{Fill}
 use Rattle.rtui_layout.specs.Layout.{default_layout}
 use Rattle.rtui_layout.specs.declared.flex.Flex.TheVariants as flex
-use Rattle.rtui_split.specs.declared.{place.Lane.Lane, lane.Rule.Rule}
 use Rattle.rtui_split.specs.{Cut.first_cell, Cut.area_end, Cut.length_of, Cut.IsPartAlong, Cut.InOrder}
 use Rattle.rtui_split.specs.{Cut.IsSpace}
 use Rattle.rtui_split.specs.{Cut.AtMostCells, Cut.AtLeastCells, Wishes.turn, Wishes.wish}
 use Rattle.rtui_split.specs.{Wishes.IsStretchable}
 use Rattle.rtui_split.specs.{Wishes.wished_before, Wishes.wish_in, Wishes.wish_before, Wishes.weight_in}
-use Rattle.rtui_split.specs.{Cut.AreEdges, Shares.TakesNothing}
-use Rattle.rtui_split.specs.{Shares.TakesNothingIn}
+use Rattle.rtui_split.specs.{Cut.AreEdges}
+use Rattle.rtui_split.specs.Wishes.{TakesNothing}
+use Rattle.rtui_split.specs.Wishes.{TakesNothingIn}
 use Rattle.rtui_split.specs.Spaces.{least_spaces, KeepsWishes, IsFlexed}
 use Rattle.rtui_split.specs.Ragged.{Run, IsAtMost, IsLeastRagged}
 
@@ -295,20 +295,6 @@ pub record IsSplit (l : LayoutData) (area : Rect) (parts : List Rect) : Type 0 w
       → HasPlacesInOrder l (first_cell l.direction area) (cells_of l.direction area) parts
   pub rest : IsSpace l.spacing → KeepsWishes l.flex (length l.constraints)
       → FitWishes 5 l (cells_of l.direction area) → SharesRest l (cells_of l.direction area) parts
-
--- the columns or rows of an area along a layout's direction
-pub record IsLane (l : LayoutData) (area : Rect) (lane : Lane) : Type 0 where
-  pub cut : lane.area ≡ area
-  pub direction : lane.direction ≡ l.direction
-  pub start : lane.start ≡ first_cell l.direction area
-  pub end : lane.end ≡ area_end l.direction area
-
--- what a layout says of its parts and of the room that none takes
-pub record IsRule (l : LayoutData) (constraints : List Constraint) (rule : Rule) : Type 0 where
-  pub parts : constraints ≡ l.constraints
-  pub flex : rule.flex ≡ l.flex
-  pub gap : rule.gap ≡ gap_units l.spacing
-  pub overlap : IsSpace l.spacing → rule.overlap ≡ 0
 
 -- one part in the middle, without margin
 abbrev pub centered_layout : Direction → Constraint → LayoutData

@@ -1,10 +1,10 @@
 -- What each part of a layout wishes, and whose wishes come first. Exact sizes are counted in units, of which
 -- 5040000 make one column or row.
-use Rattle.std.specs.Prelude.{ℕ, ◌*◌, ◌/◌, ◌-◌, ◌^◌, ◌<◌, ◌≤◌, min, max, Bool, List, All, sum_by, nat_lt}
-use Rattle.std.specs.Prelude.{if◌then◌else◌, ◌==◌}
+use Rattle.std.specs.Prelude.{ℕ, ◌*◌, ◌/◌, ◌-◌, ◌^◌, ◌<◌, ◌≤◌, min, max, Bool, List, All, sum_by}
+use Rattle.std.specs.Prelude.{nat_lt, if◌then◌else◌, ◌==◌, IsTrue, ⊤}
 use Rattle.rtui_layout.specs.declared.constraint.Constraint.{Constraint}
-use Rattle.rtui_layout.specs.declared.constraint.Constraint.TheVariants.{Min, Max, Length, Percentage, Ratio}
-use Rattle.rtui_layout.specs.declared.constraint.Constraint.TheVariants.{Fill}
+use Rattle.rtui_layout.specs.declared.constraint.Constraint.TheVariants.{Min, Max, Length}
+use Rattle.rtui_layout.specs.declared.constraint.Constraint.TheVariants.{Percentage, Ratio, Fill}
 
 -- wishes are met in turns, from 0 on; a `Fill` only takes what is left
 abbrev pub turn : Constraint → ℕ
@@ -54,3 +54,15 @@ patience (Fill n) = 5
 pub record IsStretchable (before : List Constraint) (c : Constraint) (after : List Constraint) : Type 0 where
   pub no_less : All (λ d. patience d ≤ patience c) before
   pub less : All (λ d. patience d < patience c) after
+
+-- the part takes nothing of what is left
+abbrev pub TakesNothing : Constraint → Type 0
+TakesNothing (Fill n) = ⊥
+TakesNothing (Min n) = ⊥
+TakesNothing _ = ⊤
+
+-- the same, if with `Flex::Legacy` a `Min` takes nothing either
+abbrev pub TakesNothingIn : Bool → Constraint → Type 0
+TakesNothingIn legacy (Fill n) = ⊥
+TakesNothingIn legacy (Min n) = IsTrue legacy
+TakesNothingIn legacy _ = ⊤

@@ -1,6 +1,6 @@
 //! The level up to which parts get what they wish, where there is too little room for all wishes.
 ghost use Rattle.std.specs.Prelude.{◌≡◌, ◌≤◌, ◌<◌, ◌+◌, IsTrue, IsFalse};
-ghost use Rattle.rtui_split.specs.Shares.{wanted_in, capped_in};
+ghost use Rattle.rtui_split.specs.Inner.Shares.{wanted_in, capped_in};
 
 use crate::part::{Part, turn_of};
 

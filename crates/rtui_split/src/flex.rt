@@ -1,10 +1,11 @@
 //! Where the room goes that no part takes.
 ghost use Rattle.std.specs.Prelude.{◌≡◌, ◌≤◌, ◌+◌, ◌*◌, ◌-◌, ◌^◌, ◌<◌, ℕ, true, false, [], ◌∷◌, length};
-ghost use Rattle.rtui_split.specs.Spaces.{IsArranged, IsLegacy, KeepsWishes, IsPacked, IsSpread};
+ghost use Rattle.rtui_split.specs.Spaces.{KeepsWishes, IsPacked};
+ghost use Rattle.rtui_split.specs.Inner.Spaces.{IsArranged, IsLegacy, IsSpread};
 ghost use Rattle.rtui_split.specs.Spaces.{least_spaces};
-ghost use Rattle.rtui_split.specs.Spaces.{lead, first_share, middle_share, GivesWishes};
+ghost use Rattle.rtui_split.specs.Inner.Spaces.{lead, first_share, middle_share, GivesWishes};
 ghost use Rattle.rtui_layout.specs.declared.flex.Flex.TheVariants.{Legacy, SpaceBetween};
-ghost use Rattle.rtui_split.specs.Shares.{wanted_before};
+ghost use Rattle.rtui_split.specs.Inner.Shares.{wanted_before};
 
 use crate::draft::Draft;
 use crate::edge::{Overlapped, share_overlapped};

@@ -1,7 +1,8 @@
 //! From a layout and an area to the parts, with room for notes lent by the caller.
 ghost use Rattle.std.specs.Prelude.{◌≡◌, ◌≤◌, ◌<◌, ◌+◌, ◌^◌, List, [], ◌∷◌, length, vec_len, IfOk};
 ghost use Rattle.rtui_split.specs.Cut.{first_cell, area_end, IsSpace};
-ghost use Rattle.rtui_split.specs.Split.{inner, gap_units, centered_layout, IsLane, IsRule, IsSplit};
+ghost use Rattle.rtui_split.specs.Split.{inner, gap_units, centered_layout, IsSplit};
+ghost use Rattle.rtui_split.specs.Inner.Lanes.{IsLane, IsRule};
 ghost use Rattle.rtui_layout.specs.Layout.{LayoutData};
 ghost use Rattle.rtui_split.specs.Spacers.{AreSpacers};
 ghost use Rattle.rtui_geometry.specs.declared.rect.Rect.{Rect};

@@ -2,7 +2,7 @@
 ghost use Rattle.std.specs.Prelude.{◌≡◌, ◌≤◌, ◌<◌, ◌+◌, ◌*◌, ◌/◌, ◌^◌, ◌==◌, sum_by};
 ghost use Rattle.std.specs.Prelude.{unwrap_or, IsTrue, IsFalse};
 ghost use Rattle.rtui_split.specs.Wishes.{weight_in};
-ghost use Rattle.rtui_split.specs.Shares.{sized, wanted_before, weights, TakeNothingIn};
+ghost use Rattle.rtui_split.specs.Inner.Shares.{sized, wanted_before, weights, TakeNothingIn};
 
 use crate::part::{FILL, Part, turn_of};
 use rtui_layout::Constraint;

@@ -1,7 +1,7 @@
 //! What each part of a layout wishes, and in which turn.
 ghost use Rattle.std.specs.Prelude.{◌≡◌, ◌+◌, ◌<◌, map, length, MatchOption};
 ghost use Rattle.rtui_split.specs.Wishes.{turn, wish};
-ghost use Rattle.rtui_split.specs.Shares.{part_in, wanted_before};
+ghost use Rattle.rtui_split.specs.Inner.Shares.{part_in, wanted_before};
 
 use rtui_layout::Constraint;
 

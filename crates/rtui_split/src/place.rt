@@ -5,7 +5,7 @@ ghost use Rattle.std.specs.List.{AllZip};
 ghost use Rattle.rtui_split.specs.Cut.{first_cell, after_of, length_of, Alternate, InOrder, SpansAcross};
 ghost use Rattle.rtui_split.specs.Cut.{IsPartAlong};
 ghost use Rattle.rtui_split.specs.Cut.{AtMostCells, AtLeastCells, AreEdges};
-ghost use Rattle.rtui_split.specs.Spaces.{HasRoomForSpaces, IsCutTo};
+ghost use Rattle.rtui_split.specs.Inner.Spaces.{HasRoomForSpaces, IsCutTo};
 
 use crate::flex::Spaces;
 use crate::part::UNIT;

@@ -4,9 +4,11 @@ ghost use Rattle.std.specs.Prelude.{length, sum, sum_by, map, min, All, IsTrue, 
 ghost use Rattle.std.specs.List.{AllZip};
 ghost use Rattle.rtui_split.specs.declared.draft.Draft.{Draft};
 ghost use Rattle.rtui_split.specs.{Wishes.patience, Ragged.Run, Ragged.IsLeastRagged, Ragged.IsAtMost};
-ghost use Rattle.rtui_split.specs.Shares.{if_before, if_in, wanted_before, wanted_in, capped_in};
-ghost use Rattle.rtui_split.specs.Shares.{IsOfTurn, constraints_of, TriesItsWish, ComeFirst, sized};
-ghost use Rattle.rtui_split.specs.Shares.{Settled, IsShared};
+ghost use Rattle.rtui_split.specs.Inner.Shares.{if_before, if_in, wanted_before, wanted_in};
+ghost use Rattle.rtui_split.specs.Inner.Shares.{capped_in};
+ghost use Rattle.rtui_split.specs.Inner.Shares.{IsOfTurn, constraints_of, TriesItsWish, ComeFirst};
+ghost use Rattle.rtui_split.specs.Inner.Shares.{sized};
+ghost use Rattle.rtui_split.specs.Inner.Shares.{Settled, IsShared};
 ghost use Rattle.rtui_split.specs.Inner.{tries, tries_in, HaveTried, IsStretchableAt, IsStretched};
 
 use crate::cap::highest_level;

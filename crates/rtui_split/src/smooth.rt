@@ -1,7 +1,7 @@
 //! Shares room that is too little for all that wish it so that neighbours differ least.
 ghost use Rattle.std.specs.Prelude.{ℕ, ◌≡◌, ◌≤◌, ◌<◌, ◌+◌, ◌-◌, length, map, sum, slice_index, List};
 ghost use Rattle.std.specs.Prelude.{IsTrue, IsFalse, MatchOption, ◌⊎◌, ◌*◌};
-ghost use Rattle.rtui_split.specs.Shares.{if_in, if_before, wanted_in};
+ghost use Rattle.rtui_split.specs.Inner.Shares.{if_in, if_before, wanted_in};
 ghost use Rattle.rtui_split.specs.Ragged.{IsRunOf, run_length, beside, growth_before, growth_after};
 ghost use Rattle.rtui_split.specs.Ragged.{growth, rank_at, rank, CostsNoMore, ComesNoLater};
 ghost use Rattle.rtui_split.specs.Ragged.{Run as PartRun, IsLeastRagged};

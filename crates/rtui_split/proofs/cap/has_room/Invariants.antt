@@ -1,5 +1,5 @@
 use Rattle.std.proofs.Common.{◌≡◌, ◌+◌, take}
-use Rattle.rtui_split.specs.Shares.{capped_in}
+use Rattle.rtui_split.specs.Inner.Shares.{capped_in}
 use Rattle.rtui_split.proofs.cap.has_room.Given as goal
 
 abbrev pub invariant-loop-part : goal.invariant-loop-part

@@ -1,5 +1,5 @@
 use Rattle.std.proofs.Common.{◌≤◌, ◌<◌, ◌-◌}
-use Rattle.rtui_split.specs.Shares.{capped_in}
+use Rattle.rtui_split.specs.Inner.Shares.{capped_in}
 use Rattle.rtui_split.proofs.cap.level_below.Given as goal
 
 abbrev pub invariant-halves : goal.invariant-halves

@@ -1,7 +1,8 @@
 use Rattle.std.proofs.Common.{ℕ, ◌≡◌, ◌+◌, ◌*◌, ◌-◌, ◌≤◌, length, sum, sym, Bool, true, false, ap, subst, ◌∙◌, arith}
 use Rattle.std.proofs.Math.Nat.{mul_comm}
-use Rattle.rtui_split.specs.Shares.{IsShared, TakeNothing}
-use Rattle.rtui_split.specs.Spaces.{FitsBefore, IsFlexedIn, least_spaces}
+use Rattle.rtui_split.specs.Inner.Shares.{IsShared, TakeNothing}
+use Rattle.rtui_split.specs.Spaces.{least_spaces}
+use Rattle.rtui_split.specs.Inner.Spaces.{FitsBefore, IsFlexedIn}
 use Rattle.rtui_split.proofs.FlexLemmas.{arranged, one_more, packed_least, packed_flexed, lead_le}
 use Rattle.rtui_split.proofs.FlexLemmas.{given_in, stretched_given}
 use Rattle.rtui_split.proofs.ShareLemmas.{all_modest_in}

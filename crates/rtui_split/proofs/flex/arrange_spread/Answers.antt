@@ -1,5 +1,5 @@
 use Rattle.std.proofs.Common.{◌≡◌, ◌≤◌, ◌+◌, ◌*◌, length, sum, ap, arith}
-use Rattle.rtui_split.specs.Shares.{wanted_before, TakeNothing}
+use Rattle.rtui_split.specs.Inner.Shares.{wanted_before, TakeNothing}
 use Rattle.rtui_split.specs.Spaces.{least_spaces}
 use Rattle.rtui_split.proofs.FlexLemmas.{arranged, spread_room, spread_beside, spread_spaced, spread_flexed, given_in}
 use Rattle.rtui_split.proofs.flex.arrange_spread.Goals as goal

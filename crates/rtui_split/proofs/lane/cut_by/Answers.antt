@@ -1,5 +1,6 @@
 use Rattle.std.proofs.Common.{◌-◌, ◌*◌, length, map, ap, ◌∙◌, arith}
-use Rattle.rtui_split.specs.{Cut.IsSpace, Shares.part_in, Split.gap_units}
+use Rattle.rtui_split.specs.{Cut.IsSpace, Split.gap_units}
+use Rattle.rtui_split.specs.Inner.Shares.{part_in}
 use Rattle.rtui_split.proofs.SplitLemmas.{moved, rearranged, is_split}
 use Rattle.rtui_split.proofs.lane.cut_by.Goals as goal
 

@@ -1,5 +1,5 @@
 use Rattle.std.proofs.Common.{◌≡◌, ◌+◌, sum_by, take}
-use Rattle.rtui_split.specs.Shares.{sized}
+use Rattle.rtui_split.specs.Inner.Shares.{sized}
 use Rattle.rtui_split.proofs.level.fits.Given as goal
 
 abbrev pub invariant-loop-part : goal.invariant-loop-part

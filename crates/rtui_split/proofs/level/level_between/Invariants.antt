@@ -1,5 +1,5 @@
 use Rattle.std.proofs.Common.{◌≤◌, ◌<◌, ◌-◌, sum_by}
-use Rattle.rtui_split.specs.Shares.{sized}
+use Rattle.rtui_split.specs.Inner.Shares.{sized}
 use Rattle.rtui_split.proofs.level.level_between.Given as goal
 
 abbrev pub invariant-halves : goal.invariant-halves

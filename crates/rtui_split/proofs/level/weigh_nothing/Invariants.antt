@@ -1,5 +1,5 @@
 use Rattle.std.proofs.Common.{◌≡◌, drop}
-use Rattle.rtui_split.specs.Shares.{weights}
+use Rattle.rtui_split.specs.Inner.Shares.{weights}
 use Rattle.rtui_split.proofs.level.weigh_nothing.Given as goal
 
 -- the rest weighs what all weigh

@@ -1,5 +1,5 @@
 use Rattle.std.proofs.Common.{◌≡◌, ◌+◌, drop}
-use Rattle.rtui_split.specs.Shares.{wanted_before}
+use Rattle.rtui_split.specs.Inner.Shares.{wanted_before}
 use Rattle.rtui_split.proofs.part.left_before.Given as goal
 
 -- what the rest wishes, less what is left for it, is what all wish less the room

@@ -1,5 +1,5 @@
 use Rattle.std.proofs.Common.{◌≡◌, map, take}
-use Rattle.rtui_split.specs.Shares.{part_in}
+use Rattle.rtui_split.specs.Inner.Shares.{part_in}
 use Rattle.rtui_split.proofs.part.write_parts.Given as goal
 
 abbrev pub invariant-loop-i : goal.invariant-loop-i

@@ -3,7 +3,7 @@ use Rattle.std.proofs.Common.{arith}
 use Rattle.std.proofs.lemmas.List.Sums.{sum_by-drop_more, sum_by_more}
 use Rattle.rtui_geometry.specs.declared.rect.Rect.{Rect}
 use Rattle.rtui_split.specs.Cut.{length_of, IsPartAlong, InOrder, AtMostCells, AtLeastCells, AreEdges}
-use Rattle.rtui_split.specs.Spaces.{IsCutTo}
+use Rattle.rtui_split.specs.Inner.Spaces.{IsCutTo}
 use Rattle.rtui_split.proofs.Lists.{All-written, AllZip-written}
 use Rattle.rtui_split.proofs.CutLemmas.{cut_at_most, cut_at_least, cut_later, InOrder-later, InOrder-written, AreEdges-written}
 use Rattle.rtui_split.proofs.place.place.Goals as goal

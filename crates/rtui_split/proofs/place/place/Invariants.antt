@@ -1,7 +1,7 @@
 use Rattle.std.proofs.Common.{◌≡◌, ◌≤◌, ◌+◌, ◌-◌, ◌/◌, ◌^◌, min, take, drop, All, sum_by}
 use Rattle.std.specs.List.{AllZip}
 use Rattle.rtui_split.specs.Cut.{IsPartAlong, InOrder, AtMostCells, AtLeastCells, AreEdges}
-use Rattle.rtui_split.specs.Spaces.{HasRoomForSpaces, IsCutTo}
+use Rattle.rtui_split.specs.Inner.Spaces.{HasRoomForSpaces, IsCutTo}
 use Rattle.rtui_split.proofs.place.place.Given as goal
 
 abbrev pub invariant-loop-i : goal.invariant-loop-i

@@ -1,5 +1,5 @@
 use Rattle.std.proofs.Common.{◌≡◌, map, take}
-use Rattle.rtui_split.specs.Shares.{sized}
+use Rattle.rtui_split.specs.Inner.Shares.{sized}
 use Rattle.rtui_split.proofs.share.fill.Given as goal
 
 abbrev pub invariant-loop-i : goal.invariant-loop-i

@@ -1,5 +1,5 @@
 use Rattle.std.proofs.Common.{◌≡◌, ◌+◌}
-use Rattle.rtui_split.specs.Shares.{wanted_before}
+use Rattle.rtui_split.specs.Inner.Shares.{wanted_before}
 use Rattle.rtui_split.proofs.share.first_short.Given as goal
 
 abbrev pub invariant-loop-turn : goal.invariant-loop-turn

@@ -2,7 +2,7 @@ use Rattle.std.proofs.Common.{None, ◌+◌, drop, ◌∷◌, sym, subst, List, 
 use Rattle.std.proofs.lemmas.List.Sums.{sum_by_more, sum_by-drop_more}
 use Rattle.rtui_layout.specs.declared.constraint.Constraint.TheVariants.{Min}
 use Rattle.rtui_split.specs.declared.{part.Part.Part, draft.Draft.Draft}
-use Rattle.rtui_split.specs.Shares.{wanted_in, if_before, if_in, Settled, ComeFirst}
+use Rattle.rtui_split.specs.Inner.Shares.{wanted_in, if_before, if_in, Settled, ComeFirst}
 use Rattle.rtui_split.specs.Inner.{tries_in, HaveTried}
 use Rattle.rtui_split.proofs.Lists.{AllZip-written, sum-written}
 use Rattle.rtui_split.proofs.TryLemmas.{tries-drop, tries_few, tries_wishes, written_on, tried_on, first_on, wishes_at, tried_out}

@@ -1,6 +1,7 @@
 use Rattle.std.proofs.Common.{ℕ, ◌≡◌, ◌≤◌, ◌+◌, List, ◌++◌, sum, take, drop}
 use Rattle.std.specs.List.{AllZip}
-use Rattle.rtui_split.specs.Shares.{wanted_before, wanted_in, Settled, ComeFirst, TriesItsWish}
+use Rattle.rtui_split.specs.Inner.Shares.{wanted_before, wanted_in, Settled, ComeFirst}
+use Rattle.rtui_split.specs.Inner.Shares.{TriesItsWish}
 use Rattle.rtui_split.specs.Inner.{tries_in, HaveTried}
 use Rattle.rtui_split.proofs.share.settle.Given as goal
 

@@ -1,5 +1,6 @@
 use Rattle.std.proofs.Common.{ℕ, Bool, ◌≡◌, ◌≤◌, ◌-◌, ◌==◌, ◌∙◌, map, sum, ap, subst, sym, arith, List}
-use Rattle.rtui_split.specs.Shares.{wanted_before, sized, IsShared, weights, ComeFirst, TakeNothingIn, DifferLeast}
+use Rattle.rtui_split.specs.Inner.Shares.{wanted_before, sized, IsShared, weights, ComeFirst}
+use Rattle.rtui_split.specs.Inner.Shares.{TakeNothingIn, DifferLeast}
 use Rattle.rtui_split.proofs.ShareLemmas.{before-next, all_fit, settled_share, filled_share}
 use Rattle.rtui_split.proofs.TryLemmas.{levelled_share, ragged_share}
 use Rattle.rtui_split.proofs.share.share.Goals as goal

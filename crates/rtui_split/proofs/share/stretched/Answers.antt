@@ -1,7 +1,7 @@
 use Rattle.std.proofs.Common.{ℕ, ◌+◌, take, sym, subst, arith}
 use Rattle.rtui_layout.specs.declared.constraint.Constraint.TheVariants.{Min}
 use Rattle.rtui_split.specs.declared.part.Part.{Part}
-use Rattle.rtui_split.specs.Shares.{constraints_of}
+use Rattle.rtui_split.specs.Inner.Shares.{constraints_of}
 use Rattle.rtui_split.specs.Inner.{IsStretchableAt}
 use Rattle.rtui_split.proofs.StretchLemmas.{stretchable_next, stretchable_rest}
 use Rattle.rtui_split.proofs.share.stretched.Goals.{then-patience-most, else-patience-most}

@@ -1,5 +1,5 @@
 use Rattle.std.proofs.Common.{◌≡◌, ◌<◌, take}
-use Rattle.rtui_split.specs.Shares.{constraints_of}
+use Rattle.rtui_split.specs.Inner.Shares.{constraints_of}
 use Rattle.rtui_split.specs.Inner.{IsStretchableAt}
 use Rattle.rtui_split.proofs.share.stretched.Given as goal
 

@@ -1,7 +1,7 @@
 use Rattle.std.proofs.Common.{None, refl, arith, get_or}
 use Rattle.rtui_layout.specs.declared.constraint.Constraint.TheVariants.{Min}
 use Rattle.rtui_split.specs.declared.{part.Part.Part, draft.Draft.Draft}
-use Rattle.rtui_split.specs.Shares.{TriesItsWish}
+use Rattle.rtui_split.specs.Inner.Shares.{TriesItsWish}
 use Rattle.rtui_split.proofs.Lists.{AllZip-written}
 use Rattle.rtui_split.proofs.share.try_wishes.Goals as goal
 

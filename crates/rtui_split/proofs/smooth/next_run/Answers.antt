@@ -2,7 +2,7 @@ use Rattle.std.proofs.Common.{ℕ, ◌≡◌, ◌+◌, map, subst, sym, ◌∙�
 use Rattle.std.proofs.lemmas.List.{length-map}
 use Rattle.rtui_split.specs.declared.smooth.Run as coded
 use Rattle.rtui_split.specs.declared.{draft.Draft.Draft}
-use Rattle.rtui_split.specs.Shares.{if_in, if_before}
+use Rattle.rtui_split.specs.Inner.Shares.{if_in, if_before}
 use Rattle.rtui_split.specs.Inner.{tries, as_run, IsFirstRun, StartsAt}
 use Rattle.rtui_split.proofs.WalkLemmas.{NoneBefore, apart, tries_at, next_more, next_same, next_out}
 use Rattle.rtui_split.proofs.smooth.next_run.Goals.{then-starts_at, else-starts_at}

@@ -1,6 +1,6 @@
 use Rattle.std.proofs.Common.{◌≡◌, ◌<◌, map, slice_index, MatchOption}
 use Rattle.rtui_split.specs.Ragged.{Run}
-use Rattle.rtui_split.specs.Shares.{if_in, if_before}
+use Rattle.rtui_split.specs.Inner.Shares.{if_in, if_before}
 use Rattle.rtui_split.specs.Ragged.{IsRunOf}
 use Rattle.rtui_split.specs.Inner.{tries, as_run, IsFirstRun}
 use Rattle.rtui_split.proofs.smooth.next_run.Given as goal

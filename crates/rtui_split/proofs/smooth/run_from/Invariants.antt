@@ -1,5 +1,5 @@
 use Rattle.std.proofs.Common.{ℕ, ◌≤◌, ◌<◌, map, slice_index}
-use Rattle.rtui_split.specs.Shares.{if_in}
+use Rattle.rtui_split.specs.Inner.Shares.{if_in}
 use Rattle.rtui_split.proofs.smooth.run_from.Given as goal
 
 abbrev pub invariant-loop-after : goal.invariant-loop-after

@@ -4,7 +4,7 @@ use Rattle.std.proofs.Math.Nat.{div-mul-le_self, lt-div-mul-add}
 use Rattle.std.proofs.lemmas.List.{length-map}
 use Rattle.std.proofs.lemmas.List.Sums.{sum-map}
 use Rattle.rtui_split.specs.declared.{draft.Draft.Draft}
-use Rattle.rtui_split.specs.Shares.{if_in, if_before}
+use Rattle.rtui_split.specs.Inner.Shares.{if_in, if_before}
 use Rattle.rtui_split.specs.Ragged.{run_length}
 use Rattle.rtui_split.specs.Inner.{tries, as_run, at_height, IsFirstRun}
 use Rattle.rtui_split.proofs.RunLemmas.{within_list}

@@ -1,5 +1,5 @@
 use Rattle.std.proofs.Common.{ℕ, ◌≡◌, ◌≤◌, ◌+◌, map, sum, slice_index}
-use Rattle.rtui_split.specs.Shares.{if_in, if_before}
+use Rattle.rtui_split.specs.Inner.Shares.{if_in, if_before}
 use Rattle.rtui_split.specs.Inner.{tries}
 use Rattle.rtui_split.proofs.RiseLemmas.{RiseInOrder}
 use Rattle.rtui_split.proofs.smooth.smooth.Given as goal

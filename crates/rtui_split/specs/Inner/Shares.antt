@@ -1,13 +1,14 @@
--- Parts with what they wish, and the sizes that they get, in units.
-use Rattle.std.specs.Prelude.{ℕ, ◌≡◌, ◌==◌, ◌+◌, ◌*◌, ◌/◌, ◌<◌, ◌≤◌, max, List, Bool, sum_by, nat_lt}
-use Rattle.std.specs.Prelude.{true, false, IsTrue, if◌then◌else◌, sum, map, All, ◌^◌, ⊤, ◌-◌, min, [], ◌∷◌}
+-- Words that only private contracts use: parts with what they wish, and the sizes that they get, in units.
+use Rattle.std.specs.Prelude.{ℕ, ◌≡◌, ◌==◌, ◌+◌, ◌*◌, ◌/◌, ◌<◌, ◌≤◌, max, List, Bool, sum_by}
+use Rattle.std.specs.Prelude.{nat_lt, true, false, if◌then◌else◌, sum, map, All, ◌^◌, ⊤, ◌-◌, min}
+use Rattle.std.specs.Prelude.{[], ◌∷◌}
 use Rattle.std.specs.List.{AllZip}
 use Rattle.rtui_layout.specs.declared.constraint.Constraint.{Constraint}
 use Rattle.rtui_layout.specs.declared.constraint.Constraint.TheVariants.{Min, Fill}
 use Rattle.rtui_split.specs.declared.part.Part.{Part}
 use Rattle.rtui_split.specs.declared.draft.Draft.{Draft}
 use Rattle.rtui_split.specs.declared.level.Takers.{Takers}
-use Rattle.rtui_split.specs.Wishes.{turn, wish, weight_in}
+use Rattle.rtui_split.specs.Wishes.{turn, wish, weight_in, TakesNothing, TakesNothingIn}
 use Rattle.rtui_split.specs.Ragged.{Run, IsAtMost, IsLeastRagged}
 
 -- the part of a constraint in an area of so many columns or rows
@@ -68,12 +69,6 @@ size_of_constraint takers level wanted (Min n) = if takers.legacy then wanted el
     (level / 1048576)
 size_of_constraint takers level wanted _ = wanted
 
--- the part takes nothing of what is left
-abbrev pub TakesNothing : Constraint → Type 0
-TakesNothing (Fill n) = ⊥
-TakesNothing (Min n) = ⊥
-TakesNothing _ = ⊤
-
 -- the size of a part at a level
 abbrev pub sized : Takers → ℕ → Part → ℕ
 sized takers level p = size_of_constraint takers level p.wanted p.constraint
@@ -99,12 +94,6 @@ IsDenied t p size = (size ≤ p.wanted) × (t ≤ turn p.constraint → size ≡
 -- no part takes anything of what is left
 abbrev pub TakeNothing : List Part → Type 0
 TakeNothing ps = All (λ p. TakesNothing p.constraint) ps
-
--- the same, if with `Flex::Legacy` a `Min` takes nothing either
-abbrev pub TakesNothingIn : Bool → Constraint → Type 0
-TakesNothingIn legacy (Fill n) = ⊥
-TakesNothingIn legacy (Min n) = IsTrue legacy
-TakesNothingIn legacy _ = ⊤
 
 abbrev pub TakeNothingIn : Bool → List Part → Type 0
 TakeNothingIn legacy ps = All (λ p. TakesNothingIn legacy p.constraint) ps
