@@ -11,7 +11,8 @@ use Rattle.ansi_model.specs.{Columns.Column.Unknown, Sgr.default_sgr, Emulator.P
 use Rattle.ansi_model.specs.Emulator.{Emulator, rested, standing, printed, prints, returned, fed, run, blank_terminal}
 use Rattle.ansi_model.specs.Emulator.{cursor_moved, erased, columns_moved, without_region, with_sgr}
 use Rattle.ansi_model.specs.Emulator as terminal
-use Rattle.ansi_model.specs.Beginnings.{IsAsFound, anew, without_modes, MakesBlank, SavesScreen, AreKnown, screen_rows}
+use Rattle.ansi_model.specs.Beginnings.{IsAsFound, anew, MakesBlank, SavesScreen, AreKnown, screen_rows}
+use Rattle.ansi_model.specs.Inner.{without_modes}
 use Rattle.ansi_model.specs.Beginnings.{scrolled_off}
 use Rattle.ansi_model.specs.{Columns.Column.Shows, Sgr.inked, Modes.no_modes, Symbols.is_plain_char, Symbols.printed_columns}
 use Rattle.ansi_model.specs.{Sends.Sends, Sends.typed}

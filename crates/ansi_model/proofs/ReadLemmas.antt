@@ -21,7 +21,8 @@ use Rattle.ansi_model.specs.declared.command.Command.TheVariants as Asked
 use Rattle.ansi_model.specs.declared.command.SetCursorStyle.TheVariants.{DefaultUserShape, BlinkingBlock, SteadyBlock}
 use Rattle.ansi_model.specs.declared.command.SetCursorStyle.TheVariants.{BlinkingUnderScore, SteadyUnderScore, BlinkingBar}
 use Rattle.ansi_model.specs.declared.command.SetCursorStyle.TheVariants.{SteadyBar}
-use Rattle.ansi_model.specs.{Endings.left_below, Beginnings.without_modes, Sgr.default_sgr, Sgr.inks, Sgr.are_known}
+use Rattle.ansi_model.specs.{Endings.left_below, Sgr.default_sgr, Sgr.inks, Sgr.are_known}
+use Rattle.ansi_model.specs.Inner.{without_modes}
 
 pub and-true : (b : Bool) → (b && true) ≡ b
 and-true true = refl

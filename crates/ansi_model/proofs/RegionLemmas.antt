@@ -9,7 +9,8 @@ use Rattle.ratatui_core.specs.Backend.{is_in_region, rows_above, upper_part, Cur
 use Rattle.ansi_model.specs.Columns.{Columns, look_in, blank_column, overwritten}
 use Rattle.ansi_model.specs.{Sgr.is_own, Sends.Performs}
 use Rattle.ansi_model.specs.Emulator.{Emulator, rested, cursor_moved, erased, line_fed, fed, scrolled, if_so, returned}
-use Rattle.ansi_model.specs.Emulator.{columns_moved, fed_and_lowered, fed_and_lowered_by, with_region, without_region}
+use Rattle.ansi_model.specs.Emulator.{columns_moved, with_region, without_region}
+use Rattle.ansi_model.specs.Inner.{fed_and_lowered, fed_and_lowered_by}
 use Rattle.ansi_model.specs.Emulator.{lines_deleted, lines_inserted}
 use Rattle.ansi_model.specs.Screens.{screen_shown, IsIdle, Turns, Becomes}
 use Rattle.ansi_model.proofs.ReadLemmas.{Leads-so, Leads-none, Sends-then, line_fed-rested}

@@ -15,8 +15,10 @@ use Rattle.ratatui_core.specs.Buffer.{Cell}
 use Rattle.ansi_model.specs.Sgr.{Awaits, Inking, inks, inks_in, is_known_parameter, are_known, default_sgr, sgr_of}
 use Rattle.ansi_model.specs.Sgr.Awaits.{Nothing, Kind, Number, Parts}
 use Rattle.ansi_model.specs.Emulator.{Emulator, rested, if_so, with_sgr}
-use Rattle.ansi_model.specs.Parameters.{color_parameters, underline_parameters, modifier_parameters, modifier_parameter}
-use Rattle.ansi_model.specs.Parameters.{modifier_numbers, semicolons, led, is_underline, is_sendable, AddsParameters, color_count}
+use Rattle.ansi_model.specs.Parameters.{color_parameters}
+use Rattle.ansi_model.specs.Inner.{underline_parameters, modifier_parameters, modifier_parameter}
+use Rattle.ansi_model.specs.Parameters.{is_underline, is_sendable, color_count}
+use Rattle.ansi_model.specs.Inner.{modifier_numbers, semicolons, led, AddsParameters}
 use Rattle.ansi_model.specs.Parameters.{lead_of, count_with, is_joined}
 use Rattle.ansi_model.proofs.ReadLemmas.{feed-append, number-read, first-read, begun, within, after-those}
 use Rattle.ansi_model.proofs.ReadLemmas.{and-true}

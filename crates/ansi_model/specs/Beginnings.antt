@@ -4,7 +4,7 @@ use Rattle.std.specs.List.{range_with_len}
 use Rattle.ratatui_core.specs.Buffer.{Look}
 use Rattle.ansi_model.specs.{Columns.Columns, Columns.blank_column, Columns.is_known_column}
 use Rattle.ansi_model.specs.{Emulator.Emulator, Emulator.blank_terminal, Emulator.row_shown}
-use Rattle.ansi_model.specs.{Emulator.with_sgr, Emulator.Phase.Ground, Modes.no_modes, Sgr.default_sgr}
+use Rattle.ansi_model.specs.{Emulator.with_sgr, Emulator.Phase.Ground, Sgr.default_sgr}
 use Rattle.ansi_model.specs.{Sequences.feed, Sends.LeadsBy}
 use Rattle.ansi_model.specs.Windows.{Window, alternate_of, feed_window}
 
@@ -24,10 +24,6 @@ anew t = record t { sure = true }
 -- a terminal with these rows before those of its history
 abbrev pub with_rows_above : List (List Look) → Emulator → Emulator
 with_rows_above rows t = record t { history = rows ++ t.history }
-
--- a terminal in none of the modes that change how it takes text, with its cursor in the corner
-abbrev pub without_modes : Emulator → Emulator
-without_modes t = record t { modes = no_modes; x = 0; y = 0 }
 
 -- bytes, read by a terminal that is asked from here on
 abbrev pub feed_anew : List ℕ → Emulator → Emulator

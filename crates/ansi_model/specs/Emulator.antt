@@ -228,15 +228,6 @@ lines_inserted n t = record t {
   sure = t.sure && (is_own t.sgr && nat_le t.top t.y && nat_lt t.y t.bottom && nat_eq t.x 0);
 }
 
--- a line feed in the second row, and then a blank row in place of the first
-abbrev pub fed_and_lowered : Emulator → Emulator
-fed_and_lowered t = lines_inserted 1 (cursor_moved 0 0 (line_fed (cursor_moved 0 1 t)))
-
--- the same n times
-abbrev pub fed_and_lowered_by : ℕ → Emulator → Emulator
-fed_and_lowered_by zero t = t
-fed_and_lowered_by (suc n) t = fed_and_lowered_by n (fed_and_lowered t)
-
 -- ---- the beginning
 
 -- a blank terminal of this size

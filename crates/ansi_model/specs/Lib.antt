@@ -15,3 +15,4 @@ pub mod Screens
 pub mod Beginnings
 pub mod Commands
 pub mod Endings
+pub mod Inner

@@ -1,7 +1,6 @@
 -- The parameters that set a rendition.
-use Rattle.std.specs.Prelude.{◌≡◌, ℕ, ◌+◌, ◌==◌, ◌&&◌, ◌||◌, nat_lt, nat_le, Bool, true, false, if◌then◌else◌}
-use Rattle.std.specs.Prelude.{List, [], ◌∷◌, ◌++◌}
-use Rattle.std.specs.{Int.RustNames.bit_and, List.list_all, List.flat_map, Fmt.decimal}
+use Rattle.std.specs.Prelude.{ℕ, ◌+◌, ◌&&◌, ◌||◌, nat_lt, nat_le, Bool, true, false, if◌then◌else◌}
+use Rattle.std.specs.Prelude.{List, [], ◌∷◌}
 use Rattle.ratatui_core.specs.Style.{Color, Reset, Black, Red, Green, Yellow, Blue, Magenta, Cyan, Gray}
 use Rattle.ratatui_core.specs.Style.{DarkGray, LightRed, LightGreen, LightYellow, LightBlue, LightMagenta}
 use Rattle.ratatui_core.specs.Style.{LightCyan, White, Rgb, Indexed, bits_of}
@@ -29,12 +28,6 @@ color_parameters base White = (base + 67) ∷ []
 color_parameters base (Rgb r g b) = (base + 8) ∷ 2 ∷ r ∷ g ∷ b ∷ []
 color_parameters base (Indexed n) = (base + 8) ∷ 5 ∷ n ∷ []
 
--- of the underline, which no named colour has
-abbrev pub underline_parameters : Color → List ℕ
-underline_parameters (Rgb r g b) = 58 ∷ 2 ∷ r ∷ g ∷ b ∷ []
-underline_parameters (Indexed n) = 58 ∷ 5 ∷ n ∷ []
-underline_parameters _ = []
-
 -- whether a colour of the underline can be sent
 abbrev pub is_underline : Color → Bool
 is_underline Reset = true
@@ -49,33 +42,6 @@ is_sendable p = is_underline p.underline_color && nat_lt (bits_of p.modifier) 51
 -- the same of a terminal that reads colours of the underline, or of one that doesn't
 abbrev pub is_sendable_by : Bool → Sgr → Bool
 is_sendable_by colors p = is_sendable p && (colors || is_default_color p.underline_color)
-
--- the modifier with this bit, by its number, if it is set
-abbrev pub modifier_parameter : ℕ → ℕ → ℕ → List ℕ
-modifier_parameter bits bit n = if bit_and bits bit == 0 then [] else n ∷ []
-
--- the bits of the nine modifiers, each with its number
-abbrev pub modifier_numbers : List (ℕ × ℕ)
-modifier_numbers =
-    (1, 1) ∷ (2, 2) ∷ (4, 3) ∷ (8, 4) ∷ (16, 5) ∷ (32, 6) ∷ (64, 7) ∷ (128, 8) ∷ (256, 9) ∷ []
-
-abbrev pub modifier_parameters : ℕ → List ℕ
-modifier_parameters bits = flat_map (λ m. modifier_parameter bits m.0 m.1) modifier_numbers
-
--- parameters as they are written, each after a semicolon
-abbrev pub semicolons : List ℕ → List ℕ
-semicolons [] = []
-semicolons (p ∷ ps) = 59 ∷ (decimal p ++ semicolons ps)
-
--- the same, but the first one after this lead
-abbrev pub led : List ℕ → List ℕ → List ℕ
-led lead [] = []
-led lead (p ∷ ps) = lead ++ (decimal p ++ semicolons ps)
-
--- parameters of a byte each were appended, the first one after this lead
-pub record AddsParameters (lead old new parameters : List ℕ) : Type 0 where
-  pub appended : new ≡ old ++ led lead parameters
-  pub small : list_all (λ p. nat_lt p 256) parameters ≡ true
 
 -- how many parameters a colour has
 abbrev pub color_count : Color → ℕ

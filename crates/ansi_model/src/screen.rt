@@ -5,12 +5,15 @@ ghost use Rattle.std.specs.Prelude.{encode_utf8};
 ghost use Rattle.ratatui_core.specs.Backend.{Appends, scrolling_up, scrolling_down, clearing, ScrollsUp};
 ghost use Rattle.ratatui_core.specs.Backend.{ScrollsDown, Clears, with_cursor, with_visible, All};
 ghost use Rattle.ratatui_core.specs.Backend.{CurrentLine};
-ghost use Rattle.ansi_model.specs.Beginnings.{MakesBlank, OpensAlternate, SavesScreen, without_modes};
+ghost use Rattle.ansi_model.specs.Beginnings.{MakesBlank, OpensAlternate, SavesScreen};
+ghost use Rattle.ansi_model.specs.Inner.{without_modes};
 ghost use Rattle.ansi_model.specs.Commands.{size_question, AsksSize};
 ghost use Rattle.ansi_model.specs.Endings.{ClosesAlternate, left_below};
 ghost use Rattle.ansi_model.specs.Emulator.{cursor_moved, returned, erased, line_fed, fed, with_region};
-ghost use Rattle.ansi_model.specs.Emulator.{without_region, lines_deleted, lines_inserted, fed_and_lowered};
-ghost use Rattle.ansi_model.specs.Emulator.{fed_and_lowered_by, columns_moved, rested};
+ghost use Rattle.ansi_model.specs.Emulator.{without_region, lines_deleted, lines_inserted};
+ghost use Rattle.ansi_model.specs.Inner.{fed_and_lowered};
+ghost use Rattle.ansi_model.specs.Emulator.{columns_moved, rested};
+ghost use Rattle.ansi_model.specs.Inner.{fed_and_lowered_by};
 ghost use Rattle.ansi_model.specs.Sends.{Sends, Performs, typed};
 ghost use Rattle.ansi_model.specs.Screens.{Turns, Becomes};
 

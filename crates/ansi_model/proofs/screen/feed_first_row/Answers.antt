@@ -1,6 +1,7 @@
 use Rattle.std.proofs.Common.{refl, arith}
 use Rattle.std.proofs.lemmas.Result.{on_ok_weaker}
-use Rattle.ansi_model.specs.Emulator.{rested, with_region, without_region, fed_and_lowered_by}
+use Rattle.ansi_model.specs.Emulator.{rested, with_region, without_region}
+use Rattle.ansi_model.specs.Inner.{fed_and_lowered_by}
 use Rattle.ansi_model.proofs.RegionLemmas.{Does-then, rounds-more, rounds-all, rounds-rested}
 use Rattle.ansi_model.proofs.screen.feed_first_row.Goals as goal
 

@@ -1,5 +1,6 @@
 use Rattle.std.proofs.Common.{string_bytes}
-use Rattle.ansi_model.specs.{Emulator.with_region, Emulator.fed_and_lowered_by, Sends.Performs}
+use Rattle.ansi_model.specs.{Emulator.with_region, Sends.Performs}
+use Rattle.ansi_model.specs.Inner.{fed_and_lowered_by}
 use Rattle.ansi_model.proofs.screen.feed_first_row.Given as goal
 
 abbrev pub invariant-loop : goal.invariant-loop

@@ -1,7 +1,8 @@
 use Rattle.std.proofs.Common.{◌-◌, refl, true}
 use Rattle.std.proofs.lemmas.Result.{on_ok_weaker}
 use Rattle.ratatui_core.specs.Backend.{BeforeCursor}
-use Rattle.ansi_model.specs.{Sgr.default_sgr, Beginnings.without_modes}
+use Rattle.ansi_model.specs.{Sgr.default_sgr}
+use Rattle.ansi_model.specs.Inner.{without_modes}
 use Rattle.ansi_model.specs.Emulator.{cursor_moved, erased, without_region, with_sgr, cursor_shown}
 use Rattle.ansi_model.proofs.{RegionLemmas.Does-then, CallLemmas.makes-blank}
 use Rattle.ansi_model.proofs.screen.make_blank.Goals as goal

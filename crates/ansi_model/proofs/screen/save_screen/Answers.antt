@@ -1,6 +1,7 @@
 use Rattle.std.proofs.Common.{◌-◌, refl}
 use Rattle.std.proofs.lemmas.Result.{on_ok_weaker}
-use Rattle.ansi_model.specs.{Sgr.default_sgr, Beginnings.without_modes}
+use Rattle.ansi_model.specs.{Sgr.default_sgr}
+use Rattle.ansi_model.specs.Inner.{without_modes}
 use Rattle.ansi_model.specs.Emulator.{cursor_moved, returned, fed, without_region, with_sgr}
 use Rattle.ansi_model.proofs.{RegionLemmas.Does-then, CallLemmas.saves-screen, CallLemmas.own}
 use Rattle.ansi_model.proofs.screen.save_screen.Goals as goal

@@ -1,6 +1,7 @@
 use Rattle.std.proofs.Common.{◌-◌, sym, min, arith}
 use Rattle.std.proofs.lemmas.Result.{on_ok_weaker}
-use Rattle.ansi_model.specs.Emulator.{cursor_moved, returned, fed, with_region, without_region, fed_and_lowered_by}
+use Rattle.ansi_model.specs.Emulator.{cursor_moved, returned, fed, with_region, without_region}
+use Rattle.ansi_model.specs.Inner.{fed_and_lowered_by}
 use Rattle.ansi_model.proofs.{ScrollLemmas.turns-from, RegionLemmas.screen-up, RegionLemmas.one-up, RegionLemmas.first-up}
 use Rattle.ansi_model.proofs.screen.scroll_first_rows.Goals as goal
 

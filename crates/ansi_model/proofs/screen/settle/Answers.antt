@@ -1,6 +1,6 @@
 use Rattle.ansi_model.proofs.ReadLemmas.{pushed, settling-read, settling_bytes}
 use Rattle.ansi_model.specs.Emulator.{rested}
-use Rattle.ansi_model.specs.Beginnings.{without_modes}
+use Rattle.ansi_model.specs.Inner.{without_modes}
 use Rattle.ansi_model.proofs.screen.settle.Goals as goal
 
 pub returns : goal.returns

@@ -1,6 +1,6 @@
 use Rattle.std.proofs.Common.{◌≡◌, ◌+◌, [], ◌∷◌, string_bytes, length, get_or, ap, ap₂, sym, subst, ◌∙◌, length-append, arith}
 use Rattle.ratatui_core.specs.Style.{bits_of, no_modifier}
-use Rattle.ansi_model.specs.Parameters.{AddsParameters, modifier_parameter}
+use Rattle.ansi_model.specs.Inner.{AddsParameters, modifier_parameter}
 use Rattle.ansi_model.proofs.SgrLemmas.{Parameters-then, numbered, first_modifiers, modifiers-more}
 use Rattle.ansi_model.proofs.sgr.push_modifiers.Goals as goal
 

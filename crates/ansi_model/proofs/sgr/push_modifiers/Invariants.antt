@@ -1,7 +1,7 @@
 use Rattle.std.proofs.Common.{◌≡◌, ◌≤◌, [], ◌∷◌, take, length, string_bytes}
 use Rattle.std.specs.List.{flat_map}
 use Rattle.ratatui_core.specs.Style.{bits_of}
-use Rattle.ansi_model.specs.Parameters.{AddsParameters, modifier_parameter, modifier_numbers}
+use Rattle.ansi_model.specs.Inner.{AddsParameters, modifier_parameter, modifier_numbers}
 use Rattle.ansi_model.proofs.sgr.push_modifiers.Given as goal
 
 abbrev pub invariant-loop-modifier : goal.invariant-loop-modifier

@@ -1,8 +1,9 @@
 use Rattle.std.proofs.Common.{string_bytes, [], ◌∷◌, ◌++◌}
 use Rattle.std.proofs.lemmas.Result.{on_ok_weaker}
 use Rattle.ratatui_core.specs.Style.{bits_of}
-use Rattle.ansi_model.specs.Parameters.{AddsParameters, modifier_parameters, color_parameters, color_count, lead_of}
-use Rattle.ansi_model.specs.Parameters.{underline_parameters}
+use Rattle.ansi_model.specs.Parameters.{color_parameters, color_count, lead_of}
+use Rattle.ansi_model.specs.Inner.{AddsParameters, modifier_parameters}
+use Rattle.ansi_model.specs.Inner.{underline_parameters}
 use Rattle.ansi_model.proofs.{ReadLemmas.on_push, SgrLemmas.Parameters-then, SgrLemmas.sgr-sent, SgrLemmas.first_count}
 use Rattle.ansi_model.proofs.{SgrLemmas.second_count}
 use Rattle.ansi_model.proofs.sgr.push_sgr.Goals as goal
