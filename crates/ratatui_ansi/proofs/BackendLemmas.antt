@@ -14,7 +14,8 @@ use Rattle.ansi_model.proofs.{WindowLemmas.window-read, WindowLemmas.window-appe
 use Rattle.ansi_model.specs.Commands.{command_bytes, size_question}
 use Rattle.ratatui_ansi.specs.declared.tracker.Call.{Call}
 use Rattle.ratatui_ansi.specs.declared.tracker.Call.TheVariants as Called
-use Rattle.ratatui_ansi.specs.Tracker.{IsAwaiting, IsTracked, FitsScreen, Collects, IsCommanded, BeginsBlank}
+use Rattle.ratatui_ansi.specs.Tracker.{IsAwaiting, FitsScreen}
+use Rattle.ratatui_ansi.specs.Inner.Tracker.{IsTracked, Collects, IsCommanded, BeginsBlank}
 
 read-on : (size : Size) (sent more new : List ℕ) → new ≡ sent ++ more → reader size new ≡ feed more (reader size sent)
 read-on size sent more new e = ap (reader size) e ∙ feed-append sent more (blank_terminal size.width size.height)

@@ -13,7 +13,7 @@ use Rattle.ratatui_core.specs.{Layout.Position, Backend.Screen}
 use Rattle.ansi_model.specs.Columns.{Column, Columns, look_in, is_continuation}
 use Rattle.ansi_model.specs.{Columns.Column.Unknown, Columns.Column.Shows as Standing, Symbols.is_one_plain}
 use Rattle.ansi_model.specs.{Symbols.printed_columns}
-use Rattle.ratatui_ansi.specs.{Covered.IsCovered, Covered.IsOpen, Covered.IsOrdinary, Frame.IsVacant, Refusals.lent_update}
+use Rattle.ratatui_ansi.specs.{Covered.IsCovered, Covered.IsOpen, Covered.IsOrdinary, Cells.IsVacant, Refusals.lent_update}
 use Rattle.ratatui_ansi.specs.{Refusals.StopsInDiff}
 use Rattle.ratatui_ansi.specs.declared.draw.CellError.TheVariants.{Cut}
 use Rattle.ansi_model.specs.Screens.{HasOwnWidth, HaveOwnWidths, IsWhole, IsWholeAt}

@@ -19,9 +19,12 @@ use Rattle.ansi_model.specs.{Sends.Leads}
 use Rattle.ansi_model.specs.Symbols.{is_plain_char, is_one_plain, is_printed, printed_columns, glyph_columns}
 use Rattle.ansi_model.specs.{Screens.screen_shown, Screens.IsIdle, Drawing.ChangesSgr.Stays, Drawing.ChangesSgr.Sets}
 use Rattle.ansi_model.specs.Drawing.{printed_at, blanked, WritesAt, ChangesSgr}
-use Rattle.ratatui_ansi.specs.Frame.{update_in, draw_bytes, is_covered, is_fit, is_sendable_on, IsGlyph, IsVacant, IsDraw}
-use Rattle.ratatui_ansi.specs.Frame.{BeginsDraw, IsUncovered, KeepsDraw, OnlyPens, DrawSends, SetsSgr, PrintsSymbol}
-use Rattle.ratatui_ansi.specs.Frame.{AreCovered, Covers, IsDrawing, SendsUpdates, DrawsUpdates, SendsDraw}
+use Rattle.ratatui_ansi.specs.Cells.{is_fit, is_sendable_on, IsVacant}
+use Rattle.ratatui_ansi.specs.Inner.Draw.{update_in, draw_bytes, is_covered, IsGlyph, IsDraw}
+use Rattle.ratatui_ansi.specs.Inner.Draw.{BeginsDraw, IsUncovered, KeepsDraw, OnlyPens, DrawSends}
+use Rattle.ratatui_ansi.specs.Inner.Draw.{SetsSgr, PrintsSymbol}
+use Rattle.ratatui_ansi.specs.Inner.Draw.{AreCovered, Covers, IsDrawing, SendsUpdates, DrawsUpdates}
+use Rattle.ratatui_ansi.specs.Inner.Draw.{SendsDraw}
 use Rattle.ansi_model.proofs.ReadLemmas.{Leads-then, Leads-so, Leads-none}
 use Rattle.ansi_model.proofs.{SymbolLemmas.plain-printed, SymbolLemmas.plain-single}
 use Rattle.ansi_model.proofs.{SymbolLemmas.one-undisputed, GlyphLemmas.printed-width, SgrLemmas.equal-number}

@@ -11,7 +11,8 @@ use Rattle.ansi_model.specs.Emulator.{Emulator, rested, run, with_sgr}
 use Rattle.ansi_model.specs.Screens.{IsWhole, IsBlankBeyond, IsIdle, put_columns}
 use Rattle.ansi_model.specs.Drawing.{printed_at, blanked, WritesAt, IsDrawnBy, ChangesSgr, PenSends}
 use Rattle.ansi_model.specs.Drawing.ChangesSgr.{Stays, Sets}
-use Rattle.ratatui_ansi.specs.{declared.draw.Draw.Draw, Frame.AreMarked, Frame.AreCovered, Frame.Covers}
+use Rattle.ratatui_ansi.specs.{declared.draw.Draw.Draw}
+use Rattle.ratatui_ansi.specs.Inner.Draw.{AreMarked, AreCovered, Covers}
 use Rattle.ansi_model.proofs.{ReadLemmas.Leads-so, ReadLemmas.Leads-none, MotionLemmas.tidy-along, TextLemmas.blank-one}
 use Rattle.ansi_model.proofs.PaintLemmas.{OnlyPrinted, blanked-only, blanked-width, blanked-height, PenSends-then, blanks-none}
 use Rattle.ansi_model.proofs.PlaceLemmas.{places-on}

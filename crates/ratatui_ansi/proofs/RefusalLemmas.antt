@@ -10,12 +10,17 @@ use Rattle.ratatui_ansi.specs.declared.error.AnsiError.TheVariants.{Memory, Symb
 use Rattle.ratatui_ansi.specs.declared.tracker.Call.TheVariants as Called
 use Rattle.ratatui_ansi.specs.{declared.draw.Draw.Draw, declared.draw.CellError.CellError, Backend.BackendState}
 use Rattle.ratatui_ansi.specs.declared.draw.CellError.TheVariants as Refused
-use Rattle.ratatui_ansi.specs.{Tracker.IsAwaiting, Tracker.IsTracked, Tracker.IsUncollected, Errors.error_of, Frame.RefusesUpdate}
-use Rattle.ratatui_ansi.specs.{Frame.IsDrawing, Frame.BeginsDraw}
+use Rattle.ratatui_ansi.specs.{Tracker.IsAwaiting, Errors.error_of}
+use Rattle.ratatui_ansi.specs.Inner.Draw.{RefusesUpdate}
+use Rattle.ratatui_ansi.specs.Inner.Tracker.{IsTracked, IsUncollected}
+use Rattle.ratatui_ansi.specs.Inner.Draw.{IsDrawing, BeginsDraw}
 use Rattle.ansi_model.specs.{Flags.flag, Flags.is_clear_cut, Screens.screen_shown, Sequences.feed}
 use Rattle.ansi_model.specs.{Emulator.Emulator, Emulator.rested}
-use Rattle.ratatui_ansi.specs.Refusals.{IsOfClearing, IsOfCall, FailsToResize, names_cell, has_place, IsRefusedOn, StopsWithin}
-use Rattle.ratatui_ansi.specs.Refusals.{StopsDraw, Answers, StopsSending}
+use Rattle.ratatui_ansi.specs.Refusals.{IsOfClearing, FailsToResize, names_cell, IsRefusedOn}
+use Rattle.ratatui_ansi.specs.Inner.Draw.{has_place, StopsWithin}
+use Rattle.ratatui_ansi.specs.Inner.Tracker.{IsOfCall}
+use Rattle.ratatui_ansi.specs.Refusals.{Answers, StopsSending}
+use Rattle.ratatui_ansi.specs.Inner.Draw.{StopsDraw}
 use Rattle.ratatui_ansi.proofs.{BackendLemmas.cursor-column, BackendLemmas.cursor-row, CoverLemmas.covered-continuation}
 use Rattle.ratatui_ansi.proofs.{FrameLemmas.begins}
 

@@ -12,8 +12,10 @@ use Rattle.ansi_model.specs.Columns.{Columns, look_in, blank_column, overwritten
 use Rattle.ansi_model.specs.Emulator.{Emulator, rested, columns_moved, cursor_moved, erased, keeps_history}
 use Rattle.ansi_model.specs.{Sends.Leads, Flags.flag, Flags.AreContinuations, Flags.is_cut, Sends.Performs}
 use Rattle.ansi_model.specs.Screens.{screen_shown, IsIdle, Turns, Becomes}
-use Rattle.ratatui_ansi.specs.{declared.tracker.Tracker.Tracker, Frame.SendsDraw}
-use Rattle.ratatui_ansi.specs.Tracker.{IsAwaiting, IsTracked, IsTracker, Collects}
+use Rattle.ratatui_ansi.specs.{declared.tracker.Tracker.Tracker}
+use Rattle.ratatui_ansi.specs.Inner.Draw.{SendsDraw}
+use Rattle.ratatui_ansi.specs.Tracker.{IsAwaiting}
+use Rattle.ratatui_ansi.specs.Inner.Tracker.{IsTracked, IsTracker, Collects}
 use Rattle.ansi_model.proofs.ReadLemmas.{Leads-then, Leads-so, Leads-none}
 use Rattle.ansi_model.proofs.{FlagLemmas.AreContinuations-along, EraseLemmas.erasing}
 use Rattle.ansi_model.proofs.{EraseLemmas.part-erased, EraseLemmas.part-tidy}

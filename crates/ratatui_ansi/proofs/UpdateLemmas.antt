@@ -6,7 +6,8 @@ use Rattle.ansi_model.specs.{Modes.no_modes, Sequences.feed, Sends.Performs, Sen
 use Rattle.ansi_model.specs.{Screens.IsIdle, Flags.AreContinuations}
 use Rattle.ansi_model.proofs.{ReadLemmas.feed-append, ReadLemmas.after-those, ReadLemmas.Leads-later}
 use Rattle.ansi_model.proofs.{ScrollLemmas.rested-ready, HistoryLemmas.feed-held, HistoryLemmas.rested-held}
-use Rattle.ratatui_ansi.specs.{Tracker.IsAwaiting, Frame.SendsDraw}
+use Rattle.ratatui_ansi.specs.{Tracker.IsAwaiting}
+use Rattle.ratatui_ansi.specs.Inner.Draw.{SendsDraw}
 
 -- an awaiting terminal rests
 rests : {w h : ℕ} {place : Position} {flags : List Bool} {t : Emulator} → IsAwaiting w h place flags t

@@ -2,19 +2,17 @@
 use Rattle.std.specs.Prelude.{◌≡◌, ℕ, ◌-◌, ◌<◌, ◌⊎◌, Bool, true, false, IsTrue, List, map, Option, Some}
 use Rattle.std.specs.Prelude.{Result, MatchResult}
 use Rattle.std.specs.{Borrow.Bor, Iterator.YieldsThen, Iterator.YieldsFirstBy}
-use Rattle.ratatui_core.specs.{Layout.Position, Buffer.Update, Buffer.Cell, Buffer.update_by, Backend.Screen}
+use Rattle.ratatui_core.specs.{Buffer.Update, Buffer.Cell, Buffer.update_by, Backend.Screen}
 use Rattle.ratatui_core.specs.{Backend.Draws, Backend.cursor_of}
 use Rattle.ratatui_core.specs.Layout as layout
-use Rattle.ratatui_ansi.specs.{declared.error.AnsiError.AnsiError, declared.draw.Draw.Draw}
-use Rattle.ratatui_ansi.specs.{declared.draw.CellError.CellError, declared.tracker.Call.Call}
+use Rattle.ratatui_ansi.specs.{declared.error.AnsiError.AnsiError}
+use Rattle.ratatui_ansi.specs.{declared.draw.CellError.CellError}
 use Rattle.ratatui_ansi.specs.declared.error.AnsiError.TheVariants.{Memory, Symbol, Style, Cut, Size, Broken}
 use Rattle.ratatui_ansi.specs.declared.error.AnsiError.TheVariants.{Write}
 use Rattle.ratatui_ansi.specs.declared.draw.CellError.TheVariants as Refused
-use Rattle.ratatui_ansi.specs.declared.tracker.Call.TheVariants as Called
-use Rattle.ratatui_ansi.specs.{Backend.BackendState, Tracker.IsAwaiting, Covered.IsCovered, Errors.error_of}
-use Rattle.ratatui_ansi.specs.Frame.{is_fit, IsVacant, IsOnScreenAt, KeepsDraw, RefusesUpdate, SendsUpdates}
-use Rattle.ansi_model.specs.{Parameters.is_sendable_by, Sgr.sgr_of, Screens.screen_shown, Emulator.Emulator}
-use Rattle.ansi_model.specs.{Emulator.rested}
+use Rattle.ratatui_ansi.specs.{Backend.BackendState, Covered.IsCovered, Errors.error_of}
+use Rattle.ratatui_ansi.specs.Cells.{is_fit, IsVacant, IsOnScreenAt}
+use Rattle.ansi_model.specs.{Parameters.is_sendable_by, Sgr.sgr_of}
 
 -- ---- what is left
 
@@ -82,11 +80,6 @@ abbrev pub IsOfClearing : Screen → AnsiError → Type 0
 IsOfClearing s (Cut p) = (p ≡ cursor_of s) × IsCovered s.grid p.x p.y
 IsOfClearing s error = IsOfWriting error
 
--- an error of a call that draws no cells
-abbrev pub IsOfCall : Call → Screen → AnsiError → Type 0
-IsOfCall (Called.Clear kind) s error = IsOfClearing s error
-IsOfCall _ s error = IsOfWriting error
-
 -- ---- beginnings
 
 -- why no blank screen of this size is tracked: it has no columns or no rows, or memory was refused
@@ -116,11 +109,7 @@ FailsToResize size old new _ = ⊥
 
 -- ---- cells that aren't drawn
 
--- whether a refusal, or an error, names a cell's place
-abbrev pub has_place : CellError → Bool
-has_place Refused.Memory = false
-has_place _ = true
-
+-- whether an error names a cell's place
 abbrev pub names_cell : AnsiError → Bool
 names_cell (Symbol p) = true
 names_cell (Style p) = true
@@ -164,22 +153,3 @@ abbrev pub StopsBy : {S A : Type 0} → (S → Option A → S → Type 0) → S 
 StopsBy steps content update colors old error =
     IsTrue (names_cell error) → (refusal : CellError) × (error ≡ error_of refusal)
     × StopsAt steps content update colors old refusal
-
--- the same within a draw: the bytes of the items before it were appended
-pub record StopsWithin {S A : Type 0} (steps : S → Option A → S → Type 0) (content : S) (update : A → Update)
-    (old : Draw) (refusal : CellError) : Type 0 where
-  pub front : List A
-  pub item : A
-  pub rest : S
-  pub gives : YieldsThen steps content front (Some item) rest
-  pub between : Draw
-  pub keeps : KeepsDraw old between
-  pub sends : SendsUpdates old (map update front) between
-  pub refused : RefusesUpdate between (update item) refusal
-
--- the same for each terminal between two calls
-pub record StopsDraw {S A : Type 0} (steps : S → Option A → S → Type 0) (content : S) (update : A → Update)
-    (w h : ℕ) (colors : Bool) (cursor : Position) (written : ℕ)
-    (flags : List Bool) (refusal : CellError) : Type 0 where
-  pub stops : (t : Emulator) → IsAwaiting w h cursor flags t
-      → StopsAt steps content update colors (screen_shown written (rested t)) refusal

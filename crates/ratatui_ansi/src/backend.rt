@@ -11,9 +11,10 @@ ghost use Rattle.ratatui_ansi.specs.Backend.{BackendState, shown_by, with_writer
 ghost use Rattle.ratatui_ansi.specs.Backend.{LeavesTerminal, BringsBack};
 ghost use Rattle.ratatui_ansi.specs.contracts.backend.AnsiBackend.{the_row};
 ghost use Rattle.ratatui_ansi.specs.Headline.{IsReadByAll};
-ghost use Rattle.ratatui_ansi.specs.Tracker.{BeginsBlank, CallDoes, IsCommanded};
+ghost use Rattle.ratatui_ansi.specs.Inner.Tracker.{BeginsBlank, CallDoes, IsCommanded};
 ghost use Rattle.ratatui_ansi.specs.Refusals.{Answers, RefusesToBegin, FailsToRestart, FailsToResize};
-ghost use Rattle.ratatui_ansi.specs.Refusals.{IsOfLeaving, IsOfCall};
+ghost use Rattle.ratatui_ansi.specs.Refusals.{IsOfLeaving};
+ghost use Rattle.ratatui_ansi.specs.Inner.Tracker.{IsOfCall};
 
 use crate::error::AnsiError;
 use crate::sender::Sender;

@@ -9,7 +9,7 @@ ghost use Rattle.ratatui_core.specs.Backend.{ScrollsDown, with_visible, with_cur
 ghost use Rattle.ansi_model.specs.Sends.{IsWithinUpdate};
 ghost use Rattle.ansi_model.specs.Places.{PlacesEach};
 ghost use Rattle.ratatui_ansi.specs.Backend.{shown_by, is_flushed};
-ghost use Rattle.ratatui_ansi.specs.Frame.{is_sendable_on};
+ghost use Rattle.ratatui_ansi.specs.Cells.{is_sendable_on};
 ghost use Rattle.ratatui_ansi.specs.Refusals.{Answers, StopsBy, StopsSending, IsOfWriting};
 ghost use Rattle.ratatui_ansi.specs.Refusals.{IsOfFlushing, IsOfClearing};
 ghost use Rattle.ratatui_ansi.specs.declared.error.AnsiError.TheVariants.{Broken};

@@ -10,11 +10,14 @@ ghost use Rattle.ansi_model.specs.Sgr.{default_sgr, sgr_of};
 ghost use Rattle.ansi_model.specs.Symbols.{printed_columns};
 ghost use Rattle.ansi_model.specs.Drawing.{blanked, PenSends};
 ghost use Rattle.ansi_model.specs.Places.{PlacesOn, PlacesEach};
-ghost use Rattle.ratatui_ansi.specs.Frame.{is_fit, IsGlyph, IsVacant, update_in, draw_bytes};
-ghost use Rattle.ratatui_ansi.specs.Frame.{IsDraw, BeginsDraw, IsUncovered, KeepsDraw, OnlyPens};
-ghost use Rattle.ratatui_ansi.specs.Frame.{SetsSgr, PrintsSymbol, Covers, DrawsUpdates, DrawsCells};
-ghost use Rattle.ratatui_ansi.specs.Frame.{IsUnsendableSgr, RefusesUpdate};
-ghost use Rattle.ratatui_ansi.specs.Refusals.{has_place, StopsWithin, StopsDraw};
+ghost use Rattle.ratatui_ansi.specs.Cells.{is_fit, IsVacant};
+ghost use Rattle.ratatui_ansi.specs.Inner.Draw.{IsGlyph, update_in, draw_bytes};
+ghost use Rattle.ratatui_ansi.specs.Inner.Draw.{IsDraw, BeginsDraw, IsUncovered, KeepsDraw};
+ghost use Rattle.ratatui_ansi.specs.Inner.Draw.{OnlyPens};
+ghost use Rattle.ratatui_ansi.specs.Inner.Draw.{SetsSgr, PrintsSymbol, Covers, DrawsUpdates};
+ghost use Rattle.ratatui_ansi.specs.Inner.Draw.{DrawsCells};
+ghost use Rattle.ratatui_ansi.specs.Inner.Draw.{IsUnsendableSgr, RefusesUpdate};
+ghost use Rattle.ratatui_ansi.specs.Inner.Draw.{has_place, StopsWithin, StopsDraw};
 
 use ansi_model::{
     Glyph, Pen, Sgr, change_sgr, glyph_of, mark_symbol, only_printable, put_disputed, put_plain,

@@ -13,10 +13,13 @@ ghost use Rattle.ansi_model.specs.Flags.{is_cut, is_clear_cut};
 ghost use Rattle.ansi_model.specs.Commands.{command_bytes, title_bytes, AsksSize};
 ghost use Rattle.ansi_model.specs.Sends.{IsWithinUpdate};
 ghost use Rattle.ansi_model.specs.Places.{PlacesEach};
-ghost use Rattle.ratatui_ansi.specs.Frame.{is_sendable_on, Drafts};
-ghost use Rattle.ratatui_ansi.specs.Refusals.{has_place, StopsDraw, RefusesTracker};
-ghost use Rattle.ratatui_ansi.specs.Tracker.{IsTracker, KeepsTracked, Collects, CallDoes, IsCommanded};
-ghost use Rattle.ratatui_ansi.specs.Tracker.{IsUncollected, BeginsBlank};
+ghost use Rattle.ratatui_ansi.specs.Cells.{is_sendable_on};
+ghost use Rattle.ratatui_ansi.specs.Inner.Draw.{Drafts};
+ghost use Rattle.ratatui_ansi.specs.Refusals.{RefusesTracker};
+ghost use Rattle.ratatui_ansi.specs.Inner.Draw.{has_place, StopsDraw};
+ghost use Rattle.ratatui_ansi.specs.Inner.Tracker.{IsTracker, KeepsTracked, Collects, CallDoes};
+ghost use Rattle.ratatui_ansi.specs.Inner.Tracker.{IsCommanded};
+ghost use Rattle.ratatui_ansi.specs.Inner.Tracker.{IsUncollected, BeginsBlank};
 
 use crate::draw::{CellError, Draw, DrawState, Target};
 use crate::error::AnsiError;

@@ -1,6 +1,6 @@
 use Rattle.std.proofs.Common.{map}
 use Rattle.ratatui_core.specs.Buffer.{update_by}
-use Rattle.ratatui_ansi.specs.Frame.{KeepsDraw, DrawsUpdates}
+use Rattle.ratatui_ansi.specs.Inner.Draw.{KeepsDraw, DrawsUpdates}
 use Rattle.ratatui_ansi.proofs.draw.Draw.draw_all.Given as goal
 
 abbrev pub invariant-loop-x : goal.invariant-loop-x

@@ -1,7 +1,7 @@
 use Rattle.std.proofs.Common.{◌∙◌, string_bytes, map, sym, subst, rules}
 use Rattle.std.proofs.lemmas.{List.with_items_is, Result.IfOk-weaker}
 use Rattle.ratatui_core.specs.Buffer.{update_by}
-use Rattle.ratatui_ansi.specs.Frame.{SendsDraw}
+use Rattle.ratatui_ansi.specs.Inner.Draw.{SendsDraw}
 use Rattle.ratatui_ansi.proofs.tracker.Tracker.draft.Goals as goal
 
 pub returns-clause-ok : goal.returns-clause-ok

@@ -1,49 +1,27 @@
--- What a draw knows of the terminal, and what its bytes do to it.
-use Rattle.std.specs.Prelude.{◌≡◌, ℕ, ◌+◌, ◌-◌, ◌*◌, ◌<◌, ◌≤◌, ◌==◌, ◌&&◌, ◌||◌, ◌⊎◌, not, nat_lt, nat_le}
-use Rattle.std.specs.Prelude.{Bool, true, false, if◌then◌else◌, List, length, string_bytes, None}
+-- Words that only private contracts use: what a draw knows of the terminal, and what its bytes do to it.
+use Rattle.std.specs.Prelude.{◌≡◌, ℕ, ◌+◌, ◌-◌, ◌*◌, ◌<◌, ◌≤◌, ◌&&◌, ◌⊎◌, nat_lt, nat_le, Bool}
+use Rattle.std.specs.Prelude.{true, false, if◌then◌else◌, List, length, string_bytes, None, map}
+use Rattle.std.specs.Prelude.{Option, Some}
 use Rattle.std.specs.List.{list_all}
 use Rattle.ratatui_core.specs.{Layout.Position, Backend.Draws, Backend.cursor_of}
-use Rattle.ratatui_core.specs.Buffer.{symbol_text, look_of, empty_look, width_of, Update, Cell}
+use Rattle.ratatui_core.specs.Buffer.{symbol_text, Update, Cell}
 use Rattle.ansi_model.specs.{declared.glyph.Glyph.Glyph, declared.sgr.Sgr.Sgr}
-use Rattle.ansi_model.specs.{Flags.AreContinuations, Flags.flag, Places.PlacesOn}
+use Rattle.ansi_model.specs.{Flags.AreContinuations, Flags.flag, Places.PlacesOn, Sgr.default_sgr}
+use Rattle.ansi_model.specs.{Sgr.sgr_of, Parameters.is_sendable_by, Emulator.Emulator}
+use Rattle.ansi_model.specs.{Emulator.rested, Emulator.with_sgr, Symbols.IsGlyphOf, Sends.Leads}
+use Rattle.ansi_model.specs.{Screens.screen_shown, Screens.IsIdle}
 use Rattle.ratatui_ansi.specs.{declared.draw.Draw.Draw, declared.draw.CellError.CellError}
 use Rattle.ratatui_ansi.specs.{declared.tracker.Tracker.Tracker, Tracker.IsAwaiting}
 use Rattle.ratatui_ansi.specs.declared.draw.CellError.TheVariants as Refused
-use Rattle.ansi_model.specs.{Sgr.default_sgr, Sgr.sgr_of, Parameters.is_sendable_by, Emulator.Emulator}
-use Rattle.ansi_model.specs.{Emulator.rested, Emulator.with_sgr}
-use Rattle.ansi_model.specs.{Symbols.is_printed, Symbols.printed_columns, Symbols.IsGlyphOf, Sends.Leads}
-use Rattle.ansi_model.specs.{Screens.screen_shown, Screens.IsIdle}
 use Rattle.ansi_model.specs.Drawing.{blanked, printed_at, ChangesSgr, IsDrawnBy, PenSends}
-
--- ---- cells
-
--- whether a cell's symbol is printed in just the columns that the cell takes, and these are some and fit into
--- a room
-abbrev pub is_fit : ℕ → Cell → Bool
-is_fit room c =
-    is_printed (symbol_text c.symbol) && (printed_columns (symbol_text c.symbol) == width_of c) && nat_lt 0
-    (width_of c) && nat_le (width_of c) room
+use Rattle.ratatui_ansi.specs.Cells.{is_fit, IsVacant, IsOnScreenAt, is_sendable_on}
+use Rattle.std.specs.{Iterator.YieldsThen}
+use Rattle.ratatui_ansi.specs.Refusals.{StopsAt}
 
 -- a cell that fits into a room is printed so
 pub record IsGlyph (room : ℕ) (c : Cell) (glyph : Glyph) : Type 0 where
   pub fits : is_fit room c ≡ true
   pub symbol : IsGlyphOf (symbol_text c.symbol) glyph
-
--- a cell of one column that looks like an empty one
-pub record IsVacant (c : Cell) : Type 0 where
-  pub look : look_of c ≡ empty_look
-  pub width : width_of c ≡ 1
-
--- an update lies in this place of a screen of this size
-pub record IsOnScreenAt (w h : ℕ) (p : Position) (u : Update) : Type 0 where
-  pub column : u.x < w
-  pub row : u.y < h
-  pub place : p ≡ record { x = u.x; y = u.y }
-
--- whether an update that lies on a screen of this size has a rendition that a terminal can be sent, one with
--- colours of the underline or without
-abbrev pub is_sendable_on : ℕ → ℕ → Bool → Update → Bool
-is_sendable_on w h colors u = not (nat_lt u.x w && nat_lt u.y h) || is_sendable_by colors (sgr_of u.cell)
 
 -- a cell in its place
 abbrev pub update_in : Position → Cell → Update
@@ -201,3 +179,29 @@ abbrev pub Drafts : Tracker → List Update → Position → ℕ → Tracker →
 Drafts old us cursor written new =
     SendsDraw old.size.width old.size.height (string_bytes old.out) old.cursor old.written
     old.continuations.items us (string_bytes new.out) cursor written new.draft.items
+
+-- ---- where a draw stops
+
+-- whether a refusal names a cell's place
+abbrev pub has_place : CellError → Bool
+has_place Refused.Memory = false
+has_place _ = true
+
+-- an item isn't drawn within a draw: the bytes of the items before it were appended
+pub record StopsWithin {S A : Type 0} (steps : S → Option A → S → Type 0) (content : S) (update : A → Update)
+    (old : Draw) (refusal : CellError) : Type 0 where
+  pub front : List A
+  pub item : A
+  pub rest : S
+  pub gives : YieldsThen steps content front (Some item) rest
+  pub between : Draw
+  pub keeps : KeepsDraw old between
+  pub sends : SendsUpdates old (map update front) between
+  pub refused : RefusesUpdate between (update item) refusal
+
+-- on each terminal between two calls an item isn't drawn
+pub record StopsDraw {S A : Type 0} (steps : S → Option A → S → Type 0) (content : S) (update : A → Update)
+    (w h : ℕ) (colors : Bool) (cursor : Position) (written : ℕ)
+    (flags : List Bool) (refusal : CellError) : Type 0 where
+  pub stops : (t : Emulator) → IsAwaiting w h cursor flags t
+      → StopsAt steps content update colors (screen_shown written (rested t)) refusal

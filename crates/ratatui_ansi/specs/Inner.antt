@@ -1,0 +1,3 @@
+-- Words that only private contracts use: they follow the code.
+pub mod Draw
+pub mod Tracker
