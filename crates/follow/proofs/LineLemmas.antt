@@ -7,9 +7,11 @@ use Rattle.ratatui_core.specs.Layout.{Size}
 use Rattle.ratatui_ansi.specs.{Backend.BackendState, Backend.shown_by, declared.error.AnsiError.AnsiError}
 use Rattle.logview.specs.{Views.IsViewOf, declared.view.LogView.LogView}
 use Rattle.logview.proofs.LogLemmas.{view_more}
-use Rattle.follow.specs.{Ends.StopsAtNext, Ends.StopsAfter, Ends.StopsText, declared.error.FollowError.FollowError}
+use Rattle.follow.specs.{declared.error.FollowError.FollowError}
+use Rattle.follow.specs.Inner.{StopsAtNext, StopsAfter, StopsText}
 use Rattle.follow.specs.declared.error.FollowError.TheVariants.{Terminal, Read, Write, Lines}
-use Rattle.follow.specs.Lines.{shown_line, AreLinesOf, ShowsInput, MovesOn}
+use Rattle.follow.specs.Lines.{shown_line, AreLinesOf}
+use Rattle.follow.specs.Inner.{ShowsInput, MovesOn}
 
 some-same : {A : Type 0} {a b : A} → Some a ≡ Some b → b ≡ a
 some-same {A} {a} {b} e = ap (λ o. unwrap_or o a) (sym e)

@@ -10,7 +10,8 @@ use Rattle.ansi_model.proofs.{CallLemmas.fresh-left, ReadLemmas.feed-append, End
 use Rattle.ratatui_ansi.specs.{Backend.BackendState, Backend.shown_by, Headline.IsReadBy, Headline.IsReadByAll}
 use Rattle.logview.specs.{Engine.ShowsLog, Views.IsViewOf, declared.view.LogView.LogView}
 use Rattle.logview.proofs.LogLemmas.{shows_log}
-use Rattle.follow.specs.{Lines.shown_line, Lines.ShowsInput, Shown.FollowsText}
+use Rattle.follow.specs.{Lines.shown_line, Shown.FollowsText}
+use Rattle.follow.specs.Inner.{ShowsInput}
 
 -- what a writer held is known, so what it holds then is
 held : (before mid after : Option (List ℕ)) (sent last : List ℕ) → IsSome before → Appends before mid sent

@@ -11,9 +11,10 @@ ghost use Rattle.std.specs.Prelude.{◌≡◌, [], Some, IfOk, IfErr, IfSome, On
 ghost use Rattle.std.specs.Io.KnownBytes.{Appends};
 ghost use Rattle.ratatui_ansi.specs.Backend.{shown_by, IsAlwaysKnown};
 ghost use Rattle.logview.specs.Views.{IsViewOf};
-ghost use Rattle.follow.specs.Lines.{MovesOn, ShowsInput};
+ghost use Rattle.follow.specs.Inner.{MovesOn, ShowsInput};
 ghost use Rattle.follow.specs.Shown.{FollowsText};
-ghost use Rattle.follow.specs.Ends.{StopsAtNext, StopsText, IsOfShowing, EndsBy};
+ghost use Rattle.follow.specs.Ends.{EndsBy};
+ghost use Rattle.follow.specs.Inner.{StopsAtNext, StopsText, IsOfShowing};
 
 mod error;
 mod shown;

@@ -6,7 +6,8 @@ use Rattle.ratatui_core.specs.{Layout.Rect, Terminal.IsRendered}
 use Rattle.ratatui_core.specs.Buffer.{BufferData, pieces_at, IsSettledBuffer}
 use Rattle.ratatui_core.proofs.BufferLemmas.{text-short, ascii-short, text-ends, IsSettledBuffer-empty}
 use Rattle.ratatui_core.proofs.BufferLemmas.{IsPaintable-empty, IsSettledBuffer-painted}
-use Rattle.logview.specs.Rows.{status_text, status_style, RendersStatus, RendersShortStatus}
+use Rattle.logview.specs.Rows.{status_text, status_style, RendersStatus}
+use Rattle.logview.specs.Inner.{RendersShortStatus}
 
 more : (b : ℕ) (bs : List ℕ) → b < 128 → IsAscii bs → IsAscii (b ∷ bs)
 more b bs p all zero = p

@@ -2,3 +2,4 @@ pub mod Rows
 pub mod Views
 pub mod Engine
 pub mod Ending
+pub mod Inner

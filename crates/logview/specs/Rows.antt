@@ -3,7 +3,7 @@ use Rattle.std.specs.Prelude.{ℕ, ◌^◌, ◌+◌, ◌-◌, min, List, [], ◌
 use Rattle.std.specs.Fmt.{decimal}
 use Rattle.ratatui_core.specs.Layout.{Position, Rect}
 use Rattle.ratatui_core.specs.Style.{Style, new_style, with_modifier, modifier_of}
-use Rattle.ratatui_core.specs.Buffer.{BufferData, PaintsPieces, pieces_at, AreShort, Look}
+use Rattle.ratatui_core.specs.Buffer.{BufferData, PaintsPieces, pieces_at, Look}
 use Rattle.ratatui_core.specs.Terminal.{IsRowOf}
 
 -- a count, which stays at the greatest number
@@ -22,10 +22,6 @@ status_style = with_modifier (modifier_of 64) new_style
 abbrev pub RendersStatus : List ℕ → Rect → BufferData → BufferData → Type 0
 RendersStatus text area old = PaintsPieces (record { x = area.x; y = area.y })
     (pieces_at old.area area.x area.width status_style text) old
-
--- each of its symbols takes no memory
-abbrev pub RendersShortStatus : List ℕ → Rect → BufferData → Type 0
-RendersShortStatus text area s = AreShort (pieces_at s.area area.x area.width status_style text)
 
 -- the place after a text of ASCII in the first row of an area, or the last column there
 abbrev pub end_place : List ℕ → Rect → Option Position

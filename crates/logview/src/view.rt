@@ -5,7 +5,8 @@ ghost use Rattle.ratatui_core.specs.Terminal.{DrawsRow, Faults, HasAreas, Inline
 ghost use Rattle.ratatui_core.specs.Terminal.{IsBlank, IsSized};
 ghost use Rattle.ratatui_core.specs.Terminal.{StartErr, WritesAtMost};
 ghost use Rattle.ratatui_core.specs.Widgets.{HasFirstRow, RendersStr, RendersShortStr};
-ghost use Rattle.logview.specs.Rows.{counted, status_text, RendersStatus, RendersShortStatus};
+ghost use Rattle.logview.specs.Rows.{counted, status_text, RendersStatus};
+ghost use Rattle.logview.specs.Inner.{RendersShortStatus};
 ghost use Rattle.logview.specs.Rows.{end_place};
 ghost use Rattle.logview.specs.Views.{IsFollowing, KeepsBelow, PushesLine, RefusesLine, RefusesPush};
 ghost use Rattle.logview.specs.Views.{StartsView};

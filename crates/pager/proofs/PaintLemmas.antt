@@ -15,7 +15,8 @@ use Rattle.rtui_boxes.proofs.PaintLemmas.{part-has_row, part-right, room-is}
 use Rattle.pager.specs.declared.view.View.{View}
 use Rattle.pager.specs.Symbols.{LineSymbol, shown_columns, line_symbol, marked_bytes, mark_style, symbols_from, is_in_view}
 use Rattle.pager.specs.Symbols.{symbols_in_view}
-use Rattle.pager.specs.Pages.{PaintsIf, PaintsIfInView, PaintsSymbols, PaintsLine, PaintsPageRow, PaintsPageRows}
+use Rattle.pager.specs.Pages.{PaintsSymbols, PaintsLine, PaintsPageRow, PaintsPageRows}
+use Rattle.pager.specs.Inner.{PaintsIf, PaintsIfInView}
 use Rattle.pager.specs.Pages.{PaintsPage, PaintsPager}
 use Rattle.pager.specs.declared.pager.Pager.{Pager}
 

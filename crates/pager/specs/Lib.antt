@@ -6,3 +6,4 @@ pub mod Moves
 pub mod Pages
 pub mod PageLemmas
 pub mod Paging
+pub mod Inner

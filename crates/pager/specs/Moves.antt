@@ -156,10 +156,6 @@ answered Ignore p = p
 abbrev pub at_size : ℕ × ℕ → Pager → Pager
 at_size size p = at_line p.top (record p { columns = size.0; rows = size.1 })
 
-abbrev pub at_told_size : Option (ℕ × ℕ) → Pager → Pager
-at_told_size (Some size) p = at_size size p
-at_told_size None p = p
-
 -- what an event makes of a pager that tells no size
 abbrev pub acted : Mode → Event → Pager → Pager
 acted Reading event p = obeyed (event_command event) p

@@ -1,5 +1,5 @@
 -- What a pager paints: lines in rows, and the status in the last one.
-use Rattle.std.specs.Prelude.{◌≡◌, ℕ, zero, suc, Bool, true, false, ◌+◌, ◌-◌, ◌*◌, ◌/◌, ◌==◌}
+use Rattle.std.specs.Prelude.{◌≡◌, ℕ, zero, suc, ◌+◌, ◌-◌, ◌*◌, ◌/◌, ◌==◌}
 use Rattle.std.specs.Prelude.{min, if◌then◌else◌, List, [], ◌∷◌, ◌++◌, length, Option, Some, None, option_map}
 use Rattle.std.specs.Prelude.{unwrap_or, slice_get, codes, encode_utf8}
 use Rattle.std.specs.{Fmt.decimal, List.flat_map}
@@ -8,7 +8,7 @@ use Rattle.ratatui_core.specs.Buffer.{BufferData, PaintsPieces, IsPlainFrom, IsS
 use Rattle.ratatui_core.specs.Buffer.{text_pieces, position_of}
 use Rattle.ratatui_core.specs.Widgets.{ChangesWithin, OnPart}
 use Rattle.rtui_boxes.specs.Titles.{InTurn}
-use Rattle.pager.specs.Symbols.{LineSymbol, reversed, is_in_view, line_symbols, symbols_in_view}
+use Rattle.pager.specs.Symbols.{LineSymbol, reversed, line_symbols, symbols_in_view}
 use Rattle.pager.specs.Places.{breaking, number_columns, stride, page_rows, page_place, places_after}
 use Rattle.pager.specs.Places.{place_after}
 use Rattle.pager.specs.declared.place.Place.{Place}
@@ -27,14 +27,6 @@ PaintsText x y max style text old new = PaintsPieces (position_of (x, y)) (text_
 -- a symbol painted in a row, if the view's first column stands at x
 abbrev pub PaintsSymbol : ℕ → ℕ → View → LineSymbol → BufferData → BufferData → Type 0
 PaintsSymbol x y v s old new = PaintsText (x + (s.column - v.left)) y s.columns s.style s.text old new
-
--- the same, or nothing, if the symbol isn't in view
-abbrev pub PaintsIf : Bool → ℕ → ℕ → View → LineSymbol → BufferData → BufferData → Type 0
-PaintsIf true x y v s old new = PaintsSymbol x y v s old new
-PaintsIf false x y v s old new = new ≡ old
-
-abbrev pub PaintsIfInView : ℕ → ℕ → View → LineSymbol → BufferData → BufferData → Type 0
-PaintsIfInView x y v s old new = PaintsIf (is_in_view v s) x y v s old new
 
 -- symbols painted one after the other
 unfoldable pub PaintsSymbols : ℕ → ℕ → View → List LineSymbol → BufferData → BufferData → Type 0

@@ -1,7 +1,8 @@
 //! The state of a pager.
 
 ghost use Rattle.std.specs.Prelude.{◌≡◌, OnOk, OnErr};
-ghost use Rattle.pager.specs.Moves.{started, at_told_size, with_one_less, answered, acted, updated};
+ghost use Rattle.pager.specs.Moves.{started, with_one_less, answered, acted, updated};
+ghost use Rattle.pager.specs.Inner.{at_told_size};
 
 use crate::answer::{Answer, answer_of, is_press};
 use crate::command::command_of;

@@ -6,7 +6,8 @@ ghost use Rattle.ratatui_core.specs.Buffer.{IsReadyAt, IsReadyFrom, columns, tex
 ghost use Rattle.ratatui_core.specs.Widgets.{ChangesWithin};
 ghost use Rattle.rtui_boxes.specs.Boxes.{IsBoxArea};
 ghost use Rattle.pager.specs.Symbols.{shown_columns, line_symbol};
-ghost use Rattle.pager.specs.Pages.{PaintsText, PaintsIfInView, PaintsLine};
+ghost use Rattle.pager.specs.Pages.{PaintsText, PaintsLine};
+ghost use Rattle.pager.specs.Inner.{PaintsIfInView};
 
 use crate::symbols::{mark_style, marked_bytes, shown_columns, shown_text};
 use crate::view::View;

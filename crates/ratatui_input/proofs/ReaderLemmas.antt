@@ -13,7 +13,8 @@ use Rattle.ratatui_input.specs.declared.decoder.Decoder.{Decoder}
 use Rattle.ratatui_input.specs.declared.reader.Kept.{Kept}
 use Rattle.ratatui_input.specs.declared.reader.EventReader.{EventReader}
 use Rattle.ratatui_input.specs.Decoding.{Told, byte_told, decoded, next_told, settled, some_list}
-use Rattle.ratatui_input.specs.Reading.{left_bytes, kept_told, TellsFirst, TellsNothing, unread, source, Reads, KeepsAll}
+use Rattle.ratatui_input.specs.Reading.{left_bytes, kept_told, unread, source, Reads, KeepsAll}
+use Rattle.ratatui_input.specs.Inner.{TellsFirst, TellsNothing}
 use Rattle.ratatui_input.proofs.DecodingLemmas.{decoded-append}
 
 abbrev kept : Decoder → Option Event → List ℕ → ℕ → ℕ → Kept

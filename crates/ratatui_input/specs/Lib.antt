@@ -7,3 +7,4 @@ pub mod Reading
 pub mod KeyTables
 pub mod Grammar
 pub mod Pieces
+pub mod Inner

@@ -1,5 +1,5 @@
 -- What an event reader has read and not told yet.
-use Rattle.std.specs.Prelude.{◌≡◌, ◌⊎◌, ℕ, List, [], ◌∷◌, ◌++◌, take, drop, Option, None, IsSomeAnd}
+use Rattle.std.specs.Prelude.{◌≡◌, ◌⊎◌, ℕ, List, [], ◌∷◌, ◌++◌, take, drop, Option, IsSomeAnd}
 use Rattle.std.specs.Io.KnownBytes.{Consumes, IsAtEnd}
 use Rattle.ratatui_events.specs.declared.event.Event.{Event}
 use Rattle.ratatui_input.specs.Decoding.{Told, decoded, next_told, settled, some_list}
@@ -13,16 +13,6 @@ left_bytes k = drop k.next (take k.end k.bytes)
 -- the events that what has come will tell, and the decoder after them
 unfoldable pub kept_told : Kept → Told
 kept_told k = let t = decoded k.decoder (left_bytes k) in (some_list k.second ++ t.0, t.1)
-
--- the first of them is told
-abbrev pub TellsFirst : Kept → Event → Kept → Type 0
-TellsFirst old event new = kept_told old ≡ (event ∷ (kept_told new).0, (kept_told new).1)
-
--- there is none, and nothing is left but what the decoder has
-pub record TellsNothing (old new : Kept) : Type 0 where
-  pub told : kept_told old ≡ ([], new.decoder)
-  pub no_second : new.second ≡ None
-  pub no_bytes : new.end ≡ 0
 
 -- the reader that the bytes come from
 abbrev pub source : {R : Type 0} → EventReader R → R

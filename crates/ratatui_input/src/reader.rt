@@ -3,7 +3,8 @@
 ghost use Rattle.std.specs.Prelude.{◌≡◌, ◌<◌, ◌+◌, [], None, Some, slice_get, IfNone, MatchOption};
 ghost use Rattle.std.specs.Prelude.{MatchResult};
 ghost use Rattle.ratatui_input.specs.Encodings.{fresh_decoder};
-ghost use Rattle.ratatui_input.specs.Reading.{kept_told, unread, source, TellsFirst, TellsNothing, Reads};
+ghost use Rattle.ratatui_input.specs.Reading.{kept_told, unread, source, Reads};
+ghost use Rattle.ratatui_input.specs.Inner.{TellsFirst, TellsNothing};
 ghost use Rattle.ratatui_input.specs.Reading.{KeepsAll};
 
 use crate::decoder::{Decoder, Fed};

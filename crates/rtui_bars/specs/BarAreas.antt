@@ -21,14 +21,10 @@ abbrev pub without_upper : ℕ → Rect → Rect
 without_upper n r = record r { y = min (r.y + n) 65535; height = r.height - n }
 
 -- how many cells an area has from bar to bar: vertical bars stand side by side, horizontal ones one under the
--- other; and how many it has along a bar
+-- other
 abbrev pub cells_along : Direction → Rect → ℕ
 cells_along Vertical r = r.width
 cells_along Horizontal r = r.height
-
-abbrev pub cells_across : Direction → Rect → ℕ
-cells_across Vertical r = r.height
-cells_across Horizontal r = r.width
 
 -- where a bar stands that is so many cells wide, and the area behind so many cells
 abbrev pub bar_part : Direction → ℕ → Rect → Rect

@@ -20,7 +20,7 @@ use Rattle.rtui_boxes.specs.Titles.{InTurn, DoesIf, RendersTitle, title_at, titl
 use Rattle.rtui_boxes.specs.Titles.{without_first}
 use Rattle.rtui_boxes.specs.Framed.{RendersInFrame}
 use Rattle.rtui_bars.specs.{declared.group.Bar.Bar, declared.group.BarGroup.BarGroup}
-use Rattle.rtui_bars.specs.{declared.chart.BarChart.BarChart, declared.chart.Measures.Measures}
+use Rattle.rtui_bars.specs.{declared.chart.BarChart.BarChart}
 use Rattle.rtui_sparkline.specs.Levels.{eighths_of_value, left_at, level_text, row_from_below}
 use Rattle.rtui_bars.specs.BarAreas.{rows_at, middle_columns, cells_along, bar_part, area_behind}
 use Rattle.ratatui_core.specs.declared.symbols.bar.Set.{Set as BarSet}
@@ -273,10 +273,6 @@ ShowsChart c r = DoesIf (not (c.bar_width == 0)) (RendersGroups c r c.groups.ite
 -- outside the area changes.
 abbrev pub RendersBarChart : BarChart → Rect → BufferData → BufferData → Type 0
 RendersBarChart c = RendersInFrame c.style c.block (ShowsChart c)
-
--- what a chart finds out before it renders: the value that fills it, and the columns of its labels
-abbrev pub measures_of : BarChart → Measures
-measures_of c = record { greatest = greatest_of_chart c; labels = label_columns c }
 
 -- the texts of a bar, of a group and of a chart, and the symbols of its bars, take one column for each
 -- grapheme

@@ -4,7 +4,8 @@ ghost use Rattle.std.specs.Prelude.{◌≡◌, ◌≤◌, Some, None, OnOk, IfOk
 ghost use Rattle.std.specs.Cmp.Lexicographic.{pointwise};
 ghost use Rattle.ratatui_core.specs.Widgets.{ChangesWithin};
 ghost use Rattle.rtui_boxes.specs.Boxes.{IsBoxArea};
-ghost use Rattle.rtui_bars.specs.BarCharts.{IsNewBarChart, IsLyingBarChart, measures_of};
+ghost use Rattle.rtui_bars.specs.BarCharts.{IsNewBarChart, IsLyingBarChart};
+ghost use Rattle.rtui_bars.specs.Inner.{measures_of};
 ghost use Rattle.rtui_bars.specs.BarCharts.{greatest_bar, greatest_of_chart, ShowsChart, bar_label_width};
 ghost use Rattle.rtui_bars.specs.BarCharts.{widest_bar_label, widest_label, label_columns};
 

@@ -13,7 +13,8 @@ ghost use Rattle.rtui_bars.specs.BarCharts.{greatest_of_chart, has_label, has_la
 ghost use Rattle.rtui_bars.specs.BarCharts.{bar_label_rows, has_group_labels, group_label_rows, bar_rows};
 ghost use Rattle.rtui_bars.specs.BarAreas.{cells_along, rows_at};
 ghost use Rattle.rtui_boxes.specs.Titles.{DoesIf};
-ghost use Rattle.rtui_bars.specs.BarCharts.{WritesText, RendersBarLabel, is_written, measures_of};
+ghost use Rattle.rtui_bars.specs.BarCharts.{WritesText, RendersBarLabel, is_written};
+ghost use Rattle.rtui_bars.specs.Inner.{measures_of};
 ghost use Rattle.rtui_bars.specs.BarCharts.{label_columns, text_of_bar, chart_cell, RendersTallBar};
 ghost use Rattle.rtui_bars.specs.BarCharts.{RendersBar};
 ghost use Rattle.rtui_bars.specs.BarCharts.{RendersBars, after_bars, fitting_count, shown_bars, bars_columns};

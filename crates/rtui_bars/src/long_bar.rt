@@ -7,7 +7,8 @@ ghost use Rattle.ratatui_core.specs.Buffer.{ChangesEach};
 ghost use Rattle.ratatui_core.specs.Style.{patch};
 ghost use Rattle.rtui_boxes.specs.Boxes.{IsBoxArea};
 ghost use Rattle.rtui_boxes.specs.{Titles.DoesIf, Lines.RendersIfLine};
-ghost use Rattle.rtui_bars.specs.BarCharts.{measures_of, long_cell, filled_cells, text_of_bar};
+ghost use Rattle.rtui_bars.specs.BarCharts.{long_cell, filled_cells, text_of_bar};
+ghost use Rattle.rtui_bars.specs.Inner.{measures_of};
 ghost use Rattle.rtui_bars.specs.BarCharts.{WritesOver, RendersLongBar};
 
 use crate::area::{beside_labels, first_columns, rows_at};

@@ -11,8 +11,10 @@ use Rattle.rtui_boxes.specs.{declared.block.Block.Block, Titles.RendersTitles, d
 use Rattle.ratatui_core.specs.Widgets.{IsClipped}
 use Rattle.ratatui_core.proofs.WidgetLemmas.{within-styled, within-then, OnPart-none, OnPart-clipped}
 use Rattle.rtui_boxes.specs.declared.title.TitlePosition.TheVariants.{Top, Bottom}
-use Rattle.rtui_boxes.specs.Boxes.{Stroke, stroke, strokes, is_in, strikes, stroked, drawn, IsShortUnder, DrawsStrokes, IsBoxArea}
-use Rattle.rtui_boxes.specs.Boxes.{titles_area, has_title, IsOffTitles, KeepsOffTitles, box_cell, placed_titles, RendersTitled}
+use Rattle.rtui_boxes.specs.Boxes.{Stroke, stroke, strokes, is_in, strikes, stroked, drawn, IsShortUnder, IsBoxArea}
+use Rattle.rtui_boxes.specs.Inner.{DrawsStrokes}
+use Rattle.rtui_boxes.specs.Boxes.{titles_area, has_title, IsOffTitles, box_cell, placed_titles, RendersTitled}
+use Rattle.rtui_boxes.specs.Inner.{KeepsOffTitles}
 use Rattle.rtui_boxes.specs.Boxes.{RendersBlock, IsShortBlock}
 use Rattle.ratatui_core.proofs.BufferLemmas.{Changes-within, within-same, within-wider, on-ok}
 

@@ -1,8 +1,8 @@
 -- A box: which symbols stand where, and what is inside.
 use Rattle.std.specs.Prelude.{◌≡◌, ℕ, Bool, true, false, ◌&&◌, ◌||◌, ◌==◌, ◌+◌, ◌-◌, ◌≤◌, ◌<◌, nat_le, nat_lt}
 use Rattle.std.specs.Prelude.{min, Option, Some, None, List, [], ◌∷◌, ◌++◌, if◌then◌else◌, unwrap_or, map}
-use Rattle.std.specs.Prelude.{filter, reverse, All, ⊤, Result, IsOk, OnOk}
-use Rattle.std.specs.{List.list_any, Int.RustNames.bit_and, declared.alloc.AllocError.AllocError}
+use Rattle.std.specs.Prelude.{filter, reverse, All, ⊤}
+use Rattle.std.specs.{List.list_any, Int.RustNames.bit_and}
 use Rattle.ratatui_core.specs.Layout.{Rect, Position, HasPosition, right_edge, bottom_edge, intersected}
 use Rattle.ratatui_core.specs.Symbols.{border_texts, plain_border}
 use Rattle.ratatui_core.specs.{Style.Style, Style.new_style, Text.LineData}
@@ -191,13 +191,6 @@ IsShortUnder b (s ∷ ss) p c =
     (strikes s p ≡ true → IsShort (joined b.merge_borders c.symbol s.symbol))
     × IsShortUnder b ss p (if strikes s p then drawn b.merge_borders b.border_style s.symbol c else c)
 
--- strokes within an area are drawn, or memory is refused; nothing outside the area changed
-pub record DrawsStrokes {A : Type 0} (b : Block) (area : Rect) (ss : List Stroke)
-    (result : Result A AllocError) (old new : BufferData) : Type 0 where
-  pub within : ChangesWithin area old new
-  pub ok : OnOk result (MakesEach (stroked b ss) old new)
-  pub short : ((p : Position) → HasPosition old.area p → IsShortUnder b ss p (cell_in old p)) → IsOk result
-
 -- all strokes of a box: the sides, and then the corners
 abbrev pub strokes : Block → Rect → List Stroke
 strokes b r = side_strokes b r ++ corner_strokes b r
@@ -221,12 +214,6 @@ titles_area b r position =
 pub record IsOffTitles (b : Block) (r : Rect) (p : Position) : Type 0 where
   pub first : has_title b Top ≡ true → ¬ (HasPosition (titles_area b r Top) p)
   pub last : has_title b Bottom ≡ true → ¬ (HasPosition (titles_area b r Bottom) p)
-
--- only if titles stand a buffer changed
-pub record KeepsOffTitles (b : Block) (r : Rect) (old new : BufferData) : Type 0 where
-  pub area : new.area ≡ old.area
-  pub room : new.room ≡ old.room
-  pub at : (p : Position) → HasPosition old.area p → IsOffTitles b r p → cell_in new p ≡ cell_in old p
 
 -- a cell at a position of a box over a rectangle: in the style of the box, and the strokes over it; beside
 -- the box as before

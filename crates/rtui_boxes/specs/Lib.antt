@@ -6,3 +6,4 @@ pub mod Clears
 pub mod Framed
 pub mod Kinds
 pub mod Names
+pub mod Inner

@@ -11,7 +11,8 @@ use Rattle.rtui_boxes.proofs.FrameLemmas.{lies-in}
 use Rattle.rtui_dots.specs.declared.{scale.Scale.Scale, painter.DotCell.DotCell, painter.Painter.Painter, drawing.Drawing.Drawing}
 use Rattle.rtui_dots.specs.Grids.{Dot, empty_grid, no_dots, with_dots, SetsDots}
 use Rattle.rtui_dots.specs.Layers.{is_layer, drawn_dots, with_first, layers_of}
-use Rattle.rtui_canvas.specs.Canvases.{shown_at, ShowsDots, ShowsLayers, DrawsNext, label_from}
+use Rattle.rtui_canvas.specs.Canvases.{shown_at, ShowsDots, ShowsLayers, label_from}
+use Rattle.rtui_canvas.specs.Inner.{DrawsNext}
 use Rattle.rtui_dots.proofs.GridLemmas.{with_dots-append, with_dots-length}
 
 -- layers of which the first one begins with the dots of a grid

@@ -1,6 +1,6 @@
 -- A canvas: what its dots and labels make of a buffer.
-use Rattle.std.specs.Prelude.{◌≡◌, ℕ, true, false, ◌+◌, ◌-◌, ◌*◌, ◌==◌, List, [], ◌∷◌, pos, length}
-use Rattle.std.specs.Prelude.{replicate, None, slice_index_or, encode_utf8, ◌<◌, ◌≤◌, if◌then◌else◌}
+use Rattle.std.specs.Prelude.{◌≡◌, ℕ, ◌+◌, ◌-◌, ◌*◌, ◌==◌, List, [], ◌∷◌, pos}
+use Rattle.std.specs.Prelude.{None, slice_index_or, encode_utf8, ◌<◌, ◌≤◌, if◌then◌else◌}
 use Rattle.ratatui_core.specs.Layout.{Rect, Position}
 use Rattle.ratatui_core.specs.Text.{LineData}
 use Rattle.ratatui_core.specs.Style.{Reset, new_style, with_bg}
@@ -10,12 +10,11 @@ use Rattle.ratatui_core.specs.declared.symbols.Marker.{Marker}
 use Rattle.ratatui_core.specs.declared.symbols.Marker.TheVariants.{Braille, HalfBlock, Bar, Dot, Custom}
 use Rattle.rtui_boxes.specs.Titles.{InTurn, DoesIf, title_width, first_columns}
 use Rattle.rtui_boxes.specs.Framed.{RendersInFrame}
-use Rattle.rtui_dots.specs.declared.{scale.Scale.Scale, painter.DotCell.DotCell, painter.Painter.Painter}
-use Rattle.rtui_dots.specs.declared.{drawing.Drawing.Drawing}
+use Rattle.rtui_dots.specs.declared.{scale.Scale.Scale, painter.DotCell.DotCell}
 use Rattle.rtui_canvas.specs.declared.{label.Label.Label, canvas.Canvas.Canvas}
 use Rattle.rtui_dots.specs.Grids.{Dot as GridDot, has_point, column_of_cell, row_of_cell, no_dots, empty_grid}
-use Rattle.rtui_dots.specs.Grids.{with_dots, SetsDots}
-use Rattle.rtui_dots.specs.Layers.{is_layer, drawn_dots, layers_of}
+use Rattle.rtui_dots.specs.Grids.{with_dots}
+use Rattle.rtui_dots.specs.Layers.{layers_of}
 
 -- the character of a cell's dots
 abbrev pub dot_mark : Marker → ℕ → ℕ
@@ -54,15 +53,6 @@ abbrev pub ShowsLayers : Scale → Rect → List (List GridDot) → BufferData �
 ShowsLayers s r [] old new = new ≡ old
 ShowsLayers s r (layer ∷ layers) old new = InTurn (ShowsDots s r layer (empty_grid s))
     (ShowsLayers s r layers) old new
-
--- what comes next is drawn by a grid: the beginning of a layer shows its dots and takes them away, and a
--- shape sets more of them
-pub record DrawsNext (d : Drawing) (r : Rect) (p q : Painter) (old new : BufferData) : Type 0 where
-  pub shows : is_layer d ≡ true → ChangesEach r (shown_at p.scale r p.cells.items) old new
-  pub clears : is_layer d ≡ true → q.cells.items ≡ replicate (length p.cells.items) no_dots
-  pub paints : is_layer d ≡ false → SetsDots (drawn_dots d p.scale) p q
-  pub same : is_layer d ≡ false → new ≡ old
-  pub scale : q.scale ≡ p.scale
 
 -- a row from a cell on, and so many columns of it as a line has
 abbrev pub label_from : Rect → ℕ → ℕ → LineData → Rect

@@ -1,1 +1,2 @@
 pub mod Canvases
+pub mod Inner

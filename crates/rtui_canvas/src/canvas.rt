@@ -3,7 +3,8 @@
 ghost use Rattle.std.specs.Prelude.{◌≡◌, Some, OnOk, IfOk, slice_index_or, pos, true};
 ghost use Rattle.ratatui_core.specs.Widgets.{ChangesWithin};
 ghost use Rattle.rtui_boxes.specs.Boxes.{IsBoxArea};
-ghost use Rattle.rtui_canvas.specs.Canvases.{IsNewCanvas, scale_of, ShowsLayers, DrawsNext, RendersLabels};
+ghost use Rattle.rtui_canvas.specs.Canvases.{IsNewCanvas, scale_of, ShowsLayers, RendersLabels};
+ghost use Rattle.rtui_canvas.specs.Inner.{DrawsNext};
 ghost use Rattle.rtui_canvas.specs.Canvases.{ShowsCanvas};
 ghost use Rattle.rtui_dots.specs.Layers.{layers_of};
 

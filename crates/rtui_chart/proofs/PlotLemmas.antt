@@ -5,7 +5,8 @@ use Rattle.std.specs.{Char.encode_utf8}
 use Rattle.std.proofs.lemmas.{Bool.cases_lt}
 use Rattle.std.proofs.Math.Nat.{mul-div-le, mul-le-mul_right, mul-zero}
 use Rattle.ratatui_core.specs.{Layout.Rect, Layout.IsInside, Style.Style, Text.LineData}
-use Rattle.rtui_chart.specs.{ChartLayouts.widest_line, Legends.with_name, Legends.name_count, Legends.name_columns}
+use Rattle.rtui_chart.specs.{ChartLayouts.widest_line, Legends.with_name}
+use Rattle.rtui_chart.specs.Inner.{name_count, name_columns}
 use Rattle.rtui_chart.specs.{Inner.AreLabelRows}
 
 -- n shares of so many columns: those before one of them and its own are among all of them

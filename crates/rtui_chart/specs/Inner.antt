@@ -1,11 +1,11 @@
 -- What the functions of a chart promise one another.
-use Rattle.std.specs.Prelude.{ℕ, ◌≡◌, ◌+◌, ◌<◌, ◌≤◌, min, List}
-use Rattle.ratatui_core.specs.{Layout.Rect, Layout.IsInside}
-use Rattle.ratatui_core.specs.{Text.LineData, Buffer.BufferData}
+use Rattle.std.specs.Prelude.{ℕ, ◌≡◌, ◌+◌, ◌<◌, ◌≤◌, min, List, Option, Some, None}
+use Rattle.ratatui_core.specs.{Layout.Rect, Layout.IsInside, Text.LineData, Buffer.BufferData}
 use Rattle.rtui_boxes.specs.Boxes.{IsBoxArea}
-use Rattle.rtui_chart.specs.declared.{dataset.Dataset.Dataset}
+use Rattle.rtui_chart.specs.declared.{dataset.Dataset.Dataset, layout.ChartLayout.ChartLayout}
+use Rattle.rtui_chart.specs.declared.{legend.LegendSize.LegendSize}
 use Rattle.rtui_chart.specs.{ChartParts.RendersNumbered, Legends.with_name, Legends.name_at}
-use Rattle.rtui_chart.specs.declared.{layout.ChartLayout.ChartLayout, legend.LegendSize.LegendSize}
+use Rattle.rtui_boxes.specs.Titles.{title_width}
 
 -- an area whose columns are among those of another one, whose edges are at most 65535
 pub record AreLabelRows (g r : Rect) : Type 0 where
@@ -39,3 +39,12 @@ abbrev pub RendersNext : Rect → Dataset → ℕ → ℕ → BufferData → Buf
 RendersNext r d i n old new = (names : List LineData) (last : BufferData)
     → RendersNumbered (name_at r) n names new last
     → RendersNumbered (name_at r) i (with_name d.name d.style names) old last
+
+-- how many names a data set has, and the columns of its name
+abbrev pub name_count : Option LineData → ℕ
+name_count None = 0
+name_count (Some line) = 1
+
+abbrev pub name_columns : Option LineData → ℕ
+name_columns None = 0
+name_columns (Some line) = title_width line

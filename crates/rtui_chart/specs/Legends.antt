@@ -7,7 +7,7 @@ use Rattle.ratatui_core.specs.declared.layout.Constraint.{Constraint}
 use Rattle.ratatui_core.specs.declared.layout.Constraint.TheVariants.{Min, Max, Length}
 use Rattle.ratatui_core.specs.declared.layout.Constraint.TheVariants.{Percentage, Ratio, Fill}
 use Rattle.rtui_boxes.specs.{declared.block.Block.Block, Boxes.RendersBlock, Boxes.IsNewBlock}
-use Rattle.rtui_boxes.specs.Titles.{PlacedTitle, title_at, title_width}
+use Rattle.rtui_boxes.specs.Titles.{PlacedTitle, title_at}
 use Rattle.rtui_chart.specs.declared.{dataset.Dataset.Dataset, legend.LegendPosition.LegendPosition}
 use Rattle.rtui_chart.specs.declared.legend.LegendPosition.TheVariants.{Top, TopRight, TopLeft}
 use Rattle.rtui_chart.specs.declared.legend.LegendPosition.TheVariants.{Left as AtLeft, Right as AtRight}
@@ -22,15 +22,6 @@ with_name (Some line) style names = (record line { style = patch line.style styl
 abbrev pub legend_names : List Dataset → List LineData
 legend_names [] = []
 legend_names (d ∷ ds) = with_name d.name d.style (legend_names ds)
-
--- how many names a data set has, and the columns of its name
-abbrev pub name_count : Option LineData → ℕ
-name_count None = 0
-name_count (Some line) = 1
-
-abbrev pub name_columns : Option LineData → ℕ
-name_columns None = 0
-name_columns (Some line) = title_width line
 
 -- how many columns or rows a constraint leaves of so many: a number of them, a share to the nearest whole
 -- number, the greater one of two as near, or all

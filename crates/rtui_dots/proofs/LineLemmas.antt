@@ -5,7 +5,8 @@ use Rattle.std.proofs.lemmas.Bool.{cases_lt}
 use Rattle.rtui_style.specs.declared.color.Color.{Color}
 use Rattle.rtui_dots.specs.declared.{scale.Scale.Scale, painter.DotCell.DotCell, painter.Painter.Painter, line.Run.Run}
 use Rattle.rtui_dots.specs.Grids.{Dot, is_open, dot_column, dot_row, with_dot, with_dots, has_dot, far, SetsDots}
-use Rattle.rtui_dots.specs.Lines.{gone_after, dots_from, dot_by, run_dot, run_dots, run_of, across_at, places_along}
+use Rattle.rtui_dots.specs.Lines.{gone_after, dots_from, dot_by, run_dot, run_dots, run_of, across_at}
+use Rattle.rtui_dots.specs.Inner.{places_along}
 use Rattle.rtui_dots.specs.Shapes.{dots_between}
 use Rattle.rtui_dots.proofs.GridLemmas.{with_dots-append}
 

@@ -3,3 +3,4 @@ pub mod Lines
 pub mod Circles
 pub mod Shapes
 pub mod Layers
+pub mod Inner

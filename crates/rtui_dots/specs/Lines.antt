@@ -3,8 +3,8 @@ use Rattle.std.specs.Prelude.{ℕ, ◌+◌, ◌-◌, ◌*◌, ◌/◌, Bool, tru
 use Prim.Native.Nat.{zero, suc}
 use Rattle.std.specs.Int.{abs_diff}
 use Rattle.rtui_style.specs.declared.color.Color.{Color}
-use Rattle.rtui_dots.specs.{declared.line.Run.Run, declared.scale.Scale.Scale}
-use Rattle.rtui_dots.specs.Grids.{Dot, dot_columns, dot_rows}
+use Rattle.rtui_dots.specs.{declared.line.Run.Run}
+use Rattle.rtui_dots.specs.Grids.{Dot}
 
 -- A run: from its first place a line goes along its longer side, a column or a row each step, and goes across
 -- by its shorter one.
@@ -60,7 +60,3 @@ run_between flat along across along' across' =
 abbrev pub run_of : ℕ → ℕ → ℕ → ℕ → Run
 run_of x y x' y' =
     if nat_lt (abs_diff y y') (abs_diff x x') then run_between true x y x' y' else run_between false y x y' x'
-
--- how many places a grid has along its rows, or along its columns
-abbrev pub places_along : Bool → Scale → ℕ
-places_along flat s = if flat then dot_columns s else dot_rows s

@@ -4,7 +4,8 @@ ghost use Rattle.std.specs.Prelude.{◌≡◌, ◌≤◌, ◌<◌, ◌+◌, ◌-
 ghost use Rattle.std.specs.Int.{abs_diff};
 ghost use Rattle.rtui_dots.specs.Grids.{SetsDots};
 ghost use Rattle.rtui_dots.specs.Lines.{gone_after, across_at, dot_by, run_dot, dots_from, run_dots, run_on};
-ghost use Rattle.rtui_dots.specs.Lines.{run_between, run_of, places_along};
+ghost use Rattle.rtui_dots.specs.Lines.{run_between, run_of};
+ghost use Rattle.rtui_dots.specs.Inner.{places_along};
 ghost use Rattle.rtui_dots.specs.Shapes.{dots_between};
 
 use crate::painter::Painter;

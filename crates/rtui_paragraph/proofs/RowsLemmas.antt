@@ -19,7 +19,8 @@ use Rattle.rtui_paragraph.specs.Reflow.{grapheme_columns, columns_taken, words_o
 use Rattle.rtui_paragraph.specs.Reflow.{after_columns, fits_row, split_row, rows_within, broken_rows}
 use Rattle.rtui_paragraph.specs.Paragraphs.{TextRow, alignment_of, graphemes_of, IsSingleGrapheme, row_pieces}
 use Rattle.rtui_paragraph.specs.Paragraphs.{aligned_rows, cut_line, broken_line, rows_of_lines, rows_shown, indent_of}
-use Rattle.rtui_paragraph.specs.Paragraphs.{PaintsGrapheme, PaintsGraphemes, PaintsRow, PaintsRows, PaintsOn}
+use Rattle.rtui_paragraph.specs.Paragraphs.{PaintsGrapheme, PaintsGraphemes, PaintsRow, PaintsRows}
+use Rattle.rtui_paragraph.specs.Inner.{PaintsOn}
 use Rattle.rtui_paragraph.proofs.ReflowLemmas.{split_row-is, fit-past, count-fits, columns-next}
 
 -- a row that fits ends in its area

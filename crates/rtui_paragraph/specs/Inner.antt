@@ -1,10 +1,14 @@
 -- What is left of a line that is broken, of which as much is held as its next row needs, and of one that is
 -- cut.
-use Rattle.std.specs.Prelude.{◌≡◌, ℕ, ◌-◌, ◌<◌, ◌≤◌, ◌⊎◌, Bool, true, List, [], ◌++◌, length, filter, drop}
+use Rattle.std.specs.Prelude.{◌≡◌, ℕ, ◌-◌, ◌<◌, ◌≤◌, ◌⊎◌, Bool, true, List, [], ◌++◌, length}
+use Rattle.std.specs.Prelude.{filter, drop, ◌+◌}
 use Rattle.ratatui_core.specs.Text.{GraphemeData, line_graphemes_left}
 use Rattle.rtui_paragraph.specs.declared.{ahead.Ahead.Ahead, cut.Cut.Cut}
 use Rattle.rtui_paragraph.specs.Reflow.{columns_taken, fits_row, trimmed_start, after_columns}
 use Rattle.rtui_paragraph.specs.Reflow.{fitting_front}
+use Rattle.ratatui_core.specs.{Layout.Rect, Style.Style}
+use Rattle.ratatui_core.specs.Buffer.{BufferData}
+use Rattle.rtui_paragraph.specs.Paragraphs.{TextRow, PaintsRows, rows_shown}
 
 -- how many columns stand after the blanks that are left out before a row
 abbrev pub columns_ahead : Bool → List GraphemeData → ℕ
@@ -47,3 +51,15 @@ left_of_cut c = fitting_front (c.width - c.used)
 pub record IsCut (c : Cut) : Type 0 where
   pub within : c.used ≤ c.width
   pub start : 0 < c.offset → c.used ≡ 0
+
+-- a grapheme in a style
+abbrev pub grapheme_in : Style → List ℕ → GraphemeData
+grapheme_in style symbol = record { symbol = symbol; style = style }
+
+-- A call paints the next rows from row k of an area on, up to row n, and has as many fewer to skip: whatever
+-- rows come after these, to go on with those is to paint all.
+abbrev pub PaintsOn : Rect → ℕ → ℕ → ℕ → ℕ → List TextRow → BufferData → BufferData → Type 0
+PaintsOn r k n skip skip_then rows old now =
+    (more : List TextRow) (new : BufferData)
+    → PaintsRows r (r.y + n) (rows_shown (r.height - n) skip_then more) now new
+    → PaintsRows r (r.y + k) (rows_shown (r.height - k) skip (rows ++ more)) old new

@@ -1,8 +1,8 @@
 -- A paragraph: its rows, and what it changes.
 use Rattle.std.specs.Prelude.{◌≡◌, ℕ, ◌+◌, ◌-◌, ◌/◌, ◌==◌, min, length, if◌then◌else◌, nat_lt, false, List}
-use Rattle.std.specs.Prelude.{[], ◌∷◌, ◌++◌, map, filter, take, drop, Option, Some, None, unwrap_or, All, ◌^◌}
+use Rattle.std.specs.Prelude.{[], ◌∷◌, map, filter, take, drop, Option, Some, None, unwrap_or, All, ◌^◌}
 use Rattle.std.specs.List.{flat_map}
-use Rattle.ratatui_core.specs.{Layout.Rect, Layout.EdgesFit, Style.Style, Style.new_style, Style.patch}
+use Rattle.ratatui_core.specs.{Layout.Rect, Layout.EdgesFit, Style.new_style, Style.patch}
 use Rattle.ratatui_core.specs.{declared.layout.HorizontalAlignment.HorizontalAlignment}
 use Rattle.ratatui_core.specs.Text.{GraphemeData, LineData, TextData, line_graphemes, has_control}
 use Rattle.ratatui_core.specs.declared.layout.HorizontalAlignment.TheVariants.{Left, Center, Right}
@@ -80,10 +80,6 @@ indent_of Left width room = 0
 indent_of Center width room = room / 2 - width / 2
 indent_of Right width room = room - width
 
--- a grapheme in a style
-abbrev pub grapheme_in : Style → List ℕ → GraphemeData
-grapheme_in style symbol = record { symbol = symbol; style = style }
-
 -- a grapheme painted in the columns that it takes
 abbrev pub PaintsGrapheme : ℕ → ℕ → GraphemeData → BufferData → BufferData → Type 0
 PaintsGrapheme x y g old new = PaintsPieces (position_of (x, y))
@@ -117,14 +113,6 @@ PaintsRows r y (row ∷ rows) old new = InTurn (PaintsRow r y row) (PaintsRows r
 -- the rows of these that an area of this height shows, without the first ones
 abbrev pub rows_shown : ℕ → ℕ → List TextRow → List TextRow
 rows_shown height skip rows = take height (drop skip rows)
-
--- A call paints the next rows from row k of an area on, up to row n, and has as many fewer to skip: whatever
--- rows come after these, to go on with those is to paint all.
-abbrev pub PaintsOn : Rect → ℕ → ℕ → ℕ → ℕ → List TextRow → BufferData → BufferData → Type 0
-PaintsOn r k n skip skip_then rows old now =
-    (more : List TextRow) (new : BufferData)
-    → PaintsRows r (r.y + n) (rows_shown (r.height - n) skip_then more) now new
-    → PaintsRows r (r.y + k) (rows_shown (r.height - k) skip (rows ++ more)) old new
 
 -- a paragraph's text in an area: the rows that it shows
 abbrev pub FillsText : Paragraph → Rect → BufferData → BufferData → Type 0

@@ -16,7 +16,8 @@ use Rattle.ratatui_core.proofs.{WidgetLemmas.within-styled}
 use Rattle.rtui_boxes.proofs.ElementLemmas.{element-next}
 use Rattle.rtui_list.specs.Items.{is_selected_at}
 use Rattle.rtui_table.specs.{declared.table.Table.Table as TableData, declared.cell.Cell.Cell, declared.row.Row.Row}
-use Rattle.rtui_table.specs.Rows.{PlacedRow, stacked_rows, cells_area, above, below, full_height, IsTableArea}
+use Rattle.rtui_table.specs.Rows.{PlacedRow, stacked_rows, cells_area, above, below, full_height}
+use Rattle.rtui_table.specs.Inner.{IsTableArea}
 use Rattle.rtui_table.specs.Tables.{TablePart, style_part, RendersTablePart, RendersTableParts, cell_parts, in_column}
 use Rattle.rtui_table.specs.Tables.{placed_row_parts, rows_parts, selected_row_area, selected_column_area, area_if}
 use Rattle.rtui_table.specs.Tables.{highlight_parts, RendersIfText}

@@ -25,12 +25,6 @@ first_rows n r = record r { height = min n r.height }
 abbrev pub cells_area : Row → Rect → Rect
 cells_area row r = first_rows row.height (below row.top_margin r)
 
--- an area with columns, whose edges are at most 65535
-pub record IsTableArea (r : Rect) : Type 0 where
-  pub columns : 0 < r.width
-  pub across : r.x + r.width ≤ 65535
-  pub down : r.y + r.height ≤ 65535
-
 -- the header stands above the rows, and the footer below them; if they don't fit the header is shown first
 abbrev pub height_if : Option Row → ℕ
 height_if None = 0

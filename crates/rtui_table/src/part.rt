@@ -3,7 +3,8 @@
 ghost use Rattle.std.specs.Prelude.{◌≡◌, ◌≤◌, ◌<◌, ◌+◌, drop, length, OnOk, IfOk};
 ghost use Rattle.ratatui_core.specs.Layout.{IsInside, corner};
 ghost use Rattle.ratatui_core.specs.Widgets.{ChangesWithin};
-ghost use Rattle.rtui_table.specs.Rows.{IsTableArea, cells_area, stacked_rows};
+ghost use Rattle.rtui_table.specs.Rows.{cells_area, stacked_rows};
+ghost use Rattle.rtui_table.specs.Inner.{IsTableArea};
 ghost use Rattle.rtui_table.specs.Tables.{cell_parts, symbol_parts, symbol_if, row_parts, rows_parts};
 ghost use Rattle.rtui_table.specs.Tables.{outer_parts, area_if, selected_row_area, selected_column_area};
 ghost use Rattle.rtui_table.specs.Tables.{in_column, highlight_parts, body_parts, placed_rows};

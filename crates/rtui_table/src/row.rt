@@ -2,7 +2,8 @@
 
 ghost use Rattle.std.specs.Prelude.{◌≡◌, ◌≤◌, ◌<◌, ◌+◌, min, IfOk, true};
 ghost use Rattle.ratatui_core.specs.Style.{new_style};
-ghost use Rattle.rtui_table.specs.Rows.{full_height, upper_height, cells_area, below, above, IsTableArea};
+ghost use Rattle.rtui_table.specs.Rows.{full_height, upper_height, cells_area, below, above};
+ghost use Rattle.rtui_table.specs.Inner.{IsTableArea};
 
 use crate::cell::Cell;
 use ratatui_core::layout::Rect;

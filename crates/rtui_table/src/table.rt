@@ -5,7 +5,8 @@ ghost use Rattle.std.specs.Cmp.Lexicographic.{pointwise};
 ghost use Rattle.ratatui_core.specs.Layout.{inner, IsSplit};
 ghost use Rattle.ratatui_core.specs.Widgets.{ChangesWithin};
 ghost use Rattle.rtui_boxes.specs.Boxes.{IsBoxArea};
-ghost use Rattle.rtui_table.specs.Rows.{height_if, IsTableArea};
+ghost use Rattle.rtui_table.specs.Rows.{height_if};
+ghost use Rattle.rtui_table.specs.Inner.{IsTableArea};
 ghost use Rattle.rtui_table.specs.Tables.{IsNewTable, column_count, same_widths, layout_of, symbol_columns};
 ghost use Rattle.rtui_table.specs.Tables.{AreColumns, IsNextState, ShowsTable, cells_if, within_count};
 

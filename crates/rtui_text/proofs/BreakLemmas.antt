@@ -4,7 +4,8 @@ use Rattle.std.proofs.Common.{slice_index}
 use Rattle.std.proofs.lemmas.{Bool.or_parts, Bool.cond_both, Bool.Decides.nat_tests}
 use Rattle.std.specs.{List.list_any, List.slice_split, List.onto_first, Str.Lines.lines, Str.Lines.lines_of_parts}
 use Rattle.std.specs.{Str.Lines.strip_carriage_return}
-use Rattle.rtui_text.specs.Text.{IsUnbroken, raw_line, line_of, unstyled}
+use Rattle.rtui_text.specs.Text.{raw_line, line_of, unstyled}
+use Rattle.rtui_text.specs.Inner.{IsUnbroken}
 
 unbroken-one : (x : List ℕ) → IsUnbroken x → slice_split (λ b. b == 10) x ≡ x ∷ []
 unbroken-one [] e = refl

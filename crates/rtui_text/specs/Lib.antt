@@ -6,3 +6,4 @@ pub mod Display
 pub mod Masked
 pub mod LineHead
 pub mod Hashing
+pub mod Inner

@@ -1,7 +1,7 @@
 -- Styled texts as data. A text is the list of its bytes.
-use Rattle.std.specs.Prelude.{◌≡◌, ℕ, ◌==◌, false, List, [], ◌∷◌, ◌++◌, Option, None, map, length}
+use Rattle.std.specs.Prelude.{ℕ, ◌==◌, List, [], ◌∷◌, ◌++◌, Option, None, map, length}
 use Rattle.std.specs.Prelude.{if◌then◌else◌}
-use Rattle.std.specs.{List.list_any, Str.Lines.lines}
+use Rattle.std.specs.{Str.Lines.lines}
 use Rattle.rtui_layout.specs.declared.alignment.HorizontalAlignment.{HorizontalAlignment}
 use Rattle.rtui_style.specs.{declared.Style.Style, Style.new_style}
 
@@ -13,10 +13,6 @@ pub record SpanData : Type 0 where
 -- a text in the style that changes nothing
 abbrev pub unstyled : List ℕ → SpanData
 unstyled text = record { style = new_style; content = text }
-
--- a text without line breaks
-abbrev pub IsUnbroken : List ℕ → Type 0
-IsUnbroken text = list_any (λ b. b == 10) text ≡ false
 
 -- spans in a row, with the style of the whole and an alignment, if it has one
 pub record LineData : Type 0 where

@@ -13,7 +13,8 @@ ghost use Rattle.rtui_text.specs.contracts.span.SpanHash.TheImpl.Laws.{respects_
 ghost use Rattle.rtui_text.specs.contracts.line.LineHeadEq.TheImpl.Laws.{laws-law as head_laws};
 ghost use Rattle.rtui_text.specs.contracts.line.LineHeadHash.TheImpl.Laws.{respects_eq-law as head_hashes};
 ghost use Rattle.rtui_style.specs.Style.{patch, reset_style};
-ghost use Rattle.rtui_text.specs.Text.{IsUnbroken, SpanData, line_of, raw_line, text_of, with_span};
+ghost use Rattle.rtui_text.specs.Text.{SpanData, line_of, raw_line, text_of, with_span};
+ghost use Rattle.rtui_text.specs.Inner.{IsUnbroken};
 ghost use Rattle.rtui_text.specs.Widths.{line_width};
 ghost use Rattle.rtui_text.specs.Graphemes.{line_graphemes, line_graphemes_left};
 ghost use Rattle.rtui_text.specs.Display.{line_content, printed_spans};

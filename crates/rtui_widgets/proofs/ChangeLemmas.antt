@@ -8,7 +8,8 @@ use Rattle.rtui_cell.specs.{declared.cell.Cell.Cell, Cell.empty_cell}
 use Rattle.rtui_buffer.specs.BufferData.{BufferData, cell_in, with_cell, cell_index, position_of}
 use Rattle.rtui_widgets.specs.Rendering.{ChangesWithin}
 use Rattle.rtui_buffer.specs.Clipped.{IsClipped}
-use Rattle.rtui_widgets.specs.Changes.{ChangesEach, row_part, place_at, IsRowOfArea, AreLight}
+use Rattle.rtui_widgets.specs.Changes.{ChangesEach, place_at, AreLight}
+use Rattle.rtui_widgets.specs.Inner.{row_part, IsRowOfArea}
 
 -- the first columns of a row of a rectangle, up to one
 abbrev pub columns_to : Rect → ℕ → ℕ → Rect

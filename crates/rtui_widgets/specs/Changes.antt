@@ -1,7 +1,7 @@
 -- A change of each cell of an area, by its position.
-use Rattle.std.specs.Prelude.{◌≡◌, ℕ, ◌≤◌, ◌<◌}
+use Rattle.std.specs.Prelude.{◌≡◌}
 use Rattle.rtui_geometry.specs.{declared.rect.Rect.Rect, declared.position.Position.Position}
-use Rattle.rtui_geometry.specs.{Rect.HasPosition, Rect.bottom_edge}
+use Rattle.rtui_geometry.specs.{Rect.HasPosition}
 use Rattle.rtui_cell.specs.declared.cell.Cell.{Cell}
 use Rattle.rtui_buffer.specs.BufferData.{BufferData, cell_in}
 
@@ -21,15 +21,6 @@ pub record MakesEach (f : Position → Cell → Cell) (old new : BufferData) : T
 -- a change of each cell of an area that the buffer has takes no memory
 abbrev pub AreLight : (Position → Cell → Type 0) → Rect → BufferData → Type 0
 AreLight is_light r s = (p : Position) → HasPosition s.area p → HasPosition r p → is_light p (cell_in s p)
-
--- a row's part of a rectangle
-abbrev pub row_part : Rect → ℕ → Rect
-row_part r y = record { x = r.x; y = y; width = r.width; height = 1 }
-
--- the rectangle has this row
-pub record IsRowOfArea (r : Rect) (y : ℕ) : Type 0 where
-  pub top : r.y ≤ y
-  pub bottom : y < bottom_edge r
 
 -- one position as a rectangle
 abbrev pub place_at : Position → Rect

@@ -1,6 +1,6 @@
 -- What private functions promise one another.
-use Rattle.std.specs.Prelude.{ℕ, ◌+◌, ◌*◌, ◌<◌, ◌≤◌, ◌≡◌, ◌⊎◌, List, length, take, drop, Bool, ◌-◌, ◌||◌}
-use Rattle.std.specs.Prelude.{◌&&◌, nat_lt, Some, if◌then◌else◌, slice_index_or, slice_set}
+use Rattle.std.specs.Prelude.{ℕ, ◌+◌, ◌*◌, ◌<◌, ◌≤◌, ◌≡◌, ◌⊎◌, List, length, take, drop, Bool, ◌-◌}
+use Rattle.std.specs.Prelude.{◌||◌, ◌&&◌, nat_lt, Some, if◌then◌else◌, slice_index_or, slice_set}
 use Rattle.rtui_cell.specs.{declared.cell.Cell.Cell, Cell.empty_cell, Cell.styled, Symbol.appended}
 use Rattle.rtui_cell.specs.{Width.text_width}
 use Rattle.rtui_diff.specs.Cells.{cell}
@@ -8,6 +8,7 @@ use Rattle.rtui_style.specs.declared.Style.{Style}
 use Rattle.rtui_buffer.specs.Painted.{emptied}
 use Rattle.rtui_widgets.specs.{Span.goes_to, declared.line.Part.Part}
 use Rattle.rtui_widgets.specs.Line as line
+use Rattle.rtui_geometry.specs.{declared.rect.Rect.Rect, Rect.bottom_edge}
 
 -- where the rows stand: the place of the first one's first cell, how many cells each row has, how far it is
 -- from one row to the next, and how many rows there are
@@ -80,3 +81,12 @@ pub record IsPart (p : line.Part) (q : Part) : Type 0 where
   pub indent : q.indent ≡ p.indent
   pub width : q.width ≡ p.width
   pub content : q.content.now ≡ p.content
+
+-- a row's part of a rectangle
+abbrev pub row_part : Rect → ℕ → Rect
+row_part r y = record { x = r.x; y = y; width = r.width; height = 1 }
+
+-- the rectangle has this row
+pub record IsRowOfArea (r : Rect) (y : ℕ) : Type 0 where
+  pub top : r.y ≤ y
+  pub bottom : y < bottom_edge r

@@ -4,7 +4,8 @@ ghost use Rattle.std.specs.Prelude.{◌≡◌, ◌<◌, IsOk, OnOk, OnErr};
 ghost use Rattle.rtui_geometry.specs.Rect.{IsInside, HasPosition};
 ghost use Rattle.rtui_buffer.specs.BufferData.{cell_in, position_of};
 ghost use Rattle.rtui_widgets.specs.Rendering.{ChangesWithin};
-ghost use Rattle.rtui_widgets.specs.Changes.{ChangesEach, row_part, IsRowOfArea, AreLight, place_at};
+ghost use Rattle.rtui_widgets.specs.Changes.{ChangesEach, AreLight, place_at};
+ghost use Rattle.rtui_widgets.specs.Inner.{row_part, IsRowOfArea};
 
 use rtui_buffer::{Buffer, Cell};
 use rtui_geometry::{Position, Rect};

@@ -29,7 +29,8 @@ use Rattle.rtui_cell.specs.Look.{empty_look}
 use Rattle.rtui_geometry.specs.declared.position.Position.{Position}
 use Rattle.screenplay.specs.Run.{KeepsSurroundings, size_after, IsCauseOfStep, View, row_count, text_area}
 use Rattle.screenplay.proofs.FrameLemmas.{AreUnmarked-emptied, AreUnmarked-frame, shown_again}
-use Rattle.screenplay.specs.Playing.{IsPlaying, view_in, TakesNewSize, IsSizedFor, InsertsBuffer, Plays}
+use Rattle.screenplay.specs.Playing.{IsPlaying, view_in, Plays}
+use Rattle.screenplay.specs.Inner.{TakesNewSize, IsSizedFor, InsertsBuffer}
 use Rattle.screenplay.specs.{declared.scene.PlayCause.PlayCause, declared.scene.PlayCause.TheVariants.Memory}
 use Rattle.screenplay.specs.{declared.scene.PlayCause.TheVariants.Unsettled}
 use Rattle.screenplay.specs.declared.scene.Stage.{Stage}

@@ -5,7 +5,8 @@ use Rattle.std.proofs.lemmas.List.{drop_more}
 use Rattle.rtui_backend.specs.declared.test.TestBackend.{TestBackend}
 use Rattle.rtui_terminal.specs.TerminalData.{TerminalData}
 use Rattle.screenplay.specs.Run.{IsStaged, IsScene, IsStart, IsAfter, IsCauseOfStep, AreScenesFrom, IsPlay, IsRun}
-use Rattle.screenplay.specs.Playing.{IsPlaying, view_in, IsSceneOf, Plays}
+use Rattle.screenplay.specs.Playing.{IsPlaying, view_in, Plays}
+use Rattle.screenplay.specs.Inner.{IsSceneOf}
 use Rattle.screenplay.specs.{declared.scene.PlayCause.PlayCause, declared.scene.Scene.Scene, declared.scene.Stage.Stage}
 use Rattle.screenplay.specs.{declared.scene.Step.Step}
 

@@ -8,7 +8,8 @@ use Rattle.rtui_buffer.specs.BufferData.{BufferData, IsSameBuffer}
 use Rattle.rtui_backend.specs.{Screen.screen_area, CellGrid.AreUnmarked, CellGrid.AreUnmarkedRows}
 use Rattle.rtui_backend.specs.{TestBackend.screen_of, TestBackend.buffer_of, declared.test.TestBackend.TestBackend}
 use Rattle.rtui_terminal.specs.TerminalData.{TerminalData}
-use Rattle.screenplay.specs.{Playing.IsSceneOf, declared.scene.Scene.Scene}
+use Rattle.screenplay.specs.{declared.scene.Scene.Scene}
+use Rattle.screenplay.specs.Inner.{IsSceneOf}
 
 -- what the terminal's screen shows, as a scene
 abbrev pub scene_in : TerminalData TestBackend → Scene

@@ -52,13 +52,6 @@ IsRunFault bytes Read = Unit {0}
 IsRunFault bytes Memory = Unit {0}
 IsRunFault bytes Write = (text : List ℕ) × PrintsText bytes text
 
--- a step of the acts can't be played, or memory was refused
-abbrev pub StopsAtStep : Stage → List Act → RunError → Type 0
-StopsAtStep stage acts (AtStep error) = (scenes : List Scene)
-    × EndsEarly stage (steps_of acts) scenes error.step error.cause
-StopsAtStep stage acts Memory = Unit {0}
-StopsAtStep stage acts other = ⊥
-
 -- why a step wasn't played, as a word
 abbrev pub cause_text : PlayCause → List ℕ
 cause_text cause.Memory = codes "memory"

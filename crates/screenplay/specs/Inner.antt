@@ -1,15 +1,26 @@
 -- A script as it is read, a line at a time: what stands after each; and what is made of its text.
 use Rattle.std.specs.Prelude.{◌==◌, nat_le, if◌then◌else◌, ℕ, List, [], ◌∷◌, ◌++◌, length, take}
-use Rattle.std.specs.Prelude.{Option, Some, None, option_and_then}
+use Rattle.std.specs.Prelude.{Option, Some, None, option_and_then, ◌≡◌, ◌<◌}
 use Rattle.rtui_text.specs.Text.{TextData, raw_line, text_of}
 use Rattle.screenplay.specs.{declared.act.Act.Act, declared.script.Command.Command}
-use Rattle.screenplay.specs.{declared.script.Script.Script}
+use Rattle.screenplay.specs.{declared.script.Script.Script, declared.scene.Stage.Stage}
+use Rattle.screenplay.specs.{declared.act.Plan.Plan, Run.EndsEarly, Print.steps_of}
+use Rattle.screenplay.specs.{declared.scene.Scene.Scene, declared.error.RunError.RunError}
+use Rattle.screenplay.specs.{Run.IsGoodStage}
 use Rattle.screenplay.specs.declared.act.Act.TheVariants as acts
-use Rattle.screenplay.specs.declared.script.Command.TheVariants.{SetStage, TakeSize, Put, AddText, Draw}
-use Rattle.screenplay.specs.declared.script.Command.TheVariants.{Insert, Clear, Show}
-use Rattle.screenplay.specs.{declared.scene.Stage.Stage, declared.act.Plan.Plan}
+use Rattle.screenplay.specs.declared.script.Command.TheVariants.{SetStage, TakeSize, Put, AddText}
+use Rattle.screenplay.specs.declared.script.Command.TheVariants.{Draw, Insert, Clear, Show}
 use Rattle.screenplay.specs.declared.act.Plan.TheVariants as plans
 use Rattle.screenplay.specs.Script.{command_of, is_fixed}
+use Rattle.screenplay.specs.declared.error.RunError.TheVariants.{Step as AtStep, Memory}
+use Rattle.rtui_geometry.specs.declared.size.Size.{Size}
+use Rattle.rtui_buffer.specs.BufferData.{BufferData}
+use Rattle.rtui_backend.specs.{Screen.size_of, Screen.TakesSize, TestBackend.screen_of}
+use Rattle.rtui_backend.specs.{declared.test.TestBackend.TestBackend}
+use Rattle.rtui_viewport.specs.Lying.{at_corner}
+use Rattle.rtui_terminal.specs.{TerminalData.TerminalData, Resizing.Resizes, Insertion.Inserts}
+use Rattle.screenplay.specs.Run.{view_of_scene, size_after, GoesOn, IsSceneOfLooks}
+use Rattle.screenplay.specs.Playing.{view_in}
 
 -- a script of no lines
 abbrev pub nothing : Script
@@ -53,3 +64,40 @@ after_line line s = if length line == 0 then Some s else option_and_then (λ c. 
 -- the lines of a text that a screen can have rows for
 abbrev pub front_of : TextData → TextData
 front_of text = record text { lines = take 65535 text.lines }
+
+-- a step of the acts can't be played, or memory was refused
+abbrev pub StopsAtStep : Stage → List Act → RunError → Type 0
+StopsAtStep stage acts (AtStep error) = (scenes : List Scene)
+    × EndsEarly stage (steps_of acts) scenes error.step error.cause
+StopsAtStep stage acts Memory = Unit {0}
+StopsAtStep stage acts other = ⊥
+
+-- a scene shows what the terminal's screen shows
+pub record IsSceneOf (t : TerminalData TestBackend) (scene : Scene) : Type 0 where
+  pub looks : IsSceneOfLooks scene
+  pub shown : view_of_scene scene ≡ view_in t
+
+-- the screen took a size, and the terminal was resized to it
+pub record TakesNewSize (size : Size) (s t : TerminalData TestBackend) : Type 0 where
+  pub backend : TestBackend
+  pub takes : TakesSize (screen_of s.backend) size (screen_of backend)
+  pub resizes : Resizes screen_of (at_corner size) (record s { backend = backend }) t
+
+-- the screen took the size of a draw: if it stays nothing changed, and at another size the history and the
+-- rows above go on
+pub record IsSizedFor (stage : Stage) (given : Option Size) (s t : TerminalData TestBackend) : Type 0 where
+  pub size : size_of (screen_of t.backend) ≡ size_after stage.viewport given (size_of (screen_of s.backend))
+  pub same : size_of (screen_of t.backend) ≡ size_of (screen_of s.backend) → t ≡ s
+  pub other : (size_of (screen_of t.backend) ≡ size_of (screen_of s.backend) → ⊥) → IsGoodStage stage
+      → GoesOn (view_in s) (view_in t)
+
+-- the rows of a buffer were inserted above an inline viewport; if the screen was known to have no rows
+-- nothing changed
+pub record InsertsBuffer (rows : BufferData) (s t : TerminalData TestBackend) : Type 0 where
+  pub none : s.last_known_area.height ≡ 0 → t ≡ s
+  pub inserts : 0 < s.last_known_area.height → Inserts screen_of rows s t
+
+-- a command that sets the stage sets a good one
+abbrev pub IsGoodCommand : Command → Type 0
+IsGoodCommand (SetStage stage) = IsGoodStage stage
+IsGoodCommand other = Unit {0}

@@ -9,7 +9,7 @@ use Rattle.rtui_text.specs.Text.{LineData, raw_line, text_of}
 use Rattle.rtui_viewport.specs.declared.viewport.Viewport.{Viewport}
 use Rattle.rtui_viewport.specs.declared.viewport.Viewport.TheVariants.{Fullscreen, Inline, Fixed}
 use Rattle.script_words.specs.Words.{first_word, after_word, parsed_number, parsed_size, size_by}
-use Rattle.screenplay.specs.{Run.IsGoodStage, declared.act.Act.Act, declared.script.Command.Command}
+use Rattle.screenplay.specs.{declared.act.Act.Act, declared.script.Command.Command}
 use Rattle.screenplay.specs.{declared.script.Script.Script}
 use Rattle.screenplay.specs.declared.act.Act.TheVariants as acts
 use Rattle.screenplay.specs.declared.script.Command.TheVariants.{SetStage, TakeSize, Put, AddText, Draw}
@@ -113,11 +113,6 @@ command_of line =
     else (if bytes_eq line (codes "clear") then Some Clear
     else (if bytes_eq line (codes "show") then Some Show
     else command_with (first_word line) (after_word line))))
-
--- a command that sets the stage sets a good one
-abbrev pub IsGoodCommand : Command → Type 0
-IsGoodCommand (SetStage stage) = IsGoodStage stage
-IsGoodCommand other = Unit {0}
 
 -- ---- the list of commands
 

@@ -7,7 +7,7 @@ ghost use Rattle.rtui_backend.specs.Print.{printed_screen};
 ghost use Rattle.rtui_backend.specs.TestBackend.{screen_of};
 ghost use Rattle.screenplay.specs.Run.{IsGoodStage};
 ghost use Rattle.screenplay.specs.Engine.{IsRunFault, IsScript, PrintsActs, PrintsRun, PrintsText};
-ghost use Rattle.screenplay.specs.Engine.{StopsAtStep};
+ghost use Rattle.screenplay.specs.Inner.{StopsAtStep};
 ghost use Rattle.screenplay.specs.declared.error.RunError.TheVariants.{Step as AtStep, Read, Memory, Write};
 
 use crate::act::Act;

@@ -8,7 +8,8 @@ ghost use Rattle.script_words.specs.Words.{parsed_size};
 ghost use Rattle.rtui_text.specs.Text.{text_of};
 ghost use Rattle.screenplay.specs.Run.{IsGoodStage};
 ghost use Rattle.screenplay.specs.Script.{char_of, rect_of, screen_command, inline_of, fixed_of, put_of};
-ghost use Rattle.screenplay.specs.Script.{command_with, command_of, IsGoodCommand};
+ghost use Rattle.screenplay.specs.Script.{command_with, command_of};
+ghost use Rattle.screenplay.specs.Inner.{IsGoodCommand};
 ghost use Rattle.screenplay.specs.Script.{IsScriptOf, IsRefusedScript};
 ghost use Rattle.screenplay.specs.Inner.{nothing, draw_of, without_text, after_on, after_line};
 

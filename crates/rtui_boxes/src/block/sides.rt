@@ -5,7 +5,7 @@ ghost use Rattle.ratatui_core.specs.Layout.{IsInside};
 ghost use Rattle.ratatui_core.specs.Buffer.{joined, IsShort, place_at, position_of};
 ghost use Rattle.rtui_boxes.specs.Boxes.{drawn, joins, has_side, inset, IsBoxArea, left_side, right_side};
 ghost use Rattle.rtui_boxes.specs.Boxes.{top_side, bottom_side, stroke, side_strokes, corner_strokes};
-ghost use Rattle.rtui_boxes.specs.Boxes.{DrawsStrokes};
+ghost use Rattle.rtui_boxes.specs.Inner.{DrawsStrokes};
 
 use crate::block::Block;
 use crate::borders::Borders;

@@ -7,7 +7,8 @@ ghost use Rattle.rtui_boxes.specs.Titles.{side_of, title_width, titles_width, ti
 ghost use Rattle.rtui_boxes.specs.Titles.{from_left, from_right, from_outside, from_centre, RendersTitle};
 ghost use Rattle.rtui_boxes.specs.Titles.{RendersTitles};
 ghost use Rattle.rtui_boxes.specs.Boxes.{has_title, titles_area, is_placed, lines_placed, row_titles};
-ghost use Rattle.rtui_boxes.specs.Boxes.{placed_titles, IsBoxArea, KeepsOffTitles};
+ghost use Rattle.rtui_boxes.specs.Boxes.{placed_titles, IsBoxArea};
+ghost use Rattle.rtui_boxes.specs.Inner.{KeepsOffTitles};
 ghost use Rattle.rtui_boxes.specs.Lines.{IsShortTitle};
 ghost use Rattle.rtui_boxes.specs.Boxes.{HasShortTitles, centre_width, AreShortTitles};
 

@@ -1,7 +1,8 @@
 use Rattle.std.proofs.Common.{rules, ◌≡◌, ◌∷◌, [], ◌-◌, length, arith, subst, sym}
 use Rattle.unicode_segmentation.specs.Iter.{graphemes_left}
 use Rattle.ratatui_core.proofs.WidgetLemmas.{within-then}
-use Rattle.pager.specs.{Symbols.line_symbol, Pages.PaintsIfInView}
+use Rattle.pager.specs.{Symbols.line_symbol}
+use Rattle.pager.specs.Inner.{PaintsIfInView}
 use Rattle.pager.proofs.PaintLemmas.{FinishesLine, line-turn, line-full, line-end}
 use Rattle.pager.proofs.painting.paint_line.Goals as goal
 

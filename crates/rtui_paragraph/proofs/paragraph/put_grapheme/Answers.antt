@@ -1,6 +1,6 @@
 use Rattle.std.proofs.Common.{◌≡◌, false, true, [], ◌∷◌, arith, Ok}
 use Rattle.ratatui_core.specs.Buffer.{piece_of, pieces_at, position_of, room_at, text_width}
-use Rattle.rtui_paragraph.specs.Paragraphs.{grapheme_in}
+use Rattle.rtui_paragraph.specs.Inner.{grapheme_in}
 use Rattle.ratatui_core.proofs.{BufferLemmas.text-keeps, BufferLemmas.put-ready}
 use Rattle.rtui_boxes.proofs.PaintLemmas.{part-has_row, part-starts, part-right, paints-within, short-painted}
 use Rattle.rtui_boxes.proofs.PaintLemmas.{part-place}

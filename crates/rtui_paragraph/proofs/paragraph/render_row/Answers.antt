@@ -3,7 +3,8 @@ use Rattle.ratatui_core.specs.Buffer.{IsReadyAt}
 use Rattle.ratatui_core.proofs.{BufferLemmas.within-same, WidgetLemmas.within-then, BufferLemmas.ready-row}
 use Rattle.rtui_boxes.proofs.{BoxLemmas.inside-within, PaintLemmas.part-has_row, PaintLemmas.part-right}
 use Rattle.rtui_paragraph.specs.{Reflow.columns_taken, Reflow.grapheme_columns}
-use Rattle.rtui_paragraph.specs.Paragraphs.{grapheme_in, PaintsGrapheme, PaintsGraphemes}
+use Rattle.rtui_paragraph.specs.Paragraphs.{PaintsGrapheme, PaintsGraphemes}
+use Rattle.rtui_paragraph.specs.Inner.{grapheme_in}
 use Rattle.rtui_paragraph.proofs.RowsLemmas.{indent-fits, grapheme-turn, row-turn}
 use Rattle.rtui_paragraph.proofs.paragraph.render_row.Goals as goal
 

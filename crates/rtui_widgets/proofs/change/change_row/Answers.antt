@@ -1,7 +1,7 @@
 use Rattle.std.proofs.Common.{rules, arith, ◌≡◌, false, true}
 use Rattle.rtui_buffer.specs.BufferData.{position_of}
 use Rattle.rtui_widgets.specs.Rendering.{ChangesWithin}
-use Rattle.rtui_widgets.specs.Changes.{row_part}
+use Rattle.rtui_widgets.specs.Inner.{row_part}
 use Rattle.rtui_widgets.proofs.ChangeLemmas.{columns_to, Changes-column, Changes-columns, Changes-no_columns, Changes-within}
 use Rattle.rtui_widgets.proofs.ChangeLemmas.{columns-inside, columns-off, light-still, row-place, row-place_of_row, row-in_own}
 use Rattle.rtui_widgets.proofs.change.change_row.Goals as goal

@@ -1,7 +1,8 @@
 use Rattle.std.proofs.Common.{rules, subst, arith}
 use Rattle.ratatui_core.specs.Terminal.{DrawsRow}
 use Rattle.ratatui_core.proofs.TerminalLemmas.{draws-row, refused-by-backend-if}
-use Rattle.logview.specs.Rows.{status_text, RendersStatus, RendersShortStatus, end_place}
+use Rattle.logview.specs.Rows.{status_text, RendersStatus, end_place}
+use Rattle.logview.specs.Inner.{RendersShortStatus}
 use Rattle.logview.proofs.StatusLemmas.{short-status, status-settled}
 use Rattle.logview.proofs.view.LogView.draw_status.Goals as goal
 

@@ -1,6 +1,7 @@
 use Rattle.std.proofs.Common.{rules, ◌≡◌, ◌∙◌, IfOk, filter, ap, subst}
 use Rattle.rtui_paragraph.specs.{Inner.left_of, Reflow.fits_row, Reflow.broken_rows, Paragraphs.alignment_of}
-use Rattle.rtui_paragraph.specs.{Paragraphs.graphemes_of, Paragraphs.aligned_rows, Paragraphs.PaintsOn}
+use Rattle.rtui_paragraph.specs.{Paragraphs.graphemes_of, Paragraphs.aligned_rows}
+use Rattle.rtui_paragraph.specs.Inner.{PaintsOn}
 use Rattle.rtui_paragraph.proofs.RowsLemmas.{rows-of-line, fit-of-line}
 use Rattle.rtui_paragraph.proofs.paragraph.Paragraph.render_broken.Goals as goal
 

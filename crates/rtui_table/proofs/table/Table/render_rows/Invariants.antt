@@ -1,7 +1,8 @@
 use Rattle.std.proofs.Common.{◌≡◌, drop}
 use Rattle.std.specs.Option.{option_or}
 use Rattle.ratatui_core.specs.{Layout.IsInside, Widgets.ChangesWithin}
-use Rattle.rtui_table.specs.Rows.{IsTableArea, stacked_rows}
+use Rattle.rtui_table.specs.Rows.{stacked_rows}
+use Rattle.rtui_table.specs.Inner.{IsTableArea}
 use Rattle.rtui_table.specs.Tables.{rows_parts, placed_rows, selected_row_area}
 use Rattle.rtui_table.specs.Inner.{AreWithin}
 use Rattle.rtui_table.proofs.PartLemmas.{Finishing}
