@@ -167,10 +167,9 @@ fn resize_one(
     width: u16,
     height: u16,
 ) -> Result<(), AllocError> {
-    match terminal.resize(Rect::new(0, 0, width, height)) {
-        Ok(()) => Ok(()),
-        Err(_) => Err(AllocError),
-    }
+    terminal
+        .resize(Rect::new(0, 0, width, height))
+        .map_err(|_| AllocError)
 }
 
 /// Gives a viewport one column and one row less in each second round.

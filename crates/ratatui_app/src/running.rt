@@ -28,7 +28,7 @@ use thiserror::Error;
 #[error_bound(E: Display)]
 pub enum AppError<E> {
     /// The source failed.
-    #[error("the keys: {0}")]
+    #[error("input: {0}")]
     Read(io::Error),
     /// An update was refused memory.
     #[error("no memory")]

@@ -104,8 +104,8 @@ pub mod terminal {
 /// Texts in styles.
 pub mod text {
     pub use rtui_text::{
-        Line, LineGraphemes, Lines, Masked, Span, SpanGraphemes, Spans, StyledGrapheme, Text,
-        text_columns,
+        Items, Line, LineGraphemes, Lines, Masked, Span, SpanGraphemes, Spans, StyledGrapheme,
+        Text, text_columns,
     };
     pub use rtui_to_text::{ToLine, ToSpan, ToText};
 }

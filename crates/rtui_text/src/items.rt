@@ -11,7 +11,7 @@ use std::hash::{Hash, Hasher};
 use std::marker::Model;
 use std::{slice, vec};
 
-/// A list of parts, in order: the spans of a line, the lines of a text.
+/// A list of parts in order, as the spans of a line and the lines of a text are.
 #[derive(Debug, Drop)]
 pub struct Items<T> {
     /// The list itself. What is written through it is known to a caller's proof, as for any `Vec`.

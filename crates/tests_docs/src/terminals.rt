@@ -53,10 +53,9 @@ fn a_frame_may_be_refused(rt: HostRuntime) -> Result<(), Fail> {
     let ready = Line::raw(alloc, "Ready")?;
     terminal.try_draw(|frame| {
         let area = frame.area();
-        match frame.render_widget(ready, area) {
-            Ok(()) => Ok(()),
-            Err(_) => Err(TestError::Memory),
-        }
+        frame
+            .render_widget(ready, area)
+            .map_err(|_| TestError::Memory)
     })?;
     assert!(rt; terminal.backend().lines_are(&["Ready"]));
     Ok(())

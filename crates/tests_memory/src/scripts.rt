@@ -100,10 +100,7 @@ fn run_over_memory(alloc: Global) -> Result<Outcome, AllocError> {
 /// Scripts that are played and run.
 pub struct Scripts;
 
-static SCRIPTS: [&str; 2] = [
-    "play",
-    "run",
-];
+static SCRIPTS: [&str; 2] = ["play", "run"];
 
 impl Cases for Scripts {
     fn names() -> &'static [&'static str] {

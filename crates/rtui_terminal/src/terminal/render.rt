@@ -201,10 +201,7 @@ impl<B: Backend> Terminal<B> {
     /// let ready = Line::raw(alloc, "Ready")?;
     /// terminal.try_draw(|frame| {
     ///     let area = frame.area();
-    ///     match frame.render_widget(ready, area) {
-    ///         Ok(()) => Ok(()),
-    ///         Err(_) => Err(TestError::Memory),
-    ///     }
+    ///     frame.render_widget(ready, area).map_err(|_| TestError::Memory)
     /// })?;
     /// ```
     ///
