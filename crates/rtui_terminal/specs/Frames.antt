@@ -43,12 +43,6 @@ abbrev pub AcceptsFrames : {B F R : Type 0} → Once F (MutBor Frame × Unit {0}
     → F → TerminalData B → Type 0
 AcceptsFrames once f s = (frame : MutBor Frame) → IsDrawFrame s frame.now → once.pre f (frame, tt)
 
--- f may be called at a new frame over this buffer
-abbrev pub AcceptsNewFrame : {F R : Type 0} → Once F (MutBor Frame × Unit {0}) (R × (MutBor Frame × Unit {0}))
-    → F → Rect → ℕ → BufferData → Type 0
-AcceptsNewFrame once f area count sheet = (frame : MutBor Frame) → IsNewFrame area count sheet frame.now
-    → once.pre f (frame, tt)
-
 -- such a call on the current buffer of a terminal
 abbrev pub PaintsCurrent : {B F R : Type 0} → Once F (MutBor Frame × Unit {0}) (R × (MutBor Frame × Unit {0}))
     → F → TerminalData B → R → Option Position → BufferData → Type 0

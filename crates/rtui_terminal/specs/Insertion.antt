@@ -1,5 +1,5 @@
 -- What an insertion above an inline viewport does to a terminal.
-use Rattle.std.specs.Prelude.{◌≡◌, ◌⊎◌, ℕ, ◌+◌, ◌-◌, ◌*◌, ◌<◌, ◌≤◌, min, max, nat_lt, if◌then◌else◌, [], ◌∷◌}
+use Rattle.std.specs.Prelude.{◌≡◌, ◌⊎◌, ℕ, ◌+◌, ◌-◌, ◌*◌, ◌<◌, ◌≤◌, min, nat_lt, if◌then◌else◌, [], ◌∷◌}
 use Rattle.std.specs.Prelude.{Result, Ok, MatchResult}
 use Rattle.std.specs.declared.alloc.AllocError.{AllocError}
 use Rattle.rtui_geometry.specs.declared.rect.Rect.{Rect}
@@ -24,10 +24,6 @@ inserted_area s height = record { x = 0; y = 0; width = s.viewport_area.width; h
 abbrev pub top_behind : {B : Type 0} → ℕ → TerminalData B → ℕ
 top_behind n s = s.viewport_area.y + min n
     (s.last_known_area.height - (s.viewport_area.y + s.viewport_area.height))
-
--- how many of n rows are drawn at once at most: no more than the screen has, or stand above the viewport
-abbrev pub rows_at_once : {B : Type 0} → ℕ → TerminalData B → ℕ
-rows_at_once n s = min n (max s.viewport_area.y s.last_known_area.height)
 
 -- how many cells an insertion of any rows writes at most: those of the rows, and, above a viewport as high as
 -- the screen, the screen's first row

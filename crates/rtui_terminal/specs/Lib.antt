@@ -15,3 +15,4 @@ pub mod Headline
 pub mod Rendered
 pub mod TextRow
 pub mod AtRest
+pub mod Inner

@@ -3,7 +3,8 @@ ghost use Rattle.rtui_viewport.specs.Viewports.{IsInline};
 ghost use Rattle.rtui_insert.specs.Filling.{AcceptsRows, FillsRows};
 ghost use Rattle.rtui_insert.specs.Rows.{IsBlankFor};
 ghost use Rattle.rtui_terminal.specs.Faults.{Faults, FailsOnlyByBackend};
-ghost use Rattle.rtui_terminal.specs.Insertion.{inserted_area, rows_at_once, Inserts, StopsInserting};
+ghost use Rattle.rtui_terminal.specs.Insertion.{inserted_area, Inserts, StopsInserting};
+ghost use Rattle.rtui_terminal.specs.Inner.{rows_at_once};
 ghost use Rattle.rtui_terminal.specs.Insertion.{InsertsBy};
 
 use crate::terminal::Terminal;

@@ -2,7 +2,8 @@ ghost use Rattle.std.specs.Prelude.{◌≡◌, true, None, Ok, Err, IfOk, OnOk, 
 ghost use Rattle.std.specs.Borrow.{sem};
 ghost use Rattle.rtui_buffer.specs.Shown.{IsSettledBuffer};
 ghost use Rattle.rtui_terminal.specs.InStep.{IsInStep, IsReady};
-ghost use Rattle.rtui_terminal.specs.Frames.{PaintsFrame, AcceptsNewFrame, AcceptsFrames, PaintsCurrent};
+ghost use Rattle.rtui_terminal.specs.Frames.{PaintsFrame, AcceptsFrames, PaintsCurrent};
+ghost use Rattle.rtui_terminal.specs.Inner.{AcceptsNewFrame};
 ghost use Rattle.rtui_terminal.specs.Faults.{Faults};
 ghost use Rattle.rtui_terminal.specs.Writing.{Writes, WriteErr, Applies, ApplyErr};
 ghost use Rattle.rtui_terminal.specs.Drawing.{CompletesFrame, DrawOk, FrameOk, FrameErr, DrawErr, TryDrawErr};
