@@ -450,7 +450,9 @@ impl<'a> PartialEq for Line<'a> {
 impl<'a> Eq for Line<'a> {
     ghost use Rattle.rtui_text.specs.LineHead.{line_head};
 
-    ghost laws = { and_equiv (on_equiv line_head head_laws) (on_equiv (λ l. l.spans) (lists_equiv span_laws)) };
+    ghost laws = { and_equiv
+        (on_equiv line_head head_laws)
+        (on_equiv (λ l. l.spans) (lists_equiv span_laws)) };
 }
 
 impl<'a> Hash for Line<'a> {

@@ -443,7 +443,9 @@ impl<'a> PartialEq for Text<'a> {
 impl<'a> Eq for Text<'a> {
     ghost use Rattle.rtui_text.specs.LineHead.{text_head};
 
-    ghost laws = { and_equiv (on_equiv text_head head_laws) (on_equiv (λ t. t.lines) (lists_equiv line_laws)) };
+    ghost laws = { and_equiv
+        (on_equiv text_head head_laws)
+        (on_equiv (λ t. t.lines) (lists_equiv line_laws)) };
 }
 
 impl<'a> Hash for Text<'a> {

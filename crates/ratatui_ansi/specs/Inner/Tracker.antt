@@ -1,5 +1,5 @@
--- Words that only private contracts use: what a tracker knows of its terminal between two calls, and the bytes
--- that it collected for a call.
+-- Words that only private contracts use: what a tracker knows of its terminal between two calls, and the
+-- bytes that it collected for a call.
 use Rattle.std.specs.Prelude.{◌≡◌, ℕ, ◌<◌, true, List, length, [], ◌++◌, string_bytes}
 use Rattle.ratatui_core.specs.Layout.{Size}
 use Rattle.ratatui_core.specs.Backend.{Screen, Appends, Clears, ScrollsUp, ScrollsDown, with_cursor}
