@@ -1,7 +1,7 @@
 -- Words that only private contracts use: they follow the code.
 use Rattle.std.specs.Prelude.{◌≡◌, [], ◌∷◌, None}
 use Rattle.ratatui_events.specs.declared.event.Event.{Event}
-use Rattle.ratatui_input.specs.declared.reader.Kept.{Kept}
+use Rattle.ratatui_input.specs.{declared.reader.Kept.Kept, Reading.kept_told}
 
 -- the first of the events that are kept is told
 abbrev pub TellsFirst : Kept → Event → Kept → Type 0
