@@ -2,7 +2,6 @@
 
 import os
 import signal
-import subprocess
 import sys
 
 TOP = os.path.dirname(os.path.dirname(os.path.abspath(__file__)))
@@ -84,13 +83,9 @@ LEFT = {
 }
 
 
-def built(crate, typed="/dev/null", arguments=()):
-    """The path of a program, which is proved and built first; with `--built` the one that `.ci/run` left."""
-    folder = f"{TOP}/crates/{crate}"
-    program = f"{folder}/out/{crate}"
-    if "--built" not in sys.argv:
-        with open(typed, "rb") as keys:
-            subprocess.run(["rt", "run", "--", *arguments], cwd=folder, stdin=keys, stdout=subprocess.DEVNULL, stderr=subprocess.DEVNULL)
+def built(crate):
+    """The path of a program that `.ci/run` has built."""
+    program = f"{TOP}/crates/{crate}/out/{crate}"
     if not os.path.exists(program):
-        refuse(f"{crate} isn't built")
+        refuse(f"{crate} isn't built: .ci/run builds every program, (cd crates/{crate} && rt run < /dev/null) this one alone")
     return program
