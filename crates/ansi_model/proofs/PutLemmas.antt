@@ -105,9 +105,11 @@ put-sized x y n look c whole uncut takes sized a b =
       | false ↦ λ e. subst HasOwnWidth (sym (put-outside x y n look c a b whole uncut e)) (sized a b)
     ] refl
 
-whole-inside : (x y n a b : ℕ) (look : Look) (c : Columns) → run x y n a b ≡ true
-    → IsWholeAt (λ k. put_columns x y n look c k b) a (Shows look (a - x) n)
-whole-inside x y n a b look c e =
+-- a symbol that stands in all its columns stands there whole
+pub shown-whole : (x y n a b : ℕ) (look : Look) (c : Columns)
+    → ((k : ℕ) → run x y n k b ≡ true → c k b ≡ Shows look (k - x) n) → run x y n a b ≡ true
+    → IsWholeAt (λ k. c k b) a (Shows look (a - x) n)
+shown-whole x y n a b look c stands e =
     let row : b ≡ y = grind (arith, nat_tests) in
     let low : x ≤ a = grind (arith, nat_tests) in
     let high : a < x + n = grind (arith, nat_tests) in
@@ -119,7 +121,7 @@ whole-inside x y n a b look c e =
           let there : (a - (a - x)) + j ≡ x + j = omega arith in
           let inside : run x y n (x + j) b ≡ true = grind (arith, nat_tests) in
           let part : x + j - x ≡ j = omega arith in
-          ap (λ k. put_columns x y n look c k b) there ∙ put-inside x y n look c (x + j) b inside ∙ ap (λ k. Shows look k n) part,
+          ap (λ k. c k b) there ∙ stands (x + j) inside ∙ ap (λ k. Shows look k n) part,
     )
 
 whole-outside : (x y n a b : ℕ) (look : Look) (c : Columns) (d : Column) → IsWhole c → IsUncut x y n c → run x y n a b ≡ false
@@ -138,7 +140,7 @@ put-whole x y n look c whole uncut a b =
     elim (run x y n a b) as (λ p. run x y n a b ≡ p → IsWholeAt (λ k. put_columns x y n look c k b) a
     (put_columns x y n look c a b)) [
       | true ↦ λ e. subst (IsWholeAt (λ k. put_columns x y n look c k b) a) (sym (put-inside x y n look c a b e))
-          (whole-inside x y n a b look c e)
+          (shown-whole x y n a b look (put_columns x y n look c) (λ k. put-inside x y n look c k b) e)
       | false ↦ λ e. subst (IsWholeAt (λ k. put_columns x y n look c k b) a) (sym (put-outside x y n look c a b whole uncut e))
           (whole-outside x y n a b look c (c a b) whole uncut e (whole a b))
     ] refl

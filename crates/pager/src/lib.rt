@@ -20,8 +20,6 @@ mod search;
 mod showing;
 mod status;
 mod symbols;
-#[cfg(test)]
-mod tests;
 mod typing;
 mod view;
 

@@ -7,7 +7,7 @@ use Rattle.ratatui_core.specs.Buffer.{Look, look_of, empty_look, width_of, Updat
 use Rattle.ansi_model.specs.Columns.{Column, Columns, blank_column, look_in, is_continuation, is_met}
 use Rattle.ansi_model.specs.{Columns.Column.Shows, Columns.Column.Unknown, Emulator.run, Symbols.printed_columns}
 use Rattle.ansi_model.specs.Screens.{HasOwnWidth, HaveOwnWidths, IsWhole, IsWholeAt, IsBlankBeyond, put_columns}
-use Rattle.ansi_model.proofs.PutLemmas.{none_between, apart-at, first-or-later, index-later, rest-same}
+use Rattle.ansi_model.proofs.PutLemmas.{none_between, apart-at, first-or-later, index-later, rest-same, shown-whole}
 use Rattle.ansi_model.proofs.TextLemmas.{blank-sized}
 
 -- the columns of a row from `from` up to `end` is a continuation column, and the column at `end` doesn't
@@ -113,20 +113,7 @@ pub laid-whole : (x y n end : ℕ) (look : Look) (c : Columns) → IsWhole c →
 laid-whole x y n end look c whole left tail a b =
     let ordered : x + n ≤ end = tail.ordered in
     laid_cases x y n end look c a b (IsWholeAt (λ k. laid x y n end look c k b) a)
-    (λ e.
-    let row : b ≡ y = grind (arith, nat_tests) in
-    let low : x ≤ a = grind (arith, nat_tests) in
-    let high : a < x + n = grind (arith, nat_tests) in
-    let index : a - x < n = omega arith in
-    let first : a - x ≤ a = omega arith in (
-      index,
-      first,
-      λ j below.
-          let there : (a - (a - x)) + j ≡ x + j = omega arith in
-          let inside : run x y n (x + j) b ≡ true = grind (arith, nat_tests) in
-          let part : x + j - x ≡ j = omega arith in
-          ap (λ k. laid x y n end look c k b) there ∙ rw inside (ap (λ k. Shows look k n) part),
-    ))
+    (λ e. shown-whole x y n a b look (laid x y n end look c) (λ k inside. rw inside refl) e)
     (λ e f. (
       omega arith,
       omega arith,

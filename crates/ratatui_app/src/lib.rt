@@ -8,8 +8,6 @@ mod from_blank;
 pub mod laws;
 mod moments;
 mod running;
-#[cfg(test)]
-mod tests;
 mod whole;
 
 pub use application::Application;

@@ -18,8 +18,10 @@ pub use Rattle.rtui_buffer.proofs.PaintsLemmas.{IsSettledBuffer-painted, front-b
 pub use Rattle.rtui_buffer.proofs.ColumnLemmas.{text-ends}
 -- A text of one byte takes one column; those of a text of one character above U+00A0 are the character's.
 pub use Rattle.rtui_cell.proofs.WidthLemmas.{one_byte, char_alone}
+-- A position is in a rectangle, or not.
+pub use Rattle.rtui_geometry.proofs.PositionTests.{has-or-not, decide_position, position-true, position-false}
 -- A change of each cell of an area, and what stays within one.
-pub use Rattle.rtui_widgets.proofs.ChangeLemmas.{Changes-within, within-same, within-wider, on-ok, has-or-not}
+pub use Rattle.rtui_widgets.proofs.ChangeLemmas.{Changes-within, within-same, within-wider, on-ok}
 -- Plain cells are settled, and painting keeps a buffer ready for more.
 pub use Rattle.rtui_widgets.proofs.PlainLemmas.{plain-styled, plain-with_symbol, plain-if, settled-plain, put-ready, ready-next}
 pub use Rattle.rtui_widgets.proofs.PlainLemmas.{ready-row, ready-plain, changed-settled, painted-settled, plain-changed}

@@ -5,7 +5,8 @@ pub use Rattle.rtui_geometry.specs.declared.offset.Offset.{Offset}
 pub use Rattle.rtui_geometry.specs.declared.size.Size.{Size}
 pub use Rattle.rtui_geometry.specs.declared.margin.Margin.{Margin}
 pub use Rattle.rtui_geometry.specs.Offset.{opposite, moved_rect, moved_position}
-pub use Rattle.rtui_geometry.specs.Rect.{right_edge, bottom_edge, HasPosition, corner, EdgesFit, IsInside}
+pub use Rattle.rtui_geometry.specs.Rect.{right_edge, bottom_edge, HasPosition, has_position, corner}
+pub use Rattle.rtui_geometry.specs.Rect.{EdgesFit, IsInside}
 pub use Rattle.rtui_geometry.specs.Rect.{cut_rect, united, intersected, Intersects, SharePosition, HasRoom}
 pub use Rattle.rtui_geometry.specs.Rect.{shrunk, grown, KeepsMargin, between}
 pub use Rattle.rtui_geometry.specs.Rows.{numbers, row_at, column_at, rows_of, columns_of, positions_of}

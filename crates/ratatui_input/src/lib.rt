@@ -10,6 +10,3 @@ mod sequence;
 
 pub use decoder::{Decoder, Fed};
 pub use reader::EventReader;
-
-#[cfg(test)]
-mod tests;

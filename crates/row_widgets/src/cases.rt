@@ -27,6 +27,12 @@ pub fn case_of(line: &str) -> Option<Case<'_>> {
     })
 }
 
+/// Two numbers with a comma between them.
+pub fn pair_of(word: &str) -> Option<(i64, i64)> {
+    let (first, second) = word.split_once(",")?;
+    Some((first.parse().ok()?, second.parse().ok()?))
+}
+
 impl<'a> Case<'a> {
     /// What an option says, if it stands there.
     pub fn option(&self, name: &str) -> Option<&'a str> {
@@ -45,11 +51,36 @@ impl<'a> Case<'a> {
         self.option(name)?.parse().ok()
     }
 
+    /// The number that an option says, cut at 65535, or another one.
+    pub fn small(&self, name: &str, other: u16) -> u16 {
+        match self.number(name) {
+            Some(number) => number.min(65535) as u16,
+            None => other,
+        }
+    }
+
+    /// The two numbers that an option says, or 0 and 10.
+    pub fn bounds(&self, name: &str) -> [i64; 2] {
+        let (low, high) = self
+            .option(name)
+            .and_then(|word| pair_of(word))
+            .unwrap_or((0, 10));
+        [low, high]
+    }
+
     /// The text that an option says, in which `_` stands for a blank.
     pub fn text(&self, alloc: Global, name: &str) -> Result<Option<String>, AllocError> {
         match self.option(name) {
             Some(text) => Ok(Some(text.replace(alloc, "_", " ")?)),
             None => Ok(None),
+        }
+    }
+
+    /// The same, or another text.
+    pub fn text_or(&self, alloc: Global, name: &str, other: &str) -> Result<String, AllocError> {
+        match self.option(name) {
+            Some(text) => text.replace(alloc, "_", " "),
+            None => String::from_str(alloc, other),
         }
     }
 }

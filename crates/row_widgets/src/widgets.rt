@@ -1,7 +1,6 @@
-//! The widgets of the cases.
+//! The paragraphs, lists, gauges and scroll bars of the cases.
 
 use crate::cases::Case;
-use crate::shown::push_rows;
 use ratatui_core::buffer::Buffer;
 use ratatui_core::layout::Rect;
 use ratatui_core::style::{Color, Modifier, Style};
@@ -26,10 +25,14 @@ fn items_of<'a>(alloc: Global, texts: &'a str) -> Result<Vec<ListItem<'a>>, Allo
     Ok(items)
 }
 
-fn list(alloc: Global, case: &Case<'_>, area: Rect, buffer: &mut Buffer) -> Result<(), AllocError> {
-    let symbol = case
-        .text(alloc, "symbol")?
-        .unwrap_or(String::from_str(alloc, "")?);
+/// Renders the list that a case says.
+pub fn list(
+    alloc: Global,
+    case: &Case<'_>,
+    area: Rect,
+    buffer: &mut Buffer,
+) -> Result<(), AllocError> {
+    let symbol = case.text_or(alloc, "symbol", "")?;
     let mut state = ListState::default().with_selected(case.number("selected"));
     if let Some(offset) = case.number("offset") {
         state = state.with_offset(offset);
@@ -49,7 +52,8 @@ fn percent(case: &Case<'_>) -> u16 {
     case.number("percent").unwrap_or(0).min(100) as u16
 }
 
-fn gauge(
+/// Renders the gauge that a case says.
+pub fn gauge(
     alloc: Global,
     case: &Case<'_>,
     area: Rect,
@@ -81,7 +85,8 @@ fn labelled<'a>(
     }
 }
 
-fn line_gauge(
+/// Renders the line gauge that a case says.
+pub fn line_gauge(
     alloc: Global,
     case: &Case<'_>,
     area: Rect,
@@ -94,7 +99,8 @@ fn line_gauge(
     labelled(alloc, gauge, &label)?.render(area, buffer)
 }
 
-fn scrollbar(case: &Case<'_>, area: Rect, buffer: &mut Buffer) -> Result<(), AllocError> {
+/// Renders the scroll bar that a case says.
+pub fn scrollbar(case: &Case<'_>, area: Rect, buffer: &mut Buffer) -> Result<(), AllocError> {
     let orientation = match case.option("side") {
         Some("left") => ScrollbarOrientation::VerticalLeft,
         Some("bottom") => ScrollbarOrientation::HorizontalBottom,
@@ -117,7 +123,8 @@ fn scrollbar(case: &Case<'_>, area: Rect, buffer: &mut Buffer) -> Result<(), All
     bar.render(area, buffer, &mut state)
 }
 
-fn paragraph(
+/// Renders the paragraph that a case says.
+pub fn paragraph(
     alloc: Global,
     case: &Case<'_>,
     area: Rect,
@@ -127,20 +134,4 @@ fn paragraph(
     Paragraph::new(Text::raw(alloc, case.texts)?)
         .wrap(Wrap { trim })
         .render(area, buffer)
-}
-
-/// The rows that a case leaves.
-pub fn show(alloc: Global, case: &Case<'_>) -> Result<String, AllocError> {
-    let area = Rect::new(0, 0, case.width, case.height);
-    let mut buffer = Buffer::empty(alloc, area)?;
-    match case.kind {
-        "list" => list(alloc, case, area, &mut buffer)?,
-        "gauge" => gauge(alloc, case, area, &mut buffer)?,
-        "linegauge" => line_gauge(alloc, case, area, &mut buffer)?,
-        "scrollbar" => scrollbar(case, area, &mut buffer)?,
-        _ => paragraph(alloc, case, area, &mut buffer)?,
-    }
-    let mut shown = String::new(alloc);
-    push_rows(&mut shown, &buffer)?;
-    Ok(shown)
 }

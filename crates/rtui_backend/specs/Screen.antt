@@ -3,7 +3,7 @@ use Rattle.std.specs.Prelude.{◌≡◌, ℕ, ◌+◌, ◌-◌, ◌^◌, ◌<◌
 use Rattle.std.specs.Prelude.{nat_lt, if◌then◌else◌, true, false, List, [], length}
 use Rattle.std.specs.List.{range_with_len}
 use Rattle.rtui_geometry.specs.{declared.position.Position.Position, declared.rect.Rect.Rect}
-use Rattle.rtui_geometry.specs.{declared.size.Size.Size, Rect.HasPosition}
+use Rattle.rtui_geometry.specs.{declared.size.Size.Size}
 use Rattle.rtui_cell.specs.{Look.Look, Look.empty_look, Grid.Grid, Grid.Update, Grid.puts}
 use Rattle.rtui_backend.specs.{declared.clear_type.ClearType.ClearType, Clear.is_cleared}
 
@@ -183,10 +183,6 @@ screen_area s = record { x = 0; y = 0; width = s.width; height = s.height }
 pub record IsOnScreen (r : Rect) (s : Screen) : Type 0 where
   pub right : r.x + r.width ≤ s.width
   pub bottom : r.y + r.height ≤ s.height
-
--- a column of a row lies in a rectangle
-abbrev pub IsWithin : Rect → ℕ → ℕ → Type 0
-IsWithin r a b = HasPosition r (record { x = a; y = b })
 
 -- a new screen of this size: no history, all empty, the cursor visible at the corner, nothing drawn
 pub record IsBlankScreen (w h : ℕ) (s : Screen) : Type 0 where

@@ -1,9 +1,8 @@
 -- Strokes over the cells of an area, one after the other.
 use Rattle.std.proofs.Common.{◌≡◌, ℕ, ◌-◌, ◌⊎◌, ⊎_elim, inl, inr, Bool, true, false, if◌then◌else◌, List, [], ◌∷◌, ◌++◌, refl}
 use Rattle.std.proofs.Common.{sym, ap, subst, ◌∙◌, arith, min, Result, Ok, Err, OnOk, OnErr, IsOk, IsErr}
-use Rattle.std.proofs.lemmas.{Bool.false_from_ne_true, Bool.Decides.nat_tests}
 use Rattle.std.specs.declared.alloc.AllocError.{AllocError}
-use Rattle.ratatui_core.specs.Layout.{Rect, Position, HasPosition, right_edge, bottom_edge, IsInside}
+use Rattle.ratatui_core.specs.Layout.{Rect, Position, HasPosition, has_position, right_edge, bottom_edge, IsInside}
 use Rattle.ratatui_core.specs.Buffer.{BufferData, Cell, cell_in, joined, IsShort}
 use Rattle.ratatui_core.specs.{Widgets.ChangesWithin, Buffer.ChangesEach, Buffer.AreLight, Buffer.MakesEach, Layout.intersected}
 use Rattle.ratatui_core.specs.{Buffer.IsStyled, Buffer.styled}
@@ -11,41 +10,22 @@ use Rattle.rtui_boxes.specs.{declared.block.Block.Block, Titles.RendersTitles, d
 use Rattle.ratatui_core.specs.Widgets.{IsClipped}
 use Rattle.ratatui_core.proofs.WidgetLemmas.{within-styled, within-then, OnPart-none, OnPart-clipped}
 use Rattle.rtui_boxes.specs.declared.title.TitlePosition.TheVariants.{Top, Bottom}
-use Rattle.rtui_boxes.specs.Boxes.{Stroke, stroke, strokes, is_in, strikes, stroked, drawn, IsShortUnder, IsBoxArea}
+use Rattle.rtui_boxes.specs.Boxes.{Stroke, stroke, strokes, strikes, stroked, drawn, IsShortUnder, IsBoxArea}
 use Rattle.rtui_boxes.specs.Inner.{DrawsStrokes}
 use Rattle.rtui_boxes.specs.Boxes.{titles_area, has_title, IsOffTitles, box_cell, placed_titles, RendersTitled}
 use Rattle.rtui_boxes.specs.Inner.{KeepsOffTitles}
 use Rattle.rtui_boxes.specs.Boxes.{RendersBlock, IsShortBlock}
 use Rattle.ratatui_core.proofs.BufferLemmas.{Changes-within, within-same, within-wider, on-ok}
-
-pub test-cases : (b : Bool) → (b ≡ true) ⊎ (b ≡ false)
-test-cases true = inl refl
-test-cases false = inr refl
-
-pub is_in-true : (r : Rect) (p : Position) → HasPosition r p → is_in r p ≡ true
-is_in-true r p h = let l = h.left in let e = h.right in let t = h.top in let b = h.bottom in grind (arith, nat_tests)
-
-pub is_in-has : (r : Rect) (p : Position) → is_in r p ≡ true → HasPosition r p
-is_in-has r p e = record {
-  left = grind (arith, nat_tests);
-  right = grind (arith, nat_tests);
-  top = grind (arith, nat_tests);
-  bottom = grind (arith, nat_tests);
-}
-
-pub is_in-false : (r : Rect) (p : Position) → (HasPosition r p → ⊥) → is_in r p ≡ false
-is_in-false r p off = false_from_ne_true (is_in r p) (λ e. off (is_in-has r p e))
+use Rattle.ratatui_core.proofs.BufferLemmas.{decide_position, position-true, position-false}
 
 -- a change over a part, at each position
 module _ (r : Rect) (f : Position → Cell → Cell) (old new : BufferData) (is : ChangesEach r f old new) (p : Position)
     (in_own : HasPosition old.area p) where
-  pub changed-at : cell_in new p ≡ (if is_in r p then f p (cell_in old p) else cell_in old p)
-  changed-at =
-      ⊎_elim
-      (λ (e : is_in r p ≡ true). rw e (is.inside p in_own (is_in-has r p e)))
-      (λ (e : is_in r p ≡ false). rw e (is.outside p in_own (λ h. let two = is_in-true r p h in
-      (let no : true ≡ false = sym two ∙ e in absurd (cc)))))
-      (test-cases (is_in r p))
+  pub changed-at : cell_in new p ≡ (if has_position r p then f p (cell_in old p) else cell_in old p)
+  changed-at = elim (decide_position r p) [
+    | inl (has, e) ↦ rw e (is.inside p in_own has)
+    | inr (off, e) ↦ rw e (is.outside p in_own off)
+  ]
 
 pub draws-one : {A : Type 0} (b : Block) (area part : Rect) (symbol : List ℕ) (is_drawn : Bool) (r : Result A AllocError)
     (old new : BufferData) → is_drawn ≡ true → IsInside part area
@@ -64,7 +44,7 @@ draws-one b area part symbol is_drawn (Ok x) old new e inside ok err short = rw 
 draws-one b area part symbol is_drawn (Err x) old new e inside ok err short = rw e (record {
   within = within-wider part area old new inside err;
   ok = tt;
-  short = λ all. short (λ p in_own here. (all p in_own).0 (is_in-true part p here));
+  short = λ all. short (λ p in_own here. (all p in_own).0 (position-true part p here));
 })
 
 stroked-append : (b : Block) (ss ts : List Stroke) (p : Position) (c : Cell)
@@ -202,13 +182,11 @@ box-area area own part is =
 module _ (b : Block) (area part : Rect) (old laid mid : BufferData) (is : IsClipped area old.area part)
     (style : IsStyled part b.style old laid) where
   laid-at : (p : Position) → HasPosition old.area p
-      → cell_in laid p ≡ (if is_in part p then styled b.style (cell_in old p) else cell_in old p)
-  laid-at p in_own =
-      ⊎_elim
-      (λ (e : is_in part p ≡ true). rw e (style.inside p in_own (is_in-has part p e)))
-      (λ (e : is_in part p ≡ false). rw e (style.outside p in_own (λ h. let two = is_in-true part p h in
-      (let no : true ≡ false = sym two ∙ e in absurd (cc)))))
-      (test-cases (is_in part p))
+      → cell_in laid p ≡ (if has_position part p then styled b.style (cell_in old p) else cell_in old p)
+  laid-at p in_own = elim (decide_position part p) [
+    | inl (has, e) ↦ rw e (style.inside p in_own has)
+    | inr (off, e) ↦ rw e (style.outside p in_own off)
+  ]
 
   within-laid : ChangesWithin part old laid
   within-laid = within-styled part part b.style old laid (λ p in_own h. h) style
@@ -222,20 +200,16 @@ module _ (b : Block) (area part : Rect) (old laid mid : BufferData) (is : IsClip
         let in_own : HasPosition old.area p = subst (λ q. HasPosition q p) style.area in_laid in
         rw (laid-at p in_own)
         (subst (λ (q : Rect). IsShortUnder b (strokes b q) p
-        (if is_in q p then styled b.style (cell_in old p) else cell_in old p)) (sym is.value) (short.short p in_own)))
+        (if has_position q p then styled b.style (cell_in old p) else cell_in old p)) (sym is.value) (short.short p in_own)))
 
   boxed-at : {A : Type 0} (x : A) → DrawsStrokes b part (strokes b part) (Ok x) laid mid → (p : Position) → HasPosition old.area p
       → cell_in mid p ≡ box_cell b part p (cell_in old p)
   boxed-at x draws p in_own =
       let in_laid : HasPosition laid.area p = rw style.area in_own in
-      ⊎_elim
-      (λ (e : is_in part p ≡ true). rw e (draws.ok.at p in_laid ∙ ap (stroked b (strokes b part) p)
-      (style.inside p in_own (is_in-has part p e))))
-      (λ (e : is_in part p ≡ false). rw e
-      (let off : HasPosition part p → ⊥ = λ h. let two = is_in-true part p h in (let no : true ≡ false = sym two ∙ e in
-      absurd (cc)) in
-      draws.within.outside p in_laid off ∙ style.outside p in_own off))
-      (test-cases (is_in part p))
+      elim (decide_position part p) [
+        | inl (has, e) ↦ rw e (draws.ok.at p in_laid ∙ ap (stroked b (strokes b part) p) (style.inside p in_own has))
+        | inr (off, e) ↦ rw e (draws.within.outside p in_laid off ∙ style.outside p in_own off)
+      ]
 
   pub titled-within : {A : Type 0} (r : Result A AllocError) (new : BufferData) → DrawsStrokes b part (strokes b part) r laid mid
       → KeepsOffTitles b part mid new → ChangesWithin area old new
@@ -272,7 +246,7 @@ pub block-none : (b : Block) (area : Rect) (s : BufferData) → ((intersected ar
 block-none b area s none = record {
   same_area = refl;
   same_room = refl;
-  at = λ p in_own off. rw (is_in-false (intersected area s.area) p (λ h. let l = h.left in let e = h.right in let t = h.top in
+  at = λ p in_own off. rw (position-false (intersected area s.area) p (λ h. let l = h.left in let e = h.right in let t = h.top in
       let d = h.bottom in
       ⊎_elim (λ (w : (intersected area s.area).width ≡ 0). omega arith)
       (λ (w : (intersected area s.area).height ≡ 0). omega arith) none)) refl;

@@ -1,11 +1,10 @@
 -- Clearing keeps a buffer settled.
-use Rattle.std.proofs.Common.{◌≡◌, ℕ, ◌+◌, ◌<◌, ◌⊎◌, ⊎_elim, inl, inr, true, false, sym, ap, subst, ◌∙◌, arith}
+use Rattle.std.proofs.Common.{◌≡◌, ℕ, ◌+◌, ◌<◌, ◌⊎◌, ⊎_elim, inl, inr, sym, ap, subst, ◌∙◌, arith}
 use Rattle.ratatui_core.specs.Layout.{Rect, Position, HasPosition, EdgesFit}
 use Rattle.ratatui_core.specs.Buffer.{BufferData, cell, cell_at, cell_index, empty_cell, width_of, is_skipped, is_same, IsSettled}
 use Rattle.ratatui_core.specs.Buffer.{IsSettledBuffer, IsBlankOrSkipped, position_of}
-use Rattle.ratatui_core.proofs.BufferLemmas.{width-empty, same-empty, index-at}
-use Rattle.rtui_boxes.specs.{Clears.RendersClear, Boxes.is_in}
-use Rattle.rtui_boxes.proofs.BoxLemmas.{test-cases, is_in-true, is_in-has}
+use Rattle.ratatui_core.proofs.BufferLemmas.{width-empty, same-empty, index-at, decide_position}
+use Rattle.rtui_boxes.specs.{Clears.RendersClear}
 
 module _ (area : Rect) (old new : BufferData) (edges : EdgesFit old.area) (is : RendersClear area old new)
     (was : IsSettledBuffer old) where
@@ -22,13 +21,13 @@ module _ (area : Rect) (old new : BufferData) (edges : EdgesFit old.area) (is : 
         bottom = omega arith;
       } in
       let at = index-at old.area.x old.area.y old.area.width a b in
-      ⊎_elim
-      (λ (e : is_in area p ≡ true). inr (subst (λ i. cell new.cells i ≡ empty_cell) at
-      (subst (λ q. cell new.cells (cell_index q p) ≡ empty_cell) is.area (is.inside p has (is_in-has area p e)))))
-      (λ (e : is_in area p ≡ false). inl (subst (λ i. cell new.cells i ≡ cell old.cells i) at
-      (subst (λ q. cell new.cells (cell_index q p) ≡ cell old.cells (cell_index old.area p)) is.area
-      (is.outside p has (λ h. let two = is_in-true area p h in (let no : true ≡ false = sym two ∙ e in absurd (cc)))))))
-      (test-cases (is_in area p))
+      elim (decide_position area p) [
+        | inl (inside, e) ↦ inr (subst (λ i. cell new.cells i ≡ empty_cell) at
+            (subst (λ q. cell new.cells (cell_index q p) ≡ empty_cell) is.area (is.inside p has inside)))
+        | inr (off, e) ↦ inl (subst (λ i. cell new.cells i ≡ cell old.cells i) at
+            (subst (λ q. cell new.cells (cell_index q p) ≡ cell old.cells (cell_index old.area p)) is.area
+            (is.outside p has off)))
+      ]
 
   pub clear-settled : IsSettledBuffer new
   clear-settled = subst (λ q. IsSettled q.width q.height new.cells) (sym is.area) (record {

@@ -7,9 +7,10 @@ use Rattle.ratatui_core.specs.Layout.{Rect, HasPosition, IsInside, intersected}
 use Rattle.ratatui_core.specs.{Style.Style, Buffer.BufferData, Buffer.IsStyled, Widgets.ChangesWithin, Widgets.IsClipped}
 use Rattle.ratatui_core.proofs.{BufferLemmas.within-wider, WidgetLemmas.within-then, WidgetLemmas.OnPart-clipped}
 use Rattle.rtui_boxes.specs.declared.block.Block.{Block}
-use Rattle.rtui_boxes.specs.Boxes.{IsBoxArea, IsShortBlock, inner_of, is_in}
+use Rattle.rtui_boxes.specs.Boxes.{IsBoxArea, IsShortBlock, inner_of}
 use Rattle.rtui_boxes.specs.Framed.{inner_if, IsFramed, IsBare, IsInner, InFrame, RendersInFrame, IsShortIfBox, IsShortFrame}
-use Rattle.rtui_boxes.proofs.{BoxLemmas.is_in-true, BoxLemmas.is_in-has, BoxLemmas.test-cases, ShortLemmas.short-box}
+use Rattle.rtui_boxes.proofs.ShortLemmas.{short-box}
+use Rattle.ratatui_core.proofs.BufferLemmas.{decide_position}
 
 pub if-short : (o : Option Block) (b : Block) (area : Rect) (s : BufferData) → o ≡ Some b → IsShortFrame o s
     → IsShortBlock b area s
@@ -24,11 +25,10 @@ short-laid o r style old laid is short = record {
   box = short.box;
   cells = λ p in_laid.
       let in_own : HasPosition old.area p = subst (λ a. HasPosition a p) is.area in_laid in
-      ⊎_elim
-      (λ (e : is_in r p ≡ true). rw (is.inside p in_own (is_in-has r p e)) (short.cells p in_own))
-      (λ (e : is_in r p ≡ false). rw (is.outside p in_own (λ h. let two = is_in-true r p h in
-      (let no : true ≡ false = sym two ∙ e in absurd (cc)))) (short.cells p in_own))
-      (test-cases (is_in r p));
+      elim (decide_position r p) [
+        | inl (has, e) ↦ rw (is.inside p in_own has) (short.cells p in_own)
+        | inr (off, e) ↦ rw (is.outside p in_own off) (short.cells p in_own)
+      ];
 }
 
 -- what is left of a span between two sides and two paddings

@@ -3,7 +3,7 @@ use Rattle.std.proofs.Common.{◌≡◌, ℕ, ◌+◌, ◌-◌, ◌/◌, ◌==�
 use Rattle.std.proofs.Common.{nat_le, List, [], ◌∷◌, ◌++◌, filter, reverse, All, sym, subst, arith, lit<}
 use Rattle.std.proofs.lemmas.{Bool.cases_lt, List.reverse-append}
 use Rattle.std.proofs.lemmas.List.Elements.{All-nil, All-cons, All-head, All-tail, All-append, All-map, All-filter}
-use Rattle.ratatui_core.specs.Layout.{Rect, Position, HasPosition, intersected}
+use Rattle.ratatui_core.specs.Layout.{Rect, Position, HasPosition, has_position, intersected}
 use Rattle.ratatui_core.specs.declared.layout.HorizontalAlignment.{HorizontalAlignment}
 use Rattle.ratatui_core.specs.declared.layout.HorizontalAlignment.TheVariants.{Left, Center, Right}
 use Rattle.ratatui_core.specs.{Style.Style, Text.LineData, declared.symbols.merge.MergeStrategy.MergeStrategy}
@@ -17,7 +17,7 @@ use Rattle.rtui_boxes.specs.Titles.{DoesIf, RendersTitle}
 use Rattle.rtui_boxes.specs.Titles.{PlacedTitle, RendersTitles, title_at, title_width, titles_width, first_columns, last_columns}
 use Rattle.rtui_boxes.specs.Titles.{without_first, without_last, shown_width, side_of, aligned, from_left, from_right}
 use Rattle.rtui_boxes.specs.Titles.{from_outside, from_centre}
-use Rattle.rtui_boxes.specs.Boxes.{Stroke, strokes, stroked, strikes, drawn, is_in, box_cell, is_placed, lines_placed, row_titles}
+use Rattle.rtui_boxes.specs.Boxes.{Stroke, strokes, stroked, strikes, drawn, box_cell, is_placed, lines_placed, row_titles}
 use Rattle.rtui_boxes.specs.Boxes.{placed_titles, titles_area, IsNarrowBox, RendersTitled, RendersBlock}
 
 plain-symbol : (c : Cell) → IsPlain c → text_width (symbol_text c.symbol) ≤ 1
@@ -57,7 +57,7 @@ narrow-strokes b r is = let all = is.symbols in (
 
 plain-cell : (b : Block) (r : Rect) (p : Position) (c : Cell) → IsNarrowBox b → IsPlain c → IsPlain (box_cell b r p c)
 plain-cell b r p c is plain =
-    plain-if (is_in r p) (stroked b (strokes b r) p (styled b.style c)) c
+    plain-if (has_position r p) (stroked b (strokes b r) p (styled b.style c)) c
     (plain-stroked b (strokes b r) p (styled b.style c) (narrow-strokes b r is) (plain-styled b.style c plain)) plain
 
 -- a style keeps cells plain

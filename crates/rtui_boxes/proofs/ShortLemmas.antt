@@ -3,11 +3,11 @@ use Rattle.std.proofs.Common.{◌≡◌, ℕ, ◌<◌, Bool, true, false, if◌t
 use Rattle.std.proofs.Common.{sym, ap, subst, arith}
 use Rattle.std.proofs.lemmas.List.Elements.{All-nil}
 use Rattle.ratatui_core.specs.declared.layout.HorizontalAlignment.TheVariants.{Center}
-use Rattle.ratatui_core.specs.Layout.{Rect, Position, intersected}
+use Rattle.ratatui_core.specs.Layout.{Rect, Position, has_position, intersected}
 use Rattle.ratatui_core.specs.Buffer.{BufferData, Cell, cell_in, symbol_text, styled, IsShort}
 use Rattle.ratatui_core.proofs.BufferLemmas.{joined-short}
 use Rattle.rtui_boxes.specs.{declared.block.Block.Block, declared.title.Title.Title, Titles.titles_width}
-use Rattle.rtui_boxes.specs.Boxes.{Stroke, strokes, strikes, drawn, is_in, IsShortUnder, IsShortBlock, HasShortSymbols}
+use Rattle.rtui_boxes.specs.Boxes.{Stroke, strokes, strikes, drawn, IsShortUnder, IsShortBlock, HasShortSymbols}
 use Rattle.rtui_boxes.specs.Boxes.{AreShortCells, lines_placed, HasShortTitles, AreShortTitles, AreShortAnywhere}
 use Rattle.rtui_boxes.specs.Lines.{IsShortTitle}
 
@@ -69,7 +69,8 @@ pub short-box : (b : Block) (area : Rect) (s : BufferData) → AreShortAnywhere 
 short-box b area s titles symbols_ cells = record {
   titles = short-titles b (intersected area s.area) titles;
   short = λ p has.
-      short-under b (strokes b (intersected area s.area)) p (if is_in (intersected area s.area) p then styled b.style
-      (cell_in s p) else cell_in s p) (short-strokes b (intersected area s.area) symbols_)
-      (if-short (is_in (intersected area s.area) p) (styled b.style (cell_in s p)) (cell_in s p) (cells p has) (cells p has));
+      let part = intersected area s.area in
+      short-under b (strokes b part) p (if has_position part p then styled b.style (cell_in s p) else cell_in s p)
+      (short-strokes b part symbols_)
+      (if-short (has_position part p) (styled b.style (cell_in s p)) (cell_in s p) (cells p has) (cells p has));
 }

@@ -1,9 +1,10 @@
 -- A box: which symbols stand where, and what is inside.
-use Rattle.std.specs.Prelude.{◌≡◌, ℕ, Bool, true, false, ◌&&◌, ◌||◌, ◌==◌, ◌+◌, ◌-◌, ◌≤◌, ◌<◌, nat_le, nat_lt}
+use Rattle.std.specs.Prelude.{◌≡◌, ℕ, Bool, true, false, ◌&&◌, ◌||◌, ◌==◌, ◌+◌, ◌-◌, ◌≤◌, ◌<◌}
 use Rattle.std.specs.Prelude.{min, Option, Some, None, List, [], ◌∷◌, ◌++◌, if◌then◌else◌, unwrap_or, map}
 use Rattle.std.specs.Prelude.{filter, reverse, All, ⊤}
 use Rattle.std.specs.{List.list_any, Int.RustNames.bit_and}
-use Rattle.ratatui_core.specs.Layout.{Rect, Position, HasPosition, right_edge, bottom_edge, intersected}
+use Rattle.ratatui_core.specs.Layout.{Rect, Position, HasPosition, has_position, right_edge, bottom_edge}
+use Rattle.ratatui_core.specs.Layout.{intersected}
 use Rattle.ratatui_core.specs.Symbols.{border_texts, plain_border}
 use Rattle.ratatui_core.specs.{Style.Style, Style.new_style, Text.LineData}
 use Rattle.ratatui_core.specs.{declared.layout.HorizontalAlignment.HorizontalAlignment}
@@ -170,13 +171,9 @@ corner_strokes b r =
     ∷ (stroke (has_side b left && has_side b top)
     (place_at (position_of (r.x, r.y))) b.border_set.top_left.now ∷ [])))
 
--- the position lies in a rectangle
-abbrev pub is_in : Rect → Position → Bool
-is_in r p = nat_le r.x p.x && nat_lt p.x (right_edge r) && nat_le r.y p.y && nat_lt p.y (bottom_edge r)
-
 -- the stroke is drawn over the position
 abbrev pub strikes : Stroke → Position → Bool
-strikes s p = s.is_drawn && is_in s.part p
+strikes s p = s.is_drawn && has_position s.part p
 
 -- a cell at a position, with the strokes drawn over it in order
 abbrev pub stroked : Block → List Stroke → Position → Cell → Cell
@@ -218,7 +215,7 @@ pub record IsOffTitles (b : Block) (r : Rect) (p : Position) : Type 0 where
 -- a cell at a position of a box over a rectangle: in the style of the box, and the strokes over it; beside
 -- the box as before
 abbrev pub box_cell : Block → Rect → Position → Cell → Cell
-box_cell b r p c = if is_in r p then stroked b (strokes b r) p (styled b.style c) else c
+box_cell b r p c = if has_position r p then stroked b (strokes b r) p (styled b.style c) else c
 
 -- whether a title stands in a row and is aligned so; if it doesn't say so itself it is as the box says
 abbrev pub is_placed : Block → TitlePosition → HorizontalAlignment → Title → Bool
@@ -277,7 +274,7 @@ pub record IsShortBlock (b : Block) (area : Rect) (s : BufferData) : Type 0 wher
   pub titles : AreShortTitles b (intersected area s.area)
   pub short : (p : Position) → HasPosition s.area p
       → IsShortUnder b (strokes b (intersected area s.area)) p
-      (if is_in (intersected area s.area) p then styled b.style (cell_in s p) else cell_in s p)
+      (if has_position (intersected area s.area) p then styled b.style (cell_in s p) else cell_in s p)
 
 -- titles that take no memory in a row of any width: none of any columns stands in the centre
 pub record AreShortAnywhere (b : Block) : Type 0 where

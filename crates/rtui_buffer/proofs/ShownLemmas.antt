@@ -1,8 +1,8 @@
 -- Empty buffers with a style, and the looks of shown cells.
-use Rattle.std.proofs.Common.{◌≡◌, ℕ, ◌+◌, ◌-◌, ◌*◌, ◌<◌, ◌≤◌, ◌⊎◌, inl, inr, List, length, take, false, refl, sym, ap, ap₂}
+use Rattle.std.proofs.Common.{◌≡◌, ℕ, ◌+◌, ◌-◌, ◌*◌, ◌<◌, ◌≤◌, inl, inr, List, length, take, false, refl, sym, ap, ap₂}
 use Rattle.std.proofs.Common.{subst, ◌∙◌, arith}
 use Rattle.rtui_geometry.specs.{declared.position.Position.Position, declared.rect.Rect.Rect}
-use Rattle.rtui_geometry.specs.Rect.{HasPosition, EdgesFit}
+use Rattle.rtui_geometry.{specs.Rect.HasPosition, specs.Rect.EdgesFit, proofs.PositionTests.has-or-not}
 use Rattle.rtui_style.specs.declared.Style.{Style}
 use Rattle.rtui_cell.specs.{declared.cell.Cell.Cell, Look.look_of, Grid.Grid}
 use Rattle.rtui_cell.specs.Cell.{empty_cell, styled, width_of, is_skipped, IsUnmarked}
@@ -25,9 +25,6 @@ blank-empty = record { width = width-empty; unmarked = record { option = refl; f
 blank-styled : (s : Style) → IsPlainBlank (styled s empty_cell)
 unfolding width_of
 blank-styled s = record { width = width-empty; unmarked = record { option = refl; flag = refl } }
-
-has-or-not : (r : Rect) (p : Position) → HasPosition r p ⊎ ¬ (HasPosition r p)
-has-or-not r p = grind arith
 
 -- the place of a cell by how far it lies from its area's corner
 pub index-at : (x y w a b : ℕ) → (y + b - y) * w + (x + a - x) ≡ b * w + a

@@ -18,8 +18,9 @@ use std::marker::Model;
 // The bytes of a text that are kept in the symbol itself.
 const INLINE: usize = 22;
 
+// Where a symbol has its text.
 #[derive(Drop)]
-enum Text {
+enum Storage {
     Unset,
     // unset again, in the room of a short text, so that taking texts away and setting them writes
     // little
@@ -32,7 +33,7 @@ enum Text {
 /// most 22 bytes takes no memory. Its `Debug` shows the text, one blank if there is none.
 #[derive(Drop)]
 pub struct Symbol {
-    text: Text,
+    text: Storage,
 }
 
 impl Model for Symbol {
@@ -48,7 +49,9 @@ impl Model for Symbol {
 
 impl Symbol {
     /// No text yet.
-    pub const UNSET: Symbol = Symbol { text: Text::Unset };
+    pub const UNSET: Symbol = Symbol {
+        text: Storage::Unset,
+    };
 
     /// A symbol with this text.
     ///
@@ -60,8 +63,8 @@ impl Symbol {
         ensures short { IsShort text.now → IsOk result }
     {
         let text = match ArrayString::from(text) {
-            Ok(short) => Text::Short(short),
-            Err(_) => Text::Long(copied(alloc, text)?),
+            Ok(short) => Storage::Short(short),
+            Err(_) => Storage::Long(copied(alloc, text)?),
         };
         Ok(Symbol { text })
     }
@@ -71,9 +74,9 @@ impl Symbol {
         ensures { result.now ≡ symbol_text self.now }
     {
         match &self.text {
-            Text::Unset | Text::Cleared(_) => " ",
-            Text::Short(text) => text.as_str(),
-            Text::Long(text) => text.as_str(),
+            Storage::Unset | Storage::Cleared(_) => " ",
+            Storage::Short(text) => text.as_str(),
+            Storage::Long(text) => text.as_str(),
         }
     }
 
@@ -91,11 +94,11 @@ impl Symbol {
     {
         // the room of a text that was taken away is there to be filled
         match &self.text {
-            Text::Cleared(room) if text.len() <= INLINE => self.text = Text::Short(*room),
+            Storage::Cleared(room) if text.len() <= INLINE => self.text = Storage::Short(*room),
             _ => {}
         }
         match &mut self.text {
-            Text::Short(stored) if text.len() <= INLINE => {
+            Storage::Short(stored) if text.len() <= INLINE => {
                 stored.clear();
                 stored.push_str(text);
             }
@@ -113,7 +116,7 @@ impl Symbol {
     fn store(&mut self, text: ArrayString<INLINE>)
         ensures { self.new ≡ Some text.bytes }
     {
-        self.text = Text::Short(text);
+        self.text = Storage::Short(text);
     }
 
     // Puts a text in place of any other; apart, so that the path of a short one stays short.
@@ -132,9 +135,9 @@ impl Symbol {
         ensures { self.new ≡ None }
     {
         match &self.text {
-            Text::Unset | Text::Cleared(_) => {}
-            Text::Short(text) => self.text = Text::Cleared(*text),
-            Text::Long(_) => self.text = Text::Unset,
+            Storage::Unset | Storage::Cleared(_) => {}
+            Storage::Short(text) => self.text = Storage::Cleared(*text),
+            Storage::Long(_) => self.text = Storage::Unset,
         }
     }
 
@@ -150,13 +153,13 @@ impl Symbol {
         ensures short { IsShort (appended self.old text.now) → IsOk result }
     {
         match &mut self.text {
-            Text::Unset | Text::Cleared(_) => *self = Symbol::new(alloc, text)?,
-            Text::Short(stored) => {
+            Storage::Unset | Storage::Cleared(_) => *self = Symbol::new(alloc, text)?,
+            Storage::Short(stored) => {
                 if stored.try_push_str(text).is_err() {
-                    self.text = Text::Long(concat(alloc, stored.as_str(), text)?);
+                    self.text = Storage::Long(concat(alloc, stored.as_str(), text)?);
                 }
             }
-            Text::Long(stored) => stored.push_str(text)?,
+            Storage::Long(stored) => stored.push_str(text)?,
         }
         Ok(())
     }
@@ -178,7 +181,7 @@ impl Symbol {
         ensures short { IsShort (joined strategy self.old text.now) → IsOk result }
     {
         match &self.text {
-            Text::Unset | Text::Cleared(_) => self.set(alloc, text),
+            Storage::Unset | Storage::Cleared(_) => self.set(alloc, text),
             _ => self.join(alloc, text, strategy),
         }
     }
@@ -191,16 +194,16 @@ impl Symbol {
         ensures short { IsShort (joined strategy self.old text.now) → IsOk result }
     {
         match &self.text {
-            Text::Unset | Text::Cleared(_) => self.set(alloc, text),
-            Text::Short(stored) if stored.as_str() == text => {
+            Storage::Unset | Storage::Cleared(_) => self.set(alloc, text),
+            Storage::Short(stored) if stored.as_str() == text => {
                 merge_with_itself();
                 Ok(())
             }
-            Text::Short(stored) => {
+            Storage::Short(stored) => {
                 let stored = *stored;
                 self.set(alloc, strategy.merge(stored.as_str(), text))
             }
-            Text::Long(stored) => {
+            Storage::Long(stored) => {
                 *self = Symbol::new(alloc, strategy.merge(stored.as_str(), text))?;
                 Ok(())
             }
@@ -212,9 +215,9 @@ impl Symbol {
         ensures { result ≡ (length (symbol_text self.now) == 1) }
     {
         match &self.text {
-            Text::Unset | Text::Cleared(_) => true,
-            Text::Short(text) => text.len() == 1,
-            Text::Long(_) => false,
+            Storage::Unset | Storage::Cleared(_) => true,
+            Storage::Short(text) => text.len() == 1,
+            Storage::Long(_) => false,
         }
     }
 
@@ -231,13 +234,13 @@ impl Symbol {
         ensures short { IsShort (symbol_text other.now) → IsOk result }
     {
         match &other.text {
-            Text::Unset | Text::Cleared(_) => self.unset(),
-            Text::Short(text) => match &mut self.text {
-                Text::Short(stored) => *stored = *text,
-                Text::Long(_) => self.replace(alloc, text.as_str())?,
-                _ => self.text = Text::Short(*text),
+            Storage::Unset | Storage::Cleared(_) => self.unset(),
+            Storage::Short(text) => match &mut self.text {
+                Storage::Short(stored) => *stored = *text,
+                Storage::Long(_) => self.replace(alloc, text.as_str())?,
+                _ => self.text = Storage::Short(*text),
             },
-            Text::Long(text) => self.replace(alloc, text.as_str())?,
+            Storage::Long(text) => self.replace(alloc, text.as_str())?,
         }
         Ok(())
     }
@@ -252,11 +255,11 @@ impl Symbol {
         ensures short { IsShort (symbol_text self.now) → IsOk result }
     {
         match &self.text {
-            Text::Unset | Text::Cleared(_) => Ok(Symbol::UNSET),
-            Text::Short(text) => Ok(Symbol {
-                text: Text::Short(*text),
+            Storage::Unset | Storage::Cleared(_) => Ok(Symbol::UNSET),
+            Storage::Short(text) => Ok(Symbol {
+                text: Storage::Short(*text),
             }),
-            Text::Long(text) => Symbol::new(alloc, text.as_str()),
+            Storage::Long(text) => Symbol::new(alloc, text.as_str()),
         }
     }
 }
@@ -308,8 +311,8 @@ impl PartialEq for Symbol {
 
     fn eq(&self, other: &Symbol) -> bool {
         match (&self.text, &other.text) {
-            (Text::Short(a), Text::Short(b)) => is_same_short(a, b),
-            (Text::Unset | Text::Cleared(_), Text::Unset | Text::Cleared(_)) => true,
+            (Storage::Short(a), Storage::Short(b)) => is_same_short(a, b),
+            (Storage::Unset | Storage::Cleared(_), Storage::Unset | Storage::Cleared(_)) => true,
             _ => self.as_str() == other.as_str(),
         }
     }

@@ -1,5 +1,5 @@
 -- A rectangle is the set of its positions. Columns and rows go up to 65535, and edges are cut there.
-use Rattle.std.specs.Prelude.{ℕ, ◌+◌, ◌-◌, ◌*◌, ◌<◌, ◌≤◌, min, max}
+use Rattle.std.specs.Prelude.{ℕ, ◌+◌, ◌-◌, ◌*◌, ◌<◌, ◌≤◌, min, max, Bool, ◌&&◌, nat_lt, nat_le}
 use Rattle.rtui_geometry.specs.{declared.margin.Margin.Margin, declared.position.Position.Position}
 use Rattle.rtui_geometry.specs.{declared.rect.Rect.Rect}
 
@@ -17,6 +17,10 @@ pub record HasPosition (r : Rect) (p : Position) : Type 0 where
   pub right : p.x < right_edge r
   pub top : r.y ≤ p.y
   pub bottom : p.y < bottom_edge r
+
+-- whether it is one
+abbrev pub has_position : Rect → Position → Bool
+has_position r p = nat_le r.x p.x && nat_lt p.x (right_edge r) && nat_le r.y p.y && nat_lt p.y (bottom_edge r)
 
 -- the position at the top left
 abbrev pub corner : Rect → Position

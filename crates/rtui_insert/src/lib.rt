@@ -14,7 +14,7 @@ mod insert;
 mod marks;
 mod updates;
 
-pub use draw::{draw_first_row, draw_rows};
+pub use draw::draw_rows;
 pub use fill::fill_rows;
 pub use follow::follow_viewport;
 pub use insert::{insert_down, insert_up, push_rows};

@@ -3,19 +3,19 @@ use Rattle.std.specs.Iterator.{Drains, YieldsFirstBy}
 use Rattle.std.proofs.Common.{◌≡◌, ◌⊎◌, ℕ, ◌+◌, ◌*◌, ◌<◌, ◌≤◌, List, Ok, length, map, inl, inr}
 use Rattle.std.proofs.Common.{refl, sym, ap, subst, ◌∙◌, arith}
 use Rattle.std.proofs.lemmas.{Bool.cases_lt, List.length-map, Iterator.Consumers.YieldsList-from_first}
-use Rattle.rtui_geometry.specs.{declared.rect.Rect.Rect, Rect.EdgesFit}
+use Rattle.rtui_geometry.specs.{declared.rect.Rect.Rect, Rect.EdgesFit, Rect.HasPosition}
 use Rattle.rtui_cell.specs.Grid.{Update}
 use Rattle.rtui_diff.specs.{Settled.IsSettled, Shows.ShowsColumn, Shows.Shows, Shows.Replays}
 use Rattle.rtui_diff.specs.{Updates.update_at, Completeness.AreNarrow, Completeness.differing}
 use Rattle.rtui_buffer.specs.BufferData.{BufferData}
 use Rattle.rtui_buffer.specs.Shown.{IsSettledBuffer, IsBufferDiff, common_rows, buffer_updates}
-use Rattle.rtui_backend.specs.Screen.{Screen, Draws, IsWithin}
+use Rattle.rtui_backend.specs.Screen.{Screen, Draws}
 use Rattle.rtui_backend.proofs.DrawLemmas.{Draws-along}
 use Rattle.rtui_terminal.specs.Writing.{WritesDifferences, differing_count}
 
 -- a column that isn't in a rectangle lies on one side of it
-pub beside : (r : Rect) (a b : ℕ) → EdgesFit r → (IsWithin r a b → ⊥) → (a < r.x) ⊎ (r.x + r.width ≤ a) ⊎ (b < r.y)
-    ⊎ (r.y + r.height ≤ b)
+pub beside : (r : Rect) (a b : ℕ) → EdgesFit r → (HasPosition r (record { x = a; y = b }) → ⊥)
+    → (a < r.x) ⊎ (r.x + r.width ≤ a) ⊎ (b < r.y) ⊎ (r.y + r.height ≤ b)
 beside r a b fit out = elim (cases_lt a r.x) [
   | inl left ↦ inl left
   | inr x ↦ elim (cases_lt a (r.x + r.width)) [

@@ -1,8 +1,8 @@
 -- What calls keep of the rows above a viewport and of all columns outside it.
 use Rattle.std.proofs.Common.{rules, ◌≡◌, ℕ, ◌+◌, ◌<◌, Bool, Option, Some, None, refl, sym, ap, ◌∙◌, subst, inl, inr, arith}
-use Rattle.rtui_geometry.specs.{declared.position.Position.Position, declared.rect.Rect.Rect}
+use Rattle.rtui_geometry.specs.{declared.position.Position.Position, declared.rect.Rect.Rect, Rect.HasPosition}
 use Rattle.rtui_buffer.specs.{BufferData.BufferData, Shown.IsSettledBuffer}
-use Rattle.rtui_backend.specs.Screen.{Screen, KeepsSizeAndHistory, IsOnScreen, IsWithin, rows_above, screen_area, size_of}
+use Rattle.rtui_backend.specs.Screen.{Screen, KeepsSizeAndHistory, IsOnScreen, rows_above, screen_area, size_of}
 use Rattle.rtui_backend.proofs.ScrollLemmas.{above_same}
 use Rattle.rtui_viewport.specs.{Areas.KeepsOutside, Areas.IsBlankBelow, Clearing.ClearsArea, Viewports.IsFixed}
 use Rattle.rtui_viewport.specs.{Viewports.IsInline}
@@ -75,7 +75,7 @@ module _ {B : Type 0} (screen : B → Screen) where
     outside = record {
       at = λ a b a_in b_in out.
           q.outside.at a b (subst (λ w. a < w) (sym p.size.width) a_in) (subst (λ h. b < h) (sym p.size.height) b_in)
-          (λ within. out (subst (λ area. IsWithin area a b) p.viewport_area within))
+          (λ within. out (subst (λ area. HasPosition area (record { x = a; y = b })) p.viewport_area within))
           ∙ p.outside.at a b a_in b_in out;
     };
   }

@@ -71,9 +71,9 @@ started_lies (Fixed f) s u r w h is on = is
 -- below an inline viewport that was cleared all is blank
 emptied_below : (kind : Viewport) (r : Rect) (more : Bool) (old new : Screen) → IsInline kind → new.width ≡ old.width
     → new.height ≡ old.height → r.x ≡ 0
-    → (HasPlace kind r old → Empties (λ a b. is_emptied kind r old.height a b || more) old new) → IsBlankBelow r new
+    → (HasPlace kind r old → Empties (λ p. is_emptied kind r old.height p || more) old new) → IsBlankBelow r new
 emptied_below kind r more old new inline width height left empties = for_inline
-    (λ k. (HasPlace k r old → Empties (λ a b. is_emptied k r old.height a b || more) old new) → IsBlankBelow r new)
+    (λ k. (HasPlace k r old → Empties (λ p. is_emptied k r old.height p || more) old new) → IsBlankBelow r new)
     (λ n empties. record {
       at = λ a b a_in b_in under.
           let gone : nat_le (min r.y (old.height - 1)) b ≡ true = grind (arith, nat_tests) in

@@ -4,11 +4,12 @@ use Rattle.std.proofs.Common.{if◌then◌else◌}
 use Rattle.std.specs.Option.{unwrap_or}
 use Rattle.std.proofs.lemmas.Bool.Decides.{nat_tests}
 use Rattle.rtui_geometry.specs.{declared.position.Position.Position, declared.rect.Rect.Rect, Rect.corner, Rect.EdgesFit}
+use Rattle.rtui_geometry.specs.{Rect.has_position}
 use Rattle.rtui_cell.specs.Look.{Look, empty_look}
 use Rattle.rtui_buffer.specs.BufferData.{BufferData, IsEmptied, IsSameBuffer}
 use Rattle.rtui_buffer.proofs.EmptyLemmas.{IsSettledBuffer-empty, ShowsBuffer-empty}
 use Rattle.rtui_backend.specs.Screen.{Screen, Scrolls, IsOnGrid, IsOnScreen, screen_area, cursor_of, with_cursor}
-use Rattle.rtui_viewport.specs.{Areas.KeepsAllButLooks, Areas.Empties, Areas.is_within, Areas.IsBlankOver, Sizing.first_area}
+use Rattle.rtui_viewport.specs.{Areas.KeepsAllButLooks, Areas.Empties, Areas.IsBlankOver, Sizing.first_area}
 use Rattle.rtui_viewport.specs.Placing.{raised, area_in, inline_area, cursor_found, cursor_restored, EmptiesAllIf, Places}
 use Rattle.rtui_viewport.specs.Placing.{rows_scrolled}
 use Rattle.rtui_viewport.specs.{Clearing.HasPlace, Clearing.ClearsArea, Clearing.is_emptied, Viewports.IsFixed}
@@ -70,29 +71,32 @@ emptied_frame true p = p.frame
 emptied_frame false {s} same = rw same (frame_same s)
 
 -- columns that were emptied, or for no other reason
-pub empties_or : {e : ℕ → ℕ → Bool} {s t : Screen} → Empties e s t → Empties (λ a b. e a b || false) s t
-empties_or {e} {s} p = record { frame = p.frame; grid = λ a b a_in b_in. p.grid a b a_in b_in ∙ either (e a b) (s.grid a b) }
+pub empties_or : {e : Position → Bool} {s t : Screen} → Empties e s t → Empties (λ p. e p || false) s t
+empties_or {e} {s} p = record {
+  frame = p.frame;
+  grid = λ a b a_in b_in. p.grid a b a_in b_in ∙ either (e (record { x = a; y = b })) (s.grid a b);
+}
   where
     either : (x : Bool) (look : Look) → (if x then empty_look else look) ≡ (if x || false then empty_look else look)
     either true look = refl
     either false look = refl
 
 -- columns that were emptied after the whole screen was, or after nothing was
-pub emptied_twice : (e : ℕ → ℕ → Bool) (narrow : Bool) {s m t : Screen} → EmptiesAllIf narrow s m → Empties e m t
-    → Empties (λ a b. e a b || narrow) s t
+pub emptied_twice : (e : Position → Bool) (narrow : Bool) {s m t : Screen} → EmptiesAllIf narrow s m → Empties e m t
+    → Empties (λ p. e p || narrow) s t
 emptied_twice e true first empties = empties_more first empties
 emptied_twice e false {s} {m} {t} same empties = empties_or (subst (λ k. Empties e k t) same empties)
 
 -- a viewport that was emptied after it was placed
 pub emptied_placed : (v : Viewport) (r : Rect) {former width o : ℕ} {old m t : Screen} (p : Places v former width o old m)
-    → ClearsArea v r m t → (IsFixed v → r.y < m.height → Empties (is_within r) m t)
+    → ClearsArea v r m t → (IsFixed v → r.y < m.height → Empties (has_position r) m t)
     → EmptiesPlaced v r (nat_lt width former) p.scrolled t
 emptied_placed v r {former} {width} {o} {old} {m} {t} p clears cut =
     let size = (emptied_frame (nat_lt width former) {s = p.scrolled} {m = m} p.empties).size in
     record {
       empties = λ place. emptied_twice _ (nat_lt width former) p.empties (subst (λ h. Empties (is_emptied v r h) m t) size.height
           (clears (place_same v r p.scrolled m size.width size.height place)));
-      cut = λ fixed top. emptied_twice (is_within r) (nat_lt width former) p.empties (cut fixed (omega (arith, size.height)));
+      cut = λ fixed top. emptied_twice (has_position r) (nat_lt width former) p.empties (cut fixed (omega (arith, size.height)));
     }
 
 pub resized_same : (r : Rect) {a b c : BufferData} → IsSameBuffer a b → IsResized r b c → IsResized r a c

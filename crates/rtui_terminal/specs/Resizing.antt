@@ -1,11 +1,11 @@
 -- What a resize does, and when a terminal resizes by itself.
 use Rattle.std.specs.Prelude.{◌≡◌, ◌⊎◌, ◌-◌, ◌<◌, ◌||◌, Bool, nat_lt, ◌++◌, length, take}
-use Rattle.rtui_geometry.specs.declared.rect.Rect.{Rect}
+use Rattle.rtui_geometry.specs.{declared.rect.Rect.Rect, Rect.has_position}
 use Rattle.rtui_buffer.specs.BufferData.{IsEmptied, IsSameBuffer, BufferData, area_size, empty_cells}
 use Rattle.rtui_backend.specs.Screen.{IsOnScreen, Screen, Scrolls, cursor_of, screen_area}
 use Rattle.rtui_viewport.specs.{declared.viewport.Viewport.Viewport, Viewports.IsFixed, Areas.Empties}
 use Rattle.rtui_viewport.specs.{Areas.KeepsAllButLooks}
-use Rattle.rtui_viewport.specs.{Areas.is_within, Clearing.HasPlace, Clearing.WritesBlanks}
+use Rattle.rtui_viewport.specs.{Clearing.HasPlace, Clearing.WritesBlanks}
 use Rattle.rtui_viewport.specs.{Clearing.is_emptied}
 use Rattle.rtui_viewport.specs.Placing.{area_in, raised, rows_scrolled, unplaced_area}
 use Rattle.rtui_terminal.specs.TerminalData.{HasAreas, HaveRoom, TerminalData, cursor_offset}
@@ -32,8 +32,8 @@ pub record KeepsBuffers {B : Type 0} (s t : TerminalData B) : Type 0 where
 -- a viewport was emptied at a new place, a fixed one as far as the screen has it; all columns were, if the
 -- viewport became narrower
 pub record EmptiesPlaced (v : Viewport) (r : Rect) (is_narrower : Bool) (old new : Screen) : Type 0 where
-  pub empties : HasPlace v r old → Empties (λ a b. is_emptied v r old.height a b || is_narrower) old new
-  pub cut : IsFixed v → r.y < old.height → Empties (λ a b. is_within r a b || is_narrower) old new
+  pub empties : HasPlace v r old → Empties (λ p. is_emptied v r old.height p || is_narrower) old new
+  pub cut : IsFixed v → r.y < old.height → Empties (λ p. has_position r p || is_narrower) old new
 
 module _ {B : Type 0} (screen : B → Screen) where
   -- a resize to an area: the viewport was placed on it, which may scroll, and cleared, or the whole screen if
@@ -55,10 +55,10 @@ module _ {B : Type 0} (screen : B → Screen) where
         (screen s.backend)) scrolled
     pub frame : KeepsAllButLooks scrolled (screen t.backend)
     pub empties : HasPlace s.viewport t.viewport_area scrolled
-        → Empties (λ a b. is_emptied s.viewport t.viewport_area scrolled.height a b
+        → Empties (λ p. is_emptied s.viewport t.viewport_area scrolled.height p
         || nat_lt area.width s.viewport_area.width) scrolled (screen t.backend)
     pub cut : IsFixed s.viewport → t.viewport_area.y < scrolled.height
-        → Empties (λ a b. is_within t.viewport_area a b || nat_lt area.width s.viewport_area.width) scrolled
+        → Empties (λ p. has_position t.viewport_area p || nat_lt area.width s.viewport_area.width) scrolled
         (screen t.backend)
     pub cursor : (IsFixed s.viewport → ⊥) → cursor_of (screen t.backend) ≡ cursor_of (screen s.backend)
     pub written : WritesBlanks s.viewport t.viewport_area scrolled (screen t.backend)

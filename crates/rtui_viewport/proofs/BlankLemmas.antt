@@ -1,13 +1,13 @@
 -- What empty cells leave that are drawn over an area.
-use Rattle.std.proofs.Common.{◌≡◌, ◌⊎◌, ℕ, zero, suc, true, false, ◌<◌, List, [], ◌∷◌, map, refl, ◌∙◌, arith, inl, inr}
+use Rattle.std.proofs.Common.{◌≡◌, ℕ, zero, suc, ◌<◌, List, [], ◌∷◌, map, refl, ◌∙◌, arith, inl, inr}
 use Rattle.std.proofs.Common.{if◌then◌else◌}
 use Rattle.std.specs.List.{Contains}
-use Rattle.std.proofs.lemmas.{Bool.cases_Bool, Bool.Decides.nat_tests}
+use Rattle.std.proofs.lemmas.{Bool.Decides.nat_tests}
 use Rattle.rtui_geometry.specs.{declared.position.Position.Position, declared.rect.Rect.Rect, Rect.EdgesFit, Rows.ListsPositions}
 use Rattle.rtui_cell.specs.{Look.empty_look, Grid.Grid, Grid.put, Grid.puts}
 use Rattle.rtui_cell.proofs.CellLemmas.{look-empty, width-empty}
-use Rattle.rtui_backend.specs.Screen.{IsWithin}
-use Rattle.rtui_viewport.specs.{Areas.is_within, Remaining.blank_at}
+use Rattle.rtui_geometry.{specs.Rect.has_position, proofs.PositionTests.decide_position}
+use Rattle.rtui_viewport.specs.{Remaining.blank_at}
 
 abbrev at : ℕ → ℕ → Position
 at a b = record { x = a; y = b }
@@ -48,26 +48,11 @@ module _ (w h : ℕ) where
       puts_away ps (put w h (blank_at p) g) a b (λ c. other (suc c.0, omega (arith, c.1), c.2))
       ∙ put_away p g a b (λ e. other (zero, omega arith, e))
 
--- a column is in a rectangle, or not
-pub decide_within : (r : Rect) (a b : ℕ) → (IsWithin r a b × (is_within r a b ≡ true))
-    ⊎ ((IsWithin r a b → ⊥) × (is_within r a b ≡ false))
-decide_within r a b = elim (cases_Bool (is_within r a b)) [
-  | inl on ↦ inl (
-    record {
-      left = grind (arith, nat_tests);
-      right = grind (arith, nat_tests);
-      top = grind (arith, nat_tests);
-      bottom = grind (arith, nat_tests);
-    },
-    on,
-  )
-  | inr off ↦ inr (λ w. absurd (grind (arith, nat_tests, w.left, w.right, w.top, w.bottom)), off)
-]
-
 -- drawn over an area that lies on the grid
 pub blanks_over : (r : Rect) (w h : ℕ) (ps : List Position) → EdgesFit r → ListsPositions r ps
-    → (g : Grid) (a b : ℕ) → a < w → b < h → puts w h (map blank_at ps) g a b ≡ if is_within r a b then empty_look else g a b
-blanks_over r w h ps fits lists g a b a_in b_in = elim (decide_within r a b) [
+    → (g : Grid) (a b : ℕ) → a < w → b < h
+    → puts w h (map blank_at ps) g a b ≡ if has_position r (at a b) then empty_look else g a b
+blanks_over r w h ps fits lists g a b a_in b_in = elim (decide_position r (at a b)) [
   | inl (within, is) ↦ rw is (puts_here w h ps g a b a_in b_in ((lists.each (at a b)).1 within))
   | inr (out, is) ↦ rw is (puts_away w h ps g a b (λ c. out ((lists.each (at a b)).0 c)))
 ]

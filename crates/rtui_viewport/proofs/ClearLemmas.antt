@@ -2,16 +2,17 @@
 use Rattle.std.proofs.Common.{◌≡◌, ◌⊎◌, ℕ, ◌<◌, Bool, List, map, Option, None, Some, refl, sym, subst, ◌∙◌, arith, inl, inr, ◌||◌}
 use Rattle.std.proofs.lemmas.Bool.Decides.{nat_tests}
 use Rattle.rtui_geometry.specs.{declared.position.Position.Position, declared.rect.Rect.Rect, Rect.EdgesFit, Rows.ListsPositions}
+use Rattle.rtui_geometry.{specs.Rect.has_position, proofs.PositionTests.decide_position}
 use Rattle.rtui_backend.specs.declared.clear_type.ClearType.{ClearType}
 use Rattle.rtui_backend.specs.declared.clear_type.ClearType.TheVariants.{AfterCursor}
 use Rattle.rtui_backend.specs.Screen.{Screen, Draws, Clears, IsOnScreen, with_cursor, rows_above}
 use Rattle.rtui_backend.proofs.ScrollLemmas.{above_same}
 use Rattle.rtui_viewport.specs.declared.viewport.Viewport.{Viewport}
 use Rattle.rtui_viewport.specs.declared.viewport.Viewport.TheVariants.{Fullscreen, Inline, Fixed}
-use Rattle.rtui_viewport.specs.Areas.{KeepsAllButLooks, Empties, KeepsOutside, IsBlankOver, is_within}
+use Rattle.rtui_viewport.specs.Areas.{KeepsAllButLooks, Empties, KeepsOutside, IsBlankOver}
 use Rattle.rtui_viewport.specs.Clearing.{ClearsArea, is_emptied, blanks_needed, WritesItems, WritesBlanks}
 use Rattle.rtui_viewport.specs.{Placing.cursor_restored, Remaining.blank_at}
-use Rattle.rtui_viewport.proofs.BlankLemmas.{decide_within, blanks_over}
+use Rattle.rtui_viewport.proofs.BlankLemmas.{blanks_over}
 
 pub frame_same : (s : Screen) → KeepsAllButLooks s s
 frame_same s = record { size = record { width = refl; height = refl; history = refl }; visible = refl }
@@ -40,7 +41,7 @@ none_needed r s (inr none) = rw none (grind (arith, nat_tests))
 
 -- empty cells drawn over an area
 pub empties_drawn : (r : Rect) {s t : Screen} (ps : List Position) → EdgesFit r → ListsPositions r ps
-    → Draws s (map blank_at ps) t → Empties (is_within r) s t
+    → Draws s (map blank_at ps) t → Empties (has_position r) s t
 empties_drawn r {s} {t} ps fits lists d = record {
   frame = record { size = record { width = d.width; height = d.height; history = d.history }; visible = d.visible };
   grid = λ a b a_in b_in. d.grid a b ∙ blanks_over r s.width s.height ps fits lists s.grid a b a_in b_in;
@@ -55,7 +56,7 @@ clears_inline n area {s} p left = record {
 }
 
 -- one after the other
-pub empties_more : {p q : ℕ → ℕ → Bool} {r s t : Screen} → Empties p r s → Empties q s t → Empties (λ a b. q a b || p a b) r t
+pub empties_more : {p q : Position → Bool} {r s t : Screen} → Empties p r s → Empties q s t → Empties (λ k. q k || p k) r t
 empties_more {p} {q} {r} {s} {t} first next = record {
   frame = frame_more first.frame next.frame;
   grid = λ a b a_in b_in.
@@ -81,9 +82,9 @@ blank_over (Fixed f) r on p = record {
 }
 
 -- nothing changes outside a fixed viewport
-pub keeps_outside : (r : Rect) {s t : Screen} → Empties (is_within r) s t → KeepsOutside r s t
+pub keeps_outside : (r : Rect) {s t : Screen} → Empties (has_position r) s t → KeepsOutside r s t
 keeps_outside r p = record {
-  at = λ a b a_in b_in out. elim (decide_within r a b) [
+  at = λ a b a_in b_in out. elim (decide_position r (record { x = a; y = b })) [
     | inl (within, is) ↦ absurd (out within)
     | inr (off, is) ↦ p.grid a b a_in b_in ∙ rw is refl
   ];
@@ -106,7 +107,7 @@ module _ (found : Option Position) {r s t : Screen} (restored : t ≡ cursor_res
   pub frame_restored : KeepsAllButLooks r s → KeepsAllButLooks r t
   frame_restored p = by_cursor found restored (KeepsAllButLooks r) p (λ x y. frame_more p (frame_moved x y s))
 
-  pub empties_restored : {which : ℕ → ℕ → Bool} → Empties which r s → Empties which r t
+  pub empties_restored : {which : Position → Bool} → Empties which r s → Empties which r t
   empties_restored {which} p = by_cursor found restored (Empties which r) p
       (λ x y. record { frame = frame_more p.frame (frame_moved x y s); grid = p.grid })
 

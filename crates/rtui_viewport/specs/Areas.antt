@@ -1,16 +1,18 @@
 -- What a change of a screen empties, and what it leaves as it is.
 use Rattle.std.specs.Prelude.{◌≡◌, ℕ, ◌+◌, ◌<◌, ◌≤◌, Bool, ◌&&◌, nat_lt, nat_le, if◌then◌else◌}
-use Rattle.rtui_geometry.specs.{declared.rect.Rect.Rect, Rect.right_edge, Rect.bottom_edge}
+use Rattle.rtui_geometry.specs.{declared.position.Position.Position, Rect.HasPosition}
+use Rattle.rtui_geometry.specs.{declared.rect.Rect.Rect}
 use Rattle.rtui_cell.specs.Look.{empty_look}
-use Rattle.rtui_backend.specs.Screen.{Screen, KeepsSizeAndHistory, IsWithin}
+use Rattle.rtui_backend.specs.Screen.{Screen, KeepsSizeAndHistory}
 
 -- nothing changed outside a rectangle
 pub record KeepsOutside (r : Rect) (old new : Screen) : Type 0 where
-  pub at : (a b : ℕ) → a < old.width → b < old.height → (IsWithin r a b → ⊥) → new.grid a b ≡ old.grid a b
+  pub at : (a b : ℕ) → a < old.width → b < old.height → (HasPosition r (record { x = a; y = b }) → ⊥)
+      → new.grid a b ≡ old.grid a b
 
 -- each column of a rectangle has the empty look
 pub record IsBlankOver (r : Rect) (s : Screen) : Type 0 where
-  pub at : (a b : ℕ) → IsWithin r a b → s.grid a b ≡ empty_look
+  pub at : (a b : ℕ) → HasPosition r (record { x = a; y = b }) → s.grid a b ≡ empty_look
 
 -- each column of the rows below a rectangle has it
 pub record IsBlankBelow (r : Rect) (s : Screen) : Type 0 where
@@ -22,15 +24,11 @@ pub record KeepsAllButLooks (old new : Screen) : Type 0 where
   pub visible : new.visible ≡ old.visible
 
 -- the columns that `which` names were emptied, and the others stay
-pub record Empties (which : ℕ → ℕ → Bool) (old new : Screen) : Type 0 where
+pub record Empties (which : Position → Bool) (old new : Screen) : Type 0 where
   pub frame : KeepsAllButLooks old new
   pub grid : (a b : ℕ) → a < old.width → b < old.height
-      → new.grid a b ≡ if which a b then empty_look else old.grid a b
+      → new.grid a b ≡ if which (record { x = a; y = b }) then empty_look else old.grid a b
 
 -- the rows from y up to another
-abbrev pub is_between : ℕ → ℕ → ℕ → ℕ → Bool
-is_between y end a b = nat_le y b && nat_lt b end
-
--- the columns of a rectangle
-abbrev pub is_within : Rect → ℕ → ℕ → Bool
-is_within r a b = nat_le r.x a && nat_lt a (right_edge r) && is_between r.y (bottom_edge r) a b
+abbrev pub is_between : ℕ → ℕ → Position → Bool
+is_between y end p = nat_le y p.y && nat_lt p.y end

@@ -1,18 +1,19 @@
 -- What a clear of a viewport does to a screen.
 use Rattle.std.specs.Prelude.{◌≡◌, ℕ, ◌+◌, ◌-◌, ◌*◌, ◌^◌, ◌<◌, ◌==◌, ◌&&◌, Bool, true, min, nat_le}
 use Rattle.std.specs.Prelude.{if◌then◌else◌}
-use Rattle.rtui_geometry.specs.declared.rect.Rect.{Rect}
+use Rattle.rtui_geometry.specs.{declared.position.Position.Position, declared.rect.Rect.Rect}
+use Rattle.rtui_geometry.specs.Rect.{has_position}
 use Rattle.rtui_backend.specs.Screen.{Screen, IsOnScreen}
 use Rattle.rtui_viewport.specs.declared.viewport.Viewport.{Viewport}
 use Rattle.rtui_viewport.specs.declared.viewport.Viewport.TheVariants.{Fullscreen, Inline, Fixed}
-use Rattle.rtui_viewport.specs.Areas.{Empties, is_within}
+use Rattle.rtui_viewport.specs.Areas.{Empties}
 
 -- the columns that a clear empties on a screen of h rows: all; those of the rows from the top on, the last
 -- row at least; the viewport's own
-abbrev pub is_emptied : Viewport → Rect → ℕ → ℕ → ℕ → Bool
-is_emptied Fullscreen r h a b = true
-is_emptied (Inline n) r h a b = nat_le (min r.y (h - 1)) b
-is_emptied (Fixed f) r h a b = is_within r a b
+abbrev pub is_emptied : Viewport → Rect → ℕ → Position → Bool
+is_emptied Fullscreen r h p = true
+is_emptied (Inline n) r h p = nat_le (min r.y (h - 1)) p.y
+is_emptied (Fixed f) r h p = has_position r p
 
 -- an inline viewport begins in column 0, and a fixed one lies on the screen
 abbrev pub HasPlace : Viewport → Rect → Screen → Type 0

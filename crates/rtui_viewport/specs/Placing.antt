@@ -77,7 +77,7 @@ rows_scrolled (Fixed f) o s = 0
 
 -- the whole screen was emptied, or nothing changed
 abbrev pub EmptiesAllIf : Bool → Screen → Screen → Type 0
-EmptiesAllIf true old new = Empties (λ a b. true) old new
+EmptiesAllIf true old new = Empties (λ p. true) old new
 EmptiesAllIf false old new = new ≡ old
 
 -- a viewport was placed: these rows left the screen, and if it became narrower the whole screen was emptied

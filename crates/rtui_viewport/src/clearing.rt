@@ -1,9 +1,9 @@
 ghost use Rattle.std.specs.Prelude.{◌≡◌, ◌*◌, ◌≤◌, ◌<◌, OnOk};
-ghost use Rattle.rtui_geometry.specs.Rect.{EdgesFit};
+ghost use Rattle.rtui_geometry.specs.Rect.{EdgesFit, has_position};
 ghost use Rattle.rtui_backend.specs.Failures.{Counts};
 ghost use Rattle.rtui_backend.specs.declared.clear_type.ClearType.TheVariants.{AfterCursor};
 ghost use Rattle.rtui_backend.specs.Screen.{Clears, IsOnScreen, cursor_of, with_cursor};
-ghost use Rattle.rtui_viewport.specs.Areas.{KeepsAllButLooks, Empties, is_between, is_within};
+ghost use Rattle.rtui_viewport.specs.Areas.{KeepsAllButLooks, Empties, is_between};
 ghost use Rattle.rtui_viewport.specs.Clearing.{ClearsArea, WritesItems, WritesBlanks, blanks_needed};
 ghost use Rattle.rtui_viewport.specs.declared.viewport.Viewport.TheVariants.{Fullscreen};
 ghost use Rattle.rtui_viewport.specs.Viewports.{IsFixed, IsInline};
@@ -36,7 +36,7 @@ fn clear_rows<B: Backend>(backend: &mut B, top: u16, bottom: u16) -> Result<(), 
 fn draw_blanks<B: Backend>(backend: &mut B, area: Rect) -> Result<(), B::Error>
     requires { EdgesFit area }
     ensures cleared { OnOk result
-        (Empties (is_within area) (B.screen backend.old) (B.screen backend.new)) }
+        (Empties (has_position area) (B.screen backend.old) (B.screen backend.new)) }
     ensures frame { OnOk result (KeepsAllButLooks (B.screen backend.old) (B.screen backend.new)) }
     ensures written { OnOk result
         (WritesItems (area.width * area.height) (B.screen backend.old) (B.screen backend.new)) }
@@ -50,9 +50,9 @@ fn draw_blanks<B: Backend>(backend: &mut B, area: Rect) -> Result<(), B::Error>
 fn clear_fixed<B: Backend>(backend: &mut B, area: Rect) -> Result<(), B::Error>
     requires { EdgesFit area }
     ensures cleared { OnOk result (IsOnScreen area (B.screen backend.old)
-        → Empties (is_within area) (B.screen backend.old) (B.screen backend.new)) }
+        → Empties (has_position area) (B.screen backend.old) (B.screen backend.new)) }
     ensures cut { OnOk result (area.y < (B.screen backend.old).height
-        → Empties (is_within area) (B.screen backend.old) (B.screen backend.new)) }
+        → Empties (has_position area) (B.screen backend.old) (B.screen backend.new)) }
     ensures frame { OnOk result (KeepsAllButLooks (B.screen backend.old) (B.screen backend.new)) }
     ensures written { OnOk result (WritesItems (blanks_needed area (B.screen backend.old))
         (B.screen backend.old) (B.screen backend.new)) }
@@ -94,7 +94,7 @@ pub fn clear_area<B: Backend>(
     ensures cleared { OnOk result
         (ClearsArea viewport area (B.screen backend.old) (B.screen backend.new)) }
     ensures cut { OnOk result (IsFixed viewport → area.y < (B.screen backend.old).height
-        → Empties (is_within area) (B.screen backend.old) (B.screen backend.new)) }
+        → Empties (has_position area) (B.screen backend.old) (B.screen backend.new)) }
     ensures corner { OnOk result (IsInline viewport → Clears
         (with_cursor area.x area.y (B.screen backend.old)) AfterCursor (B.screen backend.new)) }
     ensures frame { OnOk result (KeepsAllButLooks (B.screen backend.old) (B.screen backend.new)) }

@@ -302,21 +302,3 @@ pub clipped-err : {A E : Type 0} (r : Result A E) (area part : Rect) (old new : 
     → OnErr r (ChangesWithin part old new) → OnErr r (ChangesWithin area old new)
 clipped-err (Ok x) area part old new clip is = tt
 clipped-err (Err e) area part old new clip is = within-wider part area old new clip.of_area is
-
--- a rectangle has a position, or it hasn't
-pub has-or-not : (r : Rect) (p : Position) → HasPosition r p ⊎ (HasPosition r p → ⊥)
-has-or-not r p =
-    ⊎_elim
-    (λ (before : p.x < r.x). inr (λ h. let l = h.left in omega arith))
-    (λ (from : r.x ≤ p.x).
-    ⊎_elim
-    (λ (there : p.x < right_edge r).
-    ⊎_elim
-    (λ (above : p.y < r.y). inr (λ h. let t = h.top in omega arith))
-    (λ (below : r.y ≤ p.y).
-    ⊎_elim (λ (lt : p.y < bottom_edge r). inl (record { left = from; right = there; top = below; bottom = lt }))
-    (λ (ge : bottom_edge r ≤ p.y). inr (λ h. let b = h.bottom in omega arith)) (cases_lt p.y (bottom_edge r)))
-    (cases_lt p.y r.y))
-    (λ (past : right_edge r ≤ p.x). inr (λ h. let e = h.right in omega arith))
-    (cases_lt p.x (right_edge r)))
-    (cases_lt p.x r.x)

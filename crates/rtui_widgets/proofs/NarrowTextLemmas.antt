@@ -23,7 +23,8 @@ use Rattle.rtui_widgets.specs.Line.{Part, parts, parts_then, parts_rendered, col
 use Rattle.rtui_widgets.specs.Rendering.{area_row, RendersRows, in_first_row, RendersSpan, RendersLine, RendersText, text_line}
 use Rattle.rtui_widgets.specs.Rendering.{text_row, alignment_or}
 use Rattle.rtui_widgets.specs.NarrowTexts.{IsNarrowGrapheme, HasNarrowGraphemes, AreNarrowSpans, IsNarrowLine, IsNarrowText}
-use Rattle.rtui_widgets.proofs.{ChangeLemmas.has-or-not, PlainLemmas.plain-empty, PlainLemmas.plain-styled, PlainLemmas.plain-if}
+use Rattle.rtui_geometry.proofs.PositionTests.{has-or-not}
+use Rattle.rtui_widgets.proofs.{PlainLemmas.plain-empty, PlainLemmas.plain-styled, PlainLemmas.plain-if}
 
 abbrev IsOne : List ℕ → Type 0
 IsOne g = text_width g ≡ 1

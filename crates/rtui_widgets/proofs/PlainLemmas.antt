@@ -4,7 +4,7 @@ use Rattle.std.proofs.Common.{subst, ◌∙◌, arith, if◌then◌else◌, Resu
 use Rattle.std.proofs.lemmas.Bool.{cases_lt}
 use Rattle.rtui_buffer.proofs.{ColumnLemmas.PaintsByColumns-paints, EmptyLemmas.cell-empty, PaintsLemmas.IsSettledBuffer-painted}
 use Rattle.rtui_widgets.specs.Changes.{ChangesEach}
-use Rattle.rtui_widgets.proofs.ChangeLemmas.{has-or-not}
+use Rattle.rtui_geometry.proofs.PositionTests.{has-or-not}
 use Rattle.rtui_buffer.proofs.{SettledLemmas.IsIn, SettledLemmas.is_in, SettledLemmas.width-shown, ShownLemmas.index-at}
 use Rattle.rtui_buffer.specs.Shown.{IsSettledBuffer}
 use Rattle.rtui_buffer.specs.PaintedText.{IsPaintable, PaintsPieces, PaintsByColumns, Paints}

@@ -1,13 +1,12 @@
 -- Frames of a script, of which no cell has an option or a flag.
 use Rattle.std.proofs.Common.{◌≡◌, ℕ, ◌+◌, ◌*◌, ◌<◌, Bool, true, false, if◌then◌else◌, List, [], ◌∷◌, Some, refl, sym, ◌∙◌, subst}
 use Rattle.std.proofs.Common.{encode_utf8}
-use Rattle.rtui_geometry.specs.declared.rect.Rect.{Rect}
+use Rattle.rtui_geometry.specs.{declared.rect.Rect.Rect, Rect.has_position}
 use Rattle.rtui_cell.specs.{declared.cell.Cell.Cell, Cell.is_skipped, Cell.IsUnmarked, Grid.Grid}
 use Rattle.rtui_diff.specs.{Cells.cell_at, Shows.Shows}
 use Rattle.rtui_text.specs.Text.{TextData}
 use Rattle.rtui_buffer.specs.BufferData.{BufferData, IsEmptied, area_size, cell_index, cell_in, position_of, with_cell}
 use Rattle.rtui_backend.specs.CellGrid.{AreUnmarked}
-use Rattle.rtui_viewport.specs.Areas.{is_within}
 use Rattle.rtui_backend.proofs.PlainLemmas.{AreUnmarked-empties, unmarked_set}
 use Rattle.screenplay.specs.{Puts.with_put, Puts.with_puts, Run.IsFrame}
 
@@ -19,7 +18,7 @@ pub AreUnmarked-emptied : (r : Rect) (s : BufferData) → IsEmptied r s → AreU
 AreUnmarked-emptied r s emptied = subst AreUnmarked (sym emptied.cells) (AreUnmarked-empties (area_size r))
 
 AreUnmarked-put : (put : ℕ × ℕ × ℕ) (s : BufferData) → AreUnmarked s.cells → AreUnmarked (with_put put s).cells
-AreUnmarked-put put s all = either (is_within s.area put.0 put.1)
+AreUnmarked-put put s all = either (has_position s.area (position_of (put.0, put.1)))
   where
     either : (holds : Bool) → AreUnmarked (if holds then with_cell s (position_of (put.0, put.1))
         (record (cell_in s (position_of (put.0, put.1))) { symbol = Some (encode_utf8 put.2) }) else s).cells

@@ -3,11 +3,11 @@ use Rattle.std.proofs.Common.{◌≡◌, ℕ, ◌+◌, ◌-◌, ◌<◌, min, na
 use Rattle.std.proofs.Common.{subst, ◌∙◌, inl, inr, arith, ◌||◌, ◌∷◌, zero, suc, replicate, true, false, if◌then◌else◌}
 use Rattle.std.specs.List.{range_with_len}
 use Rattle.std.proofs.lemmas.{Bool.cases_lt, Bool.Decides.nat_tests}
-use Rattle.rtui_geometry.specs.{declared.rect.Rect.Rect, declared.size.Size.Size}
+use Rattle.rtui_geometry.specs.{declared.rect.Rect.Rect, declared.size.Size.Size, Rect.HasPosition}
 use Rattle.rtui_text.specs.Text.{TextData}
 use Rattle.rtui_buffer.specs.{BufferData.BufferData, Shown.IsSettledBuffer, Shown.ShowsBuffer}
 use Rattle.rtui_backend.proofs.ScrollLemmas.{above_kept, above_same}
-use Rattle.rtui_backend.specs.Screen.{Screen, IsBlankScreen, TakesSize, IsOnScreen, IsWithin, row_of, rows_above, screen_area}
+use Rattle.rtui_backend.specs.Screen.{Screen, IsBlankScreen, TakesSize, IsOnScreen, row_of, rows_above, screen_area}
 use Rattle.rtui_backend.specs.Screen.{size_of, seen}
 use Rattle.rtui_backend.specs.{CellGrid.AreUnmarked, TestBackend.screen_of, declared.test.TestBackend.TestBackend}
 use Rattle.rtui_viewport.specs.declared.viewport.Viewport.{Viewport}
@@ -153,7 +153,7 @@ above_emptied : (kind : Viewport) (size : Size) (former o : ℕ) (b scrolled u :
     → FitsSize kind size → scrolled.width ≡ b.width → scrolled.height ≡ b.height
     → r ≡ raised former (area_in kind (screen_area b) o b.cursor_y) → (IsInline kind → r.x ≡ 0) → IsOnScreen r u
     → u.height ≡ scrolled.height
-    → (HasPlace kind r scrolled → Empties (λ x y. is_emptied kind r scrolled.height x y || nat_lt b.width former) scrolled u)
+    → (HasPlace kind r scrolled → Empties (λ p. is_emptied kind r scrolled.height p || nat_lt b.width former) scrolled u)
     → (x y : ℕ) → x < scrolled.width → y < scrolled.height → y < r.y → u.grid x y ≡ scrolled.grid x y
 above_emptied Fullscreen size former o b scrolled u r free good width height is left on tall empties x y x_in y_in above =
     let top : r.y ≡ 0 = ap (λ (q : Rect). q.y) (is ∙ raised_same (screen_area b) refl (nat_lt b.width former)) in
@@ -220,7 +220,7 @@ module _ (stage : Stage) (given : Size) (s t : TerminalData TestBackend) (free :
             (λ inline. inline_left stage.viewport (size_of new) t.viewport_area inline IsPlaying-resized.rest.lies)
             (resized.on_screen refl) resized.frame.size.height
             (subst (λ k. HasPlace k t.viewport_area resized.scrolled
-            → Empties (λ a b. is_emptied k t.viewport_area resized.scrolled.height a b || nat_lt between.width
+            → Empties (λ p. is_emptied k t.viewport_area resized.scrolled.height p || nat_lt between.width
             s.viewport_area.width) resized.scrolled new) playing.rest.kind_is resized.empties))
             ∙ above_kept resized.scrolls t.viewport_area.y;
         left = map (row_of between) (range_with_len 0 rows);
@@ -269,7 +269,7 @@ Plays-cleared stage s t good playing clears =
           };
           outside = record { at = outside.at };
         };
-        blank = record { at = λ a b within. blank.at a b (subst (λ r. IsWithin r a b) view within) };
+        blank = record { at = λ a b within. blank.at a b (subst (λ r. HasPosition r (record { x = a; y = b })) view within) };
       };
     }
 

@@ -1,8 +1,7 @@
 //! Each call of the writer failing in turn, and what mends a backend then.
 
-ghost use Rattle.std.specs.Prelude.{◌≡◌};
-
 use crate::backends::{Why, by_kind};
+use crate::tearing::Tearing;
 use ratatui_ansi::{AnsiBackend, AnsiError};
 use ratatui_core::buffer::Buffer;
 use ratatui_core::style::{Color, Style};
@@ -15,56 +14,14 @@ use std::io::{self, ErrorKind, Write};
 use std::iter;
 use std::test::Fail;
 
-// A writer that keeps what it is given. After so many calls it fails once; the backend's beginning
-// makes two.
-#[derive(Drop)]
-struct Tearing {
-    sent: Vec<u8>,
-    calls: u64,
-    is_torn: bool,
-}
-
-impl Tearing {
-    fn begin(&mut self) -> io::Result<()>
-        ensures { self.new.sent ≡ self.old.sent }
-    {
-        if self.is_torn {
-            return Ok(());
-        }
-        if self.calls > 0 {
-            self.calls -= 1;
-            return Ok(());
-        }
-        self.is_torn = true;
-        Err(ErrorKind::BrokenPipe.into())
-    }
-}
-
-impl Write for Tearing {
-    fn write(&mut self, buf: &[u8]) -> io::Result<usize> {
-        self.begin()?;
-        self.sent.extend_from_slice(buf)?;
-        Ok(buf.len())
-    }
-
-    fn flush(&mut self) -> io::Result<()> {
-        self.begin()
-    }
-}
-
 const SIZE: Size = Size {
     width: 3,
     height: 2,
 };
 
-// A backend over a writer that fails once after so many calls.
+// A backend over a writer that fails once after so many calls; the backend's beginning makes two.
 fn over_tearing(alloc: Global, calls: u64) -> Result<AnsiBackend<Tearing>, AnsiError> {
-    let writer = Tearing {
-        sent: Vec::new(alloc),
-        calls,
-        is_torn: false,
-    };
-    AnsiBackend::new(alloc, writer, SIZE)
+    AnsiBackend::new(alloc, Tearing::new(alloc, calls), SIZE)
 }
 
 const CALLS: u64 = 9;
@@ -168,11 +125,7 @@ fn begins(alloc: Global, writer: &mut Tearing) -> bool {
 // A beginning that fails gives the terminal back, as far as the writer takes that.
 #[test]
 fn a_failed_beginning_gives_the_terminal_back(rt: HostRuntime) {
-    let mut writer = Tearing {
-        sent: Vec::new(rt.alloc()),
-        calls: 1,
-        is_torn: false,
-    };
+    let mut writer = Tearing::new(rt.alloc(), 1);
     assert!(rt; !begins(rt.alloc(), &mut writer));
     assert!(rt;
         writer

@@ -1,5 +1,5 @@
 //! Tests of escape sequences: the bytes beside those of a terminal's manual, each send failing in
-//! turn, and random plays beside the backend in memory, read by the model.
+//! turn, of `follow` too, and random plays beside the backend in memory, read by the model.
 #![tactic(auto)]
 
 #[cfg(test)]
@@ -7,7 +7,11 @@ mod backends;
 #[cfg(test)]
 mod columns;
 #[cfg(test)]
+mod dropped;
+#[cfg(test)]
 mod failing;
+#[cfg(test)]
+mod following;
 #[cfg(test)]
 mod halves;
 #[cfg(test)]
@@ -20,3 +24,5 @@ mod reader;
 mod sequences;
 #[cfg(test)]
 mod sizes;
+#[cfg(test)]
+mod tearing;

@@ -1,14 +1,14 @@
-//! Tests of what stands on `ratatui_core`, which no row of text can say: widgets on a buffer, the
-//! examples of `guide` on a screen in memory, logs that are read and written by what fails, and
-//! what programs tell.
+//! Tests of what stands on `ratatui_core`, which no row of text can say: areas divided by each
+//! call, widgets on a buffer, the examples of `guide` on a screen in memory, logs that are read and
+//! written by what fails, and what programs tell.
 #![tactic(auto)]
 
+#[cfg(test)]
+mod areas;
 #[cfg(test)]
 mod boxes;
 #[cfg(test)]
 mod examples;
-#[cfg(test)]
-mod following;
 #[cfg(test)]
 mod gauges;
 #[cfg(test)]

@@ -162,10 +162,10 @@ fn names_a_failed_read(rt: HostRuntime) -> Result<(), Fail> {
     Ok(())
 }
 
-// A writer that takes some bytes and then fails, or fails to flush them.
+/// A writer that takes some bytes and then fails, or fails to flush them.
 #[derive(Drop)]
-struct Full {
-    left: usize,
+pub struct Full {
+    pub left: usize,
 }
 
 impl io::Write for Full {

@@ -1,9 +1,9 @@
 //! What the programs `logview` and `screenplay` answer, and what they tell.
 
+use crate::logs::Full;
 use logview::print_log;
 use screenplay::print_script;
 use std::alloc::Global;
-use std::io;
 use std::process::ExitCode;
 
 // Whether a log ends with this status, has this printed, and this told.
@@ -76,17 +76,8 @@ fn programs_print(rt: HostRuntime) {
 }
 
 // A writer that takes nothing.
-#[derive(Drop)]
-struct Full;
-
-impl io::Write for Full {
-    fn write(&mut self, _buf: &[u8]) -> io::Result<usize> {
-        Err(io::Error::from(io::ErrorKind::NotFound))
-    }
-
-    fn flush(&mut self) -> io::Result<()> {
-        Ok(())
-    }
+fn full() -> Full {
+    Full { left: 0 }
 }
 
 #[test]
@@ -94,12 +85,12 @@ fn a_failed_write_is_not_told(rt: HostRuntime) {
     let mut errors = Vec::new(rt.alloc());
     let mut log = "2 1".as_bytes();
     assert!(rt;
-        print_log(rt.alloc(), &mut log, &mut Full, &mut errors).is_ok_and(|code| code
+        print_log(rt.alloc(), &mut log, &mut full(), &mut errors).is_ok_and(|code| code
             == ExitCode::FAILURE)
     );
     let mut script = "screen 2 1\nshow".as_bytes();
     assert!(rt;
-        print_script(rt.alloc(), &mut script, &mut Full, &mut errors).is_ok_and(|code| code
+        print_script(rt.alloc(), &mut script, &mut full(), &mut errors).is_ok_and(|code| code
             == ExitCode::FAILURE)
     );
     assert!(rt; errors.is_empty());
@@ -109,7 +100,7 @@ fn a_failed_write_is_not_told(rt: HostRuntime) {
 fn a_fault_that_can_not_be_told_is_an_error(rt: HostRuntime) {
     let mut written = Vec::new(rt.alloc());
     let mut log = "2 0".as_bytes();
-    assert!(rt; print_log(rt.alloc(), &mut log, &mut written, &mut Full).is_err());
+    assert!(rt; print_log(rt.alloc(), &mut log, &mut written, &mut full()).is_err());
     let mut script = "draw".as_bytes();
-    assert!(rt; print_script(rt.alloc(), &mut script, &mut written, &mut Full).is_err());
+    assert!(rt; print_script(rt.alloc(), &mut script, &mut written, &mut full()).is_err());
 }

@@ -1,4 +1,4 @@
-//! Tests that no row of text can say: terminals compared, copied and dropped, frames that lend
+//! Tests that no row of text can say: terminals compared and copied, frames that lend
 //! their buffer, readers and writers that fail, scripts of thousands of lines, plays of steps, what
 //! borrows, lists of spans, what other types print, and all pairs of border symbols.
 #![tactic(auto)]

@@ -164,20 +164,6 @@ fn answers_each_failing_write(rt: HostRuntime) {
     assert!(rt; !fails_behind(rt.alloc(), "screen 3 1\nshow", 5));
 }
 
-// A writer that takes nothing.
-#[derive(Drop)]
-struct Full;
-
-impl io::Write for Full {
-    fn write(&mut self, _buf: &[u8]) -> io::Result<usize> {
-        Err(io::Error::from(io::ErrorKind::NotFound))
-    }
-
-    fn flush(&mut self) -> io::Result<()> {
-        Ok(())
-    }
-}
-
 // A writer that takes all, and knows whether something that it took awaits a flush.
 #[derive(Drop)]
 struct Holding {
@@ -264,7 +250,7 @@ fn names_a_read_that_fails_later(rt: HostRuntime) -> Result<(), Fail> {
 // Whether the run of a script fails at its first write, which has no text.
 fn fails_to_write(alloc: Global, script: &str) -> Result<bool, AllocError> {
     let mut reader = script.as_bytes();
-    match run(alloc, &mut reader, &mut Full) {
+    match run(alloc, &mut reader, &mut Narrow { left: 0 }) {
         Err(RunError::Write) => reads_as(alloc, RunError::Write, ""),
         _ => Ok(false),
     }

@@ -41,11 +41,11 @@ struct Texts {
 }
 
 fn texts_of(alloc: Global, case: &Case<'_>) -> Result<Texts, AllocError> {
-    let x_labels = case.text(alloc, "xlabels")?;
-    let y_labels = case.text(alloc, "ylabels")?;
-    let x_title = case.text(alloc, "xtitle")?;
-    let y_title = case.text(alloc, "ytitle")?;
-    let names = case.text(alloc, "names")?;
+    let x_labels = case.text_or(alloc, "xlabels", "")?;
+    let y_labels = case.text_or(alloc, "ylabels", "")?;
+    let x_title = case.text_or(alloc, "xtitle", "")?;
+    let y_title = case.text_or(alloc, "ytitle", "")?;
+    let names = case.text_or(alloc, "names", "")?;
     Ok(Texts {
         x_labels,
         y_labels,

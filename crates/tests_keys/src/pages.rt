@@ -1,6 +1,6 @@
 //! Pages after keys.
 
-use crate::{Document, OwnText, Pager};
+use pager::{Document, OwnText, Pager};
 use ratatui_app::{AppError, run};
 use ratatui_core::backend::TestBackend;
 use ratatui_core::layout::Size;

@@ -1,7 +1,7 @@
 //! Readers that give bytes in pieces, and one that fails between two of them.
 
-use crate::EventReader;
 use ratatui_events::{Event, KeyCode, KeyEvent, KeyModifiers};
+use ratatui_input::EventReader;
 use std::io::{self, ErrorKind, Read};
 
 // Gives `a` and ESC, then an error, then `[A`, and then nothing.

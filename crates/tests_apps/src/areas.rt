@@ -1,9 +1,7 @@
-//! Tests of the calls that divide areas, each once.
-#![tactic(auto)]
-
-use rtui_geometry::Rect;
-use rtui_layout::{Constraint, Layout};
-use rtui_split::{CountError, Split, SplitArea, SplitAreaInto, SplitInto};
+//! The calls that divide areas, each once.
+use ratatui_core::layout::{
+    Constraint, CountError, Layout, Rect, Split, SplitArea, SplitAreaInto, SplitInto,
+};
 use std::alloc::{AllocError, Global};
 
 const AREA: Rect = Rect {

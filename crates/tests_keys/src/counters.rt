@@ -1,7 +1,7 @@
 //! A counter run over bytes that come in pieces.
 
-use crate::{AppError, Counter, run, run_and_leave, run_inline_and_leave};
 use ratatui_ansi::AnsiBackend;
+use ratatui_app::{AppError, Counter, run, run_and_leave, run_inline_and_leave};
 use ratatui_core::backend::{Backend, TestBackend};
 use ratatui_core::layout::{Position, Size};
 use ratatui_core::terminal::{Terminal, TerminalOptions, Viewport};
@@ -128,7 +128,7 @@ fn counts_inline(rt: HostRuntime) -> Result<(), Fail> {
     Ok(())
 }
 
-/// What the terminal is sent at the end, below its last row.
+// What the terminal is sent at the end, below its last row.
 const FAREWELL: &[u8] = b"\x1b[0m\x1b[r\x1b[?25h\x1b[65535;1H\r\n";
 
 // Whether a run from beginning to end, over so many rows or the whole screen, counts to 2 and gives

@@ -1,8 +1,6 @@
-//! The widgets of the cases.
+//! The tabs, sparklines and bar charts of the cases.
 
 use crate::cases::Case;
-use crate::shown::push_rows;
-use crate::tables::{push_state, table};
 use ratatui_core::buffer::Buffer;
 use ratatui_core::layout::Rect;
 use ratatui_core::text::{Line, Span};
@@ -11,19 +9,6 @@ use rtui_bars::{Bar, BarChart, BarGroup};
 use rtui_sparkline::{RenderDirection, Sparkline, SparklineBar};
 use rtui_tabs::Tabs;
 use std::alloc::{AllocError, Global};
-
-/// The text that an option says, or another one.
-pub fn text_or(
-    alloc: Global,
-    case: &Case<'_>,
-    name: &str,
-    other: &str,
-) -> Result<String, AllocError> {
-    match case.text(alloc, name)? {
-        Some(text) => Ok(text),
-        None => String::from_str(alloc, other),
-    }
-}
 
 // The titles that texts between bars say.
 fn titles_of<'a>(alloc: Global, texts: &'a str) -> Result<Vec<Line<'a>>, AllocError> {
@@ -48,10 +33,16 @@ fn tabs_of<'a>(
     Ok(tabs.divider(Span::raw(divider)).padding(left, right))
 }
 
-fn tabs(alloc: Global, case: &Case<'_>, area: Rect, buffer: &mut Buffer) -> Result<(), AllocError> {
-    let divider = text_or(alloc, case, "divider", "│")?;
-    let left = text_or(alloc, case, "left", " ")?;
-    let right = text_or(alloc, case, "right", " ")?;
+/// Renders the tabs that a case says.
+pub fn tabs(
+    alloc: Global,
+    case: &Case<'_>,
+    area: Rect,
+    buffer: &mut Buffer,
+) -> Result<(), AllocError> {
+    let divider = case.text_or(alloc, "divider", "│")?;
+    let left = case.text_or(alloc, "left", " ")?;
+    let right = case.text_or(alloc, "right", " ")?;
     let titles = String::from_str(alloc, case.texts)?;
     let tabs = tabs_of(
         alloc,
@@ -74,13 +65,14 @@ fn bars_of(alloc: Global, case: &Case<'_>) -> Result<Vec<SparklineBar>, AllocErr
     Ok(bars)
 }
 
-fn sparkline(
+/// Renders the sparkline that a case says.
+pub fn sparkline(
     alloc: Global,
     case: &Case<'_>,
     area: Rect,
     buffer: &mut Buffer,
 ) -> Result<(), AllocError> {
-    let absent = text_or(alloc, case, "absent", " ")?;
+    let absent = case.text_or(alloc, "absent", " ")?;
     let mut sparkline = Sparkline::new(bars_of(alloc, case)?).absent_value_symbol(absent.as_str());
     if let Some(max) = case.number("max") {
         sparkline = sparkline.max(max as u64);
@@ -116,56 +108,19 @@ fn groups_of<'a>(alloc: Global, texts: &'a str) -> Result<Vec<BarGroup<'a>>, All
     Ok(groups)
 }
 
-// A small number that an option says, or another one.
-fn small(case: &Case<'_>, name: &str, other: u16) -> u16 {
-    match case.number(name) {
-        Some(number) => number.min(65535) as u16,
-        None => other,
-    }
-}
-
-fn bar_chart(
+/// Renders the bar chart that a case says.
+pub fn bar_chart(
     alloc: Global,
     case: &Case<'_>,
     area: Rect,
     buffer: &mut Buffer,
 ) -> Result<(), AllocError> {
     let mut chart = BarChart::new(groups_of(alloc, case.texts)?)
-        .bar_width(small(case, "width", 1))
-        .bar_gap(small(case, "gap", 1))
-        .group_gap(small(case, "groups", 0));
+        .bar_width(case.small("width", 1))
+        .bar_gap(case.small("gap", 1))
+        .group_gap(case.small("groups", 0));
     if let Some(max) = case.number("max") {
         chart = chart.max(max as u64);
     }
     chart.render(area, buffer)
-}
-
-// Renders the widget of a case that has no state.
-fn widget(
-    alloc: Global,
-    case: &Case<'_>,
-    area: Rect,
-    buffer: &mut Buffer,
-) -> Result<(), AllocError> {
-    match case.kind {
-        "sparkline" => sparkline(alloc, case, area, buffer),
-        "barchart" => bar_chart(alloc, case, area, buffer),
-        _ => tabs(alloc, case, area, buffer),
-    }
-}
-
-/// The rows that a case leaves, and of a table its state.
-pub fn show(alloc: Global, case: &Case<'_>) -> Result<String, AllocError> {
-    let area = Rect::new(0, 0, case.width, case.height);
-    let mut buffer = Buffer::empty(alloc, area)?;
-    let mut shown = String::new(alloc);
-    if case.kind == "table" {
-        let state = table(alloc, case, area, &mut buffer)?;
-        push_rows(&mut shown, &buffer)?;
-        push_state(&mut shown, &state)?;
-    } else {
-        widget(alloc, case, area, &mut buffer)?;
-        push_rows(&mut shown, &buffer)?;
-    }
-    Ok(shown)
 }

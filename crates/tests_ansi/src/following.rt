@@ -1,11 +1,10 @@
 //! What `follow` sends, and how it ends if a read, a write or a flush fails.
 
-ghost use Rattle.std.specs.Prelude.{◌≡◌};
-
+use crate::tearing::Tearing;
 use follow::{FollowError, follow};
 use rtui_geometry::Size;
 use std::alloc::Global;
-use std::io::{self, BufReader, ErrorKind, Read, Write};
+use std::io::{self, BufReader, ErrorKind, Read};
 use std::test::Fail;
 
 const SIZE: Size = Size {
@@ -15,50 +14,6 @@ const SIZE: Size = Size {
 
 // What leaves the terminal with its cursor shown below the screen.
 const LEAVING: &str = "\u{1b}[0m\u{1b}[r\u{1b}[?25h\u{1b}[65535;1H\r\n";
-
-// A writer that keeps what it is given. After so many calls it fails once.
-#[derive(Drop)]
-struct Tearing {
-    sent: Vec<u8>,
-    calls: u64,
-    is_torn: bool,
-}
-
-impl Tearing {
-    fn begin(&mut self) -> io::Result<()>
-        ensures { self.new.sent ≡ self.old.sent }
-    {
-        if self.is_torn {
-            return Ok(());
-        }
-        if self.calls > 0 {
-            self.calls -= 1;
-            return Ok(());
-        }
-        self.is_torn = true;
-        Err(ErrorKind::BrokenPipe.into())
-    }
-}
-
-impl Write for Tearing {
-    fn write(&mut self, buf: &[u8]) -> io::Result<usize> {
-        self.begin()?;
-        self.sent.extend_from_slice(buf)?;
-        Ok(buf.len())
-    }
-
-    fn flush(&mut self) -> io::Result<()> {
-        self.begin()
-    }
-}
-
-fn torn_after(alloc: Global, calls: u64) -> Tearing {
-    Tearing {
-        sent: Vec::new(alloc),
-        calls,
-        is_torn: false,
-    }
-}
 
 // A reader that gives a text, and fails after it.
 #[derive(Drop)]
@@ -103,7 +58,7 @@ fn runs(alloc: Global, text: &str, writer: &mut Tearing) -> End {
 
 // What a run over a text sends.
 fn sent(alloc: Global, text: &str) -> Vec<u8> {
-    let mut writer = torn_after(alloc, u64::MAX);
+    let mut writer = Tearing::new(alloc, u64::MAX);
     let _end = runs(alloc, text, &mut writer);
     writer.sent
 }
@@ -112,7 +67,7 @@ fn sent(alloc: Global, text: &str) -> Vec<u8> {
 fn leaves_the_terminal_after_each_failed_call(rt: HostRuntime) -> Result<(), Fail> {
     let (mut stopped, mut unwritten) = (0_u64, 0_u64);
     for calls in 0..40 {
-        let mut writer = torn_after(rt.alloc(), calls);
+        let mut writer = Tearing::new(rt.alloc(), calls);
         let end = runs(rt.alloc(), "one\ntwo\nthree\n", &mut writer);
         let is_left = writer.sent.as_slice().ends_with(LEAVING.as_bytes());
         match end {
@@ -145,7 +100,7 @@ fn a_failed_read_is_not_the_end(rt: HostRuntime) -> Result<(), Fail> {
         rest: "one\ntw".as_bytes(),
     };
     let mut reader = BufReader::new(alloc, failing)?;
-    let mut writer = torn_after(alloc, u64::MAX);
+    let mut writer = Tearing::new(alloc, u64::MAX);
     assert!(rt; end_of(follow(alloc, &mut reader, &mut writer, SIZE)) == End::Read);
     assert!(rt; writer.sent.as_slice() == sent(alloc, "one\n").as_slice());
     assert!(rt; runs(alloc, "one\ntw", &mut writer) == End::Whole);

@@ -1,7 +1,6 @@
 //! The tables of the cases.
 
 use crate::cases::Case;
-use crate::widgets::text_or;
 use ratatui_core::buffer::Buffer;
 use ratatui_core::layout::{Constraint, Flex, Rect};
 use ratatui_core::style::{Modifier, Style};
@@ -49,14 +48,6 @@ fn flex_of(case: &Case<'_>) -> Flex {
     }
 }
 
-// A small number that an option says, or another one.
-fn small(case: &Case<'_>, name: &str, other: u16) -> u16 {
-    match case.number(name) {
-        Some(number) => number.min(65535) as u16,
-        None => other,
-    }
-}
-
 // The text of a cell: `\` parts its lines.
 fn content_of<'a>(alloc: Global, cell: &'a str) -> Result<Text<'a>, AllocError> {
     let mut content = Text::default_in(alloc);
@@ -78,8 +69,8 @@ fn row_of<'a>(alloc: Global, case: &Case<'_>, text: &'a str) -> Result<Row<'a>, 
     Ok(
         Row::new(cells)
             .height(height.min(65535) as u16)
-            .top_margin(small(case, "top", 0))
-            .bottom_margin(small(case, "margin", 0)),
+            .top_margin(case.small("top", 0))
+            .bottom_margin(case.small("margin", 0)),
     )
 }
 
@@ -128,7 +119,7 @@ fn table_of<'a>(
 ) -> Result<Table<'a>, AllocError> {
     let symbol = Text::raw(alloc, symbol)?;
     let table = Table::new(Vec::new(alloc), widths_of(alloc, case)?)
-        .column_spacing(small(case, "spacing", 1))
+        .column_spacing(case.small("spacing", 1))
         .flex(flex_of(case))
         .highlight_symbol(symbol)
         .highlight_spacing(spacing_of(case))
@@ -149,8 +140,8 @@ pub fn table(
     area: Rect,
     buffer: &mut Buffer,
 ) -> Result<TableState, AllocError> {
-    let symbol = text_or(alloc, case, "symbol", "")?;
-    let footer = text_or(alloc, case, "footer", "")?;
+    let symbol = case.text_or(alloc, "symbol", "")?;
+    let footer = case.text_or(alloc, "footer", "")?;
     let rows = String::from_str(alloc, case.texts)?;
     let table = table_of(alloc, case, rows.as_str(), symbol.as_str(), footer.as_str())?;
     let mut state = TableState::new()
