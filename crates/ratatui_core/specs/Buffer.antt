@@ -28,8 +28,7 @@ pub use Rattle.rtui_buffer.specs.Painting.{has_painted_width, IsLongestFront, Pi
 pub use Rattle.rtui_buffer.specs.Painting.{columns, AreWide, shown, piece_at, HasPieces, KeepsUnmarked}
 pub use Rattle.rtui_buffer.specs.PaintedText.{room_at, pieces_at, PaintsPieces, right_by, IsBeside}
 pub use Rattle.rtui_buffer.specs.PaintedText.{PaintsByColumns, IsSameBeside, AreShort, IsPaintable}
-pub use Rattle.rtui_buffer.specs.PaintedText.{PaintsFront, Paints, IsStyled, IsOneGrapheme, HasShortGraphemes}
-pub use Rattle.rtui_buffer.specs.PaintedText.{HaveShortGraphemes}
+pub use Rattle.rtui_buffer.specs.PaintedText.{PaintsFront, Paints, IsStyled, IsOneGrapheme}
 pub use Rattle.rtui_buffer.specs.Bar.{bar_of, PaintsOnBar, ShowsPieces, bar_cell}
 unfoldable pub use Rattle.rtui_buffer.specs.Line.{line_pieces}
 pub use Rattle.rtui_buffer.specs.Line.{line_pieces_at, lines_area, IsOfLines, raw_lines}
@@ -39,4 +38,3 @@ pub use Rattle.rtui_buffer.specs.Overlay.{no_area, IsOverlay}
 pub use Rattle.rtui_widgets.specs.Changes.{ChangesEach, MakesEach, AreLight, place_at}
 pub use Rattle.rtui_widgets.specs.Plain.{IsPlain, IsPlainOver, IsPlainFrom, IsReadyAt, IsReadyFrom}
 pub use Rattle.rtui_widgets.specs.Parts.{MakesParts}
-pub use Rattle.rtui_widgets.specs.NarrowTexts.{HasNarrowGraphemes, AreNarrowSpans, IsNarrowLine, IsNarrowText}

@@ -32,8 +32,8 @@ pub mod buffer {
             set_style_twice_sets_patch, width_is_columns_and_sound_marks,
         };
         pub use rtui_widgets::laws::{
-            empty_buffers_are_plain, narrow_texts_keep_cells_plain, plain_buffers_are_settled,
-            printable_texts_are_narrow,
+            empty_buffers_are_plain, plain_buffers_are_settled,
+            printable_graphemes_take_one_column, texts_keep_cells_plain,
         };
     }
 }

@@ -29,11 +29,6 @@ size-append : (z : Option (ℕ × ℕ)) (a b : List Event) → last_size z (a ++
 size-append z [] b = refl
 size-append z (e ∷ a) b = size-append (later (size_in e) z) a b
 
--- what holds at each answer holds at an error
-pub at-error : {A E P : Type 0} (result : Result A E) → P → OnErr result P
-at-error (Ok x) holds = tt
-at-error (Err e) holds = holds
-
 -- a list is empty if it is with more after it
 pub front-nil : (a b : List Event) → a ++ b ≡ [] → a ≡ []
 front-nil [] b none = refl
@@ -142,11 +137,12 @@ module _ {S : Type 0} (u : Rules S) where
 
   -- an update of a byte's events was refused: those before it, and all of the bytes before, were taken
   pub left-refused : (d : Decoder) (s : S) (bytes : List ℕ) (d' : Decoder) (s' : S) (any : Bool) (z : Option (ℕ × ℕ)) (i : ℕ)
-      (taken left : List Event) (after : S)
+      (taken left : List Event) (after : S) {A E : Type 0} (result : Result A E)
       → i < length bytes → (byte_told d' (get_or bytes i 0)).0 ≡ taken ++ left → (left ≡ [] → ⊥)
       → after ≡ all_updated u s' taken
-      → Left d s bytes d' s' any z (drop i bytes) → RefusesAmong u (decoded d bytes).0 s after
-  left-refused d s bytes d' s' any z i taken left after lt told some e h =
+      → Left d s bytes d' s' any z (drop i bytes) → OnErr result (RefusesAmong u (decoded d bytes).0 s after)
+  left-refused d s bytes d' s' any z i taken left after (Ok x) lt told some e h = tt
+  left-refused d s bytes d' s' any z i taken left after (Err x) lt told some e h =
       let b = get_or bytes i 0 in
       let rest = drop (i + 1) bytes in
       let one : drop i bytes ≡ b ∷ rest = rw add-one (drop-cons bytes i 0 lt) in

@@ -1,12 +1,12 @@
 //! Laws of widgets that are no single call's clause.
 
-pub use rtui_bars::laws::{bar_charts_keep_cells_plain, values_are_narrow};
+pub use rtui_bars::laws::{bar_charts_keep_cells_plain, digits_take_one_column};
 pub use rtui_boxes::laws::{
     boxes_of_short_symbols_take_no_memory, clearing_keeps_settled, narrow_boxes_keep_cells_plain,
 };
 pub use rtui_canvas::laws::{canvases_keep_cells_plain, marks_are_narrow};
 pub use rtui_chart::laws::charts_keep_cells_plain;
-pub use rtui_list::laws::lists_of_narrow_texts_keep_cells_plain;
+pub use rtui_list::laws::lists_keep_cells_plain;
 pub use rtui_meters::laws::{
     gauges_on_plain_cells_are_settled, line_gauges_on_plain_cells_are_settled,
 };
@@ -15,5 +15,5 @@ pub use rtui_paragraph::laws::{
 };
 pub use rtui_scrollbar::laws::{scroll_bars_keep_cells_plain, sets_of_scroll_bars_take_one_column};
 pub use rtui_sparkline::laws::{sparklines_have_this_default, sparklines_keep_cells_plain};
-pub use rtui_table::laws::{selected_rows_are_shown, tables_of_narrow_texts_keep_cells_plain};
-pub use rtui_tabs::laws::tabs_of_narrow_texts_keep_cells_plain;
+pub use rtui_table::laws::{selected_rows_are_shown, tables_keep_cells_plain};
+pub use rtui_tabs::laws::tabs_keep_cells_plain;

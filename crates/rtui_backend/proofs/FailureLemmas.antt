@@ -1,4 +1,5 @@
--- What was true before a call that failed.
+-- What was true before a call that failed, and what holds whatever a call answers.
+use Rattle.std.proofs.Common.{Result, Ok, Err, OnErr}
 use Rattle.rtui_backend.specs.Failures.{FailsAfter}
 
 pub fails_weaker : {B : Type 0} {stops_at : B → B → Type 0} {P Q : B → Type 0} {new : B} → ((b : B) → P b → Q b)
@@ -8,3 +9,7 @@ fails_weaker weaker fails = record {
   was = weaker fails.before fails.was;
   stopped = fails.stopped;
 }
+
+pub holds_anyway : {T E P : Type 0} (answer : Result T E) → P → OnErr answer P
+holds_anyway (Ok x) holds = tt
+holds_anyway (Err e) holds = holds

@@ -1,17 +1,17 @@
 -- A bar chart of narrow texts keeps cells plain.
-use Rattle.std.proofs.Common.{ℕ, ◌-◌, ◌<◌, ◌≤◌, Bool, true, false, if◌then◌else◌, nat_lt, ◌==◌}
+use Rattle.std.proofs.Common.{ℕ, ◌-◌, ◌<◌, ◌≤◌, Bool, true, false, if◌then◌else◌, nat_lt, ◌==◌, IfSome}
 use Rattle.std.proofs.Common.{◌&&◌, ◌^◌, decimal, not, List, [], ◌∷◌, All, Option, Some, None, arith, lit<, length, min}
 use Rattle.std.proofs.lemmas.{List.Elements.All-head, List.Elements.All-tail, List.Elements.All-take}
-use Rattle.ratatui_core.specs.Layout.{Rect, Position, corner}
+use Rattle.ratatui_core.specs.Layout.{Rect, Position, corner, intersected}
 use Rattle.ratatui_core.specs.{Style.Style, Style.new_style, Style.patch, Text.LineData}
 use Rattle.ratatui_core.specs.declared.{layout.Direction.Direction}
 use Rattle.ratatui_core.specs.declared.layout.Direction.TheVariants.{Horizontal, Vertical}
 use Rattle.ratatui_core.specs.Buffer.{BufferData, Cell, text_width, text_columns}
-use Rattle.ratatui_core.specs.Buffer.{IsPlain, IsPlainFrom, HasNarrowGraphemes}
+use Rattle.ratatui_core.specs.Buffer.{IsPlain, IsPlainFrom}
 use Rattle.ratatui_core.proofs.BufferLemmas.{plain-styled, plain-with_symbol, plain-changed, line-stays}
-use Rattle.rtui_boxes.specs.{Boxes.IsNarrowIfBox}
 use Rattle.rtui_boxes.specs.Titles.{title_at, title_width, first_columns, without_first}
-use Rattle.rtui_boxes.specs.{Lines.IsNarrowIfLine, Lines.RendersIfLine}
+use Rattle.rtui_boxes.specs.{Lines.RendersIfLine, Boxes.IsNarrowBox}
+use Rattle.rtui_boxes.specs.Framed.{inner_if}
 use Rattle.rtui_boxes.proofs.{InnerLemmas.plain-inside, PlainBoxLemmas.plain-laid, PlainBoxLemmas.plain-done}
 use Rattle.rtui_boxes.proofs.PlainBoxLemmas.{plain-text, plain-title}
 use Rattle.rtui_bars.specs.{declared.group.Bar.Bar, declared.group.BarGroup.BarGroup, declared.chart.BarChart.BarChart}
@@ -25,21 +25,24 @@ use Rattle.rtui_bars.specs.BarCharts.{greatest_of_chart, has_bar_labels, group_l
 use Rattle.rtui_bars.specs.BarCharts.{bars_columns, shown_bars, fitting_count, after_bars}
 use Rattle.rtui_bars.specs.BarCharts.{HasNarrowBarTexts, HasNarrowGroupTexts, HasNarrowGroups}
 use Rattle.std.proofs.lemmas.{Fmt.decimal_is_IsNumeral, Str.Parse.digit_at}
-use Rattle.ratatui_core.specs.Text.{ArePrintable}
+use Rattle.ratatui_core.specs.Text.{ArePrintable, EachGrapheme, TakesOneColumn, EachLineGrapheme}
 use Rattle.rtui_sparkline.proofs.LevelLemmas.{level-any}
 
-label-stays : (style : Style) (label : Option LineData) (r : Rect) (old new : BufferData) → IsNarrowIfLine label
+label-stays : (style : Style) (label : Option LineData) (r : Rect) (old new : BufferData)
+    → IfSome label (EachLineGrapheme TakesOneColumn)
     → IsPlainFrom 0 old → RendersBarLabel style label r old new → IsPlainFrom 0 new
 label-stays style None r old new narrow plain same = rw same plain
 label-stays style (Some line) r old new narrow plain is =
     plain-title style (title_at line (middle_columns (title_width line) r)) old new narrow plain is
 
-long-label-stays : (label : Option LineData) (r : Rect) (old new : BufferData) → IsNarrowIfLine label → IsPlainFrom 0 old
+long-label-stays : (label : Option LineData) (r : Rect) (old new : BufferData) → IfSome label (EachLineGrapheme TakesOneColumn)
+    → IsPlainFrom 0 old
     → RendersIfLine label r old new → IsPlainFrom 0 new
 long-label-stays None r old new narrow plain same = rw same plain
 long-label-stays (Some line) r old new narrow plain is = line-stays r old new plain line narrow is
 
-group-label-stays : (style : Style) (label : Option LineData) (n : ℕ) (r : Rect) (old new : BufferData) → IsNarrowIfLine label
+group-label-stays : (style : Style) (label : Option LineData) (n : ℕ) (r : Rect) (old new : BufferData)
+    → IfSome label (EachLineGrapheme TakesOneColumn)
     → IsPlainFrom 0 old → RendersGroupLabel style label n r old new → IsPlainFrom 0 new
 group-label-stays style None n r old new narrow plain same = rw same plain
 group-label-stays style (Some line) n r old new narrow plain is =
@@ -80,7 +83,7 @@ module _ (c : BarChart) (narrow : HasNarrowGroups c) where
       (plain-text (corner m) m.x m.width (patch c.value_style bar.value_style) text is.labelled new texts.value labelled)
       is.value
 
-  over-stays : (style : Style) (text : List ℕ) (n : ℕ) (r : Rect) (old new : BufferData) → HasNarrowGraphemes text
+  over-stays : (style : Style) (text : List ℕ) (n : ℕ) (r : Rect) (old new : BufferData) → EachGrapheme TakesOneColumn text
       → IsPlainFrom 0 old → WritesOver style text n r old new → IsPlainFrom 0 new
   over-stays style text n r old new texts plain is =
       plain-laid (first_columns (min n (text_columns text)) r) style is.written new is.over
@@ -114,7 +117,8 @@ module _ (c : BarChart) (narrow : HasNarrowGroups c) where
       (bar-stays c.direction bar (bar_part c.direction c.bar_width r) old is.between (All-head HasNarrowBarTexts bar bars texts)
       plain is.first) is.second
 
-  label-of-stays : (d : Direction) (group : BarGroup) (n : ℕ) (r : Rect) (old new : BufferData) → IsNarrowIfLine group.label
+  label-of-stays : (d : Direction) (group : BarGroup) (n : ℕ) (r : Rect) (old new : BufferData)
+      → IfSome group.label (EachLineGrapheme TakesOneColumn)
       → IsPlainFrom 0 old → RendersLabelOf d c group n r old new → IsPlainFrom 0 new
   label-of-stays Vertical group n r old new texts plain is =
       plain-done (has_group_labels c r.height && nat_lt 0 n) (RendersGroupLabel c.label_style group.label (bars_columns c n)
@@ -139,12 +143,13 @@ module _ (c : BarChart) (narrow : HasNarrowGroups c) where
       groups-stay (area_behind c.direction c.group_gap (after_bars c r bars)) groups is.between new
       (All-tail HasNarrowGroupTexts group groups texts) labelled is.second
 
-pub chart-plain : (c : BarChart) (area : Rect) (old new : BufferData) → IsNarrowIfBox c.block → HasNarrowGroups c
+pub chart-plain : (c : BarChart) (area : Rect) (old new : BufferData) → IfSome c.block IsNarrowBox → HasNarrowGroups c
     → IsPlainFrom 0 old → RendersBarChart c area old new → IsPlainFrom 0 new
 chart-plain c area old new box narrow plain is =
-    plain-inside c.style c.block (ShowsChart c) area old new box plain (λ r framed shown cells shows.
-    plain-done (not (c.bar_width == 0)) (RendersGroups c r c.groups.items) framed shown cells
-    (groups-stay c narrow r c.groups.items framed shown narrow.groups cells) shows) is
+    let r = inner_if c.block (intersected area old.area) in
+    plain-inside c.style c.block (λ _ _. ShowsChart c) tt tt area old new box plain (λ framed cells shows.
+    plain-done (not (c.bar_width == 0)) (RendersGroups c r c.groups.items) framed new cells
+    (groups-stay c narrow r c.groups.items framed new narrow.groups cells) shows) is
 
 -- digits are printable
 pub digits-printable : (n : ℕ) → n < 2 ^ 64 → ArePrintable (decimal n)

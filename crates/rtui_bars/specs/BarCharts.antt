@@ -1,12 +1,12 @@
 -- A bar chart: of which parts it is made, and what it makes of a buffer.
-use Rattle.std.specs.Prelude.{◌≡◌, ℕ, Bool, ◌+◌, ◌-◌, ◌*◌, ◌/◌, ◌==◌, ◌&&◌, ◌||◌, nat_lt, nat_le}
+use Rattle.std.specs.Prelude.{◌≡◌, ℕ, Bool, ◌+◌, ◌-◌, ◌*◌, ◌/◌, ◌==◌, ◌&&◌, ◌||◌, nat_lt, nat_le, IfSome}
 use Rattle.std.specs.Prelude.{not, min, max, List, [], ◌∷◌, length, take, decimal, Option, Some, None}
 use Rattle.std.specs.Prelude.{is_some, if◌then◌else◌, unwrap_or, All, ◌≤◌}
 use Rattle.std.specs.{List.list_any, Borrow.Bor}
 use Rattle.ratatui_core.specs.Layout.{Rect, Position, corner}
 use Rattle.ratatui_core.specs.Style.{Style, new_style, patch}
 use Rattle.ratatui_core.specs.Symbols.{bar_texts, bar_levels}
-use Rattle.ratatui_core.specs.Text.{LineData}
+use Rattle.ratatui_core.specs.Text.{LineData, EachGrapheme, TakesOneColumn, EachLineGrapheme}
 use Rattle.ratatui_core.specs.declared.layout.HorizontalAlignment.{HorizontalAlignment}
 use Rattle.ratatui_core.specs.declared.layout.HorizontalAlignment.TheVariants.{Left, Center, Right}
 use Rattle.ratatui_core.specs.Buffer.{BufferData, Cell, styled, with_symbol, text_columns, pieces_at}
@@ -14,8 +14,8 @@ use Rattle.ratatui_core.specs.Buffer.{ChangesEach, PaintsPieces}
 use Rattle.ratatui_core.specs.declared.layout.Direction.{Direction}
 use Rattle.ratatui_core.specs.declared.layout.Direction.TheVariants.{Horizontal, Vertical}
 use Rattle.ratatui_core.specs.{Buffer.IsStyled}
-use Rattle.ratatui_core.specs.Buffer.{text_width, HasNarrowGraphemes}
-use Rattle.rtui_boxes.specs.Lines.{RendersIfLine, IsNarrowIfLine}
+use Rattle.ratatui_core.specs.Buffer.{text_width}
+use Rattle.rtui_boxes.specs.Lines.{RendersIfLine}
 use Rattle.rtui_boxes.specs.Titles.{InTurn, DoesIf, RendersTitle, title_at, title_width, first_columns}
 use Rattle.rtui_boxes.specs.Titles.{without_first}
 use Rattle.rtui_boxes.specs.Framed.{RendersInFrame}
@@ -277,11 +277,11 @@ RendersBarChart c = RendersInFrame c.style c.block (ShowsChart c)
 -- the texts of a bar, of a group and of a chart, and the symbols of its bars, take one column for each
 -- grapheme
 pub record HasNarrowBarTexts (bar : Bar) : Type 0 where
-  pub label : IsNarrowIfLine bar.label
-  pub value : HasNarrowGraphemes (text_of_bar bar.value bar.text_value)
+  pub label : IfSome bar.label (EachLineGrapheme TakesOneColumn)
+  pub value : EachGrapheme TakesOneColumn (text_of_bar bar.value bar.text_value)
 
 pub record HasNarrowGroupTexts (group : BarGroup) : Type 0 where
-  pub label : IsNarrowIfLine group.label
+  pub label : IfSome group.label (EachLineGrapheme TakesOneColumn)
   pub bars : All HasNarrowBarTexts group.bars.items
 
 pub record HasNarrowGroups (c : BarChart) : Type 0 where

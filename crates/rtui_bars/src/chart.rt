@@ -1,12 +1,10 @@
 //! Bars in groups, with labels and values.
 
-ghost use Rattle.std.specs.Prelude.{◌≡◌, ◌≤◌, Some, None, OnOk, IfOk, [], ◌∷◌, true};
+ghost use Rattle.std.specs.Prelude.{◌≡◌, Some, None, IfOk, [], ◌∷◌, true};
 ghost use Rattle.std.specs.Cmp.Lexicographic.{pointwise};
-ghost use Rattle.ratatui_core.specs.Widgets.{ChangesWithin};
-ghost use Rattle.rtui_boxes.specs.Boxes.{IsBoxArea};
 ghost use Rattle.rtui_bars.specs.BarCharts.{IsNewBarChart, IsLyingBarChart};
 ghost use Rattle.rtui_bars.specs.Inner.{measures_of};
-ghost use Rattle.rtui_bars.specs.BarCharts.{greatest_bar, greatest_of_chart, ShowsChart, bar_label_width};
+ghost use Rattle.rtui_bars.specs.BarCharts.{greatest_bar, greatest_of_chart, bar_label_width};
 ghost use Rattle.rtui_bars.specs.BarCharts.{widest_bar_label, widest_label, label_columns};
 
 use crate::chart_part::columns_of;
@@ -329,10 +327,7 @@ impl<'b, 'a> Widget for &'b BarChart<'a> {
     ghost renders = { λ chart. RendersBarChart chart.now };
 
     fn render(self, area: Rect, buf: &mut Buffer) -> Result<(), AllocError> {
-        let Some(part) = buf.part(area) else {
-            return Ok(());
-        };
-        let Some(inner) = render_frame(self.style, &self.block, part, buf)? else {
+        let Some(inner) = render_frame(self.style, &self.block, area, buf)? else {
             return Ok(());
         };
         self.render_chart(inner, buf)

@@ -1,22 +1,23 @@
 -- A style and a box over a part of a buffer, and what is inside.
 use Rattle.std.proofs.Common.{◌≡◌, ℕ, ◌+◌, ◌-◌, ◌<◌, ◌≤◌, ⊎_elim, inl, inr, Bool, true, false, min, Option, Some, None, refl, sym}
-use Rattle.std.proofs.Common.{ap, subst, ◌∙◌, arith, Result, Ok, Err, OnOk, OnErr, IsTrue, ◌↔◌, MatchOption}
+use Rattle.std.proofs.Common.{ap, subst, ◌∙◌, arith, Result, Ok, Err, OnOk, IfSome, IsTrue, ◌↔◌}
 use Rattle.std.proofs.lemmas.Bool.{cases_lt}
 use Rattle.std.specs.declared.alloc.AllocError.{AllocError}
 use Rattle.ratatui_core.specs.Layout.{Rect, HasPosition, IsInside, intersected}
-use Rattle.ratatui_core.specs.{Style.Style, Buffer.BufferData, Buffer.IsStyled, Widgets.ChangesWithin, Widgets.IsClipped}
+use Rattle.ratatui_core.specs.{Style.Style, Buffer.BufferData, Buffer.IsStyled, Widgets.ChangesWithin}
 use Rattle.ratatui_core.proofs.{BufferLemmas.within-wider, WidgetLemmas.within-then, WidgetLemmas.OnPart-clipped}
 use Rattle.rtui_boxes.specs.declared.block.Block.{Block}
 use Rattle.rtui_boxes.specs.Boxes.{IsBoxArea, IsShortBlock, inner_of}
-use Rattle.rtui_boxes.specs.Framed.{inner_if, IsFramed, IsBare, IsInner, InFrame, RendersInFrame, IsShortIfBox, IsShortFrame}
+use Rattle.rtui_boxes.specs.Framed.{inner_if, IsBare, IsInner, FramesAlone, FramesInside, InFrame, RendersStateInFrame}
+use Rattle.rtui_boxes.specs.Framed.{IsShortBox, IsShortFrame}
 use Rattle.rtui_boxes.proofs.ShortLemmas.{short-box}
 use Rattle.ratatui_core.proofs.BufferLemmas.{decide_position}
 
 pub if-short : (o : Option Block) (b : Block) (area : Rect) (s : BufferData) → o ≡ Some b → IsShortFrame o s
     → IsShortBlock b area s
 if-short o b area s e short =
-    let box : IsShortIfBox (Some b) = subst IsShortIfBox e short.box in
-    short-box b area s box.0 box.1 short.cells
+    let box : IsShortBox b = subst (λ o. IfSome o IsShortBox) e short.box in
+    short-box b area s box.titles box.symbols short.cells
 
 -- a style changes no symbol
 pub short-laid : (o : Option Block) (r : Rect) (style : Style) (old laid : BufferData) → IsStyled r style old laid
@@ -30,6 +31,11 @@ short-laid o r style old laid is short = record {
         | inr (off, e) ↦ rw (is.outside p in_own off) (short.cells p in_own)
       ];
 }
+
+-- a rectangle with cells isn't bare
+not-bare : {P : Type 0} (r : Rect) → 0 < r.width → 0 < r.height → IsBare r → P
+not-bare r wide high bare =
+    ⊎_elim (λ (e : r.width ≡ 0). absurd (omega arith)) (λ (e : r.height ≡ 0). absurd (omega arith)) bare
 
 -- what is left of a span between two sides and two paddings
 starts-in : (x w l r a b : ℕ) → x + w ≤ 65535 → 0 < w - l - r - min (a + b) 65535
@@ -71,61 +77,55 @@ inner-in (Some b) part is wide high =
       inside = lies-in part (inner_of b part) is left right top bottom;
     }
 
--- a style and a box over a part, and what is done inside
-module _ (style : Style) (o : Option Block) (f : Rect → BufferData → BufferData → Type 0) (area part : Rect)
-    (old framed : BufferData) (clip : IsClipped area old.area part) (within : ChangesWithin part old framed) where
-  pub frame-within : ChangesWithin area old framed
-  frame-within = within-wider part area old framed clip.of_area within
-
-  pub inner-within : (inner : Rect) (new : BufferData) → IsInner o part inner → ChangesWithin inner framed new
-      → ChangesWithin area old new
-  inner-within inner new is done =
-      within-wider part area old new clip.of_area (within-then part old framed new within
-      (within-wider inner part framed new is.inside done))
-
-  pub framed-bare : IsFramed style o part old framed → IsBare (inner_if o part) → RendersInFrame style o f area old framed
-  framed-bare frame bare = record {
-    within = frame-within;
-    parts = OnPart-clipped (InFrame style o f) area part old framed clip (record {
+-- nothing is left to fill
+pub frame-alone : {S : Type 0} (style : Style) (o : Option Block) (f : S → S → Rect → BufferData → BufferData → Type 0) (s : S)
+    (area : Rect) (old framed : BufferData) → ChangesWithin area old framed → FramesAlone style o area old framed
+    → RendersStateInFrame style o f s s area old framed
+frame-alone style o f s area old framed within is = record {
+  within = within;
+  no_part = λ _. refl;
+  parts = record {
+    nothing = is.nothing;
+    part = λ wide high. let there = is.part wide high in record {
       framed = framed;
-      frame = frame;
-      none = λ _. refl;
-      inside = λ wide high. ⊎_elim (λ (e : (inner_if o part).width ≡ 0). absurd (omega arith))
-          (λ (e : (inner_if o part).height ≡ 0). absurd (omega arith)) bare;
-    });
-  }
+      frame = there.0;
+      none = λ _. (refl, refl);
+      inside = λ columns rows. not-bare (inner_if o (intersected area old.area)) columns rows there.1;
+    };
+  };
+}
 
-  some-inner : (inner : Rect) → IsInner o part inner → IsBare (inner_if o part) → ⊥
-  some-inner inner is bare =
-      let some : IsBoxArea (inner_if o part) = subst IsBoxArea is.value is.some in
-      let wide = some.columns in let high = some.rows in
-      ⊎_elim (λ (e : (inner_if o part).width ≡ 0). omega arith) (λ (e : (inner_if o part).height ≡ 0). omega arith) bare
+-- something is inside, and f does it
+module _ (style : Style) (o : Option Block) (area inner : Rect) (old framed new : BufferData)
+    (is : FramesInside style o area old framed inner) where
+  -- the buffer still has what is inside
+  pub frame-own : IsInside inner framed.area
+  frame-own p h = rw is.within.same_area (is.clip.of_own p (is.inside.inside p h))
 
-  pub framed-some : {A : Type 0} (r : Result A AllocError) (inner : Rect) (new : BufferData) → IsFramed style o part old framed
-      → IsInner o part inner → ChangesWithin inner framed new → OnOk r (f inner framed new)
-      → OnOk r (RendersInFrame style o f area old new)
-  framed-some (Ok x) inner new frame is done made = record {
-    within = inner-within inner new is done;
-    parts = OnPart-clipped (InFrame style o f) area part old new clip (record {
-      framed = framed;
-      frame = frame;
-      none = λ bare. absurd (some-inner inner is bare);
-      inside = λ _ _. subst (λ q. f q framed new) is.value made;
-    });
-  }
-  framed-some (Err e) inner new frame is done made = tt
+  pub frame-inner : inner ≡ inner_if o (intersected area old.area)
+  frame-inner = is.inside.value ∙ ap (inner_if o) is.clip.value
 
--- the part of an area that a buffer has has cells
-pub clip-some : (area own part : Rect) → IsClipped area own part → IsBare (intersected area own) → ⊥
-clip-some area own part clip bare =
-    let wide : part.width ≡ (intersected area own).width = ap (λ q. q.width) clip.value in
-    let high : part.height ≡ (intersected area own).height = ap (λ q. q.height) clip.value in
-    let columns = clip.columns in let rows = clip.rows in
-    ⊎_elim (λ (e : (intersected area own).width ≡ 0). omega arith) (λ (e : (intersected area own).height ≡ 0). omega arith) bare
+  pub frame-within : ChangesWithin inner framed new → ChangesWithin area old new
+  frame-within done = within-wider is.part area old new is.clip.of_area (within-then is.part old framed new is.within
+      (within-wider inner is.part framed new is.inside.inside done))
 
-pub any-err : {A P : Type 0} (r : Result A AllocError) → P → OnErr r P
-any-err (Ok x) p = tt
-any-err (Err e) p = p
+  pub frame-filled : {A S : Type 0} (f : S → S → Rect → BufferData → BufferData → Type 0) (s t : S) (r : Result A AllocError)
+      → ChangesWithin inner framed new → OnOk r (f s t inner framed new) → OnOk r (RendersStateInFrame style o f s t area old new)
+  frame-filled f s t (Ok x) done made =
+      let clip = is.clip in let some = is.inside.some in
+      record {
+        within = frame-within done;
+        no_part = λ bare. not-bare (intersected area old.area) (subst (λ q. 0 < q.width) clip.value clip.columns)
+            (subst (λ q. 0 < q.height) clip.value clip.rows) bare;
+        parts = OnPart-clipped (InFrame style o f s t) area is.part old new clip (record {
+          framed = framed;
+          frame = is.framed;
+          none = λ bare. not-bare (inner_if o is.part) (subst (λ q. 0 < q.width) is.inside.value some.columns)
+              (subst (λ q. 0 < q.height) is.inside.value some.rows) bare;
+          inside = λ _ _. subst (λ q. f s t q framed new) is.inside.value made;
+        });
+      }
+  frame-filled f s t (Err e) done made = tt
 
 -- what is inside has cells if a test says so
 pub inner-test : (o : Option Block) (part r : Rect) (t : Bool) → r ≡ inner_if o part → IsBoxArea part → IsTrue t ↔ IsBare r
@@ -137,21 +137,3 @@ inner-test o part r t e is test off =
     let high : 0 < r.height = ⊎_elim (λ (lt : 0 < r.height). lt) (λ (le : r.height ≤ 0). absurd (some (inr (omega arith))))
     (cases_lt 0 r.height) in
     rw e (inner-in o part is (subst (λ q. 0 < q.width) e wide) (subst (λ q. 0 < q.height) e high))
-
--- what a frame answers: what is inside, or that nothing is
-pub inner-some : (o : Option Block) (part : Rect) (m : Option Rect) (inner : Rect) → m ≡ Some inner
-    → MatchOption m (IsBare (inner_if o part)) (IsInner o part) → IsInner o part inner
-inner-some o part m inner e is = rw e at is
-
-pub inner-none : (o : Option Block) (part : Rect) (m : Option Rect) → m ≡ None
-    → MatchOption m (IsBare (inner_if o part)) (IsInner o part) → IsBare (inner_if o part)
-inner-none o part m e is = rw e at is
-
--- the buffer still has what is inside
-pub inner-own : (o : Option Block) (part inner area : Rect) (old framed : BufferData) → IsClipped area old.area part
-    → ChangesWithin part old framed → IsInner o part inner → IsInside inner framed.area
-inner-own o part inner area old framed clip within is = λ p h. rw within.same_area (clip.of_own p (is.inside p h))
-
-pub inner-is : (o : Option Block) (part inner area own : Rect) → IsClipped area own part → IsInner o part inner
-    → inner ≡ inner_if o (intersected area own)
-inner-is o part inner area own clip is = is.value ∙ ap (inner_if o) clip.value

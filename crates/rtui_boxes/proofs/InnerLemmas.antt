@@ -1,19 +1,20 @@
 -- What a style and a box leave of plain cells, and where what is inside lies.
-use Rattle.std.proofs.Common.{◌≡◌, ◌<◌, ◌≤◌, ⊎_elim, inl, inr, Option, Some, None, refl, ap, ◌∙◌, arith}
+use Rattle.std.proofs.Common.{◌≡◌, ◌<◌, ◌≤◌, ⊎_elim, inl, inr, Option, Some, None, refl, ap, ◌∙◌, arith, IfSome}
 use Rattle.std.proofs.lemmas.Bool.{cases_lt}
 use Rattle.ratatui_core.specs.Layout.{Rect, EdgesFit, IsInside, intersected}
 use Rattle.ratatui_core.specs.{Style.Style, Buffer.BufferData, Buffer.IsPlainFrom, Buffer.IsSettledBuffer, Widgets.IsClipped}
 use Rattle.ratatui_core.proofs.BufferLemmas.{settled-plain}
-use Rattle.rtui_boxes.specs.{declared.block.Block.Block, Boxes.IsBoxArea, Boxes.IsNarrowIfBox}
-use Rattle.rtui_boxes.specs.Framed.{inner_if, RendersIfBox, IsFramed, IsBare, RendersInFrame}
+use Rattle.rtui_boxes.specs.{declared.block.Block.Block, Boxes.IsBoxArea, Boxes.IsNarrowBox}
+use Rattle.rtui_boxes.specs.Framed.{inner_if, RendersIfBox, IsFramed, IsBare, RendersStateInFrame}
+use Rattle.rtui_boxes.specs.Framed.{RendersInFrame}
 use Rattle.rtui_boxes.proofs.{BoxLemmas.box-area, FrameLemmas.inner-in, PlainBoxLemmas.plain-laid, PlainBoxLemmas.plain-box}
 
-plain-boxed : (o : Option Block) (r : Rect) (old new : BufferData) → IsNarrowIfBox o → IsPlainFrom 0 old
+plain-boxed : (o : Option Block) (r : Rect) (old new : BufferData) → IfSome o IsNarrowBox → IsPlainFrom 0 old
     → RendersIfBox o r old new → IsPlainFrom 0 new
 plain-boxed None r old new is plain same = rw same plain
 plain-boxed (Some b) r old new is plain renders = plain-box b r old new is plain renders
 
-pub plain-framed : (style : Style) (o : Option Block) (r : Rect) (old new : BufferData) → IsNarrowIfBox o → IsPlainFrom 0 old
+pub plain-framed : (style : Style) (o : Option Block) (r : Rect) (old new : BufferData) → IfSome o IsNarrowBox → IsPlainFrom 0 old
     → IsFramed style o r old new → IsPlainFrom 0 new
 plain-framed style o r old new is plain frame =
     plain-boxed o r frame.laid new is (plain-laid r style old frame.laid frame.styled plain) frame.boxed
@@ -50,21 +51,20 @@ bare-or r bare some =
     (cases_lt 0 r.width)
 
 -- of plain cells come plain ones, if what is done inside leaves such
-pub plain-inside : (style : Style) (o : Option Block) (f : Rect → BufferData → BufferData → Type 0) (area : Rect)
-    (old new : BufferData) → IsNarrowIfBox o → IsPlainFrom 0 old
-    → ((r : Rect) (s t : BufferData) → IsPlainFrom 0 s → f r s t → IsPlainFrom 0 t) → RendersInFrame style o f area old new
-    → IsPlainFrom 0 new
-plain-inside style o f area old new box plain keeps is =
+pub plain-inside : {S : Type 0} (style : Style) (o : Option Block) (f : S → S → Rect → BufferData → BufferData → Type 0)
+    (s t : S) (area : Rect) (old new : BufferData) → IfSome o IsNarrowBox → IsPlainFrom 0 old
+    → ((framed : BufferData) → IsPlainFrom 0 framed → f s t (inner_if o (intersected area old.area)) framed new
+    → IsPlainFrom 0 new) → RendersStateInFrame style o f s t area old new → IsPlainFrom 0 new
+plain-inside style o f s t area old new box plain keeps is =
     let part = intersected area old.area in
     bare-or part (λ none. rw (is.parts.nothing none) plain) (λ wide high.
     let there = is.parts.part wide high in
     let framed = plain-framed style o part old there.framed box plain there.frame in
-    bare-or (inner_if o part) (λ none. rw (there.none none) framed)
-    (λ w h. keeps (inner_if o part) there.framed new framed (there.inside w h)))
+    bare-or (inner_if o part) (λ none. rw (there.none none).0 framed) (λ w h. keeps there.framed framed (there.inside w h)))
 
 -- of plain cells comes a settled buffer, if what is done inside leaves one
 pub settled-frame : (style : Style) (o : Option Block) (f : Rect → BufferData → BufferData → Type 0) (area : Rect)
-    (old new : BufferData) → EdgesFit old.area → IsPlainFrom 0 old → IsNarrowIfBox o
+    (old new : BufferData) → EdgesFit old.area → IsPlainFrom 0 old → IfSome o IsNarrowBox
     → ((r : Rect) (s t : BufferData) → IsBoxArea r → IsInside r s.area → EdgesFit s.area → IsPlainFrom 0 s → f r s t
     → IsSettledBuffer t) → RendersInFrame style o f area old new → IsSettledBuffer new
 settled-frame style o f area old new edges plain box keeps is =
@@ -76,7 +76,7 @@ settled-frame style o f area old new edges plain box keeps is =
     let same = framed-area style o part old framed there.frame in
     let plain_ = plain-framed style o part old framed box plain there.frame in
     let edges_ : EdgesFit framed.area = rw same edges in
-    bare-or (inner_if o part) (λ none. rw (there.none none) (settled-plain framed edges_ plain_)) (λ w h.
+    bare-or (inner_if o part) (λ none. rw (there.none none).0 (settled-plain framed edges_ plain_)) (λ w h.
     let inner = inner-in o part (box-area area old.area part clip) w h in
     keeps (inner_if o part) framed new inner.some (λ p in_inner. rw same (clip.of_own p (inner.inside p in_inner))) edges_ plain_
     (there.inside w h)))

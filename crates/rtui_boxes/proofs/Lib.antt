@@ -1,4 +1,3 @@
-pub mod ElementLemmas
 pub mod WithinLemmas
 pub mod TitleLemmas
 pub mod BoxLemmas

@@ -8,7 +8,7 @@ use Rattle.ratatui_core.specs.declared.layout.HorizontalAlignment.{HorizontalAli
 use Rattle.ratatui_core.specs.declared.layout.HorizontalAlignment.TheVariants.{Left, Center, Right}
 use Rattle.ratatui_core.specs.{Style.Style, Text.LineData, declared.symbols.merge.MergeStrategy.MergeStrategy}
 use Rattle.ratatui_core.specs.Buffer.{BufferData, Cell, cell_in, joined, styled, with_symbol, symbol_text, width_of, text_width}
-use Rattle.ratatui_core.specs.Buffer.{IsStyled, IsNarrowLine, IsPlain, IsPlainFrom, HasNarrowGraphemes, PaintsPieces, pieces_at}
+use Rattle.ratatui_core.specs.Buffer.{IsStyled, IsPlain, IsPlainFrom, PaintsPieces, pieces_at}
 use Rattle.ratatui_core.proofs.BufferLemmas.{plain-styled, plain-with_symbol, plain-if, joined-columns, has-or-not, line-stays}
 use Rattle.ratatui_core.proofs.BufferLemmas.{pieces-narrow, pieces-plain, over-all, from-over}
 use Rattle.rtui_boxes.specs.{declared.block.Block.Block, declared.title.Title.Title, declared.title.TitlePosition.TitlePosition}
@@ -19,6 +19,7 @@ use Rattle.rtui_boxes.specs.Titles.{without_first, without_last, shown_width, si
 use Rattle.rtui_boxes.specs.Titles.{from_outside, from_centre}
 use Rattle.rtui_boxes.specs.Boxes.{Stroke, strokes, stroked, strikes, drawn, box_cell, is_placed, lines_placed, row_titles}
 use Rattle.rtui_boxes.specs.Boxes.{placed_titles, titles_area, IsNarrowBox, RendersTitled, RendersBlock}
+use Rattle.ratatui_core.specs.Text.{EachGrapheme, TakesOneColumn, EachLineGrapheme}
 
 plain-symbol : (c : Cell) → IsPlain c → text_width (symbol_text c.symbol) ≤ 1
 unfolding width_of
@@ -78,24 +79,32 @@ plain-done true f old new plain keeps is = keeps is
 plain-done false f old new plain keeps same = rw same plain
 
 -- a text of narrow graphemes
-pub plain-text : (at : Position) (x n : ℕ) (style : Style) (text : List ℕ) (old new : BufferData) → HasNarrowGraphemes text
-    → IsPlainFrom 0 old → PaintsPieces at (pieces_at old.area x n style text) old new → IsPlainFrom 0 new
+pub plain-text : (at : Position) (x n : ℕ) (style : Style) (text : List ℕ) (old new : BufferData)
+    → EachGrapheme TakesOneColumn text → IsPlainFrom 0 old → PaintsPieces at (pieces_at old.area x n style text) old new
+    → IsPlainFrom 0 new
 plain-text at x n style text old new narrow plain is =
     from-over old new is.area (pieces-plain at (pieces_at old.area x n style text) old.area old new
     (pieces-narrow old.area x n style text narrow) (over-all old plain) is)
 
 -- and a title of a narrow line
-pub plain-title : (style : Style) (t : PlacedTitle) (old new : BufferData) → IsNarrowLine t.line → IsPlainFrom 0 old
+pub plain-title : (style : Style) (t : PlacedTitle) (old new : BufferData) → EachLineGrapheme TakesOneColumn t.line
+    → IsPlainFrom 0 old
     → RendersTitle style t old new → IsPlainFrom 0 new
 plain-title style t old new narrow plain is =
     line-stays t.area is.laid new (plain-laid t.area style old is.laid is.styled plain) t.line narrow is.line
 
 -- titles of narrow lines
+abbrev IsNarrowTitle : Title → Type 0
+IsNarrowTitle t = EachLineGrapheme TakesOneColumn t.line
+
+abbrev IsNarrowPlaced : PlacedTitle → Type 0
+IsNarrowPlaced t = EachLineGrapheme TakesOneColumn t.line
+
 abbrev AreNarrowTitles : List PlacedTitle → Type 0
-AreNarrowTitles ts = All (λ (t : PlacedTitle). IsNarrowLine t.line) ts
+AreNarrowTitles ts = All IsNarrowPlaced ts
 
 none-or : (t : Bool) (ts : List PlacedTitle) → AreNarrowTitles ts → AreNarrowTitles (if t then [] else ts)
-none-or true ts all = All-nil (λ (t : PlacedTitle). IsNarrowLine t.line)
+none-or true ts all = All-nil IsNarrowPlaced
 none-or false ts all = all
 
 either-titles : (t : Bool) (ts us : List PlacedTitle) → AreNarrowTitles ts → AreNarrowTitles us
@@ -103,50 +112,53 @@ either-titles : (t : Bool) (ts us : List PlacedTitle) → AreNarrowTitles ts →
 either-titles true ts us a b = a
 either-titles false ts us a b = b
 
-one-more : (t : PlacedTitle) (ts : List PlacedTitle) → IsNarrowLine t.line → AreNarrowTitles ts → AreNarrowTitles (t ∷ ts)
-one-more t ts narrow all = All-cons (λ (t : PlacedTitle). IsNarrowLine t.line) t ts narrow all
+one-more : (t : PlacedTitle) (ts : List PlacedTitle) → IsNarrowPlaced t → AreNarrowTitles ts → AreNarrowTitles (t ∷ ts)
+one-more t ts narrow all = All-cons IsNarrowPlaced t ts narrow all
 
-narrow-left : (r : Rect) (ls : List LineData) → All IsNarrowLine ls → AreNarrowTitles (from_left r ls)
-narrow-left r [] all = All-nil (λ (t : PlacedTitle). IsNarrowLine t.line)
+narrow-left : (r : Rect) (ls : List LineData) → All (EachLineGrapheme TakesOneColumn) ls → AreNarrowTitles (from_left r ls)
+narrow-left r [] all = All-nil IsNarrowPlaced
 narrow-left r (l ∷ ls) all =
     none-or (r.width == 0) _ (one-more (title_at l (first_columns (title_width l) r))
-    (from_left (without_first (title_width l + 1) r) ls) (All-head IsNarrowLine l ls all)
-    (narrow-left (without_first (title_width l + 1) r) ls (All-tail IsNarrowLine l ls all)))
+    (from_left (without_first (title_width l + 1) r) ls) (All-head (EachLineGrapheme TakesOneColumn) l ls all)
+    (narrow-left (without_first (title_width l + 1) r) ls (All-tail (EachLineGrapheme TakesOneColumn) l ls all)))
 
-narrow-right : (r : Rect) (ls : List LineData) → All IsNarrowLine ls → AreNarrowTitles (from_right r ls)
-narrow-right r [] all = All-nil (λ (t : PlacedTitle). IsNarrowLine t.line)
+narrow-right : (r : Rect) (ls : List LineData) → All (EachLineGrapheme TakesOneColumn) ls → AreNarrowTitles (from_right r ls)
+narrow-right r [] all = All-nil IsNarrowPlaced
 narrow-right r (l ∷ ls) all =
     none-or (r.width == 0) _ (one-more (title_at l (last_columns (title_width l) r))
-    (from_right (without_last (title_width l + 1) r) ls) (All-head IsNarrowLine l ls all)
-    (narrow-right (without_last (title_width l + 1) r) ls (All-tail IsNarrowLine l ls all)))
+    (from_right (without_last (title_width l + 1) r) ls) (All-head (EachLineGrapheme TakesOneColumn) l ls all)
+    (narrow-right (without_last (title_width l + 1) r) ls (All-tail (EachLineGrapheme TakesOneColumn) l ls all)))
 
-narrow-outside : (n : ℕ) (r : Rect) (ls : List LineData) → All IsNarrowLine ls → AreNarrowTitles (from_outside n r ls)
-narrow-outside n r [] all = All-nil (λ (t : PlacedTitle). IsNarrowLine t.line)
+narrow-outside : (n : ℕ) (r : Rect) (ls : List LineData) → All (EachLineGrapheme TakesOneColumn) ls
+    → AreNarrowTitles (from_outside n r ls)
+narrow-outside n r [] all = All-nil IsNarrowPlaced
 narrow-outside n r (l ∷ ls) all =
     none-or (r.width == 0) _ (one-more (title_at (aligned (side_of n) l) (first_columns (shown_width n r l) r))
-    (from_outside (n - shown_width n r l - 1) (without_first (shown_width n r l + 1) r) ls) (All-head IsNarrowLine l ls all)
-    (narrow-outside (n - shown_width n r l - 1) (without_first (shown_width n r l + 1) r) ls (All-tail IsNarrowLine l ls all)))
+    (from_outside (n - shown_width n r l - 1) (without_first (shown_width n r l + 1) r) ls)
+    (All-head (EachLineGrapheme TakesOneColumn) l ls all)
+    (narrow-outside (n - shown_width n r l - 1) (without_first (shown_width n r l + 1) r) ls
+    (All-tail (EachLineGrapheme TakesOneColumn) l ls all)))
 
-all-reverse : (ts : List Title) → All (λ (t : Title). IsNarrowLine t.line) ts
-    → All (λ (t : Title). IsNarrowLine t.line) (reverse ts)
+all-reverse : (ts : List Title) → All IsNarrowTitle ts
+    → All IsNarrowTitle (reverse ts)
 all-reverse [] all = all
 all-reverse (t ∷ ts) all =
-    subst (All (λ (t : Title). IsNarrowLine t.line)) (sym (reverse-append (t ∷ []) ts))
-    (All-append (λ (t : Title). IsNarrowLine t.line) (reverse ts) (t ∷ [])
-    (all-reverse ts (All-tail (λ (t : Title). IsNarrowLine t.line) t ts all))
-    (All-cons (λ (t : Title). IsNarrowLine t.line) t [] (All-head (λ (t : Title). IsNarrowLine t.line) t ts all)
-    (All-nil (λ (t : Title). IsNarrowLine t.line))))
+    subst (All IsNarrowTitle) (sym (reverse-append (t ∷ []) ts))
+    (All-append IsNarrowTitle (reverse ts) (t ∷ [])
+    (all-reverse ts (All-tail IsNarrowTitle t ts all))
+    (All-cons IsNarrowTitle t [] (All-head IsNarrowTitle t ts all)
+    (All-nil IsNarrowTitle)))
 
 narrow-placed : (b : Block) (position : TitlePosition) (alignment : HorizontalAlignment) (ts : List Title)
-    → All (λ (t : Title). IsNarrowLine t.line) ts → All IsNarrowLine (lines_placed b position alignment ts)
+    → All IsNarrowTitle ts → All (EachLineGrapheme TakesOneColumn) (lines_placed b position alignment ts)
 narrow-placed b position alignment ts all =
-    All-map IsNarrowLine (λ (t : Title). t.line) (filter (is_placed b position alignment) ts)
-    (All-filter (is_placed b position alignment) (λ (t : Title). IsNarrowLine t.line) ts all)
+    All-map (EachLineGrapheme TakesOneColumn) (λ (t : Title). t.line) (filter (is_placed b position alignment) ts)
+    (All-filter (is_placed b position alignment) IsNarrowTitle ts all)
 
 both-titles : (ts us : List PlacedTitle) → AreNarrowTitles ts → AreNarrowTitles us → AreNarrowTitles (ts ++ us)
-both-titles ts us a b = All-append (λ (t : PlacedTitle). IsNarrowLine t.line) ts us a b
+both-titles ts us a b = All-append IsNarrowPlaced ts us a b
 
-narrow-row : (b : Block) (row : Rect) (position : TitlePosition) → All (λ (t : Title). IsNarrowLine t.line) b.titles.items
+narrow-row : (b : Block) (row : Rect) (position : TitlePosition) → All IsNarrowTitle b.titles.items
     → AreNarrowTitles (row_titles b row position)
 narrow-row b row position all =
     let centre = lines_placed b position Center b.titles.items in
@@ -164,9 +176,9 @@ plain-titles : (style : Style) (ts : List PlacedTitle) (old new : BufferData) �
     → RendersTitles style ts old new → IsPlainFrom 0 new
 plain-titles style [] old new narrow plain same = rw same plain
 plain-titles style (t ∷ ts) old new narrow plain made =
-    let shown = plain-title style t old made.between (All-head (λ (t : PlacedTitle). IsNarrowLine t.line) t ts narrow) plain
+    let shown = plain-title style t old made.between (All-head IsNarrowPlaced t ts narrow) plain
     made.first in
-    plain-titles style ts made.between new (All-tail (λ (t : PlacedTitle). IsNarrowLine t.line) t ts narrow) shown made.second
+    plain-titles style ts made.between new (All-tail IsNarrowPlaced t ts narrow) shown made.second
 
 plain-titled : (b : Block) (r : Rect) (old new : BufferData) → IsNarrowBox b → IsPlainFrom 0 old → RendersTitled b r old new
     → IsPlainFrom 0 new

@@ -8,7 +8,7 @@ use Rattle.ratatui_core.specs.{Layout.Rect, Layout.IsInside, declared.layout.Hor
 use Rattle.ratatui_core.specs.declared.layout.HorizontalAlignment.TheVariants.{Left, Center, Right}
 use Rattle.ratatui_core.specs.{Style.Style, Text.LineData, Buffer.BufferData, Widgets.ChangesWithin}
 use Rattle.ratatui_core.proofs.{BufferLemmas.within-wider, WidgetLemmas.within-then}
-use Rattle.rtui_boxes.proofs.ElementLemmas.{element-next}
+use Rattle.ratatui_core.proofs.WidgetLemmas.{element-next}
 use Rattle.rtui_boxes.specs.{declared.block.Block.Block, declared.title.Title.Title, declared.title.TitlePosition.TitlePosition}
 use Rattle.rtui_boxes.specs.declared.title.TitlePosition.TheVariants.{Top, Bottom}
 use Rattle.rtui_boxes.specs.Titles.{PlacedTitle, title_at, title_width, titles_width, from_centre, first_columns, last_columns}

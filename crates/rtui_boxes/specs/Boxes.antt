@@ -1,6 +1,6 @@
 -- A box: which symbols stand where, and what is inside.
 use Rattle.std.specs.Prelude.{◌≡◌, ℕ, Bool, true, false, ◌&&◌, ◌||◌, ◌==◌, ◌+◌, ◌-◌, ◌≤◌, ◌<◌}
-use Rattle.std.specs.Prelude.{min, Option, Some, None, List, [], ◌∷◌, ◌++◌, if◌then◌else◌, unwrap_or, map}
+use Rattle.std.specs.Prelude.{min, Option, List, [], ◌∷◌, ◌++◌, if◌then◌else◌, unwrap_or, map}
 use Rattle.std.specs.Prelude.{filter, reverse, All, ⊤}
 use Rattle.std.specs.{List.list_any, Int.RustNames.bit_and}
 use Rattle.ratatui_core.specs.Layout.{Rect, Position, HasPosition, has_position, right_edge, bottom_edge}
@@ -12,7 +12,7 @@ use Rattle.ratatui_core.specs.declared.layout.HorizontalAlignment.TheVariants.{L
 use Rattle.ratatui_core.specs.{Widgets.ChangesWithin, Widgets.OnPart}
 use Rattle.ratatui_core.specs.{declared.symbols.merge.MergeStrategy.MergeStrategy}
 use Rattle.ratatui_core.specs.Buffer.{BufferData, Cell, MakesEach, place_at, position_of, cell_in, styled}
-use Rattle.ratatui_core.specs.Buffer.{with_symbol, joined, symbol_text, text_width, IsShort, IsNarrowLine}
+use Rattle.ratatui_core.specs.Buffer.{with_symbol, joined, symbol_text, text_width, IsShort}
 use Rattle.ratatui_core.specs.declared.symbols.merge.MergeStrategy.TheVariants.{Replace, Exact, Fuzzy}
 use Rattle.rtui_boxes.specs.{declared.borders.Borders.Borders, declared.block.Block.Block}
 use Rattle.rtui_boxes.specs.{declared.title.Title.Title}
@@ -21,6 +21,7 @@ use Rattle.rtui_boxes.specs.{declared.title.TitlePosition.TheVariants.Top}
 use Rattle.rtui_boxes.specs.{declared.title.TitlePosition.TheVariants.Bottom, Borders.sides_of}
 use Rattle.rtui_boxes.specs.Titles.{PlacedTitle, RendersTitles, is_same_alignment, from_left, from_centre}
 use Rattle.rtui_boxes.specs.{Titles.from_right, Titles.titles_width, Lines.IsShortTitle}
+use Rattle.ratatui_core.specs.Text.{TakesOneColumn, EachLineGrapheme}
 
 -- a box with these sides and plain lines, without titles, styles and padding
 pub record IsNewBlock (sides : ℕ) (b : Block) : Type 0 where
@@ -291,10 +292,5 @@ AreShortCells s = (p : Position) → HasPosition s.area p → IsShort (symbol_te
 
 -- a box whose symbols, and whose titles' graphemes, take at most one column each; it may have no titles
 pub record IsNarrowBox (b : Block) : Type 0 where
-  pub titles : All (λ title. IsNarrowLine title.line) b.titles.items
+  pub titles : All (λ title. EachLineGrapheme TakesOneColumn title.line) b.titles.items
   pub symbols : All (λ symbol. text_width symbol ≤ 1) (border_texts b.border_set)
-
--- so it is with the box, if there is one
-abbrev pub IsNarrowIfBox : Option Block → Type 0
-IsNarrowIfBox None = ⊤
-IsNarrowIfBox (Some b) = IsNarrowBox b

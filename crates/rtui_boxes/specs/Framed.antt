@@ -1,7 +1,8 @@
 -- A style and a box over a part of a buffer, and what is left to a widget inside.
-use Rattle.std.specs.Prelude.{◌≡◌, ℕ, ◌⊎◌, ◌<◌, Option, Some, None, ⊤}
-use Rattle.ratatui_core.specs.{Layout.Rect, Layout.IsInside, Style.Style, Buffer.BufferData, Buffer.IsStyled}
-use Rattle.ratatui_core.specs.{Widgets.ChangesWithin, Widgets.OnPart}
+use Rattle.std.specs.Prelude.{◌≡◌, ℕ, ◌⊎◌, ◌<◌, Option, Some, None, IfSome, ⊤}
+use Rattle.ratatui_core.specs.{Layout.Rect, Layout.IsInside, Layout.intersected, Style.Style}
+use Rattle.ratatui_core.specs.{Buffer.BufferData, Buffer.IsStyled}
+use Rattle.ratatui_core.specs.{Widgets.ChangesWithin, Widgets.IsClipped, Widgets.OnPart}
 use Rattle.rtui_boxes.specs.declared.block.Block.{Block}
 use Rattle.rtui_boxes.specs.Boxes.{inner_of, rows_around, RendersBlock, IsBoxArea, HasShortSymbols}
 use Rattle.rtui_boxes.specs.Boxes.{AreShortCells, AreShortAnywhere}
@@ -21,7 +22,7 @@ abbrev pub RendersIfBox : Option Block → Rect → BufferData → BufferData �
 RendersIfBox None r old new = new ≡ old
 RendersIfBox (Some b) r old new = RendersBlock b r old new
 
--- a style over a part, and a box on it, if there is one
+-- a frame over a part: a style, and a box on it, if there is one
 pub record IsFramed (style : Style) (block : Option Block) (part : Rect) (old new : BufferData) : Type 0 where
   pub laid : BufferData
   pub styled : IsStyled part style old laid
@@ -37,28 +38,51 @@ pub record IsInner (block : Option Block) (part r : Rect) : Type 0 where
   pub some : IsBoxArea r
   pub inside : IsInside r part
 
--- a style over a part, a box on it, and what f does inside, if there are cells
-pub record InFrame (style : Style) (block : Option Block) (f : Rect → BufferData → BufferData → Type 0)
-    (part : Rect) (old new : BufferData) : Type 0 where
+-- a frame over the part of an area that a buffer has, in which nothing is left to fill
+abbrev pub FramesAlone : Style → Option Block → Rect → BufferData → BufferData → Type 0
+FramesAlone style block =
+    OnPart (λ part old new. IsFramed style block part old new × IsBare (inner_if block part))
+
+-- a frame over the part of an area that a buffer has, and what is inside
+pub record FramesInside (style : Style) (block : Option Block) (area : Rect) (old new : BufferData)
+    (inner : Rect) : Type 0 where
+  pub part : Rect
+  pub clip : IsClipped area old.area part
+  pub framed : IsFramed style block part old new
+  pub within : ChangesWithin part old new
+  pub inside : IsInner block part inner
+
+-- A frame over a part, and what f does inside, if there are cells; f leads from one state to the next, and
+-- without cells the state stays.
+pub record InFrame {S : Type 0} (style : Style) (block : Option Block)
+    (f : S → S → Rect → BufferData → BufferData → Type 0) (s t : S) (part : Rect)
+    (old new : BufferData) : Type 0 where
   pub framed : BufferData
   pub frame : IsFramed style block part old framed
-  pub none : IsBare (inner_if block part) → new ≡ framed
+  pub none : IsBare (inner_if block part) → (new ≡ framed) × (t ≡ s)
   pub inside : 0 < (inner_if block part).width → 0 < (inner_if block part).height
-      → f (inner_if block part) framed new
+      → f s t (inner_if block part) framed new
 
--- A widget in a style and a box, over the part of an area that a buffer has; nothing outside the area
--- changes.
-pub record RendersInFrame (style : Style) (block : Option Block) (f : Rect → BufferData → BufferData → Type 0)
-    (area : Rect) (old new : BufferData) : Type 0 where
+-- A widget with a state, in a style and a box, over the part of an area that a buffer has; nothing outside
+-- the area changes.
+pub record RendersStateInFrame {S : Type 0} (style : Style) (block : Option Block)
+    (f : S → S → Rect → BufferData → BufferData → Type 0) (s t : S) (area : Rect)
+    (old new : BufferData) : Type 0 where
   pub within : ChangesWithin area old new
-  pub parts : OnPart (InFrame style block f) area old new
+  pub no_part : IsBare (intersected area old.area) → t ≡ s
+  pub parts : OnPart (InFrame style block f s t) area old new
 
--- neither a title nor a symbol takes memory, wherever the box stands
-abbrev pub IsShortIfBox : Option Block → Type 0
-IsShortIfBox None = ⊤
-IsShortIfBox (Some b) = AreShortAnywhere b × HasShortSymbols b
+-- the same of a widget without a state
+abbrev pub RendersInFrame : Style → Option Block → (Rect → BufferData → BufferData → Type 0) → Rect
+    → BufferData → BufferData → Type 0
+RendersInFrame style block f = RendersStateInFrame {S = ⊤} style block (λ _ _. f) tt tt
+
+-- neither a title nor a symbol of a box takes memory, wherever it stands
+pub record IsShortBox (b : Block) : Type 0 where
+  pub titles : AreShortAnywhere b
+  pub symbols : HasShortSymbols b
 
 -- the box takes no memory, if there is one, nor do the symbols of the cells
 pub record IsShortFrame (block : Option Block) (s : BufferData) : Type 0 where
-  pub box : IsShortIfBox block
+  pub box : IfSome block IsShortBox
   pub cells : AreShortCells s

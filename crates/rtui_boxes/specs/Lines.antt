@@ -1,6 +1,6 @@
 -- A line that a widget may have: a title, a label, a symbol.
-use Rattle.std.specs.Prelude.{◌≡◌, Option, Some, None, ⊤}
-use Rattle.ratatui_core.specs.{Layout.Rect, Text.LineData, Buffer.BufferData, Buffer.IsNarrowLine}
+use Rattle.std.specs.Prelude.{◌≡◌, Option, Some, None}
+use Rattle.ratatui_core.specs.{Layout.Rect, Text.LineData, Buffer.BufferData}
 use Rattle.ratatui_core.specs.Widgets.{RendersLine, RendersShortLine}
 
 -- the line over an area, if there is one
@@ -11,13 +11,3 @@ RendersIfLine (Some line) r old new = RendersLine line r old new
 -- a line takes no memory, wherever it stands
 abbrev pub IsShortTitle : LineData → Type 0
 IsShortTitle line = (area : Rect) (s : BufferData) → RendersShortLine line area s
-
--- it takes none, if there is one
-abbrev pub IsShortIfLine : Option LineData → Type 0
-IsShortIfLine None = ⊤
-IsShortIfLine (Some line) = IsShortTitle line
-
--- each of its graphemes takes one column, if there is one
-abbrev pub IsNarrowIfLine : Option LineData → Type 0
-IsNarrowIfLine None = ⊤
-IsNarrowIfLine (Some line) = IsNarrowLine line

@@ -1,10 +1,8 @@
 //! A style and a box under a widget.
 
 ghost use Rattle.std.specs.Prelude.{◌≡◌, MatchOption, IsOk, IfOk, OnOk};
-ghost use Rattle.ratatui_core.specs.Layout.{IsInside};
 ghost use Rattle.ratatui_core.specs.Widgets.{ChangesWithin};
-ghost use Rattle.rtui_boxes.specs.Boxes.{IsBoxArea};
-ghost use Rattle.rtui_boxes.specs.Framed.{inner_if, RendersIfBox, IsFramed, IsBare, IsInner, IsShortFrame};
+ghost use Rattle.rtui_boxes.specs.Framed.{inner_if, RendersIfBox, FramesAlone, FramesInside, IsShortFrame};
 
 use crate::block::Block;
 use ratatui_core::buffer::Buffer;
@@ -35,29 +33,27 @@ fn render_if(block: &Option<Block<'_>>, part: Rect, buf: &mut Buffer) -> Result<
     }
 }
 
-/// Lays a style over a part of a buffer and renders a box there, if there is one; answers what is
-/// inside, if it has cells.
-///
-/// # Conditions
-///
-/// The part has columns and rows, and its edges are at most 65535.
+/// Lays a style over the part of an area that a buffer has and renders a box there, if there is
+/// one; answers what is inside, if it has cells.
 ///
 /// # Errors
 ///
-/// `AllocError` if memory is refused; no cell outside the part has changed then.
+/// `AllocError` if memory is refused; no cell outside the area has changed then.
 pub fn render_frame(
     style: Style,
     block: &Option<Block<'_>>,
-    part: Rect,
+    area: Rect,
     buf: &mut Buffer,
 ) -> Result<Option<Rect>, AllocError>
-    requires some { IsBoxArea part }
-    ensures within { ChangesWithin part buf.old buf.new }
-    ensures framed { OnOk result (IsFramed style block.now part buf.old buf.new) }
-    ensures inner { IfOk result (λ inner.
-        MatchOption inner (IsBare (inner_if block.now part)) (IsInner block.now part)) }
+    ensures within { ChangesWithin area buf.old buf.new }
+    ensures inner { IfOk result (λ inner. MatchOption inner
+        (FramesAlone style block.now area buf.old buf.new)
+        (FramesInside style block.now area buf.old buf.new)) }
     ensures short { IsShortFrame block.now buf.old → IsOk result }
 {
+    let Some(part) = buf.part(area) else {
+        return Ok(None);
+    };
     buf.set_style(part, style);
     render_if(block, part, buf)?;
     let inner = inner_if(block, part);

@@ -9,8 +9,9 @@ use Rattle.rtui_cell.specs.{Symbol.IsShort, Width.text_width}
 use Rattle.rtui_text.specs.Text.{SpanData}
 use Rattle.rtui_text.proofs.PrintableLemmas.{IsAsciiPiece, ascii-graphemes}
 use Rattle.rtui_buffer.specs.Painting.{has_painted_width, fitting, kept, Piece, piece_of, text_pieces, columns}
-use Rattle.rtui_buffer.specs.{PaintedText.AreShort, PaintedText.HasShortGraphemes, PaintedText.HaveShortGraphemes}
+use Rattle.rtui_buffer.specs.{PaintedText.AreShort}
 use Rattle.rtui_buffer.specs.{Line.line_pieces}
+use Rattle.rtui_text.specs.Graphemes.{EachGrapheme, EachSpanGrapheme}
 
 -- what holds of each grapheme holds of those that fit
 pub All-fitting : (P : List ℕ → Type 0) (room : ℕ) (gs : List (List ℕ)) → All P gs → All P (fitting room gs)
@@ -24,23 +25,23 @@ All-kept : (P : List ℕ → Type 0) (room : ℕ) (gs : List (List ℕ)) → All
 unfolding kept
 All-kept P room gs all = All-fitting P room _ (All-filter has_painted_width P gs all)
 
-pub text-short : (room : ℕ) (style : Style) (text : List ℕ) → HasShortGraphemes text → AreShort (text_pieces room style text)
+pub text-short : (room : ℕ) (style : Style) (text : List ℕ) → EachGrapheme IsShort text → AreShort (text_pieces room style text)
 text-short room style text all =
     All-map (λ (p : Piece). IsShort p.symbol) (piece_of style) (kept room (graphemes true text))
     (All-kept IsShort room (graphemes true text) all)
 
-pub line-short : (room : ℕ) (base : Style) (spans : List SpanData) → HaveShortGraphemes spans
+pub line-short : (room : ℕ) (base : Style) (spans : List SpanData) → EachSpanGrapheme IsShort spans
     → AreShort (line_pieces room base spans)
 unfolding line_pieces
 line-short room base [] all = All-nil (λ (p : Piece). IsShort p.symbol)
 line-short room base (s ∷ ss) all =
     let ps = text_pieces room (patch base s.style) s.content in
     All-append (λ (p : Piece). IsShort p.symbol) ps (line_pieces (room - columns ps) base ss)
-    (text-short room (patch base s.style) s.content (All-head (λ (s : SpanData). HasShortGraphemes s.content) s ss all))
-    (line-short (room - columns ps) base ss (All-tail (λ (s : SpanData). HasShortGraphemes s.content) s ss all))
+    (text-short room (patch base s.style) s.content (All-head (λ (s : SpanData). EachGrapheme IsShort s.content) s ss all))
+    (line-short (room - columns ps) base ss (All-tail (λ (s : SpanData). EachGrapheme IsShort s.content) s ss all))
 
 short_piece : (g : List ℕ) → IsAsciiPiece g → IsShort g
 short_piece g h = omega (arith, h.few)
 
-pub ascii-short : (text : List ℕ) → IsAscii text → HasShortGraphemes text
+pub ascii-short : (text : List ℕ) → IsAscii text → EachGrapheme IsShort text
 ascii-short text ascii = All-weaker IsAsciiPiece IsShort short_piece (graphemes true text) (ascii-graphemes text ascii)

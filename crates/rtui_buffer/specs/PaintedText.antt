@@ -3,7 +3,6 @@ use Rattle.std.specs.Prelude.{ℕ, ◌+◌, ◌-◌, ◌≡◌, ◌⊎◌, ◌�
 use Rattle.std.specs.Prelude.{take, All, Result, IsOk, OnOk}
 use Rattle.std.specs.declared.alloc.AllocError.{AllocError}
 use Rattle.unicode_segmentation.specs.Grapheme.{graphemes}
-use Rattle.rtui_text.specs.Text.{SpanData}
 use Rattle.rtui_geometry.specs.{declared.position.Position.Position, declared.rect.Rect.Rect}
 use Rattle.rtui_geometry.specs.{Rect.HasPosition}
 use Rattle.rtui_style.specs.declared.Style.{Style}
@@ -90,11 +89,3 @@ pub record IsStyled (r : Rect) (s : Style) (old new : BufferData) : Type 0 where
 -- the text is one grapheme
 abbrev pub IsOneGrapheme : List ℕ → Type 0
 IsOneGrapheme text = graphemes true text ≡ text ∷ []
-
--- each grapheme of a text takes no memory
-abbrev pub HasShortGraphemes : List ℕ → Type 0
-HasShortGraphemes text = All IsShort (graphemes true text)
-
--- each grapheme of each span
-abbrev pub HaveShortGraphemes : List SpanData → Type 0
-HaveShortGraphemes spans = All (λ span. HasShortGraphemes span.content) spans

@@ -21,10 +21,12 @@ ghost use Rattle.rtui_buffer.specs.Shown.{IsSettledBuffer, ShowsBuffer, IsAligne
 ghost use Rattle.rtui_buffer.specs.Painting.{Piece, piece_of, painted_width, has_painted_width, kept};
 ghost use Rattle.rtui_buffer.specs.Painting.{text_pieces, columns, AreWide, IsLongestFront, KeepsUnmarked};
 ghost use Rattle.rtui_buffer.specs.PaintedText.{pieces_at, room_at, right_by, AreShort, IsOneGrapheme};
-ghost use Rattle.rtui_buffer.specs.PaintedText.{HasShortGraphemes, HaveShortGraphemes, IsBeside, IsPaintable};
+ghost use Rattle.rtui_buffer.specs.PaintedText.{IsBeside, IsPaintable};
 ghost use Rattle.rtui_buffer.specs.PaintedText.{IsSameBeside, IsStyled, PaintsPieces, PaintsFront};
 ghost use Rattle.rtui_buffer.specs.PaintedText.{PaintsByColumns};
 ghost use Rattle.rtui_buffer.specs.Line.{line_pieces, line_pieces_at};
+ghost use Rattle.rtui_text.specs.Graphemes.{EachGrapheme, EachSpanGrapheme};
+ghost use Rattle.rtui_cell.specs.Symbol.{IsShort};
 
 use crate::buffer::Buffer;
 use rtui_cell::Cell;
@@ -144,15 +146,15 @@ pub fn texts_are_painted_in_parts()
 /// A text whose graphemes are short is painted without taking memory, and so is a line of such
 /// texts.
 pub fn short_graphemes_are_painted_short()
-    ensures text { (room : ℕ) (style : Style) (text : List ℕ) → HasShortGraphemes text
+    ensures text { (room : ℕ) (style : Style) (text : List ℕ) → EachGrapheme IsShort text
         → AreShort (text_pieces room style text) }
-    ensures line { (room : ℕ) (base : Style) (spans : List SpanData) → HaveShortGraphemes spans
-        → AreShort (line_pieces room base spans) }
+    ensures line { (room : ℕ) (base : Style) (spans : List SpanData)
+        → EachSpanGrapheme IsShort spans → AreShort (line_pieces room base spans) }
 {}
 
 /// The graphemes of a text of ASCII are short.
 pub fn ascii_graphemes_are_short()
-    ensures { (text : List ℕ) → IsAscii text → HasShortGraphemes text }
+    ensures { (text : List ℕ) → IsAscii text → EachGrapheme IsShort text }
 {}
 
 /// What is painted within a row of the area, seen by columns; and what isn't painted if memory is

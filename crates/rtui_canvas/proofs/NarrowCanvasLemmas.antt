@@ -1,20 +1,19 @@
 -- A canvas of narrow marks and labels keeps cells plain.
-use Rattle.std.proofs.Common.{◌≡◌, ℕ, zero, suc, ◌+◌, ◌-◌, ◌*◌, ◌%◌, ◌<◌, ◌≤◌, ◌==◌, ⊎_elim, Bool, true, false}
+use Rattle.std.proofs.Common.{◌≡◌, ℕ, zero, suc, ◌+◌, ◌-◌, ◌*◌, ◌%◌, ◌<◌, ◌≤◌, ◌==◌, ⊎_elim, Bool, true, false, IfSome}
 use Rattle.std.proofs.Common.{◌&&◌, if◌then◌else◌, List, [], ◌∷◌, All, replicate, arith, refl, subst, nat_le}
 use Rattle.std.proofs.Common.{slice_index, slice_index_or, slice_set, bit_or, lit<}
 use Rattle.std.specs.{Char.encode_utf8}
 use Rattle.std.proofs.lemmas.{Bool.cases_lt, Bool.and_parts, Bool.Decides.nat_tests, Nat.or_lt}
 use Rattle.std.proofs.lemmas.List.Elements.{All-nil, All-cons, All-head, All-tail}
 use Rattle.unicode_width.proofs.Computing.{unicode_width}
-use Rattle.ratatui_core.specs.Layout.{Rect}
+use Rattle.ratatui_core.specs.Layout.{Rect, intersected}
 use Rattle.ratatui_core.specs.{Style.Color, Style.new_style, Style.with_bg}
 use Rattle.ratatui_core.specs.declared.symbols.Marker.{Marker}
 use Rattle.ratatui_core.specs.declared.symbols.Marker.TheVariants.{Dot, Block, Bar, Braille, HalfBlock, Quadrant, Sextant, Octant}
 use Rattle.ratatui_core.specs.declared.symbols.Marker.TheVariants.{Custom}
 use Rattle.ratatui_core.specs.Buffer.{BufferData, Cell, with_symbol, text_width, width_of, IsPlain, IsPlainFrom}
-use Rattle.ratatui_core.specs.{Buffer.IsNarrowLine, Widgets.RendersLine}
+use Rattle.ratatui_core.specs.{Widgets.RendersLine}
 use Rattle.ratatui_core.proofs.BufferLemmas.{plain-with_symbol, plain-changed, line-stays}
-use Rattle.rtui_boxes.specs.{Boxes.IsNarrowIfBox}
 use Rattle.rtui_boxes.proofs.{InnerLemmas.plain-inside, PlainBoxLemmas.plain-laid, PlainBoxLemmas.plain-done}
 use Rattle.rtui_dots.specs.declared.{scale.Scale.Scale, painter.DotCell.DotCell}
 use Rattle.rtui_dots.specs.Grids.{Dot as GridDot, has_point, has_dot, far, dot_number, index_of, is_lower, with_dot_number}
@@ -23,6 +22,9 @@ use Rattle.rtui_dots.specs.Layers.{layers_of}
 use Rattle.rtui_canvas.specs.{declared.canvas.Canvas.Canvas, declared.label.Label.Label}
 use Rattle.rtui_canvas.specs.Canvases.{dot_mark, in_color, under_dots, shown_at, ShowsLayers}
 use Rattle.rtui_canvas.specs.Canvases.{RendersLabels, label_area, scale_of, ShowsCanvas, RendersCanvas, HasNarrowDots}
+use Rattle.ratatui_core.specs.Text.{TakesOneColumn, EachLineGrapheme}
+use Rattle.rtui_boxes.specs.Boxes.{IsNarrowBox}
+use Rattle.rtui_boxes.specs.Framed.{inner_if}
 
 -- each Braille character takes at most one column
 abbrev is_narrow_braille : ℕ → Bool
@@ -241,25 +243,27 @@ module _ (s : Scale) (narrow : HasNarrowDots s.marker) where
       (plain-changed r (shown_at s r cells) old is.between (λ p c cell. under-plain s.marker narrow _ c
       (small-at cells ((p.y - r.y) * s.columns + (p.x - r.x)) small) cell) is.first plain) is.second
 
-labels-stay : (s : Scale) (r : Rect) (ls : List Label) (old new : BufferData) → All (λ (l : Label). IsNarrowLine l.line) ls
+labels-stay : (s : Scale) (r : Rect) (ls : List Label) (old new : BufferData)
+    → All (λ (l : Label). EachLineGrapheme TakesOneColumn l.line) ls
     → IsPlainFrom 0 old → RendersLabels s r ls old new → IsPlainFrom 0 new
 labels-stay s r [] old new narrow plain same = rw same plain
 labels-stay s r (l ∷ ls) old new narrow plain is =
-    labels-stay s r ls is.between new (All-tail (λ (l : Label). IsNarrowLine l.line) l ls narrow)
+    labels-stay s r ls is.between new (All-tail (λ (l : Label). EachLineGrapheme TakesOneColumn l.line) l ls narrow)
     (plain-done (has_point s l.x l.y) (RendersLine l.line (label_area s r l)) old is.between plain
     (λ shown. line-stays (label_area s r l) old is.between plain l.line
-    (All-head (λ (l : Label). IsNarrowLine l.line) l ls narrow) shown) is.first) is.second
+    (All-head (λ (l : Label). EachLineGrapheme TakesOneColumn l.line) l ls narrow) shown) is.first) is.second
 
 canvas-stays : (c : Canvas) (r : Rect) (old new : BufferData) → HasNarrowDots c.marker
-    → All (λ (l : Label). IsNarrowLine l.line) c.labels.now → IsPlainFrom 0 old → ShowsCanvas c r old new → IsPlainFrom 0 new
+    → All (λ (l : Label). EachLineGrapheme TakesOneColumn l.line) c.labels.now → IsPlainFrom 0 old → ShowsCanvas c r old new
+    → IsPlainFrom 0 new
 canvas-stays c r old new dots labels plain is =
     let laid = plain-laid r (with_bg c.background_color new_style) old is.laid is.background plain in
     let drawn = layers-stay (scale_of c r) dots r (layers_of (scale_of c r) c.drawings.now) is.laid is.drawn laid is.layers in
     labels-stay (scale_of c r) r c.labels.now is.drawn new labels drawn is.labels
 
-pub canvas-plain : (c : Canvas) (area : Rect) (old new : BufferData) → IsNarrowIfBox c.block → HasNarrowDots c.marker
-    → All (λ (l : Label). IsNarrowLine l.line) c.labels.now → IsPlainFrom 0 old → RendersCanvas c area old new
+pub canvas-plain : (c : Canvas) (area : Rect) (old new : BufferData) → IfSome c.block IsNarrowBox → HasNarrowDots c.marker
+    → All (λ (l : Label). EachLineGrapheme TakesOneColumn l.line) c.labels.now → IsPlainFrom 0 old → RendersCanvas c area old new
     → IsPlainFrom 0 new
 canvas-plain c area old new box dots labels plain is =
-    plain-inside new_style c.block (ShowsCanvas c) area old new box plain
-    (λ r framed shown cells shows. canvas-stays c r framed shown dots labels cells shows) is
+    plain-inside new_style c.block (λ _ _. ShowsCanvas c) tt tt area old new box plain
+    (λ framed cells shows. canvas-stays c (inner_if c.block (intersected area old.area)) framed new dots labels cells shows) is

@@ -228,10 +228,7 @@ impl<'b, 'a> Widget for &'b Canvas<'a> {
     ghost renders = { λ canvas. RendersCanvas canvas.now };
 
     fn render(self, area: Rect, buf: &mut Buffer) -> Result<(), AllocError> {
-        let Some(part) = buf.part(area) else {
-            return Ok(());
-        };
-        let Some(inner) = render_frame(Style::new(), &self.block, part, buf)? else {
+        let Some(inner) = render_frame(Style::new(), &self.block, area, buf)? else {
             return Ok(());
         };
         self.render_canvas(inner, buf)

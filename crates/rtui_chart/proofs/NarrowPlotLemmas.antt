@@ -1,20 +1,21 @@
 -- A chart of narrow texts and marks keeps cells plain.
-use Rattle.std.proofs.Common.{◌≡◌, ℕ, ◌+◌, ◌<◌, ◌≤◌, ◌==◌, Bool, true, false, if◌then◌else◌, List, [], ◌∷◌}
+use Rattle.std.proofs.Common.{◌≡◌, ℕ, ◌+◌, ◌<◌, ◌≤◌, ◌==◌, Bool, true, false, if◌then◌else◌, List, [], ◌∷◌, IfSome}
 use Rattle.std.proofs.Common.{All, Option, Some, None, length, sym, subst, arith, lit<, refl, nat_le}
 use Rattle.std.specs.{Char.encode_utf8, List.list_all}
 use Rattle.std.proofs.lemmas.{Bool.and_parts, Bool.Decides.nat_tests}
 use Rattle.std.proofs.lemmas.List.Elements.{All-nil, All-cons, All-head, All-tail}
 use Rattle.unicode_width.proofs.Computing.{unicode_width}
-use Rattle.ratatui_core.specs.Layout.{Rect, corner}
+use Rattle.ratatui_core.specs.Layout.{Rect, corner, intersected}
 use Rattle.ratatui_core.specs.{Style.Style, Text.LineData}
 use Rattle.ratatui_core.specs.Symbols.{plain_border}
 use Rattle.ratatui_core.specs.declared.symbols.Marker.{Marker}
-use Rattle.ratatui_core.specs.Buffer.{BufferData, text_width, cell_in, style_of, IsPlainFrom, IsNarrowLine}
+use Rattle.ratatui_core.specs.Buffer.{BufferData, text_width, cell_in, style_of, IsPlainFrom}
 use Rattle.ratatui_core.specs.Buffer.{ChangesEach}
 use Rattle.ratatui_core.proofs.BufferLemmas.{plain-styled, plain-with_symbol, plain-changed, line-stays}
 use Rattle.rtui_boxes.specs.declared.title.Title.{Title}
-use Rattle.rtui_boxes.specs.{declared.block.Block.Block, Boxes.IsNarrowBox, Boxes.IsNarrowIfBox, Boxes.IsNewBlock}
-use Rattle.rtui_boxes.specs.{Titles.PlacedTitle, Titles.title_at, Lines.IsNarrowIfLine}
+use Rattle.rtui_boxes.specs.{declared.block.Block.Block, Boxes.IsNarrowBox, Boxes.IsNewBlock}
+use Rattle.rtui_boxes.specs.{Titles.PlacedTitle, Titles.title_at}
+use Rattle.rtui_boxes.specs.Framed.{inner_if}
 use Rattle.rtui_boxes.proofs.{InnerLemmas.plain-inside, PlainBoxLemmas.plain-box, PlainBoxLemmas.plain-laid}
 use Rattle.rtui_boxes.proofs.{PlainBoxLemmas.plain-title}
 use Rattle.rtui_canvas.specs.{declared.label.Label.Label, Canvases.HasNarrowDots}
@@ -26,15 +27,19 @@ use Rattle.rtui_chart.specs.ChartParts.{RendersAxes, RendersDatasets, RendersAxi
 use Rattle.rtui_chart.specs.Legends.{legend_names, with_name, name_at, RendersLegendIn}
 use Rattle.rtui_chart.specs.Plots.{ShowsPlot, RendersChart}
 use Rattle.rtui_chart.specs.NarrowCharts.{HasNarrowTexts, IsNarrowDataset, IsNarrowChart}
+use Rattle.ratatui_core.specs.Text.{TakesOneColumn, EachLineGrapheme}
 
 -- lines, each where it stands by its number
 numbered-stay : (place : ℕ → LineData → PlacedTitle)
-    → ((i : ℕ) (l : LineData) → IsNarrowLine l → IsNarrowLine (place i l).line) → (i : ℕ) (ls : List LineData)
-    (old new : BufferData) → All IsNarrowLine ls → IsPlainFrom 0 old → RendersNumbered place i ls old new → IsPlainFrom 0 new
+    → ((i : ℕ) (l : LineData) → EachLineGrapheme TakesOneColumn l → EachLineGrapheme TakesOneColumn (place i l).line)
+    → (i : ℕ) (ls : List LineData)
+    (old new : BufferData) → All (EachLineGrapheme TakesOneColumn) ls → IsPlainFrom 0 old → RendersNumbered place i ls old new
+    → IsPlainFrom 0 new
 numbered-stay place keeps i [] old new narrow plain same = rw same plain
 numbered-stay place keeps i (l ∷ ls) old new narrow plain is =
-    numbered-stay place keeps (i + 1) ls is.between new (All-tail IsNarrowLine l ls narrow)
-    (line-stays (place i l).area old is.between plain (place i l).line (keeps i l (All-head IsNarrowLine l ls narrow)) is.first)
+    numbered-stay place keeps (i + 1) ls is.between new (All-tail (EachLineGrapheme TakesOneColumn) l ls narrow)
+    (line-stays (place i l).area old is.between plain (place i l).line
+    (keeps i l (All-head (EachLineGrapheme TakesOneColumn) l ls narrow)) is.first)
     is.second
 
 unless-stays : (t : Bool) (f : BufferData → BufferData → Type 0) (old new : BufferData) → IsPlainFrom 0 old
@@ -43,11 +48,13 @@ unless-stays true f old new plain keeps same = rw same plain
 unless-stays false f old new plain keeps is = keeps is
 
 -- a label is narrow, wherever it stands
-x-narrow : (a : Axis) (g r : Rect) (n i : ℕ) (l : LineData) → IsNarrowLine l → IsNarrowLine (x_label_at a g r n i l).line
+x-narrow : (a : Axis) (g r : Rect) (n i : ℕ) (l : LineData) → EachLineGrapheme TakesOneColumn l
+    → EachLineGrapheme TakesOneColumn (x_label_at a g r n i l).line
 x-narrow a g r n i l narrow = by_tests (i == 0) (i + 1 == n) _ _ _ narrow narrow narrow
   where
-    by_tests : (s t : Bool) (x y z : PlacedTitle) → IsNarrowLine x.line → IsNarrowLine y.line → IsNarrowLine z.line
-        → IsNarrowLine (if s then x else if t then y else z).line
+    by_tests : (s t : Bool) (x y z : PlacedTitle) → EachLineGrapheme TakesOneColumn x.line
+        → EachLineGrapheme TakesOneColumn y.line → EachLineGrapheme TakesOneColumn z.line
+        → EachLineGrapheme TakesOneColumn (if s then x else if t then y else z).line
     by_tests true t x y z first last middle = first
     by_tests false true x y z first last middle = last
     by_tests false false x y z first last middle = middle
@@ -98,29 +105,32 @@ datasets-stay ch g [] old new narrow plain same = rw same plain
 datasets-stay ch g (d ∷ ds) old new narrow plain is =
     let c = is.first.0 in
     let its = is.first.1 in
-    let box : IsNarrowIfBox c.block = let P : Option Block → Type 0 = λ b. IsNarrowIfBox b in subst P (sym its.no_box) tt in
+    let B : Option Block → Type 0 = λ b. IfSome b IsNarrowBox in
+    let box : B c.block = subst B (sym its.no_box) tt in
     let marks : HasNarrowDots c.marker = let P : Marker → Type 0 = λ m. HasNarrowDots m in
     subst P (sym its.marker) (All-head IsNarrowDataset d ds narrow).marks in
-    let labels : All (λ (l : Label). IsNarrowLine l.line) c.labels.now =
-    let P : List Label → Type 0 = λ ls. All (λ (l : Label). IsNarrowLine l.line) ls in
-    subst P (sym its.unlabelled) (All-nil (λ (l : Label). IsNarrowLine l.line)) in
+    let labels : All (λ (l : Label). EachLineGrapheme TakesOneColumn l.line) c.labels.now =
+    let P : List Label → Type 0 = λ ls. All (λ (l : Label). EachLineGrapheme TakesOneColumn l.line) ls in
+    subst P (sym its.unlabelled) (All-nil (λ (l : Label). EachLineGrapheme TakesOneColumn l.line)) in
     datasets-stay ch g ds is.between new (All-tail IsNarrowDataset d ds narrow)
     (canvas-plain c g old is.between box marks labels plain is.first.2) is.second
 
-title-stays : (style : Style) (title : Option LineData) (r : Rect) (old new : BufferData) → IsNarrowIfLine title
+title-stays : (style : Style) (title : Option LineData) (r : Rect) (old new : BufferData)
+    → IfSome title (EachLineGrapheme TakesOneColumn)
     → IsPlainFrom 0 old → RendersAxisTitle style title r old new → IsPlainFrom 0 new
 title-stays style None r old new narrow plain same = rw same plain
 title-stays style (Some line) r old new narrow plain is =
     plain-title style (title_at line r) old new narrow plain is
 
 -- the names of narrow data sets are narrow
-name-narrow : (name : Option LineData) (style : Style) (names : List LineData) → IsNarrowIfLine name → All IsNarrowLine names
-    → All IsNarrowLine (with_name name style names)
+name-narrow : (name : Option LineData) (style : Style) (names : List LineData) → IfSome name (EachLineGrapheme TakesOneColumn)
+    → All (EachLineGrapheme TakesOneColumn) names
+    → All (EachLineGrapheme TakesOneColumn) (with_name name style names)
 name-narrow None style names narrow others = others
-name-narrow (Some line) style names narrow others = All-cons IsNarrowLine _ names narrow others
+name-narrow (Some line) style names narrow others = All-cons (EachLineGrapheme TakesOneColumn) _ names narrow others
 
-names-narrow : (ds : List Dataset) → All IsNarrowDataset ds → All IsNarrowLine (legend_names ds)
-names-narrow [] narrow = All-nil IsNarrowLine
+names-narrow : (ds : List Dataset) → All IsNarrowDataset ds → All (EachLineGrapheme TakesOneColumn) (legend_names ds)
+names-narrow [] narrow = All-nil (EachLineGrapheme TakesOneColumn)
 names-narrow (d ∷ ds) narrow =
     name-narrow d.name d.style (legend_names ds) (All-head IsNarrowDataset d ds narrow).name
     (names-narrow ds (All-tail IsNarrowDataset d ds narrow))
@@ -142,13 +152,14 @@ border-one = refl
 new-box-narrow : (b : Block) → IsNewBlock 15 b → IsNarrowBox b
 new-box-narrow b is =
     let P : List (List ℕ) → Type 0 = λ symbols. All (λ symbol. text_width symbol ≤ 1) symbols in
-    let Q : List Title → Type 0 = λ titles. All (λ (t : Title). IsNarrowLine t.line) titles in
+    let Q : List Title → Type 0 = λ titles. All (λ (t : Title). EachLineGrapheme TakesOneColumn t.line) titles in
     record {
-      titles = subst Q (sym is.untitled) (All-nil (λ (t : Title). IsNarrowLine t.line));
+      titles = subst Q (sym is.untitled) (All-nil (λ (t : Title). EachLineGrapheme TakesOneColumn t.line));
       symbols = subst P (sym is.lines) (all-one plain_border border-one);
     }
 
-legend-stays : (style : Style) (names : List LineData) (r : Rect) (old new : BufferData) → All IsNarrowLine names
+legend-stays : (style : Style) (names : List LineData) (r : Rect) (old new : BufferData)
+    → All (EachLineGrapheme TakesOneColumn) names
     → IsPlainFrom 0 old → RendersLegendIn style names r old new → IsPlainFrom 0 new
 legend-stays style names r old new narrow plain is =
     let laid = plain-laid r style old is.laid is.styled plain in
@@ -169,8 +180,8 @@ plot-stays c r old new narrow plain is =
     unless-stays _ (RendersLegendIn style names _) is.titled new titled
     (legend-stays style names _ is.titled new (names-narrow c.datasets.items narrow.datasets) titled) is.legend
 
-pub chart-plain : (c : Chart) (area : Rect) (old new : BufferData) → IsNarrowIfBox c.block → IsNarrowChart c → IsPlainFrom 0 old
-    → RendersChart c area old new → IsPlainFrom 0 new
+pub chart-plain : (c : Chart) (area : Rect) (old new : BufferData) → IfSome c.block IsNarrowBox → IsNarrowChart c
+    → IsPlainFrom 0 old → RendersChart c area old new → IsPlainFrom 0 new
 chart-plain c area old new box narrow plain is =
-    plain-inside c.style c.block (ShowsPlot c) area old new box plain
-    (λ r framed shown cells shows. plot-stays c r framed shown narrow cells shows) is
+    plain-inside c.style c.block (λ _ _. ShowsPlot c) tt tt area old new box plain
+    (λ framed cells shows. plot-stays c (inner_if c.block (intersected area old.area)) framed new narrow cells shows) is

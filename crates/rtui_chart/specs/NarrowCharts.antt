@@ -1,19 +1,18 @@
 -- A chart whose texts and marks take one column each.
-use Rattle.std.specs.Prelude.{All}
-use Rattle.ratatui_core.specs.{Buffer.IsNarrowLine}
-use Rattle.rtui_boxes.specs.Lines.{IsNarrowIfLine}
+use Rattle.std.specs.Prelude.{All, IfSome}
 use Rattle.rtui_canvas.specs.Canvases.{HasNarrowDots}
 use Rattle.rtui_chart.specs.Charts.{axis_labels}
 use Rattle.rtui_chart.specs.declared.{axis.Axis.Axis, dataset.Dataset.Dataset, chart.Chart.Chart}
+use Rattle.ratatui_core.specs.Text.{TakesOneColumn, EachLineGrapheme}
 
 -- the graphemes of an axis's title and of its labels take one column each
 pub record HasNarrowTexts (a : Axis) : Type 0 where
-  pub title : IsNarrowIfLine a.title
-  pub labels : All IsNarrowLine (axis_labels a)
+  pub title : IfSome a.title (EachLineGrapheme TakesOneColumn)
+  pub labels : All (EachLineGrapheme TakesOneColumn) (axis_labels a)
 
 -- so do those of a data set's name, and its marks
 pub record IsNarrowDataset (d : Dataset) : Type 0 where
-  pub name : IsNarrowIfLine d.name
+  pub name : IfSome d.name (EachLineGrapheme TakesOneColumn)
   pub marks : HasNarrowDots d.marker
 
 -- all of them do

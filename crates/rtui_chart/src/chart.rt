@@ -5,7 +5,6 @@ ghost use Rattle.ratatui_core.specs.Layout.{IsInside, corner};
 ghost use Rattle.ratatui_core.specs.Widgets.{ChangesWithin};
 ghost use Rattle.ratatui_core.specs.Buffer.{cell_in, style_of};
 ghost use Rattle.rtui_boxes.specs.Boxes.{IsBoxArea};
-ghost use Rattle.rtui_canvas.specs.Canvases.{RendersCanvas};
 ghost use Rattle.rtui_chart.specs.Charts.{IsNewChart};
 ghost use Rattle.rtui_chart.specs.ChartParts.{drawings_of, RendersDataset, RendersDatasets};
 ghost use Rattle.rtui_chart.specs.Plots.{ShowsTitles, ShowsLegend, ShowsPlot};
@@ -281,10 +280,7 @@ impl<'b, 'a> Widget for &'b Chart<'a> {
     ghost renders = { λ chart. RendersChart chart.now };
 
     fn render(self, area: Rect, buf: &mut Buffer) -> Result<(), AllocError> {
-        let Some(part) = buf.part(area) else {
-            return Ok(());
-        };
-        let Some(inner) = render_frame(self.style, &self.block, part, buf)? else {
+        let Some(inner) = render_frame(self.style, &self.block, area, buf)? else {
             return Ok(());
         };
         self.render_plot(inner, buf)

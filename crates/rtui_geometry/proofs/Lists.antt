@@ -1,11 +1,17 @@
--- Lists made of a range of numbers: what each element has, which elements come, and in what order.
-use Rattle.std.proofs.Common.{ℕ, ◌+◌, ◌-◌, ◌<◌, ◌≤◌, List, [], ◌∷◌, ◌++◌, suc, zero, get_or, map, refl, sym, arith, subst, inl}
-use Rattle.std.proofs.Common.{inr}
+-- The elements of a list from one on; and lists made of a range of numbers: what each element has, which elements come, and in
+-- what order.
+use Rattle.std.proofs.Common.{◌≡◌, ℕ, ◌+◌, ◌-◌, ◌<◌, ◌≤◌, List, [], ◌∷◌, ◌++◌, suc, zero, get_or, map, refl, sym, ap, ◌∙◌, arith}
+use Rattle.std.proofs.Common.{length, drop, subst, inl, inr}
+use Rattle.std.proofs.lemmas.List.{drop_more}
 use Rattle.std.specs.List.{range_with_len, flat_map, All, AllPairs, Contains}
 use Rattle.std.proofs.lemmas.List.Elements.{All-nil, All-head, All-tail, All-append, Contains-append_left, Contains-append_right}
 use Rattle.std.proofs.Math.Nat.{eq-or-lt_of_le}
 use Rattle.std.proofs.lemmas.{List.Kept.AllPairs-cons, List.FromFn.get_or-map-range_with_len}
 use Rattle.std.proofs.lemmas.{List.FromFn.length-map-range_with_len}
+
+pub element-next : {X : Type 0} (xs : List X) (k : ℕ) (x : X) → k < length xs → x ≡ get_or xs k x
+    → drop k xs ≡ x ∷ drop (k + 1) xs
+element-next xs k x lt is = drop_more xs k x lt ∙ ap (λ y. y ∷ drop (k + 1) xs) (sym is)
 
 module _ {X : Type 0} (f : ℕ → X) where
   -- each element is f of a number of the range

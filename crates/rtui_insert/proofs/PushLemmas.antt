@@ -1,6 +1,6 @@
 -- Rows that come in above a viewport, one scroll and one drawing at a time.
 use Rattle.std.proofs.Common.{◌≡◌, ℕ, ◌+◌, ◌-◌, ◌*◌, ◌<◌, ◌≤◌, List, [], refl, sym, ap, subst, ◌∙◌, arith, min, inl, inr}
-use Rattle.std.proofs.Common.{append-nil, ◌++◌, ◌⊎◌, Result, Ok, Err, OnErr}
+use Rattle.std.proofs.Common.{append-nil, ◌++◌, ◌⊎◌}
 use Rattle.rtui_geometry.specs.declared.rect.Rect.{Rect}
 use Rattle.rtui_cell.specs.Look.{Look}
 use Rattle.rtui_buffer.specs.{BufferData.BufferData, BufferData.IsEmptied, Shown.IsSettledBuffer}
@@ -17,10 +17,6 @@ use Rattle.rtui_insert.proofs.CountLemmas.{writes_rows, writes_nonempty, writes_
 use Rattle.rtui_backend.proofs.ScrollLemmas.{above_same}
 
 -- what holds whatever is answered
-pub holds_anyway : {T E P : Type 0} (answer : Result T E) → P → OnErr answer P
-holds_anyway (Ok x) holds = tt
-holds_anyway (Err e) holds = holds
-
 same_shape : (s : Screen) → KeepsSizeAndVisibility s s
 same_shape s = record { width = refl; height = refl; visible = refl }
 

@@ -1,22 +1,23 @@
 -- A list of narrow texts keeps cells plain.
-use Rattle.std.proofs.Common.{◌≡◌, ℕ, zero, suc, ◌+◌, ◌<◌, ◌≤◌, ⊎_elim, Bool, true, false, if◌then◌else◌, List, []}
+use Rattle.std.proofs.Common.{◌≡◌, ℕ, zero, suc, ◌+◌, ◌<◌, ◌≤◌, ⊎_elim, Bool, true, false, if◌then◌else◌, List, [], IfSome}
 use Rattle.std.proofs.Common.{◌∷◌, length, slice_index_or, All, Option, Some, None, refl, ap, ◌∙◌, arith, codes, is_some}
 use Rattle.std.proofs.lemmas.{Bool.cases_lt, List.Elements.All-nil, List.Elements.All-head, List.Elements.All-tail}
 use Rattle.ratatui_core.specs.{Layout.Rect, Layout.intersected, Style.Style, Style.patch, Text.LineData}
 use Rattle.ratatui_core.specs.Buffer.{BufferData, Cell, width_of, text_width, IsStyled, IsPlain}
-use Rattle.ratatui_core.specs.Buffer.{IsPlainOver, IsPlainFrom, IsNarrowLine, IsNarrowText}
+use Rattle.ratatui_core.specs.Buffer.{IsPlainOver, IsPlainFrom}
 use Rattle.rtui_widgets.proofs.NarrowTextLemmas.{line-plain}
 use Rattle.ratatui_core.proofs.BufferLemmas.{width-empty, text-plain, changed-plain, styled-plain, parts-plain}
 use Rattle.ratatui_core.proofs.BufferLemmas.{over-all, from-over}
-use Rattle.rtui_boxes.specs.{Boxes.IsNarrowIfBox, Framed.inner_if}
-use Rattle.rtui_boxes.proofs.InnerLemmas.{plain-framed, bare-or}
+use Rattle.rtui_boxes.specs.{Framed.inner_if, Boxes.IsNarrowBox}
+use Rattle.rtui_boxes.proofs.InnerLemmas.{plain-inside}
 use Rattle.rtui_list.specs.{declared.list.List.List as ListData, declared.item.ListItem.ListItem}
 use Rattle.rtui_list.specs.{declared.state.ListState.ListState}
 use Rattle.rtui_list.specs.Items.{mark_width, mark_part, without_columns, part_row, left_blank}
 use Rattle.rtui_list.specs.Items.{MarksRow, MarksRows, is_marked}
-use Rattle.rtui_boxes.specs.{Titles.DoesIf, Lines.IsNarrowIfLine}
+use Rattle.rtui_boxes.specs.{Titles.DoesIf}
 use Rattle.rtui_list.specs.Items.{RendersItem, nth_item, part_of_item, shown_as, is_selected_at, has_mark_columns, HasNarrowItems}
 use Rattle.rtui_list.specs.Items.{ShowsList, RendersList}
+use Rattle.ratatui_core.specs.Text.{TakesOneColumn, EachLineGrapheme, EachTextGrapheme}
 
 blank-one : text_width (codes " ") ≡ 1
 unfolding width_of
@@ -35,7 +36,8 @@ plain-blank c is =
 abbrev StaysPlain : Rect → BufferData → BufferData → Type 0
 StaysPlain r old new = (new.area ≡ old.area) × IsPlainOver r new
 
-mark-plain : (symbol : Option LineData) (t : Bool) (row : Rect) (old new : BufferData) → IsNarrowIfLine symbol
+mark-plain : (symbol : Option LineData) (t : Bool) (row : Rect) (old new : BufferData)
+    → IfSome symbol (EachLineGrapheme TakesOneColumn)
     → IsPlainOver row old → MarksRow symbol t row old new → StaysPlain row old new
 mark-plain None true row old new narrow plain same = (ap (λ s. s.area) same, rw same plain)
 mark-plain (Some line) true row old new narrow plain is = (
@@ -72,7 +74,8 @@ module _ (l : ListData) (narrow : HasNarrowItems l) (r : Rect) where
   styled-if true style old new plain is = (is.area, styled-plain r r style old new plain is)
   styled-if false style old new plain same = (ap (λ s. s.area) same, rw same plain)
 
-  item-plain : (i : ListItem) (is_selected has_columns : Bool) (old new : BufferData) → IsNarrowText i.content → IsPlainOver r old
+  item-plain : (i : ListItem) (is_selected has_columns : Bool) (old new : BufferData) → EachTextGrapheme TakesOneColumn i.content
+      → IsPlainOver r old
       → RendersItem l i is_selected has_columns r old new → StaysPlain r old new
   item-plain i is_selected has_columns old new texts plain is =
       let n = if has_columns then mark_width l.highlight_symbol r else 0 in
@@ -86,12 +89,14 @@ module _ (l : ListData) (narrow : HasNarrowItems l) (r : Rect) where
       (last.0 ∙ lit.0 ∙ is.text.within.same_area ∙ is.style.area, last.1)
 
 -- each item is narrow, and so is one that isn't there
-nth-narrow : (items : List ListItem) (k : ℕ) (d : ListItem) → IsNarrowText d.content
-    → All (λ (item : ListItem). IsNarrowText item.content) items → IsNarrowText (slice_index_or items k d).content
+nth-narrow : (items : List ListItem) (k : ℕ) (d : ListItem) → EachTextGrapheme TakesOneColumn d.content
+    → All (λ (item : ListItem). EachTextGrapheme TakesOneColumn item.content) items
+    → EachTextGrapheme TakesOneColumn (slice_index_or items k d).content
 nth-narrow [] k d none all = none
-nth-narrow (item ∷ items) zero d none all = All-head (λ (item : ListItem). IsNarrowText item.content) item items all
+nth-narrow (item ∷ items) zero d none all =
+    All-head (λ (item : ListItem). EachTextGrapheme TakesOneColumn item.content) item items all
 nth-narrow (item ∷ items) (suc k) d none all =
-    nth-narrow items k d none (All-tail (λ (item : ListItem). IsNarrowText item.content) item items all)
+    nth-narrow items k d none (All-tail (λ (item : ListItem). EachTextGrapheme TakesOneColumn item.content) item items all)
 
 empty-list : (items : List ListItem) → length items ≤ 0 → items ≡ []
 empty-list [] le = refl
@@ -110,17 +115,13 @@ shown-plain l s t r old new narrow plain is =
     (λ k lt before after same made was.
     item-plain l narrow (part_of_item l r t.offset k) (nth_item l (t.offset + k)) (is_selected_at t.selected (t.offset + k))
     (has_mark_columns l.highlight_spacing (is_some t.selected)) before after
-    (nth-narrow l.items.items (t.offset + k) _ (All-nil IsNarrowLine) narrow.items) was made)
+    (nth-narrow l.items.items (t.offset + k) _ (All-nil (EachLineGrapheme TakesOneColumn)) narrow.items) was made)
     (over-all old plain)))
     (λ (le : length l.items.items ≤ 0). rw (is.no_items (empty-list l.items.items le)).0 plain)
     (cases_lt 0 (length l.items.items))
 
-pub list-plain : (l : ListData) (s t : ListState) (area : Rect) (old new : BufferData) → IsNarrowIfBox l.block → HasNarrowItems l
-    → IsPlainFrom 0 old → RendersList l s t area old new → IsPlainFrom 0 new
+pub list-plain : (l : ListData) (s t : ListState) (area : Rect) (old new : BufferData) → IfSome l.block IsNarrowBox
+    → HasNarrowItems l → IsPlainFrom 0 old → RendersList l s t area old new → IsPlainFrom 0 new
 list-plain l s t area old new box narrow plain is =
-    let part = intersected area old.area in
-    bare-or part (λ none. rw (is.parts.nothing none) plain) (λ wide high.
-    let there = is.parts.part wide high in
-    let framed = plain-framed l.style l.block part old there.framed box plain there.frame in
-    bare-or (inner_if l.block part) (λ none. rw (there.none none).0 framed)
-    (λ w h. shown-plain l s t (inner_if l.block part) there.framed new narrow framed (there.inside w h)))
+    plain-inside l.style l.block (ShowsList l) s t area old new box plain
+    (λ framed cells shows. shown-plain l s t (inner_if l.block (intersected area old.area)) framed new narrow cells shows) is

@@ -1,15 +1,14 @@
 -- What a list makes of a buffer and of its state.
 use Rattle.std.specs.Prelude.{◌≡◌, ℕ, Bool, true, false, ◌+◌, ◌-◌, ◌<◌, ◌==◌, ◌&&◌, ◌||◌, min, List, []}
-use Rattle.std.specs.Prelude.{length, codes, Option, Some, None}
+use Rattle.std.specs.Prelude.{length, codes, Option, Some, None, IfSome}
 use Rattle.std.specs.Prelude.{is_some, if◌then◌else◌, slice_index_or, All}
-use Rattle.ratatui_core.specs.{Layout.Rect, Layout.intersected, Style.new_style, Style.patch}
-use Rattle.ratatui_core.specs.Text.{LineData, text_of, line_width}
+use Rattle.ratatui_core.specs.{Layout.Rect, Style.new_style, Style.patch}
+use Rattle.ratatui_core.specs.Text.{LineData, text_of, line_width, TakesOneColumn, EachLineGrapheme}
+use Rattle.ratatui_core.specs.Text.{EachTextGrapheme}
 use Rattle.ratatui_core.specs.Buffer.{BufferData, Cell, with_symbol, IsStyled, ChangesEach, MakesParts}
-use Rattle.ratatui_core.specs.Buffer.{IsNarrowText}
 use Rattle.ratatui_core.specs.Widgets.{RendersText, RendersShortText}
-use Rattle.ratatui_core.specs.Widgets.{ChangesWithin, OnPart}
-use Rattle.rtui_boxes.specs.Framed.{IsFramed, IsBare, IsShortFrame, inner_if}
-use Rattle.rtui_boxes.specs.{Titles.DoesIf, Lines.RendersIfLine, Lines.IsShortIfLine, Lines.IsNarrowIfLine}
+use Rattle.rtui_boxes.specs.Framed.{RendersStateInFrame, IsShortFrame}
+use Rattle.rtui_boxes.specs.{Titles.DoesIf, Lines.RendersIfLine, Lines.IsShortTitle}
 use Rattle.rtui_list.specs.{declared.list.List.List as ListData, declared.list.ListDirection.ListDirection}
 use Rattle.rtui_list.specs.declared.list.ListDirection.TheVariants.{TopToBottom, BottomToTop}
 use Rattle.rtui_list.specs.declared.list.HighlightSpacing.{HighlightSpacing}
@@ -127,7 +126,7 @@ IsShortItem i = (area : Rect) (s : BufferData) → RendersShortText i.content ar
 
 -- nothing that a list shows inside its box takes memory
 pub record HasShortItems (l : ListData) : Type 0 where
-  pub symbol : IsShortIfLine l.highlight_symbol
+  pub symbol : IfSome l.highlight_symbol IsShortTitle
   pub items : All IsShortItem l.items.items
 
 -- a list takes no memory if its box takes none and all that it shows is short
@@ -137,8 +136,8 @@ pub record IsShortList (l : ListData) (s : BufferData) : Type 0 where
 
 -- each grapheme that a list shows inside its box takes one column
 pub record HasNarrowItems (l : ListData) : Type 0 where
-  pub symbol : IsNarrowIfLine l.highlight_symbol
-  pub items : All (λ item. IsNarrowText item.content) l.items.items
+  pub symbol : IfSome l.highlight_symbol (EachLineGrapheme TakesOneColumn)
+  pub items : All (λ item. EachTextGrapheme TakesOneColumn item.content) l.items.items
 
 -- The items of a list over an area, from the state's first one on, as many as fit whole. The selection is at
 -- most the last item, and the first item is such that the selected one is in view. Without items nothing is
@@ -152,19 +151,9 @@ pub record ShowsList (l : ListData) (s t : ListState) (r : Rect) (old new : Buff
   pub is_count : 0 < length l.items.items → IsCount l.items.items r.height t.offset count
   pub shown : 0 < length l.items.items → ShowsItems l t.selected t.offset count r old new
 
--- the list inside its style and its box; without room inside the state stays as it is
-pub record ListInFrame (l : ListData) (s t : ListState) (part : Rect) (old new : BufferData) : Type 0 where
-  pub framed : BufferData
-  pub frame : IsFramed l.style l.block part old framed
-  pub none : IsBare (inner_if l.block part) → (new ≡ framed) × (t ≡ s)
-  pub inside : 0 < (inner_if l.block part).width → 0 < (inner_if l.block part).height
-      → ShowsList l s t (inner_if l.block part) framed new
-
--- A list over the part of an area that a buffer has. Nothing outside the area changes.
-pub record RendersList (l : ListData) (s t : ListState) (area : Rect) (old new : BufferData) : Type 0 where
-  pub within : ChangesWithin area old new
-  pub no_part : IsBare (intersected area old.area) → t ≡ s
-  pub parts : OnPart (ListInFrame l s t) area old new
+-- a list in its style and its box, over the part of an area that a buffer has
+abbrev pub RendersList : ListData → ListState → ListState → Rect → BufferData → BufferData → Type 0
+RendersList l = RendersStateInFrame l.style l.block (ShowsList l)
 
 -- a list without a state of its own: from the first item on, none selected
 abbrev pub RendersListFresh : ListData → Rect → BufferData → BufferData → Type 0

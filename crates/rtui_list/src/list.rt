@@ -7,11 +7,11 @@ ghost use Rattle.ratatui_core.specs.Widgets.{ChangesWithin};
 ghost use Rattle.ratatui_core.specs.Buffer.{IsStyled};
 ghost use Rattle.rtui_boxes.specs.Boxes.{IsBoxArea};
 ghost use Rattle.rtui_boxes.specs.Titles.{DoesIf};
-ghost use Rattle.rtui_boxes.specs.Lines.{RendersIfLine, IsShortIfLine};
+ghost use Rattle.rtui_boxes.specs.Lines.{RendersIfLine, IsShortTitle};
 ghost use Rattle.rtui_list.specs.Windows.{Fit};
-ghost use Rattle.rtui_list.specs.Items.{is_marked, has_mark_columns, mark_width, mark_part, item_part};
+ghost use Rattle.rtui_list.specs.Items.{is_marked, has_mark_columns, mark_width, item_part};
 ghost use Rattle.rtui_list.specs.Items.{MarksRow, MarksRows, RendersItem, ShowsItems, ShowsList};
-ghost use Rattle.rtui_list.specs.Items.{is_selected_at, at_most, IsNewList, IsShortItem, HasShortItems};
+ghost use Rattle.rtui_list.specs.Items.{IsNewList, IsShortItem, HasShortItems};
 
 use crate::item::ListItem;
 use crate::state::ListState;
@@ -247,7 +247,7 @@ impl<'a> List<'a> {
         ensures within { ChangesWithin area buf.old buf.new }
         ensures ok { OnOk result
             (RendersIfLine self.now.highlight_symbol area buf.old buf.new) }
-        ensures short { IsShortIfLine self.now.highlight_symbol → IsOk result }
+        ensures short { IfSome self.now.highlight_symbol IsShortTitle → IsOk result }
     {
         if let Some(symbol) = &self.highlight_symbol {
             symbol.render(area, buf)?;
@@ -260,7 +260,7 @@ impl<'a> List<'a> {
         ensures within { ChangesWithin row buf.old buf.new }
         ensures ok { OnOk result
             (MarksRow self.now.highlight_symbol is_marked row buf.old buf.new) }
-        ensures short { IsShortIfLine self.now.highlight_symbol → IsOk result }
+        ensures short { IfSome self.now.highlight_symbol IsShortTitle → IsOk result }
     {
         let columns = Rect {
             width: self.mark_width(row),
@@ -297,7 +297,7 @@ impl<'a> List<'a> {
         ensures within { ChangesWithin part buf.old buf.new }
         ensures ok { OnOk result
             (DoesIf has_columns (MarksRows self.now is_selected part) buf.old buf.new) }
-        ensures short { IsShortIfLine self.now.highlight_symbol → IsOk result }
+        ensures short { IfSome self.now.highlight_symbol IsShortTitle → IsOk result }
     {
         if !has_columns {
             return Ok(());
@@ -325,7 +325,7 @@ impl<'a> List<'a> {
         requires down { part.y + part.height ≤ 65535 }
         ensures within { ChangesWithin part buf.old buf.new }
         ensures ok { OnOk result (MarksRows self.now is_selected part buf.old buf.new) }
-        ensures short { IsShortIfLine self.now.highlight_symbol → IsOk result }
+        ensures short { IfSome self.now.highlight_symbol IsShortTitle → IsOk result }
     {
         for j in 0..part.height {
             let is_marked = self.is_marked(is_selected, j);
@@ -355,7 +355,7 @@ impl<'a> List<'a> {
         ensures ok { OnOk result
             (RendersItem self.now item.now is_selected has_columns part buf.old buf.new) }
         ensures short { let symbol = self.now.highlight_symbol in
-            IsShortIfLine symbol → IsShortItem item.now → IsOk result }
+            IfSome symbol IsShortTitle → IsShortItem item.now → IsOk result }
     {
         buf.set_style(part, self.style.patch(item.style));
         let mark = self.mark_columns(has_columns, part);
@@ -479,10 +479,7 @@ impl<'b, 'a> StatefulWidget for &'b List<'a> {
     ghost is_short = { λ list _ _. IsShortList list.now };
 
     fn render(self, area: Rect, buf: &mut Buffer, state: &mut ListState) -> Result<(), AllocError> {
-        let Some(part) = buf.part(area) else {
-            return Ok(());
-        };
-        let Some(inner) = render_frame(self.style, &self.block, part, buf)? else {
+        let Some(inner) = render_frame(self.style, &self.block, area, buf)? else {
             return Ok(());
         };
         self.render_list(inner, buf, state)

@@ -1,5 +1,5 @@
 -- Gauges of narrow symbols keep a buffer settled.
-use Rattle.std.proofs.Common.{◌≡◌, ℕ, zero, suc, ◌+◌, ◌-◌, ◌≤◌, true, ◌&&◌, nat_lt, ◌==◌, List}
+use Rattle.std.proofs.Common.{◌≡◌, ℕ, zero, suc, ◌+◌, ◌≤◌, true, ◌&&◌, nat_lt, ◌==◌, List, IfSome}
 use Rattle.std.proofs.Common.{[], ◌∷◌, inr, refl, subst, arith, codes, slice_index_or, map}
 use Rattle.std.proofs.Common.{drop}
 use Rattle.std.specs.{List.list_all}
@@ -12,7 +12,7 @@ use Rattle.ratatui_core.specs.Buffer.{IsSettledBuffer}
 use Rattle.ratatui_core.proofs.BufferLemmas.{narrow-test, blocks-narrow, plain-styled, plain-with_symbol, plain-if, plain-changed}
 use Rattle.ratatui_core.proofs.BufferLemmas.{painted-settled, text-keeps, PaintsByColumns-paints, ready-row, ready-plain}
 use Rattle.ratatui_core.proofs.BufferLemmas.{ready-next, changed-settled}
-use Rattle.rtui_boxes.specs.Boxes.{IsBoxArea, IsNarrowIfBox}
+use Rattle.rtui_boxes.specs.Boxes.{IsBoxArea, IsNarrowBox}
 use Rattle.rtui_boxes.proofs.{PaintLemmas.part-right, PaintLemmas.part-has_row, PaintLemmas.part-starts}
 use Rattle.rtui_boxes.proofs.{InnerLemmas.settled-frame}
 use Rattle.rtui_meters.specs.{declared.gauge.Gauge.Gauge, declared.gauge.Fill.Fill, declared.gauge.TheConstants.FULL_BLOCK}
@@ -94,7 +94,7 @@ settled-area g text style r old new box inside edges plain is =
     is.label
 
 pub settled-gauge : (g : Gauge) (area : Rect) (old new : BufferData) → EdgesFit old.area → IsPlainFrom 0 old
-    → IsNarrowIfBox g.block → RendersAreaGauge g area old new → IsSettledBuffer new
+    → IfSome g.block IsNarrowBox → RendersAreaGauge g area old new → IsSettledBuffer new
 settled-gauge g area old new edges plain box is =
     settled-frame g.style g.block (FillsGauge g) area old new edges plain box
     (λ r s t some inside fit cells fills. settled-area g (text_of_label g g.label)
@@ -126,7 +126,7 @@ settled-line g r old new narrow box inside edges plain is =
     (plain-line (line_fill g r old.area) narrow.filled narrow.unfilled) is.line
 
 pub settled-line_gauge : (g : LineGauge) (area : Rect) (old new : BufferData) → EdgesFit old.area → IsPlainFrom 0 old
-    → IsNarrowIfBox g.block → HasNarrowLine g → RendersLineGauge g area old new → IsSettledBuffer new
+    → IfSome g.block IsNarrowBox → HasNarrowLine g → RendersLineGauge g area old new → IsSettledBuffer new
 settled-line_gauge g area old new edges plain box narrow is =
     settled-frame g.style g.block (FillsLine g) area old new edges plain box (λ r s t some inside fit cells fills.
     settled-line g r s t narrow some inside fit cells fills) is

@@ -1,5 +1,5 @@
 -- All of a whole: a full gauge.
-use Rattle.std.proofs.Common.{◌≡◌, ℕ, ◌+◌, ◌-◌, ◌*◌, ◌/◌, ◌<◌, ◌≤◌, Bool, true, false, if◌then◌else◌, max}
+use Rattle.std.proofs.Common.{◌≡◌, ℕ, ◌+◌, ◌*◌, ◌/◌, ◌<◌, ◌≤◌, Bool, true, false, if◌then◌else◌, max}
 use Rattle.std.proofs.Common.{nat_lt, List, refl, ap, ◌∙◌, arith}
 use Rattle.std.proofs.lemmas.{Nat.div-mul-add, Bool.Decides.nat_tests}
 use Rattle.std.proofs.Math.Nat.{mul-div_cancel}

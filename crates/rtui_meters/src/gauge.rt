@@ -1,6 +1,6 @@
 //! A bar that fills a share of an area.
 
-ghost use Rattle.std.specs.Prelude.{◌≡◌, ◌≤◌, Some, OnOk, OnErr, IsOk, IfOk, true};
+ghost use Rattle.std.specs.Prelude.{◌≡◌, Some, OnOk, OnErr, IsOk, IfOk, true};
 ghost use Rattle.ratatui_core.specs.Layout.{IsInside};
 ghost use Rattle.ratatui_core.specs.Buffer.{AreShort, IsShort};
 ghost use Rattle.ratatui_core.specs.Widgets.{ChangesWithin};
@@ -266,7 +266,6 @@ impl Fill {
 }
 
 impl CellChange for Fill {
-    ghost use Rattle.std.specs.Prelude.{⊤};
     ghost use Rattle.rtui_meters.specs.Gauges.{filled_cell};
     ghost use Rattle.ratatui_core.specs.Buffer.{IsShort};
 
@@ -296,10 +295,7 @@ impl<'b, 'a> Widget for &'b Gauge<'a> {
     ghost is_short = { λ gauge. IsShortGauge gauge.now };
 
     fn render(self, area: Rect, buf: &mut Buffer) -> Result<(), AllocError> {
-        let Some(part) = buf.part(area) else {
-            return Ok(());
-        };
-        let Some(inner) = render_frame(self.style, &self.block, part, buf)? else {
+        let Some(inner) = render_frame(self.style, &self.block, area, buf)? else {
             return Ok(());
         };
         self.render_gauge(inner, buf)

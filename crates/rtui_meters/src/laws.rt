@@ -1,9 +1,9 @@
 //! Laws of gauges that are no single call's clause.
 
-ghost use Rattle.std.specs.Prelude.{◌≡◌, ℕ, List, map, true, codes, encode_utf8_all};
+ghost use Rattle.std.specs.Prelude.{◌≡◌, ℕ, List, map, true, codes, encode_utf8_all, IfSome};
 ghost use Rattle.ratatui_core.specs.Layout.{EdgesFit, HasPosition, Position, Rect};
 ghost use Rattle.ratatui_core.specs.Buffer.{BufferData, Cell, IsPlainFrom, IsSettledBuffer};
-ghost use Rattle.rtui_boxes.specs.Boxes.{IsNarrowIfBox};
+ghost use Rattle.rtui_boxes.specs.Boxes.{IsNarrowBox};
 ghost use Rattle.rtui_meters.specs.declared.gauge.Gauge.{Gauge};
 ghost use Rattle.rtui_meters.specs.Gauges.{IsFillOf, RendersAreaGauge};
 ghost use Rattle.rtui_meters.specs.Gauges.{filled_cell, full_cell, full_columns, tip_codes};
@@ -19,14 +19,14 @@ ghost use Rattle.rtui_meters.specs.LineGauges.{HasNarrowLine, RendersLineGauge};
 pub fn gauges_on_plain_cells_are_settled()
     ensures { (g : Gauge) (area : Rect) (old new : BufferData) → EdgesFit old.area
         → IsPlainFrom 0 old
-        → IsNarrowIfBox g.block → RendersAreaGauge g area old new → IsSettledBuffer new }
+        → IfSome g.block IsNarrowBox → RendersAreaGauge g area old new → IsSettledBuffer new }
 {}
 
 /// A line gauge of symbols of one column on a buffer of plain cells leaves one that a screen can
 /// show, if it has no box or a narrow one.
 pub fn line_gauges_on_plain_cells_are_settled()
     ensures { (g : LineGauge) (area : Rect) (old new : BufferData) → EdgesFit old.area
-        → IsPlainFrom 0 old → IsNarrowIfBox g.block → HasNarrowLine g
+        → IsPlainFrom 0 old → IfSome g.block IsNarrowBox → HasNarrowLine g
         → RendersLineGauge g area old new → IsSettledBuffer new }
 {}
 

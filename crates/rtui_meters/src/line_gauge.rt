@@ -1,8 +1,8 @@
 //! A line that is filled by a share of a row.
 
-ghost use Rattle.std.specs.Prelude.{◌≡◌, ◌≤◌, ◌<◌, ◌+◌, Some, OnOk, IfOk, IsOk, true};
+ghost use Rattle.std.specs.Prelude.{◌≡◌, ◌<◌, ◌+◌, Some, OnOk, IfOk, IsOk, true};
 ghost use Rattle.ratatui_core.specs.Layout.{IsInside, corner};
-ghost use Rattle.ratatui_core.specs.Buffer.{columns, AreShort, Paints, IsShort};
+ghost use Rattle.ratatui_core.specs.Buffer.{columns, Paints, IsShort};
 ghost use Rattle.ratatui_core.specs.Widgets.{ChangesWithin};
 ghost use Rattle.rtui_boxes.specs.Boxes.{IsBoxArea};
 ghost use Rattle.rtui_meters.specs.Shares.{share_of};
@@ -249,10 +249,7 @@ impl<'b, 'a> Widget for &'b LineGauge<'a> {
     ghost is_short = { λ gauge. IsShortLineGauge gauge.now };
 
     fn render(self, area: Rect, buf: &mut Buffer) -> Result<(), AllocError> {
-        let Some(part) = buf.part(area) else {
-            return Ok(());
-        };
-        let Some(inner) = render_frame(self.style, &self.block, part, buf)? else {
+        let Some(inner) = render_frame(self.style, &self.block, area, buf)? else {
             return Ok(());
         };
         self.render_line(inner, buf)

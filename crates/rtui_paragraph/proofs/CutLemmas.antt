@@ -5,8 +5,8 @@ use Rattle.std.proofs.lemmas.{Bool.cases_lt, Bool.and_right, Bool.cond_both, Boo
 use Rattle.std.proofs.lemmas.List.Elements.{All-nil, All-head, All-tail, All-append, All-filter, All-map, All-take}
 use Rattle.unicode_segmentation.specs.Grapheme.{graphemes}
 use Rattle.ratatui_core.specs.{Style.Style, Style.patch}
-use Rattle.ratatui_core.specs.Text.{GraphemeData, SpanData, has_control, line_graphemes}
-use Rattle.ratatui_core.specs.Buffer.{IsShort, HasShortGraphemes, HaveShortGraphemes}
+use Rattle.ratatui_core.specs.Text.{GraphemeData, SpanData, has_control, line_graphemes, EachGrapheme, EachSpanGrapheme}
+use Rattle.ratatui_core.specs.Buffer.{IsShort}
 use Rattle.rtui_paragraph.specs.Reflow.{grapheme_columns, fits_row, after_columns, fitting_front, cut_row}
 use Rattle.rtui_paragraph.proofs.ReflowLemmas.{count-next}
 
@@ -70,12 +70,13 @@ short-cut width offset gs all =
     (short-after offset (filter (fits_row width) gs) (All-filter (fits_row width) IsShortOne gs all))
 
 -- the graphemes of short spans
-pub short-line : (base : Style) (spans : List SpanData) → HaveShortGraphemes spans → All IsShortOne (line_graphemes base spans)
+pub short-line : (base : Style) (spans : List SpanData) → EachSpanGrapheme IsShort spans
+    → All IsShortOne (line_graphemes base spans)
 short-line base [] all = All-nil IsShortOne
 short-line base (s ∷ ss) all =
     let shown = filter (λ g. not (has_control g)) (graphemes true s.content) in
     All-append IsShortOne _ (line_graphemes base ss)
     (All-map IsShortOne (λ g. record { symbol = g; style = patch base s.style }) shown
     (All-filter (λ g. not (has_control g)) IsShort (graphemes true s.content)
-    (All-head (λ (t : SpanData). HasShortGraphemes t.content) s ss all)))
-    (short-line base ss (All-tail (λ (t : SpanData). HasShortGraphemes t.content) s ss all))
+    (All-head (λ (t : SpanData). EachGrapheme IsShort t.content) s ss all)))
+    (short-line base ss (All-tail (λ (t : SpanData). EachGrapheme IsShort t.content) s ss all))

@@ -1,5 +1,5 @@
 -- A paragraph in its box, and a grapheme painted in its columns.
-use Rattle.std.proofs.Common.{◌≡◌, ℕ, ◌+◌, ◌<◌, ◌≤◌, List, [], ◌∷◌, length, slice_index, Option, refl, ap, subst, ◌∙◌}
+use Rattle.std.proofs.Common.{◌≡◌, ℕ, ◌+◌, ◌<◌, ◌≤◌, List, [], ◌∷◌, length, slice_index, Option, refl, ap, subst, ◌∙◌, IfSome}
 use Rattle.std.proofs.Common.{arith, Result, Ok, Err, OnOk, IsOk}
 use Rattle.std.proofs.lemmas.List.{get_or-set_same, get_or-set_other, length-set}
 use Rattle.std.specs.declared.alloc.AllocError.{AllocError}
@@ -9,29 +9,26 @@ use Rattle.ratatui_core.specs.Buffer.{BufferData, IsPlainFrom, IsReadyFrom, IsSe
 use Rattle.ratatui_core.specs.Buffer.{pieces_at}
 use Rattle.ratatui_core.specs.Buffer.{text_pieces, position_of, cell_index, cell_in, with_cell, empty_cell}
 use Rattle.ratatui_core.specs.Buffer.{Cell, Piece, piece_of, piece_at, columns, shown, painted_width, text_width}
-use Rattle.ratatui_core.proofs.{BufferLemmas.settled-plain, BufferLemmas.ready-plain, BufferLemmas.within-same}
+use Rattle.ratatui_core.proofs.{BufferLemmas.ready-plain, BufferLemmas.within-same}
 use Rattle.ratatui_core.proofs.BufferLemmas.{grapheme-piece, graphemes-singles, printable-plain, one_byte}
 use Rattle.ratatui_core.proofs.{WidgetLemmas.within-then}
-use Rattle.rtui_boxes.specs.{declared.block.Block.Block, Boxes.IsNarrowIfBox, Framed.IsFramed, Framed.RendersInFrame}
+use Rattle.rtui_boxes.specs.{declared.block.Block.Block, Framed.IsFramed, Framed.RendersInFrame, Boxes.IsNarrowBox}
 use Rattle.rtui_boxes.proofs.{PaintLemmas.room-is, InnerLemmas.plain-framed, InnerLemmas.framed-area}
 use Rattle.rtui_paragraph.specs.{declared.paragraph.Paragraph.Paragraph, Reflow.grapheme_columns}
 use Rattle.rtui_paragraph.specs.Paragraphs.{PaintsGrapheme, FillsText, RendersParagraph}
 
 -- a style and a box over plain cells
 module _ (style : Style) (o : Option Block) (part : Rect) (old framed : BufferData) (frame : IsFramed style o part old framed)
-    (edges : EdgesFit old.area) (plain : IsPlainFrom 0 old) (box : IsNarrowIfBox o) where
+    (edges : EdgesFit old.area) (plain : IsPlainFrom 0 old) (box : IfSome o IsNarrowBox) where
   framed-edges : EdgesFit framed.area
   framed-edges = rw (framed-area style o part old framed frame) edges
-
-  pub framed-settled : IsSettledBuffer framed
-  framed-settled = settled-plain framed framed-edges (plain-framed style o part old framed box plain frame)
 
   pub framed-ready : (y : ℕ) → IsReadyFrom y framed
   framed-ready y = ready-plain y framed framed-edges (plain-framed style o part old framed box plain frame)
 
 pub paragraph-ok : {A : Type 0} (r : Result A AllocError) (p : Paragraph) (area : Rect) (old new : BufferData)
     → OnOk r (RendersInFrame p.style p.block (FillsText p) area old new)
-    → (EdgesFit old.area → IsPlainFrom 0 old → IsNarrowIfBox p.block → OnOk r (IsSettledBuffer new))
+    → (EdgesFit old.area → IsPlainFrom 0 old → IfSome p.block IsNarrowBox → OnOk r (IsSettledBuffer new))
     → OnOk r (RendersParagraph p area old new)
 paragraph-ok (Ok x) p area old new frame settled = record { frame = frame; settled = settled }
 paragraph-ok (Err e) p area old new frame settled = tt

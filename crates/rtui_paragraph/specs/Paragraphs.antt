@@ -1,15 +1,17 @@
 -- A paragraph: its rows, and what it changes.
 use Rattle.std.specs.Prelude.{◌≡◌, ℕ, ◌+◌, ◌-◌, ◌/◌, ◌==◌, min, length, if◌then◌else◌, nat_lt, false, List}
-use Rattle.std.specs.Prelude.{[], ◌∷◌, map, filter, take, drop, Option, Some, None, unwrap_or, All, ◌^◌}
+use Rattle.std.specs.Prelude.{[], ◌∷◌, map, filter, take, drop, Option, Some, None, unwrap_or, All, IfSome}
+use Rattle.std.specs.Prelude.{◌^◌}
 use Rattle.std.specs.List.{flat_map}
 use Rattle.ratatui_core.specs.{Layout.Rect, Layout.EdgesFit, Style.new_style, Style.patch}
 use Rattle.ratatui_core.specs.{declared.layout.HorizontalAlignment.HorizontalAlignment}
 use Rattle.ratatui_core.specs.Text.{GraphemeData, LineData, TextData, line_graphemes, has_control}
+use Rattle.ratatui_core.specs.Text.{EachSpanGrapheme}
 use Rattle.ratatui_core.specs.declared.layout.HorizontalAlignment.TheVariants.{Left, Center, Right}
-use Rattle.ratatui_core.specs.Buffer.{BufferData, IsPlainFrom, IsSettledBuffer, IsOneGrapheme, Piece}
-use Rattle.ratatui_core.specs.Buffer.{piece_of, PaintsPieces, text_pieces, position_of, HaveShortGraphemes}
+use Rattle.ratatui_core.specs.Buffer.{BufferData, IsPlainFrom, IsSettledBuffer, IsOneGrapheme, Piece, IsShort}
+use Rattle.ratatui_core.specs.Buffer.{piece_of, PaintsPieces, text_pieces, position_of}
 use Rattle.rtui_paragraph.specs.{declared.paragraph.Paragraph.Paragraph, declared.paragraph.Wrap.Wrap}
-use Rattle.rtui_boxes.specs.{Boxes.IsNarrowIfBox, Titles.InTurn, Framed.RendersInFrame, Framed.rows_around_if}
+use Rattle.rtui_boxes.specs.{Titles.InTurn, Framed.RendersInFrame, Framed.rows_around_if, Boxes.IsNarrowBox}
 use Rattle.rtui_boxes.specs.{Framed.IsShortFrame}
 use Rattle.rtui_paragraph.specs.Reflow.{grapheme_columns, columns_taken, fits_row, cut_row, broken_rows}
 
@@ -122,11 +124,12 @@ FillsText p r old new = PaintsRows r r.y (rows_shown r.height p.scroll.y (paragr
 -- outside the area changes; and of a buffer of plain cells comes a settled one, if the box is plain.
 pub record RendersParagraph (paragraph : Paragraph) (area : Rect) (old new : BufferData) : Type 0 where
   pub frame : RendersInFrame paragraph.style paragraph.block (FillsText paragraph) area old new
-  pub settled : EdgesFit old.area → IsPlainFrom 0 old → IsNarrowIfBox paragraph.block → IsSettledBuffer new
+  pub settled : EdgesFit old.area → IsPlainFrom 0 old → IfSome paragraph.block IsNarrowBox
+      → IsSettledBuffer new
 
 -- no grapheme of a paragraph's lines takes memory
 abbrev pub HasShortText : Paragraph → Type 0
-HasShortText p = All (λ line. HaveShortGraphemes line.spans) p.text.lines
+HasShortText p = All (λ line. EachSpanGrapheme IsShort line.spans) p.text.lines
 
 -- a paragraph of which no line is broken takes no memory if none of its graphemes does, nor its box
 pub record IsShortParagraph (p : Paragraph) (s : BufferData) : Type 0 where

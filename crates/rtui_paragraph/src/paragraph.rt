@@ -4,8 +4,8 @@ ghost use Rattle.std.specs.Prelude.{◌≡◌, ◌+◌, ◌<◌, ◌≤◌, ◌�
 ghost use Rattle.std.specs.Prelude.{All, IsTrue, ◌^◌, ◌-◌};
 ghost use Rattle.ratatui_core.specs.Layout.{HasPosition, IsInside};
 ghost use Rattle.ratatui_core.specs.Buffer.{IsSettledBuffer, IsReadyAt, IsReadyFrom, position_of};
-ghost use Rattle.ratatui_core.specs.Buffer.{IsShort, HaveShortGraphemes, text_width, Paints, piece_of};
-ghost use Rattle.ratatui_core.specs.Text.{raw_text, ArePrintable};
+ghost use Rattle.ratatui_core.specs.Buffer.{IsShort, text_width, Paints, piece_of};
+ghost use Rattle.ratatui_core.specs.Text.{raw_text, ArePrintable, EachSpanGrapheme};
 ghost use Rattle.ratatui_core.specs.Widgets.{ChangesWithin};
 ghost use Rattle.ratatui_core.specs.declared.layout.HorizontalAlignment.TheVariants.{Left, Center, Right};
 ghost use Rattle.rtui_boxes.specs.Boxes.{IsBoxArea};
@@ -295,7 +295,7 @@ impl<'a> Paragraph<'a> {
             OnOk result (PaintsRow part (part.y + k) row buf.old buf.new) }
         ensures ready { IsReadyFrom (part.y + k) buf.old
             → OnOk result (IsReadyFrom (part.y + k + 1) buf.new) }
-        ensures short { HaveShortGraphemes line.now.spans → IsOk result }
+        ensures short { EachSpanGrapheme IsShort line.now.spans → IsOk result }
     {
         let alignment = line.alignment.unwrap_or(self.alignment);
         let start = self.cut_indent(line, alignment, part.width);
@@ -619,10 +619,7 @@ impl<'b, 'a> Widget for &'b Paragraph<'a> {
     ghost is_short = { λ p _. IsShortParagraph p.now };
 
     fn render(self, area: Rect, buf: &mut Buffer) -> Result<(), AllocError> {
-        let Some(part) = buf.part(area) else {
-            return Ok(());
-        };
-        let Some(inner) = render_frame(self.style, &self.block, part, buf)? else {
+        let Some(inner) = render_frame(self.style, &self.block, area, buf)? else {
             return Ok(());
         };
         self.render_text(inner, buf)

@@ -3,31 +3,32 @@ use Rattle.std.proofs.Common.{◌≡◌, ℕ, zero, suc, ◌+◌, ◌-◌, ◌<�
 use Rattle.std.specs.{Borrow.Bor}
 use Rattle.std.proofs.lemmas.Bool.{cases_lt}
 use Rattle.ratatui_core.specs.Layout.{Rect, Position, intersected}
-use Rattle.ratatui_core.specs.{Style.Style}
+use Rattle.ratatui_core.specs.{Style.Style, Text.EachGrapheme, Text.TakesOneColumn}
 use Rattle.ratatui_core.specs.Buffer.{BufferData, IsPlainFrom}
 use Rattle.rtui_boxes.proofs.{InnerLemmas.bare-or, PlainBoxLemmas.plain-text}
 use Rattle.rtui_scrollbar.specs.{declared.scrollbar.Scrollbar.Scrollbar, declared.scrollbar.Marks.Marks}
 use Rattle.rtui_scrollbar.specs.{declared.scrollbar.state.ScrollbarState.ScrollbarState}
 use Rattle.rtui_scrollbar.specs.Scrollbars.{bar_length, track_length, mark_of, marks_of, position_on_bar, PaintsIfSymbol}
-use Rattle.rtui_scrollbar.specs.Scrollbars.{PaintsMarks, MarksBar, RendersScrollbar, IsNarrowIf, HasNarrowMarks}
+use Rattle.rtui_scrollbar.specs.Scrollbars.{PaintsMarks, MarksBar, RendersScrollbar, IfSymbol, EachSymbol}
 use Rattle.rtui_scrollbar.proofs.ScrollbarLemmas.{mark-has}
 
 -- symbols of narrow graphemes, one after the other
-plain-symbol-if : (r : Rect) (p : Position) (q : Option (Bor (List ℕ)) × Style) (old new : BufferData) → IsNarrowIf q.0
-    → IsPlainFrom 0 old → PaintsIfSymbol r p q old new → IsPlainFrom 0 new
+plain-symbol-if : (r : Rect) (p : Position) (q : Option (Bor (List ℕ)) × Style) (old new : BufferData)
+    → IfSymbol (EachGrapheme TakesOneColumn) q.0 → IsPlainFrom 0 old → PaintsIfSymbol r p q old new → IsPlainFrom 0 new
 plain-symbol-if r p (None, style) old new narrow plain same = rw same plain
 plain-symbol-if r p (Some symbol, style) old new narrow plain is =
     plain-text p p.x (r.x + r.width - p.x) style symbol.now old new narrow plain is
 
-plain-marks : (m : Marks) (r : Rect) (n : ℕ) (old new : BufferData) → HasNarrowMarks m.bar → IsPlainFrom 0 old
-    → PaintsMarks m r n old new → IsPlainFrom 0 new
+plain-marks : (m : Marks) (r : Rect) (n : ℕ) (old new : BufferData) → EachSymbol (EachGrapheme TakesOneColumn) m.bar
+    → IsPlainFrom 0 old → PaintsMarks m r n old new → IsPlainFrom 0 new
 plain-marks m r zero old new narrow plain same = rw same plain
 plain-marks m r (suc n) old new narrow plain is =
-    plain-symbol-if r (position_on_bar m n) (mark_of m n) is.between new (mark-has IsNarrowIf m n narrow)
+    plain-symbol-if r (position_on_bar m n) (mark_of m n) is.between new
+    (mark-has (IfSymbol (EachGrapheme TakesOneColumn)) m n narrow)
     (plain-marks m r n old is.between narrow plain is.first) is.second
 
-plain-bar : (b : Scrollbar) (s : ScrollbarState) (r : Rect) (old new : BufferData) → HasNarrowMarks b → IsPlainFrom 0 old
-    → MarksBar b s r old new → IsPlainFrom 0 new
+plain-bar : (b : Scrollbar) (s : ScrollbarState) (r : Rect) (old new : BufferData) → EachSymbol (EachGrapheme TakesOneColumn) b
+    → IsPlainFrom 0 old → MarksBar b s r old new → IsPlainFrom 0 new
 plain-bar b s r old new narrow plain is =
     let same : (s.content_length ≡ 0) ⊎ (track_length b (bar_length b.orientation r) ≡ 0)
     → IsPlainFrom 0 new = λ none. rw (is.none none) plain in
@@ -42,8 +43,8 @@ plain-bar b s r old new narrow plain is =
     (cases_lt 0 s.content_length)
 
 -- a scroll bar of narrow symbols keeps cells plain
-pub plain-scrollbar : (b : Scrollbar) (s t : ScrollbarState) (area : Rect) (old new : BufferData) → HasNarrowMarks b
-    → IsPlainFrom 0 old → RendersScrollbar b s t area old new → IsPlainFrom 0 new
+pub plain-scrollbar : (b : Scrollbar) (s t : ScrollbarState) (area : Rect) (old new : BufferData)
+    → EachSymbol (EachGrapheme TakesOneColumn) b → IsPlainFrom 0 old → RendersScrollbar b s t area old new → IsPlainFrom 0 new
 plain-scrollbar b s t area old new narrow plain is =
     bare-or (intersected area old.area) (λ none. rw (is.bar.nothing none) plain)
     (λ w h. plain-bar b s (intersected area old.area) old new narrow plain (is.bar.part w h))

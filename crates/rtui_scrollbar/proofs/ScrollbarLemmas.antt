@@ -20,7 +20,7 @@ use Rattle.rtui_scrollbar.specs.declared.scrollbar.ScrollbarOrientation.TheVaria
 use Rattle.rtui_scrollbar.specs.declared.scrollbar.ScrollbarOrientation.TheVariants.{HorizontalBottom, HorizontalTop}
 use Rattle.rtui_scrollbar.specs.Scrollbars.{bar_area, bar_length, is_upright, track_length, mark_of, marks_of, marked}
 use Rattle.rtui_scrollbar.specs.Scrollbars.{marked_cell, position_on_bar, place_on_bar, bar_symbols, PaintsIfSymbol, PaintsMarks}
-use Rattle.rtui_scrollbar.specs.Scrollbars.{IsOneIf, HasOneColumnMarks, MarksBar, RendersScrollbar}
+use Rattle.rtui_scrollbar.specs.Scrollbars.{IsOneColumn, IfSymbol, EachSymbol, MarksBar, RendersScrollbar}
 use Rattle.rtui_scrollbar.specs.Inner.{StandsIn}
 
 -- what holds of each symbol of a bar holds of the one at a place
@@ -122,7 +122,8 @@ record ChangesOne (p : Position) (f : Cell → Cell) (old new : BufferData) : Ty
   rest : (q : Position) → HasPosition old.area q → (q ≡ p → ⊥) → cell_in new q ≡ cell_in old q
 
 one-column : (r : Rect) (p : Position) (q : Option (Bor (List ℕ)) × Style) (old new : BufferData) → IsBoxArea r
-    → IsInside r old.area → HasPosition r p → IsOneIf q.0 → PaintsIfSymbol r p q old new → ChangesOne p (marked q) old new
+    → IsInside r old.area → HasPosition r p → IfSymbol IsOneColumn q.0 → PaintsIfSymbol r p q old new
+    → ChangesOne p (marked q) old new
 unfolding painted_width
 one-column r p (None, style) old new box inside here one same = record {
   area = ap (λ s. s.area) same;
@@ -158,7 +159,7 @@ one-column r p (Some symbol, style) old new box inside here one is =
     }
 
 -- symbols of one column, one after the other: each its own cell
-module _ (m : Marks) (r : Rect) (box : IsBoxArea r) (one : HasOneColumnMarks m.bar) where
+module _ (m : Marks) (r : Rect) (box : IsBoxArea r) (one : EachSymbol IsOneColumn m.bar) where
   record HasMarks (n : ℕ) (old new : BufferData) : Type 0 where
     area : new.area ≡ old.area
     room : new.room ≡ old.room
@@ -181,7 +182,7 @@ module _ (m : Marks) (r : Rect) (box : IsBoxArea r) (one : HasOneColumnMarks m.b
       let there : IsInside r mid.area = λ p h. rw was.area (inside p h) in
       let own = inside (position_on_bar m n) (stands n (omega arith)) in
       let step = one-column r (position_on_bar m n) (mark_of m n) mid new box there (stands n (omega arith))
-      (mark-has IsOneIf m n one) is.second in
+      (mark-has (IfSymbol IsOneColumn) m n one) is.second in
       record {
         area = step.area ∙ was.area;
         room = step.room ∙ was.room;

@@ -1,16 +1,17 @@
 -- The symbols of the sets of scroll bars take one column each.
 use Rattle.std.proofs.Common.{◌≡◌, true, false, List, ℕ, [], ◌∷◌, All, Bool, Option, Some, None, refl, sym, subst}
 use Rattle.std.specs.{Char.encode_utf8, Str.chars, Borrow.Bor}
-use Rattle.std.proofs.lemmas.List.Elements.{All-nil, All-cons, All-head, All-tail}
+use Rattle.std.proofs.lemmas.List.Elements.{All-nil, All-cons, All-weaker}
 use Rattle.unicode_segmentation.specs.Grapheme.{graphemes, is_grapheme_break}
 use Rattle.unicode_segmentation.specs.Segments.{segments, cut}
 use Rattle.unicode_width.proofs.Computing.{unicode_width}
 use Rattle.ratatui_core.specs.Buffer.{text_width}
-use Rattle.ratatui_core.specs.{Text.has_control, Symbols.scrollbar_sets, Symbols.scrollbar_texts}
+use Rattle.ratatui_core.specs.{Text.has_control, Text.EachGrapheme, Text.TakesOneColumn}
+use Rattle.ratatui_core.specs.{Symbols.scrollbar_sets, Symbols.scrollbar_texts}
 use Rattle.rtui_scrollbar.specs.{declared.scrollbar.Scrollbar.Scrollbar}
 use Rattle.rtui_scrollbar.specs.{declared.scrollbar.ScrollbarOrientation.ScrollbarOrientation}
-use Rattle.rtui_scrollbar.specs.Scrollbars.{texts_for, is_upright, IsNewScrollbar, IsOneColumn, IsOneIf, HasOneColumnMarks}
-use Rattle.rtui_scrollbar.specs.Scrollbars.{IsNarrowIf, HasNarrowMarks, bar_symbols}
+use Rattle.rtui_scrollbar.specs.Scrollbars.{texts_for, is_upright, IsNewScrollbar, IsOneColumn, IfSymbol, EachSymbol}
+use Rattle.rtui_scrollbar.specs.Scrollbars.{bar_symbols}
 
 abbrev one : (t : List ℕ) → graphemes true t ≡ t ∷ [] → has_control t ≡ false → text_width t ≡ 1 → IsOneColumn t
 one t a b c = record { one = a; shows = b; columns = c }
@@ -55,30 +56,24 @@ double-one true o e =
 double-one false o e =
     rw e (one _ refl refl refl, (one _ refl refl refl, (one _ refl refl refl, (one _ refl refl refl, tt))))
 
-pub new-takes-one : (o : ScrollbarOrientation) (b : Scrollbar) → IsNewScrollbar o b → HasOneColumnMarks b
+pub new-takes-one : (o : ScrollbarOrientation) (b : Scrollbar) → IsNewScrollbar o b → EachSymbol IsOneColumn b
 new-takes-one o b is =
     let texts : AreOne (scrollbar_texts is.set) = subst AreOne (sym is.is_set) (double-one (is_upright o) o refl) in
-    let thumb : IsOneIf (Some b.thumb_symbol) = rw is.thumb texts.1.0 in
-    let track : IsOneIf b.track_symbol = rw is.track texts.0 in
-    let begin : IsOneIf b.begin_symbol = rw is.begin texts.1.1.0 in
-    let end : IsOneIf b.end_symbol = rw is.end texts.1.1.1.0 in
-    All-cons IsOneIf (Some b.thumb_symbol) (b.track_symbol ∷ b.begin_symbol ∷ b.end_symbol ∷ []) thumb
-    (All-cons IsOneIf b.track_symbol (b.begin_symbol ∷ b.end_symbol ∷ []) track
-    (All-cons IsOneIf b.begin_symbol (b.end_symbol ∷ []) begin (All-cons IsOneIf b.end_symbol [] end (All-nil IsOneIf))))
+    let P : Option (Bor (List ℕ)) → Type 0 = IfSymbol IsOneColumn in
+    let thumb : P (Some b.thumb_symbol) = rw is.thumb texts.1.0 in
+    let track : P b.track_symbol = rw is.track texts.0 in
+    let begin : P b.begin_symbol = rw is.begin texts.1.1.0 in
+    let end : P b.end_symbol = rw is.end texts.1.1.1.0 in
+    All-cons P (Some b.thumb_symbol) (b.track_symbol ∷ b.begin_symbol ∷ b.end_symbol ∷ []) thumb
+    (All-cons P b.track_symbol (b.begin_symbol ∷ b.end_symbol ∷ []) track
+    (All-cons P b.begin_symbol (b.end_symbol ∷ []) begin (All-cons P b.end_symbol [] end (All-nil P))))
 
--- a symbol of one column has one narrow grapheme
-abbrev IsNarrowOne : List ℕ → Type 0
-IsNarrowOne g = has_control g ≡ false → text_width g ≡ 1
+-- a symbol of one column has one grapheme, of one column
+one-grapheme : (o : Option (Bor (List ℕ))) → IfSymbol IsOneColumn o → IfSymbol (EachGrapheme TakesOneColumn) o
+one-grapheme None is = tt
+one-grapheme (Some symbol) is =
+    subst (All TakesOneColumn) (sym is.one)
+    (All-cons TakesOneColumn symbol.now [] (λ shows. is.columns) (All-nil TakesOneColumn))
 
-narrow-one : (o : Option (Bor (List ℕ))) → IsOneIf o → IsNarrowIf o
-narrow-one None is = tt
-narrow-one (Some symbol) is =
-    subst (All IsNarrowOne) (sym is.one) (All-cons IsNarrowOne symbol.now [] (λ shows. is.columns) (All-nil IsNarrowOne))
-
-narrow-all : (os : List (Option (Bor (List ℕ)))) → All IsOneIf os → All IsNarrowIf os
-narrow-all [] all = All-nil IsNarrowIf
-narrow-all (o ∷ os) all =
-    All-cons IsNarrowIf o os (narrow-one o (All-head IsOneIf o os all)) (narrow-all os (All-tail IsOneIf o os all))
-
-pub narrow-marks : (b : Scrollbar) → HasOneColumnMarks b → HasNarrowMarks b
-narrow-marks b all = narrow-all (bar_symbols b) all
+pub one-graphemes : (b : Scrollbar) → EachSymbol IsOneColumn b → EachSymbol (EachGrapheme TakesOneColumn) b
+one-graphemes b all = All-weaker (IfSymbol IsOneColumn) (IfSymbol (EachGrapheme TakesOneColumn)) one-grapheme (bar_symbols b) all

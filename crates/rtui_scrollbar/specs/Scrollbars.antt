@@ -1,12 +1,12 @@
 -- A scroll bar: where it stands, and where its thumb is.
 use Rattle.std.specs.Prelude.{◌≡◌, ℕ, zero, suc, Bool, true, false, ◌+◌, ◌-◌, ◌*◌, ◌/◌, ◌<◌, ◌⊎◌, nat_lt, min}
 use Rattle.std.specs.Prelude.{max, List, [], ◌∷◌, codes, encode_utf8_all, Option, Some, None, if◌then◌else◌}
-use Rattle.std.specs.Prelude.{All, ⊤, ◌^◌}
+use Rattle.std.specs.Prelude.{All, IfSome, ◌^◌}
 use Rattle.std.specs.Borrow.{Bor}
 use Rattle.ratatui_core.specs.{Layout.Rect, Layout.Position, Symbols.scrollbar_texts, Style.Style}
 use Rattle.ratatui_core.specs.{Style.new_style, declared.symbols.scrollbar.Set.Set}
-use Rattle.ratatui_core.specs.Buffer.{BufferData, Cell, styled, with_symbol, ChangesEach, IsShort, text_width}
-use Rattle.ratatui_core.specs.Buffer.{PaintsPieces, pieces_at, IsOneGrapheme, HasNarrowGraphemes}
+use Rattle.ratatui_core.specs.Buffer.{BufferData, Cell, styled, with_symbol, ChangesEach, text_width}
+use Rattle.ratatui_core.specs.Buffer.{PaintsPieces, pieces_at, IsOneGrapheme}
 use Rattle.ratatui_core.specs.Text.{has_control}
 use Rattle.ratatui_core.specs.Widgets.{ChangesWithin, OnPart}
 use Rattle.rtui_boxes.specs.{Boxes.last_column, Boxes.last_row, Titles.InTurn}
@@ -208,14 +208,13 @@ pub record IsOneColumn (symbol : List ℕ) : Type 0 where
   pub shows : has_control symbol ≡ false
   pub columns : text_width symbol ≡ 1
 
--- it is, if there is one
-abbrev pub IsOneIf : Option (Bor (List ℕ)) → Type 0
-IsOneIf None = ⊤
-IsOneIf (Some symbol) = IsOneColumn symbol.now
+-- P holds of a symbol, if there is one
+abbrev pub IfSymbol : (List ℕ → Type 0) → Option (Bor (List ℕ)) → Type 0
+IfSymbol P symbol = IfSome symbol (λ text. P text.now)
 
--- each symbol of a bar takes one column
-abbrev pub HasOneColumnMarks : Scrollbar → Type 0
-HasOneColumnMarks b = All IsOneIf (bar_symbols b)
+-- P holds of each symbol of a bar
+abbrev pub EachSymbol : (List ℕ → Type 0) → Scrollbar → Type 0
+EachSymbol P b = All (IfSymbol P) (bar_symbols b)
 
 -- A bar over an area: its symbols painted from its start to its end. If each takes one column, each cell of
 -- the row or the column at its side has its own, and all else is as before. Without a content or without
@@ -224,7 +223,8 @@ pub record MarksBar (b : Scrollbar) (s : ScrollbarState) (r : Rect) (old new : B
   pub none : (s.content_length ≡ 0) ⊎ (track_length b (bar_length b.orientation r) ≡ 0) → new ≡ old
   pub some : 0 < s.content_length → 0 < track_length b (bar_length b.orientation r)
       → PaintsMarks (marks_of b s r) r (bar_length b.orientation r) old new
-  pub cells : 0 < s.content_length → 0 < track_length b (bar_length b.orientation r) → HasOneColumnMarks b
+  pub cells : 0 < s.content_length → 0 < track_length b (bar_length b.orientation r)
+      → EachSymbol IsOneColumn b
       → ChangesEach (bar_area b.orientation r) (marked_cell (marks_of b s r)) old new
 
 -- A scroll bar over the part of an area that a buffer has. Nothing outside the area changes, and the state
@@ -234,21 +234,3 @@ pub record RendersScrollbar (b : Scrollbar) (s t : ScrollbarState) (area : Rect)
   pub state : t ≡ s
   pub within : ChangesWithin area old new
   pub bar : OnPart (MarksBar b s) area old new
-
--- a symbol that takes no memory, if there is one
-abbrev pub IsShortIf : Option (Bor (List ℕ)) → Type 0
-IsShortIf None = ⊤
-IsShortIf (Some symbol) = IsShort symbol.now
-
--- each symbol of a bar takes no memory
-abbrev pub HasShortMarks : Scrollbar → Type 0
-HasShortMarks b = All IsShortIf (bar_symbols b)
-
--- a symbol of which each grapheme that shows takes one column, if there is one
-abbrev pub IsNarrowIf : Option (Bor (List ℕ)) → Type 0
-IsNarrowIf None = ⊤
-IsNarrowIf (Some symbol) = HasNarrowGraphemes symbol.now
-
--- so it is with each symbol of a bar
-abbrev pub HasNarrowMarks : Scrollbar → Type 0
-HasNarrowMarks b = All IsNarrowIf (bar_symbols b)

@@ -4,14 +4,15 @@ ghost use Rattle.std.specs.Prelude.{◌≡◌, ℕ, ◌+◌, ◌<◌, ◌≤◌,
 ghost use Rattle.ratatui_core.specs.Layout.{Rect};
 ghost use Rattle.ratatui_core.specs.Buffer.{BufferData, IsPlainFrom};
 ghost use Rattle.ratatui_core.specs.Symbols.{scrollbar_sets};
+ghost use Rattle.ratatui_core.specs.Text.{EachGrapheme, TakesOneColumn};
 ghost use Rattle.rtui_scrollbar.specs.declared.scrollbar.Scrollbar.{Scrollbar};
 ghost use Rattle.rtui_scrollbar.specs.declared.scrollbar.state.ScrollbarState.{ScrollbarState};
 ghost use Rattle.rtui_scrollbar.specs.declared.scrollbar.state.ScrollDirection.{ScrollDirection};
 ghost use Rattle.rtui_scrollbar.specs.declared.scrollbar.state.ScrollDirection.TheVariants.{Forward};
 ghost use Rattle.rtui_scrollbar.specs.declared.scrollbar.ScrollbarOrientation.{ScrollbarOrientation};
 ghost use Rattle.rtui_scrollbar.specs.declared.scrollbar.ScrollbarOrientation.TheVariants.{VerticalRight};
-ghost use Rattle.rtui_scrollbar.specs.Scrollbars.{HasNarrowMarks, RendersScrollbar, IsNewScrollbar};
-ghost use Rattle.rtui_scrollbar.specs.Scrollbars.{IsOneColumn, HasOneColumnMarks};
+ghost use Rattle.rtui_scrollbar.specs.Scrollbars.{RendersScrollbar, IsNewScrollbar};
+ghost use Rattle.rtui_scrollbar.specs.Scrollbars.{IsOneColumn, EachSymbol};
 ghost use Rattle.rtui_scrollbar.specs.Scrollbars.{thumb_length, thumb_start};
 
 use crate::scrollbar::{ScrollDirection, ScrollbarOrientation};
@@ -19,8 +20,8 @@ use crate::scrollbar::{ScrollDirection, ScrollbarOrientation};
 /// A scroll bar of symbols whose graphemes take one column each keeps cells plain.
 pub fn scroll_bars_keep_cells_plain()
     ensures { (b : Scrollbar) (s t : ScrollbarState) (area : Rect) (old new : BufferData)
-        → HasNarrowMarks b → IsPlainFrom 0 old → RendersScrollbar b s t area old new
-        → IsPlainFrom 0 new }
+        → EachSymbol (EachGrapheme TakesOneColumn) b → IsPlainFrom 0 old
+        → RendersScrollbar b s t area old new → IsPlainFrom 0 new }
 {}
 
 /// The symbols of each set of scroll bars take one column, and so do those of a new bar: each cell
@@ -28,8 +29,9 @@ pub fn scroll_bars_keep_cells_plain()
 pub fn sets_of_scroll_bars_take_one_column()
     ensures sets { All (All IsOneColumn) scrollbar_sets }
     ensures bar { (o : ScrollbarOrientation) (b : Scrollbar) → IsNewScrollbar o b
-        → HasOneColumnMarks b }
-    ensures narrow { (b : Scrollbar) → HasOneColumnMarks b → HasNarrowMarks b }
+        → EachSymbol IsOneColumn b }
+    ensures graphemes { (b : Scrollbar) → EachSymbol IsOneColumn b
+        → EachSymbol (EachGrapheme TakesOneColumn) b }
 {}
 
 /// A thumb takes at least one cell, and lies on its track. At the first position it begins where

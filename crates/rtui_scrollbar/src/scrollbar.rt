@@ -1,15 +1,15 @@
 //! A bar that shows which part of a content is seen.
 
-ghost use Rattle.std.specs.Prelude.{◌≡◌, ◌≤◌, ◌<◌, ◌+◌, ◌-◌, ◌^◌, Some, OnOk, IsOk};
+ghost use Rattle.std.specs.Prelude.{◌≡◌, ◌≤◌, ◌<◌, ◌+◌, ◌-◌, Some, OnOk, IsOk};
 ghost use Rattle.ratatui_core.specs.Layout.{IsInside, HasPosition};
 ghost use Rattle.ratatui_core.specs.Buffer.{IsShort};
 ghost use Rattle.ratatui_core.specs.Widgets.{ChangesWithin};
 ghost use Rattle.rtui_boxes.specs.Boxes.{IsBoxArea};
 ghost use Rattle.rtui_scrollbar.specs.declared.scrollbar.ScrollbarOrientation.TheVariants.{VerticalRight};
 ghost use Rattle.rtui_scrollbar.specs.Scrollbars.{IsNewScrollbar, HasSymbols, IsSetFor, with_bar_symbols};
-ghost use Rattle.rtui_scrollbar.specs.Scrollbars.{is_upright, bar_area, bar_length, arrow_count};
+ghost use Rattle.rtui_scrollbar.specs.Scrollbars.{is_upright, bar_area, bar_length};
 ghost use Rattle.rtui_scrollbar.specs.Scrollbars.{track_length, marks_of, mark_of, position_on_bar};
-ghost use Rattle.rtui_scrollbar.specs.Scrollbars.{PaintsSymbolIn, PaintsMark, PaintsMarks, HasShortMarks};
+ghost use Rattle.rtui_scrollbar.specs.Scrollbars.{PaintsSymbolIn, PaintsMark, PaintsMarks, EachSymbol};
 ghost use Rattle.rtui_scrollbar.specs.Inner.{StandsIn};
 
 mod state;
@@ -367,7 +367,7 @@ impl<'a> Marks<'a> {
         requires inside { IsInside area buf.old.area }
         ensures within { ChangesWithin area buf.old buf.new }
         ensures ok { OnOk result (PaintsMark self.now area place buf.old buf.new) }
-        ensures short { HasShortMarks self.now.bar → IsOk result }
+        ensures short { EachSymbol IsShort self.now.bar → IsOk result }
     {
         let (symbol, style) = self.mark(place);
         match symbol {
@@ -383,7 +383,7 @@ impl<'a> Marks<'a> {
         requires inside { IsInside area buf.old.area }
         ensures within { ChangesWithin area buf.old buf.new }
         ensures ok { OnOk result (PaintsMarks self.now area count buf.old buf.new) }
-        ensures short { HasShortMarks self.now.bar → IsOk result }
+        ensures short { EachSymbol IsShort self.now.bar → IsOk result }
     {
         for place in 0..count {
             self.paint_mark(place, area, buf)?;
@@ -398,13 +398,14 @@ impl<'b, 'a> StatefulWidget for &'b Scrollbar<'a> {
     type State = ScrollbarState;
 
     ghost use Rattle.std.specs.Prelude.{◌≡◌};
-    ghost use Rattle.rtui_scrollbar.specs.Scrollbars.{RendersScrollbar, HasShortMarks};
+    ghost use Rattle.ratatui_core.specs.Buffer.{IsShort};
+    ghost use Rattle.rtui_scrollbar.specs.Scrollbars.{RendersScrollbar, EachSymbol};
 
     ghost renders = { λ bar. RendersScrollbar bar.now };
 
     ghost leaves = { λ _ old new _ _ _. new ≡ old };
 
-    ghost is_short = { λ bar _ _ _. HasShortMarks bar.now };
+    ghost is_short = { λ bar _ _ _. EachSymbol IsShort bar.now };
 
     fn render(
         self,
@@ -427,13 +428,14 @@ impl<'a> StatefulWidget for Scrollbar<'a> {
     type State = ScrollbarState;
 
     ghost use Rattle.std.specs.Prelude.{◌≡◌};
-    ghost use Rattle.rtui_scrollbar.specs.Scrollbars.{RendersScrollbar, HasShortMarks};
+    ghost use Rattle.ratatui_core.specs.Buffer.{IsShort};
+    ghost use Rattle.rtui_scrollbar.specs.Scrollbars.{RendersScrollbar, EachSymbol};
 
     ghost renders = { RendersScrollbar };
 
     ghost leaves = { λ _ old new _ _ _. new ≡ old };
 
-    ghost is_short = { λ bar _ _ _. HasShortMarks bar };
+    ghost is_short = { λ bar _ _ _. EachSymbol IsShort bar };
 
     fn render(
         self,

@@ -1,13 +1,14 @@
 -- The bars of a sparkline, and plain cells under them.
-use Rattle.std.proofs.Common.{ℕ, ◌≤◌, Option, Some, None}
+use Rattle.std.proofs.Common.{ℕ, ◌≤◌, Option, Some, None, IfSome}
 use Rattle.std.proofs.Common.{slice_get, arith, Result, OnOk, OnErr}
 use Rattle.std.specs.declared.alloc.AllocError.{AllocError}
-use Rattle.ratatui_core.specs.Layout.{Rect, Position, IsInside}
+use Rattle.ratatui_core.specs.Layout.{Rect, Position, IsInside, intersected}
 use Rattle.ratatui_core.specs.{Style.patch}
 use Rattle.ratatui_core.specs.Buffer.{BufferData, Cell, with_symbol, text_width, ChangesEach, IsPlain, IsPlainFrom}
 use Rattle.ratatui_core.specs.Widgets.{ChangesWithin}
 use Rattle.ratatui_core.proofs.BufferLemmas.{plain-styled, plain-with_symbol, plain-changed}
-use Rattle.rtui_boxes.specs.{Boxes.IsNarrowIfBox}
+use Rattle.rtui_boxes.specs.Boxes.{IsNarrowBox}
+use Rattle.rtui_boxes.specs.Framed.{inner_if}
 use Rattle.rtui_boxes.proofs.{InnerLemmas.plain-inside, WithinLemmas.changed-in}
 use Rattle.rtui_sparkline.specs.declared.sparkline.RenderDirection.{RenderDirection}
 use Rattle.rtui_sparkline.specs.declared.sparkline.RenderDirection.TheVariants.{LeftToRight, RightToLeft}
@@ -47,10 +48,11 @@ module _ (s : Sparkline) (narrow : HasNarrowBars s) where
       (with_symbol (mark_of_value s greatest r.height bar.value row) c)
       (plain-with_symbol (mark_of_value s greatest r.height bar.value row) c is (mark-narrow greatest r.height bar.value row))
 
-pub sparkline-plain : (s : Sparkline) (area : Rect) (old new : BufferData) → IsNarrowIfBox s.block → HasNarrowBars s
+pub sparkline-plain : (s : Sparkline) (area : Rect) (old new : BufferData) → IfSome s.block IsNarrowBox → HasNarrowBars s
     → IsPlainFrom 0 old → RendersSparkline s area old new → IsPlainFrom 0 new
 sparkline-plain s area old new box narrow plain is =
-    plain-inside s.style s.block (ShowsBars s) area old new box plain (λ r framed shown cells bars.
-    plain-changed (bars_part s r) (bar_cell_of s (greatest_of s) r) framed shown
+    let r = inner_if s.block (intersected area old.area) in
+    plain-inside s.style s.block (λ _ _. ShowsBars s) tt tt area old new box plain (λ framed cells bars.
+    plain-changed (bars_part s r) (bar_cell_of s (greatest_of s) r) framed new
     (λ p c cell. bar-plain s narrow (greatest_of s) r (row_from_below r p.y)
     (slice_get s.bars.items (number_of_column s.direction r p.x)) c cell) bars cells) is

@@ -1,9 +1,9 @@
 //! Laws of sparklines that are no single call's clause.
 
-ghost use Rattle.std.specs.Prelude.{◌≡◌};
+ghost use Rattle.std.specs.Prelude.{◌≡◌, IfSome};
 ghost use Rattle.ratatui_core.specs.Layout.{Rect};
 ghost use Rattle.ratatui_core.specs.Buffer.{BufferData, IsPlainFrom};
-ghost use Rattle.rtui_boxes.specs.Boxes.{IsNarrowIfBox};
+ghost use Rattle.rtui_boxes.specs.Boxes.{IsNarrowBox};
 ghost use Rattle.rtui_sparkline.specs.declared.sparkline.Sparkline.{Sparkline};
 ghost use Rattle.rtui_sparkline.specs.declared.sparkline.RenderDirection.{RenderDirection};
 ghost use Rattle.rtui_sparkline.specs.declared.sparkline.RenderDirection.TheVariants.{LeftToRight};
@@ -14,7 +14,7 @@ use crate::sparkline::RenderDirection;
 /// A sparkline of symbols of one column keeps cells plain, if it has no box or a narrow one; so a
 /// screen can show it.
 pub fn sparklines_keep_cells_plain()
-    ensures { (s : Sparkline) (area : Rect) (old new : BufferData) → IsNarrowIfBox s.block
+    ensures { (s : Sparkline) (area : Rect) (old new : BufferData) → IfSome s.block IsNarrowBox
         → HasNarrowBars s → IsPlainFrom 0 old → RendersSparkline s area old new
         → IsPlainFrom 0 new }
 {}

@@ -1,7 +1,7 @@
 //! Bars of one column each.
 
-ghost use Rattle.std.specs.Prelude.{◌≡◌, ◌≤◌, ◌<◌, ◌+◌, ◌-◌, Some, OnOk, IsOk, IfOk, true};
-ghost use Rattle.ratatui_core.specs.Style.{new_style, patch};
+ghost use Rattle.std.specs.Prelude.{◌≡◌, ◌<◌, ◌+◌, ◌-◌, Some, OnOk, IsOk, IfOk, true};
+ghost use Rattle.ratatui_core.specs.Style.{patch};
 ghost use Rattle.ratatui_core.specs.Buffer.{IsShort};
 ghost use Rattle.ratatui_core.specs.Widgets.{ChangesWithin};
 ghost use Rattle.rtui_boxes.specs.Boxes.{IsBoxArea};
@@ -308,10 +308,7 @@ impl<'b, 'a> Widget for &'b Sparkline<'a> {
     ghost is_short = { λ sparkline _. IsShortSparkline sparkline.now };
 
     fn render(self, area: Rect, buf: &mut Buffer) -> Result<(), AllocError> {
-        let Some(part) = buf.part(area) else {
-            return Ok(());
-        };
-        let Some(inner) = render_frame(self.style, &self.block, part, buf)? else {
+        let Some(inner) = render_frame(self.style, &self.block, area, buf)? else {
             return Ok(());
         };
         self.render_bars(inner, buf)

@@ -1,14 +1,14 @@
 -- A table of narrow texts keeps cells plain.
-use Rattle.std.proofs.Common.{ℕ, ◌+◌, ◌==◌, Bool, true, false, if◌then◌else◌, List, [], ◌∷◌}
+use Rattle.std.proofs.Common.{ℕ, ◌+◌, ◌==◌, Bool, true, false, if◌then◌else◌, List, [], ◌∷◌, IfSome}
 use Rattle.std.proofs.Common.{◌++◌, drop, All, Option, Some, None, is_some, sym, subst}
 use Rattle.std.proofs.lemmas.{List.Elements.All-head, List.Elements.All-tail, List.Elements.All-drop}
 use Rattle.std.proofs.lemmas.{List.Concat.flat_map-cons}
 use Rattle.ratatui_core.specs.Layout.{Rect, intersected}
 use Rattle.ratatui_core.specs.{Style.Style, Text.TextData}
-use Rattle.ratatui_core.specs.Buffer.{BufferData, IsPlainFrom, IsNarrowText}
+use Rattle.ratatui_core.specs.Buffer.{BufferData, IsPlainFrom}
 use Rattle.ratatui_core.proofs.BufferLemmas.{text-plain, over-all, from-over}
-use Rattle.rtui_boxes.specs.{Boxes.IsNarrowIfBox, Framed.inner_if}
-use Rattle.rtui_boxes.proofs.{InnerLemmas.plain-framed, InnerLemmas.bare-or, PlainBoxLemmas.plain-laid}
+use Rattle.rtui_boxes.specs.{Boxes.IsNarrowBox, Framed.inner_if}
+use Rattle.rtui_boxes.proofs.{InnerLemmas.plain-inside, PlainBoxLemmas.plain-laid}
 use Rattle.rtui_list.specs.Items.{is_selected_at}
 use Rattle.rtui_table.specs.{declared.table.Table.Table as TableData, declared.cell.Cell.Cell, declared.row.Row.Row}
 use Rattle.rtui_table.specs.{declared.state.TableState.TableState}
@@ -16,10 +16,15 @@ use Rattle.rtui_table.specs.Rows.{stacked_rows, rows_area, footer_area, cells_ar
 use Rattle.rtui_table.specs.Tables.{TablePart, RendersIfText, RendersTableParts, cell_parts, symbol_parts, symbol_if, row_parts}
 use Rattle.rtui_table.specs.Tables.{placed_row_parts, rows_parts, outer_parts, highlight_parts, selected_row_area}
 use Rattle.rtui_table.specs.Tables.{selected_column_area}
-use Rattle.rtui_table.specs.Tables.{placed_rows, body_parts, table_parts, symbol_columns, RendersTable, HasNarrowRows}
-use Rattle.rtui_table.specs.Tables.{HasNarrowCells, HasNarrowCellsIf, IsNarrowSymbol}
+use Rattle.rtui_table.specs.Tables.{placed_rows, body_parts, table_parts, symbol_columns, ShowsTable, RendersTable, HasNarrowRows}
+use Rattle.rtui_table.specs.Tables.{HasNarrowCells}
+use Rattle.ratatui_core.specs.Text.{TakesOneColumn, EachTextGrapheme}
 
-text-if : (o : Option TextData) (r : Rect) (old new : BufferData) → IsNarrowSymbol o → IsPlainFrom 0 old
+-- each grapheme of a text takes one column, if there is one
+abbrev IfNarrow : Option TextData → Type 0
+IfNarrow o = IfSome o (EachTextGrapheme TakesOneColumn)
+
+text-if : (o : Option TextData) (r : Rect) (old new : BufferData) → IfNarrow o → IsPlainFrom 0 old
     → RendersIfText o r old new → IsPlainFrom 0 new
 text-if None r old new narrow plain same = rw same plain
 text-if (Some text) r old new narrow plain is =
@@ -28,7 +33,7 @@ text-if (Some text) r old new narrow plain is =
 -- each part has a narrow text, or none
 abbrev AreNarrowParts : List TablePart → Type 0
 AreNarrowParts [] = Unit {0}
-AreNarrowParts (p ∷ ps) = IsNarrowSymbol p.content × AreNarrowParts ps
+AreNarrowParts (p ∷ ps) = IfNarrow p.content × AreNarrowParts ps
 
 parts-stay : (ps : List TablePart) (old new : BufferData) → AreNarrowParts ps → IsPlainFrom 0 old → RendersTableParts ps old new
     → IsPlainFrom 0 new
@@ -43,16 +48,19 @@ narrow-then : (ps qs : List TablePart) → AreNarrowParts ps → AreNarrowParts 
 narrow-then [] qs first second = second
 narrow-then (p ∷ ps) qs first second = (first.0, narrow-then ps qs first.1 second)
 
-cells-narrow : (r : Rect) (columns : List Rect) (cells : List Cell) → All (λ (cell : Cell). IsNarrowText cell.content) cells
+abbrev IsNarrowCell : Cell → Type 0
+IsNarrowCell cell = EachTextGrapheme TakesOneColumn cell.content
+
+cells-narrow : (r : Rect) (columns : List Rect) (cells : List Cell) → All IsNarrowCell cells
     → AreNarrowParts (cell_parts r columns cells)
 cells-narrow r [] cells all = tt
 cells-narrow r (column ∷ columns) [] all = tt
 cells-narrow r (column ∷ columns) (cell ∷ cells) all = (
-  All-head (λ (cell : Cell). IsNarrowText cell.content) cell cells all,
-  cells-narrow r columns cells (All-tail (λ (cell : Cell). IsNarrowText cell.content) cell cells all),
+  All-head IsNarrowCell cell cells all,
+  cells-narrow r columns cells (All-tail IsNarrowCell cell cells all),
 )
 
-symbol-narrow : (o : Option TextData) (n : ℕ) (style : Style) (r : Rect) → IsNarrowSymbol o
+symbol-narrow : (o : Option TextData) (n : ℕ) (style : Style) (r : Rect) → IfNarrow o
     → AreNarrowParts (symbol_parts o n style r)
 symbol-narrow None n style r narrow = tt
 symbol-narrow (Some text) n style r narrow = by-test (n == 0)
@@ -65,7 +73,7 @@ symbol-narrow (Some text) n style r narrow = by-test (n == 0)
     by-test true = tt
     by-test false = (narrow, tt)
 
-row-narrow : (o : Option TextData) (n : ℕ) (columns : List Rect) (row : Row) (r : Rect) → IsNarrowSymbol o → HasNarrowCells row
+row-narrow : (o : Option TextData) (n : ℕ) (columns : List Rect) (row : Row) (r : Rect) → IfNarrow o → HasNarrowCells row
     → AreNarrowParts (row_parts o n columns row r)
 row-narrow o n columns row r symbol cells = (
   tt,
@@ -73,7 +81,8 @@ row-narrow o n columns row r symbol cells = (
       (cells-narrow r columns row.cells.items cells),
 )
 
-outer-narrow : (columns : List Rect) (o : Option Row) (r : Rect) → HasNarrowCellsIf o → AreNarrowParts (outer_parts columns o r)
+outer-narrow : (columns : List Rect) (o : Option Row) (r : Rect) → IfSome o HasNarrowCells
+    → AreNarrowParts (outer_parts columns o r)
 outer-narrow columns None r narrow = tt
 outer-narrow columns (Some row) r narrow = row-narrow None 0 columns row (cells_area row r) tt narrow
 
@@ -83,11 +92,11 @@ highlight-narrow t (Some row) None = (tt, tt)
 highlight-narrow t None (Some column) = (tt, tt)
 highlight-narrow t (Some row) (Some column) = (tt, (tt, (tt, tt)))
 
-symbol-if : (is_selected : Bool) (o : Option TextData) → IsNarrowSymbol o → IsNarrowSymbol (symbol_if is_selected o)
+symbol-if : (is_selected : Bool) (o : Option TextData) → IfNarrow o → IfNarrow (symbol_if is_selected o)
 symbol-if true o narrow = narrow
 symbol-if false o narrow = tt
 
-module _ (t : TableData) (symbol : IsNarrowSymbol t.highlight_symbol) (selected : Option ℕ) (n : ℕ) (columns : List Rect) where
+module _ (t : TableData) (symbol : IfNarrow t.highlight_symbol) (selected : Option ℕ) (n : ℕ) (columns : List Rect) where
   rows-narrow : (k : ℕ) (r : Rect) (rows : List Row) → All HasNarrowCells rows
       → AreNarrowParts (rows_parts t selected n columns (stacked_rows k r rows))
   rows-narrow k r [] all = tt
@@ -124,14 +133,9 @@ table-narrow t u columns r narrow =
     (selected_column_area u.selected_column columns body)))
     (outer-narrow columns t.footer (footer_area t.header t.footer r) narrow.footer))
 
-pub table-keeps : (t : TableData) (s u : TableState) (area : Rect) (old new : BufferData) → IsNarrowIfBox t.block
+pub table-keeps : (t : TableData) (s u : TableState) (area : Rect) (old new : BufferData) → IfSome t.block IsNarrowBox
     → HasNarrowRows t → IsPlainFrom 0 old → RendersTable t s u area old new → IsPlainFrom 0 new
 table-keeps t s u area old new box narrow plain is =
-    let part = intersected area old.area in
-    bare-or part (λ none. rw (is.parts.nothing none) plain) (λ wide high.
-    let there = is.parts.part wide high in
-    let framed = plain-framed t.style t.block part old there.framed box plain there.frame in
-    bare-or (inner_if t.block part) (λ none. rw (there.none none).0 framed) (λ w h.
-    let shows = there.inside w h in
-    parts-stay (table_parts t u shows.columns (inner_if t.block part)) there.framed new
-    (table-narrow t u shows.columns (inner_if t.block part) narrow) framed shows.parts))
+    let r = inner_if t.block (intersected area old.area) in
+    plain-inside t.style t.block (ShowsTable t) s u area old new box plain (λ framed cells shows.
+    parts-stay (table_parts t u shows.columns r) framed new (table-narrow t u shows.columns r narrow) cells shows.parts) is

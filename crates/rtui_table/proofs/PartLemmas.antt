@@ -13,7 +13,7 @@ use Rattle.ratatui_core.specs.Buffer.{BufferData, IsStyled}
 use Rattle.ratatui_core.specs.Widgets.{ChangesWithin, RendersText}
 use Rattle.ratatui_core.proofs.{BufferLemmas.within-wider, BufferLemmas.within-same, WidgetLemmas.within-then}
 use Rattle.ratatui_core.proofs.{WidgetLemmas.within-styled}
-use Rattle.rtui_boxes.proofs.ElementLemmas.{element-next}
+use Rattle.ratatui_core.proofs.WidgetLemmas.{element-next}
 use Rattle.rtui_list.specs.Items.{is_selected_at}
 use Rattle.rtui_table.specs.{declared.table.Table.Table as TableData, declared.cell.Cell.Cell, declared.row.Row.Row}
 use Rattle.rtui_table.specs.Rows.{PlacedRow, stacked_rows, cells_area, above, below, full_height}

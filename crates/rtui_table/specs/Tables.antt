@@ -1,7 +1,7 @@
 -- Of which parts a table is made, and what it makes of a buffer and of its state.
-use Rattle.std.specs.Prelude.{◌≡◌, ℕ, Bool, true, false, ◌/◌, ◌<◌, ◌==◌, zero, suc, min, max, List, [], ◌∷◌}
+use Rattle.std.specs.Prelude.{◌≡◌, ℕ, Bool, true, false, ◌/◌, ◌==◌, zero, suc, min, max, List, [], ◌∷◌}
 use Rattle.std.specs.Prelude.{◌++◌, length, drop, replicate, Option, Some, None, is_some, option_map}
-use Rattle.std.specs.Prelude.{if◌then◌else◌, slice_get, All, ⊤}
+use Rattle.std.specs.Prelude.{if◌then◌else◌, slice_get, All, IfSome}
 use Rattle.std.specs.{List.flat_map, Option.option_or}
 use Rattle.ratatui_core.specs.Layout.{Rect, intersected, LayoutData, default_layout, inner, IsSplit}
 use Rattle.ratatui_core.specs.declared.layout.Constraint.{Constraint}
@@ -10,15 +10,16 @@ use Rattle.ratatui_core.specs.declared.layout.Direction.TheVariants.{Horizontal}
 use Rattle.ratatui_core.specs.declared.layout.Spacing.TheVariants.{Space}
 use Rattle.ratatui_core.specs.declared.layout.Flex.TheVariants as flex
 use Rattle.ratatui_core.specs.{Style.Style, Style.new_style, Text.TextData, Text.widest}
-use Rattle.ratatui_core.specs.Buffer.{BufferData, IsStyled, IsNarrowText}
-use Rattle.ratatui_core.specs.Widgets.{ChangesWithin, OnPart, RendersText}
-use Rattle.rtui_boxes.specs.{Titles.InTurn, Framed.IsFramed, Framed.IsBare, Framed.inner_if}
+use Rattle.ratatui_core.specs.Buffer.{BufferData, IsStyled}
+use Rattle.ratatui_core.specs.Widgets.{RendersText}
+use Rattle.rtui_boxes.specs.{Titles.InTurn, Framed.RendersStateInFrame}
 use Rattle.rtui_list.specs.Items.{has_mark_columns, without_columns, is_selected_at}
 use Rattle.rtui_list.specs.declared.list.HighlightSpacing.TheVariants.{WhenSelected}
 use Rattle.rtui_table.specs.{declared.table.Table.Table as TableData, declared.cell.Cell.Cell}
 use Rattle.rtui_table.specs.{declared.row.Row.Row, declared.state.TableState.TableState}
 use Rattle.rtui_table.specs.Rows.{PlacedRow, stacked_rows, rows_area, footer_area, cells_area, cells_at}
 use Rattle.rtui_table.specs.Rows.{IsRowOffset}
+use Rattle.ratatui_core.specs.Text.{TakesOneColumn, EachTextGrapheme}
 
 -- a table of these rows in columns of these widths, a column apart, without header, footer, box, styles and
 -- highlight symbol
@@ -217,37 +218,20 @@ pub record ShowsTable (t : TableData) (s u : TableState) (r : Rect) (old new : B
   pub are_columns : AreColumns t (symbol_columns t (is_some u.selected) r) r columns
   pub parts : RendersTableParts (table_parts t u columns r) old new
 
--- the table inside its style and its box; without room inside the state stays as it is
-pub record TableInFrame (t : TableData) (s u : TableState) (part : Rect) (old new : BufferData) : Type 0 where
-  pub framed : BufferData
-  pub frame : IsFramed t.style t.block part old framed
-  pub none : IsBare (inner_if t.block part) → (new ≡ framed) × (u ≡ s)
-  pub inside : 0 < (inner_if t.block part).width → 0 < (inner_if t.block part).height
-      → ShowsTable t s u (inner_if t.block part) framed new
+-- a table in its style and its box, over the part of an area that a buffer has
+abbrev pub RendersTable : TableData → TableState → TableState → Rect → BufferData → BufferData → Type 0
+RendersTable t = RendersStateInFrame t.style t.block (ShowsTable t)
 
--- A table over the part of an area that a buffer has. Nothing outside the area changes.
-pub record RendersTable (t : TableData) (s u : TableState) (area : Rect) (old new : BufferData) : Type 0 where
-  pub within : ChangesWithin area old new
-  pub no_part : IsBare (intersected area old.area) → u ≡ s
-  pub parts : OnPart (TableInFrame t s u) area old new
+-- each grapheme of the cells of a row takes one column
+abbrev pub HasNarrowCells : Row → Type 0
+HasNarrowCells row = All (λ cell. EachTextGrapheme TakesOneColumn cell.content) row.cells.items
 
 -- each grapheme that a table shows inside its box takes one column
-abbrev pub HasNarrowCells : Row → Type 0
-HasNarrowCells row = All (λ cell. IsNarrowText cell.content) row.cells.items
-
-abbrev pub HasNarrowCellsIf : Option Row → Type 0
-HasNarrowCellsIf None = ⊤
-HasNarrowCellsIf (Some row) = HasNarrowCells row
-
-abbrev pub IsNarrowSymbol : Option TextData → Type 0
-IsNarrowSymbol None = ⊤
-IsNarrowSymbol (Some text) = IsNarrowText text
-
 pub record HasNarrowRows (t : TableData) : Type 0 where
   pub rows : All HasNarrowCells t.rows.items
-  pub header : HasNarrowCellsIf t.header
-  pub footer : HasNarrowCellsIf t.footer
-  pub symbol : IsNarrowSymbol t.highlight_symbol
+  pub header : IfSome t.header HasNarrowCells
+  pub footer : IfSome t.footer HasNarrowCells
+  pub symbol : IfSome t.highlight_symbol (EachTextGrapheme TakesOneColumn)
 
 -- a table without a state of its own: from the first row on, nothing selected
 abbrev pub RendersTableFresh : TableData → Rect → BufferData → BufferData → Type 0

@@ -1,9 +1,9 @@
 //! Laws of tables that are no single call's clause.
 
-ghost use Rattle.std.specs.Prelude.{◌≡◌, ℕ, ◌≤◌, ◌<◌, Some};
+ghost use Rattle.std.specs.Prelude.{◌≡◌, ℕ, ◌≤◌, ◌<◌, Some, IfSome};
 ghost use Rattle.ratatui_core.specs.Layout.{Rect};
 ghost use Rattle.ratatui_core.specs.Buffer.{BufferData, IsPlainFrom};
-ghost use Rattle.rtui_boxes.specs.Boxes.{IsNarrowIfBox};
+ghost use Rattle.rtui_boxes.specs.Boxes.{IsNarrowBox};
 ghost use Rattle.rtui_table.specs.declared.table.Table.{Table as TableData};
 ghost use Rattle.rtui_table.specs.declared.state.TableState.{TableState};
 ghost use Rattle.rtui_table.specs.Rows.{IsInView, rows_area, upper_at, cells_at};
@@ -12,9 +12,9 @@ ghost use Rattle.rtui_table.specs.Tables.{HasNarrowRows, RendersTable, ShowsTabl
 /// A table whose texts and whose symbol take one column for each grapheme leaves a buffer of plain
 /// cells one of plain cells, if it has no box or a narrow one; so a screen can show it. Under a
 /// highlight a wide grapheme's second column is no blank any more.
-pub fn tables_of_narrow_texts_keep_cells_plain()
+pub fn tables_keep_cells_plain()
     ensures { (t : TableData) (s u : TableState) (area : Rect) (old new : BufferData)
-        → IsNarrowIfBox t.block → HasNarrowRows t → IsPlainFrom 0 old
+        → IfSome t.block IsNarrowBox → HasNarrowRows t → IsPlainFrom 0 old
         → RendersTable t s u area old new → IsPlainFrom 0 new }
 {}
 

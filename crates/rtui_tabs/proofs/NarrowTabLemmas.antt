@@ -1,20 +1,21 @@
 -- Tabs of narrow texts keep cells plain.
-use Rattle.std.proofs.Common.{◌≡◌, ℕ, zero, suc, ◌+◌, ◌-◌, ◌≤◌, ◌==◌, Bool, true, false}
+use Rattle.std.proofs.Common.{◌≡◌, ℕ, zero, suc, ◌+◌, ◌-◌, ◌≤◌, ◌==◌, Bool, true, false, IfSome}
 use Rattle.std.proofs.Common.{if◌then◌else◌, List, [], ◌∷◌, ◌++◌, All, Option, Some, None, refl, subst, arith, codes}
 use Rattle.std.proofs.lemmas.{List.Elements.All-nil, List.Elements.All-append, List.Elements.All-head}
 use Rattle.std.proofs.lemmas.{List.Elements.All-tail}
 use Rattle.ratatui_core.specs.Layout.{Rect, Position, intersected, corner}
 use Rattle.ratatui_core.specs.{Style.Style, Style.patch, Text.SpanData, Text.LineData, Text.ArePrintable}
 use Rattle.ratatui_core.specs.Buffer.{BufferData, Piece, text_pieces, line_pieces, columns, room_at, IsPlainFrom}
-use Rattle.ratatui_core.specs.Buffer.{HasNarrowGraphemes, PaintsPieces, text_width}
+use Rattle.ratatui_core.specs.Buffer.{PaintsPieces, text_width}
 use Rattle.ratatui_core.specs.Widgets.{first_row}
 use Rattle.ratatui_core.proofs.BufferLemmas.{pieces-narrow, pieces-plain, styled-plain, over-all, from-over}
-use Rattle.rtui_boxes.specs.{declared.block.Block.Block, Boxes.IsNarrowIfBox, Framed.inner_if, Titles.InTurn}
-use Rattle.rtui_boxes.proofs.InnerLemmas.{plain-framed, bare-or}
+use Rattle.rtui_boxes.specs.{declared.block.Block.Block, Boxes.IsNarrowBox, Framed.inner_if, Titles.InTurn}
+use Rattle.rtui_boxes.proofs.InnerLemmas.{plain-inside}
 use Rattle.rtui_tabs.specs.declared.tabs.Tabs.{Tabs as TabsData}
 use Rattle.rtui_tabs.specs.Tabs.{TabPart, PlacedPart, placed_parts, after_parts, after_part, tab_parts, title_parts, tabs_from}
 use Rattle.rtui_tabs.specs.Tabs.{part_of_span, part_of_padding}
-use Rattle.rtui_tabs.specs.Tabs.{IsStyledIf, RendersParts, RendersTabs, HasNarrowTabs, HasNarrowSpans, HasNarrowPadding}
+use Rattle.rtui_tabs.specs.Tabs.{IsStyledIf, RendersParts, ShowsTabs, RendersTabs, IsNarrowTitle, HasNarrowTabs}
+use Rattle.ratatui_core.specs.Text.{EachGrapheme, EachSpanGrapheme, TakesOneColumn}
 
 -- a blank is printable
 pub blank-printable : ArePrintable (codes " ")
@@ -25,22 +26,25 @@ abbrev AreNarrow : List Piece → Type 0
 AreNarrow ps = All (λ p. text_width p.symbol ≤ 1) ps
 
 -- the pieces of a narrow text and of a narrow line, in as many columns as a buffer has
-text-narrow : (room : ℕ) (style : Style) (text : List ℕ) → room ≤ 65535 → HasNarrowGraphemes text
+text-narrow : (room : ℕ) (style : Style) (text : List ℕ) → room ≤ 65535 → EachGrapheme TakesOneColumn text
     → AreNarrow (text_pieces room style text)
 text-narrow room style text le narrow =
     let own : Rect = record { x = 0; y = 0; width = room; height = 1 } in
     let is : room_at own 0 room ≡ room = omega arith in
     subst (λ n. AreNarrow (text_pieces n style text)) is (pieces-narrow own 0 room style text narrow)
 
+abbrev IsNarrowSpan : SpanData → Type 0
+IsNarrowSpan span = EachGrapheme TakesOneColumn span.content
+
 line-narrow : (room : ℕ) (base : Style) (spans : List SpanData) → room ≤ 65535
-    → All (λ (span : SpanData). HasNarrowGraphemes span.content) spans → AreNarrow (line_pieces room base spans)
+    → EachSpanGrapheme TakesOneColumn spans → AreNarrow (line_pieces room base spans)
 unfolding line_pieces
 line-narrow room base [] le all = All-nil (λ (p : Piece). text_width p.symbol ≤ 1)
 line-narrow room base (s ∷ ss) le all =
     let ps = text_pieces room (patch base s.style) s.content in
     All-append (λ (p : Piece). text_width p.symbol ≤ 1) ps (line_pieces (room - columns ps) base ss)
-    (text-narrow room (patch base s.style) s.content le (All-head (λ (s : SpanData). HasNarrowGraphemes s.content) s ss all))
-    (line-narrow (room - columns ps) base ss (omega arith) (All-tail (λ (s : SpanData). HasNarrowGraphemes s.content) s ss all))
+    (text-narrow room (patch base s.style) s.content le (All-head IsNarrowSpan s ss all))
+    (line-narrow (room - columns ps) base ss (omega arith) (All-tail IsNarrowSpan s ss all))
 
 -- what painting and styling leave of plain cells
 paints-plain : (from : Position) (ps : List Piece) (old new : BufferData) → AreNarrow ps → IsPlainFrom 0 old
@@ -86,12 +90,12 @@ parts-split style (p ∷ ps) qs old new is =
       second = rest.second;
     }
 
-module _ (t : TabsData) (blank : HasNarrowGraphemes (codes " ")) (narrow : HasNarrowTabs t) where
-  padding-narrow : (o : Option LineData) → HasNarrowPadding o → IsNarrowPart (part_of_padding o)
+module _ (t : TabsData) (blank : EachGrapheme TakesOneColumn (codes " ")) (narrow : HasNarrowTabs t) where
+  padding-narrow : (o : Option LineData) → IfSome o IsNarrowTitle → IsNarrowPart (part_of_padding o)
   padding-narrow None is = λ room le. text-narrow room _ (codes " ") le blank
   padding-narrow (Some line) is = λ room le. line-narrow room line.style line.spans le is
 
-  title-narrow : (k : ℕ) (line : LineData) → HasNarrowSpans line → AreNarrowParts (title_parts t k line)
+  title-narrow : (k : ℕ) (line : LineData) → IsNarrowTitle line → AreNarrowParts (title_parts t k line)
   title-narrow k line is = (
     padding-narrow t.padding_left narrow.left,
     (
@@ -105,12 +109,12 @@ module _ (t : TabsData) (blank : HasNarrowGraphemes (codes " ")) (narrow : HasNa
   divider-narrow true ps is = is
   divider-narrow false ps is = ((λ room le. text-narrow room t.divider.style t.divider.content le narrow.divider), is)
 
-  tabs-plain : (r : Rect) (k : ℕ) (lines : List LineData) (old new : BufferData) → r.width ≤ 65535 → All HasNarrowSpans lines
+  tabs-plain : (r : Rect) (k : ℕ) (lines : List LineData) (old new : BufferData) → r.width ≤ 65535 → All IsNarrowTitle lines
       → IsPlainFrom 0 old → RendersParts t.highlight_style (tabs_from t r k lines) old new → IsPlainFrom 0 new
   tabs-plain r k [] old new le all plain same = rw same plain
   tabs-plain r k (line ∷ lines) old new le all plain is = by-test (r.width == 0) is
       (λ s one shows. tabs-plain (after_parts r (tab_parts t k line)) (k + 1) lines s new (after-small r (tab_parts t k line) le)
-      (All-tail HasNarrowSpans line lines all) one shows)
+      (All-tail IsNarrowTitle line lines all) one shows)
     where
       by-test : (stop : Bool) → RendersParts t.highlight_style
           (if stop then [] else placed_parts r (tab_parts t k line) ++ tabs_from t (after_parts r (tab_parts t k line))
@@ -122,7 +126,7 @@ module _ (t : TabsData) (blank : HasNarrowGraphemes (codes " ")) (narrow : HasNa
           let both = parts-split t.highlight_style (placed_parts r (tab_parts t k line))
           (tabs_from t (after_parts r (tab_parts t k line)) (k + 1) lines) old new shows in
           let here = divider-narrow (k == 0) (title_parts t k line)
-          (title-narrow k line (All-head HasNarrowSpans line lines all)) in
+          (title-narrow k line (All-head IsNarrowTitle line lines all)) in
           keeps both.between (parts-plain t.highlight_style r (tab_parts t k line) old both.between le here plain both.first)
           both.second
 
@@ -130,13 +134,9 @@ inner-small : (o : Option Block) (area own : Rect) → (inner_if o (intersected 
 inner-small None area own = omega arith
 inner-small (Some b) area own = omega arith
 
-pub tabs-keep : HasNarrowGraphemes (codes " ") → (t : TabsData) (area : Rect) (old new : BufferData) → IsNarrowIfBox t.block
-    → HasNarrowTabs t → IsPlainFrom 0 old → RendersTabs t area old new → IsPlainFrom 0 new
+pub tabs-keep : EachGrapheme TakesOneColumn (codes " ") → (t : TabsData) (area : Rect) (old new : BufferData)
+    → IfSome t.block IsNarrowBox → HasNarrowTabs t → IsPlainFrom 0 old → RendersTabs t area old new → IsPlainFrom 0 new
 tabs-keep blank t area old new box narrow plain is =
-    let part = intersected area old.area in
-    bare-or part (λ none. rw (is.parts.nothing none) plain) (λ wide high.
-    let there = is.parts.part wide high in
-    let framed = plain-framed t.style t.block part old there.framed box plain there.frame in
-    bare-or (inner_if t.block part) (λ none. rw (there.none none) framed)
-    (λ w h. tabs-plain t blank narrow (first_row (inner_if t.block part)) 0 t.titles.items there.framed new
-    (inner-small t.block area old.area) narrow.titles framed (there.inside w h)))
+    plain-inside t.style t.block (λ _ _. ShowsTabs t) tt tt area old new box plain (λ framed cells shows.
+    tabs-plain t blank narrow (first_row (inner_if t.block (intersected area old.area))) 0 t.titles.items framed new
+    (inner-small t.block area old.area) narrow.titles cells shows) is

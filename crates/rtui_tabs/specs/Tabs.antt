@@ -1,12 +1,13 @@
 -- Tabs: where each part of their row stands, and what they make of a buffer.
 use Rattle.std.specs.Prelude.{◌≡◌, ℕ, Bool, true, false, ◌+◌, ◌==◌, zero, suc, min, List, [], ◌∷◌, ◌++◌}
 use Rattle.std.specs.Prelude.{length, codes, encode_utf8_all, Option, Some, None, if◌then◌else◌, unwrap_or}
-use Rattle.std.specs.Prelude.{All, ⊤}
+use Rattle.std.specs.Prelude.{All, IfSome, ⊤}
 use Rattle.ratatui_core.specs.Layout.{Rect, corner, intersected}
 use Rattle.ratatui_core.specs.Style.{Style, new_style, with_modifier, modifier_of}
-use Rattle.ratatui_core.specs.Text.{SpanData, LineData, unstyled}
+use Rattle.ratatui_core.specs.Text.{SpanData, LineData, unstyled, EachGrapheme, EachSpanGrapheme}
+use Rattle.ratatui_core.specs.Text.{TakesOneColumn}
 use Rattle.ratatui_core.specs.Buffer.{BufferData, Piece, text_pieces, line_pieces, columns, AreShort}
-use Rattle.ratatui_core.specs.Buffer.{PaintsPieces, IsStyled, HasNarrowGraphemes}
+use Rattle.ratatui_core.specs.Buffer.{PaintsPieces, IsStyled}
 use Rattle.ratatui_core.specs.Widgets.{first_row}
 use Rattle.rtui_boxes.specs.{Titles.without_first, Titles.first_columns, Titles.InTurn}
 use Rattle.rtui_boxes.specs.Framed.{RendersInFrame, IsShortFrame, inner_if}
@@ -140,17 +141,13 @@ pub record IsShortTabs (t : TabsData) (area : Rect) (s : BufferData) : Type 0 wh
   pub frame : IsShortFrame t.block s
   pub shown : AreShortTabParts (placed_tabs t (inner_if t.block (intersected area s.area)))
 
--- each span of a line is of graphemes of one column
-abbrev pub HasNarrowSpans : LineData → Type 0
-HasNarrowSpans line = All (λ span. HasNarrowGraphemes span.content) line.spans
-
-abbrev pub HasNarrowPadding : Option LineData → Type 0
-HasNarrowPadding None = ⊤
-HasNarrowPadding (Some line) = HasNarrowSpans line
+-- each grapheme of a line that is painted whole takes one column
+abbrev pub IsNarrowTitle : LineData → Type 0
+IsNarrowTitle line = EachSpanGrapheme TakesOneColumn line.spans
 
 -- each grapheme that tabs show inside their box takes one column
 pub record HasNarrowTabs (t : TabsData) : Type 0 where
-  pub titles : All HasNarrowSpans t.titles.items
-  pub divider : HasNarrowGraphemes t.divider.content
-  pub left : HasNarrowPadding t.padding_left
-  pub right : HasNarrowPadding t.padding_right
+  pub titles : All IsNarrowTitle t.titles.items
+  pub divider : EachGrapheme TakesOneColumn t.divider.content
+  pub left : IfSome t.padding_left IsNarrowTitle
+  pub right : IfSome t.padding_right IsNarrowTitle

@@ -1,9 +1,11 @@
 -- The graphemes of styled texts.
-use Rattle.std.specs.Prelude.{ℕ, Bool, true, not, ◌&&◌, ◌||◌, List, [], ◌∷◌, ◌++◌, map, filter, chars}
+use Rattle.std.specs.Prelude.{◌≡◌, ℕ, Bool, true, false, not, ◌&&◌, ◌||◌, List, [], ◌∷◌, ◌++◌, map, filter}
+use Rattle.std.specs.Prelude.{All, chars}
 use Rattle.std.specs.{Char.is_control, Char.is_whitespace, List.list_any, List.list_all, List.flat_map}
 use Rattle.std.specs.{Str.bytes_eq, Slice.Iter.iter_rest}
 use Rattle.unicode_segmentation.specs.{Grapheme.graphemes, Iter.graphemes_left}
 use Rattle.rtui_style.specs.{declared.Style.Style, Style.patch}
+use Rattle.rtui_cell.specs.Width.{text_width}
 use Rattle.rtui_text.specs.{declared.grapheme.StyledGrapheme.StyledGrapheme}
 use Rattle.rtui_text.specs.{declared.span_graphemes.SpanGraphemes.SpanGraphemes}
 use Rattle.rtui_text.specs.{declared.grapheme.LineGraphemes.LineGraphemes, Text.SpanData, Printable.singles}
@@ -19,6 +21,18 @@ grapheme_data g = record { symbol = g.symbol.now; style = g.style }
 -- a control character stands in the text
 abbrev pub has_control : List ℕ → Bool
 has_control text = list_any is_control (chars text)
+
+-- P holds of each grapheme of a text
+abbrev pub EachGrapheme : (List ℕ → Type 0) → List ℕ → Type 0
+EachGrapheme P text = All P (graphemes true text)
+
+-- P holds of each grapheme of each span
+abbrev pub EachSpanGrapheme : (List ℕ → Type 0) → List SpanData → Type 0
+EachSpanGrapheme P spans = All (λ span. EachGrapheme P span.content) spans
+
+-- a grapheme takes one column if it shows: one with a control character doesn't
+abbrev pub TakesOneColumn : List ℕ → Type 0
+TakesOneColumn g = has_control g ≡ false → text_width g ≡ 1
 
 -- those of these graphemes that have no control character, in a style
 abbrev pub in_style : Style → List (List ℕ) → List GraphemeData

@@ -22,9 +22,10 @@ use Rattle.rtui_widgets.specs.Span.{showing, those_at, is_behind, with_graphemes
 use Rattle.rtui_widgets.specs.Line.{Part, parts, parts_then, parts_rendered, columns_before, line_rendered}
 use Rattle.rtui_widgets.specs.Rendering.{area_row, RendersRows, in_first_row, RendersSpan, RendersLine, RendersText, text_line}
 use Rattle.rtui_widgets.specs.Rendering.{text_row, alignment_or}
-use Rattle.rtui_widgets.specs.NarrowTexts.{IsNarrowGrapheme, HasNarrowGraphemes, AreNarrowSpans, IsNarrowLine, IsNarrowText}
 use Rattle.rtui_geometry.proofs.PositionTests.{has-or-not}
 use Rattle.rtui_widgets.proofs.{PlainLemmas.plain-empty, PlainLemmas.plain-styled, PlainLemmas.plain-if}
+use Rattle.rtui_text.specs.Graphemes.{EachGrapheme, TakesOneColumn}
+use Rattle.rtui_widgets.specs.Graphemes.{EachLineGrapheme, EachTextGrapheme}
 
 abbrev IsOne : List ℕ → Type 0
 IsOne g = text_width g ≡ 1
@@ -35,13 +36,13 @@ kept-one : (t : Bool) (g : List ℕ) (us : List (List ℕ)) → (t ≡ false →
 kept-one true g us one all = all
 kept-one false g us one all = All-cons IsOne g us (one refl) all
 
-all-plain : (gs : List (List ℕ)) → All IsNarrowGrapheme gs → All IsOne (filter (λ g. not (has_control g)) gs)
+all-plain : (gs : List (List ℕ)) → All TakesOneColumn gs → All IsOne (filter (λ g. not (has_control g)) gs)
 all-plain [] all = All-nil IsOne
 all-plain (g ∷ gs) all =
-    kept-one (has_control g) g (filter (λ g. not (has_control g)) gs) (All-head IsNarrowGrapheme g gs all)
-    (all-plain gs (All-tail IsNarrowGrapheme g gs all))
+    kept-one (has_control g) g (filter (λ g. not (has_control g)) gs) (All-head TakesOneColumn g gs all)
+    (all-plain gs (All-tail TakesOneColumn g gs all))
 
-showing-one : (columns : ℕ) (text : List ℕ) → HasNarrowGraphemes text → All IsOne (showing columns (graphemes true text))
+showing-one : (columns : ℕ) (text : List ℕ) → EachGrapheme TakesOneColumn text → All IsOne (showing columns (graphemes true text))
 unfolding showing
 showing-one columns text narrow = All-fitting IsOne columns (filter (λ g. not (has_control g)) (graphemes true text))
     (all-plain (graphemes true text) narrow)
@@ -106,7 +107,7 @@ plain-columns f k (c ∷ cs) keeps all =
     All-cons IsPlain (f k c) (columns_from f (k + 1) cs) (keeps k c (All-head IsPlain c cs all))
     (plain-columns f (k + 1) cs keeps (All-tail IsPlain c cs all))
 
-plain-span : (style : Style) (text : List ℕ) (row : List Cell) → HasNarrowGraphemes text → All IsPlain row
+plain-span : (style : Style) (text : List ℕ) (row : List Cell) → EachGrapheme TakesOneColumn text → All IsPlain row
     → All IsPlain (span_rendered style text row)
 unfolding span_rendered
 plain-span style text row narrow all =
@@ -121,15 +122,16 @@ plain-behind : (n : ℕ) (f : List Cell → List Cell) (row : List Cell) → ((c
 plain-behind n f row keeps all = All-append IsPlain (take n row) (f (drop n row)) (All-take IsPlain n row all)
     (keeps (drop n row) (All-drop IsPlain n row all))
 
-plain-parts : (ps : List Part) (row : List Cell) → All (λ part. HasNarrowGraphemes part.content) ps → All IsPlain row
+plain-parts : (ps : List Part) (row : List Cell) → All (λ part. EachGrapheme TakesOneColumn part.content) ps → All IsPlain row
     → All IsPlain (parts_rendered ps row)
 unfolding parts_then
 plain-parts [] row narrow all = all
 plain-parts (p ∷ ps) row narrow all =
     plain-behind p.indent _ row
     (λ left plain. plain-behind p.width (parts_rendered ps) (span_rendered p.style p.content left)
-    (λ cs rest. plain-parts ps cs (All-tail (λ (part : Part). HasNarrowGraphemes part.content) p ps narrow) rest)
-    (plain-span p.style p.content left (All-head (λ (part : Part). HasNarrowGraphemes part.content) p ps narrow) plain)) all
+    (λ cs rest. plain-parts ps cs (All-tail (λ (part : Part). EachGrapheme TakesOneColumn part.content) p ps narrow) rest)
+    (plain-span p.style p.content left
+    (All-head (λ (part : Part). EachGrapheme TakesOneColumn part.content) p ps narrow) plain)) all
 
 laid-plain : (style : Style) (row : List Cell) → All IsPlain row → All IsPlain (map (styled style) row)
 laid-plain style row all = All-map IsPlain (styled style) row (λ k d lt. plain-styled style (slice_index_or row k d) (all k d lt))
@@ -138,7 +140,7 @@ either-row : (t : Bool) (a b : List Cell) → All IsPlain a → All IsPlain b �
 either-row true a b pa pb = pa
 either-row false a b pa pb = pb
 
-plain-line : (alignment : Option _) (line : LineData) (row : List Cell) → IsNarrowLine line → All IsPlain row
+plain-line : (alignment : Option _) (line : LineData) (row : List Cell) → EachLineGrapheme TakesOneColumn line → All IsPlain row
     → All IsPlain (line_rendered alignment line row)
 unfolding line_rendered
 plain-line alignment line row narrow all =
@@ -158,9 +160,9 @@ nth-plain (c ∷ cs) (suc j) all = nth-plain cs j (All-tail IsPlain c cs all)
 along : (q o x j : ℕ) → o ≤ x → q + (x - o) + j ≡ q + (x + j - o)
 along q o x j le = omega arith
 
-no-spans : AreNarrowSpans []
+no-spans : EachLineGrapheme TakesOneColumn (line_of [])
 unfolding parts
-no-spans skip = All-nil (λ (part : Part). HasNarrowGraphemes part.content)
+no-spans skip = All-nil (λ (part : Part). EachGrapheme TakesOneColumn part.content)
 
 -- rows of an area over plain cells
 module _ (area r : Rect) (f : ℕ → List Cell → List Cell) (old new : BufferData) (is : RendersRows area f old new)
@@ -227,28 +229,30 @@ first-only f k row keeps all = either-row (k == 0) (f row) row (keeps row all) a
 -- texts over cells that are plain, and beside them
 module _ (area r : Rect) (old new : BufferData) (inside : (p : Position) → HasPosition old.area p → HasPosition area p
     → HasPosition r p) (plain : IsPlainOver r old) where
-  pub span-plain : (span : SpanData) → HasNarrowGraphemes span.content → RendersSpan span area old new → IsPlainOver r new
+  pub span-plain : (span : SpanData) → EachGrapheme TakesOneColumn span.content → RendersSpan span area old new
+      → IsPlainOver r new
   span-plain span narrow is =
       rows-plain area r (in_first_row (span_rendered span.style span.content)) old new is inside plain
       (λ k row all. first-only (span_rendered span.style span.content) k row
       (λ cs each. plain-span span.style span.content cs narrow each) all)
 
-  pub line-plain : (line : LineData) → IsNarrowLine line → RendersLine line area old new → IsPlainOver r new
+  pub line-plain : (line : LineData) → EachLineGrapheme TakesOneColumn line → RendersLine line area old new → IsPlainOver r new
   line-plain line narrow is =
       rows-plain area r (in_first_row (line_rendered line.alignment line)) old new is inside plain
       (λ k row all. first-only (line_rendered line.alignment line) k row
       (λ cs each. plain-line line.alignment line cs narrow each) all)
 
-  pub text-plain : (text : TextData) → IsNarrowText text → RendersText text area old new → IsPlainOver r new
+  pub text-plain : (text : TextData) → EachTextGrapheme TakesOneColumn text → RendersText text area old new → IsPlainOver r new
   text-plain text narrow is =
       rows-plain area r (text_row text) old new is inside plain
       (λ k row all. plain-line (alignment_or (text_line text k).alignment text.alignment) (text_line text k)
       (map (styled text.style) row) (line-at text.lines k narrow) (laid-plain text.style row all))
     where
-      line-at : (ls : List LineData) (k : ℕ) → All IsNarrowLine ls → IsNarrowLine (slice_index_or ls k (line_of []))
+      line-at : (ls : List LineData) (k : ℕ) → All (EachLineGrapheme TakesOneColumn) ls
+          → EachLineGrapheme TakesOneColumn (slice_index_or ls k (line_of []))
       line-at [] k all = no-spans
-      line-at (l ∷ ls) zero all = All-head IsNarrowLine l ls all
-      line-at (l ∷ ls) (suc k) all = line-at ls k (All-tail IsNarrowLine l ls all)
+      line-at (l ∷ ls) zero all = All-head (EachLineGrapheme TakesOneColumn) l ls all
+      line-at (l ∷ ls) (suc k) all = line-at ls k (All-tail (EachLineGrapheme TakesOneColumn) l ls all)
 
 -- the pieces of a narrow text take one column each
 abbrev IsNarrowPiece : Piece → Type 0
@@ -263,22 +267,22 @@ no-control : (t : Bool) (w : ℕ) → nat_lt 0 (if t then 0 else w) ≡ true →
 no-control true w e = let no : false ≡ true = e in absurd (cc)
 no-control false w e = refl
 
-painted-one : (g : List ℕ) → IsNarrowGrapheme g → has_painted_width g ≡ true → IsOne g
+painted-one : (g : List ℕ) → TakesOneColumn g → has_painted_width g ≡ true → IsOne g
 unfolding painted_width
 painted-one g narrow e = narrow (no-control (has_control g) (text_width g) e)
 
-all-painted : (gs : List (List ℕ)) → All IsNarrowGrapheme gs → All IsOne (filter has_painted_width gs)
+all-painted : (gs : List (List ℕ)) → All TakesOneColumn gs → All IsOne (filter has_painted_width gs)
 all-painted [] all = All-nil IsOne
 all-painted (g ∷ gs) all =
-    kept-narrow (has_painted_width g) g (filter has_painted_width gs) (λ e. painted-one g (All-head IsNarrowGrapheme g gs all) e)
-    (all-painted gs (All-tail IsNarrowGrapheme g gs all))
+    kept-narrow (has_painted_width g) g (filter has_painted_width gs) (λ e. painted-one g (All-head TakesOneColumn g gs all) e)
+    (all-painted gs (All-tail TakesOneColumn g gs all))
 
-all-kept : (room : ℕ) (text : List ℕ) → HasNarrowGraphemes text → All IsOne (kept room (graphemes true text))
+all-kept : (room : ℕ) (text : List ℕ) → EachGrapheme TakesOneColumn text → All IsOne (kept room (graphemes true text))
 unfolding kept
 all-kept room text narrow = All-fitting IsOne room (filter has_painted_width (graphemes true text))
     (all-painted (graphemes true text) narrow)
 
-pub pieces-narrow : (own : Rect) (x max : ℕ) (style : Style) (text : List ℕ) → HasNarrowGraphemes text
+pub pieces-narrow : (own : Rect) (x max : ℕ) (style : Style) (text : List ℕ) → EachGrapheme TakesOneColumn text
     → All IsNarrowPiece (pieces_at own x max style text)
 pieces-narrow own x max style text narrow =
     All-map IsNarrowPiece (piece_of style) (kept (room_at own x max) (graphemes true text))
@@ -389,14 +393,15 @@ pub from-over : (old new : BufferData) → new.area ≡ old.area → IsPlainOver
 from-over old new same plain p has from = plain p has (subst (λ a. HasPosition a p) same has)
 
 module _ (area : Rect) (old new : BufferData) (plain : IsPlainFrom 0 old) where
-  pub span-stays : (span : SpanData) → HasNarrowGraphemes span.content → RendersSpan span area old new → IsPlainFrom 0 new
+  pub span-stays : (span : SpanData) → EachGrapheme TakesOneColumn span.content → RendersSpan span area old new
+      → IsPlainFrom 0 new
   span-stays span narrow is = from-over old new is.within.same_area (span-plain area old.area old new (λ p has here. has)
       (over-all old plain) span narrow is)
 
-  pub line-stays : (line : LineData) → IsNarrowLine line → RendersLine line area old new → IsPlainFrom 0 new
+  pub line-stays : (line : LineData) → EachLineGrapheme TakesOneColumn line → RendersLine line area old new → IsPlainFrom 0 new
   line-stays line narrow is = from-over old new is.within.same_area (line-plain area old.area old new (λ p has here. has)
       (over-all old plain) line narrow is)
 
-  pub text-stays : (text : TextData) → IsNarrowText text → RendersText text area old new → IsPlainFrom 0 new
+  pub text-stays : (text : TextData) → EachTextGrapheme TakesOneColumn text → RendersText text area old new → IsPlainFrom 0 new
   text-stays text narrow is = from-over old new is.within.same_area (text-plain area old.area old new (λ p has here. has)
       (over-all old plain) text narrow is)

@@ -10,11 +10,11 @@ use Rattle.rtui_text.specs.{Printable.ArePrintable, Printable.singles, Text.Span
 use Rattle.rtui_text.proofs.{PrintableLemmas.graphemes-front, GraphemeLemmas.graphemes-empty}
 use Rattle.rtui_cell.proofs.WidthLemmas.{one_byte}
 use Rattle.rtui_widgets.specs.Line.{Part, last_fitting, end_of, part_of, parts}
-use Rattle.rtui_widgets.specs.NarrowTexts.{IsNarrowGrapheme, HasNarrowGraphemes, AreNarrowSpans}
+use Rattle.rtui_text.specs.Graphemes.{EachGrapheme, TakesOneColumn}
 
-narrow-singles : (bs : List ℕ) → All IsNarrowGrapheme (singles bs)
-narrow-singles [] = All-nil IsNarrowGrapheme
-narrow-singles (b ∷ bs) = All-cons IsNarrowGrapheme (b ∷ []) (singles bs) (λ _. one_byte b) (narrow-singles bs)
+narrow-singles : (bs : List ℕ) → All TakesOneColumn (singles bs)
+narrow-singles [] = All-nil TakesOneColumn
+narrow-singles (b ∷ bs) = All-cons TakesOneColumn (b ∷ []) (singles bs) (λ _. one_byte b) (narrow-singles bs)
 
 -- each of them is a grapheme
 pub graphemes-singles : (text : List ℕ) → ArePrintable text → graphemes true text ≡ singles text
@@ -32,8 +32,8 @@ graphemes-singles text all =
     no-more [] = refl
     no-more (x ∷ xs) = ap (λ ys. x ∷ ys) (no-more xs)
 
-pub printable-narrow : (text : List ℕ) → ArePrintable text → HasNarrowGraphemes text
-printable-narrow text all = subst (All IsNarrowGrapheme) (sym (graphemes-singles text all)) (narrow-singles text)
+pub printable-narrow : (text : List ℕ) → ArePrintable text → EachGrapheme TakesOneColumn text
+printable-narrow text all = subst (All TakesOneColumn) (sym (graphemes-singles text all)) (narrow-singles text)
 
 -- so is the end of such a text
 rest-printable : (b : ℕ) (bs : List ℕ) → ArePrintable (b ∷ bs) → ArePrintable bs
@@ -70,7 +70,7 @@ part-printable skip span all =
     (last-printable room span.content all))
 
 abbrev IsNarrowPart : Part → Type 0
-IsNarrowPart part = HasNarrowGraphemes part.content
+IsNarrowPart part = EachGrapheme TakesOneColumn part.content
 
 either-parts : (t : Bool) (p : Part) (ps : List Part) → IsNarrowPart p → All IsNarrowPart ps
     → All IsNarrowPart (if t then ps else p ∷ ps)
@@ -80,7 +80,7 @@ either-parts false p ps one all = All-cons IsNarrowPart p ps one all
 abbrev IsPrintableSpan : SpanData → Type 0
 IsPrintableSpan span = ArePrintable span.content
 
-pub spans-narrow : (spans : List SpanData) → All IsPrintableSpan spans → AreNarrowSpans spans
+pub spans-narrow : (spans : List SpanData) → All IsPrintableSpan spans → (skip : ℕ) → All IsNarrowPart (parts skip spans)
 unfolding parts
 spans-narrow [] all skip = All-nil IsNarrowPart
 spans-narrow (span ∷ spans) all skip =

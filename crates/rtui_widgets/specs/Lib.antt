@@ -7,4 +7,4 @@ pub mod Inner
 pub mod Changes
 pub mod Plain
 pub mod Parts
-pub mod NarrowTexts
+pub mod Graphemes

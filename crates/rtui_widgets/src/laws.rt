@@ -18,8 +18,8 @@ ghost use Rattle.rtui_text.specs.Text.{SpanData, LineData, TextData};
 ghost use Rattle.rtui_text.specs.Printable.{ArePrintable};
 ghost use Rattle.rtui_widgets.specs.Rendering.{RendersSpan, RendersLine, RendersText};
 ghost use Rattle.rtui_widgets.specs.Plain.{IsPlainFrom};
-ghost use Rattle.rtui_widgets.specs.NarrowTexts.{HasNarrowGraphemes, AreNarrowSpans, IsNarrowLine};
-ghost use Rattle.rtui_widgets.specs.NarrowTexts.{IsNarrowText};
+ghost use Rattle.rtui_text.specs.Graphemes.{EachGrapheme, TakesOneColumn};
+ghost use Rattle.rtui_widgets.specs.Graphemes.{EachLineGrapheme, EachTextGrapheme};
 
 /// A text of at most 22 bytes takes no memory, in however many columns it is rendered.
 pub fn short_texts_take_no_memory()
@@ -60,21 +60,23 @@ pub fn empty_buffers_are_plain()
 
 /// Texts of printable characters of ASCII take one column for each grapheme, wherever a line is
 /// cut.
-pub fn printable_texts_are_narrow()
-    ensures text { (text : List ℕ) → ArePrintable text → HasNarrowGraphemes text }
-    ensures spans { (spans : List SpanData) → All (λ span. ArePrintable span.content) spans
-        → AreNarrowSpans spans }
+pub fn printable_graphemes_take_one_column()
+    ensures text { (text : List ℕ) → ArePrintable text → EachGrapheme TakesOneColumn text }
+    ensures line { (line : LineData) → All (λ span. ArePrintable span.content) line.spans
+        → EachLineGrapheme TakesOneColumn line }
 {}
 
 /// A span, a line and a text whose graphemes take one column each leave a buffer of plain cells one
 /// of plain cells, wherever they are rendered; so a screen can show it. A grapheme of no columns
 /// after a wide one stands in a column of that one, which a screen can't show.
-pub fn narrow_texts_keep_cells_plain()
+pub fn texts_keep_cells_plain()
     ensures span { (span : SpanData) (area : Rect) (old new : BufferData)
-        → HasNarrowGraphemes span.content → IsPlainFrom 0 old → RendersSpan span area old new
+        → EachGrapheme TakesOneColumn span.content → IsPlainFrom 0 old
+        → RendersSpan span area old new → IsPlainFrom 0 new }
+    ensures line { (line : LineData) (area : Rect) (old new : BufferData)
+        → EachLineGrapheme TakesOneColumn line → IsPlainFrom 0 old → RendersLine line area old new
         → IsPlainFrom 0 new }
-    ensures line { (line : LineData) (area : Rect) (old new : BufferData) → IsNarrowLine line
-        → IsPlainFrom 0 old → RendersLine line area old new → IsPlainFrom 0 new }
-    ensures text { (text : TextData) (area : Rect) (old new : BufferData) → IsNarrowText text
-        → IsPlainFrom 0 old → RendersText text area old new → IsPlainFrom 0 new }
+    ensures text { (text : TextData) (area : Rect) (old new : BufferData)
+        → EachTextGrapheme TakesOneColumn text → IsPlainFrom 0 old → RendersText text area old new
+        → IsPlainFrom 0 new }
 {}

@@ -1,7 +1,5 @@
 -- A play, a scene at a time.
-use Rattle.std.proofs.Common.{◌≡◌, ℕ, ◌+◌, ◌<◌, List, [], ◌∷◌, ◌++◌, length, drop, get_or, Option, Some, None, refl, sym, ap, ◌∙◌}
-use Rattle.std.proofs.Common.{subst, append-nil, append_assoc}
-use Rattle.std.proofs.lemmas.List.{drop_more}
+use Rattle.std.proofs.Common.{List, [], ◌∷◌, ◌++◌, Option, Some, None, refl, sym, subst, append-nil, append_assoc}
 use Rattle.rtui_backend.specs.declared.test.TestBackend.{TestBackend}
 use Rattle.rtui_terminal.specs.TerminalData.{TerminalData}
 use Rattle.screenplay.specs.Run.{IsStaged, IsScene, IsStart, IsAfter, IsCauseOfStep, AreScenesFrom, IsPlay, IsRun}
@@ -64,7 +62,3 @@ module _ (stage : Stage) (steps left : List Step) (step : Step) (scenes : List S
 pub IsRun-played : (stage : Stage) (steps : List Step) (scenes : List Scene) (t : TerminalData TestBackend)
     → HasRun stage steps [] scenes t → IsRun stage steps scenes
 IsRun-played stage steps scenes t h = subst (IsRun stage steps) (append-nil scenes) (h.goes_on None [] refl)
-
--- what is left begins with the next element
-pub left_next : {X : Type 0} (xs : List X) (i : ℕ) (x : X) → i < length xs → x ≡ get_or xs i x → drop i xs ≡ x ∷ drop (i + 1) xs
-left_next xs i x lt is = drop_more xs i x lt ∙ ap (λ y. y ∷ drop (i + 1) xs) (sym is)

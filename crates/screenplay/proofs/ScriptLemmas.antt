@@ -18,7 +18,7 @@ use Rattle.screenplay.specs.Script.{takes_text, new_size_in, line_in, letter_in,
 use Rattle.screenplay.specs.Script.{lines_waiting, puts_waiting, stage_of, is_fixed, may_follow, act_after, acts_after}
 use Rattle.screenplay.specs.Script.{is_good_line, AreGoodAfter, IsScriptOf, IsFirstBadLine}
 use Rattle.screenplay.specs.Inner.{draw_of, without_text, with_act, after_on, after_line}
-use Rattle.screenplay.proofs.RunLemmas.{left_next}
+use Rattle.rtui_geometry.proofs.Lists.{element-next}
 
 -- ---- one command more
 
@@ -325,7 +325,7 @@ IsFirstBadLine-read all done line n s front inside here is bad = record {
   before = done;
   bad = line;
   rest = drop (n + 1) all;
-  parts = sym (take-append-drop n all) ∙ ap (λ xs. take n all ++ xs) (left_next all n line inside here)
+  parts = sym (take-append-drop n all) ∙ ap (λ xs. take n all ++ xs) (element-next all n line inside here)
       ∙ ap (λ xs. xs ++ line ∷ drop (n + 1) all) (sym front);
   count = omega (arith, inside, length-take n all, ap length front);
   good = is.good;

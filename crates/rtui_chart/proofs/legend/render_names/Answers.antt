@@ -1,7 +1,7 @@
 use Rattle.std.proofs.Common.{◌+◌, drop, arith}
 use Rattle.ratatui_core.proofs.{WidgetLemmas.within-then}
 use Rattle.rtui_chart.specs.{Legends.legend_names}
-use Rattle.rtui_boxes.proofs.ElementLemmas.{element-next}
+use Rattle.ratatui_core.proofs.WidgetLemmas.{element-next}
 use Rattle.rtui_chart.proofs.PlotLemmas.{name-counted}
 use Rattle.rtui_chart.proofs.legend.render_names.Goals as goal
 

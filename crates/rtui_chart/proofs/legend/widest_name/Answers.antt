@@ -1,6 +1,6 @@
 use Rattle.std.proofs.Common.{◌+◌, drop, arith}
 use Rattle.rtui_chart.specs.{Legends.legend_names}
-use Rattle.rtui_boxes.proofs.ElementLemmas.{element-next}
+use Rattle.ratatui_core.proofs.WidgetLemmas.{element-next}
 use Rattle.rtui_chart.proofs.PlotLemmas.{name-widest}
 use Rattle.rtui_chart.proofs.legend.widest_name.Goals as goal
 

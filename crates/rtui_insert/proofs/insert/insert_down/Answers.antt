@@ -1,8 +1,8 @@
 use Rattle.std.proofs.Common.{◌≡◌, ap, arith}
 use Rattle.rtui_geometry.specs.declared.rect.Rect.{Rect}
-use Rattle.rtui_backend.proofs.FailureLemmas.{fails_weaker}
+use Rattle.rtui_backend.proofs.FailureLemmas.{fails_weaker, holds_anyway}
 use Rattle.rtui_insert.specs.Scrolling.{rows_down}
-use Rattle.rtui_insert.proofs.PushLemmas.{lowered_rows, lowering_drawn, holds_anyway}
+use Rattle.rtui_insert.proofs.PushLemmas.{lowered_rows, lowering_drawn}
 use Rattle.rtui_insert.proofs.insert.insert_down.Goals as goal
 
 pub returns-clause-ok : goal.returns-clause-ok

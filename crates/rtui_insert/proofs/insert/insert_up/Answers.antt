@@ -1,8 +1,8 @@
 use Rattle.std.proofs.Common.{◌≡◌, ◌-◌, ap, arith, rules}
 use Rattle.std.proofs.lemmas.Grind.{common_steps}
 use Rattle.rtui_geometry.specs.declared.rect.Rect.{Rect}
-use Rattle.rtui_backend.proofs.FailureLemmas.{fails_weaker}
-use Rattle.rtui_insert.proofs.PushLemmas.{raised_none, raised_more, still_raising, raising_drawn, holds_anyway}
+use Rattle.rtui_backend.proofs.FailureLemmas.{fails_weaker, holds_anyway}
+use Rattle.rtui_insert.proofs.PushLemmas.{raised_none, raised_more, still_raising, raising_drawn}
 use Rattle.rtui_insert.proofs.insert.insert_up.Goals as goal
 
 pub loop-done-init : goal.loop-done-init

@@ -2,8 +2,8 @@ use Rattle.std.proofs.Common.{◌≡◌, ◌∙◌, ap, refl, arith, rules, inr}
 use Rattle.std.proofs.lemmas.Grind.{common_steps}
 use Rattle.rtui_geometry.specs.declared.rect.Rect.{Rect}
 use Rattle.rtui_insert.proofs.PushLemmas.{still_blank, pushed_none, pushed_first, pushed_next, pushing_first}
-use Rattle.rtui_insert.proofs.PushLemmas.{pushing_next, holds_anyway}
-use Rattle.rtui_backend.proofs.FailureLemmas.{fails_weaker}
+use Rattle.rtui_insert.proofs.PushLemmas.{pushing_next}
+use Rattle.rtui_backend.proofs.FailureLemmas.{fails_weaker, holds_anyway}
 use Rattle.rtui_insert.proofs.insert.push_rows.Goals as goal
 use Rattle.rtui_insert.proofs.insert.push_rows.Goals.{then-row-eq0+in_ok-draw_first_row, else-row-eq0+in_ok-draw_rows}
 

@@ -1,6 +1,6 @@
 use Rattle.std.proofs.Common.{refl, arith}
 use Rattle.std.proofs.lemmas.List.{drop_all}
-use Rattle.screenplay.proofs.RunLemmas.{left_next}
+use Rattle.rtui_geometry.proofs.Lists.{element-next}
 use Rattle.script_words.proofs.ResultLemmas.{ok-unless-err}
 use Rattle.screenplay.proofs.ActLemmas.{HasPlayed-none, HasPlayed-step, HasPlayed-show, PrintsActs-all, EndsEarly-next}
 use Rattle.screenplay.proofs.engine.play_acts.Goals as goal
@@ -17,7 +17,7 @@ pub loop-act-preserved : goal.loop-act-preserved
 loop-act-preserved c =
     let before = c.loop-act.invariant in
     let acts = c.args.acts.now in
-    let left = left_next acts c.loop-act.act-index c.act-item.result c.loop-act-test.true c.act-item.is in
+    let left = element-next acts c.loop-act.act-index c.act-item.result c.loop-act-test.true c.act-item.is in
     let played = rw left at before.played in
     elim c.match-act.branch [
       | in-Play+in_default-play_plan w ↦ record {
@@ -45,7 +45,7 @@ pub returns-in-Err-clause-fault : goal.returns-in-Err-clause-fault
 returns-in-Err-clause-fault c =
     let before = c.loop-act.invariant in
     let acts = c.args.acts.now in
-    let left = left_next acts c.loop-act.act-index c.act-item.result c.loop-act-test.true c.act-item.is in
+    let left = element-next acts c.loop-act.act-index c.act-item.result c.loop-act-test.true c.act-item.is in
     rw c.step_fault-in-Err.ensures
     (EndsEarly-next c.args.stage acts _ _ _ _ _ (rw c.in-Play.is at (rw left at before.played)) c.in-Err.cause
     (c.in-Err.ensures.err c.args.stage refl before.played.ran.playing))

@@ -1,7 +1,8 @@
 use Rattle.std.proofs.Common.{refl, sym, arith, length-append, [], ◌∷◌}
 use Rattle.std.proofs.lemmas.List.{drop_all}
 use Rattle.screenplay.specs.declared.scene.PlayCause.TheVariants.{Memory}
-use Rattle.screenplay.proofs.RunLemmas.{HasRun-start, HasRun-push, IsRun-played, IsPlay-refused, left_next}
+use Rattle.screenplay.proofs.RunLemmas.{HasRun-start, HasRun-push, IsRun-played, IsPlay-refused}
+use Rattle.rtui_geometry.proofs.Lists.{element-next}
 use Rattle.script_words.proofs.ResultLemmas.{ok-unless-err, err-unless-ok}
 use Rattle.screenplay.proofs.playing.play.Goals as goal
 
@@ -16,7 +17,7 @@ loop-index-init c =
 pub loop-index-preserved : goal.loop-index-preserved
 loop-index-preserved c =
     let before = c.loop-index.invariant in
-    let left = left_next c.args.steps.now c.loop-index.index c.index-steps-index.result c.loop-index-test.true
+    let left = element-next c.args.steps.now c.loop-index.index c.index-steps-index.result c.loop-index-test.true
     c.index-steps-index.is in
     let added = c.in-Ok-add_scene-2.ensures.ok in
     rw added.1 (record {
@@ -34,7 +35,7 @@ returns-clause-ok c =
 pub returns-in-Err-clause-fault : goal.returns-in-Err-clause-fault
 returns-in-Err-clause-fault c =
     let before = c.loop-index.invariant in
-    let left = left_next c.args.steps.now c.loop-index.index c.index-steps-index.result c.loop-index-test.true
+    let left = element-next c.args.steps.now c.loop-index.index c.index-steps-index.result c.loop-index-test.true
     c.index-steps-index.is in
     let why = c.in-Err.ensures.err c.args.stage refl before.ran.playing in
     rw c.fault-in-Err.ensures (
@@ -46,7 +47,7 @@ returns-in-Err-clause-fault c =
 pub returns-in_default-add_scene-2-clause-fault : goal.returns-in_default-add_scene-2-clause-fault
 returns-in_default-add_scene-2-clause-fault c =
     let before = c.loop-index.invariant in
-    let left = left_next c.args.steps.now c.loop-index.index c.index-steps-index.result c.loop-index-test.true
+    let left = element-next c.args.steps.now c.loop-index.index c.index-steps-index.result c.loop-index-test.true
     c.index-steps-index.is in
     let refused = err-unless-ok c.add_scene-in-loop-index.result _ c.in_default-add_scene-2.not-Ok
     c.add_scene-in-loop-index.ensures.err in

@@ -1,7 +1,7 @@
 use Rattle.std.proofs.Common.{◌≡◌, ◌∙◌, ap, arith}
 use Rattle.ratatui_core.proofs.{BufferLemmas.within-wider, WidgetLemmas.within-then}
 use Rattle.rtui_bars.specs.{BarAreas.area_behind, BarCharts.bar_step}
-use Rattle.rtui_boxes.proofs.ElementLemmas.{element-next}
+use Rattle.ratatui_core.proofs.WidgetLemmas.{element-next}
 use Rattle.rtui_bars.proofs.ChartLemmas.{behind-room, behind-in, behind-along, bar-in, bar-box}
 use Rattle.rtui_bars.proofs.chart.BarChart.render_bars.Goals as goal
 

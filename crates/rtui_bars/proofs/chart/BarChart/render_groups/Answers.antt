@@ -1,7 +1,7 @@
 use Rattle.std.proofs.Common.{◌≡◌, ◌∙◌, ap, arith}
 use Rattle.ratatui_core.proofs.{BufferLemmas.within-wider, WidgetLemmas.within-then}
 use Rattle.rtui_bars.specs.{BarAreas.area_behind, BarCharts.shown_bars, BarCharts.after_bars}
-use Rattle.rtui_boxes.proofs.ElementLemmas.{element-next}
+use Rattle.ratatui_core.proofs.WidgetLemmas.{element-next}
 use Rattle.rtui_bars.proofs.ChartLemmas.{behind-room, behind-in, after-room, after-in}
 use Rattle.rtui_bars.proofs.chart.BarChart.render_groups.Goals as goal
 

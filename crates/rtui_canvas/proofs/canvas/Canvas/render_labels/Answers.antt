@@ -1,5 +1,5 @@
 use Rattle.ratatui_core.proofs.{WidgetLemmas.within-then}
-use Rattle.rtui_boxes.proofs.ElementLemmas.{element-next}
+use Rattle.ratatui_core.proofs.WidgetLemmas.{element-next}
 use Rattle.rtui_canvas.proofs.canvas.Canvas.render_labels.Goals as goal
 
 pub loop-label-preserved : goal.loop-label-preserved

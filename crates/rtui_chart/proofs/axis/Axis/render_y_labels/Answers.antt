@@ -1,6 +1,6 @@
 use Rattle.std.proofs.Common.{arith}
 use Rattle.ratatui_core.proofs.{WidgetLemmas.within-then}
-use Rattle.rtui_boxes.proofs.ElementLemmas.{element-next}
+use Rattle.ratatui_core.proofs.WidgetLemmas.{element-next}
 use Rattle.rtui_chart.proofs.axis.Axis.render_y_labels.Goals as goal
 
 pub loop-i-preserved : goal.loop-i-preserved

@@ -1,11 +1,13 @@
 use Rattle.std.proofs.Common.{rules, ◌≡◌, ◌<◌, ◌+◌, ◌∙◌, ◌∷◌, None, length, drop, slice_index_or, arith, ap, sym, subst}
 use Rattle.std.proofs.Common.{false, true}
-use Rattle.ratatui_core.specs.{Buffer.IsReadyFrom, Buffer.HaveShortGraphemes, Text.LineData}
+use Rattle.ratatui_core.specs.{Buffer.IsReadyFrom, Text.LineData}
 use Rattle.ratatui_core.proofs.WidgetLemmas.{within-then}
 use Rattle.rtui_boxes.proofs.BoxLemmas.{inside-within}
 use Rattle.rtui_paragraph.specs.Paragraphs.{cut_line, rows_of_lines}
 use Rattle.rtui_paragraph.proofs.RowsLemmas.{cut-next, cut-line-next}
 use Rattle.rtui_paragraph.proofs.paragraph.Paragraph.render_truncated.Goals as goal
+use Rattle.ratatui_core.specs.Text.{EachSpanGrapheme}
+use Rattle.ratatui_core.specs.Buffer.{IsShort}
 
 pub render_cut-requires-clause-inside : goal.render_cut-requires-clause-inside
 render_cut-requires-clause-inside c =
@@ -36,5 +38,5 @@ returns-in_err-render_cut-clause-short c = λ all.
     let lt : k < length c.args.self.now.text.lines = search rules in
     let at : c.in-Some.line.now ≡ slice_index_or c.args.self.now.text.lines k c.in-Some.line.now = search rules in
     let no : false ≡ true = c.in_err-render_cut.ensures.short
-    (subst (λ (l : LineData). HaveShortGraphemes l.spans) (sym at) (all k c.in-Some.line.now lt)) in
+    (subst (λ (l : LineData). EachSpanGrapheme IsShort l.spans) (sym at) (all k c.in-Some.line.now lt)) in
     absurd (cc)

@@ -1,7 +1,9 @@
 use Rattle.std.proofs.Common.{sym, ap, subst, arith}
+use Rattle.ratatui_core.specs.Buffer.{IsShort}
 use Rattle.ratatui_core.proofs.BufferLemmas.{within-wider}
-use Rattle.rtui_boxes.proofs.{FrameLemmas.any-err, BoxLemmas.box-area}
-use Rattle.rtui_scrollbar.specs.{declared.scrollbar.Marks.Marks, Scrollbars.HasShortMarks}
+use Rattle.ratatui_core.proofs.WidgetLemmas.{holds_anyway}
+use Rattle.rtui_boxes.proofs.BoxLemmas.{box-area}
+use Rattle.rtui_scrollbar.specs.{declared.scrollbar.Marks.Marks, Scrollbars.EachSymbol}
 use Rattle.rtui_scrollbar.proofs.ScrollbarLemmas.{bar-stands, bar-renders}
 use Rattle.rtui_scrollbar.proofs.scrollbar.RefScrollbarStatefulWidget.render.Goals as goal
 
@@ -18,9 +20,9 @@ returns-clause-ok c =
 
 pub returns-clause-err : goal.returns-clause-err
 returns-clause-err c =
-    any-err c.paint.result
+    holds_anyway c.paint.result
     (within-wider c.in-Some.part c.args.area c.args.buf.now c.paint.new.buf c.in-Some.ensures.of_area c.paint.ensures.within)
 
 pub returns-clause-short : goal.returns-clause-short
 returns-clause-short c = λ short. c.paint.ensures.short
-    (subst HasShortMarks (sym (ap (λ (m : Marks). m.bar) c.marks-marks.ensures)) short)
+    (subst (EachSymbol IsShort) (sym (ap (λ (m : Marks). m.bar) c.marks-marks.ensures)) short)

@@ -5,7 +5,7 @@ use Rattle.rtui_viewport.proofs.ClearLemmas.{blank_over, frame_restored, clears_
 use Rattle.rtui_terminal.specs.Clearing.{EmptiesViewport}
 use Rattle.rtui_terminal.proofs.StepLemmas.{blank_in_step, on_same, has_place, cursor_kept}
 use Rattle.rtui_terminal.proofs.{KeepLemmas.above_cleared, KeepLemmas.outside_cleared, KeepLemmas.rest_of, MapErrLemmas.passed_ok}
-use Rattle.rtui_insert.proofs.PushLemmas.{holds_anyway}
+use Rattle.rtui_backend.proofs.FailureLemmas.{holds_anyway}
 use Rattle.rtui_terminal.proofs.terminal.Terminal.clear.Goals as goal
 
 pub returns-clause-ok : goal.returns-clause-ok

@@ -1,8 +1,9 @@
 use Rattle.std.proofs.Common.{◌≡◌, Ok, ap, rules}
 use Rattle.rtui_backend.specs.Screen.{Screen}
-use Rattle.rtui_insert.proofs.PushLemmas.{still_blank, holds_anyway}
+use Rattle.rtui_insert.proofs.PushLemmas.{still_blank}
 use Rattle.rtui_terminal.proofs.InsertionLemmas.{inserted_covered, stopped_in_push, stopped_after_push, stopped_redrawing}
 use Rattle.rtui_terminal.proofs.MapErrLemmas.{passed_ok, passed_err, was_err}
+use Rattle.rtui_backend.proofs.FailureLemmas.{holds_anyway}
 use Rattle.rtui_terminal.proofs.terminal.Terminal.insert_covered.Goals as goal
 
 pub returns-clause-ok : goal.returns-clause-ok

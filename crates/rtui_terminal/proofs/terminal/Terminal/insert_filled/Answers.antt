@@ -1,7 +1,7 @@
 use Rattle.std.proofs.Common.{◌≡◌, ◌<◌, Ok, arith, rules}
 use Rattle.rtui_terminal.proofs.InsertionLemmas.{inserted_moved, stopped_moved, stopped_lowering}
 use Rattle.rtui_terminal.proofs.MapErrLemmas.{passed_ok, passed_err, was_err}
-use Rattle.rtui_insert.proofs.PushLemmas.{holds_anyway}
+use Rattle.rtui_backend.proofs.FailureLemmas.{holds_anyway}
 use Rattle.rtui_terminal.proofs.terminal.Terminal.insert_filled.Goals as goal
 
 pub returns-clause-ok : goal.returns-clause-ok

@@ -1,5 +1,5 @@
 use Rattle.rtui_table.proofs.NarrowTableLemmas.{table-keeps}
-use Rattle.rtui_table.proofs.laws.tables_of_narrow_texts_keep_cells_plain.Goals as goal
+use Rattle.rtui_table.proofs.laws.tables_keep_cells_plain.Goals as goal
 
 pub returns : goal.returns
 returns c = table-keeps

@@ -1,5 +1,5 @@
 use Rattle.rtui_widgets.proofs.NarrowTextLemmas.{span-stays, line-stays, text-stays}
-use Rattle.rtui_widgets.proofs.laws.narrow_texts_keep_cells_plain.Goals as goal
+use Rattle.rtui_widgets.proofs.laws.texts_keep_cells_plain.Goals as goal
 
 pub returns-clause-span : goal.returns-clause-span
 returns-clause-span c = λ span area old new narrow plain is. span-stays area old new plain span narrow is
