@@ -22,7 +22,7 @@ abbrev pub RendersIfBox : Option Block → Rect → BufferData → BufferData �
 RendersIfBox None r old new = new ≡ old
 RendersIfBox (Some b) r old new = RendersBlock b r old new
 
--- a frame over a part: a style, and a box on it, if there is one
+-- a style over a part, and a box on it, if there is one
 pub record IsFramed (style : Style) (block : Option Block) (part : Rect) (old new : BufferData) : Type 0 where
   pub laid : BufferData
   pub styled : IsStyled part style old laid
@@ -38,12 +38,12 @@ pub record IsInner (block : Option Block) (part r : Rect) : Type 0 where
   pub some : IsBoxArea r
   pub inside : IsInside r part
 
--- a frame over the part of an area that a buffer has, in which nothing is left to fill
+-- a style and a box over the part of an area that a buffer has, without cells inside
 abbrev pub FramesAlone : Style → Option Block → Rect → BufferData → BufferData → Type 0
 FramesAlone style block =
     OnPart (λ part old new. IsFramed style block part old new × IsBare (inner_if block part))
 
--- a frame over the part of an area that a buffer has, and what is inside
+-- a style and a box over the part of an area that a buffer has, with cells inside
 pub record FramesInside (style : Style) (block : Option Block) (area : Rect) (old new : BufferData)
     (inner : Rect) : Type 0 where
   pub part : Rect
@@ -52,8 +52,8 @@ pub record FramesInside (style : Style) (block : Option Block) (area : Rect) (ol
   pub within : ChangesWithin part old new
   pub inside : IsInner block part inner
 
--- A frame over a part, and what f does inside, if there are cells; f leads from one state to the next, and
--- without cells the state stays.
+-- A style and a box over a part, and what f does inside, if there are cells. It leads from one state to the
+-- next; without cells the state stays.
 pub record InFrame {S : Type 0} (style : Style) (block : Option Block)
     (f : S → S → Rect → BufferData → BufferData → Type 0) (s t : S) (part : Rect)
     (old new : BufferData) : Type 0 where
@@ -63,8 +63,8 @@ pub record InFrame {S : Type 0} (style : Style) (block : Option Block)
   pub inside : 0 < (inner_if block part).width → 0 < (inner_if block part).height
       → f s t (inner_if block part) framed new
 
--- A widget with a state, in a style and a box, over the part of an area that a buffer has; nothing outside
--- the area changes.
+-- A widget with a state, in a style and a box, over the part of an area that a buffer has. Nothing outside
+-- the area changes, and without a part the state stays.
 pub record RendersStateInFrame {S : Type 0} (style : Style) (block : Option Block)
     (f : S → S → Rect → BufferData → BufferData → Type 0) (s t : S) (area : Rect)
     (old new : BufferData) : Type 0 where
