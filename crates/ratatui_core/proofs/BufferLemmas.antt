@@ -13,8 +13,8 @@ pub use Rattle.rtui_buffer.proofs.BarLemmas.{ShowsPieces-bar}
 pub use Rattle.rtui_cell.proofs.CellLemmas.{same_look, same_width, same-empty, look-empty, width-empty}
 -- A text of short graphemes is painted in short pieces; those of ASCII are short.
 pub use Rattle.rtui_buffer.proofs.ShortLemmas.{text-short, ascii-short}
--- What is painted within a row keeps a buffer settled, and so does a front; only the pieces' columns differ. A text ends there.
-pub use Rattle.rtui_buffer.proofs.PaintsLemmas.{IsSettledBuffer-painted, front-beside, front-settled}
+-- What is painted within a row keeps a buffer settled; by a front only the pieces' columns differ. A text ends there.
+pub use Rattle.rtui_buffer.proofs.PaintsLemmas.{IsSettledBuffer-painted, front-beside}
 pub use Rattle.rtui_buffer.proofs.ColumnLemmas.{text-ends}
 -- A text of one byte takes one column; those of a text of one character above U+00A0 are the character's.
 pub use Rattle.rtui_cell.proofs.WidthLemmas.{one_byte, char_alone}

@@ -1,5 +1,5 @@
 -- A chart of narrow texts and marks keeps cells plain.
-use Rattle.std.proofs.Common.{◌≡◌, ℕ, ◌+◌, ◌<◌, ◌≤◌, ◌==◌, Bool, true, false, if◌then◌else◌, List, [], ◌∷◌, IfSome}
+use Rattle.std.proofs.Common.{◌≡◌, ℕ, ◌+◌, ◌≤◌, ◌==◌, Bool, true, false, if◌then◌else◌, List, [], ◌∷◌, IfSome}
 use Rattle.std.proofs.Common.{All, Option, Some, None, length, sym, subst, arith, lit<, refl, nat_le}
 use Rattle.std.specs.{Char.encode_utf8, List.list_all}
 use Rattle.std.proofs.lemmas.{Bool.and_parts, Bool.Decides.nat_tests}

@@ -62,10 +62,14 @@ title_columns None over g = 0
 title_columns (Some line) over g =
     if nat_lt (title_width line + over) g.width && nat_lt 2 g.height then title_width line else 0
 
+-- the row of a title over the dots: at the right of their last row, or at the left of their first
 abbrev pub x_title_area : Option LineData → Rect → Rect
 x_title_area title g =
     let n = title_columns title 0 g in
     record { x = g.x + (g.width - n); y = g.y + (g.height - 1); width = n; height = 1 }
+
+abbrev pub y_title_area : Option LineData → Rect → Rect
+y_title_area title g = record { x = g.x; y = g.y; width = title_columns title 1 g; height = 1 }
 
 -- the parts of a chart, each without columns or rows if it isn't shown: dots, labels, axes and titles
 abbrev pub chart_layout : Axis → Axis → Rect → ChartLayout
@@ -86,5 +90,5 @@ chart_layout x y r =
       y_axis = record { x = g.x - columns; y = g.y; width = columns; height = g.height };
       corner = record { x = g.x - columns; y = g.y + g.height; width = columns; height = rows };
       x_title = x_title_area x.title g;
-      y_title = record { x = g.x; y = g.y; width = title_columns y.title 1 g; height = 1 };
+      y_title = y_title_area y.title g;
     }

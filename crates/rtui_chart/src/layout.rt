@@ -5,7 +5,7 @@ ghost use Rattle.rtui_boxes.specs.Titles.{title_width};
 ghost use Rattle.rtui_boxes.specs.Boxes.{IsBoxArea};
 ghost use Rattle.rtui_chart.specs.ChartLayouts.{is_labelled, widest_line, first_width, left_of_axis};
 ghost use Rattle.rtui_chart.specs.ChartLayouts.{columns_beside, axis_columns, axis_rows, label_rows};
-ghost use Rattle.rtui_chart.specs.ChartLayouts.{x_title_area, title_columns, chart_layout};
+ghost use Rattle.rtui_chart.specs.ChartLayouts.{x_title_area, y_title_area, title_columns, chart_layout};
 ghost use Rattle.rtui_chart.specs.Inner.{AreParts};
 
 use crate::axis::Axis;
@@ -167,6 +167,31 @@ fn x_title_area(title: &Option<Line<'_>>, graph: Rect) -> Rect
     }
 }
 
+// The row of a title at the left of the dots, over their first row.
+fn y_title_area(title: &Option<Line<'_>>, graph: Rect) -> Rect
+    requires { IsBoxArea graph }
+    ensures { result ≡ y_title_area title.now graph }
+{
+    Rect {
+        width: title_columns(title, 1, graph),
+        height: 1,
+        ..graph
+    }
+}
+
+// What an area has at the left of the dots and their axis.
+fn left_of_graph(area: Rect, graph: Rect) -> Rect
+    requires { area.x ≤ graph.x }
+    ensures { let width = graph.x - area.x - 1 in
+        result ≡ record { x = area.x; y = graph.y; width = width; height = graph.height } }
+{
+    Rect {
+        x: area.x,
+        width: (graph.x - area.x).saturating_sub(1),
+        ..graph
+    }
+}
+
 // Where the parts of a chart stand.
 pub(crate) fn layout(x: &Axis<'_>, y: &Axis<'_>, area: Rect) -> ChartLayout
     requires { IsBoxArea area }
@@ -195,11 +220,7 @@ pub(crate) fn layout(x: &Axis<'_>, y: &Axis<'_>, area: Rect) -> ChartLayout
             height: labels,
             ..area
         },
-        y_labels: Rect {
-            x: area.x,
-            width: (graph.x - area.x).saturating_sub(1),
-            ..graph
-        },
+        y_labels: left_of_graph(area, graph),
         x_axis: below,
         y_axis: before,
         corner: Rect {
@@ -208,10 +229,6 @@ pub(crate) fn layout(x: &Axis<'_>, y: &Axis<'_>, area: Rect) -> ChartLayout
             ..below
         },
         x_title: x_title_area(&x.title, graph),
-        y_title: Rect {
-            width: title_columns(&y.title, 1, graph),
-            height: 1,
-            ..graph
-        },
+        y_title: y_title_area(&y.title, graph),
     }
 }
