@@ -14,7 +14,7 @@ use Rattle.rtui_boxes.proofs.InnerLemmas.{plain-inside}
 use Rattle.rtui_tabs.specs.declared.tabs.Tabs.{Tabs as TabsData}
 use Rattle.rtui_tabs.specs.Tabs.{TabPart, PlacedPart, placed_parts, after_parts, after_part, tab_parts, title_parts, tabs_from}
 use Rattle.rtui_tabs.specs.Tabs.{part_of_span, part_of_padding}
-use Rattle.rtui_tabs.specs.Tabs.{IsStyledIf, RendersParts, ShowsTabs, RendersTabs, IsNarrowTitle, HasNarrowTabs}
+use Rattle.rtui_tabs.specs.Tabs.{IsStyledIf, RendersParts, ShowsTabs, RendersTabs, IsNarrowTabLine, HasNarrowTabs}
 use Rattle.ratatui_core.specs.Text.{EachGrapheme, EachSpanGrapheme, TakesOneColumn}
 
 -- a blank is printable
@@ -91,11 +91,11 @@ parts-split style (p ∷ ps) qs old new is =
     }
 
 module _ (t : TabsData) (blank : EachGrapheme TakesOneColumn (codes " ")) (narrow : HasNarrowTabs t) where
-  padding-narrow : (o : Option LineData) → IfSome o IsNarrowTitle → IsNarrowPart (part_of_padding o)
+  padding-narrow : (o : Option LineData) → IfSome o IsNarrowTabLine → IsNarrowPart (part_of_padding o)
   padding-narrow None is = λ room le. text-narrow room _ (codes " ") le blank
   padding-narrow (Some line) is = λ room le. line-narrow room line.style line.spans le is
 
-  title-narrow : (k : ℕ) (line : LineData) → IsNarrowTitle line → AreNarrowParts (title_parts t k line)
+  title-narrow : (k : ℕ) (line : LineData) → IsNarrowTabLine line → AreNarrowParts (title_parts t k line)
   title-narrow k line is = (
     padding-narrow t.padding_left narrow.left,
     (
@@ -109,12 +109,12 @@ module _ (t : TabsData) (blank : EachGrapheme TakesOneColumn (codes " ")) (narro
   divider-narrow true ps is = is
   divider-narrow false ps is = ((λ room le. text-narrow room t.divider.style t.divider.content le narrow.divider), is)
 
-  tabs-plain : (r : Rect) (k : ℕ) (lines : List LineData) (old new : BufferData) → r.width ≤ 65535 → All IsNarrowTitle lines
+  tabs-plain : (r : Rect) (k : ℕ) (lines : List LineData) (old new : BufferData) → r.width ≤ 65535 → All IsNarrowTabLine lines
       → IsPlainFrom 0 old → RendersParts t.highlight_style (tabs_from t r k lines) old new → IsPlainFrom 0 new
   tabs-plain r k [] old new le all plain same = rw same plain
   tabs-plain r k (line ∷ lines) old new le all plain is = by-test (r.width == 0) is
       (λ s one shows. tabs-plain (after_parts r (tab_parts t k line)) (k + 1) lines s new (after-small r (tab_parts t k line) le)
-      (All-tail IsNarrowTitle line lines all) one shows)
+      (All-tail IsNarrowTabLine line lines all) one shows)
     where
       by-test : (stop : Bool) → RendersParts t.highlight_style
           (if stop then [] else placed_parts r (tab_parts t k line) ++ tabs_from t (after_parts r (tab_parts t k line))
@@ -126,7 +126,7 @@ module _ (t : TabsData) (blank : EachGrapheme TakesOneColumn (codes " ")) (narro
           let both = parts-split t.highlight_style (placed_parts r (tab_parts t k line))
           (tabs_from t (after_parts r (tab_parts t k line)) (k + 1) lines) old new shows in
           let here = divider-narrow (k == 0) (title_parts t k line)
-          (title-narrow k line (All-head IsNarrowTitle line lines all)) in
+          (title-narrow k line (All-head IsNarrowTabLine line lines all)) in
           keeps both.between (parts-plain t.highlight_style r (tab_parts t k line) old both.between le here plain both.first)
           both.second
 

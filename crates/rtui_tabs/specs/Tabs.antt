@@ -142,12 +142,12 @@ pub record IsShortTabs (t : TabsData) (area : Rect) (s : BufferData) : Type 0 wh
   pub shown : AreShortTabParts (placed_tabs t (inner_if t.block (intersected area s.area)))
 
 -- each grapheme of a line that is painted whole takes one column
-abbrev pub IsNarrowTitle : LineData → Type 0
-IsNarrowTitle line = EachSpanGrapheme TakesOneColumn line.spans
+abbrev pub IsNarrowTabLine : LineData → Type 0
+IsNarrowTabLine line = EachSpanGrapheme TakesOneColumn line.spans
 
 -- each grapheme that tabs show inside their box takes one column
 pub record HasNarrowTabs (t : TabsData) : Type 0 where
-  pub titles : All IsNarrowTitle t.titles.items
+  pub titles : All IsNarrowTabLine t.titles.items
   pub divider : EachGrapheme TakesOneColumn t.divider.content
-  pub left : IfSome t.padding_left IsNarrowTitle
-  pub right : IfSome t.padding_right IsNarrowTitle
+  pub left : IfSome t.padding_left IsNarrowTabLine
+  pub right : IfSome t.padding_right IsNarrowTabLine
