@@ -1,19 +1,19 @@
 -- Moves of the cursor, its visibility, and the screen emptied.
-use Rattle.std.proofs.Common.{◌≡◌, ◌⊎◌, inl, inr, ℕ, ◌+◌, ◌-◌, ◌<◌, ◌≤◌, ◌&&◌, ◌||◌, min, nat_lt, nat_le, if◌then◌else◌, Bool}
+use Rattle.std.proofs.Common.{◌≡◌, ◌⊎◌, inl, inr, ℕ, ◌+◌, ◌-◌, ◌<◌, ◌≤◌, ◌&&◌, ◌||◌, min, nat_lt, nat_le, nat_eq, if◌then◌else◌, Bool}
 use Rattle.std.proofs.Common.{true, false, List, [], ◌++◌, map, refl, sym, ap, ap₂, subst, ◌∙◌, arith}
 use Rattle.std.proofs.lemmas.Bool.Decides.{nat_tests}
 use Rattle.std.proofs.Math.Path.{fun_ext}
 use Rattle.std.specs.List.{range_with_len}
-use Rattle.ratatui_core.specs.Backend.{Motion, scrolling_up, clearing, Clears, with_cursor, with_visible, All, BeforeCursor}
+use Rattle.ratatui_core.specs.Backend.{Motion, scrolling_up, scrolling_down, clearing, Clears, with_cursor, with_visible, All, BeforeCursor}
 use Rattle.ratatui_core.specs.Backend.{is_cleared}
 use Rattle.ansi_model.specs.Columns.{Columns, look_in, is_met, blank_column, overwritten}
 use Rattle.ansi_model.specs.{Columns.Column.Unknown, Sgr.default_sgr, Emulator.Phase.Ground, Sends.Performs}
 use Rattle.ansi_model.specs.Emulator.{Emulator, rested, standing, printed, prints, returned, fed, run, blank_terminal}
-use Rattle.ansi_model.specs.Emulator.{cursor_moved, erased, columns_moved, without_region, with_sgr}
+use Rattle.ansi_model.specs.Emulator.{cursor_moved, erased, columns_moved, without_region, with_sgr, lines_inserted}
 use Rattle.ansi_model.specs.Emulator as terminal
-use Rattle.ansi_model.specs.Beginnings.{IsAsFound, anew, MakesBlank, SavesScreen, AreKnown, screen_rows}
-use Rattle.ansi_model.specs.Inner.{without_modes}
-use Rattle.ansi_model.specs.Beginnings.{scrolled_off}
+use Rattle.ansi_model.specs.Beginnings.{IsAsFound, anew, MakesBlank, SavesScreen, SavesHigher, SavesFirstRows, AreKnown}
+use Rattle.ansi_model.specs.Inner.{without_modes, scrolled_off_by}
+use Rattle.ansi_model.specs.Beginnings.{scrolled_off, screen_rows}
 use Rattle.ansi_model.specs.{Columns.Column.Shows, Sgr.inked, Modes.no_modes, Symbols.is_plain_char, Symbols.printed_columns}
 use Rattle.ansi_model.specs.{Sends.Sends, Sends.typed}
 use lib.Utf8.{encode}
@@ -276,35 +276,103 @@ gone h c a b off =
       | false ↦ λ below. rw low (off (grind (arith, nat_tests)))
     ] refl
 
-screen-saved : (w h : ℕ) (s : Emulator) → 0 < w → 0 < h → IsAsFound w h s → s.sure ≡ true → AreKnown s.columns
-    → fed h (returned (cursor_moved 0 (h - 1) (own s))) ≡ scrolled_off w h (s.history ++ screen_rows s) s
-screen-saved w h s wide high left sure known =
+-- where nothing stands, nothing stands after a motion
+blank-moved : (m : Motion) (c : Columns) → ((a b : ℕ) → c a b ≡ blank_column) → (a b : ℕ)
+    → columns_moved m c a b ≡ blank_column
+blank-moved m c blank a b =
+    elim (m.part a b) as (λ p. (if p then (if m.has_source b then c a (m.source b) else blank_column) else c a b) ≡ blank_column) [
+      | true ↦ elim (m.has_source b) as (λ q. (if q then c a (m.source b) else blank_column) ≡ blank_column) [
+        | true ↦ blank a (m.source b)
+        | false ↦ refl
+      ]
+      | false ↦ blank a b
+    ]
+
+screen-saved : (w h : ℕ) (s : Emulator) → 0 < w → 0 < h → h ≤ 65535 → IsAsFound w h s → s.sure ≡ true → AreKnown s.columns
+    → scrolled_off_by h (own s) ≡ scrolled_off w h (s.history ++ screen_rows s) s
+screen-saved w h s wide high most left sure known =
     let width : s.width ≡ w = left.width in
     let height : s.height ≡ h = left.height in
-    let v : Emulator = returned (cursor_moved 0 (h - 1) (own s)) in
-    let row : min (h - 1) (s.height - 1) ≡ h - 1 = omega arith in
+    let v : Emulator = returned (cursor_moved 0 65534 (own s)) in
     let feeds : Feeds s.height h v (fed h v) = fed-feeds h v refl (λ some. omega arith) in
     let columns : (a b : ℕ) → (fed h v).columns a b ≡ blank_column = λ a b.
     feeds.columns a b ∙ ap (λ end. columns_moved (scrolling_up 0 end h) s.columns a b) height
     ∙ gone h s.columns a b (λ below. left.off a b (inr below)) in
     let rows : map (region_row s.height v) (range_with_len 0 h) ≡ screen_rows s
     = ap (λ n. map (region_row s.height v) (range_with_len 0 n)) (sym height) ∙ region-rows s.height v 0 s.height (omega arith) in
-    feeds.rest
-    ∙ same-fields (record v { columns = (fed h v).columns; history = (fed h v).history; sure = (fed h v).sure })
-    (scrolled_off w h (s.history ++ screen_rows s) s) width height left.phase left.text refl refl row refl height
-    (fun_ext (λ a. fun_ext (λ b. columns a b))) (feeds.history ∙ ap (λ xs. s.history ++ xs) rows) refl refl
-    (feeds.sure sure refl (omega arith) known)
+    let n = min (h + 1) 65535 in
+    let u : Emulator = record v { columns = (fed h v).columns; history = (fed h v).history; sure = (fed h v).sure } in
+    let z : Emulator = lines_inserted n (cursor_moved 0 0 u) in
+    let side : min 0 (s.width - 1) ≡ 0 = omega arith in
+    let top : min 0 (s.height - 1) ≡ 0 = omega arith in
+    let inside : nat_lt (min 0 (s.height - 1)) s.height ≡ true = grind (arith, nat_tests) in
+    let corner : nat_le 0 (min 0 (s.height - 1)) ≡ true = grind (arith, nat_tests) in
+    let first : nat_eq (min 0 (s.width - 1)) 0 ≡ true = grind (arith, nat_tests) in
+    let still : z.sure ≡ true = rw (feeds.sure sure refl (omega arith) known, corner, inside, first) refl in
+    let all : (a b : ℕ) → z.columns a b ≡ blank_column
+    = blank-moved (scrolling_down (min 0 (s.height - 1)) s.height n) (fed h v).columns columns in
+    ap (λ (x : Emulator). lines_inserted n (cursor_moved 0 0 x)) feeds.rest
+    ∙ same-fields z (scrolled_off w h (s.history ++ screen_rows s) s) width height left.phase left.text refl side top refl height
+    (fun_ext (λ a. fun_ext (λ b. all a b))) (feeds.history ∙ ap (λ xs. s.history ++ xs) rows) refl refl still
 
-pub saves-screen : (w h : ℕ) (old new : List ℕ) → 0 < w → 0 < h
-    → Performs old new (λ t. fed h (returned (cursor_moved 0 (h - 1) (own t)))) → SavesScreen w h old new
-saves-screen w h old new wide high does = record {
+pub saves-screen : (w h : ℕ) (old new : List ℕ) → 0 < w → 0 < h → h ≤ 65535
+    → Performs old new (λ t. scrolled_off_by h (own t)) → SavesScreen w h old new
+saves-screen w h old new wide high most does = record {
   bytes = does.bytes;
   appended = does.appended;
   read = λ t found.
       let again : IsAsFound w h (anew t) = left-anew w h t found.0 in
-      does.read (anew t) again.phase ∙ ap (λ u. fed h (returned (cursor_moved 0 (h - 1) (own u))))
-      (rested-left w h (anew t) again)
-      ∙ screen-saved w h (anew t) wide high again refl found.1;
+      does.read (anew t) again.phase ∙ ap (λ u. scrolled_off_by h (own u)) (rested-left w h (anew t) again)
+      ∙ screen-saved w h (anew t) wide high most again refl found.1;
+}
+
+-- a higher terminal, of which the first rows were saved
+higher-saved : (w h : ℕ) (t : Emulator) → 0 < w → h < t.height → t.height ≤ 65535
+    → SavesFirstRows h t (scrolled_off_by h (own (anew t)))
+higher-saved w h t wide more most =
+    let high = t.height in
+    let v : Emulator = returned (cursor_moved 0 65534 (own (anew t))) in
+    let n = min (h + 1) 65535 in
+    let feeds : Feeds high h v (fed h v) = fed-feeds h v refl (λ some. omega arith) in
+    let c : Columns = (fed h v).columns in
+    let z : Emulator = lines_inserted n (cursor_moved 0 0 (record v {
+      columns = c;
+      history = (fed h v).history;
+      sure = (fed h v).sure;
+    })) in
+    let is : scrolled_off_by h (own (anew t)) ≡ z = ap (λ (x : Emulator). lines_inserted n (cursor_moved 0 0 x)) feeds.rest in
+    let top : min 0 (high - 1) ≡ 0 = omega arith in
+    subst (λ u. SavesFirstRows h t u) (sym is) (record {
+      history = feeds.history ∙ ap (λ xs. t.history ++ xs) (region-rows high v 0 h (omega arith));
+      blank = λ a b within.
+          let low : nat_le 0 b ≡ true = grind (arith, nat_tests) in
+          let inside : nat_lt b high ≡ true = grind (arith, nat_tests) in
+          let none : nat_le (0 + n) b ≡ false = grind (arith, nat_tests) in
+          ap (λ k. columns_moved (scrolling_down k high n) c a b) top ∙ rw (low, inside, none) refl;
+      below = λ a b from end.
+          let low : nat_le 0 (b + 1) ≡ true = grind (arith, nat_tests) in
+          let inside : nat_lt (b + 1) high ≡ true = grind (arith, nat_tests) in
+          let some : nat_le (0 + n) (b + 1) ≡ true = grind (arith, nat_tests) in
+          let source : b + 1 - n ≡ b - h = omega arith in
+          let low_there : nat_le 0 (b - h) ≡ true = grind (arith, nat_tests) in
+          let inside_there : nat_lt (b - h) high ≡ true = grind (arith, nat_tests) in
+          let some_there : nat_lt (b - h + h) high ≡ true = grind (arith, nat_tests) in
+          let back : b - h + h ≡ b = omega arith in
+          let there : c a (b - h) ≡ t.columns a b = feeds.columns a (b - h)
+          ∙ rw (low_there, inside_there, some_there, back) refl in
+          ap (λ k. columns_moved (scrolling_down k high n) c a (b + 1)) top ∙ rw (low, inside, some, source) there;
+    })
+
+pub saves-higher : (w h : ℕ) (old new : List ℕ) → 0 < w → Performs old new (λ t. scrolled_off_by h (own t))
+    → SavesHigher w h old new
+saves-higher w h old new wide does = record {
+  bytes = does.bytes;
+  appended = does.appended;
+  read = λ t found.
+      let again : IsAsFound w t.height (anew t) = left-anew w t.height t found.0 in
+      subst (λ u. SavesFirstRows h t u) (sym (does.read (anew t) again.phase
+      ∙ ap (λ u. scrolled_off_by h (own u)) (rested-left w t.height (anew t) again)))
+      (higher-saved w h t wide found.2 found.3);
 }
 
 -- a new terminal is one that was left so

@@ -1,5 +1,5 @@
 -- What a terminal makes of bytes depends neither on the rows that its history has, nor on whether a synchronized update is held.
-use Rattle.std.proofs.Common.{◌≡◌, ℕ, ◌+◌, ◌-◌, ◌*◌, ◌==◌, not, nat_eq, nat_lt, nat_le, Bool, true, false, if◌then◌else◌, List}
+use Rattle.std.proofs.Common.{◌≡◌, ℕ, ◌+◌, ◌-◌, ◌*◌, ◌==◌, ◌||◌, not, nat_eq, nat_lt, nat_le, Bool, true, false, if◌then◌else◌, List}
 use Rattle.std.proofs.Common.{[], ◌∷◌, ◌++◌, chars, refl, sym, ap, ◌∙◌, append_assoc}
 use Rattle.std.specs.List.{list_all}
 use Rattle.ratatui_core.specs.Buffer.{Look, text_width}
@@ -8,7 +8,7 @@ use Rattle.ansi_model.specs.Emulator.{with_modes, holding, rested, unsure, if_so
 use Rattle.ansi_model.specs.Emulator.{cursor_shown}
 use Rattle.ansi_model.specs.{Symbols.is_plain_char, Symbols.is_symbol, Symbols.is_disputed, Modes.has_none}
 use Rattle.ansi_model.specs.{Beginnings.with_rows_above}
-use Rattle.ansi_model.specs.Emulator.Phase.{Ground, Escape, Opened, Sequence, Spaced, Letters, Coding, Told, Switching}
+use Rattle.ansi_model.specs.Emulator.Phase.{Ground, Escape, Opened, Sequence, Spaced, Letters, OtherLetters, Coding, Told, Switching}
 use Rattle.ansi_model.specs.Sequences.{feed, reads_in, reads_sequence, reads_spaced, is_text, is_digit, performs, performs_marked}
 use Rattle.ansi_model.specs.Sequences.{performs_mode, performs_DSR, is_quiet, sets_mode, performs_ED, performs_EL, performs_CUP}
 use Rattle.ansi_model.specs.Sequences.{performs_DECSTBM, performs_DL, performs_IL}
@@ -129,10 +129,15 @@ module _ (rows : List (List Look)) (held : Bool) where
   escape-beside b t =
       either (b == 91) _ _ _ _ refl
       (either (b == 93) _ _ _ _ refl
-      (either (b == 92) _ _ _ _ refl (either (b == 40) _ _ _ _ refl (either (b == 37) _ _ _ _ refl refl))))
+      (either (b == 92) _ _ _ _ refl (either (b == 40) _ _ _ _ refl
+      (either ((b == 41) || (b == 42)) _ _ _ _ refl (either (b == 125) _ _ _ _ refl (either (b == 37) _ _ _ _ refl refl))))))
 
   letters-beside : (b : ℕ) (t : Emulator) → reads_in Letters b (beside rows held t) ≡ beside rows held (reads_in Letters b t)
   letters-beside b t = either (b == 66) _ _ _ _ refl (either (b == 48) _ _ _ _ refl refl)
+
+  other_letters-beside : (b : ℕ) (t : Emulator)
+      → reads_in OtherLetters b (beside rows held t) ≡ beside rows held (reads_in OtherLetters b t)
+  other_letters-beside b t = either (b == 66) _ _ _ _ refl refl
 
   coding-beside : (b : ℕ) (t : Emulator) → reads_in Coding b (beside rows held t) ≡ beside rows held (reads_in Coding b t)
   coding-beside b t = either (b == 71) _ _ _ _ refl (either (b == 64) _ _ _ _ refl refl)
@@ -197,6 +202,7 @@ module _ (rows : List (List Look)) (held same : Bool) where
   reads-beside Ground b t kept = goes-on (reads_in Ground b) (λ r h u. ground-beside r h b u) t kept
   reads-beside Escape b t kept = goes-on (reads_in Escape b) (λ r h u. escape-beside r h b u) t kept
   reads-beside Letters b t kept = goes-on (reads_in Letters b) (λ r h u. letters-beside r h b u) t kept
+  reads-beside OtherLetters b t kept = goes-on (reads_in OtherLetters b) (λ r h u. other_letters-beside r h b u) t kept
   reads-beside Coding b t kept = goes-on (reads_in Coding b) (λ r h u. coding-beside r h b u) t kept
   reads-beside Told b t kept = goes-on (reads_in Told b) (λ r h u. told-beside r h b u) t kept
   reads-beside (Switching on) b t kept = goes-on (λ u. u) (λ r h u. refl) t kept

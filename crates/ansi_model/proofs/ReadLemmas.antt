@@ -273,35 +273,49 @@ reset-read t ground =
     let s : Emulator = rested t in
     begun (48 ∷ 109 ∷ []) t ground ∙ ap (λ sure. record (with_sgr default_sgr s) { sure = sure }) (and-true s.sure)
 
-last_row-read : (t : Emulator) → t.phase ≡ Ground
-    → feed (27 ∷ 91 ∷ 54 ∷ 53 ∷ 53 ∷ 51 ∷ 53 ∷ 59 ∷ 49 ∷ 72 ∷ []) t ≡ cursor_moved 0 65534 (rested t)
-unfolding feed
-last_row-read t ground = begun (54 ∷ 53 ∷ 53 ∷ 51 ∷ 53 ∷ 59 ∷ 49 ∷ 72 ∷ []) t ground
+-- to the first column of a row, counted from 1
+abbrev pub row_start : ℕ → List ℕ
+row_start h = 27 ∷ 91 ∷ (decimal h ++ (59 ∷ 49 ∷ 72 ∷ []))
 
-abbrev pub leaving_bytes : List ℕ
-leaving_bytes =
-    27 ∷ 91 ∷ 48 ∷ 109 ∷ 27 ∷ 91 ∷ 114 ∷ 27 ∷ 91 ∷ 63 ∷ 50 ∷ 53 ∷ 104 ∷ 27 ∷ 91 ∷ 54 ∷ 53 ∷ 53 ∷ 51 ∷ 53 ∷ 59 ∷ 49 ∷ 72 ∷ 13 ∷ 10
-    ∷ []
+row_start-read : (h : ℕ) → h < 2 ^ 16 → (t : Emulator) → t.phase ≡ Ground
+    → feed (row_start h) t ≡ cursor_moved 0 (h - 1) (rested t)
+row_start-read h fits t ground =
+    ap (λ ds. feed (27 ∷ 91 ∷ (decimal h ++ (59 ∷ (ds ++ 72 ∷ [])))) t) (sym (decimal_digit 1 (omega arith)))
+    ∙ with_two h 1 72 (omega arith) (omega arith) t ground
 
-pub leaving-read : (t : Emulator) → t.phase ≡ Ground → feed leaving_bytes t ≡ left_below (rested t)
-leaving-read t ground =
-    let reset = 27 ∷ 91 ∷ 48 ∷ 109 ∷ [] in
-    let region = 27 ∷ 91 ∷ 114 ∷ [] in
-    let cursor = 27 ∷ 91 ∷ 63 ∷ 50 ∷ 53 ∷ 104 ∷ [] in
-    let move = 27 ∷ 91 ∷ 54 ∷ 53 ∷ 53 ∷ 51 ∷ 53 ∷ 59 ∷ 49 ∷ 72 ∷ [] in
+abbrev pub leaving_bytes : ℕ → List ℕ
+leaving_bytes h =
+    (27 ∷ 91 ∷ 48 ∷ 109 ∷ 27 ∷ 91 ∷ 114 ∷ 27 ∷ 91 ∷ 63 ∷ 50 ∷ 53 ∷ 104 ∷ 27 ∷ 91 ∷ [])
+    ++ (decimal h ++ (59 ∷ 49 ∷ 72 ∷ 13 ∷ 10 ∷ []))
+
+pub leaving-read : (h : ℕ) → h < 2 ^ 16 → (t : Emulator) → t.phase ≡ Ground
+    → feed (leaving_bytes h) t ≡ left_below h (rested t)
+leaving-read h fits t ground =
+    let reset : List ℕ = 27 ∷ 91 ∷ 48 ∷ 109 ∷ [] in
+    let region : List ℕ = 27 ∷ 91 ∷ 114 ∷ [] in
+    let cursor : List ℕ = 27 ∷ 91 ∷ 63 ∷ 50 ∷ 53 ∷ 104 ∷ [] in
+    let move = row_start h in
     let ends : List ℕ = 13 ∷ 10 ∷ [] in
     let t1 : Emulator = with_sgr default_sgr (rested t) in
     let t2 : Emulator = without_region t1 in
     let t3 : Emulator = cursor_shown true t2 in
-    let t4 : Emulator = cursor_moved 0 65534 t3 in
+    let t4 : Emulator = cursor_moved 0 (h - 1) t3 in
+    ap (λ last. feed (reset ++ (region ++ (cursor ++ (27 ∷ 91 ∷ last)))) t)
+    (sym (append_assoc (decimal h) (59 ∷ 49 ∷ 72 ∷ []) ends)) ∙
     let t5 : Emulator = returned t4 in
     feed-append reset (region ++ (cursor ++ (move ++ ends))) t ∙ ap (feed (region ++ (cursor ++ (move ++ ends))))
     (reset-read t ground)
     ∙ feed-append region (cursor ++ (move ++ ends)) t1 ∙ ap (feed (cursor ++ (move ++ ends))) (no_region-read t1 refl)
     ∙ feed-append cursor (move ++ ends) t2 ∙ ap (feed (move ++ ends)) (showing-read t2 refl)
-    ∙ feed-append move ends t3 ∙ ap (feed ends) (last_row-read t3 refl)
+    ∙ feed-append move ends t3 ∙ ap (feed ends) (row_start-read h fits t3 refl)
     ∙ feed-append (13 ∷ []) (10 ∷ []) t4 ∙ ap (feed (10 ∷ [])) (return-read t4 refl)
     ∙ feed-read t5 refl
+
+-- to the first column of a terminal's last row
+pub last_row-read : (t : Emulator) → t.phase ≡ Ground
+    → feed (27 ∷ 91 ∷ 54 ∷ 53 ∷ 53 ∷ 51 ∷ 53 ∷ 59 ∷ 49 ∷ 72 ∷ []) t ≡ cursor_moved 0 65534 (rested t)
+unfolding feed
+last_row-read t ground = begun (54 ∷ 53 ∷ 53 ∷ 51 ∷ 53 ∷ 59 ∷ 49 ∷ 72 ∷ []) t ground
 
 -- ---- what settles a terminal's modes
 
@@ -318,6 +332,12 @@ letters-read : (t : Emulator) → t.phase ≡ Ground
     → feed (27 ∷ 40 ∷ 66 ∷ []) t ≡ with_modes (record (rested t).modes { lettered = false }) (rested t)
 unfolding feed
 letters-read t ground = ap (λ p. feed (40 ∷ 66 ∷ []) (reads_in p 27 t)) ground
+
+-- G2 is ASCII, and so is what bytes above ASCII are printed by; G1 is, too
+other_letters-read : (t : Emulator) → t.phase ≡ Ground
+    → feed (27 ∷ 42 ∷ 66 ∷ 27 ∷ 125 ∷ 27 ∷ 41 ∷ 66 ∷ []) t ≡ rested t
+unfolding feed
+other_letters-read t ground = ap (λ p. feed (42 ∷ 66 ∷ 27 ∷ 125 ∷ 27 ∷ 41 ∷ 66 ∷ []) (reads_in p 27 t)) ground
 
 coding-read : (t : Emulator) → t.phase ≡ Ground
     → feed (27 ∷ 37 ∷ 71 ∷ []) t ≡ with_modes (record (rested t).modes { coded = false }) (rested t)
@@ -360,13 +380,14 @@ update_end-read t ground = begun (63 ∷ 50 ∷ 48 ∷ 50 ∷ 54 ∷ 108 ∷ [])
 
 abbrev pub settling_bytes : List ℕ
 settling_bytes =
-    27 ∷ 92 ∷ 15 ∷ 27 ∷ 40 ∷ 66 ∷ 27 ∷ 37 ∷ 71 ∷ 27 ∷ 91 ∷ 52 ∷ 108 ∷ 27 ∷ 91 ∷ 63 ∷ 54 ∷ 108 ∷ 27 ∷ 91 ∷ 63 ∷ 54 ∷ 57 ∷ 108
-    ∷ 27 ∷ 91 ∷ 63 ∷ 55 ∷ 104 ∷ 27 ∷ 91 ∷ 63 ∷ 50 ∷ 48 ∷ 50 ∷ 54 ∷ 108 ∷ []
+    27 ∷ 92 ∷ 15 ∷ 27 ∷ 42 ∷ 66 ∷ 27 ∷ 125 ∷ 27 ∷ 41 ∷ 66 ∷ 27 ∷ 40 ∷ 66 ∷ 27 ∷ 37 ∷ 71 ∷ 27 ∷ 91 ∷ 52 ∷ 108 ∷ 27 ∷ 91 ∷ 63 ∷ 54
+    ∷ 108 ∷ 27 ∷ 91 ∷ 63 ∷ 54 ∷ 57 ∷ 108 ∷ 27 ∷ 91 ∷ 63 ∷ 55 ∷ 104 ∷ 27 ∷ 91 ∷ 63 ∷ 50 ∷ 48 ∷ 50 ∷ 54 ∷ 108 ∷ []
 
 pub settling-read : (t : Emulator) → t.phase ≡ Ground → feed settling_bytes t ≡ without_modes (rested t)
 settling-read t ground =
     let a1 : List ℕ = 27 ∷ 92 ∷ [] in
     let a2 : List ℕ = 15 ∷ [] in
+    let others : List ℕ = 27 ∷ 42 ∷ 66 ∷ 27 ∷ 125 ∷ 27 ∷ 41 ∷ 66 ∷ [] in
     let a3 : List ℕ = 27 ∷ 40 ∷ 66 ∷ [] in
     let a4 : List ℕ = 27 ∷ 37 ∷ 71 ∷ [] in
     let a5 : List ℕ = 27 ∷ 91 ∷ 52 ∷ 108 ∷ [] in
@@ -380,7 +401,8 @@ settling-read t ground =
     let r5 : List ℕ = a5 ++ r6 in
     let r4 : List ℕ = a4 ++ r5 in
     let r3 : List ℕ = a3 ++ r4 in
-    let r2 : List ℕ = a2 ++ r3 in
+    let r0 : List ℕ = others ++ r3 in
+    let r2 : List ℕ = a2 ++ r0 in
     let t1 : Emulator = rested t in
     let t2 : Emulator = with_modes (record t1.modes { shifted = false }) t1 in
     let t3 : Emulator = with_modes (record t2.modes { lettered = false }) t2 in
@@ -390,7 +412,8 @@ settling-read t ground =
     let t7 : Emulator = with_modes (record t6.modes { sides = false }) t6 in
     let t8 : Emulator = with_modes (record t7.modes { unwrapped = false }) t7 in
     feed-append a1 r2 t ∙ ap (feed r2) (string-read t ground)
-    ∙ feed-append a2 r3 t1 ∙ ap (feed r3) (shift-read t1 refl)
+    ∙ feed-append a2 r0 t1 ∙ ap (feed r0) (shift-read t1 refl)
+    ∙ feed-append others r3 t2 ∙ ap (feed r3) (other_letters-read t2 refl)
     ∙ feed-append a3 r4 t2 ∙ ap (feed r4) (letters-read t2 refl)
     ∙ feed-append a4 r5 t3 ∙ ap (feed r5) (coding-read t3 refl)
     ∙ feed-append a5 r6 t4 ∙ ap (feed r6) (insert-read t4 refl)

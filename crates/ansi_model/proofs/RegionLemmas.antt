@@ -10,10 +10,10 @@ use Rattle.ansi_model.specs.Columns.{Columns, look_in, blank_column, overwritten
 use Rattle.ansi_model.specs.{Sgr.is_own, Sends.Performs}
 use Rattle.ansi_model.specs.Emulator.{Emulator, rested, cursor_moved, erased, line_fed, fed, scrolled, if_so, returned}
 use Rattle.ansi_model.specs.Emulator.{columns_moved, with_region, without_region}
-use Rattle.ansi_model.specs.Inner.{fed_and_lowered, fed_and_lowered_by}
+use Rattle.ansi_model.specs.Inner.{fed_and_lowered, fed_and_lowered_by, scrolled_off_by}
 use Rattle.ansi_model.specs.Emulator.{lines_deleted, lines_inserted}
 use Rattle.ansi_model.specs.Screens.{screen_shown, IsIdle, Turns, Becomes}
-use Rattle.ansi_model.proofs.ReadLemmas.{Leads-so, Leads-none, Sends-then, line_fed-rested}
+use Rattle.ansi_model.proofs.ReadLemmas.{Leads-so, Leads-none, Sends-then, line_fed-rested, fed-rested}
 use Rattle.ratatui_core.proofs.BackendLemmas.{moved-through}
 use Rattle.ansi_model.proofs.MotionLemmas.{IsOfRows, moved-tidy, row-emptied, up-still, down-still, up-and-down}
 use Rattle.ansi_model.proofs.ScrollLemmas.{all-known, KeepsReady, stays-idle, moved-placed, Feeds, feeds-none, feeds-next}
@@ -25,6 +25,20 @@ pub Does-then : (a b c : List ℕ) (f g : Emulator → Emulator) → Performs a 
 Does-then a b c f g first second stays =
     Leads-so (Sends-then a b c (λ t. f (rested t)) (λ t. g (rested t)) first second
     (λ t. ap (λ (u : Emulator). u.phase) (sym (stays t)))) (λ t ground. ground) (λ t u ground e. e ∙ ap g (stays t))
+
+-- rows scrolled off, and blank ones that come in
+pub scrolls-off : (a b c d e : List ℕ) (h n : ℕ) → n ≡ min (h + 1) 65535 → Performs a b (cursor_moved 0 65534)
+    → Performs b c (λ t. fed h (returned t)) → Performs c d (cursor_moved 0 0) → Performs d e (lines_inserted n)
+    → Performs a e (scrolled_off_by h)
+scrolls-off a b c d e h n is down feeds up inserts =
+    let left : Emulator → Emulator = λ t. fed h (returned (cursor_moved 0 65534 t)) in
+    let rests : (t : Emulator) → left (rested t) ≡ rested (left (rested t)) =
+    λ t. fed-rested h (returned (cursor_moved 0 65534 (rested t))) in
+    let one : Performs a c left = Does-then a b c (cursor_moved 0 65534) (λ t. fed h (returned t)) down feeds (λ t. refl) in
+    let two : Performs a d (λ t. cursor_moved 0 0 (left t)) = Does-then a c d left (cursor_moved 0 0) one up (λ t. sym (rests t)) in
+    subst (λ k. Performs a e (λ t. lines_inserted k (cursor_moved 0 0 (left t)))) is
+    (Does-then a d e (λ t. cursor_moved 0 0 (left t)) (lines_inserted n) two inserts
+    (λ t. ap (λ (u : Emulator). rested (cursor_moved 0 0 u)) (rests t) ∙ ap (cursor_moved 0 0) (sym (rests t))))
 
 -- nothing sent
 pub Turns-none : (w h : ℕ) (old : List ℕ) (related : Emulator → Emulator → Type 0) → ((t : Emulator) → IsIdle w h t → related t t)

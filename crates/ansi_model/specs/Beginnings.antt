@@ -1,5 +1,5 @@
 -- Terminals as other programs may have left them, and what makes one blank.
-use Rattle.std.specs.Prelude.{◌≡◌, ◌⊎◌, ℕ, ◌-◌, ◌≤◌, true, List, [], ◌++◌, map, Some, None}
+use Rattle.std.specs.Prelude.{◌≡◌, ◌⊎◌, ℕ, ◌+◌, ◌<◌, ◌≤◌, true, List, [], ◌++◌, map, Some, None}
 use Rattle.std.specs.List.{range_with_len}
 use Rattle.ratatui_core.specs.Buffer.{Look}
 use Rattle.ansi_model.specs.{Columns.Columns, Columns.blank_column, Columns.is_known_column}
@@ -42,15 +42,27 @@ AreKnown columns = (a b : ℕ) → is_known_column (columns a b) ≡ true
 abbrev pub screen_rows : Emulator → List (List Look)
 screen_rows t = map (row_shown t) (range_with_len 0 t.height)
 
--- a blank terminal of this size, with these rows in its history, and its cursor in the last row, shown or not
+-- a blank terminal of this size, with these rows in its history, and its cursor shown or not
 abbrev pub scrolled_off : ℕ → ℕ → List (List Look) → Emulator → Emulator
-scrolled_off w h rows t = record (blank_terminal w h) { history = rows; y = h - 1; visible = t.visible }
+scrolled_off w h rows t = record (blank_terminal w h) { history = rows; visible = t.visible }
 
 -- bytes were appended that scroll the screen of each terminal of this size into its history, however it was
 -- left
 abbrev pub SavesScreen : ℕ → ℕ → List ℕ → List ℕ → Type 0
 SavesScreen w h old new = LeadsBy feed_anew old new (λ t. IsAsFound w h t × AreKnown t.columns)
     (λ t u. u ≡ scrolled_off w h (t.history ++ screen_rows t) t)
+
+-- a higher terminal, of which h rows were saved so: they are in its history, as many rows and one more are
+-- blank, and each row below them stands one row lower, but the last one
+pub record SavesFirstRows (h : ℕ) (t u : Emulator) : Type 0 where
+  pub history : u.history ≡ t.history ++ map (row_shown t) (range_with_len 0 h)
+  pub blank : (a b : ℕ) → b ≤ h → u.columns a b ≡ blank_column
+  pub below : (a b : ℕ) → h ≤ b → b + 1 < t.height → u.columns a (b + 1) ≡ t.columns a b
+
+-- bytes were appended that do this to each higher terminal, however it was left
+abbrev pub SavesHigher : ℕ → ℕ → List ℕ → List ℕ → Type 0
+SavesHigher w h old new = LeadsBy feed_anew old new
+    (λ t. IsAsFound w t.height t × AreKnown t.columns × (h < t.height) × (t.height ≤ 65535)) (SavesFirstRows h)
 
 -- the same, read by a window that shows its main screen
 abbrev pub feed_main : List ℕ → Emulator → Window

@@ -16,8 +16,8 @@ use Rattle.ansi_model.specs.Columns.{overwritten}
 
 -- what the next byte belongs to: text, a sequence that just began, one that is at its first parameter or its
 -- mark, or one with a mark, some parameters and the number at hand, or one with its parameters and a blank
--- after them; or one that sets G0, or the coding; or a string for the operating system. One that was told to
--- show its other screen waits until it does (Windows)
+-- after them; or one that sets G0, or G1 or G2, or the coding; or a string for the operating system. One that
+-- was told to show its other screen waits until it does (Windows)
 pub data Phase : Type 0 where
   Ground : Phase
   Escape : Phase
@@ -25,6 +25,7 @@ pub data Phase : Type 0 where
   Sequence : (mark : Bool) (done : List ℕ) (number : ℕ) → Phase
   Spaced : (parameters : List ℕ) → Phase
   Letters : Phase
+  OtherLetters : Phase
   Coding : Phase
   Told : Phase
   Switching : (alternate : Bool) → Phase

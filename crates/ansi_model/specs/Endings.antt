@@ -6,11 +6,23 @@ use Rattle.ansi_model.specs.Emulator.{without_region, with_sgr}
 use Rattle.ansi_model.specs.{Sgr.default_sgr, Emulator.Phase.Ground, Screens.screen_shown, Screens.IsResting}
 use Rattle.ansi_model.specs.{Windows.come_back, Windows.feed_window, Sends.LeadsBy}
 
--- a terminal of at most 65535 rows in its own colours, without margins, and with its cursor shown at the
--- beginning of the row below its last one
-abbrev pub left_below : Emulator → Emulator
-left_below t =
-    fed 1 (returned (cursor_moved 0 65534 (cursor_shown true (without_region (with_sgr default_sgr t)))))
+-- a terminal of which a program had the first h rows, in its own colours, without margins, and with its
+-- cursor shown at the beginning of the row after these: where there is none below, one comes in
+abbrev pub left_below : ℕ → Emulator → Emulator
+left_below h t =
+    fed 1 (returned (cursor_moved 0 (h - 1) (cursor_shown true (without_region (with_sgr default_sgr t)))))
+
+-- a higher terminal of which a program had the first h rows was left: all stands where it stood, and the
+-- cursor is shown at the beginning of the row after these
+abbrev pub left_within : ℕ → Emulator → Emulator
+left_within h t = record t {
+  sgr = default_sgr;
+  top = 0;
+  bottom = t.height;
+  x = 0;
+  y = h;
+  visible = true;
+}
 
 -- a terminal of this size was given back, which showed a screen before: it awaits text and rests, and one row
 -- came in below the last one, with the cursor shown at its beginning

@@ -1,14 +1,19 @@
 -- Words that only private contracts use: they follow the code.
 use Rattle.ansi_model.specs.{Modes.no_modes}
-use Rattle.std.specs.Prelude.{ℕ, zero, suc, ◌≡◌, ◌+◌, ◌==◌, nat_lt, true, if◌then◌else◌, List, []}
+use Rattle.std.specs.Prelude.{ℕ, zero, suc, ◌≡◌, ◌+◌, ◌==◌, min, nat_lt, true, if◌then◌else◌, List, []}
 use Rattle.std.specs.Prelude.{◌∷◌, ◌++◌}
-use Rattle.ansi_model.specs.Emulator.{Emulator, cursor_moved, line_fed, lines_inserted}
+use Rattle.ansi_model.specs.Emulator.{Emulator, cursor_moved, line_fed, lines_inserted, fed, returned}
 use Rattle.std.specs.{Int.RustNames.bit_and, List.list_all, List.flat_map, Fmt.decimal}
 use Rattle.ratatui_core.specs.Style.{Color, Rgb, Indexed}
 
 -- a terminal in none of the modes that change how it takes text, with its cursor in the corner
 abbrev pub without_modes : Emulator → Emulator
 without_modes t = record t { modes = no_modes; x = 0; y = 0 }
+
+-- as many rows as these scrolled off a terminal at the top, and as many blank ones and one more come in there
+abbrev pub scrolled_off_by : ℕ → Emulator → Emulator
+scrolled_off_by h t =
+    lines_inserted (min (h + 1) 65535) (cursor_moved 0 0 (fed h (returned (cursor_moved 0 65534 t))))
 
 -- a line feed in the second row, and then a blank row in place of the first
 abbrev pub fed_and_lowered : Emulator → Emulator

@@ -5,8 +5,8 @@ use Rattle.ansi_model.specs.{Sgr.inks, Sgr.are_known, Sgr.most_parameters, Sgr.A
 use Rattle.ansi_model.specs.Emulator.{Emulator, Phase, if_so, unsure, rested, cursor_moved, returned}
 use Rattle.ansi_model.specs.Emulator.{cursor_shown, with_modes, holding, with_sgr, erased, with_region}
 use Rattle.ansi_model.specs.Emulator.{without_region, line_fed, lines_deleted, lines_inserted}
-use Rattle.ansi_model.specs.Emulator.Phase.{Ground, Escape, Opened, Sequence, Spaced, Letters, Coding, Told}
-use Rattle.ansi_model.specs.Emulator.Phase.{Switching}
+use Rattle.ansi_model.specs.Emulator.Phase.{Ground, Escape, Opened, Sequence, Spaced, Letters, OtherLetters}
+use Rattle.ansi_model.specs.Emulator.Phase.{Coding, Told, Switching}
 use Rattle.ratatui_core.specs.Backend.{All, AfterCursor, BeforeCursor, CurrentLine, UntilNewLine}
 
 -- ED
@@ -121,14 +121,17 @@ reads_spaced parameters b t =
     (record t { phase = Ground })
 
 -- after ESC: [ opens a sequence, ] a string for the operating system, as a window's title, \ ends one, ( sets
--- the letters of G0, % the coding
+-- the letters of G0, ) those of G1, * those of G2, % the coding, } gives bytes above ASCII the letters of G2,
+-- which a terminal of UTF-8 doesn't look at
 abbrev pub reads_escape : ℕ → Emulator → Emulator
 reads_escape b t =
     if b == 91 then record t { phase = Opened }
     else (if b == 93 then record t { phase = Told }
     else (if b == 92 then record t { phase = Ground }
-    else (if b == 40 then record t { phase = Letters } else
-    (if b == 37 then record t { phase = Coding } else unsure t))))
+    else (if b == 40 then record t { phase = Letters }
+    else (if (b == 41) || (b == 42) then record t { phase = OtherLetters }
+    else (if b == 125 then record t { phase = Ground } else
+    (if b == 37 then record t { phase = Coding } else unsure t))))))
 
 -- the letters of G0: B is ASCII, 0 lines
 abbrev pub reads_letters : ℕ → Emulator → Emulator
@@ -138,6 +141,10 @@ reads_letters b t =
       phase = Ground;
       modes = record t.modes { lettered = true };
     } else unsure t)
+
+-- the letters of G1 and G2, which nothing is printed by: B is ASCII
+abbrev pub reads_other_letters : ℕ → Emulator → Emulator
+reads_other_letters b t = if b == 66 then record t { phase = Ground } else unsure t
 
 -- the coding: G is UTF-8, @ isn't
 abbrev pub reads_coding : ℕ → Emulator → Emulator
@@ -162,6 +169,7 @@ reads_in Ground b t =
     (rested t) else unsure (rested t))))))
 reads_in Escape b t = reads_escape b t
 reads_in Letters b t = reads_letters b t
+reads_in OtherLetters b t = reads_other_letters b t
 reads_in Coding b t = reads_coding b t
 reads_in Told b t = reads_told b t
 reads_in (Switching alternate) b t = t

@@ -7,12 +7,20 @@ ghost use Rattle.ansi_model.specs.Columns.{Columns, look_in, is_continuation};
 ghost use Rattle.ansi_model.specs.Screens.{HaveOwnWidths, IsWhole, IsBlankBeyond, IsIdle, IsUncut};
 ghost use Rattle.ansi_model.specs.Screens.{put_columns};
 ghost use Rattle.ansi_model.specs.Symbols.{printed_columns};
-ghost use Rattle.ansi_model.specs.Emulator.{run, blank_terminal};
+ghost use Rattle.ansi_model.specs.Emulator.{Emulator, run, blank_terminal};
+ghost use Rattle.ansi_model.specs.Endings.{left_below, left_within};
 
 /// A blank terminal of at least one row is ready, so that what is said of ready terminals is said
 /// of some.
 pub fn a_blank_terminal_is_ready()
     ensures { (w h : ℕ) → 0 < h → IsIdle w h (blank_terminal w h) }
+{}
+
+/// A terminal that has more rows than a program had is left as it stands: nothing scrolls, and the
+/// cursor is shown at the beginning of the row after the program's.
+pub fn a_higher_terminal_is_left_as_it_stands()
+    ensures { (w h high : ℕ) (t : Emulator) → 0 < w → 0 < h → h < high → IsIdle w high t
+        → left_below h t ≡ left_within h t }
 {}
 
 /// A symbol that is printed on the screen and cuts no other at its ends is put, as the cells' grids

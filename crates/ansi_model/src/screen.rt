@@ -5,13 +5,13 @@ ghost use Rattle.std.specs.Prelude.{encode_utf8};
 ghost use Rattle.ratatui_core.specs.Backend.{Appends, scrolling_up, scrolling_down, clearing, ScrollsUp};
 ghost use Rattle.ratatui_core.specs.Backend.{ScrollsDown, Clears, with_cursor, with_visible, All};
 ghost use Rattle.ratatui_core.specs.Backend.{CurrentLine};
-ghost use Rattle.ansi_model.specs.Beginnings.{MakesBlank, OpensAlternate, SavesScreen};
+ghost use Rattle.ansi_model.specs.Beginnings.{MakesBlank, OpensAlternate, SavesScreen, SavesHigher};
 ghost use Rattle.ansi_model.specs.Inner.{without_modes};
 ghost use Rattle.ansi_model.specs.Commands.{size_question, AsksSize};
 ghost use Rattle.ansi_model.specs.Endings.{ClosesAlternate, left_below};
 ghost use Rattle.ansi_model.specs.Emulator.{cursor_moved, returned, erased, line_fed, fed, with_region};
 ghost use Rattle.ansi_model.specs.Emulator.{without_region, lines_deleted, lines_inserted};
-ghost use Rattle.ansi_model.specs.Inner.{fed_and_lowered};
+ghost use Rattle.ansi_model.specs.Inner.{scrolled_off_by, fed_and_lowered};
 ghost use Rattle.ansi_model.specs.Emulator.{columns_moved, rested};
 ghost use Rattle.ansi_model.specs.Inner.{fed_and_lowered_by};
 ghost use Rattle.ansi_model.specs.Sends.{Sends, Performs, typed};
@@ -23,6 +23,8 @@ use crate::sequences::{
 };
 use crate::sgr::{Sgr, push_sgr};
 use crate::symbol::push_plain;
+use arrayvec::ArrayString;
+use itoa::Buffer as Digits;
 use ratatui_core::backend::ClearType;
 use std::alloc::AllocError;
 use std::ops::Range;
@@ -107,7 +109,7 @@ fn settle(out: &mut String) -> Result<(), AllocError>
     ensures { OnOk result (Performs (string_bytes out.old) (string_bytes out.new) without_modes) }
 {
     out.push_str(
-        "\u{1b}\\\u{f}\u{1b}(B\u{1b}%G\u{1b}[4l\u{1b}[?6l\u{1b}[?69l\u{1b}[?7h\u{1b}[?2026l",
+        "\u{1b}\\\u{f}\u{1b}*B\u{1b}}\u{1b})B\u{1b}(B\u{1b}%G\u{1b}[4l\u{1b}[?6l\u{1b}[?69l\u{1b}[?7h\u{1b}[?2026l",
     )
 }
 
@@ -142,21 +144,45 @@ pub fn make_blank(out: &mut String, width: u16, height: u16) -> Result<(), Alloc
     show_cursor(out)
 }
 
+// Moves the cursor to the first column of the last row, however many there are.
+fn move_to_last_row(out: &mut String) -> Result<(), AllocError>
+    ensures { OnOk result (Performs (string_bytes out.old) (string_bytes out.new)
+        (cursor_moved 0 65534)) }
+{
+    out.push_str("\u{1b}[65535;1H")
+}
+
+// Scrolls rows off at the top, and has blank ones come in there: as many, and one more, so that in a
+// higher terminal a blank row stands after them.
+fn scroll_off(out: &mut String, height: u16) -> Result<(), AllocError>
+    ensures { OnOk result (Performs (string_bytes out.old) (string_bytes out.new)
+        (scrolled_off_by height)) }
+{
+    move_to_last_row(out)?;
+    line_feeds(out, height)?;
+    move_to(out, 0, 0)?;
+    insert_lines(out, height.saturating_add(1))
+}
+
 /// Scrolls what stands on the screen of a terminal of so many rows, at least one, into its history,
 /// however another program left it. Then its screen is empty, its colours its own, its cursor in
-/// the last row, and no mode that changes how it takes text is set.
+/// the corner, and no mode that changes how it takes text is set. Of a higher terminal so many rows
+/// go to the history, too, and the others stand one row lower, below a blank one; only its last row
+/// is lost.
 ///
 /// # Errors
 ///
 /// `AllocError` if memory is refused. What the text holds then isn't said.
 pub fn save_screen(out: &mut String, height: u16) -> Result<(), AllocError>
-    ensures { OnOk result ((w : ℕ) → 0 < w → 0 < height
+    ensures saves { OnOk result ((w : ℕ) → 0 < w → 0 < height
         → SavesScreen w height (string_bytes out.old) (string_bytes out.new)) }
+    ensures higher { OnOk result ((w : ℕ) → 0 < w
+        → SavesHigher w height (string_bytes out.old) (string_bytes out.new)) }
 {
     settle(out)?;
     push_sgr(out, &Sgr::DEFAULT)?;
     reset_region(out)?;
-    feed_screen(out, height, height)
+    scroll_off(out, height)
 }
 
 /// What puts a terminal's main screen aside, however another program left it, and shows a blank
@@ -175,12 +201,18 @@ pub fn closing_alternate() -> &'static str
     "\u{1b}[r\u{1b}[?25h\u{1b}[?1049l\u{1b}[0m"
 }
 
-/// What leaves a terminal in its own colours, without margins, and with its cursor shown below its
-/// last row. It takes no memory.
-pub fn leaving() -> &'static str
-    ensures { (old : List ℕ) → Performs old (old ++ result.now) left_below }
+/// What leaves a terminal, of which a program had the first rows, in its own colours, without
+/// margins, and with its cursor shown at the beginning of the row after these. Where there is no row
+/// below them the screen scrolls by one. It takes no memory.
+pub fn leaving(height: u16) -> ArrayString<25>
+    ensures { (old : List ℕ) → Performs old (old ++ result.bytes) (left_below height) }
 {
-    "\u{1b}[0m\u{1b}[r\u{1b}[?25h\u{1b}[65535;1H\r\n"
+    let mut digits = Digits::new();
+    let mut text = ArrayString::new();
+    text.push_str("\u{1b}[0m\u{1b}[r\u{1b}[?25h\u{1b}[");
+    text.push_str(digits.format(height));
+    text.push_str(";1H\r\n");
+    text
 }
 
 /// Moves the cursor's row down by `n` on a screen of at least one row and one column; what goes

@@ -39,11 +39,11 @@ own-height b read =
 -- all lines were shown, and then the terminal was given back
 pub shown-text : {W E : Type 0} (size : Size) (text : List ℕ) (v : LogView (BackendState W) E)
     (contents taken : Option (List ℕ)) (last : List ℕ) → ShowsInput size text v → IsReadByAll v.terminal.backend
-    → 0 < size.width → 0 < size.height → size.height ≤ 65535 → ((old : List ℕ) → Performs old (old ++ last) left_below)
+    → 0 < size.width → 0 < size.height → ((old : List ℕ) → Performs old (old ++ last) (left_below size.height))
     → IsSome v.terminal.backend.before
     → Appends v.terminal.backend.before contents v.terminal.backend.sent → Appends contents taken last
     → FollowsText size text taken
-shown-text size text v contents taken last input read wide high most leaves some tied more =
+shown-text size text v contents taken last input read wide high leaves some tied more =
     let b = v.terminal.backend in
     let log : ShowsLog size (map shown_line input.lines) (shown_by b) = shows_log shown_by size
     (map shown_line input.lines) v input.view in
@@ -65,9 +65,9 @@ shown-text size text v contents taken last input read wide high most leaves some
       all = b.sent ++ last;
       left = λ t found.
           let u : Emulator = feed b.sent (anew t) in
-          let e : feed (b.sent ++ last) (anew t) ≡ left_below (rested u) = ap (λ bytes. feed bytes (anew t)) does.appended
+          let e : feed (b.sent ++ last) (anew t) ≡ left_below size.height (rested u) = ap (λ bytes. feed bytes (anew t)) does.appended
           ∙ feed-append b.sent does.bytes (anew t) ∙ does.read u (reads t found).phase in
-          subst (IsLeftBelow size.width size.height (rested u)) (sym e) (left-in-order size.width size.height wide high most
+          subst (IsLeftBelow size.width size.height (rested u)) (sym e) (left-in-order size.width size.height wide high
           (rested u) (ready t found));
       before = at.0;
       tied = at.1;
@@ -78,10 +78,10 @@ pub shown-if : {W E : Type 0} (first now : Option (List ℕ)) (size : Size) (v w
     (contents taken : Option (List ℕ)) (last : List ℕ) → IsViewOf shown_by size [] v
     → IfSome first (λ text. (size : Size) → IsViewOf shown_by size [] v → (now ≡ Some []) × ShowsInput size text w)
     → IsReadByAll w.terminal.backend
-    → 0 < size.width → 0 < size.height → size.height ≤ 65535 → ((old : List ℕ) → Performs old (old ++ last) left_below)
+    → 0 < size.width → 0 < size.height → ((old : List ℕ) → Performs old (old ++ last) (left_below size.height))
     → IsSome w.terminal.backend.before
     → Appends w.terminal.backend.before contents w.terminal.backend.sent → Appends contents taken last
     → IfSome first (λ text. FollowsText size text taken)
-shown-if None now size v w contents taken last view all read wide high most leaves some tied more = tt
-shown-if (Some text) now size v w contents taken last view all read wide high most leaves some tied more =
-    shown-text size text w contents taken last (all size view).1 read wide high most leaves some tied more
+shown-if None now size v w contents taken last view all read wide high leaves some tied more = tt
+shown-if (Some text) now size v w contents taken last view all read wide high leaves some tied more =
+    shown-text size text w contents taken last (all size view).1 read wide high leaves some tied more

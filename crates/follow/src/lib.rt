@@ -130,7 +130,8 @@ pub fn follow<R: BufRead, W: Write + Drop>(
     let mut view = LogView::new(alloc, backend)?;
     let shown = push_lines(alloc, reader, &mut view);
     let mut writer = view.into_terminal().into_backend().into_writer();
-    let left = send(&mut writer, leaving());
+    let below = leaving(size.height);
+    let left = send(&mut writer, below.as_str());
     shown?;
     match left {
         Ok(()) => Ok(writer),

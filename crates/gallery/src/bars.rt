@@ -1,7 +1,7 @@
 //! Bars.
 use ratatui_core::terminal::Frame;
 use ratatui_core::text::Line;
-use ratatui_widgets::{Bar, BarChart, BarGroup, Sparkline, SparklineBar};
+use ratatui_widgets::{Bar, BarChart, Sparkline, SparklineBar};
 use std::alloc::{AllocError, Global};
 
 /// Numbers, a column each.
@@ -21,8 +21,8 @@ pub fn bar_chart(alloc: Global, frame: &mut Frame<'_>) -> Result<(), AllocError>
     for (name, value) in [("Mon", 3), ("Tue", 9), ("Wed", 6)] {
         bars.push(Bar::with_label(Line::raw(alloc, name)?, value))?;
     }
-    let groups = vec![in alloc; BarGroup::new(bars)]?;
-    frame.render_widget(BarChart::new(groups).bar_width(4).bar_gap(2), area)
+    let chart = BarChart::new(alloc, bars)?.bar_width(4).bar_gap(2);
+    frame.render_widget(chart, area)
 }
 
 /// Bars that grow to the right.

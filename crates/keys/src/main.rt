@@ -4,14 +4,23 @@
 //! `keys WORD..` asks the terminal for more first: `mouse`, `focus`, `paste`, or `all` for what a
 //! keyboard can tell of itself; it takes that back at its end. The terminal has to be in raw mode,
 //! where a read that finds nothing answers after a while: `tools/raw keys` sees to that. An hour
-//! without an event ends it, too.
+//! without an event ends it, too; what isn't a terminal ends with its last byte. `--help` says so;
+//! other words are an error, with status 2. If reading or writing fails, one line stands on standard
+//! error, and the status is 1.
 #![tactic(auto)]
 
 mod shown;
 
 use crate::shown::Shown;
-use std::env;
-use std::io::{self, Read, Write};
+use std::io::{self, BufWriter, Read, Write};
+use std::process::ExitCode;
+use std::{env, fs};
+
+static HELP: &str =
+    "keys: prints each event of a terminal as it comes, with its bytes. Ctrl+D ends it.
+keys WORD.. asks the terminal for more first: mouse, focus, paste, or all for what a keyboard can
+tell of itself. tools/raw keys puts the terminal into raw mode.
+";
 
 /// How many reads that find nothing, one after the other, end the program: an hour of them.
 const PATIENCE: u32 = 36_000;
@@ -28,8 +37,8 @@ fn asked(word: &str) -> Option<(&'static str, &'static str)> {
 }
 
 // Writes what asks for each word, or what takes it back.
-fn ask<W: Write>(rt: &HostRuntime, out: &mut W, is_on: bool) -> io::Result<()> {
-    for word in env::args(rt)?.skip(1) {
+fn ask<W: Write>(words: &[String], out: &mut W, is_on: bool) -> io::Result<()> {
+    for word in words {
         if let Some((on, off)) = asked(word.as_str()) {
             out.write_all(if is_on { on.as_bytes() } else { off.as_bytes() })?;
         }
@@ -37,8 +46,19 @@ fn ask<W: Write>(rt: &HostRuntime, out: &mut W, is_on: bool) -> io::Result<()> {
     out.flush()
 }
 
-// Shows what a reader gives, until Ctrl+D comes or nothing for long.
-fn show_all<R: Read, W: Write>(reader: &mut R, out: &mut W) -> io::Result<()> {
+// Whether standard input is a terminal, where a read may find nothing yet.
+fn is_terminal(rt: &HostRuntime) -> bool {
+    match fs::read_link(rt, "/proc/self/fd/0") {
+        Ok(path) => {
+            let path = path.as_path();
+            path.starts_with("/dev/pts") || path.starts_with("/dev/tty")
+        }
+        Err(_) => false,
+    }
+}
+
+// Shows what a reader gives, until Ctrl+D comes or so many reads, one after the other, find nothing.
+fn show_all<R: Read, W: Write>(reader: &mut R, out: &mut W, patience: u32) -> io::Result<()> {
     let mut shown = Shown::new();
     let mut bytes = [0u8; 256];
     let mut quiet = 0u32;
@@ -49,17 +69,48 @@ fn show_all<R: Read, W: Write>(reader: &mut R, out: &mut W) -> io::Result<()> {
         } else {
             0
         };
-        if shown.take(&bytes[..count], out)? || quiet >= PATIENCE {
+        let is_over = shown.take(&bytes[..count], out)?;
+        out.flush()?;
+        if is_over || quiet >= patience {
             return Ok(());
         }
     }
     Ok(())
 }
 
-fn main(rt: HostRuntime) -> io::Result<()> {
-    let mut out = io::writer(&rt);
-    ask(&rt, &mut out, true)?;
-    let result = show_all(&mut rt.reader(), &mut out);
-    ask(&rt, &mut out, false)?;
+// Asks for what the words say, shows what comes, and takes that back.
+fn play(rt: &HostRuntime, words: &[String]) -> io::Result<()> {
+    let mut out = BufWriter::new(rt.alloc(), io::writer(rt))?;
+    ask(words, &mut out, true)?;
+    let patience = if is_terminal(rt) { PATIENCE } else { 1 };
+    let result = show_all(&mut rt.reader(), &mut out, patience);
+    ask(words, &mut out, false)?;
     result
+}
+
+// What the words ask for: help, an error, or the program itself.
+fn start(rt: &HostRuntime) -> io::Result<ExitCode> {
+    let words: Vec<String> = env::args(rt)?.skip(1).collect(rt.alloc())?;
+    if words.iter().any(|word| word.as_str() == "--help") {
+        print!(rt; "{HELP}")?;
+        return Ok(ExitCode::SUCCESS);
+    }
+    for word in words.iter() {
+        if asked(word.as_str()).is_none() {
+            eprintln!(rt; "keys: {word} is none of its words: mouse, focus, paste, all; --help")?;
+            return Ok(ExitCode::from(2));
+        }
+    }
+    play(rt, words.as_slice())?;
+    Ok(ExitCode::SUCCESS)
+}
+
+fn main(rt: HostRuntime) -> ExitCode {
+    match start(&rt) {
+        Ok(status) => status,
+        Err(error) => {
+            let _ = eprintln!(rt; "keys: {error}");
+            ExitCode::FAILURE
+        }
+    }
 }

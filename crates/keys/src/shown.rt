@@ -1,7 +1,7 @@
 //! Events as lines of text, each with its bytes.
 
 use arrayvec::ArrayVec;
-use ratatui_events::{Event, KeyCode, KeyEvent, KeyModifiers};
+use ratatui_events::{Event, KeyCode, KeyModifiers};
 use ratatui_input::{Decoder, Fed};
 use std::io::{self, Write};
 
@@ -37,13 +37,17 @@ fn write_line<W: Write>(out: &mut W, bytes: &[u8], event: Event) -> io::Result<(
     for byte in bytes {
         write_byte(out, *byte)?;
     }
-    write!(out, "= {event}\r\n")?;
-    out.flush()
+    write!(out, "= {event}\r\n")
 }
 
-// Whether an event ends the program.
+// Whether an event ends the program: Ctrl+D, whatever locks are on.
 fn is_end(event: Event) -> bool {
-    event == Event::Key(KeyEvent::new(KeyCode::Char('d'), KeyModifiers::CONTROL))
+    match event {
+        Event::Key(key) => {
+            key.code == KeyCode::Char('d') && key.modifiers == KeyModifiers::CONTROL
+        }
+        _ => false,
+    }
 }
 
 impl Shown {

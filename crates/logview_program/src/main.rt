@@ -2,12 +2,13 @@
 //!
 //! Its first line is the screen's size, `W H`. A log that can't be read or shown gives one line on
 //! standard error, status 1 and no output. If writing fails the status is 1, and nothing stands on
-//! standard error. `--help` says so; other words are an error, with status 2.
+//! standard error. `--help` says so; other words, and words that can't be read, are an
+//! error, with status 2.
 #![tactic(auto)]
 
 use logview::{LogFault, print_log, tell};
 use std::env;
-use std::io::BufWriter;
+use std::io::{self, BufWriter};
 use std::process::ExitCode;
 
 static HELP: &str = "logview: reads a log from standard input and prints the screen that shows it.
@@ -16,11 +17,9 @@ line of the log. Printed are the rows that scrolled off and those of the screen,
 status line. A log that can't be read or shown gives one line on standard error, and status 1.
 ";
 
-// The first word of the command line.
-fn first_word(rt: &HostRuntime) -> Option<String> {
-    let mut words = env::args(rt).ok()?;
-    let _program = words.next()?;
-    words.next()
+// The first word of the command line, if there is one.
+fn first_word(rt: &HostRuntime) -> io::Result<Option<String>> {
+    Ok(env::args(rt)?.nth(1))
 }
 
 // What a word gives: a page on the program, or an error.
@@ -34,8 +33,13 @@ fn answer(rt: &HostRuntime, word: &str) -> ExitCode {
 }
 
 fn main(rt: HostRuntime) -> ExitCode {
-    if let Some(word) = first_word(&rt) {
-        return answer(&rt, word.as_str());
+    match first_word(&rt) {
+        Ok(None) => {}
+        Ok(Some(word)) => return answer(&rt, word.as_str()),
+        Err(error) => {
+            let _ = eprintln!(rt; "logview: a word of the command line can't be read: {error}");
+            return ExitCode::from(2);
+        }
     }
     let (mut reader, mut errors) = (rt.reader(), rt.stderr());
     let Ok(mut writer) = BufWriter::new(rt.alloc(), rt.stdout()) else {

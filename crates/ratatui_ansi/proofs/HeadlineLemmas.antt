@@ -68,16 +68,16 @@ one-draw-shown s t law step draw settled whole =
 
 -- what leaves a terminal leaves each that has read what was sent before
 pub leaves-terminal : {W : Type 0} (b : BackendState W) (contents : Option (List ℕ)) (sent : List ℕ)
-    → Performs b.sent sent left_below → IsReadByAll b → 0 < b.size.width → 0 < b.size.height
-    → b.size.height ≤ 65535 → Appends b.before contents sent → LeavesTerminal b contents
-leaves-terminal b contents sent leaves read wide high most tied = record {
+    → Performs b.sent sent (left_below b.size.height) → IsReadByAll b → 0 < b.size.width → 0 < b.size.height
+    → Appends b.before contents sent → LeavesTerminal b contents
+leaves-terminal b contents sent leaves read wide high tied = record {
   sent = sent;
   leaves = leaves;
   left = λ t found.
       let u : Emulator = feed b.sent (anew t) in
-      let e : feed sent (anew t) ≡ left_below (rested u) = ap (λ bytes. feed bytes (anew t)) leaves.appended
+      let e : feed sent (anew t) ≡ left_below b.size.height (rested u) = ap (λ bytes. feed bytes (anew t)) leaves.appended
       ∙ feed-append b.sent leaves.bytes (anew t) ∙ leaves.read u (read t found).phase in
       subst (IsLeftBelow b.size.width b.size.height (rested u)) (sym e)
-      (left-in-order b.size.width b.size.height wide high most (rested u) (read t found).ready);
+      (left-in-order b.size.width b.size.height wide high (rested u) (read t found).ready);
   tied = tied;
 }

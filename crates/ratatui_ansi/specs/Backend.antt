@@ -34,6 +34,11 @@ abbrev pub with_writer : {W : Type 0} → BackendState W → W → BackendState 
 with_writer b writer =
     record b { writer = writer; failures = min (b.failures + 1) (2 ^ 64 - 1); is_broken = true }
 
+-- a size is the backend's own, and no write failed
+pub record HasSize {W : Type 0} (size : Size) (b : BackendState W) : Type 0 where
+  pub own : b.size ≡ size
+  pub works : b.is_broken ≡ false
+
 -- nothing was sent after the last flush
 abbrev pub is_flushed : {W : Type 0} → BackendState W → Bool
 is_flushed b = nat_eq (length b.held) 0
@@ -63,12 +68,12 @@ pub record BeginsBy (does : List ℕ → List ℕ → Type 0) (held before : Opt
   pub begins : does [] first
   pub tied : Appends held before first
 
--- after what was sent since the backend began a writer has taken bytes that leave each terminal below its
--- last row; one of the backend's size that has read them all, however it was left before, rests, and has one
--- row more than it showed
+-- after what was sent since the backend began a writer has taken bytes that leave each terminal below the
+-- backend's last row; one of the backend's size that has read them all, however it was left before, rests,
+-- and has one row more than it showed
 pub record LeavesTerminal {W : Type 0} (b : BackendState W) (contents : Option (List ℕ)) : Type 0 where
   pub sent : List ℕ
-  pub leaves : Performs b.sent sent left_below
+  pub leaves : Performs b.sent sent (left_below b.size.height)
   pub left : (t : Emulator) → IsAsFound b.size.width b.size.height t
       → IsLeftBelow b.size.width b.size.height (rested (feed b.sent (anew t))) (feed sent (anew t))
   pub tied : Appends b.before contents sent

@@ -1,13 +1,12 @@
 //! A backend for terminals that read escape sequences.
 
-ghost use Rattle.std.specs.Prelude.{◌≡◌, ℕ, ◌<◌, List, [], ◌++◌, true, false, IsSome, IfOk, IfErr, OnOk};
+ghost use Rattle.std.specs.Prelude.{◌≡◌, ℕ, ◌<◌, List, [], ◌++◌, true, false, IsSome, IsOk, IfOk, IfErr, OnOk};
 ghost use Rattle.std.specs.Io.KnownBytes.{Appends as AppendsKnown};
 ghost use Rattle.std.specs.Borrow.{sem, Lends};
 ghost use Rattle.ratatui_core.specs.Backend.{Counts, IsBlankScreen};
-ghost use Rattle.ansi_model.specs.Beginnings.{MakesBlank, SavesScreen, OpensAlternate};
-ghost use Rattle.ansi_model.specs.Endings.{left_below, ClosesAlternate};
-ghost use Rattle.ansi_model.specs.Sends.{Performs};
-ghost use Rattle.ratatui_ansi.specs.Backend.{BackendState, shown_by, with_writer, IsAlwaysKnown, BeginsBy};
+ghost use Rattle.ansi_model.specs.Beginnings.{MakesBlank, SavesScreen, SavesHigher, OpensAlternate};
+ghost use Rattle.ansi_model.specs.Endings.{ClosesAlternate};
+ghost use Rattle.ratatui_ansi.specs.Backend.{BackendState, shown_by, with_writer, IsAlwaysKnown, BeginsBy, HasSize};
 ghost use Rattle.ratatui_ansi.specs.Backend.{LeavesTerminal, BringsBack};
 ghost use Rattle.ratatui_ansi.specs.contracts.backend.AnsiBackend.{the_row};
 ghost use Rattle.ratatui_ansi.specs.Headline.{IsReadByAll};
@@ -72,25 +71,25 @@ impl<W: Write + Drop> Drop for AnsiBackend<W> {
     fn drop(self) {
         let AnsiBackend {
             mut sender,
-            tracker: _tracker,
+            tracker,
             is_on_alternate,
             alloc: _alloc,
         } = self;
-        sender.give_back(farewell(is_on_alternate));
+        let below = leaving(tracker.size.height);
+        sender.give_back(farewell(is_on_alternate, below.as_str()));
     }
 }
 
-// What gives a terminal back, from its alternate screen or its main one.
-fn farewell(is_on_alternate: bool) -> &'static str
-    ensures left { is_on_alternate ≡ false
-        → (old : List ℕ) → Performs old (old ++ result.now) left_below }
+// What gives a terminal back: from its alternate screen, or from its main one by this text.
+fn farewell(is_on_alternate: bool, below: &str) -> &str
+    ensures left { is_on_alternate ≡ false → result.now ≡ below.now }
     ensures back { is_on_alternate ≡ true
         → (old : List ℕ) → ClosesAlternate old (old ++ result.now) }
 {
     if is_on_alternate {
         closing_alternate()
     } else {
-        leaving()
+        below
     }
 }
 
@@ -131,14 +130,17 @@ impl<W: Write + Drop> AnsiBackend<W> {
                 alloc,
             }),
             Err(error) => {
-                sender.give_back(farewell(is_on_alternate));
+                let below = leaving(size.height);
+                sender.give_back(farewell(is_on_alternate, below.as_str()));
                 Err(AnsiError::Write(error))
             }
         }
     }
 
     /// A backend of a screen of this size in columns and rows, over a terminal that is made blank:
-    /// what stood on it is scrolled into its history, and then what makes it blank is written.
+    /// what stood on it is scrolled into its history, and then what makes it blank is written. On a
+    /// terminal that is higher these are its first rows; what stood in those below stays, one row
+    /// lower, but for the last row.
     ///
     /// ```
     /// let writer = BufWriter::new(alloc, rt.stdout())?;
@@ -156,6 +158,8 @@ impl<W: Write + Drop> AnsiBackend<W> {
     pub fn new(alloc: Global, writer: W, size: Size) -> Result<AnsiBackend<W>, AnsiError>
         ensures blank { IfOk result (λ b. IsBlankScreen size.width size.height (shown_by b)) }
         ensures before { IfOk result (λ b. BeginsBy (SavesScreen size.width size.height)
+            (W.contents writer) b.before) }
+        ensures higher { IfOk result (λ b. BeginsBy (SavesHigher size.width size.height)
             (W.contents writer) b.before) }
         ensures sent { IfOk result (λ b. MakesBlank size.width size.height [] b.sent) }
         ensures is_size { IfOk result (λ b. b.size ≡ size) }
@@ -252,9 +256,11 @@ impl<W: Write + Drop> AnsiBackend<W> {
 
     /// Gives the terminal back, also after a failed write, and answers the writer, which has sent
     /// all on: the terminal is in its own colours and without margins, and its cursor is shown. On
-    /// its main screen that stands below the last row; from its alternate screen the main one comes
-    /// back as it was put aside, with its cursor. This takes no memory. Unless a write failed since the
-    /// backend began or began again, each terminal of its size shows its screen before.
+    /// its main screen that stands at the beginning of the row after the backend's last one: where
+    /// there is none, the screen scrolls by one row; a higher terminal doesn't scroll. From its
+    /// alternate screen the main one comes back as it was put aside, with its cursor. This takes no
+    /// memory. Unless a write failed since the backend began or began again, each terminal of its size
+    /// shows its screen before.
     ///
     /// # Errors
     ///
@@ -271,11 +277,12 @@ impl<W: Write + Drop> AnsiBackend<W> {
     {
         let AnsiBackend {
             mut sender,
-            tracker: _tracker,
+            tracker,
             is_on_alternate,
             alloc: _alloc,
         } = self;
-        let last = farewell(is_on_alternate);
+        let below = leaving(tracker.size.height);
+        let last = farewell(is_on_alternate, below.as_str());
         let count = sender.failures;
         sender.mend();
         sender.send(last, count)?;
@@ -332,19 +339,11 @@ impl<W: Write + Drop> AnsiBackend<W> {
         ensures counts { Counts result self.old.failures self.new.failures }
     {
         let size = self.tracker.size;
-        self.resize(size)
+        self.begin_again(size)
     }
 
-    /// The window has another size: the backend begins again on a terminal of this size, which is
-    /// made blank. So the next draw of a terminal over it finds another size.
-    ///
-    /// # Errors
-    ///
-    /// - `Size`: the size has no columns or no rows. Only the count of failures has changed then.
-    /// - `Memory`: memory was refused. Only the count of failures has changed then.
-    /// - `Write`: the writer failed. The backend keeps its size, and every call is refused until
-    ///   the next `restart` or `resize`.
-    pub fn resize(&mut self, size: Size) -> Result<(), AnsiError>
+    // Begins again on a terminal of this size.
+    fn begin_again(&mut self, size: Size) -> Result<(), AnsiError>
         ensures blank { OnOk result (IsBlankScreen size.width size.height (shown_by self.new)) }
         ensures before { OnOk result (self.new.before ≡ W.contents self.old.writer) }
         ensures sent { OnOk result (MakesBlank size.width size.height [] self.new.sent) }
@@ -366,6 +365,49 @@ impl<W: Write + Drop> AnsiBackend<W> {
         self.sender.send(tracker.out.as_str(), failures)?;
         self.tracker = tracker;
         Ok(())
+    }
+
+    /// The window has this size. If it is another one than the backend's, the backend begins again
+    /// on a terminal of this size, which is made blank, so that the next draw of a terminal over it
+    /// finds another size. A size that the backend has already changes nothing, unless a write failed
+    /// before: then it begins again, too.
+    ///
+    /// # Errors
+    ///
+    /// - `Size`: the size has no columns or no rows. Only the count of failures has changed then.
+    /// - `Memory`: memory was refused. Only the count of failures has changed then.
+    /// - `Write`: the writer failed. The backend keeps its size, and every call is refused until
+    ///   the next `restart` or `resize`.
+    pub fn resize(&mut self, size: Size) -> Result<(), AnsiError>
+        ensures kept { HasSize size self.old → (self.new ≡ self.old) × IsOk result }
+        ensures blank { (HasSize size self.old → ⊥) → OnOk result
+            (IsBlankScreen size.width size.height (shown_by self.new)) }
+        ensures before { (HasSize size self.old → ⊥) → OnOk result
+            (self.new.before ≡ W.contents self.old.writer) }
+        ensures sent { (HasSize size self.old → ⊥) → OnOk result
+            (MakesBlank size.width size.height [] self.new.sent) }
+        ensures size { OnOk result (self.new.size ≡ size) }
+        ensures works { OnOk result (self.new.is_broken ≡ false) }
+        ensures refused { IfErr result (FailsToResize size self.old self.new) }
+        ensures colors { self.new.has_underline_colors ≡ self.old.has_underline_colors }
+        ensures ambiguous { self.new.ambiguous_is_wide ≡ self.old.ambiguous_is_wide }
+        ensures synchronized { self.new.is_synchronized ≡ self.old.is_synchronized }
+        ensures alternate { self.new.is_on_alternate ≡ self.old.is_on_alternate }
+        ensures counts { Counts result self.old.failures self.new.failures }
+    {
+        if self.has_size(size) {
+            return Ok(());
+        }
+        self.begin_again(size)
+    }
+
+    // Whether a size is the backend's own, and no write failed.
+    fn has_size(&self, size: Size) -> bool
+        ensures yes { result ≡ true → HasSize size self.now }
+        ensures no { result ≡ false → HasSize size self.now → ⊥ }
+    {
+        let own = self.tracker.size;
+        own.width == size.width && own.height == size.height && !self.sender.is_broken
     }
 
     // Makes a call that draws no cells.

@@ -17,6 +17,7 @@ pub mod laws;
 mod resizable;
 mod sender;
 mod sent;
+mod size;
 mod tracker;
 
 pub use ansi_model::SetCursorStyle;
@@ -24,3 +25,4 @@ pub use backend::AnsiBackend;
 pub use checked::draw_for_all;
 pub use draw::CellError;
 pub use error::AnsiError;
+pub use size::size_told;

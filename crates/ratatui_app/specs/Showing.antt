@@ -75,7 +75,7 @@ module _ {B X : Type 0} (device : Device B X) where
 abbrev pub RefusesState : {B X S E : Type 0} → Device B X → App S → S → TerminalData B → TerminalData B
     → TerminalError E → Type 0
 RefusesState device app s = DrawErr device.screen (RendersCurrent (app.paints s) (λ _ _ _. ⊤) (λ area. area)
-    (λ _ _. ⊥))
+    (λ _ _. ⊥) None)
 
 module _ {B X S : Type 0} (device : Device B X) (app : App S) where
   -- the terminal is at rest, the buffer that its screen shows is what painting the state makes of an empty

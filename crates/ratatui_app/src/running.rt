@@ -148,8 +148,7 @@ fn resize<B: Resizable>(
 }
 
 /// Takes the events of the bytes of a read, none where nothing came, and draws a frame if there
-/// were any or nothing came. A size that they tell is the screen's first, unless the backend refuses
-/// it.
+/// were any. A size that they tell is the screen's first, unless the backend refuses it.
 ///
 /// # Errors
 ///
@@ -171,7 +170,7 @@ pub fn feed<B: Resizable, A: Application>(
         (record { decoder = decoder.new; state = application.new }) terminal.new) }
 {
     let taken = take(bytes, decoder, application)?;
-    if !taken.any && !bytes.is_empty() {
+    if !taken.any {
         return Ok(());
     }
     match resize(terminal, taken.size) {

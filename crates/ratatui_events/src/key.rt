@@ -1,6 +1,7 @@
 //! Keys: which one, what was held beside it, and whether it went down or up.
 
-ghost use Rattle.std.specs.Prelude.{⊤, ◌≡◌, ◌↔◌, IsTrue, Some};
+ghost use Rattle.std.specs.Prelude.{⊤, ◌≡◌, ◌==◌, ◌↔◌, IsTrue, Some};
+ghost use Rattle.std.specs.Int.RustNames.{bit_and};
 ghost use Rattle.ratatui_events.specs.Key.{held_table, modifier_bits, held, state_table, state_bits};
 ghost use Rattle.ratatui_events.specs.Key.{locks, key_character};
 ghost use Rattle.ratatui_events.specs.declared.key.KeyEventKind.TheVariants.{Press, Repeat, Release};
@@ -8,8 +9,8 @@ ghost use Rattle.ratatui_events.specs.declared.key.KeyCode.TheVariants.{F, Char}
 
 use bitflags::{Flag, Flags, bitflag_items};
 
-/// A set of keys held beside another. `contains`, `union` and the other calls on sets are those of
-/// `Flags`. The bits are those of the terminals' protocols.
+/// A set of keys held beside another. `union` and the other calls on sets are those of `Flags`, of
+/// the crate `bitflags`. The bits are those of the terminals' protocols.
 #[derive(Debug, Default, Clone, Copy, PartialEq, Eq, Hash)]
 pub struct KeyModifiers(u8);
 
@@ -40,6 +41,18 @@ impl KeyModifiers {
         ensures { result ≡ modifier_bits self }
     {
         self.0
+    }
+
+    /// Whether all keys of another set are held.
+    ///
+    /// ```
+    /// let is_end = key.modifiers.contains(KeyModifiers::CONTROL) && key.code == KeyCode::Char('c');
+    /// ```
+    pub fn contains(self, other: KeyModifiers) -> bool
+        ensures { result
+            ≡ (bit_and (modifier_bits self) (modifier_bits other) == modifier_bits other) }
+    {
+        Flags::contains(&self, other)
     }
 }
 

@@ -2,10 +2,12 @@
 
 use crate::cases::Case;
 use ratatui_core::buffer::Buffer;
-use ratatui_core::layout::Rect;
+use ratatui_core::layout::{Direction, Rect};
+use ratatui_core::style::{Modifier, Style};
 use ratatui_core::text::{Line, Span};
 use ratatui_core::widgets::Widget;
 use rtui_bars::{Bar, BarChart, BarGroup};
+use rtui_boxes::Block;
 use rtui_sparkline::{RenderDirection, Sparkline, SparklineBar};
 use rtui_tabs::Tabs;
 use std::alloc::{AllocError, Global};
@@ -54,6 +56,14 @@ pub fn tabs(
     tabs.select(case.number("selected")).render(area, buffer)
 }
 
+// The style that an option says: bold, or none.
+fn style_of(case: &Case<'_>, name: &str) -> Style {
+    match case.option(name) {
+        Some("bold") => Style::new().add_modifier(Modifier::BOLD),
+        _ => Style::new(),
+    }
+}
+
 // The bars that an option says, between commas; what is no number is an absent value.
 fn bars_of(alloc: Global, case: &Case<'_>) -> Result<Vec<SparklineBar>, AllocError> {
     let mut bars = Vec::new(alloc);
@@ -80,7 +90,12 @@ pub fn sparkline(
     if case.option("from") == Some("right") {
         sparkline = sparkline.direction(RenderDirection::RightToLeft);
     }
-    sparkline.render(area, buffer)
+    if case.option("box").is_some() {
+        sparkline = sparkline.block(Block::bordered(alloc));
+    }
+    sparkline
+        .style(style_of(case, "style"))
+        .render(area, buffer)
 }
 
 // The groups of bars that texts between bars say, as `a=3 | b=5`; a text without `=` begins a group
@@ -115,12 +130,17 @@ pub fn bar_chart(
     area: Rect,
     buffer: &mut Buffer,
 ) -> Result<(), AllocError> {
-    let mut chart = BarChart::new(groups_of(alloc, case.texts)?)
+    let mut chart = BarChart::grouped(groups_of(alloc, case.texts)?)
         .bar_width(case.small("width", 1))
         .bar_gap(case.small("gap", 1))
         .group_gap(case.small("groups", 0));
     if let Some(max) = case.number("max") {
         chart = chart.max(max as u64);
     }
-    chart.render(area, buffer)
+    if case.option("direction") == Some("horizontal") {
+        chart = chart.direction(Direction::Horizontal);
+    }
+    chart
+        .value_style(style_of(case, "values"))
+        .render(area, buffer)
 }

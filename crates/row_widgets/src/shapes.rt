@@ -10,6 +10,11 @@ pub fn marker_of(case: &Case<'_>) -> Marker {
     match case.option("marker") {
         Some("dot") => Marker::Dot,
         Some("bar") => Marker::Bar,
+        Some("block") => Marker::Block,
+        Some("half") => Marker::HalfBlock,
+        Some("quadrant") => Marker::Quadrant,
+        Some("sextant") => Marker::Sextant,
+        Some("octant") => Marker::Octant,
         _ => Marker::Braille,
     }
 }

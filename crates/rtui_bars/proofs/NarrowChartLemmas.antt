@@ -22,7 +22,7 @@ use Rattle.rtui_bars.specs.BarCharts.{text_of_bar, RendersTallBar, RendersLongBa
 use Rattle.rtui_bars.specs.BarCharts.{label_indent, RendersLabelOf, RendersGroups, ShowsChart, RendersBarChart}
 use Rattle.rtui_bars.specs.BarCharts.{bar_rows, bar_step, chart_eighths, beside_labels, label_columns, filled_cells}
 use Rattle.rtui_bars.specs.BarCharts.{greatest_of_chart, has_bar_labels, group_label_rows, is_written, has_group_labels}
-use Rattle.rtui_bars.specs.BarCharts.{bars_columns, shown_bars, fitting_count, after_bars}
+use Rattle.rtui_bars.specs.BarCharts.{middle_row, bars_columns, shown_bars, fitting_count, after_bars}
 use Rattle.rtui_bars.specs.BarCharts.{HasNarrowBarTexts, HasNarrowGroupTexts, HasNarrowGroups}
 use Rattle.std.proofs.lemmas.{Fmt.decimal_is_IsNumeral, Str.Parse.digit_at}
 use Rattle.ratatui_core.specs.Text.{ArePrintable, EachGrapheme, TakesOneColumn, EachLineGrapheme}
@@ -96,12 +96,12 @@ module _ (c : BarChart) (narrow : HasNarrowGroups c) where
       let n = filled_cells bar.value (greatest_of_chart c) bars.width in
       let style = patch c.bar_style bar.style in
       let filled = plain-changed bars (long_cell c.bar_set bars style n) old is.filled (lying-cell bars style n) is.cells plain in
-      let labelled = long-label-stays bar.label (rows_at 0 1 (first_columns (label_columns c) r)) is.filled is.labelled
+      let labelled = long-label-stays bar.label (middle_row (first_columns (label_columns c) r)) is.filled is.labelled
       texts.label filled is.label in
       let text = text_of_bar bar.value bar.text_value in
       let own = patch c.value_style bar.value_style in
-      plain-done (nat_lt 0 bars.width) (WritesOver own text n (rows_at 0 1 bars)) is.labelled new
-      labelled (over-stays own text n (rows_at 0 1 bars) is.labelled new texts.value labelled)
+      plain-done (nat_lt 0 bars.width) (WritesOver own text n (middle_row bars)) is.labelled new
+      labelled (over-stays own text n (middle_row bars) is.labelled new texts.value labelled)
       is.value
 
   bar-stays : (d : Direction) (bar : Bar) (r : Rect) (old new : BufferData) → HasNarrowBarTexts bar → IsPlainFrom 0 old

@@ -1,12 +1,12 @@
 -- A bar chart: of which parts it is made, and what it makes of a buffer.
 use Rattle.std.specs.Prelude.{◌≡◌, ℕ, Bool, ◌+◌, ◌-◌, ◌*◌, ◌/◌, ◌==◌, ◌&&◌, ◌||◌, nat_lt, nat_le, IfSome}
-use Rattle.std.specs.Prelude.{not, min, max, List, [], ◌∷◌, length, take, decimal, Option, Some, None}
+use Rattle.std.specs.Prelude.{not, min, max, List, [], ◌∷◌, ◌++◌, length, take, decimal, Option, Some, None}
 use Rattle.std.specs.Prelude.{is_some, if◌then◌else◌, unwrap_or, All, ◌≤◌}
 use Rattle.std.specs.{List.list_any, Borrow.Bor}
 use Rattle.ratatui_core.specs.Layout.{Rect, Position, corner}
 use Rattle.ratatui_core.specs.Style.{Style, new_style, patch}
 use Rattle.ratatui_core.specs.Symbols.{bar_texts, bar_levels}
-use Rattle.ratatui_core.specs.Text.{LineData, EachGrapheme, TakesOneColumn, EachLineGrapheme}
+use Rattle.ratatui_core.specs.Text.{LineData, raw_line, EachGrapheme, TakesOneColumn, EachLineGrapheme}
 use Rattle.ratatui_core.specs.declared.layout.HorizontalAlignment.{HorizontalAlignment}
 use Rattle.ratatui_core.specs.declared.layout.HorizontalAlignment.TheVariants.{Left, Center, Right}
 use Rattle.ratatui_core.specs.Buffer.{BufferData, Cell, styled, with_symbol, text_columns, pieces_at}
@@ -30,6 +30,10 @@ abbrev pub new_bar : ℕ → Option LineData → Bar
 new_bar value label =
     record { value = value; label = label; style = new_style; value_style = new_style; text_value = None }
 
+-- a bar of a plain label and a value
+abbrev pub raw_bar : Bor (List ℕ) × ℕ → Bar
+raw_bar bar = new_bar bar.1 (Some (raw_line bar.0.now))
+
 -- a chart of these groups in a direction: bars of one cell, a cell apart, without box, labels' and values'
 -- styles
 pub record IsNewBarChartIn (d : Direction) (groups : List BarGroup) (c : BarChart) : Type 0 where
@@ -51,6 +55,10 @@ IsNewBarChart = IsNewBarChartIn Vertical
 
 abbrev pub IsLyingBarChart : List BarGroup → BarChart → Type 0
 IsLyingBarChart = IsNewBarChartIn Horizontal
+
+-- groups with one more after them, if it has bars
+abbrev pub with_group : List BarGroup → BarGroup → List BarGroup
+with_group groups group = if length group.bars.items == 0 then groups else groups ++ (group ∷ [])
 
 -- the greatest value of bars and of groups, and the one that is as high as the chart: at least 1
 abbrev pub greatest_bar : List Bar → ℕ
@@ -176,8 +184,12 @@ pub record WritesOver (style : Style) (text : List ℕ) (n : ℕ) (r : Rect) (ol
   pub pieces : PaintsPieces (corner r) (pieces_at old.area r.x r.width new_style text) old written
   pub over : IsStyled (first_columns (min n (text_columns text)) r) style written new
 
--- a horizontal bar in its rows of an area: its cells right of the labels, its label in the first row, as it
--- is styled and aligned itself, and its value in the first row from the left on, in its own style as far as
+-- the middle row of an area; of an even number of rows the lower one of the two in the middle
+abbrev pub middle_row : Rect → Rect
+middle_row r = rows_at (r.height / 2) 1 r
+
+-- a horizontal bar in its rows of an area: its cells right of the labels, its label in the middle row, as it
+-- is styled and aligned itself, and its value in the middle row from the left on, in its own style as far as
 -- the bar goes; no value without columns
 pub record RendersLongBar (c : BarChart) (bar : Bar) (r : Rect) (old new : BufferData) : Type 0 where
   pub filled : BufferData
@@ -185,9 +197,9 @@ pub record RendersLongBar (c : BarChart) (bar : Bar) (r : Rect) (old new : Buffe
   pub cells : let bars = beside_labels (label_columns c) r in
       let n = filled_cells bar.value (greatest_of_chart c) bars.width in
       ChangesEach bars (long_cell c.bar_set bars (patch c.bar_style bar.style) n) old filled
-  pub label : let row = rows_at 0 1 (first_columns (label_columns c) r) in
+  pub label : let row = middle_row (first_columns (label_columns c) r) in
       RendersIfLine bar.label row filled labelled
-  pub value : let row = rows_at 0 1 (beside_labels (label_columns c) r) in
+  pub value : let row = middle_row (beside_labels (label_columns c) r) in
       let n = filled_cells bar.value (greatest_of_chart c) row.width in
       let text = text_of_bar bar.value bar.text_value in
       DoesIf (nat_lt 0 row.width) (WritesOver (patch c.value_style bar.value_style) text n row) labelled new

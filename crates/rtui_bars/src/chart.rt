@@ -1,14 +1,16 @@
 //! Bars in groups, with labels and values.
 
-ghost use Rattle.std.specs.Prelude.{◌≡◌, Some, None, IfOk, [], ◌∷◌, true};
+ghost use Rattle.std.specs.Prelude.{◌≡◌, Some, None, IfOk, [], ◌∷◌, true, map};
+ghost use Rattle.rtui_bars.specs.BarCharts.{raw_bar};
+ghost use Rattle.rtui_bars.specs.declared.group.BarGroup.{BarGroup as GroupData};
 ghost use Rattle.std.specs.Cmp.Lexicographic.{pointwise};
-ghost use Rattle.rtui_bars.specs.BarCharts.{IsNewBarChart, IsLyingBarChart};
+ghost use Rattle.rtui_bars.specs.BarCharts.{IsNewBarChart, IsLyingBarChart, with_group};
 ghost use Rattle.rtui_bars.specs.Inner.{measures_of};
 ghost use Rattle.rtui_bars.specs.BarCharts.{greatest_bar, greatest_of_chart, bar_label_width};
 ghost use Rattle.rtui_bars.specs.BarCharts.{widest_bar_label, widest_label, label_columns};
 
 use crate::chart_part::columns_of;
-use crate::group::{Bar, BarGroup};
+use crate::group::{Bar, BarGroup, raw_bars};
 use ratatui_core::buffer::Buffer;
 use ratatui_core::layout::{Direction, Rect};
 use ratatui_core::style::Style;
@@ -34,9 +36,7 @@ pub(crate) struct Measures {
 /// let mut bars = Vec::new(alloc);
 /// bars.push(Bar::with_label(Line::raw(alloc, "a")?, 3))?;
 /// bars.push(Bar::with_label(Line::raw(alloc, "b")?, 8))?;
-/// let mut groups = Vec::new(alloc);
-/// groups.push(BarGroup::new(bars))?;
-/// BarChart::new(groups).bar_width(3).render(area, buf)?;
+/// BarChart::new(alloc, bars)?.bar_width(3).render(area, buf)?;
 /// ```
 #[derive(Debug, PartialEq, Eq, Drop)]
 pub struct BarChart<'a> {
@@ -57,7 +57,7 @@ pub struct BarChart<'a> {
 impl<'a> BarChart<'a> {
     /// A chart of these groups: bars of one column, a column apart, without box and styles. Takes
     /// no memory.
-    pub fn new(groups: Vec<BarGroup<'a>>) -> BarChart<'a>
+    pub fn grouped(groups: Vec<BarGroup<'a>>) -> BarChart<'a>
         ensures { IsNewBarChart groups.entry.items result }
     {
         BarChart {
@@ -76,7 +76,44 @@ impl<'a> BarChart<'a> {
         }
     }
 
-    /// A chart of one group: bars of one column, a column apart. It takes memory for the group.
+    /// A chart without groups, to which [`BarChart::data`] adds them; takes no memory.
+    pub fn default_in(alloc: Global) -> BarChart<'a>
+        ensures { IsNewBarChart [] result }
+    {
+        BarChart::grouped(Vec::new(alloc))
+    }
+
+    /// A chart of one group of these bars: bars of one column, a column apart, without box and
+    /// styles. It takes memory for the group.
+    ///
+    /// # Errors
+    ///
+    /// `AllocError` if memory is refused.
+    pub fn new(alloc: Global, bars: Vec<Bar<'a>>) -> Result<BarChart<'a>, AllocError>
+        ensures { IfOk result (λ c. IsNewBarChart (record { label = None; bars = bars.entry } ∷ []) c) }
+    {
+        let mut groups = Vec::new(alloc);
+        groups.push(BarGroup::new(bars))?;
+        Ok(BarChart::grouped(groups))
+    }
+
+    /// A chart of one group of bars with plain labels, each as `Line::raw` makes it, and values.
+    ///
+    /// ```
+    /// BarChart::raw(alloc, &[("a", 3), ("b", 8)])?.bar_width(3).render(area, buf)?;
+    /// ```
+    ///
+    /// # Errors
+    ///
+    /// `AllocError` if memory is refused.
+    pub fn raw(alloc: Global, bars: &[(&'a str, u64)]) -> Result<BarChart<'a>, AllocError>
+        ensures { IfOk result (λ c. (group : GroupData) × IsNewBarChart (group ∷ []) c
+            × (group.label ≡ None) × (group.bars.items ≡ map raw_bar bars.now)) }
+    {
+        BarChart::new(alloc, raw_bars(alloc, bars)?)
+    }
+
+    /// A chart of one group of bars from below, as [`BarChart::new`].
     ///
     /// # Errors
     ///
@@ -84,9 +121,7 @@ impl<'a> BarChart<'a> {
     pub fn vertical(alloc: Global, bars: Vec<Bar<'a>>) -> Result<BarChart<'a>, AllocError>
         ensures { IfOk result (λ c. IsNewBarChart (record { label = None; bars = bars.entry } ∷ []) c) }
     {
-        let mut groups = Vec::new(alloc);
-        groups.push(BarGroup::new(bars))?;
-        Ok(BarChart::new(groups))
+        BarChart::new(alloc, bars)
     }
 
     /// A chart of one group of horizontal bars: bars of one row, a row apart. It takes memory for
@@ -98,15 +133,25 @@ impl<'a> BarChart<'a> {
     pub fn horizontal(alloc: Global, bars: Vec<Bar<'a>>) -> Result<BarChart<'a>, AllocError>
         ensures { IfOk result (λ c. IsLyingBarChart (record { label = None; bars = bars.entry } ∷ []) c) }
     {
-        Ok(BarChart::vertical(alloc, bars)?.direction(Direction::Horizontal))
+        Ok(BarChart::new(alloc, bars)?.direction(Direction::Horizontal))
     }
 
-    /// The chart of other groups.
-    pub fn data(mut self, groups: Vec<BarGroup<'a>>) -> BarChart<'a>
-        ensures { result ≡ record self.entry { groups = groups.entry } }
+    /// The chart with one group more after the others; one without bars isn't added. It may take
+    /// memory for the group.
+    ///
+    /// # Errors
+    ///
+    /// `AllocError` if memory is refused.
+    pub fn data(mut self, group: BarGroup<'a>) -> Result<BarChart<'a>, AllocError>
+        ensures groups { let groups = with_group self.entry.groups.items group.entry in
+            IfOk result (λ chart. chart.groups.items ≡ groups) }
+        ensures others { IfOk result
+            (λ chart. chart ≡ record self.entry { groups = chart.groups }) }
     {
-        self.groups = groups;
-        self
+        if !group.bars.is_empty() {
+            self.groups.push(group)?;
+        }
+        Ok(self)
     }
 
     /// The chart in a box.
@@ -135,9 +180,10 @@ impl<'a> BarChart<'a> {
     }
 
     /// The chart with its bars from below, side by side, or from the left, one under the other.
-    /// From the left, a label stands in the first row of its bar as it is styled and aligned
-    /// itself, in as many columns as the widest one has, and a blank column follows; a group's
-    /// label stands in the row after its bars, if groups are apart.
+    /// From the left, a label and a value stand in the middle row of their bar, of an even number
+    /// in the lower one of the two: the label as it is styled and aligned itself, in as many columns
+    /// as the widest one has, with a blank column after it. A group's label stands in the row after
+    /// its bars, if groups are apart.
     pub fn direction(mut self, direction: Direction) -> BarChart<'a>
         ensures { result ≡ record self.entry { direction = direction } }
     {

@@ -1,8 +1,8 @@
 //! The bars of a chart, in groups.
 
-ghost use Rattle.std.specs.Prelude.{◌≡◌, Some, None, IfOk, true};
+ghost use Rattle.std.specs.Prelude.{◌≡◌, Some, None, IfOk, true, map};
 ghost use Rattle.ratatui_core.specs.Style.{new_style};
-ghost use Rattle.rtui_bars.specs.BarCharts.{new_bar};
+ghost use Rattle.rtui_bars.specs.BarCharts.{new_bar, raw_bar};
 
 use ratatui_core::style::Style;
 use ratatui_core::text::Line;
@@ -154,6 +154,21 @@ impl<'a> BarGroup<'a> {
             bars: cloned_bars(alloc, self.bars.as_slice())?,
         })
     }
+}
+
+// A bar for each label and value.
+pub(crate) fn raw_bars<'a>(
+    alloc: Global,
+    bars: &[(&'a str, u64)],
+) -> Result<Vec<Bar<'a>>, AllocError>
+    ensures { IfOk result (λ made. made.items ≡ map raw_bar bars.now) }
+{
+    let mut made = Vec::with_capacity(alloc, bars.len())?;
+    for bar in bars {
+        let (label, value) = *bar;
+        made.push(Bar::with_label(Line::raw(alloc, label)?, value))?;
+    }
+    Ok(made)
 }
 
 // Equal bars.

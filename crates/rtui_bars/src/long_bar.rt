@@ -148,7 +148,7 @@ impl<'a> BarChart<'a> {
         }
     }
 
-    // Renders a horizontal bar in its rows of an area.
+    // Renders a horizontal bar in its rows of an area, its label and its value in the middle one.
     pub(crate) fn render_long_bar(
         &self,
         bar: &Bar<'a>,
@@ -165,8 +165,9 @@ impl<'a> BarChart<'a> {
         let bars = beside_labels(measures.labels, area);
         let filled = filled_cells(bar.value, measures.greatest, bars.width);
         self.fill_long_bar(bar, filled, bars, buf)?;
-        let row = rows_at(0, 1, first_columns(measures.labels, area));
+        let middle = area.height / 2;
+        let row = rows_at(middle, 1, first_columns(measures.labels, area));
         render_long_label(&bar.label, row, buf)?;
-        self.write_long_value(bar, filled, rows_at(0, 1, bars), buf)
+        self.write_long_value(bar, filled, rows_at(middle, 1, bars), buf)
     }
 }

@@ -1,2 +1,4 @@
 pub mod CanvasLemmas
 pub mod NarrowCanvasLemmas
+pub mod NarrowPixelLemmas
+pub mod RunLemmas

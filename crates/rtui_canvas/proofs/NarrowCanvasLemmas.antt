@@ -1,9 +1,9 @@
 -- A canvas of narrow marks and labels keeps cells plain.
-use Rattle.std.proofs.Common.{◌≡◌, ℕ, zero, suc, ◌+◌, ◌-◌, ◌*◌, ◌%◌, ◌<◌, ◌≤◌, ◌==◌, ⊎_elim, Bool, true, false, IfSome}
-use Rattle.std.proofs.Common.{◌&&◌, if◌then◌else◌, List, [], ◌∷◌, All, replicate, arith, refl, subst, nat_le}
+use Rattle.std.proofs.Common.{◌≡◌, ℕ, zero, suc, ◌+◌, ◌-◌, ◌*◌, ◌%◌, ◌<◌, ◌≤◌, ◌==◌, Bool, true, false, IfSome}
+use Rattle.std.proofs.Common.{if◌then◌else◌, List, [], ◌∷◌, All, replicate, arith, refl, nat_le}
 use Rattle.std.proofs.Common.{slice_index, slice_index_or, slice_set, bit_or, lit<}
 use Rattle.std.specs.{Char.encode_utf8}
-use Rattle.std.proofs.lemmas.{Bool.cases_lt, Bool.and_parts, Bool.Decides.nat_tests, Nat.or_lt}
+use Rattle.std.proofs.lemmas.{Bool.Decides.nat_tests, Nat.or_lt}
 use Rattle.std.proofs.lemmas.List.Elements.{All-nil, All-cons, All-head, All-tail}
 use Rattle.unicode_width.proofs.Computing.{unicode_width}
 use Rattle.ratatui_core.specs.Layout.{Rect, intersected}
@@ -17,7 +17,9 @@ use Rattle.ratatui_core.proofs.BufferLemmas.{plain-with_symbol, plain-changed, l
 use Rattle.rtui_boxes.proofs.{InnerLemmas.plain-inside, PlainBoxLemmas.plain-laid, PlainBoxLemmas.plain-done}
 use Rattle.rtui_dots.specs.declared.{scale.Scale.Scale, painter.DotCell.DotCell}
 use Rattle.rtui_dots.specs.Grids.{Dot as GridDot, has_point, has_dot, far, dot_number, index_of, is_lower, with_dot_number}
-use Rattle.rtui_dots.specs.Grids.{no_dots, with_dot, with_dots, empty_grid, braille_dots}
+use Rattle.rtui_dots.specs.Grids.{has_one_color, no_dots, with_dot, with_dots, empty_grid, braille_dots}
+use Rattle.rtui_dots.specs.Grids.{pixels}
+use Rattle.rtui_canvas.proofs.RunLemmas.{all_run, from-runs}
 use Rattle.rtui_dots.specs.Layers.{layers_of}
 use Rattle.rtui_canvas.specs.{declared.canvas.Canvas.Canvas, declared.label.Label.Label}
 use Rattle.rtui_canvas.specs.Canvases.{dot_mark, in_color, under_dots, shown_at, ShowsLayers}
@@ -30,87 +32,66 @@ use Rattle.rtui_boxes.specs.Framed.{inner_if}
 abbrev is_narrow_braille : ℕ → Bool
 is_narrow_braille n = nat_le (text_width (encode_utf8 (0x2800 + n))) 1
 
-abbrev are_narrow_run : ℕ → ℕ → Bool
-are_narrow_run base zero = true
-are_narrow_run base (suc n) = is_narrow_braille (base + n) && are_narrow_run base n
-
-run-0 : are_narrow_run 0 32 ≡ true
+run-0 : all_run is_narrow_braille 0 32 ≡ true
 unfolding encode_utf8 text_width unicode_width
 run-0 = refl
 
-run-1 : are_narrow_run 32 32 ≡ true
+run-1 : all_run is_narrow_braille 32 32 ≡ true
 unfolding encode_utf8 text_width unicode_width
 run-1 = refl
 
-run-2 : are_narrow_run 64 32 ≡ true
+run-2 : all_run is_narrow_braille 64 32 ≡ true
 unfolding encode_utf8 text_width unicode_width
 run-2 = refl
 
-run-3 : are_narrow_run 96 32 ≡ true
+run-3 : all_run is_narrow_braille 96 32 ≡ true
 unfolding encode_utf8 text_width unicode_width
 run-3 = refl
 
-run-4 : are_narrow_run 128 32 ≡ true
+run-4 : all_run is_narrow_braille 128 32 ≡ true
 unfolding encode_utf8 text_width unicode_width
 run-4 = refl
 
-run-5 : are_narrow_run 160 32 ≡ true
+run-5 : all_run is_narrow_braille 160 32 ≡ true
 unfolding encode_utf8 text_width unicode_width
 run-5 = refl
 
-run-6 : are_narrow_run 192 32 ≡ true
+run-6 : all_run is_narrow_braille 192 32 ≡ true
 unfolding encode_utf8 text_width unicode_width
 run-6 = refl
 
-run-7 : are_narrow_run 224 32 ≡ true
+run-7 : all_run is_narrow_braille 224 32 ≡ true
 unfolding encode_utf8 text_width unicode_width
 run-7 = refl
 
-in-run : (base k n : ℕ) → are_narrow_run base k ≡ true → n < k → is_narrow_braille (base + n) ≡ true
-in-run base zero n all lt = absurd (omega arith)
-in-run base (suc k) n all lt =
-    let parts = and_parts (is_narrow_braille (base + k)) (are_narrow_run base k) all in
-    ⊎_elim (λ (less : n < k). in-run base k n parts.1 less)
-    (λ (more : k ≤ n). let e : n ≡ k = omega arith in rw e parts.0) (cases_lt n k)
-
-at-run : (base n : ℕ) → are_narrow_run base 32 ≡ true → base ≤ n → n < base + 32 → is_narrow_braille n ≡ true
-at-run base n all from to =
-    let e : base + (n - base) ≡ n = omega arith in
-    subst (λ m. is_narrow_braille m ≡ true) e (in-run base 32 (n - base) all (omega arith))
-
--- one of those below a number, or one of the next run
-or-next : (base n : ℕ) → are_narrow_run base 32 ≡ true → (n < base → is_narrow_braille n ≡ true) → n < base + 32
-    → is_narrow_braille n ≡ true
-or-next base n all below to = ⊎_elim below (λ (from : base ≤ n). at-run base n all from to) (cases_lt n base)
-
 pub braille-narrow : HasNarrowDots Braille
-braille-narrow n lt =
-    let e : is_narrow_braille n ≡ true =
-    or-next 224 n run-7 (or-next 192 n run-6 (or-next 160 n run-5 (or-next 128 n run-4
-    (or-next 96 n run-3 (or-next 64 n run-2 (or-next 32 n run-1 (or-next 0 n run-0
-    (λ (none : n < 0). absurd (omega arith))))))))) (omega arith)
-    in grind (arith, nat_tests, e)
+braille-narrow d lt =
+    let e : is_narrow_braille d.pattern ≡ true =
+    from-runs is_narrow_braille run-0 run-1 run-2 run-3 run-4 run-5 run-6 run-7 d.pattern lt in grind (arith, nat_tests, e)
 
 -- and each other mark
 pub dot-narrow : HasNarrowDots Dot
 unfolding encode_utf8 text_width unicode_width
-dot-narrow n lt = lit< tt
+dot-narrow d lt = lit< tt
 
 pub bar-narrow : HasNarrowDots Bar
 unfolding encode_utf8 text_width unicode_width
-bar-narrow n lt = lit< tt
+bar-narrow d lt = lit< tt
 
 pub block-narrow : HasNarrowDots Block
 unfolding encode_utf8 text_width unicode_width
-block-narrow n lt = lit< tt
+block-narrow d lt = lit< tt
 
-half-narrow : (is_lower : Bool) → text_width (encode_utf8 (if is_lower then 0x2584 else 0x2580)) ≤ 1
+half-narrow : (is_upper is_lower is_one : Bool)
+    → text_width (encode_utf8 (if is_upper then 0x2580 else if is_lower then 0x2584 else if is_one then 0x2588 else 0x2580)) ≤ 1
 unfolding encode_utf8 text_width unicode_width
-half-narrow true = lit< tt
-half-narrow false = lit< tt
+half-narrow true lower one = lit< tt
+half-narrow false true one = lit< tt
+half-narrow false false true = lit< tt
+half-narrow false false false = lit< tt
 
 pub halves-narrow : HasNarrowDots HalfBlock
-halves-narrow n lt = half-narrow (n == 2)
+halves-narrow d lt = half-narrow (d.pattern == 1) (d.pattern == 2) (has_one_color d)
 
 -- the patterns of a grid's cells are numbers below 256
 abbrev AreSmall : List DotCell → Type 0
@@ -161,15 +142,26 @@ number-in (suc (suc (suc (suc (suc (suc zero)))))) lt = lit< tt
 number-in (suc (suc (suc (suc (suc (suc (suc zero))))))) lt = lit< tt
 number-in (suc (suc (suc (suc (suc (suc (suc (suc i)))))))) lt = absurd (omega arith)
 
+pixel-in : (i : ℕ) → i < 8 → slice_index pixels i < 256
+pixel-in zero lt = lit< tt
+pixel-in (suc zero) lt = lit< tt
+pixel-in (suc (suc zero)) lt = lit< tt
+pixel-in (suc (suc (suc zero))) lt = lit< tt
+pixel-in (suc (suc (suc (suc zero)))) lt = lit< tt
+pixel-in (suc (suc (suc (suc (suc zero))))) lt = lit< tt
+pixel-in (suc (suc (suc (suc (suc (suc zero)))))) lt = lit< tt
+pixel-in (suc (suc (suc (suc (suc (suc (suc zero))))))) lt = lit< tt
+pixel-in (suc (suc (suc (suc (suc (suc (suc (suc i)))))))) lt = absurd (omega arith)
+
 number-small : (m : Marker) (x y : ℕ) → dot_number m x y < 256
 number-small Braille x y = number-in (y % 4 * 2 + x % 2) (omega arith)
 number-small HalfBlock x y = omega arith
 number-small Dot x y = lit< tt
 number-small Block x y = lit< tt
 number-small Bar x y = lit< tt
-number-small Quadrant x y = lit< tt
-number-small Sextant x y = lit< tt
-number-small Octant x y = lit< tt
+number-small Quadrant x y = pixel-in (y % 2 * 2 + x % 2) (omega arith)
+number-small Sextant x y = pixel-in (y % 3 * 2 + x % 2) (omega arith)
+number-small Octant x y = pixel-in (y % 4 * 2 + x % 2) (omega arith)
 number-small (Custom ch) x y = lit< tt
 
 small-dot : (s : Scale) (d : GridDot) (cells : List DotCell) → AreSmall cells → AreSmall (with_dot s d cells)
@@ -226,11 +218,11 @@ under-plain : (m : Marker) → HasNarrowDots m → (d : DotCell) (c : Cell) → 
 under-plain m narrow d c small is = by_test (d.pattern == 0)
   where
     marked : Cell
-    marked = in_color m d (with_symbol (encode_utf8 (dot_mark m d.pattern)) c)
+    marked = in_color m d (with_symbol (encode_utf8 (dot_mark m d)) c)
 
     by_test : (t : Bool) → IsPlain (if t then c else marked)
     by_test true = is
-    by_test false = in-color-plain m d _ (plain-with_symbol _ c is (narrow d.pattern small))
+    by_test false = in-color-plain m d _ (plain-with_symbol _ c is (narrow d small))
 
 module _ (s : Scale) (narrow : HasNarrowDots s.marker) where
   layers-stay : (r : Rect) (layers : List (List GridDot)) (old new : BufferData) → IsPlainFrom 0 old

@@ -1,6 +1,6 @@
 -- A canvas: what its dots and labels make of a buffer.
-use Rattle.std.specs.Prelude.{◌≡◌, ℕ, ◌+◌, ◌-◌, ◌*◌, ◌==◌, List, [], ◌∷◌, pos}
-use Rattle.std.specs.Prelude.{None, slice_index_or, encode_utf8, ◌<◌, ◌≤◌, if◌then◌else◌}
+use Rattle.std.specs.Prelude.{◌≡◌, ℕ, ◌+◌, ◌-◌, ◌*◌, ◌/◌, ◌%◌, ◌==◌, List, [], ◌∷◌, pos}
+use Rattle.std.specs.Prelude.{None, slice_index, slice_index_or, encode_utf8, ◌<◌, ◌≤◌, if◌then◌else◌}
 use Rattle.ratatui_core.specs.Layout.{Rect, Position}
 use Rattle.ratatui_core.specs.Text.{LineData}
 use Rattle.ratatui_core.specs.Style.{Reset, new_style, with_bg}
@@ -8,22 +8,40 @@ use Rattle.ratatui_core.specs.Buffer.{BufferData, Cell, with_symbol, ChangesEach
 use Rattle.ratatui_core.specs.Widgets.{RendersLine}
 use Rattle.ratatui_core.specs.declared.symbols.Marker.{Marker}
 use Rattle.ratatui_core.specs.declared.symbols.Marker.TheVariants.{Braille, HalfBlock, Bar, Dot, Custom}
+use Rattle.ratatui_core.specs.declared.symbols.Marker.TheVariants.{Block, Quadrant, Sextant, Octant}
 use Rattle.rtui_boxes.specs.Titles.{InTurn, DoesIf, title_width, first_columns}
 use Rattle.rtui_boxes.specs.Framed.{RendersInFrame}
 use Rattle.rtui_dots.specs.declared.{scale.Scale.Scale, painter.DotCell.DotCell}
 use Rattle.rtui_canvas.specs.declared.{label.Label.Label, canvas.Canvas.Canvas}
+use Rattle.rtui_canvas.specs.declared.shown.TheConstants.{QUADRANTS, SEXTANTS, OCTANTS}
 use Rattle.rtui_dots.specs.Grids.{Dot as GridDot, has_point, column_of_cell, row_of_cell, no_dots, empty_grid}
-use Rattle.rtui_dots.specs.Grids.{with_dots}
+use Rattle.rtui_dots.specs.Grids.{has_one_color, with_dots}
 use Rattle.rtui_dots.specs.Layers.{layers_of}
 
--- the character of a cell's dots
-abbrev pub dot_mark : Marker → ℕ → ℕ
-dot_mark Braille n = 0x2800 + n
-dot_mark HalfBlock n = if n == 2 then 0x2584 else 0x2580
-dot_mark Dot n = 0x2022
-dot_mark Bar n = 0x2584
-dot_mark (Custom c) n = c
-dot_mark m n = 0x2588
+-- the character of a cell's halves: the one that is set, and of two a whole block if they have one colour, or
+-- else the upper one
+abbrev pub half_mark : DotCell → ℕ
+half_mark d =
+    if d.pattern == 1 then 0x2580
+    else if d.pattern == 2 then 0x2584
+    else if has_one_color d then 0x2588
+    else 0x2580
+
+-- the character of a cell's dots; those of quadrants, sextants and octants stand in tables by their pattern
+abbrev pub dot_mark : Marker → DotCell → ℕ
+dot_mark Braille d = 0x2800 + d.pattern
+dot_mark HalfBlock d = half_mark d
+dot_mark Quadrant d = slice_index QUADRANTS (d.pattern % 16)
+dot_mark Sextant d = slice_index SEXTANTS (d.pattern % 64)
+dot_mark Octant d = slice_index OCTANTS d.pattern
+dot_mark Dot d = 0x2022
+dot_mark Bar d = 0x2584
+dot_mark (Custom c) d = c
+dot_mark Block d = 0x2588
+
+-- a pattern of two rows of two dots, with each row twice
+abbrev pub rows_doubled : ℕ → ℕ
+rows_doubled n = n % 4 * 5 + n / 4 * 80
 
 -- a cell in the colour of its dots; of half blocks the upper one is before the lower one's colour, if both
 -- are set
@@ -37,7 +55,7 @@ in_color m d c = record c { fg = d.color }
 -- a cell under its dots, if it has any
 abbrev pub under_dots : Marker → DotCell → Cell → Cell
 under_dots m d c =
-    if d.pattern == 0 then c else in_color m d (with_symbol (encode_utf8 (dot_mark m d.pattern)) c)
+    if d.pattern == 0 then c else in_color m d (with_symbol (encode_utf8 (dot_mark m d)) c)
 
 -- an area's cell under the dots of a grid
 abbrev pub shown_at : Scale → Rect → List DotCell → Position → Cell → Cell
@@ -115,4 +133,4 @@ pub record IsNewCanvas (c : Canvas) : Type 0 where
 
 -- each character of a marker's dots takes at most one column
 abbrev pub HasNarrowDots : Marker → Type 0
-HasNarrowDots m = (n : ℕ) → n < 256 → text_width (encode_utf8 (dot_mark m n)) ≤ 1
+HasNarrowDots m = (d : DotCell) → d.pattern < 256 → text_width (encode_utf8 (dot_mark m d)) ≤ 1

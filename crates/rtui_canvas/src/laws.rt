@@ -1,12 +1,16 @@
 //! Laws of canvases that are no single call's clause.
 
-ghost use Rattle.std.specs.Prelude.{All, IfSome};
+ghost use Rattle.std.specs.Prelude.{◌≡◌, All, IfSome, map, slice_index};
 ghost use Rattle.ratatui_core.specs.Layout.{Rect};
 ghost use Rattle.ratatui_core.specs.Buffer.{BufferData, IsPlainFrom};
 ghost use Rattle.ratatui_core.specs.declared.symbols.Marker.TheVariants.{Dot, Block, Bar, Braille};
-ghost use Rattle.ratatui_core.specs.declared.symbols.Marker.TheVariants.{HalfBlock};
+ghost use Rattle.ratatui_core.specs.declared.symbols.Marker.TheVariants.{HalfBlock, Quadrant, Sextant};
+ghost use Rattle.ratatui_core.specs.declared.symbols.Marker.TheVariants.{Octant};
+ghost use Rattle.ratatui_core.specs.Symbols.{filled, older_octants, older_sextants};
+ghost use Rattle.rtui_canvas.specs.declared.shown.TheConstants.{QUADRANTS, SEXTANTS, OCTANTS};
+ghost use Rattle.std.specs.List.{range_with_len};
 ghost use Rattle.rtui_canvas.specs.declared.canvas.Canvas.{Canvas};
-ghost use Rattle.rtui_canvas.specs.Canvases.{HasNarrowDots, RendersCanvas};
+ghost use Rattle.rtui_canvas.specs.Canvases.{HasNarrowDots, RendersCanvas, rows_doubled};
 ghost use Rattle.ratatui_core.specs.Text.{TakesOneColumn, EachLineGrapheme};
 ghost use Rattle.rtui_boxes.specs.Boxes.{IsNarrowBox};
 
@@ -26,4 +30,16 @@ pub fn marks_are_narrow()
     ensures dots { HasNarrowDots Dot }
     ensures blocks { HasNarrowDots Block }
     ensures bars { HasNarrowDots Bar }
+    ensures quadrants { HasNarrowDots Quadrant }
+    ensures sextants { HasNarrowDots Sextant }
+    ensures octants { HasNarrowDots Octant }
+{}
+
+/// Sextants and octants stand in the order of their characters, but for the older ones, and each
+/// quadrant is the octant that has each of its rows twice.
+pub fn marks_have_their_dots()
+    ensures sextants { SEXTANTS ≡ filled older_sextants 64 0 0x1fb00 }
+    ensures octants { OCTANTS ≡ filled older_octants 256 0 0x1cd00 }
+    ensures quadrants { QUADRANTS
+        ≡ map (λ n. slice_index OCTANTS (rows_doubled n)) (range_with_len 0 16) }
 {}

@@ -3,26 +3,47 @@
 ghost use Rattle.std.specs.Prelude.{◌≡◌, IsOk};
 ghost use Rattle.ratatui_core.specs.Widgets.{ChangesWithin};
 ghost use Rattle.ratatui_core.specs.Buffer.{ChangesEach};
-ghost use Rattle.rtui_canvas.specs.Canvases.{dot_mark, in_color, under_dots, shown_at};
+ghost use Rattle.rtui_canvas.specs.Canvases.{half_mark, dot_mark, in_color, under_dots, shown_at};
 
 use ratatui_core::buffer::{Buffer, Cell, CellChange, change_area};
 use ratatui_core::layout::{Position, Rect};
-use ratatui_core::symbols::Marker;
+use ratatui_core::symbols::{Marker, pixel};
 use rtui_dots::{DotCell, Painter, Scale};
 use std::alloc::{AllocError, Global};
 
+// The characters of patterns of dots.
+static QUADRANTS: [char; 16] = pixel::QUADRANTS;
+
+static SEXTANTS: [char; 64] = pixel::SEXTANTS;
+
+static OCTANTS: [char; 256] = pixel::OCTANTS;
+
+// The character of a cell's halves: a whole block where both have one colour.
+fn half_mark(dots: &DotCell) -> char
+    ensures { result ≡ half_mark dots.now }
+{
+    match dots.pattern {
+        1 => '▀',
+        2 => '▄',
+        _ if dots.has_one_color() => '█',
+        _ => '▀',
+    }
+}
+
 // The character of a cell's dots.
-fn dot_mark(marker: Marker, pattern: u8) -> char
-    ensures { result ≡ dot_mark marker pattern }
+fn dot_mark(marker: Marker, dots: &DotCell) -> char
+    ensures { result ≡ dot_mark marker dots.now }
 {
     match marker {
-        Marker::Braille => char::from_u32(0x2800 + u32::from(pattern)).unwrap(),
-        Marker::HalfBlock if pattern == 2 => '▄',
-        Marker::HalfBlock => '▀',
+        Marker::Braille => char::from_u32(0x2800 + u32::from(dots.pattern)).unwrap(),
+        Marker::HalfBlock => half_mark(dots),
+        Marker::Quadrant => QUADRANTS[usize::from(dots.pattern % 16)],
+        Marker::Sextant => SEXTANTS[usize::from(dots.pattern % 64)],
+        Marker::Octant => OCTANTS[usize::from(dots.pattern)],
         Marker::Dot => '•',
         Marker::Bar => '▄',
+        Marker::Block => '█',
         Marker::Custom(ch) => ch,
-        _ => '█',
     }
 }
 
@@ -57,7 +78,7 @@ fn show_cell(
     if dots.pattern == 0 {
         return Ok(());
     }
-    cell.set_char(alloc, dot_mark(marker, dots.pattern))?;
+    cell.set_char(alloc, dot_mark(marker, dots))?;
     set_color(marker, dots, cell);
     Ok(())
 }

@@ -39,7 +39,7 @@ pub struct Chart<'a> {
     x_axis: Axis<'a>,
     y_axis: Axis<'a>,
     datasets: Vec<Dataset<'a>>,
-    style: Style,
+    pub(crate) style: Style,
     legend_position: Option<LegendPosition>,
     hidden_legend_constraints: (Constraint, Constraint),
 }

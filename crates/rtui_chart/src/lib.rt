@@ -13,6 +13,7 @@ pub mod laws;
 mod layout;
 mod legend;
 mod parts;
+mod styled;
 
 pub use axis::Axis;
 pub use chart::Chart;

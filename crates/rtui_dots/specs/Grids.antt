@@ -2,22 +2,28 @@
 use Rattle.std.specs.Prelude.{◌≡◌, ℕ, ◌+◌, ◌-◌, ◌*◌, ◌/◌, ◌%◌, ◌^◌, Bool, true, false, ◌&&◌, ◌==◌, nat_le}
 use Rattle.std.specs.Prelude.{nat_lt, min, max, List, [], ◌∷◌, replicate, ℤ, ◌-ℤ◌, int_lt, int_le}
 use Rattle.std.specs.Prelude.{unsigned_abs, bit_or, slice_index, slice_index_or, slice_set, if◌then◌else◌}
-use Rattle.std.specs.Int.{div_ceil}
 use Rattle.rtui_style.specs.declared.color.Color.{Color}
 use Rattle.rtui_style.specs.declared.color.Color.TheVariants.{Reset}
+use Rattle.rtui_style.specs.contracts.color.ColorPartialEq.TheImpl as color_equality
 use Rattle.rtui_symbols.specs.declared.marker.Marker.{Marker}
-use Rattle.rtui_symbols.specs.declared.marker.Marker.TheVariants.{Braille, HalfBlock}
+use Rattle.rtui_symbols.specs.declared.marker.Marker.TheVariants.{Braille, HalfBlock, Quadrant, Sextant, Octant}
 use Rattle.rtui_dots.specs.declared.scale.Scale.{Scale}
 use Rattle.rtui_dots.specs.declared.painter.{DotCell.DotCell, Painter.Painter}
 
 -- how many dots a cell has side by side, and how many one over the other
 abbrev pub dots_across : Marker → ℕ
 dots_across Braille = 2
+dots_across Quadrant = 2
+dots_across Sextant = 2
+dots_across Octant = 2
 dots_across m = 1
 
 abbrev pub dots_down : Marker → ℕ
 dots_down Braille = 4
 dots_down HalfBlock = 2
+dots_down Quadrant = 2
+dots_down Sextant = 3
+dots_down Octant = 4
 dots_down m = 1
 
 -- how many dots a grid has in a row and in a column
@@ -32,15 +38,20 @@ dot_rows s = s.rows * dots_down s.marker
 abbrev pub far : ℕ
 far = 2 ^ 60
 
--- the place, from 0 on, among so many that share a whole length, of what lies n from the first one
+-- the place, from 0 on, among so many that share a whole length, of what lies n from the first one, rounded
+-- down
 abbrev pub share : ℕ → ℕ → ℕ → ℕ
 share n whole count = n * (count - 1) / whole
 
--- such a place of a grid; outside it, if it lies before the first one or behind the last one
+-- the nearest such place; of two as near the one farther from the first
+abbrev pub nearest : ℕ → ℕ → ℕ → ℕ
+nearest n whole count = (2 * (n * (count - 1)) + whole) / (2 * whole)
+
+-- the nearest place of a grid; outside it, if it lies before the first one or behind the last one
 abbrev pub dot_place : Bool → Bool → ℕ → ℕ → ℕ → ℕ
-dot_place true behind n whole count = far - min (max (div_ceil (n * (count - 1)) whole) 1) far
-dot_place false true n whole count = far + min (max (share n whole count) count) far
-dot_place false false n whole count = far + min (share n whole count) far
+dot_place true behind n whole count = far - min (max (nearest n whole count) 1) far
+dot_place false true n whole count = far + min (max (nearest n whole count) count) far
+dot_place false false n whole count = far + min (nearest n whole count) far
 
 -- how far two numbers are apart
 abbrev pub span : ℤ → ℤ → ℕ
@@ -88,24 +99,32 @@ point_dot s x y color = record { x = dot_column s x; y = dot_row s y; color = co
 abbrev pub no_dots : DotCell
 no_dots = record { pattern = 0; color = Reset; lower = Reset }
 
+-- whether the two halves of a cell have one colour
+unfoldable pub has_one_color : DotCell → Bool
+has_one_color d = color_equality.eq-value.it d.color d.lower
+
 -- the cell of a dot, by its column and row in the grid
 abbrev pub cell_column : Marker → ℕ → ℕ
-cell_column Braille x = x / 2
-cell_column m x = x
+cell_column m x = x / dots_across m
 
 abbrev pub cell_row : Marker → ℕ → ℕ
-cell_row Braille y = y / 4
-cell_row HalfBlock y = y / 2
-cell_row m y = y
+cell_row m y = y / dots_down m
 
 -- the numbers of the dots of a Braille pattern, row by row
 abbrev pub braille_dots : List ℕ
 braille_dots = 0x01 ∷ 0x08 ∷ 0x02 ∷ 0x10 ∷ 0x04 ∷ 0x20 ∷ 0x40 ∷ 0x80 ∷ []
 
+-- those of quadrants, sextants and octants, row by row: each a bit
+abbrev pub pixels : List ℕ
+pixels = 0x01 ∷ 0x02 ∷ 0x04 ∷ 0x08 ∷ 0x10 ∷ 0x20 ∷ 0x40 ∷ 0x80 ∷ []
+
 -- a dot's number in the pattern of its cell: of half blocks 1 is the upper one and 2 the lower one
 abbrev pub dot_number : Marker → ℕ → ℕ → ℕ
 dot_number Braille x y = slice_index braille_dots (y % 4 * 2 + x % 2)
 dot_number HalfBlock x y = y % 2 + 1
+dot_number Quadrant x y = slice_index pixels (y % 2 * 2 + x % 2)
+dot_number Sextant x y = slice_index pixels (y % 3 * 2 + x % 2)
+dot_number Octant x y = slice_index pixels (y % 4 * 2 + x % 2)
 dot_number m x y = 1
 
 -- whether a dot's number is that of the lower half of a cell

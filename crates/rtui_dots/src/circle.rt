@@ -23,6 +23,20 @@ pub struct Circle {
     pub color: Color,
 }
 
+impl Circle {
+    /// A circle around this centre.
+    pub fn new(x: i64, y: i64, radius: u64, color: Color) -> Circle
+        ensures { result ≡ record { x = x; y = y; radius = radius; color = color } }
+    {
+        Circle {
+            x,
+            y,
+            radius,
+            color,
+        }
+    }
+}
+
 // The cosines of 0 to 90 degrees in billionths.
 static COSINES: [u32; 91] = [
     1_000_000_000,

@@ -28,6 +28,21 @@ pub struct Line {
     pub color: Color,
 }
 
+impl Line {
+    /// A line from one point to another one.
+    pub fn new(x1: i64, y1: i64, x2: i64, y2: i64, color: Color) -> Line
+        ensures { result ≡ record { x1 = x1; y1 = y1; x2 = x2; y2 = y2; color = color } }
+    {
+        Line {
+            x1,
+            y1,
+            x2,
+            y2,
+            color,
+        }
+    }
+}
+
 // A line as steps along its longer side.
 #[derive(Clone, Copy)]
 pub(crate) struct Run {

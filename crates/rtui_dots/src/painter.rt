@@ -2,7 +2,7 @@
 
 ghost use Rattle.std.specs.Prelude.{◌≡◌, ◌≤◌, ◌<◌, ◌+◌, ◌*◌, IsTrue, IfOk, [], ◌∷◌, length, replicate};
 ghost use Rattle.rtui_dots.specs.Grids.{far, no_dots, empty_grid, cell_row, cell_column, dot_number};
-ghost use Rattle.rtui_dots.specs.Grids.{with_dot_number};
+ghost use Rattle.rtui_dots.specs.Grids.{has_one_color, with_dot_number};
 ghost use Rattle.rtui_dots.specs.Grids.{has_dot, SetsDots};
 
 use crate::scale::{FAR, Scale};
@@ -14,7 +14,8 @@ use std::alloc::{AllocError, Global};
 #[derive(Debug, Clone, Copy)]
 pub struct DotCell {
     /// The dots: of Braille the number of the pattern after the empty one, of half blocks 1 for the
-    /// upper one and 2 for the lower one, and else 1; 0 where there is none.
+    /// upper one and 2 for the lower one, of quadrants, sextants and octants a bit for each dot, row
+    /// by row from the top, the left one first, and else 1; 0 where there is none.
     pub pattern: u8,
     /// The colour of the dot that was set last, other than the lower half.
     pub color: Color,
@@ -30,6 +31,8 @@ const NO_DOTS: DotCell = DotCell {
 
 static BRAILLE_DOTS: [u8; 8] = [0x01, 0x08, 0x02, 0x10, 0x04, 0x20, 0x40, 0x80];
 
+static PIXELS: [u8; 8] = [0x01, 0x02, 0x04, 0x08, 0x10, 0x20, 0x40, 0x80];
+
 /// A grid of dots, which shapes set.
 #[derive(Debug, Drop)]
 pub struct Painter {
@@ -44,6 +47,9 @@ fn dot_number(marker: Marker, x: u64, y: u64) -> u8
     match marker {
         Marker::Braille => BRAILLE_DOTS[(y % 4 * 2 + x % 2) as usize],
         Marker::HalfBlock => (y % 2 + 1) as u8,
+        Marker::Quadrant => PIXELS[(y % 2 * 2 + x % 2) as usize],
+        Marker::Sextant => PIXELS[(y % 3 * 2 + x % 2) as usize],
+        Marker::Octant => PIXELS[(y % 4 * 2 + x % 2) as usize],
         _ => 1,
     }
 }
@@ -54,7 +60,7 @@ fn cell_column(marker: Marker, x: u64) -> u64
     ensures within { result ≤ x }
 {
     match marker {
-        Marker::Braille => x / 2,
+        Marker::Braille | Marker::Quadrant | Marker::Sextant | Marker::Octant => x / 2,
         _ => x,
     }
 }
@@ -65,13 +71,22 @@ fn cell_row(marker: Marker, y: u64) -> u64
     ensures within { result ≤ y }
 {
     match marker {
-        Marker::Braille => y / 4,
-        Marker::HalfBlock => y / 2,
+        Marker::Braille | Marker::Octant => y / 4,
+        Marker::Sextant => y / 3,
+        Marker::HalfBlock | Marker::Quadrant => y / 2,
         _ => y,
     }
 }
 
 impl DotCell {
+    /// Whether the two halves of the cell have one colour.
+    #[tactic(auto, unfolding(crate::specs::Grids::has_one_color))]
+    pub fn has_one_color(&self) -> bool
+        ensures { result ≡ has_one_color self.now }
+    {
+        self.color == self.lower
+    }
+
     // The cell with one dot more.
     fn with_dot_number(self, marker: Marker, number: u8, color: Color) -> DotCell
         ensures { result ≡ with_dot_number marker number color self }

@@ -17,6 +17,15 @@ pub struct Points<'a> {
     pub color: Color,
 }
 
+impl<'a> Points<'a> {
+    /// Points of these coordinates, in a colour.
+    pub fn new(coords: &'a [(i64, i64)], color: Color) -> Points<'a>
+        ensures { result ≡ record { coords = coords.entry; color = color } }
+    {
+        Points { coords, color }
+    }
+}
+
 impl Painter {
     // Sets the dot of a point.
     fn set_point(&mut self, point: &(i64, i64), color: Color)

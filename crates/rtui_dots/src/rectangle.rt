@@ -1,5 +1,7 @@
 //! Rectangles.
 
+ghost use Rattle.std.specs.Prelude.{◌≡◌};
+
 use crate::painter::Painter;
 use crate::shape::Shape;
 use rtui_style::Color;
@@ -17,6 +19,22 @@ pub struct Rectangle {
     pub height: i64,
     /// Its colour.
     pub color: Color,
+}
+
+impl Rectangle {
+    /// A rectangle from its lower left corner on.
+    pub fn new(x: i64, y: i64, width: i64, height: i64, color: Color) -> Rectangle
+        ensures { result
+            ≡ record { x = x; y = y; width = width; height = height; color = color } }
+    {
+        Rectangle {
+            x,
+            y,
+            width,
+            height,
+            color,
+        }
+    }
 }
 
 impl Shape for Rectangle {

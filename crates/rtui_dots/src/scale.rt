@@ -2,7 +2,7 @@
 
 ghost use Rattle.std.specs.Prelude.{◌≡◌, ◌≤◌, ◌<◌, ◌^◌, ◌-◌, pos, ◌*ℤ◌, unsigned_abs, IsTrue};
 ghost use Rattle.rtui_dots.specs.Circles.{billion, fine_column, fine_row};
-ghost use Rattle.rtui_dots.specs.Grids.{dot_columns, dot_rows, share, column_of_cell, row_of_cell};
+ghost use Rattle.rtui_dots.specs.Grids.{dots_across, dots_down, dot_columns, dot_rows, share, column_of_cell, row_of_cell};
 ghost use Rattle.rtui_dots.specs.Grids.{lies_between, lies_within, has_point, dot_place, is_open, dot_column};
 ghost use Rattle.rtui_dots.specs.Grids.{dot_row};
 
@@ -27,26 +27,51 @@ pub struct Scale {
     pub columns: u16,
     /// How many cells a column has.
     pub rows: u16,
-    /// What marks a dot: Braille has two by four dots in a cell, half blocks have one by two, and
-    /// each other marker has one.
+    /// What marks a dot: Braille and octants have two by four dots in a cell, sextants two by three,
+    /// quadrants two by two, half blocks one by two, and each other marker has one.
     pub marker: Marker,
 }
 
-// The place of what lies `from_first` from the first one of so many over a whole length.
+// How many dots a cell has side by side.
+fn dots_across(marker: Marker) -> u64
+    ensures value { result ≡ dots_across marker }
+    ensures within { result ≤ 2 }
+{
+    match marker {
+        Marker::Braille | Marker::Quadrant | Marker::Sextant | Marker::Octant => 2,
+        _ => 1,
+    }
+}
+
+// How many dots a cell has one over the other.
+fn dots_down(marker: Marker) -> u64
+    ensures value { result ≡ dots_down marker }
+    ensures within { result ≤ 4 }
+{
+    match marker {
+        Marker::Braille | Marker::Octant => 4,
+        Marker::Sextant => 3,
+        Marker::HalfBlock | Marker::Quadrant => 2,
+        _ => 1,
+    }
+}
+
+// The place nearest to what lies `from_first` from the first one of so many over a whole length.
 fn dot_place(is_before: bool, is_behind: bool, from_first: u128, whole: u128, count: u64) -> u64
     requires whole { 0 < whole }
+    requires short { whole < 2 ^ 100 }
     requires length { from_first < 2 ^ 100 }
     requires count { count ≤ 262140 }
     ensures value { result ≡ dot_place is_before is_behind from_first whole count }
     ensures within { result ≤ 2 ^ 61 }
 {
     let shares = from_first * u128::from(count.saturating_sub(1));
+    let nearest = (2 * shares + whole) / (2 * whole);
     if is_before {
-        let before = shares.div_ceil(whole).max(1).min(u128::from(FAR));
-        return FAR - before as u64;
+        return FAR - nearest.max(1).min(u128::from(FAR)) as u64;
     }
     let least = if is_behind { u128::from(count) } else { 0 };
-    FAR + (shares / whole).max(least).min(u128::from(FAR)) as u64
+    FAR + nearest.max(least).min(u128::from(FAR)) as u64
 }
 
 // The place, from 0 on, among so many that share a whole length, of what lies `from_first` from the
@@ -81,10 +106,7 @@ impl Scale {
         ensures value { result ≡ dot_columns self.now }
         ensures within { result ≤ 131070 }
     {
-        match self.marker {
-            Marker::Braille => u64::from(self.columns) * 2,
-            _ => u64::from(self.columns),
-        }
+        u64::from(self.columns) * dots_across(self.marker)
     }
 
     // How many dots a column has.
@@ -92,11 +114,7 @@ impl Scale {
         ensures value { result ≡ dot_rows self.now }
         ensures within { result ≤ 262140 }
     {
-        match self.marker {
-            Marker::Braille => u64::from(self.rows) * 4,
-            Marker::HalfBlock => u64::from(self.rows) * 2,
-            _ => u64::from(self.rows),
-        }
+        u64::from(self.rows) * dots_down(self.marker)
     }
 
     // Whether the bounds have points between them.

@@ -3,7 +3,7 @@ use Rattle.std.specs.Prelude.{◌≡◌, ℕ, Bool, true, false, ◌+◌, ◌-�
 use Rattle.std.specs.Prelude.{length, codes, Option, Some, None, IfSome}
 use Rattle.std.specs.Prelude.{is_some, if◌then◌else◌, slice_index_or, All}
 use Rattle.ratatui_core.specs.{Layout.Rect, Style.new_style, Style.patch}
-use Rattle.ratatui_core.specs.Text.{LineData, text_of, line_width, TakesOneColumn, EachLineGrapheme}
+use Rattle.ratatui_core.specs.Text.{LineData, raw_text, text_of, line_width, TakesOneColumn, EachLineGrapheme}
 use Rattle.ratatui_core.specs.Text.{EachTextGrapheme}
 use Rattle.ratatui_core.specs.Buffer.{BufferData, Cell, with_symbol, IsStyled, ChangesEach, MakesParts}
 use Rattle.ratatui_core.specs.Widgets.{RendersText, RendersShortText}
@@ -15,6 +15,10 @@ use Rattle.rtui_list.specs.declared.list.HighlightSpacing.{HighlightSpacing}
 use Rattle.rtui_list.specs.declared.list.HighlightSpacing.TheVariants.{Always, WhenSelected, Never}
 use Rattle.rtui_list.specs.{declared.item.ListItem.ListItem, declared.state.ListState.ListState}
 use Rattle.rtui_list.specs.Windows.{item_rows, rows_before, IsCount, IsOffset, last_item}
+
+-- an item of a plain text, without a style of its own
+abbrev pub raw_item : List ℕ → ListItem
+raw_item text = record { content = raw_text text; style = new_style }
 
 -- a list of items, without box, styles and highlight symbol
 pub record IsNewList (items : List ListItem) (l : ListData) : Type 0 where

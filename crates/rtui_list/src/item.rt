@@ -2,7 +2,8 @@
 
 ghost use Rattle.std.specs.Prelude.{◌≡◌, length, IfOk};
 ghost use Rattle.ratatui_core.specs.Style.{new_style};
-ghost use Rattle.ratatui_core.specs.Text.{raw_text, widest};
+ghost use Rattle.ratatui_core.specs.Text.{widest};
+ghost use Rattle.rtui_list.specs.Items.{raw_item};
 ghost use Rattle.rtui_list.specs.Windows.{item_rows};
 
 use ratatui_core::style::Style;
@@ -34,7 +35,7 @@ impl<'a> ListItem<'a> {
     /// `AllocError` if memory is refused.
     pub fn raw(alloc: Global, text: &'a str) -> Result<ListItem<'a>, AllocError>
         ensures { IfOk result
-            (λ item. item ≡ record { content = raw_text text.now; style = new_style }) }
+            (λ item. item ≡ raw_item text.now) }
     {
         let content = Text::raw(alloc, text)?;
         Ok(ListItem::new(content))

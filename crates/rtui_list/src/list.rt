@@ -1,7 +1,8 @@
 //! A list of items.
 
 ghost use Rattle.std.specs.Prelude.{◌≡◌, ◌==◌, ◌≤◌, ◌<◌, ◌+◌, if◌then◌else◌, Some, OnOk, OnErr, IsOk, IfOk};
-ghost use Rattle.std.specs.Prelude.{length, IfSome, true};
+ghost use Rattle.std.specs.Prelude.{length, IfSome, true, map, List as Sequence};
+ghost use Rattle.std.specs.Iterator.{IsFinite, Drains};
 ghost use Rattle.ratatui_core.specs.Layout.{IsInside};
 ghost use Rattle.ratatui_core.specs.Widgets.{ChangesWithin};
 ghost use Rattle.ratatui_core.specs.Buffer.{IsStyled};
@@ -11,7 +12,8 @@ ghost use Rattle.rtui_boxes.specs.Lines.{RendersIfLine, IsShortTitle};
 ghost use Rattle.rtui_list.specs.Windows.{Fit};
 ghost use Rattle.rtui_list.specs.Items.{is_marked, has_mark_columns, mark_width, item_part};
 ghost use Rattle.rtui_list.specs.Items.{MarksRow, MarksRows, RendersItem, ShowsItems, ShowsList};
-ghost use Rattle.rtui_list.specs.Items.{IsNewList, IsShortItem, HasShortItems};
+ghost use Rattle.rtui_list.specs.Items.{IsNewList, IsShortItem, HasShortItems, raw_item};
+ghost use Rattle.rtui_list.specs.declared.item.ListItem.{ListItem as ItemData};
 
 use crate::item::ListItem;
 use crate::state::ListState;
@@ -96,6 +98,43 @@ impl<'a> List<'a> {
             highlight_spacing: HighlightSpacing::WhenSelected,
             scroll_padding: 0,
         }
+    }
+
+    /// A list of plain texts, an item each, as [`ListItem::raw`] makes it.
+    ///
+    /// ```
+    /// let list = List::raw(alloc, &["one", "two"])?;
+    /// ```
+    ///
+    /// # Errors
+    ///
+    /// `AllocError` if memory is refused.
+    pub fn raw(alloc: Global, texts: &[&'a str]) -> Result<List<'a>, AllocError>
+        ensures { let items = map (λ text. raw_item text.now) texts.now in
+            IfOk result (IsNewList items) }
+    {
+        Ok(List::new(raw_items(alloc, texts)?))
+    }
+
+    /// A list of the items that an iterator gives, an array among them.
+    ///
+    /// # Conditions
+    ///
+    /// The iterator comes to an end, and `next` may be called on it until then.
+    ///
+    /// # Errors
+    ///
+    /// `AllocError` if memory is refused.
+    pub fn try_from_iter<I>(alloc: Global, items: I) -> Result<List<'a>, AllocError>
+    where
+        I: IntoIterator<Item = ListItem<'a>>,
+        requires { (it : I.IntoIter) → I.into_iter_gives items it
+            → I.IntoIter.can_next it × IsFinite (I.IntoIter.remaining it) }
+        ensures { IfOk result (λ made. (it : I.IntoIter) × (given : Sequence ItemData)
+            × I.into_iter_gives items it × Drains I.IntoIter.next_gives it given
+            × IsNewList given made) }
+    {
+        Ok(List::new(Vec::from_iter(alloc, items)?))
     }
 
     /// The list of other items.
@@ -432,6 +471,17 @@ impl<'a> List<'a> {
         state.offset = offset;
         Ok(())
     }
+}
+
+// An item for each text.
+fn raw_items<'a>(alloc: Global, texts: &[&'a str]) -> Result<Vec<ListItem<'a>>, AllocError>
+    ensures { IfOk result (λ made. made.items ≡ map (λ text. raw_item text.now) texts.now) }
+{
+    let mut items = Vec::with_capacity(alloc, texts.len())?;
+    for text in texts {
+        items.push(ListItem::raw(alloc, text)?)?;
+    }
+    Ok(items)
 }
 
 // Equal items.

@@ -13,6 +13,7 @@ ghost use Rattle.rtui_boxes.specs.Framed.{rows_around_if};
 ghost use Rattle.rtui_paragraph.specs.Paragraphs.{IsNewParagraph, aligned_row, aligned_rows};
 ghost use Rattle.rtui_paragraph.specs.Paragraphs.{columns_scrolled, cut_line, broken_line, rows_of_lines};
 ghost use Rattle.rtui_paragraph.specs.Paragraphs.{paragraph_rows, rows_taken, rows_shown, indent_of};
+ghost use Rattle.rtui_paragraph.specs.Paragraphs.{columns_around, columns_needed};
 ghost use Rattle.rtui_paragraph.specs.Paragraphs.{graphemes_of, HasShortText};
 ghost use Rattle.rtui_paragraph.specs.Inner.{grapheme_in};
 ghost use Rattle.rtui_paragraph.specs.Paragraphs.{PaintsGrapheme, PaintsGraphemes, PaintsRow, PaintsRows};
@@ -31,7 +32,7 @@ use ratatui_core::layout::{HorizontalAlignment, Position, Rect};
 use ratatui_core::style::Style;
 use ratatui_core::text::{Line, Text};
 use ratatui_core::widgets::Widget;
-use rtui_boxes::{Block, render_frame};
+use rtui_boxes::{Block, inner_if, render_frame};
 use std::alloc::{AllocError, Global};
 
 mod clone;
@@ -171,6 +172,14 @@ impl<'a> Paragraph<'a> {
         Ok(rows.saturating_add(self.rows_around()))
     }
 
+    /// How many columns the paragraph needs so that no line of it is broken or cut, with those of
+    /// its box; at most `usize::MAX`.
+    pub fn line_width(&self) -> usize
+        ensures { result ≡ columns_needed self.now }
+    {
+        self.text.width().saturating_add(self.columns_around())
+    }
+
     // How many rows the text takes in so many columns.
     fn count_rows(&self, alloc: Global, width: u16) -> Result<usize, AllocError>
         ensures rows { IfOk result (λ n.
@@ -218,6 +227,19 @@ impl<'a> Paragraph<'a> {
             None => 0,
             Some(block) => block.rows_around(),
         }
+    }
+
+    // How many columns a box takes of the widest area.
+    fn columns_around(&self) -> usize
+        ensures { result ≡ columns_around self.now.block }
+    {
+        let widest = Rect {
+            x: 0,
+            y: 0,
+            width: 65535,
+            height: 1,
+        };
+        usize::from(65535u16.saturating_sub(inner_if(&self.block, widest).width))
     }
 
     // Renders the text in a part of the buffer.

@@ -3,7 +3,7 @@ use Rattle.std.proofs.Common.{ℕ, ◌≤◌, Option, Some, None, IfSome}
 use Rattle.std.proofs.Common.{slice_get, arith, Result, OnOk, OnErr}
 use Rattle.std.specs.declared.alloc.AllocError.{AllocError}
 use Rattle.ratatui_core.specs.Layout.{Rect, Position, IsInside, intersected}
-use Rattle.ratatui_core.specs.{Style.patch}
+use Rattle.ratatui_core.specs.Style.{patch, new_style}
 use Rattle.ratatui_core.specs.Buffer.{BufferData, Cell, with_symbol, text_width, ChangesEach, IsPlain, IsPlainFrom}
 use Rattle.ratatui_core.specs.Widgets.{ChangesWithin}
 use Rattle.ratatui_core.proofs.BufferLemmas.{plain-styled, plain-with_symbol, plain-changed}
@@ -52,7 +52,7 @@ pub sparkline-plain : (s : Sparkline) (area : Rect) (old new : BufferData) → I
     → IsPlainFrom 0 old → RendersSparkline s area old new → IsPlainFrom 0 new
 sparkline-plain s area old new box narrow plain is =
     let r = inner_if s.block (intersected area old.area) in
-    plain-inside s.style s.block (λ _ _. ShowsBars s) tt tt area old new box plain (λ framed cells bars.
+    plain-inside new_style s.block (λ _ _. ShowsBars s) tt tt area old new box plain (λ framed cells bars.
     plain-changed (bars_part s r) (bar_cell_of s (greatest_of s) r) framed new
     (λ p c cell. bar-plain s narrow (greatest_of s) r (row_from_below r p.y)
     (slice_get s.bars.items (number_of_column s.direction r p.x)) c cell) bars cells) is

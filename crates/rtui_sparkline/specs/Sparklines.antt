@@ -74,10 +74,10 @@ bar_cell_of s greatest r p =
 abbrev pub ShowsBars : Sparkline → Rect → BufferData → BufferData → Type 0
 ShowsBars s r = ChangesEach (bars_part s r) (bar_cell_of s (greatest_of s) r)
 
--- A sparkline over the part of an area that a buffer has: its style, its box, and inside the bars. Nothing
--- outside the area changes.
+-- A sparkline over the part of an area that a buffer has: its box, and inside the bars. Its style is theirs
+-- alone. Nothing outside the area changes.
 abbrev pub RendersSparkline : Sparkline → Rect → BufferData → BufferData → Type 0
-RendersSparkline s = RendersInFrame s.style s.block (ShowsBars s)
+RendersSparkline s = RendersInFrame new_style s.block (ShowsBars s)
 
 -- no symbol of it takes memory
 pub record HasShortLevels (s : Sparkline) : Type 0 where

@@ -107,7 +107,7 @@ impl<'a> Sparkline<'a> {
         self
     }
 
-    /// The sparkline in a style.
+    /// The sparkline with its bars in a style; its box and what is beside the bars keep theirs.
     pub fn style(mut self, style: Style) -> Sparkline<'a>
         ensures { result ≡ record self.entry { style = style } }
     {
@@ -298,8 +298,8 @@ impl<'b, 'a> CellChange for Bars<'b, 'a> {
     }
 }
 
-/// Over the area, as far as the buffer has it: the style, the box, and inside a bar in each column,
-/// as far as there are bars.
+/// Over the area, as far as the buffer has it: the box, and inside a bar in each column, as far as
+/// there are bars, in the style of the sparkline under its own.
 impl<'b, 'a> Widget for &'b Sparkline<'a> {
     ghost use Rattle.rtui_sparkline.specs.Sparklines.{RendersSparkline, IsShortSparkline};
 
@@ -308,7 +308,7 @@ impl<'b, 'a> Widget for &'b Sparkline<'a> {
     ghost is_short = { λ sparkline _. IsShortSparkline sparkline.now };
 
     fn render(self, area: Rect, buf: &mut Buffer) -> Result<(), AllocError> {
-        let Some(inner) = render_frame(self.style, &self.block, area, buf)? else {
+        let Some(inner) = render_frame(Style::new(), &self.block, area, buf)? else {
             return Ok(());
         };
         self.render_bars(inner, buf)

@@ -1,6 +1,6 @@
 -- A table of narrow texts keeps cells plain.
 use Rattle.std.proofs.Common.{ℕ, ◌+◌, ◌==◌, Bool, true, false, if◌then◌else◌, List, [], ◌∷◌, IfSome}
-use Rattle.std.proofs.Common.{◌++◌, drop, All, Option, Some, None, is_some, sym, subst}
+use Rattle.std.proofs.Common.{◌++◌, drop, length, All, Option, Some, None, is_some, sym, subst}
 use Rattle.std.proofs.lemmas.{List.Elements.All-head, List.Elements.All-tail, List.Elements.All-drop}
 use Rattle.std.proofs.lemmas.{List.Concat.flat_map-cons}
 use Rattle.ratatui_core.specs.Layout.{Rect, intersected}
@@ -119,6 +119,10 @@ module _ (t : TableData) (symbol : IfNarrow t.highlight_symbol) (selected : Opti
           (row-narrow (symbol_if (is_selected_at selected k) t.highlight_symbol) n columns row (cells_area row r)
           (symbol-if (is_selected_at selected k) t.highlight_symbol symbol) (All-head HasNarrowCells row rows all)) rest)
 
+body-narrow : (none : Bool) (ps : List TablePart) → AreNarrowParts ps → AreNarrowParts (if none then [] else ps)
+body-narrow true ps narrow = tt
+body-narrow false ps narrow = narrow
+
 table-narrow : (t : TableData) (u : TableState) (columns : List Rect) (r : Rect) → HasNarrowRows t
     → AreNarrowParts (table_parts t u columns r)
 table-narrow t u columns r narrow =
@@ -126,11 +130,11 @@ table-narrow t u columns r narrow =
     let n = symbol_columns t (is_some u.selected) r in
     narrow-then (outer_parts columns t.header r) _ (outer-narrow columns t.header r narrow.header)
     (narrow-then (body_parts t u n columns body) (outer_parts columns t.footer (footer_area t.header t.footer r))
-    (narrow-then (rows_parts t u.selected n columns (placed_rows t u body)) _
+    (body-narrow (length t.rows.items == 0) _ (narrow-then (rows_parts t u.selected n columns (placed_rows t u body)) _
     (rows-narrow t narrow.symbol u.selected n columns u.offset body (drop u.offset t.rows.items)
     (All-drop HasNarrowCells u.offset t.rows.items narrow.rows))
     (highlight-narrow t (selected_row_area u.selected (placed_rows t u body))
-    (selected_column_area u.selected_column columns body)))
+    (selected_column_area u.selected_column columns body))))
     (outer-narrow columns t.footer (footer_area t.header t.footer r) narrow.footer))
 
 pub table-keeps : (t : TableData) (s u : TableState) (area : Rect) (old new : BufferData) → IfSome t.block IsNarrowBox

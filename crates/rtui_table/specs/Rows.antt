@@ -1,8 +1,21 @@
 -- Which rows of a table are shown, and where each stands.
 use Rattle.std.specs.Prelude.{◌≡◌, ℕ, ◌+◌, ◌-◌, ◌<◌, ◌≤◌, ◌==◌, min, List, [], ◌∷◌, length, take, sum_by}
 use Rattle.std.specs.Prelude.{Option, Some, None, if◌then◌else◌, slice_index_or, map}
-use Rattle.ratatui_core.specs.{Layout.Rect}
+use Rattle.ratatui_core.specs.{Layout.Rect, Style.new_style, Text.raw_text}
+use Rattle.rtui_table.specs.declared.cell.Cell.{Cell}
 use Rattle.rtui_table.specs.declared.row.Row.{Row}
+
+-- a cell of a plain text, without a style of its own
+abbrev pub raw_cell : List ℕ → Cell
+raw_cell text = record { content = raw_text text; style = new_style }
+
+-- a row of these cells, one row high, without margins and style
+pub record IsNewRow (cells : List Cell) (row : Row) : Type 0 where
+  pub cells_are : row.cells.items ≡ cells
+  pub one_high : row.height ≡ 1
+  pub no_top_margin : row.top_margin ≡ 0
+  pub no_bottom_margin : row.bottom_margin ≡ 0
+  pub unstyled : row.style ≡ new_style
 
 -- how many rows of the screen the cells of a row take with the margin above, and with both margins
 abbrev pub upper_height : Row → ℕ

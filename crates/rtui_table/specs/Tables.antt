@@ -185,9 +185,10 @@ pub record IsShownWhole (t : TableData) (u : TableState) (r : Rect) (selected : 
   pub stands : selected_row_area u.selected (placed_rows t u r) ≡ Some area
   pub whole : area.height ≡ cells_at t.rows.items selected
 
+-- what stands in the area of the rows: the rows, and the highlights over them; nothing without rows
 abbrev pub body_parts : TableData → TableState → ℕ → List Rect → Rect → List TablePart
 body_parts t u n columns r =
-    rows_parts t u.selected n columns (placed_rows t u r)
+    if length t.rows.items == 0 then [] else rows_parts t u.selected n columns (placed_rows t u r)
     ++ highlight_parts t (selected_row_area u.selected (placed_rows t u r))
     (selected_column_area u.selected_column columns r)
 

@@ -2,7 +2,7 @@
 
 ghost use Rattle.std.specs.Prelude.{◌≡◌, IfOk, IsOk, OnOk};
 ghost use Rattle.ratatui_core.specs.Style.{new_style};
-ghost use Rattle.ratatui_core.specs.Text.{raw_text};
+ghost use Rattle.rtui_table.specs.Rows.{raw_cell};
 ghost use Rattle.ratatui_core.specs.Widgets.{ChangesWithin};
 ghost use Rattle.rtui_table.specs.Tables.{text_part, RendersTablePart};
 
@@ -37,8 +37,7 @@ impl<'a> Cell<'a> {
     ///
     /// `AllocError` if memory is refused.
     pub fn raw(alloc: Global, content: &'a str) -> Result<Cell<'a>, AllocError>
-        ensures { IfOk result (λ cell.
-            cell ≡ record { content = raw_text content.now; style = new_style }) }
+        ensures { IfOk result (λ cell. cell ≡ raw_cell content.now) }
     {
         Ok(Cell::new(Text::raw(alloc, content)?))
     }

@@ -192,7 +192,7 @@ impl<'a> Table<'a> {
         }
     }
 
-    // Renders the rows, and the highlights over them.
+    // Renders the rows, and the highlights over them; nothing of a table without rows.
     pub(crate) fn render_body(
         &self,
         state: TableState,
@@ -208,6 +208,9 @@ impl<'a> Table<'a> {
         ensures ok { let ps = body_parts self.now state symbol_columns columns.now area in
             OnOk result (RendersTableParts ps buf.old buf.new) }
     {
+        if self.rows.as_slice().is_empty() {
+            return Ok(());
+        }
         let row = self.render_rows(state, symbol_columns, columns, area, buf)?;
         let column = column_area(state.selected_column, columns, area);
         self.highlight(row, column, buf);

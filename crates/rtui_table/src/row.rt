@@ -1,8 +1,10 @@
 //! The rows of a table.
 
-ghost use Rattle.std.specs.Prelude.{◌≡◌, ◌≤◌, ◌<◌, ◌+◌, min, IfOk, true};
+ghost use Rattle.std.specs.Prelude.{◌≡◌, ◌≤◌, ◌<◌, ◌+◌, min, IfOk, true, List, map};
+ghost use Rattle.std.specs.Iterator.{IsFinite, Drains};
 ghost use Rattle.ratatui_core.specs.Style.{new_style};
-ghost use Rattle.rtui_table.specs.Rows.{full_height, upper_height, cells_area, below, above};
+ghost use Rattle.rtui_table.specs.Rows.{full_height, upper_height, cells_area, below, above, raw_cell, IsNewRow};
+ghost use Rattle.rtui_table.specs.declared.cell.Cell.{Cell as CellData};
 ghost use Rattle.rtui_table.specs.Inner.{IsTableArea};
 
 use crate::cell::Cell;
@@ -34,6 +36,43 @@ impl<'a> Row<'a> {
             bottom_margin: 0,
             style: Style::new(),
         }
+    }
+
+    /// A row of plain texts, a cell each, as [`Cell::raw`] makes it.
+    ///
+    /// ```
+    /// let row = Row::raw(alloc, &["cpu", "97%"])?;
+    /// ```
+    ///
+    /// # Errors
+    ///
+    /// `AllocError` if memory is refused.
+    pub fn raw(alloc: Global, texts: &[&'a str]) -> Result<Row<'a>, AllocError>
+        ensures { let cells = map (λ text. raw_cell text.now) texts.now in
+            IfOk result (IsNewRow cells) }
+    {
+        Ok(Row::new(raw_cells(alloc, texts)?))
+    }
+
+    /// A row of the cells that an iterator gives.
+    ///
+    /// # Conditions
+    ///
+    /// The iterator comes to an end, and `next` may be called on it until then.
+    ///
+    /// # Errors
+    ///
+    /// `AllocError` if memory is refused.
+    pub fn try_from_iter<I>(alloc: Global, cells: I) -> Result<Row<'a>, AllocError>
+    where
+        I: IntoIterator<Item = Cell<'a>>,
+        requires { (it : I.IntoIter) → I.into_iter_gives cells it
+            → I.IntoIter.can_next it × IsFinite (I.IntoIter.remaining it) }
+        ensures { IfOk result (λ made. (it : I.IntoIter) × (items : List CellData)
+            × I.into_iter_gives cells it × Drains I.IntoIter.next_gives it items
+            × IsNewRow items made) }
+    {
+        Ok(Row::new(Vec::from_iter(alloc, cells)?))
     }
 
     /// The row of other cells.
@@ -122,6 +161,17 @@ impl<'a> Row<'a> {
             ..left
         }
     }
+}
+
+// A cell for each text.
+fn raw_cells<'a>(alloc: Global, texts: &[&'a str]) -> Result<Vec<Cell<'a>>, AllocError>
+    ensures { IfOk result (λ made. made.items ≡ map (λ text. raw_cell text.now) texts.now) }
+{
+    let mut cells = Vec::with_capacity(alloc, texts.len())?;
+    for text in texts {
+        cells.push(Cell::raw(alloc, text)?)?;
+    }
+    Ok(cells)
 }
 
 // Equal cells.

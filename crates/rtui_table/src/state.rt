@@ -1,6 +1,6 @@
 //! What a table keeps from one rendering to the next.
 
-ghost use Rattle.std.specs.Prelude.{◌≡◌, ◌-◌, ◌+◌, min, unwrap_or, Some, None, Option, ℕ};
+ghost use Rattle.std.specs.Prelude.{◌≡◌, ◌-◌, ◌+◌, min, unwrap_or, Some, None, Option, option_map, ℕ};
 ghost use Rattle.std.specs.Borrow.{sem};
 ghost use Rattle.rtui_list.specs.States.{next_of, previous_of};
 ghost use Rattle.rtui_table.specs.TableStates.{selecting_row, selecting_cell, cell_of_state};
@@ -47,6 +47,25 @@ impl TableState {
         ensures { result ≡ record self { selected_column = selected } }
     {
         self.selected_column = selected;
+        self
+    }
+
+    /// The state in which the cell of this row and this column is selected, or no row and no column.
+    pub fn with_selected_cell(mut self, selected: Option<(usize, usize)>) -> TableState
+        ensures { let row = option_map (λ cell. cell.0) selected in
+            let column = option_map (λ cell. cell.1) selected in
+            result ≡ record self { selected = row; selected_column = column } }
+    {
+        match selected {
+            Some((row, column)) => {
+                self.selected = Some(row);
+                self.selected_column = Some(column);
+            }
+            None => {
+                self.selected = None;
+                self.selected_column = None;
+            }
+        }
         self
     }
 

@@ -1,6 +1,7 @@
 //! A table of rows in columns.
 
-ghost use Rattle.std.specs.Prelude.{◌≡◌, ◌≤◌, ◌<◌, ◌+◌, Some, OnOk, OnErr, IfOk, is_some, true};
+ghost use Rattle.std.specs.Prelude.{◌≡◌, ◌≤◌, ◌<◌, ◌+◌, Some, OnOk, OnErr, IfOk, is_some, true, List};
+ghost use Rattle.std.specs.Iterator.{IsFinite, Drains};
 ghost use Rattle.std.specs.Cmp.Lexicographic.{pointwise};
 ghost use Rattle.ratatui_core.specs.Layout.{inner, IsSplit};
 ghost use Rattle.ratatui_core.specs.Widgets.{ChangesWithin};
@@ -9,6 +10,7 @@ ghost use Rattle.rtui_table.specs.Rows.{height_if};
 ghost use Rattle.rtui_table.specs.Inner.{IsTableArea};
 ghost use Rattle.rtui_table.specs.Tables.{IsNewTable, column_count, same_widths, layout_of, symbol_columns};
 ghost use Rattle.rtui_table.specs.Tables.{AreColumns, IsNextState, ShowsTable, cells_if, within_count};
+ghost use Rattle.rtui_table.specs.declared.row.Row.{Row as RowData};
 
 use crate::row::{Row, above, below};
 use crate::state::TableState;
@@ -67,6 +69,38 @@ impl<'a> Table<'a> {
             highlight_spacing: HighlightSpacing::WhenSelected,
             flex: Flex::Start,
         }
+    }
+
+    /// A table of the rows that an iterator gives, in columns of these widths, a column apart;
+    /// without widths its columns are all the same.
+    ///
+    /// ```
+    /// let rows = [Row::raw(alloc, &["init", "0%"])?, Row::raw(alloc, &["sshd", "1%"])?];
+    /// let table = Table::try_from_iter(alloc, rows, &[Constraint::Fill(1), Constraint::Length(4)])?;
+    /// ```
+    ///
+    /// # Conditions
+    ///
+    /// The iterator comes to an end, and `next` may be called on it until then.
+    ///
+    /// # Errors
+    ///
+    /// `AllocError` if memory is refused.
+    pub fn try_from_iter<I>(
+        alloc: Global,
+        rows: I,
+        widths: &[Constraint],
+    ) -> Result<Table<'a>, AllocError>
+    where
+        I: IntoIterator<Item = Row<'a>>,
+        requires { (it : I.IntoIter) → I.into_iter_gives rows it
+            → I.IntoIter.can_next it × IsFinite (I.IntoIter.remaining it) }
+        ensures { IfOk result (λ made. (it : I.IntoIter) × (items : List RowData)
+            × I.into_iter_gives rows it × Drains I.IntoIter.next_gives it items
+            × IsNewTable items widths.now made) }
+    {
+        let rows = Vec::from_iter(alloc, rows)?;
+        Ok(Table::new(rows, widths.to_vec(alloc)?))
     }
 
     /// The table of other rows.
@@ -133,7 +167,8 @@ impl<'a> Table<'a> {
         self
     }
 
-    /// The table with its selected column in a style, over that of the row.
+    /// The table with its selected column in a style, over that of the row, where its rows stand;
+    /// without rows nothing is highlighted.
     pub fn column_highlight_style(mut self, style: Style) -> Table<'a>
         ensures { result ≡ record self.entry { column_highlight_style = style } }
     {

@@ -1,7 +1,9 @@
 //! Titles in a row.
 
 ghost use Rattle.std.specs.Prelude.{◌≡◌, ◌+◌, ◌-◌, ◌≤◌, ◌<◌, ◌==◌, [], ◌∷◌, length, Some, OnOk, IsOk};
-ghost use Rattle.std.specs.Prelude.{IfOk, true};
+ghost use Rattle.std.specs.Prelude.{IfOk, true, map, List};
+ghost use Rattle.std.specs.Iterator.{IsFinite, Drains};
+ghost use Rattle.ratatui_core.specs.Text.{LineData, raw_line};
 ghost use Rattle.ratatui_core.specs.Layout.{IsInside};
 ghost use Rattle.ratatui_core.specs.Widgets.{ChangesWithin};
 ghost use Rattle.rtui_boxes.specs.Boxes.{IsBoxArea};
@@ -57,6 +59,44 @@ impl<'a> Tabs<'a> {
             padding_left: None,
             padding_right: None,
         }
+    }
+
+    /// Tabs with these plain texts as their titles, each as `Line::raw` makes it, of which the first
+    /// is selected.
+    ///
+    /// ```
+    /// Tabs::raw(alloc, &["Files", "Log"])?.select(Some(1)).render(area, buf)?;
+    /// ```
+    ///
+    /// # Errors
+    ///
+    /// `AllocError` if memory is refused.
+    pub fn raw(alloc: Global, titles: &[&'a str]) -> Result<Tabs<'a>, AllocError>
+        ensures { let lines = map (λ title. raw_line title.now) titles.now in
+            IfOk result (IsNewTabs lines) }
+    {
+        Ok(Tabs::new(raw_lines(alloc, titles)?))
+    }
+
+    /// Tabs with the titles that an iterator gives, of which the first is selected.
+    ///
+    /// # Conditions
+    ///
+    /// The iterator comes to an end, and `next` may be called on it until then.
+    ///
+    /// # Errors
+    ///
+    /// `AllocError` if memory is refused.
+    pub fn try_from_iter<I>(alloc: Global, titles: I) -> Result<Tabs<'a>, AllocError>
+    where
+        I: IntoIterator<Item = Line<'a>>,
+        requires { (it : I.IntoIter) → I.into_iter_gives titles it
+            → I.IntoIter.can_next it × IsFinite (I.IntoIter.remaining it) }
+        ensures { IfOk result (λ made. (it : I.IntoIter) × (items : List LineData)
+            × I.into_iter_gives titles it × Drains I.IntoIter.next_gives it items
+            × IsNewTabs items made) }
+    {
+        Ok(Tabs::new(Vec::from_iter(alloc, titles)?))
     }
 
     /// The tabs with other titles. The selected number stays, as far as there are titles; if none
@@ -323,4 +363,15 @@ impl<'a> Widget for Tabs<'a> {
     fn render(self, area: Rect, buf: &mut Buffer) -> Result<(), AllocError> {
         (&self).render(area, buf)
     }
+}
+
+// A line for each text.
+fn raw_lines<'a>(alloc: Global, texts: &[&'a str]) -> Result<Vec<Line<'a>>, AllocError>
+    ensures { IfOk result (λ made. made.items ≡ map (λ text. raw_line text.now) texts.now) }
+{
+    let mut lines = Vec::with_capacity(alloc, texts.len())?;
+    for text in texts {
+        lines.push(Line::raw(alloc, text)?)?;
+    }
+    Ok(lines)
 }

@@ -62,7 +62,7 @@ OnlyPlaces {B} ran place = (s : TerminalData B) (cursor : Option Position) (pain
     → ran s (Ok tt) cursor painted → cursor ≡ place s.viewport_area
 
 -- a cursor that was placed is at its place
-has-cursor : (cursor : Option Position) (between new : Screen) → new ≡ cursor_placed cursor between → HasCursor cursor new
+pub has-cursor : (cursor : Option Position) (between new : Screen) → new ≡ cursor_placed cursor between → HasCursor cursor new
 has-cursor None between new e = subst (HasCursor None) (sym e) refl
 has-cursor (Some p) between new e = subst (HasCursor (Some p)) (sym e) refl
 

@@ -1,5 +1,5 @@
 -- Words that only private contracts use: they follow the code.
-use Rattle.std.specs.Prelude.{ℕ, min, max}
+use Rattle.std.specs.Prelude.{◌≡◌, ℕ, min, max}
 use Rattle.rtui_terminal.specs.{TerminalData.TerminalData, declared.terminal.frame.Frame.Frame}
 use Rattle.std.specs.{Borrow.MutBor, Fn.Once}
 use Rattle.rtui_geometry.specs.{declared.rect.Rect.Rect}
@@ -15,3 +15,10 @@ abbrev pub AcceptsNewFrame : {F R : Type 0} → Once F (MutBor Frame × Unit {0}
     → F → Rect → ℕ → BufferData → Type 0
 AcceptsNewFrame once f area count sheet = (frame : MutBor Frame) → IsNewFrame area count sheet frame.now
     → once.pre f (frame, tt)
+
+-- the frame keeps its buffer reference, the buffer its area, and the frame all else but its cursor
+pub record KeepsButCursor (old new : Frame) : Type 0 where
+  pub same_buffer : new.buffer.ghost_name ≡ old.buffer.ghost_name
+  pub same_area : new.buffer.now.area ≡ old.buffer.now.area
+  pub over : new.viewport_area ≡ old.viewport_area
+  pub numbered : new.count ≡ old.count

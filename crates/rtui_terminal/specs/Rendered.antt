@@ -1,5 +1,5 @@
 -- What a terminal shows after a draw whose closure only renders.
-use Rattle.std.specs.Prelude.{◌≡◌, Option, None, Result, IsOk, OnOk, OnErr}
+use Rattle.std.specs.Prelude.{◌≡◌, Option, Result, IsOk, OnOk, OnErr}
 use Rattle.std.specs.declared.alloc.AllocError.{AllocError}
 use Rattle.rtui_geometry.specs.{declared.position.Position.Position, declared.rect.Rect.Rect}
 use Rattle.rtui_buffer.specs.{BufferData.BufferData, BufferData.IsEmptied, Shown.IsSettledBuffer}
@@ -21,12 +21,13 @@ pub record ShowsRendered {B : Type 0} (screen : B → Screen) (renders : Rect �
   pub rendered : IsRendered renders t.previous
   pub shown : IsSettledBuffer t.previous → ShowsBuffer t.previous (screen t.backend).grid
 
--- a closure rendered a widget over the viewport and left no cursor: its answer, and what it made of the
--- current buffer, are as the widget says
+-- a closure rendered a widget over the viewport and, if that was Ok, left the cursor where it was wanted, or
+-- none: its answer, and what it made of the current buffer, are as the widget says
 pub record RendersCurrent {B : Type 0} (renders leaves : Rect → BufferData → BufferData → Type 0)
-    (reach : Rect → Rect) (is_short : Rect → BufferData → Type 0) (s : TerminalData B)
-    (answer : Result (Unit {0}) AllocError) (cursor : Option Position) (painted : BufferData) : Type 0 where
-  pub no_cursor : cursor ≡ None
+    (reach : Rect → Rect) (is_short : Rect → BufferData → Type 0) (wanted : Option Position)
+    (s : TerminalData B) (answer : Result (Unit {0}) AllocError) (cursor : Option Position)
+    (painted : BufferData) : Type 0 where
+  pub placed : OnOk answer (cursor ≡ wanted)
   pub area : painted.area ≡ s.current.area
   pub ok : OnOk answer (renders s.viewport_area s.current painted)
   pub err : OnErr answer (ChangesWithin (reach s.viewport_area) s.current painted)

@@ -3,12 +3,12 @@
 //!
 //! A script that can't be read or played gives one line on standard error, status 1 and no output.
 //! If writing fails the status is 1, and nothing stands on standard error. `--help` says so; other
-//! words are an error, with status 2.
+//! words, and words that can't be read, are an error, with status 2.
 #![tactic(auto)]
 
 use screenplay::print_script;
-use std::env;
 use std::process::ExitCode;
+use std::{env, io};
 
 static HELP: &str =
     "screenplay: reads a script from standard input and prints the screens that it shows.
@@ -17,11 +17,9 @@ others are its steps: `text`, `put`, `size`, `draw`, `insert`, `clear`, `show`; 
 each. A script that can't be read or played gives one line on standard error, and status 1.
 ";
 
-// The first word of the command line.
-fn first_word(rt: &HostRuntime) -> Option<String> {
-    let mut words = env::args(rt).ok()?;
-    let _program = words.next()?;
-    words.next()
+// The first word of the command line, if there is one.
+fn first_word(rt: &HostRuntime) -> io::Result<Option<String>> {
+    Ok(env::args(rt)?.nth(1))
 }
 
 // What a word gives: a page on the program, or an error.
@@ -35,8 +33,13 @@ fn answer(rt: &HostRuntime, word: &str) -> ExitCode {
 }
 
 fn main(rt: HostRuntime) -> ExitCode {
-    if let Some(word) = first_word(&rt) {
-        return answer(&rt, word.as_str());
+    match first_word(&rt) {
+        Ok(None) => {}
+        Ok(Some(word)) => return answer(&rt, word.as_str()),
+        Err(error) => {
+            let _ = eprintln!(rt; "screenplay: a word of the command line can't be read: {error}");
+            return ExitCode::from(2);
+        }
     }
     let (mut reader, mut writer, mut errors) = (rt.reader(), rt.stdout(), rt.stderr());
     match print_script(rt.alloc(), &mut reader, &mut writer, &mut errors) {

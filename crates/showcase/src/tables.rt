@@ -109,7 +109,7 @@ fn paint_chart(alloc: Global, area: Rect, buf: &mut Buffer) -> Result<(), AllocE
         }
         groups.push(BarGroup::with_label(Line::raw(alloc, label)?, bars))?;
     }
-    BarChart::new(groups)
+    BarChart::grouped(groups)
         .block(boxed(alloc, " BarChart ")?)
         .bar_width(3)
         .group_gap(3)

@@ -58,13 +58,13 @@ fn sends(backend: &Kept, answer: Result<(), AnsiError>, end: &str) -> bool {
 
 // What makes a terminal of four columns and three rows blank.
 const BLANK_4_3: &str =
-    "\u{1b}\\\u{f}\u{1b}(B\u{1b}%G\u{1b}[4l\u{1b}[?6l\u{1b}[?69l\u{1b}[?7h\u{1b}[?2026l\
+    "\u{1b}\\\u{f}\u{1b}*B\u{1b}}\u{1b})B\u{1b}(B\u{1b}%G\u{1b}[4l\u{1b}[?6l\u{1b}[?69l\u{1b}[?7h\u{1b}[?2026l\
      \u{1b}[0m\u{1b}[rm\ré\u{1b}[3;4H\u{1b}[1J\u{1b}[1;1H\u{1b}[?25h";
 
 // What scrolls its screen into its history.
 const SAVE_4_3: &str =
-    "\u{1b}\\\u{f}\u{1b}(B\u{1b}%G\u{1b}[4l\u{1b}[?6l\u{1b}[?69l\u{1b}[?7h\u{1b}[?2026l\
-     \u{1b}[0m\u{1b}[r\u{1b}[3;1H\r\n\n\n";
+    "\u{1b}\\\u{f}\u{1b}*B\u{1b}}\u{1b})B\u{1b}(B\u{1b}%G\u{1b}[4l\u{1b}[?6l\u{1b}[?69l\u{1b}[?7h\u{1b}[?2026l\
+     \u{1b}[0m\u{1b}[r\u{1b}[65535;1H\r\n\n\n\u{1b}[1;1H\u{1b}[4L";
 
 // Whether a text is two others, one after the other.
 fn is_joined(text: &str, first: &str, second: &str) -> bool {
@@ -353,7 +353,7 @@ fn commands(rt: HostRuntime) -> Result<(), Fail> {
     Ok(())
 }
 
-const LEFT_BELOW: &str = "\u{1b}[?25l\u{1b}[0m\u{1b}[r\u{1b}[?25h\u{1b}[65535;1H\r\n";
+const LEFT_BELOW: &str = "\u{1b}[?25l\u{1b}[0m\u{1b}[r\u{1b}[?25h\u{1b}[3;1H\r\n";
 
 // Whether what a terminal is sent ends so once it is left.
 fn is_left(backend: Kept, end: &str) -> bool {
@@ -434,7 +434,7 @@ fn a_drop_gives_the_main_screen_back(rt: HostRuntime) {
     assert!(rt;
         writer
             .as_slice()
-            .ends_with(b"\x1b[0m\x1b[r\x1b[?25h\x1b[65535;1H\r\n")
+            .ends_with(b"\x1b[0m\x1b[r\x1b[?25h\x1b[3;1H\r\n")
     );
 }
 

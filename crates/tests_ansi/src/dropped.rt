@@ -35,7 +35,7 @@ fn begins_terminal(alloc: Global, writer: &mut Vec<u8>, hides: bool) -> Result<(
 fn a_hidden_cursor_is_shown(rt: HostRuntime) -> Result<(), Fail> {
     let mut sent = Vec::new(rt.alloc());
     begins_terminal(rt.alloc(), &mut sent, true)?;
-    let ending = b"\x1b[?25l\x1b[?25h\x1b[0m\x1b[r\x1b[?25h\x1b[65535;1H\r\n";
+    let ending = b"\x1b[?25l\x1b[?25h\x1b[0m\x1b[r\x1b[?25h\x1b[2;1H\r\n";
     assert!(rt; sent.as_slice().ends_with(ending));
     Ok(())
 }

@@ -131,7 +131,7 @@ fn a_failed_beginning_gives_the_terminal_back(rt: HostRuntime) {
         writer
             .sent
             .as_slice()
-            .ends_with(b"\x1b[0m\x1b[r\x1b[?25h\x1b[65535;1H\r\n")
+            .ends_with(b"\x1b[0m\x1b[r\x1b[?25h\x1b[2;1H\r\n")
     );
 }
 

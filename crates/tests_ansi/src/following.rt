@@ -13,7 +13,7 @@ const SIZE: Size = Size {
 };
 
 // What leaves the terminal with its cursor shown below the screen.
-const LEAVING: &str = "\u{1b}[0m\u{1b}[r\u{1b}[?25h\u{1b}[65535;1H\r\n";
+const LEAVING: &str = "\u{1b}[0m\u{1b}[r\u{1b}[?25h\u{1b}[3;1H\r\n";
 
 // A reader that gives a text, and fails after it.
 #[derive(Drop)]

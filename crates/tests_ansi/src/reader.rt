@@ -125,16 +125,16 @@ impl<'a> Reader<'a> {
         ""
     }
 
-    // A string for the operating system, the end of one, the letters of G0, or the coding; the text
-    // after it.
+    // A string for the operating system, the end of one, the letters of G0 to G2, or the coding; the
+    // text after it.
     fn read_escape(&mut self, part: &'a str) -> &'a str {
         if part.starts_with(']') {
             self.sure = self.sure && !part.chars().any(|c| c.is_control());
             return "";
         }
-        let length = if part.starts_with('\\') { 1 } else { 2 };
+        let length = if part.starts_with(['\\', '}']) { 1 } else { 2 };
         match part.get(..length) {
-            Some("\\") => {}
+            Some("\\" | "}" | "*B" | ")B") => {}
             Some("(B") => self.modes.lettered = false,
             Some("(0") => self.modes.lettered = true,
             Some("%G") => self.modes.coded = false,

@@ -2,6 +2,7 @@
 use crate::symbol_at;
 use ratatui_core::buffer::Buffer;
 use ratatui_core::layout::Rect;
+use ratatui_core::style::{Style, Stylize};
 use ratatui_core::text::Line;
 use ratatui_core::widgets::Widget;
 use ratatui_widgets::chart::{Axis, Chart, Dataset, GraphType};
@@ -32,8 +33,8 @@ fn points_are_charted(rt: HostRuntime) -> Result<(), AllocError> {
     let area = Rect::new(0, 0, 5, 5);
     let mut buffer = Buffer::empty(alloc, area)?;
     charted(alloc, area, &mut buffer)?;
-    assert!(rt; symbol_at(&buffer, 2, 0) == "•");
-    assert!(rt; symbol_at(&buffer, 1, 0) == " ");
+    assert!(rt; symbol_at(&buffer, 2, 1) == "•");
+    assert!(rt; symbol_at(&buffer, 2, 0) == " ");
     Ok(())
 }
 
@@ -47,4 +48,14 @@ fn an_axis_has_its_labels(rt: HostRuntime) -> Result<(), AllocError> {
     assert!(rt; symbol_at(&buffer, 0, 3) == "0");
     assert!(rt; symbol_at(&buffer, 11, 3) == "0");
     Ok(())
+}
+
+#[test]
+fn charts_are_styled_by_name(rt: HostRuntime) {
+    let red = Style::new().red();
+    assert!(rt; Axis::new().red() == Axis::new().style(red));
+    assert!(rt; Dataset::new().red() == Dataset::new().style(red));
+    let alloc = rt.alloc();
+    let chart = Chart::new(Vec::new(alloc));
+    assert!(rt; chart.red() == Chart::new(Vec::new(alloc)).style(red));
 }

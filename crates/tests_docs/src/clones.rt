@@ -55,9 +55,9 @@ fn tabbed(alloc: Global) -> Result<Tabs<'static>, AllocError> {
 fn barred(alloc: Global) -> Result<BarChart<'static>, AllocError> {
     let mut bars = Vec::new(alloc);
     bars.push(Bar::with_label(Line::raw(alloc, "Mon")?, 3))?;
-    let mut groups = Vec::new(alloc);
-    groups.push(BarGroup::new(bars))?;
-    Ok(BarChart::new(groups).block(titled(alloc)?))
+    let group = BarGroup::with_label(Line::raw(alloc, "March")?, bars);
+    let chart = BarChart::default_in(alloc).data(group)?;
+    Ok(chart.block(titled(alloc)?))
 }
 
 // A sparkline of one bar.

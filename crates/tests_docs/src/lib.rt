@@ -13,6 +13,8 @@ mod clones;
 #[cfg(test)]
 mod geometry;
 #[cfg(test)]
+mod how;
+#[cfg(test)]
 mod input;
 #[cfg(test)]
 mod styles;

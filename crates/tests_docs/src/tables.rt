@@ -5,9 +5,7 @@ use ratatui_core::layout::{Constraint, Rect};
 use ratatui_core::style::{Color, Style};
 use ratatui_core::text::{Line, Text};
 use ratatui_core::widgets::{StatefulWidget, Widget};
-use ratatui_widgets::{
-    Bar, BarChart, BarGroup, Cell, Row, Sparkline, SparklineBar, Table, TableState, Tabs,
-};
+use ratatui_widgets::{Bar, BarChart, Cell, Row, Sparkline, SparklineBar, Table, TableState, Tabs};
 use std::alloc::{AllocError, Global};
 
 // A row of two cells.
@@ -84,9 +82,7 @@ fn charted(alloc: Global, area: Rect, buf: &mut Buffer) -> Result<(), AllocError
     let mut bars = Vec::new(alloc);
     bars.push(Bar::with_label(Line::raw(alloc, "a")?, 3))?;
     bars.push(Bar::with_label(Line::raw(alloc, "b")?, 8))?;
-    let mut groups = Vec::new(alloc);
-    groups.push(BarGroup::new(bars))?;
-    BarChart::new(groups).bar_width(3).render(area, buf)?;
+    BarChart::new(alloc, bars)?.bar_width(3).render(area, buf)?;
     Ok(())
 }
 

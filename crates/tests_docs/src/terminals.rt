@@ -90,6 +90,17 @@ fn frames_are_painted(rt: HostRuntime) -> Result<(), Fail> {
     Ok(())
 }
 
+#[test]
+fn a_cursor_is_shown(rt: HostRuntime) -> Result<(), Fail> {
+    let alloc = rt.alloc();
+    let mut terminal = Terminal::new(alloc, TestBackend::new(alloc, 8, 1)?)?;
+    let question = Line::raw(alloc, "Name: ")?;
+    terminal.draw_widget_with_cursor(question, Some(Position::new(6, 0)))?;
+    assert!(rt; terminal.backend().lines_are(&["Name:   "]));
+    assert!(rt; terminal.get_cursor_position()? == Position::new(6, 0));
+    Ok(())
+}
+
 // Inserts a line above a viewport of three rows.
 fn insert(
     alloc: Global,

@@ -129,7 +129,7 @@ fn counts_inline(rt: HostRuntime) -> Result<(), Fail> {
 }
 
 // What the terminal is sent at the end, below its last row.
-const FAREWELL: &[u8] = b"\x1b[0m\x1b[r\x1b[?25h\x1b[65535;1H\r\n";
+const FAREWELL: &[u8] = b"\x1b[0m\x1b[r\x1b[?25h\x1b[3;1H\r\n";
 
 // Whether a run from beginning to end, over so many rows or the whole screen, counts to 2 and gives
 // the terminal back.

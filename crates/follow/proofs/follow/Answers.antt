@@ -20,5 +20,5 @@ returns-in-Ok-left-clause-shown g c =
     let calls = c.in_ok-shown.ensures.calls ∙ c.in_ok-view.ensures.calls ∙ c.in-Ok.ensures.failures in
     let whole : w.terminal.backend.is_broken ≡ false = last.unfailed calls in
     shown-if (g.R.Read.remaining c.args.reader.now) _ size c.in_ok-view.view w _ _ _ view c.in_ok-shown.ensures.ok
-    (last.read whole) wide some (omega arith) c.leaving.ensures (last.known whole known)
+    (last.read whole) wide some (rw c.as_str.ensures.value c.leaving-below.ensures) (last.known whole known)
     (last.tied whole) c.in-Ok-left.ensures

@@ -1,4 +1,5 @@
 use Rattle.rtui_canvas.proofs.NarrowCanvasLemmas.{braille-narrow, halves-narrow, dot-narrow, block-narrow, bar-narrow}
+use Rattle.rtui_canvas.proofs.NarrowPixelLemmas.{quadrants-narrow, sextants-narrow, octants-narrow}
 use Rattle.rtui_canvas.proofs.laws.marks_are_narrow.Goals as goal
 
 pub returns-clause-braille : goal.returns-clause-braille
@@ -15,3 +16,12 @@ returns-clause-blocks c = block-narrow
 
 pub returns-clause-bars : goal.returns-clause-bars
 returns-clause-bars c = bar-narrow
+
+pub returns-clause-quadrants : goal.returns-clause-quadrants
+returns-clause-quadrants c = quadrants-narrow
+
+pub returns-clause-sextants : goal.returns-clause-sextants
+returns-clause-sextants c = sextants-narrow
+
+pub returns-clause-octants : goal.returns-clause-octants
+returns-clause-octants c = octants-narrow

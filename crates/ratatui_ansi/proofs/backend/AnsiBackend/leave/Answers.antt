@@ -1,5 +1,6 @@
-use Rattle.std.proofs.Common.{◌++◌, ap, ◌∙◌, subst}
+use Rattle.std.proofs.Common.{◌++◌, ap, sym, ◌∙◌, subst}
 use Rattle.std.specs.Io.KnownBytes.{Appends}
+use Rattle.ansi_model.specs.{Endings.left_below, Sends.Performs}
 use Rattle.ratatui_ansi.proofs.{BackendLemmas.brings-back, HeadlineLemmas.read-by-all, HeadlineLemmas.leaves-terminal}
 use Rattle.ratatui_ansi.proofs.backend.AnsiBackend.leave.Goals as goal
 
@@ -19,9 +20,13 @@ returns-clause-left g c =
     let bytes = ap (λ s. s.bytes) c.flush.ensures.sent ∙ c.in_ok-send.ensures.sent ∙ ap (λ s. s.sent.bytes ++ text) mended in
     let all = (c.flush.ensures.tied (c.in_ok-send.ensures.tied (rw mended (c.self.invariant.1 whole)))).appends in
     let kept = c.self.invariant.0 in
-    leaves-terminal _ contents (b.sender.sent.bytes ++ text) (c.farewell-last.ensures.left main b.sender.sent.bytes)
+    let sent = b.sender.sent.bytes in
+    let leaves : Performs sent (sent ++ text) (left_below b.tracker.size.height) =
+    subst (λ xs. Performs sent (sent ++ xs) (left_below b.tracker.size.height))
+    (sym (c.farewell-last.ensures.left main ∙ c.as_str.ensures.value)) (c.leaving-below.ensures sent) in
+    leaves-terminal _ contents (b.sender.sent.bytes ++ text) leaves
     (read-by-all _ (kept.alike whole) (kept.awaiting whole).phase (kept.awaiting whole).ready)
-    kept.tracker.columns kept.tracker.rows kept.tracker.most
+    kept.tracker.columns kept.tracker.rows
     (subst (λ xs. Appends b.sender.sent.before contents xs) bytes (subst
     (λ known. Appends known contents c.flush.new.self.sent.bytes) before all)))
 

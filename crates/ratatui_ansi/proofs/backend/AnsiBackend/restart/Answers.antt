@@ -5,4 +5,4 @@ use Rattle.ratatui_ansi.proofs.backend.AnsiBackend.restart.Goals as goal
 pub returns-clause-size : goal.returns-clause-size
 returns-clause-size g c =
     let own = ap (λ s. s.size) (sym c.self.view_is) in
-    size-stays c.resize.result _ _ _ c.resize.ensures.size c.resize.ensures.refused own ∙ sym own
+    size-stays c.begin_again.result _ _ _ c.begin_again.ensures.size c.begin_again.ensures.refused own ∙ sym own

@@ -1,4 +1,4 @@
-use Rattle.std.proofs.Common.{drop}
+use Rattle.std.proofs.Common.{◌≡◌, ◌==◌, ◌∙◌, drop, false, length, sym}
 use Rattle.ratatui_core.proofs.WidgetLemmas.{within-then}
 use Rattle.rtui_table.specs.Tables.{rows_parts, placed_rows, highlight_parts, selected_row_area, selected_column_area}
 use Rattle.rtui_table.proofs.PartLemmas.{parts-then, parts-within, row-inside, chosen-inside, highlights-inside}
@@ -16,7 +16,9 @@ returns-clause-within c =
 
 pub returns-clause-ok : goal.returns-clause-ok
 returns-clause-ok c =
-    parts-then (rows_parts c.args.self.now c.args.state.selected c.args.symbol_columns c.args.columns.now
+    let test : (length c.args.self.now.rows.items == 0) ≡ false =
+    rw c.as_slice.ensures.value at (sym c.is_empty.ensures ∙ c.if-is_empty.false) in
+    rw test (parts-then (rows_parts c.args.self.now c.args.state.selected c.args.symbol_columns c.args.columns.now
     (placed_rows c.args.self.now c.args.state c.args.area))
     (highlight_parts c.args.self.now (selected_row_area c.args.state.selected
     (placed_rows c.args.self.now c.args.state c.args.area))
@@ -24,4 +26,4 @@ returns-clause-ok c =
     c.render_rows.new.buf c.highlight.new.buf c.in_ok-row.ensures.ok (rw (
       c.in_ok-row.ensures.selected,
       c.column_area-column.ensures,
-    ) at c.highlight.ensures)
+    ) at c.highlight.ensures))

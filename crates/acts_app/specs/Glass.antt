@@ -1,0 +1,45 @@
+-- What is on the glass of a terminal that is sent bytes, and how a turn moves it.
+use Rattle.std.specs.Prelude.{◌≡◌, ◌⊎◌, true, Option, None}
+use Rattle.ratatui_core.specs.{Layout.Rect, Layout.Position, Buffer.BufferData}
+use Rattle.ratatui_core.specs.Terminal.{TerminalData, TerminalError, ShowsRendered, HasCursor, Stays}
+use Rattle.ratatui_ansi.specs.Backend.{BackendState, shown_by, is_flushed}
+use Rattle.ratatui_ansi.specs.{declared.error.AnsiError.AnsiError}
+use Rattle.ratatui_ansi.specs.Headline.{IsShownToAll}
+use Rattle.ratatui_acts.specs.declared.told.Told.{Told}
+use Rattle.ratatui_app.specs.{Showing.RestsUnfixed, Glass.sender}
+use Rattle.acts_app.specs.Moving.{MovesAsTold, StopsShowing}
+
+-- no cursor
+abbrev pub no_cursor : Rect → Option Position
+no_cursor _ = None
+
+module _ {W : Type 0} where
+  -- a frame can be drawn, and no call has failed
+  pub record CanShow (t : TerminalData (BackendState W)) : Type 0 where
+    pub rest : RestsUnfixed shown_by t
+    pub unfailed : t.backend.failures ≡ 0
+
+  -- a buffer that is what painting makes of an empty one is shown by each terminal of the backend's size that
+  -- has read what was sent, however it was left before; the cursor stands where it is wanted, or is hidden;
+  -- and all was flushed
+  pub record StandsOnGlass (paints : Rect → BufferData → BufferData → Type 0) (cursor : Rect → Option Position)
+      (t : TerminalData (BackendState W)) : Type 0 where
+    pub ready : CanShow t
+    pub painted : ShowsRendered shown_by paints t
+    pub placed : HasCursor (cursor t.viewport_area) (shown_by t.backend)
+    pub shown : IsShownToAll t.previous t.backend
+    pub flushed : is_flushed t.backend ≡ true
+
+  -- a turn moved the terminal, and after it this may have been asked for its size
+  pub record MovesAndAsks (told : Told) (s t : TerminalData (BackendState W)) : Type 0 where
+    pub shown : TerminalData (BackendState W)
+    pub moved : MovesAsTold sender told s shown
+    pub asked : Stays shown_by shown t
+    pub faults : t.backend.failures ≡ shown.backend.failures
+
+  -- where showing a state stops: at its frame; or, after it, at the question for the size
+  abbrev pub StopsOnGlass : (Rect → BufferData → BufferData → Type 0) → (Rect → Option Position)
+      → Told → TerminalData (BackendState W) → TerminalData (BackendState W) → TerminalError AnsiError → Type 0
+  StopsOnGlass paints cursor told s t error = StopsShowing sender paints cursor s t error
+      ⊎ ((shown : TerminalData (BackendState W)) × MovesAsTold sender told s shown
+      × (t ≡ record shown { backend = t.backend }))

@@ -1,0 +1,31 @@
+//! The program `counter`: a number that `+` and `-` change, until `q`.
+//!
+//! It is an application of `acts_app`, on the terminal's alternate screen. `tools/play counter`
+//! shows it.
+#![tactic(auto)]
+
+use acts_app::{Counter, run_and_leave};
+use ratatui_acts::{Nothing, Seat};
+use ratatui_ansi::{AnsiBackend, size_told};
+use std::io::BufWriter;
+
+fn main(rt: HostRuntime) -> anyhow::Result<()> {
+    let alloc = rt.alloc();
+    let writer = BufWriter::new(alloc, rt.stdout())?;
+    let backend = AnsiBackend::new_on_alternate_screen(alloc, writer, size_told(&rt))?;
+    let counter = Counter {
+        count: 0,
+        is_over: false,
+    };
+    let mut seat = Seat::new(alloc, counter);
+    run_and_leave(
+        alloc,
+        &mut rt.reader(),
+        &mut Nothing,
+        true,
+        backend,
+        &mut seat,
+    )?
+    .ended?;
+    Ok(())
+}

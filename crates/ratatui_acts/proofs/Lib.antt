@@ -1,0 +1,4 @@
+pub mod TakingLemmas
+pub mod TurnLemmas
+pub mod RunLemmas
+pub mod ReadingLemmas

@@ -1,0 +1,6 @@
+pub mod Redraws
+pub mod Turns
+pub mod Seats
+pub mod Runs
+pub mod Steps
+pub mod Reading

@@ -1,0 +1,128 @@
+-- What turns make of a state: a turn is a read, or something that was done.
+use Rattle.std.specs.Prelude.{◌≡◌, ◌||◌, ◌⊎◌, ℕ, Bool, true, false, is_some, if◌then◌else◌}
+use Rattle.std.specs.Prelude.{List, [], ◌∷◌, ◌++◌, Option, Some, None}
+use Rattle.ratatui_events.specs.declared.event.Event.{Event}
+use Rattle.ratatui_input.specs.declared.decoder.Decoder.{Decoder}
+use Rattle.ratatui_input.specs.Decoding as decoding
+use Rattle.ratatui_reads.specs.{Reads.told_by, Reads.size_told, Sources.read_room}
+use Rattle.ratatui_acts.specs.declared.message.Message.TheVariants as message
+use Rattle.ratatui_acts.specs.declared.told.Told.{Told}
+use Rattle.ratatui_acts.specs.declared.acts.Acts.{Ghosts}
+use Rattle.ratatui_acts.specs.Redraws.{has_redraw}
+
+-- what happened between two looks at the glass: a read gave bytes, none where nothing came; or a command was
+-- done, and this was its answer
+pub data Turn (C R : Type 0) : Type 0 where
+  Came : List ℕ → Turn C R
+  Done : C → R → Turn C R
+
+-- a state, the decoder, and the events that were read and that the state has not been told yet
+pub record Standing (S : Type 0) : Type 0 where
+  pub decoder : Decoder
+  pub left : List Event
+  pub state : S
+
+-- what messages make of a state, what a state asks for, and which states take no more messages
+abbrev pub ActingRules : Type 0 → Type 0 → Type 0 → Type 1
+ActingRules = Ghosts
+
+module _ {S C R : Type 0} (rules : ActingRules S C R) where
+  -- a state is told no event: it is over, or asks for something
+  abbrev pub waits : S → Bool
+  waits s = rules.is_over s || is_some (rules.asked s)
+
+  -- events are told, one after the other, until the state waits
+  abbrev pub taking : Decoder → List Event → S → Standing S
+  taking d [] s = record { decoder = d; left = []; state = s }
+  taking d (e ∷ es) s =
+      if waits s then record { decoder = d; left = e ∷ es; state = s }
+      else taking d es (rules.updated s (message.Event e))
+
+  -- a read that gives nothing is a tick
+  abbrev pub ticked : List ℕ → S → S
+  ticked [] s = rules.updated s message.Tick
+  ticked (b ∷ bytes) s = s
+
+  abbrev pub after_messages : decoding.Told → List ℕ → Standing S → Standing S
+  after_messages told bytes b = taking told.1 (b.left ++ told.0) (ticked bytes b.state)
+
+  -- what a turn makes of all
+  abbrev pub after_turn : Standing S → Turn C R → Standing S
+  after_turn b (Came bytes) = after_messages (told_by b.decoder bytes) bytes b
+  after_turn b (Done command answer) = taking b.decoder b.left (rules.updated b.state (message.Answer answer))
+
+  abbrev pub after_turns : Standing S → List (Turn C R) → Standing S
+  after_turns b [] = b
+  after_turns b (t ∷ ts) = after_turns (after_turn b t) ts
+
+  -- a turn is the one that the state wants: what it asks for is done, and if it asks for nothing, it is read
+  abbrev pub IsWanted : S → Turn C R → Type 0
+  IsWanted s (Came bytes) = rules.asked s ≡ None
+  IsWanted s (Done command answer) = rules.asked s ≡ Some command
+
+  -- the events that wait at a turn to be told, and the state that they are told to
+  abbrev pub queued : Standing S → Turn C R → List Event
+  queued b (Came bytes) = b.left ++ (told_by b.decoder bytes).0
+  queued b (Done command answer) = b.left
+
+  abbrev pub state_begun : Standing S → Turn C R → S
+  state_begun b (Came bytes) = ticked bytes b.state
+  state_begun b (Done command answer) = rules.updated b.state (message.Answer answer)
+
+  -- a state that is told all of these events
+  abbrev pub all_told : S → List Event → S
+  all_told s [] = s
+  all_told s (e ∷ es) = all_told (rules.updated s (message.Event e)) es
+
+  -- some first ones of these events are told, and not the next one, for which memory was refused
+  pub record TellsSome (events : List Event) (before after : S) : Type 0 where
+    pub told : List Event
+    pub next : Event
+    pub rest : List Event
+    pub events_are : events ≡ told ++ next ∷ rest
+    pub after_is : after ≡ all_told before told
+
+  -- memory was refused in a turn: for the tick, the answer or the events' room, and the state is as before; or
+  -- for one of the events
+  abbrev pub RefusesTurn : Standing S → Turn C R → S → Type 0
+  RefusesTurn before turn after = (after ≡ before.state) ⊎ TellsSome (queued before turn) (state_begun before turn) after
+
+-- the last size that a turn tells
+abbrev pub turn_size : {S C R : Type 0} → Standing S → Turn C R → Option (ℕ × ℕ)
+turn_size b (Came bytes) = size_told b.decoder bytes
+turn_size b (Done command answer) = None
+
+-- the turn was a read that gave nothing
+abbrev pub WasNothing : {C R : Type 0} → Turn C R → Type 0
+WasNothing (Came bytes) = bytes ≡ []
+WasNothing (Done command answer) = ⊥
+
+-- what is told of a turn to the glass: the last size; whether something came; whether one of the events that
+-- were told was Ctrl+L; and if nothing that is shown has changed, the state is as before
+pub record Tells {S C R : Type 0} (rules : ActingRules S C R) (before : Standing S) (turn : Turn C R) (told : Told)
+    (after : Standing S) : Type 0 where
+  pub size : told.size ≡ turn_size before turn
+  pub nothing : told.came ≡ false → WasNothing turn
+  pub something : told.came ≡ true → WasNothing turn → ⊥
+  pub events : List Event
+  pub events_are : queued rules before turn ≡ events ++ after.left
+  pub anew : told.anew ≡ has_redraw events
+  pub same : told.changed ≡ false → after.state ≡ before.state
+
+-- a frame of which nothing was told but that all may have changed
+abbrev pub first_told : Told
+first_told = record { changed = true; came = true; size = None; anew = false }
+
+-- there is no reason to draw again
+pub record IsQuiet (told : Told) : Type 0 where
+  pub came : told.came ≡ true
+  pub same : told.changed ≡ false
+  pub size : told.size ≡ None
+  pub kept : told.anew ≡ false
+
+module _ {C R H O : Type 0} (gives : H → ℕ → List ℕ → H → Type 0) (answers : O → C → R → O → Type 0) where
+  -- what is outside made a turn: what gives reads gave these bytes, or what does commands did this one, with
+  -- this answer; the other one stayed
+  abbrev pub GivesTurn : H → O → Turn C R → H → O → Type 0
+  GivesTurn h o (Came bytes) h' o' = gives h read_room bytes h' × (o' ≡ o)
+  GivesTurn h o (Done command answer) h' o' = answers o command answer o' × (h' ≡ h)

@@ -1,0 +1,156 @@
+//! Laws of runs.
+
+ghost use Rattle.std.specs.Prelude.{◌≡◌, [], List};
+ghost use Rattle.ratatui_acts.specs.Turns.{after_turns};
+ghost use Rattle.ratatui_reads.specs.Reads.{after_reads};
+ghost use Rattle.ratatui_reads.specs.Sources.{GivesRead, GivesReads, StaysKnown, MayFail};
+ghost use Rattle.ratatui_acts.specs.Reading.{AsksNothing, seat_between, event_rules, turn_reads};
+ghost use Rattle.ratatui_acts.specs.Runs.{Now, Past, HasRun, AreAnswered, AreTimely, turns_of};
+
+use crate::acts::Acts;
+use crate::glass::Glass;
+use crate::outside::{Hears, Outside};
+use ratatui_reads::Source;
+
+/// Where a run stands now, the state is what its turns make of the first one, one after the other:
+/// what was read, and what was answered. What was read and waits is in the seat.
+pub fn a_run_makes_what_its_turns_make<A: Acts, G: Glass<A>, H: Hears<A, G>, O: Outside<A, G>>()
+    ensures { (begun now : Now A G H O) (past : List (Past A A.Command A.Answer G H O))
+        → HasRun (record {
+          rules = A.Acts;
+          shows = G.shows;
+          moves = G.moves;
+          lacks = G.lacks;
+          gives = H.gives;
+          fails = H.fails;
+          answers = O.answers;
+        })
+        begun past now
+        → now.standing ≡ after_turns A.Acts begun.standing (turns_of (record {
+          rules = A.Acts;
+          shows = G.shows;
+          moves = G.moves;
+          lacks = G.lacks;
+          gives = H.gives;
+          fails = H.fails;
+          answers = O.answers;
+        }) past) }
+{}
+
+/// Wherever a run read, all that it had read before had been told to the state that the glass
+/// showed then.
+pub fn what_was_read_is_told_before_more_is_read<
+    A: Acts,
+    G: Glass<A>,
+    H: Hears<A, G>,
+    O: Outside<A, G>,
+>()
+    ensures { (begun now : Now A G H O) (past : List (Past A A.Command A.Answer G H O))
+        → begun.standing.left ≡ []
+        → HasRun (record {
+          rules = A.Acts;
+          shows = G.shows;
+          moves = G.moves;
+          lacks = G.lacks;
+          gives = H.gives;
+          fails = H.fails;
+          answers = O.answers;
+        })
+        begun past now
+        → AreAnswered (record {
+          rules = A.Acts;
+          shows = G.shows;
+          moves = G.moves;
+          lacks = G.lacks;
+          gives = H.gives;
+          fails = H.fails;
+          answers = O.answers;
+        }) past }
+{}
+
+/// Whenever a run read, or did something, the glass showed the state that all turns before make of
+/// the first one; what was done is what that state asks for, and where it was read, that state asks
+/// for nothing.
+pub fn each_turn_was_made_while_its_state_was_shown<
+    A: Acts,
+    G: Glass<A>,
+    H: Hears<A, G>,
+    O: Outside<A, G>,
+>()
+    ensures { (begun now : Now A G H O) (past : List (Past A A.Command A.Answer G H O))
+        → HasRun (record {
+          rules = A.Acts;
+          shows = G.shows;
+          moves = G.moves;
+          lacks = G.lacks;
+          gives = H.gives;
+          fails = H.fails;
+          answers = O.answers;
+        })
+        begun past now
+        → AreTimely (record {
+          rules = A.Acts;
+          shows = G.shows;
+          moves = G.moves;
+          lacks = G.lacks;
+          gives = H.gives;
+          fails = H.fails;
+          answers = O.answers;
+        }) begun.standing past }
+{}
+
+/// Of states that ask for nothing, and that ticks don't change, decoder and state are what the
+/// reads of a run make of the first ones.
+pub fn reads_decide_where_nothing_is_asked_for<
+    A: Acts,
+    G: Glass<A>,
+    H: Hears<A, G>,
+    O: Outside<A, G>,
+>()
+    ensures { AsksNothing A.Acts
+        → (begun now : Now A G H O) (past : List (Past A A.Command A.Answer G H O))
+        → begun.standing.left ≡ []
+        → HasRun (record {
+          rules = A.Acts;
+          shows = G.shows;
+          moves = G.moves;
+          lacks = G.lacks;
+          gives = H.gives;
+          fails = H.fails;
+          answers = O.answers;
+        })
+        begun past now
+        → seat_between now.standing ≡ after_reads (event_rules A.Acts) (seat_between begun.standing)
+        (turn_reads (turns_of (record {
+          rules = A.Acts;
+          shows = G.shows;
+          moves = G.moves;
+          lacks = G.lacks;
+          gives = H.gives;
+          fails = H.fails;
+          answers = O.answers;
+        }) past)) }
+{}
+
+/// The reads of a run are those that its source gave, in order.
+pub fn the_reads_are_what_a_source_gave<A: Acts, G: Glass<A>, S: Source, O: Outside<A, G>>()
+    ensures { (begun now : Now A G S O) (past : List (Past A A.Command A.Answer G S O))
+        → HasRun (record {
+          rules = A.Acts;
+          shows = G.shows;
+          moves = G.moves;
+          lacks = G.lacks;
+          gives = λ s room bytes t. GivesRead room (S.coming s) (S.coming t) bytes;
+          fails = λ s t. StaysKnown (S.coming s) (S.coming t) × MayFail (S.coming s);
+          answers = O.answers;
+        }) begun past now
+        → GivesReads (S.coming begun.ears) (S.coming now.ears) (turn_reads (turns_of (record {
+          rules = A.Acts;
+          shows = G.shows;
+          moves = G.moves;
+          lacks = G.lacks;
+          gives = λ s room bytes t. GivesRead room (S.coming s) (S.coming t) bytes;
+          fails = λ s t. StaysKnown (S.coming s) (S.coming t) × MayFail (S.coming s);
+          answers = O.answers;
+        }) past)) }
+{}

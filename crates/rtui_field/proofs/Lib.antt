@@ -1,0 +1,5 @@
+pub mod ViewLemmas
+pub mod MaskLemmas
+pub mod PaintLemmas
+pub mod PlainLemmas
+pub mod ShortLemmas

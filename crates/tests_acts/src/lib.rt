@@ -1,0 +1,10 @@
+//! Tests of applications that act: a counter over pieces, what its terminal is sent, and names that
+//! are removed.
+#![tactic(auto)]
+
+#[cfg(test)]
+mod counters;
+#[cfg(test)]
+mod removers;
+#[cfg(test)]
+mod sizes;

@@ -1,0 +1,5 @@
+pub mod Reach
+pub mod Field
+pub mod Inner
+pub mod Keys
+pub mod History
