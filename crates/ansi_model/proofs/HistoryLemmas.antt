@@ -1,5 +1,5 @@
 -- What a terminal makes of bytes depends neither on the rows that its history has, nor on whether a synchronized update is held.
-use Rattle.std.proofs.Common.{◌≡◌, ℕ, ◌+◌, ◌-◌, ◌*◌, ◌==◌, ◌||◌, not, nat_eq, nat_lt, nat_le, Bool, true, false, if◌then◌else◌, List}
+use Rattle.std.proofs.Common.{◌≡◌, ℕ, ◌+◌, ◌-◌, ◌*◌, ◌==◌, ◌||◌, ◌&&◌, not, nat_eq, nat_lt, nat_le, Bool, true, false, if◌then◌else◌, List}
 use Rattle.std.proofs.Common.{[], ◌∷◌, ◌++◌, chars, refl, sym, ap, ◌∙◌, append_assoc}
 use Rattle.std.specs.List.{list_all}
 use Rattle.ratatui_core.specs.Buffer.{Look, text_width}
@@ -8,10 +8,11 @@ use Rattle.ansi_model.specs.Emulator.{with_modes, holding, rested, unsure, if_so
 use Rattle.ansi_model.specs.Emulator.{cursor_shown}
 use Rattle.ansi_model.specs.{Symbols.is_plain_char, Symbols.is_symbol, Symbols.is_disputed, Modes.has_none}
 use Rattle.ansi_model.specs.{Beginnings.with_rows_above}
-use Rattle.ansi_model.specs.Emulator.Phase.{Ground, Escape, Opened, Sequence, Spaced, Letters, OtherLetters, Coding, Told, Switching}
+use Rattle.ansi_model.specs.Emulator.Phase.{Ground, Escape, Opened, Sequence, Spaced, Keyed, Letters, OtherLetters, Coding, Told}
+use Rattle.ansi_model.specs.Emulator.Phase.{Switching}
 use Rattle.ansi_model.specs.Sequences.{feed, reads_in, reads_sequence, reads_spaced, is_text, is_digit, performs, performs_marked}
 use Rattle.ansi_model.specs.Sequences.{performs_mode, performs_DSR, is_quiet, sets_mode, performs_ED, performs_EL, performs_CUP}
-use Rattle.ansi_model.specs.Sequences.{performs_DECSTBM, performs_DL, performs_IL}
+use Rattle.ansi_model.specs.Sequences.{performs_DECSTBM, performs_DL, performs_IL, performs_XTWINOPS, is_key_mark}
 use Rattle.ansi_model.proofs.SymbolLemmas.{rested-modes}
 
 -- a terminal with these rows before those of its history, in a synchronized update or in none
@@ -96,6 +97,13 @@ module _ (rows : List (List Look)) (held : Bool) where
   DSR-beside (n ∷ []) t = either (n == 6) _ _ _ _ refl refl
   DSR-beside (n ∷ m ∷ ps) t = refl
 
+  XTWINOPS-beside : (ps : List ℕ) (t : Emulator)
+      → performs_XTWINOPS ps (beside rows held t) ≡ beside rows held (performs_XTWINOPS ps t)
+  XTWINOPS-beside [] t = refl
+  XTWINOPS-beside (m ∷ []) t = refl
+  XTWINOPS-beside (m ∷ n ∷ []) t = either (((m == 22) || (m == 23)) && (n == 2)) _ _ _ _ refl refl
+  XTWINOPS-beside (m ∷ n ∷ k ∷ ps) t = refl
+
   performs-beside : (ps : List ℕ) (final : ℕ) (t : Emulator)
       → performs ps final (beside rows held t) ≡ beside rows held (performs ps final t)
   performs-beside ps final t =
@@ -107,7 +115,7 @@ module _ (rows : List (List Look)) (held : Bool) where
       (either (final == 77) _ _ _ _ (DL-beside ps t)
       (either (final == 76) _ _ _ _ (IL-beside ps t)
       (either (final == 104) _ _ _ _ (mode-beside true ps t) (either (final == 108) _ _ _ _ (mode-beside false ps t)
-      (either (final == 110) _ _ _ _ (DSR-beside ps t) refl)))))))))
+      (either (final == 110) _ _ _ _ (DSR-beside ps t) (either (final == 116) _ _ _ _ (XTWINOPS-beside ps t) refl))))))))))
 
   spaced-beside : (ps : List ℕ) (b : ℕ) (t : Emulator)
       → reads_spaced ps b (beside rows held t) ≡ beside rows held (reads_spaced ps b t)
@@ -141,6 +149,9 @@ module _ (rows : List (List Look)) (held : Bool) where
 
   coding-beside : (b : ℕ) (t : Emulator) → reads_in Coding b (beside rows held t) ≡ beside rows held (reads_in Coding b t)
   coding-beside b t = either (b == 71) _ _ _ _ refl (either (b == 64) _ _ _ _ refl refl)
+
+  keyed-beside : (b : ℕ) (t : Emulator) → reads_in Keyed b (beside rows held t) ≡ beside rows held (reads_in Keyed b t)
+  keyed-beside b t = either (is_digit b) _ _ _ _ refl (either (b == 117) _ _ _ _ refl refl)
 
   told-beside : (b : ℕ) (t : Emulator) → reads_in Told b (beside rows held t) ≡ beside rows held (reads_in Told b t)
   told-beside b t = either (b == 27) _ _ _ _ refl (either (is_text b) _ _ _ _ refl refl)
@@ -207,8 +218,10 @@ module _ (rows : List (List Look)) (held same : Bool) where
   reads-beside Told b t kept = goes-on (reads_in Told b) (λ r h u. told-beside r h b u) t kept
   reads-beside (Switching on) b t kept = goes-on (λ u. u) (λ r h u. refl) t kept
   reads-beside (Spaced ps) b t kept = goes-on (reads_in (Spaced ps) b) (λ r h u. spaced-beside r h ps b u) t kept
+  reads-beside Keyed b t kept = goes-on (reads_in Keyed b) (λ r h u. keyed-beside r h b u) t kept
   reads-beside Opened b t kept = one-of (b == 63) _ _ _ _ (goes-on (λ u. record u { phase = Sequence true [] 0 })
-      (λ r h u. refl) t kept) (sequence-beside false [] 0 b t kept)
+      (λ r h u. refl) t kept) (one-of (is_key_mark b) _ _ _ _ (goes-on (λ u. record u { phase = Keyed })
+      (λ r h u. refl) t kept) (sequence-beside false [] 0 b t kept))
   reads-beside (Sequence mark done n) b t kept = sequence-beside mark done n b t kept
 
 feed-beside : (bytes : List ℕ) (rows : List (List Look)) (held same : Bool) (t : Emulator) → (same ≡ true → held ≡ t.modes.held)

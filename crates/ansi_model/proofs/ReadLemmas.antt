@@ -8,15 +8,17 @@ use Rattle.std.proofs.Math.Nat.{div-add-mod'}
 use Rattle.ansi_model.specs.Emulator.{Emulator, Phase, rested, cursor_moved, returned, erased, scrolled, line_fed, fed, if_so}
 use Rattle.ansi_model.specs.Emulator.{cursor_shown, with_region, without_region, lines_deleted, lines_inserted, with_modes}
 use Rattle.ansi_model.specs.Emulator.{holding, with_sgr}
-use Rattle.ansi_model.specs.{Emulator.Phase.Ground, Emulator.Phase.Opened, Emulator.Phase.Sequence, Sequences.feed}
-use Rattle.ansi_model.specs.{Sequences.reads_in, Sequences.is_digit}
+use Rattle.ansi_model.specs.{Emulator.Phase.Ground, Emulator.Phase.Opened, Emulator.Phase.Sequence, Emulator.Phase.Keyed}
+use Rattle.ansi_model.specs.Sequences.{feed, reads_in, is_digit, is_key_mark}
 use Rattle.ratatui_core.specs.Backend.{ClearType, All, AfterCursor, BeforeCursor, CurrentLine, UntilNewLine}
 use Rattle.ansi_model.specs.Sends.{Leads, Sends, Performs}
-use Rattle.ansi_model.specs.{Commands.command_bytes, declared.command.Command.Command}
+use Rattle.ansi_model.specs.Commands.{command_bytes, flag_bits, keyboard_bytes, keyboard_pop_bytes}
+use Rattle.ansi_model.specs.{declared.command.Command.Command, declared.command.KeyboardEnhancementFlags.KeyboardEnhancementFlags}
 use Rattle.ansi_model.specs.{declared.command.SetCursorStyle.SetCursorStyle}
 use Rattle.ansi_model.specs.declared.command.Command.TheVariants.{EnableMouseCapture, DisableMouseCapture, EnableBracketedPaste}
 use Rattle.ansi_model.specs.declared.command.Command.TheVariants.{DisableBracketedPaste, EnableFocusChange, DisableFocusChange}
-use Rattle.ansi_model.specs.declared.command.Command.TheVariants.{AskCursorPosition}
+use Rattle.ansi_model.specs.declared.command.Command.TheVariants.{AskCursorPosition, EnableSizeReports, DisableSizeReports}
+use Rattle.ansi_model.specs.declared.command.Command.TheVariants.{PopKeyboardEnhancementFlags, KeepTitle, BringTitleBack}
 use Rattle.ansi_model.specs.declared.command.Command.TheVariants as Asked
 use Rattle.ansi_model.specs.declared.command.SetCursorStyle.TheVariants.{DefaultUserShape, BlinkingBlock, SteadyBlock}
 use Rattle.ansi_model.specs.declared.command.SetCursorStyle.TheVariants.{BlinkingUnderScore, SteadyUnderScore, BlinkingBar}
@@ -134,8 +136,9 @@ first-one : (n : ℕ) → n < 10 → ReadsFirst n ((48 + n) ∷ [])
 unfolding feed
 first-one n small t =
     let no_mark : (48 + n == 63) ≡ false = grind (arith, nat_tests) in
+    let no_key : is_key_mark (48 + n) ≡ false = grind (arith, nat_tests) in
     let e : 0 * 10 + (48 + n - 48) ≡ n = omega arith in
-    rw (no_mark, digit n small, e) refl
+    rw (no_mark, no_key, digit n small, e) refl
 
 first-more : (n : ℕ) (ds : List ℕ) → 10 ≤ n → ReadsFirst (n / 10) ds → ReadsFirst n (ds ++ ((48 + n % 10) ∷ []))
 unfolding feed
@@ -147,6 +150,21 @@ first-more n ds big rest t =
 
 pub first-read : (n : ℕ) → n < 2 ^ 64 → ReadsFirst n (decimal n)
 first-read n small = decimal_by_steps ReadsFirst first-one first-more n small
+
+-- a number in a sequence of kitty's keyboard protocol
+abbrev ReadsKeyed : ℕ → List ℕ → Type 0
+ReadsKeyed n ds = (t : Emulator) → feed ds (within Keyed t) ≡ within Keyed t
+
+keyed-one : (n : ℕ) → n < 10 → ReadsKeyed n ((48 + n) ∷ [])
+unfolding feed
+keyed-one n small t = rw (digit n small) refl
+
+keyed-more : (n : ℕ) (ds : List ℕ) → 10 ≤ n → ReadsKeyed (n / 10) ds → ReadsKeyed n (ds ++ ((48 + n % 10) ∷ []))
+keyed-more n ds big rest t = feed-append ds ((48 + n % 10) ∷ []) (within Keyed t)
+    ∙ ap (feed ((48 + n % 10) ∷ [])) (rest t) ∙ keyed-one (n % 10) (omega arith) t
+
+keyed-number : (n : ℕ) → n < 2 ^ 64 → ReadsKeyed n (decimal n)
+keyed-number n small = decimal_by_steps ReadsKeyed keyed-one keyed-more n small
 
 -- a sequence begins
 pub begun : (rest : List ℕ) (t : Emulator) → t.phase ≡ Ground → feed (27 ∷ 91 ∷ rest) t ≡ feed rest (within Opened (rested t))
@@ -472,6 +490,43 @@ quiet_1004l : (t : Emulator) → t.phase ≡ Ground → feed (27 ∷ 91 ∷ 63 �
 unfolding feed
 quiet_1004l t ground = begun (63 ∷ 49 ∷ 48 ∷ 48 ∷ 52 ∷ 108 ∷ []) t ground
 
+quiet_2048h : (t : Emulator) → t.phase ≡ Ground → feed (27 ∷ 91 ∷ 63 ∷ 50 ∷ 48 ∷ 52 ∷ 56 ∷ 104 ∷ []) t ≡ rested t
+unfolding feed
+quiet_2048h t ground = begun (63 ∷ 50 ∷ 48 ∷ 52 ∷ 56 ∷ 104 ∷ []) t ground
+
+quiet_2048l : (t : Emulator) → t.phase ≡ Ground → feed (27 ∷ 91 ∷ 63 ∷ 50 ∷ 48 ∷ 52 ∷ 56 ∷ 108 ∷ []) t ≡ rested t
+unfolding feed
+quiet_2048l t ground = begun (63 ∷ 50 ∷ 48 ∷ 52 ∷ 56 ∷ 108 ∷ []) t ground
+
+quiet_22t : (t : Emulator) → t.phase ≡ Ground → feed (27 ∷ 91 ∷ 50 ∷ 50 ∷ 59 ∷ 50 ∷ 116 ∷ []) t ≡ rested t
+unfolding feed
+quiet_22t t ground = begun (50 ∷ 50 ∷ 59 ∷ 50 ∷ 116 ∷ []) t ground
+
+quiet_23t : (t : Emulator) → t.phase ≡ Ground → feed (27 ∷ 91 ∷ 50 ∷ 51 ∷ 59 ∷ 50 ∷ 116 ∷ []) t ≡ rested t
+unfolding feed
+quiet_23t t ground = begun (50 ∷ 51 ∷ 59 ∷ 50 ∷ 116 ∷ []) t ground
+
+quiet_pop : (t : Emulator) → t.phase ≡ Ground → feed (27 ∷ 91 ∷ 60 ∷ 49 ∷ 117 ∷ []) t ≡ rested t
+unfolding feed
+quiet_pop t ground = begun (60 ∷ 49 ∷ 117 ∷ []) t ground
+
+-- kitty's keyboard protocol changes nothing on the screen
+keyed-read : (mark n : ℕ) → is_key_mark mark ≡ true → (mark == 63) ≡ false → n < 2 ^ 64 → (t : Emulator) → t.phase ≡ Ground
+    → feed (27 ∷ 91 ∷ mark ∷ (decimal n ++ 117 ∷ [])) t ≡ rested t
+unfolding feed
+keyed-read mark n key no_mark small t ground =
+    let s : Emulator = rested t in
+    let opens : reads_in Opened mark (within Opened s) ≡ within Keyed s = rw (no_mark, key) refl in
+    begun (mark ∷ (decimal n ++ 117 ∷ [])) t ground ∙ ap (feed (decimal n ++ 117 ∷ [])) opens
+    ∙ feed-append (decimal n) (117 ∷ []) (within Keyed s) ∙ ap (feed (117 ∷ [])) (keyed-number n small s)
+
+pub keyboard-read : (flags : KeyboardEnhancementFlags) → flag_bits flags < 2 ^ 64 → (t : Emulator) → t.phase ≡ Ground
+    → feed (keyboard_bytes flags) t ≡ rested t
+keyboard-read flags small = keyed-read 62 (flag_bits flags) refl refl small
+
+pub keyboard_pop-read : (n : ℕ) → n < 2 ^ 64 → (t : Emulator) → t.phase ≡ Ground → feed (keyboard_pop_bytes n) t ≡ rested t
+keyboard_pop-read n small = keyed-read 60 n refl refl small
+
 quiet_6n : (t : Emulator) → t.phase ≡ Ground → feed (27 ∷ 91 ∷ 54 ∷ 110 ∷ []) t ≡ rested t
 unfolding feed
 quiet_6n t ground = begun (54 ∷ 110 ∷ []) t ground
@@ -524,6 +579,11 @@ command-read EnableFocusChange t ground = quiet_1004h t ground
 command-read DisableFocusChange t ground = quiet_1004l t ground
 command-read AskCursorPosition t ground = quiet_6n t ground
 command-read (Asked.SetCursorStyle style) t ground = quiet_style style t ground
+command-read EnableSizeReports t ground = quiet_2048h t ground
+command-read DisableSizeReports t ground = quiet_2048l t ground
+command-read PopKeyboardEnhancementFlags t ground = quiet_pop t ground
+command-read KeepTitle t ground = quiet_22t t ground
+command-read BringTitleBack t ground = quiet_23t t ground
 
 -- the end of the screen, and a question there
 pub end_asked-read : (t : Emulator) → t.phase ≡ Ground

@@ -15,8 +15,9 @@ use Rattle.ansi_model.specs.Symbols.{only_of, printed_columns, is_control, is_di
 use Rattle.ansi_model.specs.Symbols.{is_single, begins_anew}
 use Rattle.ansi_model.specs.{Emulator.Emulator, Emulator.rested, Emulator.Phase.Ground, Emulator.Phase.Told, Sequences.feed}
 use Rattle.ansi_model.specs.{Sequences.reads_in, Sequences.is_text, Sends.typed, Commands.shown_char, Commands.shown_text}
-use Rattle.ansi_model.specs.{Commands.title_bytes}
-use Rattle.ansi_model.proofs.ReadLemmas.{feed-append, and-true}
+use Rattle.ansi_model.specs.{Commands.title_bytes, Commands.titled_bytes, Commands.command_bytes}
+use Rattle.ansi_model.specs.declared.command.Command.TheVariants.{KeepTitle}
+use Rattle.ansi_model.proofs.ReadLemmas.{feed-append, and-true, command-read}
 
 one-text : (b : ℕ) → is_text b ≡ true → (t : Emulator) → reads_in Ground b t ≡ typed (b ∷ []) t
 one-text b is t =
@@ -105,6 +106,13 @@ title-read title t ground =
     let s : Emulator = record (rested t) { phase = Told } in
     ap (λ p. feed (93 ∷ 50 ∷ 59 ∷ (text ++ 27 ∷ 92 ∷ [])) (reads_in p 27 t)) ground
     ∙ feed-append text (27 ∷ 92 ∷ []) s ∙ ap (feed (27 ∷ 92 ∷ [])) (told-read text (shown-all (chars title)) s refl)
+
+-- nor does one before which the window's own is kept
+pub titled-read : (is_first : Bool) (title : List ℕ) (t : Emulator) → t.phase ≡ Ground
+    → feed (titled_bytes is_first title) t ≡ rested t
+titled-read false title t ground = title-read title t ground
+titled-read true title t ground = feed-append (command_bytes KeepTitle) (title_bytes title) t
+    ∙ ap (feed (title_bytes title)) (command-read KeepTitle t ground) ∙ title-read title (rested t) refl
 
 -- a symbol's bytes are bytes of text
 pub symbol-text : (text : List ℕ) → IsTrue (is_symbol text) → list_all is_text text ≡ true

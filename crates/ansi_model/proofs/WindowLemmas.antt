@@ -1,7 +1,8 @@
 -- What a window makes of bytes: those that switch no screens are read by the one that it shows.
 use Rattle.std.proofs.Common.{◌≡◌, ℕ, Bool, true, List, [], ◌∷◌, ◌++◌, Option, Some, None, IfSome, refl, sym, ap, ◌∙◌}
 use Rattle.ansi_model.specs.Emulator.{Emulator, Phase, rested, with_sgr, cursor_shown, without_region}
-use Rattle.ansi_model.specs.Emulator.Phase.{Ground, Escape, Opened, Sequence, Spaced, Letters, OtherLetters, Coding, Told, Switching}
+use Rattle.ansi_model.specs.Emulator.Phase.{Ground, Escape, Opened, Sequence, Spaced, Keyed, Letters, OtherLetters, Coding, Told}
+use Rattle.ansi_model.specs.Emulator.Phase.{Switching}
 use Rattle.ansi_model.specs.Windows.{Window, alternate_of, come_back, settled_in, reads_on, feed_window}
 use Rattle.ansi_model.specs.{Sequences.feed, Sequences.reads_in, Sgr.default_sgr, Endings.ClosesAlternate, Endings.left_back}
 use Rattle.ansi_model.specs.{Beginnings.OpensAlternate, Beginnings.IsAsFound, Beginnings.anew}
@@ -25,6 +26,7 @@ unswitched bytes t aside Escape is ground = refl
 unswitched bytes t aside Opened is ground = refl
 unswitched bytes t aside (Sequence mark done number) is ground = refl
 unswitched bytes t aside (Spaced parameters) is ground = refl
+unswitched bytes t aside Keyed is ground = refl
 unswitched bytes t aside Letters is ground = refl
 unswitched bytes t aside OtherLetters is ground = refl
 unswitched bytes t aside Coding is ground = refl

@@ -16,14 +16,15 @@ use Rattle.ansi_model.specs.Columns.{overwritten}
 
 -- what the next byte belongs to: text, a sequence that just began, one that is at its first parameter or its
 -- mark, or one with a mark, some parameters and the number at hand, or one with its parameters and a blank
--- after them; or one that sets G0, or G1 or G2, or the coding; or a string for the operating system. One that
--- was told to show its other screen waits until it does (Windows)
+-- after them; or one of kitty's keyboard protocol; or one that sets G0, or G1 or G2, or the coding; or a
+-- string for the operating system. One that was told to show its other screen waits until it does (Windows)
 pub data Phase : Type 0 where
   Ground : Phase
   Escape : Phase
   Opened : Phase
   Sequence : (mark : Bool) (done : List ℕ) (number : ℕ) → Phase
   Spaced : (parameters : List ℕ) → Phase
+  Keyed : Phase
   Letters : Phase
   OtherLetters : Phase
   Coding : Phase

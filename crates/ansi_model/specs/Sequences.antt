@@ -5,8 +5,8 @@ use Rattle.ansi_model.specs.{Sgr.inks, Sgr.are_known, Sgr.most_parameters, Sgr.A
 use Rattle.ansi_model.specs.Emulator.{Emulator, Phase, if_so, unsure, rested, cursor_moved, returned}
 use Rattle.ansi_model.specs.Emulator.{cursor_shown, with_modes, holding, with_sgr, erased, with_region}
 use Rattle.ansi_model.specs.Emulator.{without_region, line_fed, lines_deleted, lines_inserted}
-use Rattle.ansi_model.specs.Emulator.Phase.{Ground, Escape, Opened, Sequence, Spaced, Letters, OtherLetters}
-use Rattle.ansi_model.specs.Emulator.Phase.{Coding, Told, Switching}
+use Rattle.ansi_model.specs.Emulator.Phase.{Ground, Escape, Opened, Sequence, Spaced, Keyed, Letters}
+use Rattle.ansi_model.specs.Emulator.Phase.{OtherLetters, Coding, Told, Switching}
 use Rattle.ratatui_core.specs.Backend.{All, AfterCursor, BeforeCursor, CurrentLine, UntilNewLine}
 
 -- ED
@@ -63,7 +63,13 @@ abbrev pub performs_DECSCUSR : List ℕ → Emulator → Emulator
 performs_DECSCUSR (n ∷ []) t = if nat_le n 6 then t else unsure t
 performs_DECSCUSR _ t = unsure t
 
--- a whole sequence, by its last byte: H CUP, m SGR, J ED, K EL, r DECSTBM, M DL, L IL, h SM, l RM, n DSR
+-- XTWINOPS: 22 keeps the title of the terminal's window on a stack, 23 brings it back from there
+abbrev pub performs_XTWINOPS : List ℕ → Emulator → Emulator
+performs_XTWINOPS (m ∷ n ∷ []) t = if ((m == 22) || (m == 23)) && (n == 2) then t else unsure t
+performs_XTWINOPS _ t = unsure t
+
+-- a whole sequence, by its last byte: H CUP, m SGR, J ED, K EL, r DECSTBM, M DL, L IL, h SM, l RM, n DSR, t
+-- XTWINOPS
 abbrev pub performs : List ℕ → ℕ → Emulator → Emulator
 performs parameters final t =
     if final == 72 then performs_CUP parameters t
@@ -74,12 +80,14 @@ performs parameters final t =
     else (if final == 76 then performs_IL parameters t
     else (if final == 104 then performs_mode true parameters t else
     (if final == 108 then performs_mode false parameters t
-    else (if final == 110 then performs_DSR parameters t else unsure t)))))))))
+    else (if final == 110 then performs_DSR parameters t else
+    (if final == 116 then performs_XTWINOPS parameters t else unsure t))))))))))
 
--- modes that change nothing on the screen: what is told of the mouse (1000, 1002, 1003, 1006) and of the
--- focus (1004), and how a paste is (2004)
+-- modes that change nothing on the screen: what is told of the mouse (1000, 1002, 1003, 1006), of the focus
+-- (1004) and of the window's size (2048), and how a paste is (2004)
 abbrev pub is_quiet : ℕ → Bool
-is_quiet m = (m == 1000) || (m == 1002) || (m == 1003) || (m == 1006) || (m == 1004) || (m == 2004)
+is_quiet m =
+    (m == 1000) || (m == 1002) || (m == 1003) || (m == 1006) || (m == 1004) || (m == 2004) || (m == 2048)
 
 -- DECSET and DECRST: 25 DECTCEM, 6 DECOM, which takes the cursor to the corner, 69 DECLRMM, 7 DECAWM, 2026 a
 -- synchronized update, 1049 the alternate screen
@@ -120,6 +128,16 @@ reads_spaced parameters b t =
     if b == 113 then performs_DECSCUSR parameters (record t { phase = Ground }) else unsure
     (record t { phase = Ground })
 
+-- kitty's keyboard protocol, after its mark: digits, and u, which ends it
+abbrev pub reads_keyed : ℕ → Emulator → Emulator
+reads_keyed b t =
+    if is_digit b then t else (if b == 117 then record t { phase = Ground } else unsure
+    (record t { phase = Ground }))
+
+-- the marks of kitty's keyboard protocol: > puts flags on a stack, < takes some off it
+abbrev pub is_key_mark : ℕ → Bool
+is_key_mark b = (b == 60) || (b == 62)
+
 -- after ESC: [ opens a sequence, ] a string for the operating system, as a window's title, \ ends one, ( sets
 -- the letters of G0, ) those of G1, * those of G2, % the coding, } gives bytes above ASCII the letters of G2,
 -- which a terminal of UTF-8 doesn't look at
@@ -157,8 +175,8 @@ reads_coding b t =
 abbrev pub reads_told : ℕ → Emulator → Emulator
 reads_told b t = if b == 27 then record t { phase = Escape } else (if is_text b then t else unsure t)
 
--- one byte, read: a sequence is ESC [, perhaps ?, numbers between semicolons, and the byte that names it; SI
--- and SO shift
+-- one byte, read: a sequence is ESC [, perhaps ?, > or <, numbers between semicolons, and the byte that names
+-- it; SI and SO shift
 abbrev pub reads_in : Phase → ℕ → Emulator → Emulator
 reads_in Ground b t =
     if b == 27 then record (rested t) { phase = Escape }
@@ -174,8 +192,10 @@ reads_in Coding b t = reads_coding b t
 reads_in Told b t = reads_told b t
 reads_in (Switching alternate) b t = t
 reads_in (Spaced parameters) b t = reads_spaced parameters b t
-reads_in Opened b t = if b == 63 then record t { phase = Sequence true [] 0 } else reads_sequence false [] 0 b
-    t
+reads_in Keyed b t = reads_keyed b t
+reads_in Opened b t =
+    if b == 63 then record t { phase = Sequence true [] 0 }
+    else (if is_key_mark b then record t { phase = Keyed } else reads_sequence false [] 0 b t)
 reads_in (Sequence mark done n) b t = reads_sequence mark done n b t
 
 -- bytes, read in order

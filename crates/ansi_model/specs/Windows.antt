@@ -2,8 +2,8 @@
 use Rattle.std.specs.Prelude.{◌&&◌, nat_lt, Bool, true, false, List, [], ◌∷◌, Option, Some, None, ℕ}
 use Rattle.ansi_model.specs.{Columns.blank_column, Emulator.Emulator, Emulator.Phase, Emulator.unsure}
 use Rattle.ansi_model.specs.{Sgr.is_own, Sequences.reads_in}
-use Rattle.ansi_model.specs.Emulator.Phase.{Ground, Escape, Opened, Sequence, Spaced, Letters, OtherLetters}
-use Rattle.ansi_model.specs.Emulator.Phase.{Coding, Told, Switching}
+use Rattle.ansi_model.specs.Emulator.Phase.{Ground, Escape, Opened, Sequence, Spaced, Keyed, Letters}
+use Rattle.ansi_model.specs.Emulator.Phase.{OtherLetters, Coding, Told, Switching}
 
 -- a window: the screen that it shows, and its main screen while that is put aside, as it was
 pub record Window : Type 0 where
@@ -54,6 +54,7 @@ settled_in Escape t aside = record { shown = t; aside = aside }
 settled_in Opened t aside = record { shown = t; aside = aside }
 settled_in (Sequence mark done number) t aside = record { shown = t; aside = aside }
 settled_in (Spaced parameters) t aside = record { shown = t; aside = aside }
+settled_in Keyed t aside = record { shown = t; aside = aside }
 settled_in Letters t aside = record { shown = t; aside = aside }
 settled_in OtherLetters t aside = record { shown = t; aside = aside }
 settled_in Coding t aside = record { shown = t; aside = aside }

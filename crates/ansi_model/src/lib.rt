@@ -20,7 +20,10 @@ mod sequences;
 mod sgr;
 mod symbol;
 
-pub use command::{Command, SetCursorStyle, push_command, push_title};
+pub use command::{
+    Command, KeyboardEnhancementFlags, SetCursorStyle, keyboard_pops, push_command,
+    push_keyboard_flags, push_title,
+};
 pub use flags::{
     blank_flags, clear_flags, clear_part_flags, is_continuation, lower_flags, mark_symbol,
     raise_flags, symbol_end, tail_end,

@@ -1,7 +1,7 @@
 //! What a backend's calls do to the screen that a terminal shows; and a blank beginning.
 
 ghost use Rattle.std.specs.Prelude.{◌≡◌, ℕ, List, ◌++◌, ◌+◌, ◌-◌, ◌<◌, ◌≤◌, min, nat_lt, OnOk, string_bytes};
-ghost use Rattle.std.specs.Prelude.{encode_utf8};
+ghost use Rattle.std.specs.Prelude.{encode_utf8, length};
 ghost use Rattle.ratatui_core.specs.Backend.{Appends, scrolling_up, scrolling_down, clearing, ScrollsUp};
 ghost use Rattle.ratatui_core.specs.Backend.{ScrollsDown, Clears, with_cursor, with_visible, All};
 ghost use Rattle.ratatui_core.specs.Backend.{CurrentLine};
@@ -196,7 +196,8 @@ pub fn opening_alternate() -> &'static str
 /// What brings a terminal's main screen back, as it was put aside, in its own colours, without
 /// margins, and with its cursor shown. It takes no memory.
 pub fn closing_alternate() -> &'static str
-    ensures { (old : List ℕ) → ClosesAlternate old (old ++ result.now) }
+    ensures back { (old : List ℕ) → ClosesAlternate old (old ++ result.now) }
+    ensures short { length result.now ≤ 32 }
 {
     "\u{1b}[r\u{1b}[?25h\u{1b}[?1049l\u{1b}[0m"
 }

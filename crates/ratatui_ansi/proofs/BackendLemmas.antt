@@ -3,7 +3,7 @@ use Rattle.std.proofs.Common.{◌≡◌, ℕ, Bool, false, ◌-◌, ◌<◌, min
 use Rattle.std.proofs.Common.{string_bytes, Option, Some}
 use Rattle.ratatui_core.specs.{Layout.Position, Layout.Size, Backend.Screen, Backend.IsBlankScreen}
 use Rattle.ratatui_ansi.specs.{declared.tracker.Tracker.Tracker, Backend.BackendState, Backend.reader, Backend.IsReadAlike}
-use Rattle.ratatui_ansi.specs.{Backend.IsInOrder, Backend.BringsBack}
+use Rattle.ratatui_ansi.specs.{Backend.IsInOrder, Backend.BringsBack, Settings.UndoesFirst}
 use Rattle.std.specs.Io.KnownBytes.{Appends}
 use Rattle.ansi_model.specs.{Endings.ClosesAlternate, Windows.Window, Windows.feed_window, Emulator.Phase.Ground}
 use Rattle.ansi_model.specs.{Emulator.Emulator, Emulator.rested, Emulator.blank_terminal, Sequences.feed, Screens.screen_shown}
@@ -11,7 +11,7 @@ use Rattle.ansi_model.specs.{Beginnings.MakesBlank, Beginnings.anew, Beginnings.
 use Rattle.ansi_model.specs.{Flags.AreContinuations}
 use Rattle.ansi_model.proofs.{ScrollLemmas.blank-idle, ReadLemmas.feed-append, CallLemmas.fresh-left, HistoryLemmas.feed-above}
 use Rattle.ansi_model.proofs.{WindowLemmas.window-read, WindowLemmas.window-append}
-use Rattle.ansi_model.specs.Commands.{command_bytes, size_question}
+use Rattle.ansi_model.specs.Commands.{command_bytes, keyboard_bytes, size_question}
 use Rattle.ratatui_ansi.specs.declared.tracker.Call.{Call}
 use Rattle.ratatui_ansi.specs.declared.tracker.Call.TheVariants as Called
 use Rattle.ratatui_ansi.specs.Tracker.{IsAwaiting, FitsScreen}
@@ -32,6 +32,8 @@ pub commanded-on : (call : Call) (sent out new after : List ℕ) → IsCommanded
     → IsCommanded call sent after
 commanded-on (Called.Command command) sent out new after is none e = e ∙ ap (λ xs. sent ++ xs)
     (is ∙ ap (λ xs. xs ++ command_bytes command) none)
+commanded-on (Called.PushKeyboardFlags flags) sent out new after is none e = e ∙ ap (λ xs. sent ++ xs)
+    (is ∙ ap (λ xs. xs ++ keyboard_bytes flags) none)
 commanded-on Called.AskSize sent out new after is none e = record {
   back = is.back;
   asked = e ∙ ap (λ xs. sent ++ xs) (is.asked ∙ ap (λ xs. xs ++ (size_question ++ is.back)) none);
@@ -185,10 +187,11 @@ blank-shown-by {size} {k} {sent} begins blank =
 
 -- what was sent and what closes the alternate screen bring the main one back
 pub brings-back : {W : Type 0} (b : BackendState W) (contents : Option (List ℕ)) (sent : List ℕ) → ClosesAlternate b.sent sent
-    → IsReadAlike b.size b.sent → (reader b.size b.sent).phase ≡ Ground
+    → UndoesFirst b.settings b.sent sent → IsReadAlike b.size b.sent → (reader b.size b.sent).phase ≡ Ground
     → Appends b.before contents sent → BringsBack b contents
-brings-back b contents sent closes alike ground tied = record {
+brings-back b contents sent closes undoes alike ground tied = record {
   sent = sent;
+  undoes = undoes;
   closes = closes;
   back = λ t main left.
       let w : Window = record { shown = anew t; aside = Some main } in

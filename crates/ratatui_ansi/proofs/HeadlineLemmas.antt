@@ -5,6 +5,7 @@ use Rattle.ratatui_core.specs.Terminal.{TerminalData, IsInStep, DrawsFrame}
 use Rattle.ratatui_core.specs.Headline.{Event, Along, last_state, IsFaithful, Draw}
 use Rattle.std.specs.Io.KnownBytes.{Appends}
 use Rattle.ratatui_ansi.specs.Backend.{BackendState, reader, shown_by, IsReadAlike, LeavesTerminal}
+use Rattle.ratatui_ansi.specs.Settings.{UndoesFirst}
 use Rattle.ansi_model.specs.{Sends.Performs, Endings.left_below, Endings.IsLeftBelow}
 use Rattle.ansi_model.specs.{Beginnings.IsAsFound, Beginnings.anew, Beginnings.with_rows_above, Columns.look_in}
 use Rattle.ansi_model.specs.{Emulator.Emulator, Emulator.rested, Emulator.Phase.Ground}
@@ -68,10 +69,11 @@ one-draw-shown s t law step draw settled whole =
 
 -- what leaves a terminal leaves each that has read what was sent before
 pub leaves-terminal : {W : Type 0} (b : BackendState W) (contents : Option (List ℕ)) (sent : List ℕ)
-    → Performs b.sent sent (left_below b.size.height) → IsReadByAll b → 0 < b.size.width → 0 < b.size.height
-    → Appends b.before contents sent → LeavesTerminal b contents
-leaves-terminal b contents sent leaves read wide high tied = record {
+    → UndoesFirst b.settings b.sent sent → Performs b.sent sent (left_below b.size.height) → IsReadByAll b → 0 < b.size.width
+    → 0 < b.size.height → Appends b.before contents sent → LeavesTerminal b contents
+leaves-terminal b contents sent undoes leaves read wide high tied = record {
   sent = sent;
+  undoes = undoes;
   leaves = leaves;
   left = λ t found.
       let u : Emulator = feed b.sent (anew t) in

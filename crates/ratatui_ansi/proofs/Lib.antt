@@ -3,6 +3,7 @@ pub mod CoverLemmas
 pub mod LayLemmas
 pub mod FrameLemmas
 pub mod TrackLemmas
+pub mod UndoLemmas
 pub mod UpdateLemmas
 pub mod BackendLemmas
 pub mod RefusalLemmas

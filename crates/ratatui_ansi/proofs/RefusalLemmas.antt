@@ -1,6 +1,6 @@
 -- What refused calls leave, and where a draw stops.
 use Rattle.std.proofs.Common.{◌≡◌, ℕ, ◌+◌, ◌*◌, ◌<◌, Bool, true, IsTrue, List, Option, Result, Ok, Err, IsErr}
-use Rattle.std.proofs.Common.{IsErrAnd, IfErr, OnOk, OnErr, sym, subst, ◌∙◌}
+use Rattle.std.proofs.Common.{IsErrAnd, IfErr, OnOk, OnErr, refl, sym, ap, subst, ◌∙◌}
 use Rattle.std.proofs.lemmas.Bool.{false≢true}
 use Rattle.ratatui_core.specs.{Layout.Position, Buffer.Update}
 use Rattle.ratatui_core.specs.Layout as layout
@@ -19,7 +19,8 @@ use Rattle.ansi_model.specs.{Emulator.Emulator, Emulator.rested}
 use Rattle.ratatui_ansi.specs.Refusals.{IsOfClearing, FailsToResize, names_cell, IsRefusedOn}
 use Rattle.ratatui_ansi.specs.Inner.Draw.{has_place, StopsWithin}
 use Rattle.ratatui_ansi.specs.Inner.Tracker.{IsOfCall}
-use Rattle.ratatui_ansi.specs.Refusals.{Answers, StopsSending}
+use Rattle.ratatui_ansi.specs.Refusals.{Answers, AnswersSet, StopsSending}
+use Rattle.ratatui_ansi.specs.{declared.settings.Settings.Settings, Settings.either, Settings.noted}
 use Rattle.ratatui_ansi.specs.Inner.Draw.{StopsDraw}
 use Rattle.ratatui_ansi.proofs.{BackendLemmas.cursor-column, BackendLemmas.cursor-row, CoverLemmas.covered-continuation}
 use Rattle.ratatui_ansi.proofs.{FrameLemmas.begins}
@@ -29,6 +30,38 @@ pub stops_sending : {W A : Type 0} (result : Result A AnsiError) (old new : Back
     → OnErr result (StopsSending old new)
 stops_sending (Ok x) old new state = tt
 stops_sending (Err error) old new state = (error, state)
+
+-- a call that was made, and then noted
+pub answers_set : {W A : Type 0} (result : Result A AnsiError) (after : Settings) (old mid new : BackendState W)
+    → Answers result old mid → new ≡ record mid { settings = noted result after mid.settings } → AnswersSet result after old new
+answers_set (Ok x) after old mid new is e = rw e (record {
+  start = is.start;
+  before = is.before;
+  after = is.after;
+  size = is.size;
+  colors = is.colors;
+  ambiguous = is.ambiguous;
+  synchronized = is.synchronized;
+  alternate = is.alternate;
+  settings = refl;
+})
+answers_set (Err (Write error)) after old mid new is e = rw e (record {
+  start = is.start;
+  before = is.before;
+  after = is.after;
+  size = is.size;
+  colors = is.colors;
+  ambiguous = is.ambiguous;
+  synchronized = is.synchronized;
+  alternate = is.alternate;
+  settings = ap (λ s. either s after) is.settings;
+})
+answers_set (Err Memory) after old mid new is e = rw e is
+answers_set (Err (Symbol p)) after old mid new is e = rw e is
+answers_set (Err (Style p)) after old mid new is e = rw e is
+answers_set (Err (Cut p)) after old mid new is e = rw e is
+answers_set (Err Size) after old mid new is e = absurd is
+answers_set (Err Broken) after old mid new is e = rw e is
 
 -- ---- where a draw stops
 
@@ -124,6 +157,7 @@ pub uncollected-why : (k : Tracker) (t : Emulator) (call : Call) (written : ℕ)
 uncollected-why k t (Called.Move p) written Refused.Memory wide is why = tt
 uncollected-why k t (Called.Show visible) written Refused.Memory wide is why = tt
 uncollected-why k t (Called.Command command) written Refused.Memory wide is why = tt
+uncollected-why k t (Called.PushKeyboardFlags flags) written Refused.Memory wide is why = tt
 uncollected-why k t Called.AskSize written Refused.Memory wide is why = tt
 uncollected-why k t (Called.Append n) written Refused.Memory wide is why = tt
 uncollected-why k t (Called.ScrollUp region n) written Refused.Memory wide is why = tt
@@ -134,6 +168,7 @@ uncollected-why k t call written (Refused.Style p) wide is why = absurd why
 uncollected-why k t (Called.Move q) written (Refused.Cut p) wide is why = absurd why.1
 uncollected-why k t (Called.Show visible) written (Refused.Cut p) wide is why = absurd why.1
 uncollected-why k t (Called.Command command) written (Refused.Cut p) wide is why = absurd why.1
+uncollected-why k t (Called.PushKeyboardFlags flags) written (Refused.Cut p) wide is why = absurd why.1
 uncollected-why k t Called.AskSize written (Refused.Cut p) wide is why = absurd why.1
 uncollected-why k t (Called.Append n) written (Refused.Cut p) wide is why = absurd why.1
 uncollected-why k t (Called.ScrollUp region n) written (Refused.Cut p) wide is why = absurd why.1

@@ -5,6 +5,7 @@ use Rattle.ratatui_core.specs.{Layout.Position, Layout.Size, Backend.Screen}
 use Rattle.ansi_model.specs.{Emulator.Emulator, Emulator.rested, Emulator.blank_terminal, Sequences.feed}
 use Rattle.ansi_model.specs.{Screens.screen_shown}
 use Rattle.ratatui_ansi.specs.Tracker.{FitsScreen, IsAwaiting}
+use Rattle.ratatui_ansi.specs.{declared.settings.Settings.Settings, Settings.UndoesFirst}
 use Rattle.ansi_model.specs.Beginnings.{IsAsFound, anew, with_rows_above}
 use Rattle.ansi_model.specs.{Sends.Performs, Endings.left_below, Endings.IsLeftBelow, Endings.left_back}
 use Rattle.ansi_model.specs.{Endings.ClosesAlternate, Windows.feed_window}
@@ -13,7 +14,8 @@ use Rattle.std.specs.Io.KnownBytes.{Appends}
 -- the writer, what it held as the backend began or began anew, if that is known, what it was sent since, and
 -- what of that after the last flush; the terminal's size, whether it is sent colours of the underline, places
 -- after ambiguous characters as if these were wide, and draws within synchronized updates; whether its
--- alternate screen is shown; how many items were drawn and how many calls failed, and whether a write failed
+-- alternate screen is shown, and what else was set on it; how many items were drawn and how many calls failed,
+-- and whether a write failed
 pub record BackendState (W : Type 0) : Type 0 where
   pub writer : W
   pub before : Option (List ℕ)
@@ -24,6 +26,7 @@ pub record BackendState (W : Type 0) : Type 0 where
   pub ambiguous_is_wide : Bool
   pub is_synchronized : Bool
   pub is_on_alternate : Bool
+  pub settings : Settings
   pub written : ℕ
   pub failures : ℕ
   pub is_broken : Bool
@@ -68,20 +71,22 @@ pub record BeginsBy (does : List ℕ → List ℕ → Type 0) (held before : Opt
   pub begins : does [] first
   pub tied : Appends held before first
 
--- after what was sent since the backend began a writer has taken bytes that leave each terminal below the
--- backend's last row; one of the backend's size that has read them all, however it was left before, rests,
--- and has one row more than it showed
+-- after what was sent since the backend began a writer has taken bytes that take back what was set, and leave
+-- each terminal below the backend's last row; one of the backend's size that has read them all, however it
+-- was left before, rests, and has one row more than it showed
 pub record LeavesTerminal {W : Type 0} (b : BackendState W) (contents : Option (List ℕ)) : Type 0 where
   pub sent : List ℕ
+  pub undoes : UndoesFirst b.settings b.sent sent
   pub leaves : Performs b.sent sent (left_below b.size.height)
   pub left : (t : Emulator) → IsAsFound b.size.width b.size.height t
       → IsLeftBelow b.size.width b.size.height (rested (feed b.sent (anew t))) (feed sent (anew t))
   pub tied : Appends b.before contents sent
 
--- after what was sent since the backend began a writer has taken bytes that bring the main screen of each
--- window back that shows its alternate one and has read them all
+-- after what was sent since the backend began a writer has taken bytes that take back what was set, and bring
+-- the main screen of each window back that shows its alternate one and has read them all
 pub record BringsBack {W : Type 0} (b : BackendState W) (contents : Option (List ℕ)) : Type 0 where
   pub sent : List ℕ
+  pub undoes : UndoesFirst b.settings b.sent sent
   pub closes : ClosesAlternate b.sent sent
   pub back : (t main : Emulator) → IsAsFound b.size.width b.size.height t
       → feed_window sent (record { shown = anew t; aside = Some main })

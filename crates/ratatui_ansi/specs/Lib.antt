@@ -1,6 +1,7 @@
 pub mod Covered
 pub mod Cells
 pub mod Tracker
+pub mod Settings
 pub mod Errors
 pub mod Backend
 pub mod Refusals

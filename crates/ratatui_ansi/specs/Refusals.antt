@@ -10,7 +10,8 @@ use Rattle.ratatui_ansi.specs.{declared.draw.CellError.CellError}
 use Rattle.ratatui_ansi.specs.declared.error.AnsiError.TheVariants.{Memory, Symbol, Style, Cut, Size, Broken}
 use Rattle.ratatui_ansi.specs.declared.error.AnsiError.TheVariants.{Write}
 use Rattle.ratatui_ansi.specs.declared.draw.CellError.TheVariants as Refused
-use Rattle.ratatui_ansi.specs.{Backend.BackendState, Covered.IsCovered, Errors.error_of}
+use Rattle.ratatui_ansi.specs.{Backend.BackendState, Covered.IsCovered, Errors.error_of, Settings.either}
+use Rattle.ratatui_ansi.specs.declared.settings.Settings.{Settings}
 use Rattle.ratatui_ansi.specs.Cells.{is_fit, IsVacant, IsOnScreenAt}
 use Rattle.ansi_model.specs.{Parameters.is_sendable_by, Sgr.sgr_of}
 
@@ -27,11 +28,12 @@ pub record IsUnsent {W : Type 0} (old new : BackendState W) : Type 0 where
   pub ambiguous : new.ambiguous_is_wide ≡ old.ambiguous_is_wide
   pub synchronized : new.is_synchronized ≡ old.is_synchronized
   pub alternate : new.is_on_alternate ≡ old.is_on_alternate
+  pub settings : new.settings ≡ old.settings
   pub written : new.written ≡ old.written
   pub is_broken : new.is_broken ≡ old.is_broken
 
--- no send failed before, and this one failed or didn't
-pub record IsAfterSend {W : Type 0} (fails : Bool) (old new : BackendState W) : Type 0 where
+-- no send failed before, and this one failed or didn't; this is set on the terminal after it
+pub record IsAfterSend {W : Type 0} (fails : Bool) (set : Settings) (old new : BackendState W) : Type 0 where
   pub start : new.before ≡ old.before
   pub before : old.is_broken ≡ false
   pub after : new.is_broken ≡ fails
@@ -40,22 +42,30 @@ pub record IsAfterSend {W : Type 0} (fails : Bool) (old new : BackendState W) : 
   pub ambiguous : new.ambiguous_is_wide ≡ old.ambiguous_is_wide
   pub synchronized : new.is_synchronized ≡ old.is_synchronized
   pub alternate : new.is_on_alternate ≡ old.is_on_alternate
+  pub settings : new.settings ≡ set
 
 -- a refused call, by its error: after a failed send every call is refused, and only a failed send changes
--- anything
-abbrev pub FailsBy : {W : Type 0} → BackendState W → BackendState W → AnsiError → Type 0
-FailsBy old new Size = ⊥
-FailsBy old new Broken = (old.is_broken ≡ true) × IsUnsent old new
-FailsBy old new (Write error) = IsAfterSend true old new
-FailsBy old new _ = (old.is_broken ≡ false) × IsUnsent old new
+-- anything; this is set after one
+abbrev pub FailsBy : {W : Type 0} → Settings → BackendState W → BackendState W → AnsiError → Type 0
+FailsBy set old new Size = ⊥
+FailsBy set old new Broken = (old.is_broken ≡ true) × IsUnsent old new
+FailsBy set old new (Write error) = IsAfterSend true set old new
+FailsBy set old new _ = (old.is_broken ≡ false) × IsUnsent old new
 
 -- a call that answers this
 abbrev pub Answers : {W A : Type 0} → Result A AnsiError → BackendState W → BackendState W → Type 0
-Answers answer old new = MatchResult answer (λ _. IsAfterSend false old new) (FailsBy old new)
+Answers answer old new =
+    MatchResult answer (λ _. IsAfterSend false old.settings old new) (FailsBy old.settings old new)
+
+-- a call that answers this and after which this is set, or may be if a write failed
+abbrev pub AnswersSet : {W A : Type 0} → Result A AnsiError → Settings → BackendState W → BackendState W
+    → Type 0
+AnswersSet answer set old new =
+    MatchResult answer (λ _. IsAfterSend false set old new) (FailsBy (either old.settings set) old new)
 
 -- a call that failed: nothing was sent, or a write failed
 abbrev pub StopsSending : {W : Type 0} → BackendState W → BackendState W → Type 0
-StopsSending old new = (error : AnsiError) × FailsBy old new error
+StopsSending old new = (error : AnsiError) × FailsBy old.settings old new error
 
 -- an error of a call that writes: it names no cell
 abbrev pub IsOfWriting : AnsiError → Type 0

@@ -5,18 +5,21 @@ ghost use Rattle.std.specs.Io.KnownBytes.{Appends as AppendsKnown};
 ghost use Rattle.std.specs.Borrow.{sem, Lends};
 ghost use Rattle.ratatui_core.specs.Backend.{Counts, IsBlankScreen};
 ghost use Rattle.ansi_model.specs.Beginnings.{MakesBlank, SavesScreen, SavesHigher, OpensAlternate};
-ghost use Rattle.ansi_model.specs.Endings.{ClosesAlternate};
+ghost use Rattle.ansi_model.specs.Endings.{ClosesAlternate, left_below};
+ghost use Rattle.ansi_model.specs.Sends.{Performs};
 ghost use Rattle.ratatui_ansi.specs.Backend.{BackendState, shown_by, with_writer, IsAlwaysKnown, BeginsBy, HasSize};
 ghost use Rattle.ratatui_ansi.specs.Backend.{LeavesTerminal, BringsBack};
 ghost use Rattle.ratatui_ansi.specs.contracts.backend.AnsiBackend.{the_row};
 ghost use Rattle.ratatui_ansi.specs.Headline.{IsReadByAll};
 ghost use Rattle.ratatui_ansi.specs.Inner.Tracker.{BeginsBlank, CallDoes, IsCommanded};
+ghost use Rattle.ratatui_ansi.specs.Settings.{UndoesFirst, no_settings};
 ghost use Rattle.ratatui_ansi.specs.Refusals.{Answers, RefusesToBegin, FailsToRestart, FailsToResize};
 ghost use Rattle.ratatui_ansi.specs.Refusals.{IsOfLeaving};
 ghost use Rattle.ratatui_ansi.specs.Inner.Tracker.{IsOfCall};
 
 use crate::error::AnsiError;
 use crate::sender::Sender;
+use crate::settings::{Farewell, Settings};
 use crate::tracker::{Call, Tracker};
 use ansi_model::{closing_alternate, leaving, opening_alternate, save_screen};
 use ratatui_core::layout::Size;
@@ -36,6 +39,7 @@ pub struct AnsiBackend<W: Write> {
     pub(crate) sender: Sender<W>,
     pub(crate) tracker: Tracker,
     is_on_alternate: bool,
+    pub(crate) settings: Settings,
     alloc: Global,
 }
 
@@ -55,6 +59,7 @@ impl<W: Write> Model for AnsiBackend<W> {
       ambiguous_is_wide = b.tracker.ambiguous_is_wide;
       is_synchronized = b.tracker.is_synchronized;
       is_on_alternate = b.is_on_alternate;
+      settings = b.settings;
       written = b.tracker.written;
       failures = b.sender.failures;
       is_broken = b.sender.is_broken;
@@ -73,24 +78,29 @@ impl<W: Write + Drop> Drop for AnsiBackend<W> {
             mut sender,
             tracker,
             is_on_alternate,
+            settings,
             alloc: _alloc,
         } = self;
-        let below = leaving(tracker.size.height);
-        sender.give_back(farewell(is_on_alternate, below.as_str()));
+        sender.give_back(farewell(settings, is_on_alternate, tracker.size.height).as_str());
     }
 }
 
-// What gives a terminal back: from its alternate screen, or from its main one by this text.
-fn farewell(is_on_alternate: bool, below: &str) -> &str
-    ensures left { is_on_alternate ≡ false → result.now ≡ below.now }
+// What gives a terminal back, after all that was set is taken back: from its alternate screen, or
+// from its main one, of which a program had this many rows.
+fn farewell(settings: Settings, is_on_alternate: bool, height: u16) -> Farewell
+    ensures undoes { (old : List ℕ) → UndoesFirst settings old (old ++ result.bytes) }
+    ensures left { is_on_alternate ≡ false
+        → (old : List ℕ) → Performs old (old ++ result.bytes) (left_below height) }
     ensures back { is_on_alternate ≡ true
-        → (old : List ℕ) → ClosesAlternate old (old ++ result.now) }
+        → (old : List ℕ) → ClosesAlternate old (old ++ result.bytes) }
 {
+    let mut text = settings.undo();
     if is_on_alternate {
-        closing_alternate()
+        text.push_str(closing_alternate());
     } else {
-        below
+        text.push_str(leaving(height).as_str());
     }
+    text
 }
 
 impl<W: Write + Drop> AnsiBackend<W> {
@@ -117,6 +127,7 @@ impl<W: Write + Drop> AnsiBackend<W> {
         ensures ambiguous { IfOk result (λ b. b.ambiguous_is_wide ≡ false) }
         ensures synchronized { IfOk result (λ b. b.is_synchronized ≡ false) }
         ensures alternate { IfOk result (λ b. b.is_on_alternate ≡ is_on_alternate) }
+        ensures settings { IfOk result (λ b. b.settings ≡ no_settings) }
         ensures failures { IfOk result (λ b. b.failures ≡ 0) }
         ensures works { IfOk result (λ b. b.is_broken ≡ false) }
         ensures refused { IfErr result IsOfLeaving }
@@ -127,11 +138,12 @@ impl<W: Write + Drop> AnsiBackend<W> {
                 sender,
                 tracker,
                 is_on_alternate,
+                settings: Settings::none(),
                 alloc,
             }),
             Err(error) => {
-                let below = leaving(size.height);
-                sender.give_back(farewell(is_on_alternate, below.as_str()));
+                let last = farewell(Settings::none(), is_on_alternate, size.height);
+                sender.give_back(last.as_str());
                 Err(AnsiError::Write(error))
             }
         }
@@ -167,6 +179,7 @@ impl<W: Write + Drop> AnsiBackend<W> {
         ensures ambiguous { IfOk result (λ b. b.ambiguous_is_wide ≡ false) }
         ensures synchronized { IfOk result (λ b. b.is_synchronized ≡ false) }
         ensures alternate { IfOk result (λ b. b.is_on_alternate ≡ false) }
+        ensures settings { IfOk result (λ b. b.settings ≡ no_settings) }
         ensures failures { IfOk result (λ b. b.failures ≡ 0) }
         ensures works { IfOk result (λ b. b.is_broken ≡ false) }
         ensures size { OnOk result ((0 < size.width) × (0 < size.height)) }
@@ -198,6 +211,7 @@ impl<W: Write + Drop> AnsiBackend<W> {
         ensures ambiguous { IfOk result (λ b. b.ambiguous_is_wide ≡ false) }
         ensures synchronized { IfOk result (λ b. b.is_synchronized ≡ false) }
         ensures alternate { IfOk result (λ b. b.is_on_alternate ≡ true) }
+        ensures settings { IfOk result (λ b. b.settings ≡ no_settings) }
         ensures failures { IfOk result (λ b. b.failures ≡ 0) }
         ensures works { IfOk result (λ b. b.is_broken ≡ false) }
         ensures size { OnOk result ((0 < size.width) × (0 < size.height)) }
@@ -249,13 +263,16 @@ impl<W: Write + Drop> AnsiBackend<W> {
             sender,
             tracker: _tracker,
             is_on_alternate: _,
+            settings: _,
             alloc: _alloc,
         } = self;
         sender.writer
     }
 
     /// Gives the terminal back, also after a failed write, and answers the writer, which has sent
-    /// all on: the terminal is in its own colours and without margins, and its cursor is shown. On
+    /// all on. What the backend's calls set is taken back first: that the mouse, pastes, the focus
+    /// and sizes are told, keyboard flags, the cursor's shape, and the window's title on terminals
+    /// that keep titles. Then the terminal is in its own colours and without margins, and its cursor is shown. On
     /// its main screen that stands at the beginning of the row after the backend's last one: where
     /// there is none, the screen scrolls by one row; a higher terminal doesn't scroll. From its
     /// alternate screen the main one comes back as it was put aside, with its cursor. This takes no
@@ -279,13 +296,13 @@ impl<W: Write + Drop> AnsiBackend<W> {
             mut sender,
             tracker,
             is_on_alternate,
+            settings,
             alloc: _alloc,
         } = self;
-        let below = leaving(tracker.size.height);
-        let last = farewell(is_on_alternate, below.as_str());
+        let last = farewell(settings, is_on_alternate, tracker.size.height);
         let count = sender.failures;
         sender.mend();
-        sender.send(last, count)?;
+        sender.send(last.as_str(), count)?;
         sender.flush(count)?;
         Ok(sender.writer)
     }
@@ -317,7 +334,7 @@ impl<W: Write + Drop> AnsiBackend<W> {
     }
 
     /// Begins again, also after a failed write, on a terminal that is made blank: what makes it
-    /// blank is written, and is all that counts as sent.
+    /// blank is written, and is all that counts as sent. What was set on it stays set.
     ///
     /// # Errors
     ///
@@ -336,6 +353,7 @@ impl<W: Write + Drop> AnsiBackend<W> {
         ensures ambiguous { self.new.ambiguous_is_wide ≡ self.old.ambiguous_is_wide }
         ensures synchronized { self.new.is_synchronized ≡ self.old.is_synchronized }
         ensures alternate { self.new.is_on_alternate ≡ self.old.is_on_alternate }
+        ensures settings { self.new.settings ≡ self.old.settings }
         ensures counts { Counts result self.old.failures self.new.failures }
     {
         let size = self.tracker.size;
@@ -354,6 +372,7 @@ impl<W: Write + Drop> AnsiBackend<W> {
         ensures ambiguous { self.new.ambiguous_is_wide ≡ self.old.ambiguous_is_wide }
         ensures synchronized { self.new.is_synchronized ≡ self.old.is_synchronized }
         ensures alternate { self.new.is_on_alternate ≡ self.old.is_on_alternate }
+        ensures settings { self.new.settings ≡ self.old.settings }
         ensures counts { Counts result self.old.failures self.new.failures }
     {
         let failures = self.sender.count();
@@ -393,6 +412,7 @@ impl<W: Write + Drop> AnsiBackend<W> {
         ensures ambiguous { self.new.ambiguous_is_wide ≡ self.old.ambiguous_is_wide }
         ensures synchronized { self.new.is_synchronized ≡ self.old.is_synchronized }
         ensures alternate { self.new.is_on_alternate ≡ self.old.is_on_alternate }
+        ensures settings { self.new.settings ≡ self.old.settings }
         ensures counts { Counts result self.old.failures self.new.failures }
     {
         if self.has_size(size) {

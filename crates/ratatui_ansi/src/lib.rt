@@ -17,10 +17,11 @@ pub mod laws;
 mod resizable;
 mod sender;
 mod sent;
+mod settings;
 mod size;
 mod tracker;
 
-pub use ansi_model::SetCursorStyle;
+pub use ansi_model::{KeyboardEnhancementFlags, SetCursorStyle};
 pub use backend::AnsiBackend;
 pub use checked::draw_for_all;
 pub use draw::CellError;

@@ -10,7 +10,7 @@ ghost use Rattle.ratatui_core.specs.Backend.{with_cursor, with_visible, All};
 ghost use Rattle.ansi_model.specs.Emulator.{keeps_history};
 ghost use Rattle.ratatui_ansi.specs.declared.tracker.Call.TheVariants as Called;
 ghost use Rattle.ansi_model.specs.Flags.{is_cut, is_clear_cut};
-ghost use Rattle.ansi_model.specs.Commands.{command_bytes, title_bytes, AsksSize};
+ghost use Rattle.ansi_model.specs.Commands.{command_bytes, keyboard_bytes, titled_bytes, AsksSize};
 ghost use Rattle.ansi_model.specs.Sends.{IsWithinUpdate};
 ghost use Rattle.ansi_model.specs.Places.{PlacesEach};
 ghost use Rattle.ratatui_ansi.specs.Cells.{is_sendable_on};
@@ -24,10 +24,10 @@ ghost use Rattle.ratatui_ansi.specs.Inner.Tracker.{IsUncollected, BeginsBlank};
 use crate::draw::{CellError, Draw, DrawState, Target};
 use crate::error::AnsiError;
 use ansi_model::{
-    Command, Pen, Sgr, append_lines, ask_size, blank_flags, clear_flags, clear_part_flags,
-    clear_screen, erase, is_continuation, lower_flags, make_blank, move_to, push_command,
-    push_title, raise_flags, scroll_region_down, scroll_region_up, set_cursor_position,
-    set_visible, symbol_end, update_begin, update_end,
+    Command, KeyboardEnhancementFlags, Pen, Sgr, append_lines, ask_size, blank_flags, clear_flags,
+    clear_part_flags, clear_screen, erase, is_continuation, lower_flags, make_blank, move_to,
+    push_command, push_keyboard_flags, push_title, raise_flags, scroll_region_down,
+    scroll_region_up, set_cursor_position, set_visible, symbol_end, update_begin, update_end,
 };
 use ratatui_core::backend::{AsCell, ClearType};
 use ratatui_core::layout::{Position, Size};
@@ -45,6 +45,7 @@ pub(crate) enum Call {
     ScrollDown(Range<u16>, u16),
     Clear(ClearType),
     Command(Command),
+    PushKeyboardFlags(KeyboardEnhancementFlags),
     AskSize,
 }
 
@@ -137,16 +138,27 @@ impl Tracker {
         push_command(&mut self.out, command)
     }
 
-    /// Collects a title for the window, after what was collected before. If it is refused all else
-    /// stays.
-    pub(crate) fn title(&mut self, title: &str) -> Result<(), AllocError>
+    // Puts keyboard flags on the terminal's stack.
+    fn push_keyboard_flags(&mut self, flags: KeyboardEnhancementFlags) -> Result<(), AllocError>
         requires { IsTracker self.old }
         ensures ok { OnOk result (Collects self.old (λ s t. t ≡ s) self.new) }
         ensures bytes { OnOk result (string_bytes self.new.out
-            ≡ string_bytes self.old.out ++ title_bytes title.now) }
+            ≡ string_bytes self.old.out ++ keyboard_bytes flags) }
         ensures err { OnErr result (KeepsTracked self.old self.new) }
     {
-        push_title(&mut self.out, title)
+        push_keyboard_flags(&mut self.out, flags)
+    }
+
+    /// Collects a title for the window, the first one or not, after what was collected before. If it
+    /// is refused all else stays.
+    pub(crate) fn title(&mut self, is_first: bool, title: &str) -> Result<(), AllocError>
+        requires { IsTracker self.old }
+        ensures ok { OnOk result (Collects self.old (λ s t. t ≡ s) self.new) }
+        ensures bytes { OnOk result (string_bytes self.new.out
+            ≡ string_bytes self.old.out ++ titled_bytes is_first title.now) }
+        ensures err { OnErr result (KeepsTracked self.old self.new) }
+    {
+        push_title(&mut self.out, is_first, title)
     }
 
     // Asks for the terminal's size.
@@ -313,6 +325,7 @@ impl Tracker {
             Call::ScrollDown(region, n) => self.scroll_down(region, n)?,
             Call::Clear(clear_type) => self.clear_uncut(clear_type)?,
             Call::Command(command) => self.command(command)?,
+            Call::PushKeyboardFlags(flags) => self.push_keyboard_flags(flags)?,
             Call::AskSize => self.ask_size()?,
         }
         Ok(())

@@ -5,6 +5,7 @@ use Rattle.ratatui_core.specs.Layout.{Size}
 use Rattle.ratatui_core.specs.Backend.{Screen, Appends, Clears, ScrollsUp, ScrollsDown, with_cursor}
 use Rattle.ratatui_core.specs.Backend.{with_visible}
 use Rattle.ansi_model.specs.{Columns.blank_column, Commands.command_bytes, Commands.AsksSize}
+use Rattle.ansi_model.specs.Commands.{keyboard_bytes}
 use Rattle.ansi_model.specs.{Beginnings.MakesBlank, Emulator.Emulator, Emulator.rested, Sends.Leads}
 use Rattle.ansi_model.specs.{Screens.screen_shown, Flags.AreContinuations, Flags.is_clear_cut}
 use Rattle.ratatui_ansi.specs.{declared.draw.CellError.CellError, declared.tracker.Tracker.Tracker}
@@ -60,11 +61,13 @@ CallDoes (Called.ScrollUp region n) s t = ScrollsUp region.start region.end n s 
 CallDoes (Called.ScrollDown region n) s t = ScrollsDown region.start region.end n s t
 CallDoes (Called.Clear kind) s t = Clears s kind t
 CallDoes (Called.Command command) s t = t ≡ s
+CallDoes (Called.PushKeyboardFlags flags) s t = t ≡ s
 CallDoes Called.AskSize s t = t ≡ s
 
--- a command's bytes, or the question for the size, were appended for it
+-- a command's bytes, those of keyboard flags, or the question for the size, were appended for it
 abbrev pub IsCommanded : Call → List ℕ → List ℕ → Type 0
 IsCommanded (Called.Command command) old new = new ≡ old ++ command_bytes command
+IsCommanded (Called.PushKeyboardFlags flags) old new = new ≡ old ++ keyboard_bytes flags
 IsCommanded Called.AskSize old new = AsksSize old new
 IsCommanded _ old new = Unit {0}
 
