@@ -1,18 +1,13 @@
 -- How a program ends that prints a log.
-use Rattle.std.specs.Prelude.{◌≡◌, ℕ, zero, suc, List, [], ◌++◌, Option, codes}
+use Rattle.std.specs.Prelude.{◌≡◌, ℕ, zero, suc, List, ◌++◌, Option, codes}
 use Rattle.std.specs.Io.KnownBytes.{Appends}
 use Rattle.logview.specs.{Engine.IsLogFault, Engine.PrintsLog, Engine.log_fault_text}
 use Rattle.logview.specs.{declared.fault.LogFault.LogFault}
-use Rattle.logview.specs.declared.fault.LogFault.TheVariants.{Size, Refused, NotText, Read, Memory, Write}
+use Rattle.logview.specs.declared.fault.LogFault.TheVariants.{Write}
 
--- the line that tells a fault; a failed write has none
+-- the line that tells a fault
 abbrev pub log_fault_line : LogFault → List ℕ
-log_fault_line Size = log_fault_text Size ++ codes "\n"
-log_fault_line (Refused n) = log_fault_text (Refused n) ++ codes "\n"
-log_fault_line NotText = log_fault_text NotText ++ codes "\n"
-log_fault_line Read = log_fault_text Read ++ codes "\n"
-log_fault_line Memory = log_fault_text Memory ++ codes "\n"
-log_fault_line Write = []
+log_fault_line fault = log_fault_text fault ++ codes "\n"
 
 -- the log was printed, and nothing told
 pub record IsLogPrinted {W E : Type 0} (contents : W → Option (List ℕ)) (bytes : List ℕ) (w w' : W)

@@ -84,4 +84,4 @@ log_fault_text (fault.Refused n) = codes "line " ++ decimal n ++ codes ": memory
 log_fault_text fault.NotText = codes "input: not text"
 log_fault_text fault.Read = codes "input: read failed"
 log_fault_text fault.Memory = codes "input: no memory"
-log_fault_text fault.Write = []
+log_fault_text fault.Write = codes "output: write failed"

@@ -20,7 +20,7 @@ pub enum LogFault {
     Write,
 }
 
-/// The line for standard error; for `Write` none.
+/// The line for standard error.
 impl fmt::Display for LogFault {
     ghost use Rattle.std.specs.Prelude.{Some};
     ghost use Rattle.logview.specs.Engine.{log_fault_text};
@@ -34,7 +34,7 @@ impl fmt::Display for LogFault {
             LogFault::NotText => f.write_str("input: not text"),
             LogFault::Read => f.write_str("input: read failed"),
             LogFault::Memory => f.write_str("input: no memory"),
-            LogFault::Write => Ok(()),
+            LogFault::Write => f.write_str("output: write failed"),
         }
     }
 }

@@ -11,7 +11,7 @@ use std::alloc::Global;
 use std::io::{self, Read, Write};
 use std::process::ExitCode;
 
-/// Writes the line that says a fault; for a failed write there is none.
+/// Writes the line that tells a fault.
 ///
 /// # Errors
 ///
@@ -20,10 +20,7 @@ pub fn tell<E: Write>(errors: &mut E, fault: LogFault) -> io::Result<()>
     ensures { OnOk result
         (Appends (E.contents errors.old) (E.contents errors.new) (log_fault_line fault)) }
 {
-    match fault {
-        LogFault::Write => Ok(()),
-        fault => writeln!(errors, "{fault}"),
-    }
+    writeln!(errors, "{fault}")
 }
 
 /// Prints the log that a reader gives, as `run` does, or says why it can't, and answers the status

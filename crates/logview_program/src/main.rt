@@ -1,9 +1,8 @@
 //! The program `logview`: reads a log from standard input and prints the screen that shows it.
 //!
 //! Its first line is the screen's size, `W H`. A log that can't be read or shown gives one line on
-//! standard error, status 1 and no output. If writing fails the status is 1, and nothing stands on
-//! standard error. `--help` says so; other words, and words that can't be read, are an
-//! error, with status 2.
+//! standard error, status 1 and no output; so does output that can't be written. `--help` says
+//! so; other words, and words that can't be read, are an error, with status 2.
 #![tactic(auto)]
 
 use logview::{LogFault, print_log, tell};
@@ -25,8 +24,13 @@ fn first_word(rt: &HostRuntime) -> io::Result<Option<String>> {
 // What a word gives: a page on the program, or an error.
 fn answer(rt: &HostRuntime, word: &str) -> ExitCode {
     if word == "--help" {
-        let _ = print!(rt; "{HELP}");
-        return ExitCode::SUCCESS;
+        return match print!(rt; "{HELP}") {
+            Ok(()) => ExitCode::SUCCESS,
+            Err(_) => {
+                let _ = eprintln!(rt; "output: write failed");
+                ExitCode::FAILURE
+            }
+        };
     }
     let _ = eprintln!(rt; "logview: it takes no words; --help says what it reads");
     ExitCode::from(2)

@@ -220,9 +220,9 @@ impl<W: Write + Drop> AnsiBackend<W> {
         ensures state { AnswersSet result (with_title self.old.settings) self.old self.new }
         ensures counts { Counts result self.old.failures self.new.failures }
     {
-        let result = self.show_title(title);
-        self.note(&result, self.settings.with_title());
-        result
+        let answer = self.show_title(title);
+        self.note(&answer, self.settings.with_title());
+        answer
     }
 
     // Sends a title, before which the window's own is kept if none was sent yet.
@@ -249,17 +249,17 @@ impl<W: Write + Drop> AnsiBackend<W> {
         ensures state { AnswersSet result after self.old self.new }
         ensures counts { Counts result self.old.failures self.new.failures }
     {
-        let result = self.send(call);
-        self.note(&result, after);
-        result
+        let answer = self.send(call);
+        self.note(&answer, after);
+        answer
     }
 
     // Notes what a call set, or what it may have set if its write failed.
-    fn note(&mut self, result: &Result<(), AnsiError>, after: Settings)
+    fn note(&mut self, answer: &Result<(), AnsiError>, after: Settings)
         ensures { self.new
-            ≡ record self.old { settings = noted result.now after self.old.settings } }
+            ≡ record self.old { settings = noted answer.now after self.old.settings } }
     {
-        match result {
+        match answer {
             Ok(()) => self.settings = after,
             Err(AnsiError::Write(_)) => self.settings = self.settings.either(after),
             Err(_) => {}

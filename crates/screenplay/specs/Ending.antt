@@ -1,13 +1,12 @@
 -- How a program ends that prints a script.
-use Rattle.std.specs.Prelude.{◌≡◌, ℕ, zero, suc, List, [], ◌++◌, Option, codes}
+use Rattle.std.specs.Prelude.{◌≡◌, ℕ, zero, suc, List, ◌++◌, Option, codes}
 use Rattle.std.specs.Io.KnownBytes.{Appends}
 use Rattle.screenplay.specs.{Engine.IsRunFault, Engine.PrintsRun, Engine.run_error_text}
 use Rattle.screenplay.specs.{declared.error.RunError.RunError}
 use Rattle.screenplay.specs.declared.error.RunError.TheVariants.{Write}
 
--- the line that tells a fault; a failed write has none
+-- the line that tells a fault
 abbrev pub run_fault_line : RunError → List ℕ
-run_fault_line Write = []
 run_fault_line fault = run_error_text fault ++ codes "\n"
 
 -- the script was refused for a fault, which was told; only if the writer failed can anything have been

@@ -64,4 +64,4 @@ run_error_text (AtStep fault) = codes "step " ++ decimal fault.step ++ codes ": 
 run_error_text NotText = codes "input: not text"
 run_error_text Read = codes "input: read failed"
 run_error_text Memory = codes "input: no memory"
-run_error_text Write = []
+run_error_text Write = codes "output: write failed"

@@ -20,7 +20,7 @@ pub enum RunError {
     Write,
 }
 
-/// The line for standard error; for `Write` none.
+/// The line for standard error.
 impl fmt::Display for RunError {
     ghost use Rattle.std.specs.Prelude.{Some};
     ghost use Rattle.screenplay.specs.Engine.{run_error_text};
@@ -40,7 +40,7 @@ impl fmt::Display for RunError {
             RunError::NotText => f.write_str("input: not text"),
             RunError::Read => f.write_str("input: read failed"),
             RunError::Memory => f.write_str("input: no memory"),
-            RunError::Write => Ok(()),
+            RunError::Write => f.write_str("output: write failed"),
         }
     }
 }

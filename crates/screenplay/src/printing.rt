@@ -11,15 +11,12 @@ use std::alloc::Global;
 use std::io::{self, Read, Write};
 use std::process::ExitCode;
 
-// Writes the line that tells a fault; that a write failed isn't told.
+// Writes the line that tells a fault.
 fn tell<E: Write>(errors: &mut E, fault: RunError) -> io::Result<()>
     ensures { OnOk result
         (Appends (E.contents errors.old) (E.contents errors.new) (run_fault_line fault)) }
 {
-    match fault {
-        RunError::Write => Ok(()),
-        fault => writeln!(errors, "{fault}"),
-    }
+    writeln!(errors, "{fault}")
 }
 
 /// Prints the script that a reader gives, as `run` does, or says why it can't, and answers the

@@ -1,9 +1,9 @@
 //! The program `screenplay`: reads a script from standard input and prints the screens that it
 //! shows.
 //!
-//! A script that can't be read or played gives one line on standard error, status 1 and no output.
-//! If writing fails the status is 1, and nothing stands on standard error. `--help` says so; other
-//! words, and words that can't be read, are an error, with status 2.
+//! A script that can't be read or played gives one line on standard error, status 1 and no output;
+//! so does output that can't be written. `--help` says so; other words, and words that can't be
+//! read, are an error, with status 2.
 #![tactic(auto)]
 
 use screenplay::print_script;
@@ -25,8 +25,13 @@ fn first_word(rt: &HostRuntime) -> io::Result<Option<String>> {
 // What a word gives: a page on the program, or an error.
 fn answer(rt: &HostRuntime, word: &str) -> ExitCode {
     if word == "--help" {
-        let _ = print!(rt; "{HELP}");
-        return ExitCode::SUCCESS;
+        return match print!(rt; "{HELP}") {
+            Ok(()) => ExitCode::SUCCESS,
+            Err(_) => {
+                let _ = eprintln!(rt; "output: write failed");
+                ExitCode::FAILURE
+            }
+        };
     }
     let _ = eprintln!(rt; "screenplay: it takes no words; --help says what it reads");
     ExitCode::from(2)

@@ -1,5 +1,5 @@
 //! A backend over memory: its calls, what it sends for cells, and what it refuses.
-use ratatui_ansi::{AnsiBackend, AnsiError, SetCursorStyle};
+use ratatui_ansi::{AnsiBackend, AnsiError, KeyboardEnhancementFlags, SetCursorStyle};
 use rtui_backend::{Backend, ClearType};
 use rtui_cell::Cell;
 use rtui_geometry::{Position, Size};
@@ -308,6 +308,10 @@ fn draws_within_updates(rt: HostRuntime) -> Result<(), Fail> {
     Ok(())
 }
 
+/// Presses, repeats and releases are told apart.
+pub(crate) const EVENT_TYPES: KeyboardEnhancementFlags =
+    KeyboardEnhancementFlags::REPORT_EVENT_TYPES;
+
 // Asks what changes nothing on the screen.
 fn ask(backend: &mut Kept, number: usize) -> Result<(), AnsiError> {
     match number {
@@ -322,11 +326,18 @@ fn ask(backend: &mut Kept, number: usize) -> Result<(), AnsiError> {
         8 => backend.set_cursor_style(SetCursorStyle::DefaultUserShape),
         9 => backend.set_cursor_style(SetCursorStyle::SteadyBar),
         10 => backend.send_title("a\u{1b}]b\u{7}コ"),
+        11 => backend.send_title(""),
+        12 => backend.set_size_reports(true),
+        13 => backend.set_size_reports(false),
+        14 => backend.push_keyboard_enhancement_flags(
+            KeyboardEnhancementFlags::DISAMBIGUATE_ESCAPE_CODES,
+        ),
+        15 => backend.pop_keyboard_enhancement_flags(),
         _ => backend.show_cursor(),
     }
 }
 
-static ASKED: [&str; 12] = [
+static ASKED: [&str; 17] = [
     "\u{1b}[?1000h\u{1b}[?1002h\u{1b}[?1003h\u{1b}[?1006h",
     "\u{1b}[?1006l\u{1b}[?1003l\u{1b}[?1002l\u{1b}[?1000l",
     "\u{1b}[?2004h",
@@ -337,7 +348,12 @@ static ASKED: [&str; 12] = [
     "\u{1b}[65535;65535H\u{1b}[6n\u{1b}[1;1H",
     "\u{1b}[0 q",
     "\u{1b}[6 q",
-    "\u{1b}]2;a]bコ\u{1b}\\",
+    "\u{1b}[22;2t\u{1b}]2;a]bコ\u{1b}\\",
+    "\u{1b}]2;\u{1b}\\",
+    "\u{1b}[?2048h",
+    "\u{1b}[?2048l",
+    "\u{1b}[>1u",
+    "\u{1b}[<1u",
     "",
 ];
 
@@ -368,6 +384,51 @@ fn a_terminal_is_left(rt: HostRuntime) -> Result<(), Fail> {
     let mut backend = over_kept(rt.alloc(), 4, 3)?;
     assert!(rt; backend.hide_cursor().is_ok());
     assert!(rt; is_left(backend, LEFT_BELOW));
+    Ok(())
+}
+
+// The end of a terminal, of four columns and three rows, on which much was set.
+const UNDONE: &str =
+    "\u{1b}[?1006l\u{1b}[?1003l\u{1b}[?1002l\u{1b}[?1000l\u{1b}[?2004l\u{1b}[?1004l\u{1b}[?2048l\u{1b}[0 q\u{1b}[23;2t\u{1b}[<2u\u{1b}[0m\u{1b}[r\u{1b}[?25h\u{1b}[3;1H\r\n";
+
+// Sets all that can be set.
+fn set_all(backend: &mut Kept) -> Result<(), AnsiError> {
+    backend.set_mouse_capture(true)?;
+    backend.set_bracketed_paste(true)?;
+    backend.set_focus_change(true)?;
+    backend.set_size_reports(true)?;
+    backend.set_cursor_style(SetCursorStyle::BlinkingBar)?;
+    backend.send_title("one")?;
+    backend.send_title("two")?;
+    backend.push_keyboard_enhancement_flags(EVENT_TYPES)?;
+    backend.push_keyboard_enhancement_flags(EVENT_TYPES)
+}
+
+#[test]
+fn what_is_set_is_undone(rt: HostRuntime) -> Result<(), Fail> {
+    let mut backend = over_kept(rt.alloc(), 4, 3)?;
+    assert!(rt; set_all(&mut backend).is_ok());
+    assert!(rt; is_left(backend, UNDONE));
+    Ok(())
+}
+
+// Takes all that was set back, but for the title.
+fn take_back(backend: &mut Kept) -> Result<(), AnsiError> {
+    backend.set_mouse_capture(false)?;
+    backend.set_bracketed_paste(false)?;
+    backend.set_focus_change(false)?;
+    backend.set_size_reports(false)?;
+    backend.set_cursor_style(SetCursorStyle::DefaultUserShape)?;
+    backend.pop_keyboard_enhancement_flags()?;
+    backend.pop_keyboard_enhancement_flags()
+}
+
+#[test]
+fn what_was_taken_back_is_not_undone_again(rt: HostRuntime) -> Result<(), Fail> {
+    let mut backend = over_kept(rt.alloc(), 4, 3)?;
+    assert!(rt; set_all(&mut backend).is_ok() && take_back(&mut backend).is_ok());
+    let end = "\u{1b}[<1u\u{1b}[<1u\u{1b}[23;2t\u{1b}[0m\u{1b}[r\u{1b}[?25h\u{1b}[3;1H\r\n";
+    assert!(rt; is_left(backend, end));
     Ok(())
 }
 

@@ -1,5 +1,5 @@
 //! Random plays of a backend, read by a terminal, beside a screen in memory.
-use crate::backends::{Kept, over_kept, sent};
+use crate::backends::{EVENT_TYPES, Kept, over_kept, sent};
 use crate::reader::Reader;
 use ansi_model::is_symbol;
 use bitflags::Flags;
@@ -260,13 +260,16 @@ impl Play {
     // Asks or tells something, which leaves the screen as it is.
     fn asks(&mut self, random: &mut Random) -> bool {
         let is_on = random.below(2) == 0;
-        let answer = match random.below(7) {
+        let answer = match random.below(10) {
             0 => self.backend.set_mouse_capture(is_on),
             1 => self.backend.set_bracketed_paste(is_on),
             2 => self.backend.set_focus_change(is_on),
             3 => self.backend.ask_cursor_position(),
             4 => self.backend.ask_size(),
             5 => self.backend.set_cursor_style(SetCursorStyle::SteadyBar),
+            6 => self.backend.set_size_reports(is_on),
+            7 => self.backend.push_keyboard_enhancement_flags(EVENT_TYPES),
+            8 => self.backend.pop_keyboard_enhancement_flags(),
             _ => self.backend.send_title("a\u{7}\u{1b}コ\u{9c}"),
         };
         answer.is_ok()

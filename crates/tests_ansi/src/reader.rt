@@ -116,7 +116,7 @@ impl<'a> Reader<'a> {
             return self.read_escape(part);
         };
         for (at, ch) in sequence.char_indices() {
-            if !ch.is_ascii_digit() && ch != ';' && ch != '?' && ch != ' ' {
+            if !ch.is_ascii_digit() && !matches!(ch, ';' | '?' | '<' | '>' | ' ') {
                 self.perform(sequence.get(..at).unwrap_or(""), ch);
                 return sequence.get(at + ch.len_utf8()..).unwrap_or("");
             }
@@ -156,7 +156,7 @@ impl<'a> Reader<'a> {
             "69" => self.modes.sides = on,
             "7" => self.modes.unwrapped = !on,
             "2026" => self.modes.held = on,
-            "1000" | "1002" | "1003" | "1004" | "1006" | "2004" => {}
+            "1000" | "1002" | "1003" | "1004" | "1006" | "2004" | "2048" => {}
             _ => self.sure = false,
         }
     }
@@ -171,6 +171,10 @@ impl<'a> Reader<'a> {
         if let Some(mode) = parameters.strip_prefix('?') {
             self.sure = self.sure && (last == 'h' || last == 'l');
             self.set_mode(mode, last == 'h');
+            return;
+        }
+        if parameters.starts_with(['<', '>']) {
+            self.sure = self.sure && last == 'u';
             return;
         }
         if let Some(style) = parameters.strip_suffix(' ') {
@@ -195,6 +199,7 @@ impl<'a> Reader<'a> {
                 self.sure = self.sure && first < second && second <= self.height;
                 self.set_region(first.saturating_sub(1), second);
             }
+            't' => self.sure = self.sure && (first == 22 || first == 23) && second == 2,
             _ => self.sure = false,
         }
     }

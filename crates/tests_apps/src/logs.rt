@@ -182,17 +182,17 @@ impl io::Write for Full {
     }
 }
 
-// Whether a run fails at a writer that takes so many bytes, and says nothing of it.
+// Whether a run fails at a writer that takes so many bytes, and tells that.
 fn fails_to_write(alloc: Global, left: usize) -> Result<bool, AllocError> {
     let mut reader = "3 1\na".as_bytes();
     match run(alloc, &mut reader, &mut Full { left }) {
         Ok(()) => Ok(false),
-        Err(fault) => Ok(fault == LogFault::Write && reads_as(alloc, fault, "")?),
+        Err(fault) => Ok(fault == LogFault::Write && reads_as(alloc, fault, "output: write failed")?),
     }
 }
 
 #[test]
-fn says_nothing_of_a_failed_write(rt: HostRuntime) -> Result<(), Fail> {
+fn a_failed_write_is_told(rt: HostRuntime) -> Result<(), Fail> {
     assert!(rt; fails_to_write(rt.alloc(), 0)?);
     assert!(rt; fails_to_write(rt.alloc(), 7)?);
     assert!(rt; fails_to_write(rt.alloc(), 99)?);
