@@ -48,6 +48,36 @@ def crates():
         return [name for name in names if name]
 
 
+def groups():
+    """The groups of crates.txt: each one's name, and its crates with what crates.txt says that they stand on."""
+    found = []
+    with open(f"{TOP}/crates.txt", encoding="utf-8") as lines:
+        for line in lines:
+            if line.startswith("# "):
+                found.append((line[2:].strip().rstrip("."), {}))
+            elif ":" in line:
+                name, _, below = line.partition(":")
+                found[-1][1][name.strip()] = below.split("#")[0].split()
+    return [group for group in found if group[1]]
+
+
+COSTS = f"{TOP}/tools/costs.tsv"
+
+
+def costs():
+    """The processor minutes that each crate took in the last gate that proved it, as far as they are known."""
+    if not os.path.isfile(COSTS):
+        return {}
+    with open(COSTS, encoding="utf-8") as lines:
+        return {name: float(minutes) for minutes, name in (line.split() for line in lines)}
+
+
+def write_costs(minutes):
+    """Stores the minutes of the crates of crates.txt, in its order."""
+    with open(COSTS, "w", encoding="utf-8") as file:
+        file.writelines(f"{minutes[name]:.1f}\t{name}\n" for name in crates() if name in minutes)
+
+
 def known(names):
     """These names, each of which crates.txt must have."""
     for name in names:

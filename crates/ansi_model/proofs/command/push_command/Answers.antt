@@ -7,5 +7,5 @@ use Rattle.ansi_model.proofs.command.push_command.Goals as goal
 pub returns-clause-turns : goal.returns-clause-turns
 returns-clause-turns c =
     on_ok_weaker c.push_str.result (λ does w h. turns-from w h _ _ (λ (t : Emulator). t) _ does (nothing-changed w h))
-    (pushed c.push_str.result _ _ (command_bytes c.args.command) rested (rw c.bytes.ensures at c.push_str.ensures.bytes)
+    (pushed c.push_str.result _ _ (command_bytes c.args.command) rested (rw c.bytes.ensures.bytes at c.push_str.ensures.bytes)
     (command-read c.args.command))

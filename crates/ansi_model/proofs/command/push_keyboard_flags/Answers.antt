@@ -10,7 +10,7 @@ pub returns-clause-bytes : goal.returns-clause-bytes
 returns-clause-bytes c =
     on_ok_weaker c.push_str-2.result (λ last.
     after-those _ _ _ (27 ∷ 91 ∷ 62 ∷ []) (decimal (flag_bits c.args.flags) ++ 117 ∷ []) c.in_ok-push_str.ensures.bytes
-    (after-those _ _ _ (decimal (flag_bits c.args.flags)) (117 ∷ []) c.in_ok-push_number.ensures last))
+    (after-those _ _ _ (decimal (flag_bits c.args.flags)) (117 ∷ []) (rw (c.from.ensures, c.to_bits.ensures) at c.in_ok-push_number.ensures) last))
     (on_push c.push_str-2.result (string_bytes c.push_number.new.out) (string_bytes c.push_str-2.new.self)
     (117 ∷ []) c.push_str-2.ensures.bytes)
 
@@ -21,7 +21,7 @@ returns-clause-turns c =
       bytes = keyboard_bytes c.args.flags;
       appended = after-those _ _ _ (27 ∷ 91 ∷ 62 ∷ []) (decimal (flag_bits c.args.flags) ++ 117 ∷ [])
           c.in_ok-push_str.ensures.bytes
-          (after-those _ _ _ (decimal (flag_bits c.args.flags)) (117 ∷ []) c.in_ok-push_number.ensures last);
+          (after-those _ _ _ (decimal (flag_bits c.args.flags)) (117 ∷ []) (rw (c.from.ensures, c.to_bits.ensures) at c.in_ok-push_number.ensures) last);
       read = keyboard-read c.args.flags (omega arith);
     }) (nothing-changed w h))
     (on_push c.push_str-2.result (string_bytes c.push_number.new.out) (string_bytes c.push_str-2.new.self)
