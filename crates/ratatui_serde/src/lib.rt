@@ -19,7 +19,7 @@
 mod colors;
 mod constraints;
 mod flags;
-// pub mod laws;
+pub mod laws;
 mod setting;
 mod styles;
 

@@ -109,7 +109,8 @@ impl Setting for Style {
         write_color("underline_color", self.underline_color, out)?;
         write_modifier("add_modifier", self.add_modifier, out)?;
         write_modifier("sub_modifier", self.sub_modifier, out)?;
-        out.end_map()
+        out.end_map()?;
+        Ok(())
     }
 
     fn read<F: Format>(
