@@ -15,7 +15,7 @@
 //! It stands on `ratatui_core`, `rtui_boxes` and `serde`.
 #![tactic(auto)]
 
-// mod borders;
+mod borders;
 mod colors;
 mod constraints;
 mod flags;
