@@ -1,5 +1,5 @@
 -- Events that are sent one after the other.
-use Rattle.std.proofs.Common.{◌≡◌, ℕ, List, [], ◌∷◌, ◌++◌, Option, Some, None, fold, ap, ◌∙◌, sym, subst}
+use Rattle.std.proofs.Common.{◌≡◌, ℕ, List, [], ◌∷◌, ◌++◌, Option, Some, None, fold, ap, ◌∙◌, subst}
 use Rattle.std.proofs.lemmas.List.{append_assoc}
 use Rattle.serde.specs.Event.{Event, Logs, map_begins, map_ends}
 use Rattle.ratatui_serde.specs.Events.{SendsAll}
@@ -23,7 +23,7 @@ pub sends-members : (l0 l1 l2 l3 l4 l5 l6 l7 : Option (List Event)) (n m : ℕ) 
     → SendsAll (map_begins (Some m) ∷ (fold (λ es more. es ++ more) [] (a ∷ b ∷ c ∷ d ∷ e ∷ []) ++ map_ends ∷ [])) l0 l7
 sends-members l0 l1 l2 l3 l4 l5 l6 l7 n m a b c d e is first ha hb hc hd he last =
     let begun : SendsAll (map_begins (Some m) ∷ []) l0 l1 =
-        subst (λ k. SendsAll (map_begins (Some k) ∷ []) l0 l1) is (sends-one l0 l1 (map_begins (Some n)) first) in
+    subst (λ k. SendsAll (map_begins (Some k) ∷ []) l0 l1) is (sends-one l0 l1 (map_begins (Some n)) first) in
     let ab = sends-then l1 l2 l3 a b ha hb in
     let abc = sends-then l1 l3 l4 (a ++ b) c ab hc in
     let abcd = sends-then l1 l4 l5 ((a ++ b) ++ c) d abc hd in

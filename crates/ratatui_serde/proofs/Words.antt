@@ -1,10 +1,10 @@
 -- Words that are written into a text of a fixed size, and words that are read.
-use Rattle.std.proofs.Common.{◌≡◌, ℕ, ◌+◌, ◌<◌, ◌≤◌, ◌==◌, Bool, true, false, List, [], ◌∷◌, ◌++◌, Option, Some, None, Result, Ok, Err, codes, map, filter, fold, take, get_or, length, refl, ap, sym, ◌∙◌}
-use Rattle.std.proofs.lemmas.List.{take_more, take_all, length-map, append_assoc}
+use Rattle.std.proofs.Common.{◌≡◌, ℕ, ◌+◌, ◌<◌, ◌==◌, Bool, true, false, List, [], ◌∷◌, ◌++◌, Option, Some, None, Ok, codes, fold, take, get_or, length, refl, ap, sym, ◌∙◌}
+use Rattle.std.proofs.lemmas.List.{take_more, append_assoc}
 use Rattle.std.proofs.lemmas.Fmt.{contents_after_writes}
-use Rattle.std.specs.{Fmt.digits, Fmt.WritesText, Int.RustNames.bit_and}
+use Rattle.std.specs.{Fmt.digits, Fmt.WritesText}
 use Rattle.bitflags.specs.Sets.{Row}
-use Rattle.rtui_style.specs.{declared.color.Color.Color, declared.color.ParseColorError.ParseColorError, Color.color_or_error}
+use Rattle.rtui_style.specs.{declared.color.Color.Color, Color.color_or_error}
 use Rattle.ratatui_serde.specs.Flags.{with_part, has_flag, names_in, with_names, with_stray}
 
 -- a colour that is no error is there

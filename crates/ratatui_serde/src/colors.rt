@@ -38,10 +38,7 @@ impl Setting for Color {
         }
     }
 
-    fn read<F: Format>(
-        alloc: Global,
-        from: &mut Deserializer<'_, '_, F>,
-    ) -> Result<Color, F::Error>
+    fn read<F: Format>(alloc: Global, from: &mut Deserializer<'_, '_, F>) -> Result<Color, F::Error>
         ensures { IfOk result (λ color.
             ReadsText F.gives (λ word. color_of word ≡ Some color) from.old from.new) }
     {

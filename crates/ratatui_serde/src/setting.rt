@@ -27,10 +27,7 @@ pub trait Setting: Copy + Drop {
     /// # Errors
     ///
     /// Those of the format, and its own if what it reads is none.
-    fn read<F: Format>(
-        alloc: Global,
-        from: &mut Deserializer<'_, '_, F>,
-    ) -> Result<Self, F::Error>;
+    fn read<F: Format>(alloc: Global, from: &mut Deserializer<'_, '_, F>) -> Result<Self, F::Error>;
 }
 
 /// A setting that has serde's traits itself, for a list, a map or an option of them.

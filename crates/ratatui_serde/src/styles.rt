@@ -12,11 +12,7 @@ use serde::{Deserialize, Deserializer, Format, Serializer};
 use std::alloc::Global;
 
 // Writes a member if it has a colour.
-fn write_color<S: Serializer>(
-    key: &str,
-    color: Option<Color>,
-    out: &mut S,
-) -> Result<(), S::Error>
+fn write_color<S: Serializer>(key: &str, color: Option<Color>, out: &mut S) -> Result<(), S::Error>
     ensures { OnOk result
         (SendsAll (color_member key.now color) (S.written out.old) (S.written out.new)) }
 {
@@ -28,11 +24,7 @@ fn write_color<S: Serializer>(
 }
 
 // Writes a member if it has modifiers.
-fn write_modifier<S: Serializer>(
-    key: &str,
-    modifier: Modifier,
-    out: &mut S,
-) -> Result<(), S::Error>
+fn write_modifier<S: Serializer>(key: &str, modifier: Modifier, out: &mut S) -> Result<(), S::Error>
     ensures { OnOk result
         (SendsAll (modifier_member key.now modifier) (S.written out.old) (S.written out.new)) }
 {

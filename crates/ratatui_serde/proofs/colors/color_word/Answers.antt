@@ -1,4 +1,4 @@
-use Rattle.std.proofs.Common.{◌≡◌, ◌++◌, ◌∙◌, ap, refl}
+use Rattle.std.proofs.Common.{◌++◌, ◌∙◌, ap}
 use Rattle.std.proofs.lemmas.Fmt.{contents_after_writes}
 use Rattle.rtui_style.specs.Color.{color_text}
 use Rattle.ratatui_serde.proofs.colors.color_word.Goals as goal

@@ -1,4 +1,4 @@
-use Rattle.std.proofs.Common.{◌≡◌, ◌∙◌, [], ap}
+use Rattle.std.proofs.Common.{◌∙◌, ap}
 use Rattle.bitflags.specs.Sets.{known_bits, known_from, without}
 use Rattle.rtui_style.specs.Modifier.{bits_of, modifier_table}
 use Rattle.ratatui_serde.specs.Flags.{with_names, with_stray}

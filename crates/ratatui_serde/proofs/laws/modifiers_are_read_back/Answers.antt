@@ -1,4 +1,4 @@
-use Rattle.std.proofs.Common.{◌≡◌, ◌<◌, ◌≤◌, arith}
+use Rattle.std.proofs.Common.{arith}
 use Rattle.rtui_style.specs.Modifier.{bits_of}
 use Rattle.ratatui_serde.proofs.ReadBack.{modifiers-read-back, no-more}
 use Rattle.ratatui_serde.proofs.laws.modifiers_are_read_back.Goals as goal

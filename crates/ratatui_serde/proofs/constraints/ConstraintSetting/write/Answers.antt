@@ -1,6 +1,3 @@
-use Rattle.std.proofs.Common.{◌≡◌, ap, sym, OnOk, subst}
-use Rattle.ratatui_serde.specs.Events.{SendsAll}
-use Rattle.ratatui_serde.specs.Members.{constraint_events}
 use Rattle.ratatui_serde.proofs.constraints.ConstraintSetting.write.Goals as goal
 
 pub returns-in-Percentage : goal.returns-in-Percentage
