@@ -8,5 +8,5 @@ IsMadeBy way (Err _) (Ok _) = ⊥
 IsMadeBy way _ (Err _) = ⊤
 
 -- a list takes so many more without memory
-abbrev pub HasRoom : {T A : Type 0} → ℕ → Vec T A → Type 0
-HasRoom more list = vec_len list + more ≤ vec_capacity list
+abbrev pub HasRoomLeft : {T A : Type 0} → ℕ → Vec T A → Type 0
+HasRoomLeft more list = vec_len list + more ≤ vec_capacity list

@@ -3,7 +3,7 @@
 ghost use Rattle.std.specs.Prelude.{◌≡◌, ℕ, ◌+◌, ◌++◌, [], ◌∷◌, IfOk, IsOk};
 ghost use Rattle.std.specs.String.{string_bytes};
 ghost use Rattle.ratatui_core.specs.Text.{unstyled, line_of};
-ghost use Rattle.ratatui_macros.specs.Made.{HasRoom, IsMadeBy};
+ghost use Rattle.ratatui_macros.specs.Made.{HasRoomLeft, IsMadeBy};
 
 use crate::into_span::IntoSpan;
 use ratatui_core::style::Style;
@@ -69,8 +69,8 @@ pub fn with_span<'a, S: IntoSpan<'a> + Drop>(
 ) -> Result<Vec<Span<'a>>, AllocError>
     ensures value { IsMadeBy (λ was made. made.items ≡ was.items ++ S.as_span part ∷ [])
         spans.entry result }
-    ensures succeeds { IfOk spans.entry (λ was. HasRoom 1 was → IsOk result) }
-    ensures room { (n : ℕ) → IsMadeBy (λ was made. HasRoom (n + 1) was → HasRoom n made)
+    ensures succeeds { IfOk spans.entry (λ was. HasRoomLeft 1 was → IsOk result) }
+    ensures room { (n : ℕ) → IsMadeBy (λ was made. HasRoomLeft (n + 1) was → HasRoomLeft n made)
         spans.entry result }
 {
     let mut spans = spans?;

@@ -1,7 +1,7 @@
 //! Lists that have room for their parts.
 
 ghost use Rattle.std.specs.Prelude.{◌≡◌, [], IfOk, IsOk};
-ghost use Rattle.ratatui_macros.specs.Made.{HasRoom};
+ghost use Rattle.ratatui_macros.specs.Made.{HasRoomLeft};
 
 use std::alloc::{AllocError, Global};
 
@@ -23,7 +23,7 @@ macro_rules! part_count {
 /// `AllocError` if memory is refused. Room for none takes none.
 pub fn with_room<T>(alloc: Global, parts: usize) -> Result<Vec<T>, AllocError>
     ensures value { IfOk result (λ made. made.items ≡ []) }
-    ensures room { IfOk result (λ made. HasRoom parts made) }
+    ensures room { IfOk result (λ made. HasRoomLeft parts made) }
     ensures succeeds { parts ≡ 0 → IsOk result }
 {
     Vec::with_capacity(alloc, parts)

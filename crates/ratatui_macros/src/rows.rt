@@ -2,7 +2,7 @@
 
 ghost use Rattle.std.specs.Prelude.{◌≡◌, ℕ, ◌+◌, ◌++◌, [], ◌∷◌, IfOk, IsOk};
 ghost use Rattle.rtui_table.specs.Rows.{IsNewRow};
-ghost use Rattle.ratatui_macros.specs.Made.{HasRoom, IsMadeBy};
+ghost use Rattle.ratatui_macros.specs.Made.{HasRoomLeft, IsMadeBy};
 
 use crate::into_cell::IntoCell;
 use rtui_table::{Cell, Row};
@@ -45,8 +45,8 @@ pub fn with_cell<'a, C: IntoCell<'a> + Drop>(
 ) -> Result<Vec<Cell<'a>>, AllocError>
     ensures value { IsMadeBy (λ was made. made.items ≡ was.items ++ C.as_cell part ∷ [])
         cells.entry result }
-    ensures succeeds { IfOk cells.entry (λ was. HasRoom 1 was → C.takes_none part → IsOk result) }
-    ensures room { (n : ℕ) → IsMadeBy (λ was made. HasRoom (n + 1) was → HasRoom n made)
+    ensures succeeds { IfOk cells.entry (λ was. HasRoomLeft 1 was → C.takes_none part → IsOk result) }
+    ensures room { (n : ℕ) → IsMadeBy (λ was made. HasRoomLeft (n + 1) was → HasRoomLeft n made)
         cells.entry result }
 {
     let mut cells = cells?;

@@ -2,7 +2,7 @@
 
 ghost use Rattle.std.specs.Prelude.{◌≡◌, ℕ, ◌+◌, ◌++◌, [], ◌∷◌, IfOk, IsOk};
 ghost use Rattle.ratatui_core.specs.Text.{text_of};
-ghost use Rattle.ratatui_macros.specs.Made.{HasRoom, IsMadeBy};
+ghost use Rattle.ratatui_macros.specs.Made.{HasRoomLeft, IsMadeBy};
 
 use crate::into_line::IntoLine;
 use ratatui_core::text::{Line, Text};
@@ -45,8 +45,8 @@ pub fn with_line<'a, L: IntoLine<'a> + Drop>(
 ) -> Result<Vec<Line<'a>>, AllocError>
     ensures value { IsMadeBy (λ was made. made.items ≡ was.items ++ L.as_line part ∷ [])
         lines.entry result }
-    ensures succeeds { IfOk lines.entry (λ was. HasRoom 1 was → L.takes_none part → IsOk result) }
-    ensures room { (n : ℕ) → IsMadeBy (λ was made. HasRoom (n + 1) was → HasRoom n made)
+    ensures succeeds { IfOk lines.entry (λ was. HasRoomLeft 1 was → L.takes_none part → IsOk result) }
+    ensures room { (n : ℕ) → IsMadeBy (λ was made. HasRoomLeft (n + 1) was → HasRoomLeft n made)
         lines.entry result }
 {
     let mut lines = lines?;

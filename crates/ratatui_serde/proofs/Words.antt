@@ -1,11 +1,15 @@
 -- Words that are written into a text of a fixed size, and words that are read.
-use Rattle.std.proofs.Common.{◌≡◌, ℕ, ◌+◌, ◌<◌, ◌==◌, Bool, true, false, List, [], ◌∷◌, ◌++◌, Option, Some, None, Ok, codes, fold, take, get_or, length, refl, ap, sym, ◌∙◌}
+use Rattle.std.proofs.Common.{◌≡◌, ℕ, ◌+◌, ◌<◌, ◌==◌, Bool, true, false, List, [], ◌∷◌, ◌++◌, Option, Some, None, Result, Ok, Err, IfOk, inl, codes, fold, take, get_or, length, refl, ap, sym, ◌∙◌}
 use Rattle.std.proofs.lemmas.List.{take_more, append_assoc}
 use Rattle.std.proofs.lemmas.Fmt.{contents_after_writes}
 use Rattle.std.specs.{Fmt.digits, Fmt.WritesText}
 use Rattle.bitflags.specs.Sets.{Row}
 use Rattle.rtui_style.specs.{declared.color.Color.Color, Color.color_or_error}
-use Rattle.ratatui_serde.specs.Flags.{with_part, has_flag, names_in, with_names, with_stray}
+use Rattle.bitflags.specs.Text.{bits_result, flag_piece, read_text}
+use Rattle.bitflags.specs.declared.parser.ParseError.{ParseError}
+use Rattle.rtui_boxes.specs.{declared.borders.Borders.Borders, Borders.border_table, Borders.sides_of}
+use Rattle.rtui_style.specs.{declared.Modifier.Modifier, Modifier.bits_of, Modifier.modifier_table}
+use Rattle.ratatui_serde.specs.Flags.{with_part, has_flag, names_in, with_names, with_stray, ReadsFlags, ReadsSides}
 
 -- a colour that is no error is there
 pub read-color : (color : Color) (o : Option Color) → Ok color ≡ color_or_error o → o ≡ Some color
@@ -54,3 +58,16 @@ pub text-after : {W : Type 0} (took : W → List ℕ → W → Type 0) (contents
 text-after took contents appends w v (Some x) bs e h =
     contents_after_writes took contents appends w x v h ∙ ap (λ l. contents w ++ l) (cc)
 text-after took contents appends w v None bs e h = absurd (cc)
+
+-- sides that were read
+pub reads-sides : (text : List ℕ) (r : Result Borders ParseError)
+    → bits_result sides_of r ≡ read_text (flag_piece border_table 8) text
+    → IfOk r (λ b. ReadsSides border_table (sides_of b) text)
+reads-sides text (Ok b) e = inl (sym e)
+reads-sides text (Err x) e = tt
+
+-- modifiers that were read
+pub reads-modifier : (text : List ℕ) (m : Modifier) (r : Result Modifier ParseError)
+    → bits_result bits_of r ≡ read_text (flag_piece modifier_table 16) text → r ≡ Ok m
+    → ReadsFlags 16 modifier_table (bits_of m) text
+reads-modifier text m r e is = sym e ∙ ap (bits_result bits_of) is

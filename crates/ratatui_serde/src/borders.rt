@@ -11,7 +11,8 @@ ghost use Rattle.ratatui_serde.specs.Flags.{flags_text, ReadsSides};
 use crate::flags::{Words, push_names, push_stray};
 use crate::setting::Setting;
 use arrayvec::ArrayString;
-use bitflags::{Flags, parser};
+use bitflags::Flags;
+use bitflags::parser::{self, ParseError};
 use rtui_boxes::{BorderType, Borders};
 use serde::{Case, Deserializer, Format, Serializer};
 use std::alloc::Global;
@@ -19,7 +20,7 @@ use std::fmt;
 use std::str::FromStr;
 
 // The names of sides, with bars between.
-fn side_words(borders: Borders) -> Result<Words, fmt::Error>
+pub(crate) fn side_words(borders: Borders) -> Result<Words, fmt::Error>
     ensures { IfOk result (λ words. words.bytes ≡ flags_text 8 border_table (sides_of borders)) }
 {
     let mut words = ArrayString::new();
@@ -29,6 +30,16 @@ fn side_words(borders: Borders) -> Result<Words, fmt::Error>
         u16::from(borders.difference(Borders::ALL).bits()),
     )?;
     Ok(words)
+}
+
+// The sides that a text names.
+pub(crate) fn sides(text: &str) -> Result<Borders, ParseError>
+    ensures { IfOk result (λ borders. ReadsSides border_table (sides_of borders) text.now) }
+{
+    if text == "ALL" {
+        return Ok(Borders::ALL);
+    }
+    parser::from_str::<Borders>(text)
 }
 
 /// The names of the sides with bars between, as `bitflags` writes them: `TOP | LEFT`; an empty text
@@ -51,10 +62,7 @@ impl Setting for Borders {
             ReadsText F.gives (ReadsSides border_table (sides_of borders)) from.old from.new) }
     {
         let words = from.string(alloc)?;
-        if words.as_str() == "ALL" {
-            return Ok(Borders::ALL);
-        }
-        match parser::from_str::<Borders>(words.as_str()) {
+        match sides(words.as_str()) {
             Ok(borders) => Ok(borders),
             Err(_) => Err(from.custom("no side is so named")),
         }

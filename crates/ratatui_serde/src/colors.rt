@@ -51,7 +51,7 @@ impl Setting for Color {
 }
 
 // The names of modifiers, with bars between.
-fn modifier_words(modifier: Modifier) -> Result<Words, fmt::Error>
+pub(crate) fn modifier_words(modifier: Modifier) -> Result<Words, fmt::Error>
     ensures { IfOk result (λ words. words.bytes ≡ flags_text 16 modifier_table (bits_of modifier)) }
 {
     let mut words = ArrayString::new();

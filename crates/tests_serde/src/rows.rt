@@ -5,7 +5,7 @@ use ratatui_serde::{Serde, Setting};
 use rtui_boxes::{BorderType, Borders};
 use rtui_layout::Constraint;
 use rtui_style::{Color, Modifier, Style};
-use std::alloc::Global;
+use std::alloc::{AllocError, Global};
 
 // Whether a value is written as this JSON, and read from it.
 fn is_row<T: Setting + PartialEq>(alloc: Global, value: T, json: &str) -> bool {
@@ -52,13 +52,27 @@ fn modifiers(rt: HostRuntime) {
     let alloc = rt.alloc();
     assert!(rt; is_row(alloc, Modifier::NONE, r#""""#));
     assert!(rt; is_row(alloc, Modifier::BOLD, r#""BOLD""#));
-    assert!(rt; is_row(alloc, Modifier::BOLD | Modifier::ITALIC, r#""BOLD | ITALIC""#));
-    assert!(rt; is_row(
-        alloc,
-        Modifier::ALL,
-        r#""BOLD | DIM | ITALIC | UNDERLINED | SLOW_BLINK | RAPID_BLINK | REVERSED | HIDDEN | CROSSED_OUT""#
-    ));
-    assert!(rt; is_row(alloc, Modifier::from_bits_retain(0x8001), r#""BOLD | 0x8000""#));
+    assert!(rt;
+        is_row(
+            alloc,
+            Modifier::BOLD | Modifier::ITALIC,
+            r#""BOLD | ITALIC""#
+        )
+    );
+    assert!(rt;
+        is_row(
+            alloc,
+            Modifier::ALL,
+            r#""BOLD | DIM | ITALIC | UNDERLINED | SLOW_BLINK | RAPID_BLINK | REVERSED | HIDDEN | CROSSED_OUT""#
+        )
+    );
+    assert!(rt;
+        is_row(
+            alloc,
+            Modifier::from_bits_retain(0x8001),
+            r#""BOLD | 0x8000""#
+        )
+    );
     assert!(rt; is_row(alloc, Modifier::from_bits_retain(0xfe00), r#""0xfe00""#));
     assert!(rt; is_read(alloc, Modifier::BOLD | Modifier::DIM, r#"" DIM|BOLD ""#));
     assert!(rt; is_refused::<Modifier>(alloc, r#""bold""#));
@@ -104,13 +118,35 @@ fn styles(rt: HostRuntime) {
         .underline_color(Color::Red)
         .add_modifier(Modifier::BOLD)
         .remove_modifier(Modifier::DIM);
-    assert!(rt; is_row(
-        alloc,
-        loud,
-        r#"{"underline_color":"Red","add_modifier":"BOLD","sub_modifier":"DIM"}"#
-    ));
+    assert!(rt;
+        is_row(
+            alloc,
+            loud,
+            r#"{"underline_color":"Red","add_modifier":"BOLD","sub_modifier":"DIM"}"#
+        )
+    );
     assert!(rt; is_read(alloc, Style::new(), r#"{"fg":null,"add_modifier":null}"#));
-    assert!(rt; is_read(alloc, warning, r##"{"bg":"#202020","other":[1],"fg":"yellow"}"##));
+    assert!(rt;
+        is_read(
+            alloc,
+            warning,
+            r##"{"bg":"#202020","other":[1],"fg":"yellow"}"##
+        )
+    );
     assert!(rt; is_refused::<Style>(alloc, r#"{"fg":"Red","fg":"Red"}"#));
     assert!(rt; is_refused::<Style>(alloc, r#"{"add_modifier":"LOUD"}"#));
+}
+
+#[test]
+fn sets_without_serde(rt: HostRuntime) -> Result<(), AllocError> {
+    let alloc = rt.alloc();
+    let bold = Serde(Modifier::BOLD | Modifier::ITALIC);
+    assert!(rt; format!(in alloc; "{bold}")?.as_str() == "BOLD | ITALIC");
+    assert!(rt; "ITALIC | BOLD".parse() == Ok(bold));
+    let sides = Serde(Borders::TOP | Borders::LEFT);
+    assert!(rt; format!(in alloc; "{sides}")?.as_str() == "TOP | LEFT");
+    assert!(rt; "LEFT|TOP".parse() == Ok(sides));
+    assert!(rt; "ALL".parse() == Ok(Serde(Borders::ALL)));
+    assert!(rt; "NORTH".parse::<Serde<Borders>>().is_err());
+    Ok(())
 }
