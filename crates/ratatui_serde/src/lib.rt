@@ -18,12 +18,12 @@
 //! ```
 //!
 //! What is written is proved, event by event, and so is what a text is read as; the laws of
-//! [`laws`] say that what is written as a text is read back as what was written. Only tested is what is
-//! read of a [`Style`](ratatui_core::style::Style) and of a
-//! [`Constraint`](ratatui_core::layout::Constraint), member by member: a step of a `Deserializer`
-//! says only what it read itself.
+//! [`laws`] say that what is written as a text is read back as what was written. Only tested is
+//! what is read of a [`Style`](rtui_style::Style) and of a
+//! [`Constraint`](rtui_layout::Constraint), member by member: a step of a `Deserializer` says only
+//! what it read itself.
 //!
-//! It stands on `ratatui_core`, `rtui_boxes` and `serde`.
+//! It stands on `rtui_style`, `rtui_layout`, `rtui_boxes` and `serde`.
 #![tactic(auto)]
 
 mod borders;
