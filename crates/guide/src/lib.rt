@@ -3,10 +3,12 @@
 //! [`greet`] is the README's first example. [`draw_checked`] draws a frame on a terminal, [`log`]
 //! logs rows above it, [`renew`] makes a list of calls, and [`label`] paints on a buffer. [`Gauge`]
 //! is a widget of one's own: a labelled bar. [`draw_text`] draws a text over a whole frame, and
-//! [`draw_gauge`] a gauge, by `Terminal::draw_widget`. [`head_and_body`] divides an area.
+//! [`draw_gauge`] a gauge, by `Terminal::draw_widget`; [`draw_hello`] and [`draw_hello_checked`] a
+//! span, by closures of one call. [`head_and_body`] divides an area.
 #![tactic(auto)]
 
 mod areas;
+mod closures;
 mod frames;
 mod gauge;
 mod hello;
@@ -17,6 +19,7 @@ mod renewing;
 mod widget_frames;
 
 pub use areas::head_and_body;
+pub use closures::{draw_hello, draw_hello_checked};
 pub use frames::draw_checked;
 pub use gauge::Gauge;
 pub use hello::greet;

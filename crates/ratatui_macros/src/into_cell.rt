@@ -1,6 +1,6 @@
 //! What may stand in a row of a table.
 
-ghost use Rattle.std.specs.Prelude.{◌≡◌, [], ◌∷◌, IfOk};
+ghost use Rattle.std.specs.Prelude.{◌≡◌, [], ◌∷◌, ⊤, IfOk, IsOk};
 ghost use Rattle.std.specs.String.{string_bytes};
 ghost use Rattle.ratatui_core.specs.Text.{line_of, text_of};
 ghost use Rattle.rtui_table.specs.Rows.{raw_cell};
@@ -21,18 +21,24 @@ pub trait IntoCell<'a> {
     // the cell that it becomes
     ghost as_cell: { Self → CellData };
 
+    // whether it becomes one without memory
+    ghost takes_none: { Self → Type 0 } = { λ _. ⊥ };
+
     /// The cell that it becomes.
     ///
     /// # Errors
     ///
     /// `AllocError` if memory is refused. A cell and a text take none.
     fn into_cell(self, alloc: Global) -> Result<Cell<'a>, AllocError>
-        ensures { IfOk result (λ cell. cell ≡ as_cell self) };
+        ensures value { IfOk result (λ cell. cell ≡ as_cell self) }
+        ensures succeeds { takes_none self → IsOk result };
 }
 
 /// The cell itself.
 impl<'a> IntoCell<'a> for Cell<'a> {
     ghost as_cell = { λ cell. cell };
+
+    ghost takes_none = { λ _. ⊤ };
 
     fn into_cell(self, alloc: Global) -> Result<Cell<'a>, AllocError> {
         let _ = alloc;
@@ -43,6 +49,8 @@ impl<'a> IntoCell<'a> for Cell<'a> {
 /// A cell of the text.
 impl<'a> IntoCell<'a> for Text<'a> {
     ghost as_cell = { plain_cell };
+
+    ghost takes_none = { λ _. ⊤ };
 
     fn into_cell(self, alloc: Global) -> Result<Cell<'a>, AllocError> {
         let _ = alloc;

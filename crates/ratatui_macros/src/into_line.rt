@@ -1,6 +1,6 @@
 //! What may stand in a text.
 
-ghost use Rattle.std.specs.Prelude.{◌≡◌, [], ◌∷◌, IfOk};
+ghost use Rattle.std.specs.Prelude.{◌≡◌, [], ◌∷◌, ⊤, IfOk, IsOk};
 ghost use Rattle.std.specs.String.{string_bytes};
 ghost use Rattle.ratatui_core.specs.Text.{LineData, line_of, raw_line};
 
@@ -16,18 +16,24 @@ pub trait IntoLine<'a> {
     // the line that it becomes
     ghost as_line: { Self → LineData };
 
+    // whether it becomes one without memory
+    ghost takes_none: { Self → Type 0 } = { λ _. ⊥ };
+
     /// The line that it becomes.
     ///
     /// # Errors
     ///
     /// `AllocError` if memory is refused. A line takes none.
     fn into_line(self, alloc: Global) -> Result<Line<'a>, AllocError>
-        ensures { IfOk result (λ line. line ≡ as_line self) };
+        ensures value { IfOk result (λ line. line ≡ as_line self) }
+        ensures succeeds { takes_none self → IsOk result };
 }
 
 /// The line itself.
 impl<'a> IntoLine<'a> for Line<'a> {
     ghost as_line = { λ line. line };
+
+    ghost takes_none = { λ _. ⊤ };
 
     fn into_line(self, alloc: Global) -> Result<Line<'a>, AllocError> {
         let _ = alloc;

@@ -1,17 +1,17 @@
 //! Lines, span by span.
 
-ghost use Rattle.std.specs.Prelude.{◌≡◌, [], IfOk, IsOk};
+ghost use Rattle.std.specs.Prelude.{◌≡◌, ℕ, ◌+◌, ◌++◌, [], ◌∷◌, IfOk, IsOk};
 ghost use Rattle.std.specs.String.{string_bytes};
-ghost use Rattle.ratatui_core.specs.Text.{unstyled, line_of, with_span};
-ghost use Rattle.ratatui_macros.specs.Made.{IsMadeBy};
+ghost use Rattle.ratatui_core.specs.Text.{unstyled, line_of};
+ghost use Rattle.ratatui_macros.specs.Made.{HasRoomLeft, IsMadeBy};
 
 use crate::into_span::IntoSpan;
 use ratatui_core::style::Style;
 use ratatui_core::text::{Line, Span};
-use std::alloc::{AllocError, Global};
+use std::alloc::AllocError;
 
 /// A line of these parts, each a span, a `&str` or a `String`: a `Result<Line, AllocError>`. It
-/// takes memory once, and none for an empty list.
+/// takes memory once, for the list, and none for an empty one.
 ///
 /// ```
 /// let line = line![in alloc; "press ", "q".bold(), " to end"]?;
@@ -19,16 +19,16 @@ use std::alloc::{AllocError, Global};
 #[macro_export]
 macro_rules! line {
     (in $alloc:expr $(;)?) => {
-        $crate::line_with_room($alloc, 0)
+        $crate::line_of($crate::with_room($alloc, 0))
     };
     (in $alloc:expr; $($part:expr),+ $(,)?) => {
-        $crate::line!(@ $crate::line_with_room($alloc, $crate::part_count!($($part),+)), $($part),+)
+        $crate::line!(@ $crate::with_room($alloc, $crate::part_count!($($part),+)), $($part),+)
     };
-    (@ $line:expr, $part:expr) => {
-        $crate::with_span($line, $part)
+    (@ $spans:expr, $part:expr) => {
+        $crate::line_of($crate::with_span($spans, $part))
     };
-    (@ $line:expr, $part:expr, $($rest:expr),+) => {
-        $crate::line!(@ $crate::with_span($line, $part), $($rest),+)
+    (@ $spans:expr, $part:expr, $($rest:expr),+) => {
+        $crate::line!(@ $crate::with_span($spans, $part), $($rest),+)
     };
     ($($rest:tt)*) => {
         compile_error!("`line!` takes an allocator first: write `line![in alloc; \"a\", \"b\".bold()]?`")
@@ -58,41 +58,36 @@ macro_rules! span {
     };
 }
 
-// How many parts there are.
-#[macro_export]
-macro_rules! part_count {
-    () => {
-        0
-    };
-    ($part:expr $(, $rest:expr)*) => {
-        1 + $crate::part_count!($($rest),*)
-    };
-}
-
-/// A line without spans, with room for so many.
+/// The spans with a part after them; refused spans stay refused.
 ///
 /// # Errors
 ///
-/// `AllocError` if memory is refused. Room for none takes none.
-pub fn line_with_room<'a>(alloc: Global, spans: usize) -> Result<Line<'a>, AllocError>
-    ensures value { IfOk result (λ line. line ≡ line_of []) }
-    ensures succeeds { spans ≡ 0 → IsOk result }
-{
-    Ok(Line::from(Vec::with_capacity(alloc, spans)?))
-}
-
-/// The line with a part after its spans; a refused line stays refused.
-///
-/// # Errors
-///
-/// `AllocError` if the line was refused, or if memory is.
+/// `AllocError` if the spans were refused, or if memory is. With room for one it isn't.
 pub fn with_span<'a, S: IntoSpan<'a> + Drop>(
-    line: Result<Line<'a>, AllocError>,
+    spans: Result<Vec<Span<'a>>, AllocError>,
     part: S,
-) -> Result<Line<'a>, AllocError>
-    ensures { IsMadeBy (λ line made. made ≡ with_span (S.as_span part) line) line.entry result }
+) -> Result<Vec<Span<'a>>, AllocError>
+    ensures value { IsMadeBy (λ was made. made.items ≡ was.items ++ S.as_span part ∷ [])
+        spans.entry result }
+    ensures succeeds { IfOk spans.entry (λ was. HasRoomLeft 1 was → IsOk result) }
+    ensures room { (n : ℕ) → IsMadeBy (λ was made. HasRoomLeft (n + 1) was → HasRoomLeft n made)
+        spans.entry result }
 {
-    line?.try_add(part.into_span())
+    let mut spans = spans?;
+    spans.push(part.into_span())?;
+    Ok(spans)
+}
+
+/// A line of these spans; refused spans stay refused.
+///
+/// # Errors
+///
+/// `AllocError` if the spans were refused.
+pub fn line_of<'a>(spans: Result<Vec<Span<'a>>, AllocError>) -> Result<Line<'a>, AllocError>
+    ensures value { IsMadeBy (λ spans line. line ≡ line_of spans.items) spans.entry result }
+    ensures succeeds { IsOk spans.entry → IsOk result }
+{
+    Ok(Line::from(spans?))
 }
 
 /// A span that takes a text over; a refused text stays refused.

@@ -1,12 +1,12 @@
 //! Rows of a table, cell by cell.
 
-ghost use Rattle.std.specs.Prelude.{◌≡◌, ◌++◌, [], ◌∷◌, IfOk, IsOk};
+ghost use Rattle.std.specs.Prelude.{◌≡◌, ℕ, ◌+◌, ◌++◌, [], ◌∷◌, IfOk, IsOk};
 ghost use Rattle.rtui_table.specs.Rows.{IsNewRow};
-ghost use Rattle.ratatui_macros.specs.Made.{IsMadeBy};
+ghost use Rattle.ratatui_macros.specs.Made.{HasRoomLeft, IsMadeBy};
 
 use crate::into_cell::IntoCell;
 use rtui_table::{Cell, Row};
-use std::alloc::{AllocError, Global};
+use std::alloc::AllocError;
 
 /// A row of a table of these cells, each a cell, a text, a line, a span, a `&str` or a `String`: a
 /// `Result<Row, AllocError>`. An empty list takes no memory.
@@ -17,10 +17,10 @@ use std::alloc::{AllocError, Global};
 #[macro_export]
 macro_rules! row {
     (in $alloc:expr $(;)?) => {
-        $crate::row_of($crate::cells_with_room($alloc, 0))
+        $crate::row_of($crate::with_room($alloc, 0))
     };
     (in $alloc:expr; $($part:expr),+ $(,)?) => {
-        $crate::row!(@ $crate::cells_with_room($alloc, $crate::part_count!($($part),+)), $($part),+)
+        $crate::row!(@ $crate::with_room($alloc, $crate::part_count!($($part),+)), $($part),+)
     };
     (@ $cells:expr, $part:expr) => {
         $crate::row_of($crate::with_cell($cells, $part))
@@ -33,28 +33,21 @@ macro_rules! row {
     };
 }
 
-/// No cells, with room for so many.
-///
-/// # Errors
-///
-/// `AllocError` if memory is refused. Room for none takes none.
-pub fn cells_with_room<'a>(alloc: Global, cells: usize) -> Result<Vec<Cell<'a>>, AllocError>
-    ensures value { IfOk result (λ made. made.items ≡ []) }
-    ensures succeeds { cells ≡ 0 → IsOk result }
-{
-    Vec::with_capacity(alloc, cells)
-}
-
 /// The cells with a part after them; refused cells stay refused.
 ///
 /// # Errors
 ///
-/// `AllocError` if the cells were refused, or if memory is.
+/// `AllocError` if the cells were refused, or if memory is. With room for one it isn't, if the part
+/// becomes a cell without memory.
 pub fn with_cell<'a, C: IntoCell<'a> + Drop>(
     cells: Result<Vec<Cell<'a>>, AllocError>,
     part: C,
 ) -> Result<Vec<Cell<'a>>, AllocError>
-    ensures { IsMadeBy (λ was made. made.items ≡ was.items ++ C.as_cell part ∷ []) cells.entry result }
+    ensures value { IsMadeBy (λ was made. made.items ≡ was.items ++ C.as_cell part ∷ [])
+        cells.entry result }
+    ensures succeeds { IfOk cells.entry (λ was. HasRoomLeft 1 was → C.takes_none part → IsOk result) }
+    ensures room { (n : ℕ) → IsMadeBy (λ was made. HasRoomLeft (n + 1) was → HasRoomLeft n made)
+        cells.entry result }
 {
     let mut cells = cells?;
     let cell = part.into_cell(*cells.allocator())?;

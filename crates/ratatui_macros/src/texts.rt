@@ -1,12 +1,12 @@
 //! Texts, line by line.
 
-ghost use Rattle.std.specs.Prelude.{◌≡◌, [], IfOk, IsOk};
+ghost use Rattle.std.specs.Prelude.{◌≡◌, ℕ, ◌+◌, ◌++◌, [], ◌∷◌, IfOk, IsOk};
 ghost use Rattle.ratatui_core.specs.Text.{text_of};
-ghost use Rattle.ratatui_macros.specs.Made.{IsMadeBy, with_line};
+ghost use Rattle.ratatui_macros.specs.Made.{HasRoomLeft, IsMadeBy};
 
 use crate::into_line::IntoLine;
-use ratatui_core::text::Text;
-use std::alloc::{AllocError, Global};
+use ratatui_core::text::{Line, Text};
+use std::alloc::AllocError;
 
 /// A text of these lines, each a line, a span, a `&str` or a `String`: a `Result<Text,
 /// AllocError>`. An empty list takes no memory.
@@ -17,46 +17,52 @@ use std::alloc::{AllocError, Global};
 #[macro_export]
 macro_rules! text {
     (in $alloc:expr $(;)?) => {
-        $crate::text_with_room($alloc, 0)
+        $crate::text_of($crate::with_room($alloc, 0))
     };
     (in $alloc:expr; $($part:expr),+ $(,)?) => {
-        $crate::text!(@ $crate::text_with_room($alloc, $crate::part_count!($($part),+)), $($part),+)
+        $crate::text!(@ $crate::with_room($alloc, $crate::part_count!($($part),+)), $($part),+)
     };
-    (@ $text:expr, $part:expr) => {
-        $crate::with_line($text, $part)
+    (@ $lines:expr, $part:expr) => {
+        $crate::text_of($crate::with_line($lines, $part))
     };
-    (@ $text:expr, $part:expr, $($rest:expr),+) => {
-        $crate::text!(@ $crate::with_line($text, $part), $($rest),+)
+    (@ $lines:expr, $part:expr, $($rest:expr),+) => {
+        $crate::text!(@ $crate::with_line($lines, $part), $($rest),+)
     };
     ($($rest:tt)*) => {
         compile_error!("`text!` takes an allocator first: write `text![in alloc; \"a\", \"b\".bold()]?`")
     };
 }
 
-/// A text without lines, with room for so many.
+/// The lines with a part below them; refused lines stay refused.
 ///
 /// # Errors
 ///
-/// `AllocError` if memory is refused. Room for none takes none.
-pub fn text_with_room<'a>(alloc: Global, lines: usize) -> Result<Text<'a>, AllocError>
-    ensures value { IfOk result (λ text. text ≡ text_of []) }
-    ensures succeeds { lines ≡ 0 → IsOk result }
+/// `AllocError` if the lines were refused, or if memory is. With room for one it isn't, if the part
+/// becomes a line without memory.
+pub fn with_line<'a, L: IntoLine<'a> + Drop>(
+    lines: Result<Vec<Line<'a>>, AllocError>,
+    part: L,
+) -> Result<Vec<Line<'a>>, AllocError>
+    ensures value { IsMadeBy (λ was made. made.items ≡ was.items ++ L.as_line part ∷ [])
+        lines.entry result }
+    ensures succeeds { IfOk lines.entry (λ was. HasRoomLeft 1 was → L.takes_none part → IsOk result) }
+    ensures room { (n : ℕ) → IsMadeBy (λ was made. HasRoomLeft (n + 1) was → HasRoomLeft n made)
+        lines.entry result }
 {
-    Ok(Text::from(Vec::with_capacity(alloc, lines)?))
+    let mut lines = lines?;
+    let line = part.into_line(*lines.allocator())?;
+    lines.push(line)?;
+    Ok(lines)
 }
 
-/// The text with a part below its lines; a refused text stays refused.
+/// A text of these lines; refused lines stay refused.
 ///
 /// # Errors
 ///
-/// `AllocError` if the text was refused, or if memory is.
-pub fn with_line<'a, L: IntoLine<'a> + Drop>(
-    text: Result<Text<'a>, AllocError>,
-    part: L,
-) -> Result<Text<'a>, AllocError>
-    ensures { IsMadeBy (λ text made. made ≡ with_line (L.as_line part) text) text.entry result }
+/// `AllocError` if the lines were refused.
+pub fn text_of<'a>(lines: Result<Vec<Line<'a>>, AllocError>) -> Result<Text<'a>, AllocError>
+    ensures value { IsMadeBy (λ lines text. text ≡ text_of lines.items) lines.entry result }
+    ensures succeeds { IsOk lines.entry → IsOk result }
 {
-    let text = text?;
-    let line = part.into_line(text.lines.allocator())?;
-    text.try_add_line(line)
+    Ok(Text::from(lines?))
 }

@@ -1,10 +1,10 @@
--- Where two buffers differ first, and where a screen differs first from lines.
+-- Where two buffers differ first, where a screen differs first from lines, and a screen as a buffer.
 use Rattle.std.specs.Prelude.{◌≡◌, ℕ, ◌<◌, List, length, Option, Some, None, slice_index_or}
 use Rattle.rtui_cell.specs.declared.cell.Cell.{Cell}
 use Rattle.ratatui_core.specs.Layout.{Position}
 use Rattle.ratatui_core.specs.Text.{LineData, widest}
 use Rattle.ratatui_core.specs.Buffer.{BufferData, IsEqual, empty_cell, position_of, place_position}
-use Rattle.ratatui_core.specs.Backend.{Screen}
+use Rattle.ratatui_core.specs.Backend.{Screen, grid_of, screen_area}
 use Rattle.rtui_buffer.specs.Line.{line_at, line_row}
 use Rattle.rtui_backend.specs.{CellGrid.look_at, ScreenLines.RowHasLine, ScreenLines.symbols_in}
 
@@ -52,3 +52,8 @@ pub record LinesDifferFirstAt (lines : List LineData) (s : Screen) (p : Position
 abbrev pub LinesDifferAt : List LineData → Screen → Option Position → Type 0
 LinesDifferAt lines s None = s.height ≡ length lines → s.width ≡ widest lines → ⊥
 LinesDifferAt lines s (Some p) = LinesDifferFirstAt lines s p
+
+-- a buffer is a screen: as many rows and columns, at the corner, and the same look in each column
+pub record IsBufferOf (s : Screen) (t : BufferData) : Type 0 where
+  pub area : t.area ≡ screen_area s
+  pub looks : (a b : ℕ) → a < s.width → b < s.height → grid_of t.area.width t.cells a b ≡ s.grid a b

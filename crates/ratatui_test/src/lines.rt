@@ -7,6 +7,7 @@ ghost use Rattle.ratatui_core.specs.Backend.{Screen, ScreenHasLines, screen_of};
 ghost use Rattle.rtui_buffer.specs.Line.{line_at, line_row};
 ghost use Rattle.rtui_backend.specs.ScreenLines.{RowHasLine, symbols_in};
 ghost use Rattle.ratatui_test.specs.Apart.{symbol_seen, RowDiffersFirstAt, LinesDifferFirstAt, LinesDifferAt};
+ghost use Rattle.ratatui_test.specs.Apart.{IsBufferOf};
 
 use crate::picture::{write_buffer, write_mark};
 use ratatui_core::backend::TestBackend;
@@ -57,6 +58,8 @@ pub trait Shows {
         ensures first { IfOk result (λ found. MatchOption found
             (ScreenHasLines (raw_lines lines.now) (screen self.now))
             (λ d. LinesDifferAt (raw_lines lines.now) (screen self.now) d.position)) }
+        ensures shown { IfOk result (λ found.
+            IfSome found (λ d. IsBufferOf (screen self.now) d.shown.now)) }
         ensures wanted { IfOk result (λ found. IfSome found (λ d. d.wanted.now ≡ lines.now)) };
 }
 

@@ -5,3 +5,7 @@
 mod apart;
 #[cfg(test)]
 mod docs;
+#[cfg(test)]
+mod screens;
+#[cfg(test)]
+mod stored;

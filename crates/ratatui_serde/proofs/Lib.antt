@@ -1,0 +1,3 @@
+mod Words
+mod Sending
+mod ReadBack

@@ -1,0 +1,5 @@
+//! What screens show. `tools/test --accept tests_test` writes them anew.
+
+pub(crate) const GREETING: &[&str] = &[" Hello, world! ", "               "];
+
+pub(crate) const WIDE: &[&str] = &["\\ \"日本\" "];
