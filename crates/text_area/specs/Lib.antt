@@ -1,0 +1,4 @@
+pub mod Extents
+pub mod Drafts
+pub mod Lines
+pub mod Inner

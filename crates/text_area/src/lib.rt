@@ -1,0 +1,8 @@
+//! A text of several lines that a person types, with a cursor in it.
+#![tactic(auto)]
+
+mod draft;
+mod extent;
+mod lines;
+
+pub use extent::Extent;
