@@ -1,3 +1,4 @@
 pub mod RunLemmas
 pub mod DraftLemmas
 pub mod LineLemmas
+pub mod TypedLemmas

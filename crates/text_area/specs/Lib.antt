@@ -2,3 +2,4 @@ pub mod Extents
 pub mod Drafts
 pub mod Lines
 pub mod Inner
+pub mod Typing

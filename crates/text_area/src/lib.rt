@@ -4,5 +4,6 @@
 mod draft;
 mod extent;
 mod lines;
+mod typed;
 
 pub use extent::Extent;
