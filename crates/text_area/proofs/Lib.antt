@@ -2,3 +2,4 @@ pub mod RunLemmas
 pub mod DraftLemmas
 pub mod LineLemmas
 pub mod TypedLemmas
+pub mod StepLemmas

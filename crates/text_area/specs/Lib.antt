@@ -1,5 +1,6 @@
 pub mod Extents
 pub mod Drafts
 pub mod Lines
+pub mod Journals
 pub mod Inner
 pub mod Typing

@@ -4,6 +4,7 @@
 mod draft;
 mod extent;
 mod lines;
+mod steps;
 mod typed;
 
 pub use extent::Extent;

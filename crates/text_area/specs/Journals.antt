@@ -1,0 +1,75 @@
+-- A text with a cursor, and how its changes are undone.
+use Rattle.std.specs.Prelude.{ℕ, ◌+◌, ◌<◌, ◌≤◌, ◌==◌, ◌&&◌, Bool, true, false, if◌then◌else◌, List, [], ◌∷◌, length, take, drop}
+use Rattle.std.specs.Prelude.{slice_range}
+use Rattle.std.specs.List.{replace_range}
+use Rattle.std.specs.Str.{IsCharBoundary}
+use Rattle.text_field.specs.History.{CursorText, cursor_text_at}
+use Rattle.text_area.specs.Drafts.{draft_text, replaced}
+
+-- how a change is undone: so many bytes from a byte on give way to what stood there, and the cursor goes to where it was
+pub record StepData : Type 0 where
+  pub at : ℕ
+  pub size : ℕ
+  pub was : List ℕ
+  pub cursor : ℕ
+
+abbrev pub step_of : ℕ → ℕ → List ℕ → ℕ → StepData
+step_of at size was cursor = record { at = at; size = size; was = was; cursor = cursor }
+
+-- a text after a step
+abbrev pub undone_text : StepData → List ℕ → List ℕ
+undone_text s text = replace_range text s.at (s.at + s.size) s.was
+
+-- how it is undone that a part of a text gives way to so many bytes
+abbrev pub step_for : ℕ → ℕ → ℕ → CursorText → StepData
+step_for from to size t = step_of from size (slice_range (draft_text t) from to) (length t.before)
+
+-- a step can be made: no character is cut, and the cursor stands at a place of the text
+pub record IsStepOf (s : StepData) (text : List ℕ) : Type 0 where
+  pub start : IsCharBoundary text s.at
+  pub end : IsCharBoundary text (s.at + s.size)
+  pub cursor : IsCharBoundary (undone_text s text) s.cursor
+
+-- these steps can be made one after the other
+abbrev pub Undoes : List StepData → List ℕ → Type 0
+Undoes [] text = Unit {0}
+Undoes (s ∷ steps) text = IsStepOf s text × Undoes steps (undone_text s text)
+
+-- a text with a cursor; how its last changes are undone, the last one first; how what was undone last is done again,
+-- the last one first; and how many steps of both are kept at most
+pub record JournalData : Type 0 where
+  pub text : CursorText
+  pub past : List StepData
+  pub future : List StepData
+  pub most : ℕ
+
+abbrev pub journal_of : CursorText → List StepData → List StepData → ℕ → JournalData
+journal_of text past future most = record { text = text; past = past; future = future; most = most }
+
+-- nothing gives way to nothing
+abbrev pub is_nothing : ℕ → ℕ → List ℕ → Bool
+is_nothing from to piece = (from == to) && (length piece == 0)
+
+-- a part of the text gives way to a piece: that can be undone, and nothing can be done again
+abbrev pub changed : ℕ → ℕ → List ℕ → JournalData → JournalData
+changed from to piece j =
+    if is_nothing from to piece then j else journal_of (replaced from to piece j.text)
+    (take j.most (step_for from to (length piece) j.text ∷ j.past)) [] j.most
+
+-- the text after the first of these steps
+abbrev pub stepped_text : List StepData → CursorText → CursorText
+stepped_text [] t = t
+stepped_text (s ∷ steps) t = cursor_text_at (undone_text s (draft_text t)) s.cursor
+
+-- how that is undone, before these
+abbrev pub stepped_onto : List StepData → CursorText → List StepData → List StepData
+stepped_onto [] t onto = onto
+stepped_onto (s ∷ steps) t onto = step_for s.at (s.at + s.size) (length s.was) t ∷ onto
+
+-- the last change is undone, if there is one
+abbrev pub undone : JournalData → JournalData
+undone j = journal_of (stepped_text j.past j.text) (drop 1 j.past) (stepped_onto j.past j.text j.future) j.most
+
+-- what was undone last is done again, if anything was
+abbrev pub redone : JournalData → JournalData
+redone j = journal_of (stepped_text j.future j.text) (stepped_onto j.future j.text j.past) (drop 1 j.future) j.most
