@@ -3,3 +3,4 @@ pub mod DraftLemmas
 pub mod LineLemmas
 pub mod TypedLemmas
 pub mod StepLemmas
+pub mod JournalLemmas

@@ -1,33 +1,35 @@
 -- A text with a cursor, and how its changes are undone.
-use Rattle.std.specs.Prelude.{ℕ, ◌+◌, ◌<◌, ◌≤◌, ◌==◌, ◌&&◌, Bool, true, false, if◌then◌else◌, List, [], ◌∷◌, length, take, drop}
+use Rattle.std.specs.Prelude.{ℕ, ◌+◌, ◌≤◌, ◌==◌, ◌&&◌, Bool, true, if◌then◌else◌, List, [], ◌∷◌, length, take, drop}
 use Rattle.std.specs.Prelude.{slice_range}
 use Rattle.std.specs.List.{replace_range}
-use Rattle.std.specs.Str.{IsCharBoundary}
+use Rattle.std.specs.Str.{IsUtf8, IsCharBoundary}
 use Rattle.text_field.specs.History.{CursorText, cursor_text_at}
 use Rattle.text_area.specs.Drafts.{draft_text, replaced}
 
--- how a change is undone: so many bytes from a byte on give way to what stood there, and the cursor goes to where it was
+-- how a change is undone: the part between two bytes gives way to what stood there, and the cursor goes to where it was
 pub record StepData : Type 0 where
   pub at : ℕ
-  pub size : ℕ
+  pub to : ℕ
   pub was : List ℕ
   pub cursor : ℕ
 
 abbrev pub step_of : ℕ → ℕ → List ℕ → ℕ → StepData
-step_of at size was cursor = record { at = at; size = size; was = was; cursor = cursor }
+step_of at to was cursor = record { at = at; to = to; was = was; cursor = cursor }
 
 -- a text after a step
 abbrev pub undone_text : StepData → List ℕ → List ℕ
-undone_text s text = replace_range text s.at (s.at + s.size) s.was
+undone_text s text = replace_range text s.at s.to s.was
 
 -- how it is undone that a part of a text gives way to so many bytes
 abbrev pub step_for : ℕ → ℕ → ℕ → CursorText → StepData
-step_for from to size t = step_of from size (slice_range (draft_text t) from to) (length t.before)
+step_for from to size t = step_of from (from + size) (slice_range (draft_text t) from to) (length t.before)
 
 -- a step can be made: no character is cut, and the cursor stands at a place of the text
 pub record IsStepOf (s : StepData) (text : List ℕ) : Type 0 where
+  pub was : IsUtf8 s.was
+  pub order : s.at ≤ s.to
   pub start : IsCharBoundary text s.at
-  pub end : IsCharBoundary text (s.at + s.size)
+  pub end : IsCharBoundary text s.to
   pub cursor : IsCharBoundary (undone_text s text) s.cursor
 
 -- these steps can be made one after the other
@@ -64,7 +66,7 @@ stepped_text (s ∷ steps) t = cursor_text_at (undone_text s (draft_text t)) s.c
 -- how that is undone, before these
 abbrev pub stepped_onto : List StepData → CursorText → List StepData → List StepData
 stepped_onto [] t onto = onto
-stepped_onto (s ∷ steps) t onto = step_for s.at (s.at + s.size) (length s.was) t ∷ onto
+stepped_onto (s ∷ steps) t onto = step_for s.at s.to (length s.was) t ∷ onto
 
 -- the last change is undone, if there is one
 abbrev pub undone : JournalData → JournalData

@@ -3,6 +3,7 @@
 
 mod draft;
 mod extent;
+mod journal;
 mod lines;
 mod steps;
 mod typed;

@@ -7,12 +7,12 @@ ghost use Rattle.text_area.specs.Journals.{StepData, step_of};
 use std::alloc::{AllocError, Global};
 use std::marker::Model;
 
-// How a change is undone: so many bytes from a byte on give way to what stood there, and the
-// cursor goes to where it was.
+// How a change is undone: the part between two bytes gives way to what stood there, and the cursor
+// goes to where it was.
 #[derive(Drop)]
 pub(crate) struct Step {
     at: usize,
-    size: usize,
+    to: usize,
     was: String,
     cursor: usize,
 }
@@ -23,16 +23,16 @@ impl Model for Step {
 
     ghost Value = { StepData };
 
-    ghost view = { λ step. step_of step.at step.size (string_bytes step.was) step.cursor };
+    ghost view = { λ step. step_of step.at step.to (string_bytes step.was) step.cursor };
 }
 
 impl Step {
-    pub(crate) fn new(at: usize, size: usize, was: String, cursor: usize) -> Step
-        ensures { result ≡ step_of at size (string_bytes was) cursor }
+    pub(crate) fn new(at: usize, to: usize, was: String, cursor: usize) -> Step
+        ensures { result ≡ step_of at to (string_bytes was) cursor }
     {
         Step {
             at,
-            size,
+            to,
             was,
             cursor,
         }
@@ -44,10 +44,10 @@ impl Step {
         self.at
     }
 
-    pub(crate) fn size(&self) -> usize
-        ensures { result ≡ self.now.size }
+    pub(crate) fn to(&self) -> usize
+        ensures { result ≡ self.now.to }
     {
-        self.size
+        self.to
     }
 
     pub(crate) fn was(&self) -> &str
