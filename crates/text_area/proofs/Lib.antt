@@ -4,3 +4,4 @@ pub mod LineLemmas
 pub mod TypedLemmas
 pub mod StepLemmas
 pub mod JournalLemmas
+pub mod AreaLemmas

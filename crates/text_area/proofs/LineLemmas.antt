@@ -1,8 +1,8 @@
 -- Lines of a text, and columns in them.
-use Rattle.std.proofs.Common.{ℕ, zero, suc, get_or, add-one, ◌≡◌, ◌+◌, ◌-◌, ◌<◌, ◌≤◌, Bool, true, false, not, cond, List, [], ◌∷◌, ◌++◌}
+use Rattle.std.proofs.Common.{ℕ, zero, suc, get_or, add-one, ◌≡◌, ◌≢◌, ◌+◌, ◌-◌, ◌<◌, ◌≤◌, Bool, true, false, not, cond, List, [], ◌∷◌, ◌++◌}
 use Rattle.std.proofs.Common.{length, take, drop, reverse, min, refl, sym, ap, subst, ◌∙◌, arith, length-append, if◌then◌else◌}
 use Rattle.std.proofs.lemmas.{List.take-take, List.take_all, List.drop-drop, List.take-append-drop, List.reverse-append, List.length-take-le, List.drop_all}
-use Rattle.std.proofs.lemmas.{List.Sums.sum_by-cons, List.Sums.sum_by-append, List.Sums.sum_by-take-drop, List.Sums.sum_by-take-le, List.Sums.count_by_more_yes}
+use Rattle.std.proofs.lemmas.{List.Sums.sum_by-cons, List.Sums.sum_by-append, List.Sums.sum_by-take-drop, List.Sums.sum_by-take-le, List.Sums.count_by_more_yes, List.Sums.count_by_more_no, List.Sums.count_by-le-length, Bool.ne_eqb}
 use Rattle.std.proofs.lemmas.{List.Folds.concat-append, Str.IsCharBoundary-at_seam, Str.IsCharBoundary-after_ascii}
 use Rattle.std.specs.{List.concat, List.count_by, List.prefix_len, Str.IsUtf8, Str.IsCharBoundary}
 use Rattle.unicode_segmentation.specs.Grapheme.{graphemes}
@@ -173,6 +173,23 @@ left-none gs left n m is none le =
 
 pub last-line_at : (text : List ℕ) (start : ℕ) → start + line_left text ≡ length text → drop start text ≡ last_line text
 last-line_at text start is = ap (λ n. drop n text) (omega (arith, is))
+
+-- a count of line feeds
+pub count-feed : (text : List ℕ) (i n : ℕ) → i < length text → get_or text i 0 ≡ 10 → n ≡ feeds (take i text)
+    → n + 1 ≡ feeds (take (i + 1) text)
+count-feed text i n lt byte is = ap (λ m. m + 1) is ∙ sym (feeds-step text i lt byte)
+
+pub count-other : (text : List ℕ) (i n : ℕ) → i < length text → get_or text i 0 ≢ 10 → n ≡ feeds (take i text)
+    → n ≡ feeds (take (i + 1) text)
+count-other text i n lt byte is = is ∙ sym (count_by_more_no is_feed text i 0 lt (ne_eqb _ _ byte))
+
+pub count-all : (text : List ℕ) (i : ℕ) → length text ≤ i → feeds (take i text) ≡ feeds text
+count-all text i le = ap feeds (take_all i text le)
+
+pub count-within : (text : List ℕ) → feeds text ≤ length text
+count-within text = count_by-le-length is_feed text
+
+pub ruleset count_rules = (count-feed, count-other, count-all, count-within)
 
 pub ruleset row_rules = (feeds-left, feeds-next, feeds-last)
 

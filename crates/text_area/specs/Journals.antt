@@ -4,7 +4,7 @@ use Rattle.std.specs.Prelude.{slice_range}
 use Rattle.std.specs.List.{replace_range}
 use Rattle.std.specs.Str.{IsUtf8, IsCharBoundary}
 use Rattle.text_field.specs.History.{CursorText, cursor_text_at}
-use Rattle.text_area.specs.Drafts.{draft_text, replaced}
+use Rattle.text_area.specs.Drafts.{draft_text, cursor_at, replaced}
 
 -- how a change is undone: the part between two bytes gives way to what stood there, and the cursor goes to where it was
 pub record StepData : Type 0 where
@@ -48,6 +48,10 @@ pub record JournalData : Type 0 where
 abbrev pub journal_of : CursorText → List StepData → List StepData → ℕ → JournalData
 journal_of text past future most = record { text = text; past = past; future = future; most = most }
 
+-- the cursor at another byte
+abbrev pub moved_cursor : ℕ → JournalData → JournalData
+moved_cursor at j = record j { text = cursor_at at j.text }
+
 -- nothing gives way to nothing
 abbrev pub is_nothing : ℕ → ℕ → List ℕ → Bool
 is_nothing from to piece = (from == to) && (length piece == 0)
@@ -57,6 +61,10 @@ abbrev pub changed : ℕ → ℕ → List ℕ → JournalData → JournalData
 changed from to piece j =
     if is_nothing from to piece then j else journal_of (replaced from to piece j.text)
     (take j.most (step_for from to (length piece) j.text ∷ j.past)) [] j.most
+
+-- nothing can be undone or done again, and so many steps are kept from now on
+abbrev pub forgetting : ℕ → JournalData → JournalData
+forgetting most j = journal_of j.text [] [] most
 
 -- the text after the first of these steps
 abbrev pub stepped_text : List StepData → CursorText → CursorText

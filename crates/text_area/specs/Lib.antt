@@ -2,5 +2,6 @@ pub mod Extents
 pub mod Drafts
 pub mod Lines
 pub mod Journals
+pub mod Areas
 pub mod Inner
 pub mod Typing

@@ -19,6 +19,10 @@ line_start (suc i) (b ∷ text) = suc (line_start (if is_feed b then i else suc 
 abbrev pub first_line : List ℕ → List ℕ
 first_line text = take (line_right text) text
 
+-- a line of a text
+abbrev pub line_at : ℕ → List ℕ → List ℕ
+line_at i text = first_line (drop (line_start i text) text)
+
 -- the line that it ends with
 abbrev pub last_line : List ℕ → List ℕ
 last_line text = drop (length text - line_left text) text
@@ -33,7 +37,7 @@ column_after before = length (graphemes true (last_line before))
 
 -- the byte after n graphemes of a line, or at its end if there are fewer
 abbrev pub place_in : ℕ → ℕ → List ℕ → ℕ
-place_in i n text = let start = line_start i text in start + columns_len n (first_line (drop start text))
+place_in i n text = let start = line_start i text in start + columns_len n (line_at i text)
 
 -- the same of the line so many above the one that a part of the text ends in, or below
 abbrev pub place_above : ℕ → ℕ → List ℕ → List ℕ → ℕ

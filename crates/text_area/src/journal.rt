@@ -4,10 +4,10 @@ ghost use Rattle.std.specs.Prelude.{◌≡◌, ◌≤◌, ◌<◌, ◌+◌, [], 
 ghost use Rattle.std.specs.Prelude.{OnOk, OnErr, IfOk, IsTrue, ◌↔◌};
 ghost use Rattle.std.specs.Str.{IsCharBoundary};
 ghost use Rattle.text_field.specs.History.{CursorText, cursor_text_at};
-ghost use Rattle.text_area.specs.Drafts.{draft_text, cursor_at, replaced};
+ghost use Rattle.text_area.specs.Drafts.{draft_text, replaced};
 ghost use Rattle.text_area.specs.Journals.{StepData, IsStepOf, Undoes, JournalData, journal_of, step_for};
-ghost use Rattle.text_area.specs.Journals.{changed, stepped_text, stepped_onto, undone};
-ghost use Rattle.text_area.specs.Journals.{redone};
+ghost use Rattle.text_area.specs.Journals.{changed, moved_cursor, forgetting, stepped_text};
+ghost use Rattle.text_area.specs.Journals.{stepped_onto, undone, redone};
 
 use crate::draft::Draft;
 use crate::steps::{Step, Steps};
@@ -160,9 +160,18 @@ impl Journal {
     // Puts the cursor at a byte of the text.
     pub(crate) fn go(&mut self, at: usize)
         requires { IsCharBoundary (draft_text self.old.text) at }
-        ensures { self.new ≡ record self.old { text = cursor_at at self.old.text } }
+        ensures { self.new ≡ moved_cursor at self.old }
     {
         self.draft.go(at);
+    }
+
+    // Forgets how changes are undone, and keeps at most so many steps from now on.
+    pub(crate) fn forget(&mut self, most: usize)
+        ensures { self.new ≡ forgetting most self.old }
+    {
+        self.past.clear();
+        self.future.clear();
+        self.most = most;
     }
 
     // Puts a piece in place of a part of the text, and the cursor after it.

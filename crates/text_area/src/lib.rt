@@ -1,11 +1,15 @@
 //! A text of several lines that a person types, with a cursor in it.
 #![tactic(auto)]
 
+mod area;
 mod draft;
 mod extent;
 mod journal;
 mod lines;
+mod moves;
 mod steps;
 mod typed;
 
+pub use area::TextArea;
 pub use extent::Extent;
+pub use moves::Move;

@@ -2,12 +2,12 @@
 
 ghost use Rattle.std.specs.Prelude.{◌≡◌, ◌+◌, ◌-◌, ◌<◌, ◌≤◌, length, take, drop, min};
 ghost use Rattle.std.specs.Prelude.{slice_index, true};
-ghost use Rattle.std.specs.Prelude.{IfSome, IfNone};
+ghost use Rattle.std.specs.Prelude.{IfSome, IfNone, is_some};
 ghost use Rattle.std.specs.List.{concat};
 ghost use Rattle.std.specs.Str.{IsCharBoundary};
 ghost use Rattle.unicode_segmentation.specs.Grapheme.{graphemes};
 ghost use Rattle.text_area.specs.Lines.{feeds, line_start, columns_len, column_after, place_above};
-ghost use Rattle.text_area.specs.Lines.{place_below, first_line};
+ghost use Rattle.text_area.specs.Lines.{place_below, first_line, line_at};
 ghost use Rattle.text_area.specs.Inner.{BeginsLine};
 
 use crate::extent::{line_begin, line_end};
@@ -147,4 +147,52 @@ pub(crate) fn place_below(text: &str, at: usize, lines: usize, columns: usize) -
 {
     let start = start_below(text, start_of_line(text, at), lines);
     place_in_line(text, start, columns)
+}
+
+// How many line feeds a text has.
+#[tactic(auto, using(crate::proofs::LineLemmas::count_rules))]
+pub(crate) fn feeds(text: &str) -> usize
+    ensures value { result ≡ feeds text.now }
+    ensures within { result ≤ length text.now }
+{
+    let bytes = text.as_bytes();
+    let mut count = 0;
+    for byte in bytes {
+        if *byte == b'\n' {
+            count += 1;
+        }
+    }
+    count
+}
+
+// Where a line begins, if there is one of that number.
+#[tactic(auto, using(crate::proofs::LineLemmas::step_rules))]
+fn line_start(text: &str, line: usize) -> Option<usize>
+    ensures some { IfSome result (λ start. start ≡ line_start line text.now) }
+    ensures boundary { IfSome result (λ start. IsCharBoundary text.now start) }
+    ensures within { is_some result ≡ true → line ≤ feeds text.now }
+    ensures none { IfNone result (feeds text.now < line) }
+{
+    let mut top = 0;
+    let mut left = line;
+    'walk: while left > 0 {
+        let Some(next) = next_line(text, top) else {
+            return None;
+        };
+        top = next;
+        left -= 1;
+    }
+    Some(top)
+}
+
+// A line, if there is one of that number.
+pub(crate) fn line(text: &str, line: usize) -> Option<&str>
+    ensures some { IfSome result (λ found. found.now ≡ line_at line text.now) }
+    ensures within { is_some result ≡ true → line ≤ feeds text.now }
+    ensures none { IfNone result (feeds text.now < line) }
+{
+    match line_start(text, line) {
+        None => None,
+        Some(start) => Some(&text[start..line_end(text, start)]),
+    }
 }

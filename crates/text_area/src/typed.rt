@@ -78,3 +78,13 @@ pub(crate) fn written_part(alloc: Global, text: &str) -> Result<String, AllocErr
     let whole = with_feeds(alloc, text)?;
     whole.as_str().chars().filter(|c| is_written(*c)).collect(alloc)
 }
+
+// A text with a line feed for each line break: the same one if it has them.
+pub(crate) fn loaded(alloc: Global, text: String) -> Result<String, AllocError>
+    ensures { IfOk result (λ whole. string_bytes whole ≡ loaded_text (string_bytes text)) }
+{
+    if is_loaded_whole(text.as_str()) {
+        return Ok(text);
+    }
+    with_feeds(alloc, text.as_str())
+}

@@ -1,0 +1,247 @@
+//! A text area: a text of lines, a cursor in it, and what is done to both.
+
+ghost use Rattle.std.specs.Prelude.{◌≡◌, ◌≤◌, ◌<◌, ◌+◌, ◌↔◌, [], length, slice_range, string_bytes};
+ghost use Rattle.std.specs.Prelude.{encode_utf8, IsTrue, IfOk, OnOk, OnErr, IfSome, IfNone, None};
+ghost use Rattle.std.specs.Prelude.{is_some, true, is_none, not, ◌==◌};
+ghost use Rattle.std.specs.Str.{IsCharBoundary};
+ghost use Rattle.text_field.specs.Field.{kept_of};
+ghost use Rattle.text_field.specs.History.{CursorText};
+ghost use Rattle.text_area.specs.Lines.{feeds, line_at, column_after, place_above, place_below};
+ghost use Rattle.text_area.specs.Drafts.{draft_text};
+ghost use Rattle.text_area.specs.Journals.{JournalData};
+ghost use Rattle.text_area.specs.Areas.{AreaData, area_of, area_text, area_before, area_after};
+ghost use Rattle.text_area.specs.Areas.{area_cursor, new_area, loaded_area, aim_of, target, aim_after};
+ghost use Rattle.text_area.specs.Areas.{gone, selection, selected, reached, put_over, typing_over};
+ghost use Rattle.text_area.specs.Areas.{yanking, deleting, holding, killing, selecting, selecting_all};
+ghost use Rattle.text_area.specs.Areas.{unselected, undoing, redoing, keeping_steps, ends};
+
+use crate::extent::{left_of, right_of};
+use crate::journal::Journal;
+use crate::lines::{column_after, feeds, line, place_above, place_below};
+use crate::moves::Move;
+use crate::typed::{is_written_whole, loaded, written_part};
+use std::alloc::{AllocError, Global};
+use std::marker::Model;
+
+// Two places in their order.
+fn ends(a: usize, b: usize) -> (usize, usize)
+    ensures { result ≡ ends a b }
+{
+    (a.min(b), a.max(b))
+}
+
+/// A `TextArea` is a text of several lines with a cursor in it.
+///
+/// The cursor stands between two parts of the text, and each part is read as graphemes by itself:
+/// so no edit leaves the cursor inside a grapheme of a part. Moves take no memory. Each change can
+/// be undone, and done again.
+///
+/// ```
+/// let mut area = TextArea::new(alloc);
+/// area.insert_str("one two\nthree")?;
+/// area.go(Move::Up);
+/// area.before(); // "one t"
+/// area.kill(Move::Right(Extent::Line))?;
+/// area.text(); // "one t\nthree"
+/// area.undo()?;
+/// area.text(); // "one two\nthree"
+/// ```
+#[derive(Drop)]
+pub struct TextArea {
+    journal: Journal,
+    anchor: Option<usize>,
+    aim: Option<usize>,
+    killed: String,
+    page: usize,
+}
+
+impl Model for TextArea {
+    ghost use Rattle.std.specs.Prelude.{string_bytes, IfSome};
+    ghost use Rattle.std.specs.Str.{IsCharBoundary};
+    ghost use Rattle.text_area.specs.Drafts.{draft_text};
+    ghost use Rattle.text_area.specs.Areas.{AreaData, area_of};
+
+    ghost Value = { AreaData };
+
+    ghost view = { λ a. area_of a.journal a.anchor a.aim (string_bytes a.killed) a.page };
+
+    ghost invariant = { λ a.
+        IfSome a.anchor (λ at. IsCharBoundary (draft_text a.journal.text) at) };
+}
+
+#[tactic(auto, using(crate::proofs::AreaLemmas::area_rules))]
+impl TextArea {
+    /// Makes an area without a text. It takes no memory. At most 1000 changes can be undone, and a
+    /// page has one line.
+    pub fn new(alloc: Global) -> TextArea
+        ensures { result ≡ new_area }
+    {
+        TextArea {
+            journal: Journal::new(alloc, String::new(alloc), 1000),
+            anchor: None,
+            aim: None,
+            killed: String::new(alloc),
+            page: 1,
+        }
+    }
+
+    /// Makes an area of a text, with the cursor at its start. Each carriage return becomes a line
+    /// feed, together with the line feed right after it; a text without one is taken as it is, and
+    /// not copied. All other characters stay.
+    ///
+    /// # Errors
+    ///
+    /// `AllocError` if memory is refused.
+    pub fn from_text(alloc: Global, text: String) -> Result<TextArea, AllocError>
+        ensures { IfOk result (λ area. area ≡ loaded_area (string_bytes text)) }
+    {
+        let whole = loaded(alloc, text)?;
+        Ok(TextArea {
+            journal: Journal::new(alloc, whole, 1000),
+            anchor: None,
+            aim: None,
+            killed: String::new(alloc),
+            page: 1,
+        })
+    }
+
+    /// Answers the whole text, with a line feed between each two lines.
+    pub fn text(&self) -> &str
+        ensures { result.now ≡ area_text self.now }
+    {
+        self.journal.draft().text()
+    }
+
+    /// Answers the text before the cursor.
+    pub fn before(&self) -> &str
+        ensures { result.now ≡ area_before self.now }
+    {
+        self.journal.draft().before()
+    }
+
+    /// Answers the text after the cursor.
+    pub fn after(&self) -> &str
+        ensures { result.now ≡ area_after self.now }
+    {
+        self.journal.draft().after()
+    }
+
+    /// Answers what was killed last: what `yank` types. At first it is empty.
+    pub fn killed(&self) -> &str
+        ensures { result.now ≡ self.now.killed }
+    {
+        self.killed.as_str()
+    }
+
+    /// Answers whether there is no text.
+    pub fn is_empty(&self) -> bool
+        ensures { IsTrue result ↔ (area_text self.now ≡ []) }
+    {
+        self.text().is_empty()
+    }
+
+    /// Answers how many lines there are: one more than line feeds. It reads the whole text.
+    pub fn line_count(&self) -> usize
+        ensures { result ≡ feeds (area_text self.now) + 1 }
+    {
+        feeds(self.text()) + 1
+    }
+
+    /// Answers a line without its line feed, or `None` if no line has this number. The first one
+    /// has the number 0. It reads the text up to there.
+    pub fn line(&self, number: usize) -> Option<&str>
+        ensures some { IfSome result (λ line. line.now ≡ line_at number (area_text self.now)) }
+        ensures within { is_some result ≡ true → number ≤ feeds (area_text self.now) }
+        ensures none { IfNone result (feeds (area_text self.now) < number) }
+    {
+        line(self.text(), number)
+    }
+
+    /// Answers the number of the line in which the cursor stands, and how many graphemes stand
+    /// before it there. It reads the text before the cursor.
+    pub fn cursor(&self) -> (usize, usize)
+        ensures line { result.0 ≡ feeds (area_before self.now) }
+        ensures column { result.1 ≡ column_after (area_before self.now) }
+    {
+        let before = self.before();
+        (feeds(before), column_after(before))
+    }
+
+    /// Answers the byte of the text at which the cursor stands.
+    pub fn cursor_byte(&self) -> usize
+        ensures value { result ≡ area_cursor self.now }
+        ensures boundary { IsCharBoundary (area_text self.now) result }
+    {
+        self.journal.draft().at()
+    }
+
+    // The column that the cursor aims at.
+    fn aimed(&self) -> usize
+        ensures { result ≡ aim_of self.now }
+    {
+        match self.aim {
+            Some(aim) => aim,
+            None => column_after(self.before()),
+        }
+    }
+
+    // The place so many lines above the cursor.
+    fn above(&self, lines: usize) -> usize
+        ensures value { result
+            ≡ place_above lines (aim_of self.now) (area_before self.now) (area_text self.now) }
+        ensures boundary { IsCharBoundary (area_text self.now) result }
+    {
+        place_above(self.text(), self.cursor_byte(), lines, self.aimed())
+    }
+
+    // The place so many lines below the cursor.
+    fn below(&self, lines: usize) -> usize
+        ensures value { result
+            ≡ place_below lines (aim_of self.now) (area_before self.now) (area_text self.now) }
+        ensures boundary { IsCharBoundary (area_text self.now) result }
+    {
+        place_below(self.text(), self.cursor_byte(), lines, self.aimed())
+    }
+
+    // Where a move leads to.
+    fn target(&self, to: Move) -> usize
+        ensures value { result ≡ target to self.now }
+        ensures boundary { IsCharBoundary (area_text self.now) result }
+    {
+        match to {
+            Move::Left(extent) => left_of(self.text(), self.cursor_byte(), extent),
+            Move::Right(extent) => right_of(self.text(), self.cursor_byte(), extent),
+            Move::Up => self.above(1),
+            Move::Down => self.below(1),
+            Move::PageUp => self.above(self.page),
+            Move::PageDown => self.below(self.page),
+        }
+    }
+
+    // The column that the cursor aims at after a move.
+    fn aim_after(&self, to: Move) -> Option<usize>
+        ensures { result ≡ aim_after to self.now }
+    {
+        match to {
+            Move::Left(_) | Move::Right(_) => None,
+            _ => Some(self.aimed()),
+        }
+    }
+
+    /// Moves the cursor. What is selected goes on from where the selection began.
+    pub fn go(&mut self, to: Move)
+        ensures { self.new ≡ gone to self.old }
+    {
+        let aim = self.aim_after(to);
+        let at = self.target(to);
+        self.journal.go(at);
+        self.aim = aim;
+    }
+
+    /// Says how many lines a page has.
+    pub fn set_page(&mut self, lines: usize)
+        ensures { self.new ≡ record self.old { page = lines } }
+    {
+        self.page = lines;
+    }
+}
