@@ -23,11 +23,20 @@ use crate::typed::{is_written_whole, loaded, written_part};
 use std::alloc::{AllocError, Global};
 use std::marker::Model;
 
-// Two places in their order.
-fn ends(a: usize, b: usize) -> (usize, usize)
-    ensures { result ≡ ends a b }
+// Two places of a text in their order.
+fn ends(_text: &str, a: usize, b: usize) -> (usize, usize)
+    requires a { IsCharBoundary _text.now a }
+    requires b { IsCharBoundary _text.now b }
+    ensures value { result ≡ ends a b }
+    ensures order { result.0 ≤ result.1 }
+    ensures start { IsCharBoundary _text.now result.0 }
+    ensures end { IsCharBoundary _text.now result.1 }
 {
-    (a.min(b), a.max(b))
+    if a <= b {
+        (a, b)
+    } else {
+        (b, a)
+    }
 }
 
 /// A `TextArea` is a text of several lines with a cursor in it.
@@ -243,5 +252,275 @@ impl TextArea {
         ensures { self.new ≡ record self.old { page = lines } }
     {
         self.page = lines;
+    }
+
+    /// Keeps at most so many changes from now on that can be undone; those that were kept are
+    /// forgotten.
+    pub fn set_steps(&mut self, most: usize)
+        ensures { self.new ≡ keeping_steps most self.old }
+    {
+        self.journal.forget(most);
+    }
+
+    // Between which places is selected.
+    fn selection(&self) -> (usize, usize)
+        ensures value { result ≡ selection self.now }
+        ensures order { result.0 ≤ result.1 }
+        ensures start { IsCharBoundary (area_text self.now) result.0 }
+        ensures end { IsCharBoundary (area_text self.now) result.1 }
+    {
+        let at = self.cursor_byte();
+        ends(self.text(), self.anchor.unwrap_or(at), at)
+    }
+
+    // What a deletion by a move is about.
+    fn reached(&self, to: Move) -> (usize, usize)
+        ensures value { result ≡ reached to self.now }
+        ensures order { result.0 ≤ result.1 }
+        ensures start { IsCharBoundary (area_text self.now) result.0 }
+        ensures end { IsCharBoundary (area_text self.now) result.1 }
+    {
+        let part = self.selection();
+        if part.0 != part.1 {
+            return part;
+        }
+        ends(self.text(), self.cursor_byte(), self.target(to))
+    }
+
+    /// Answers what is selected: nothing if there is no selection.
+    pub fn selected(&self) -> &str
+        ensures { result.now ≡ selected self.now }
+    {
+        let part = self.selection();
+        &self.text()[part.0..part.1]
+    }
+
+    /// Begins a selection at the cursor, unless there is one. It goes to where the cursor goes.
+    pub fn select(&mut self)
+        ensures { self.new ≡ selecting self.old }
+    {
+        let at = self.cursor_byte();
+        self.anchor = Some(self.anchor.unwrap_or(at));
+    }
+
+    /// Selects all, with the cursor at the end.
+    pub fn select_all(&mut self)
+        ensures { self.new ≡ selecting_all self.old }
+    {
+        let end = self.text().len();
+        self.journal.go(end);
+        self.anchor = Some(0);
+        self.aim = None;
+    }
+
+    /// Ends the selection; the cursor stays.
+    pub fn unselect(&mut self)
+        ensures { self.new ≡ unselected self.old }
+    {
+        self.anchor = None;
+    }
+
+    // Puts a piece in place of a part of the text.
+    fn change(&mut self, part: (usize, usize), piece: &str) -> Result<(), AllocError>
+        requires order { part.0 ≤ part.1 }
+        requires start { IsCharBoundary (area_text self.old) part.0 }
+        requires end { IsCharBoundary (area_text self.old) part.1 }
+        ensures ok { OnOk result (self.new ≡ put_over part piece.now self.old) }
+        ensures err { OnErr result (self.new ≡ self.old) }
+    {
+        self.journal.change(part.0, part.1, piece)?;
+        self.anchor = None;
+        self.aim = None;
+        Ok(())
+    }
+
+    fn allocator(&self) -> Global {
+        self.journal.draft().allocator()
+    }
+
+    /// Types a text before the cursor, or pastes it, in place of what is selected: its characters,
+    /// with a line feed for each line break, but no control characters other than tabs. What stands
+    /// after the cursor is moved once.
+    ///
+    /// # Errors
+    ///
+    /// `AllocError` if memory is refused. Then the area is as it was, so a paste is typed whole or
+    /// not at all.
+    pub fn insert_str(&mut self, text: &str) -> Result<(), AllocError>
+        ensures ok { OnOk result (self.new ≡ typing_over text.now self.old) }
+        ensures err { OnErr result (self.new ≡ self.old) }
+    {
+        let part = self.selection();
+        if is_written_whole(text) {
+            return self.change(part, text);
+        }
+        let piece = written_part(self.allocator(), text)?;
+        self.change(part, piece.as_str())
+    }
+
+    /// Types a character before the cursor, in place of what is selected: a line feed begins a new
+    /// line, and so does a carriage return; no other control character is typed but a tab.
+    ///
+    /// # Errors
+    ///
+    /// `AllocError` if memory is refused. Then the area is as it was.
+    pub fn insert(&mut self, character: char) -> Result<(), AllocError>
+        ensures ok { OnOk result (self.new ≡ typing_over (encode_utf8 character) self.old) }
+        ensures err { OnErr result (self.new ≡ self.old) }
+    {
+        let mut bytes = [0; 4];
+        self.insert_str(character.encode_utf8(&mut bytes))
+    }
+
+    /// Types what was killed last before the cursor, in place of what is selected.
+    ///
+    /// # Errors
+    ///
+    /// `AllocError` if memory is refused. Then the area is as it was.
+    pub fn yank(&mut self) -> Result<(), AllocError>
+        ensures ok { OnOk result (self.new ≡ yanking self.old) }
+        ensures err { OnErr result (self.new ≡ self.old) }
+    {
+        let part = self.selection();
+        let piece = String::from_str(self.allocator(), self.killed.as_str())?;
+        self.change(part, piece.as_str())
+    }
+
+    /// Deletes what is selected, or what stands between the cursor and where a move leads.
+    ///
+    /// # Errors
+    ///
+    /// `AllocError` if memory is refused. Then the area is as it was.
+    pub fn delete(&mut self, to: Move) -> Result<(), AllocError>
+        ensures ok { OnOk result (self.new ≡ deleting (reached to self.old) self.old) }
+        ensures err { OnErr result (self.new ≡ self.old) }
+    {
+        let part = self.reached(to);
+        self.change(part, "")
+    }
+
+    // A copy of a part of the text.
+    fn copied(&self, part: (usize, usize)) -> Result<String, AllocError>
+        requires order { part.0 ≤ part.1 }
+        requires start { IsCharBoundary (area_text self.now) part.0 }
+        requires end { IsCharBoundary (area_text self.now) part.1 }
+        ensures { IfOk result (λ copy.
+            string_bytes copy ≡ slice_range (area_text self.now) part.0 part.1) }
+    {
+        String::from_str(self.allocator(), &self.text()[part.0..part.1])
+    }
+
+    // Keeps a part for yanking; nothing is no part.
+    fn hold(&mut self, part: String)
+        ensures { self.new
+            ≡ record self.old { killed = kept_of (string_bytes part) self.old.killed } }
+    {
+        if !part.is_empty() {
+            self.killed = part;
+        }
+    }
+
+    // Deletes a part, and keeps it for yanking.
+    fn kill_part(&mut self, part: (usize, usize)) -> Result<(), AllocError>
+        requires order { part.0 ≤ part.1 }
+        requires start { IsCharBoundary (area_text self.old) part.0 }
+        requires end { IsCharBoundary (area_text self.old) part.1 }
+        ensures ok { OnOk result (self.new ≡ killing part self.old) }
+        ensures err { OnErr result (self.new ≡ self.old) }
+    {
+        let held = self.copied(part)?;
+        self.change(part, "")?;
+        self.hold(held);
+        Ok(())
+    }
+
+    /// Deletes what is selected, or what stands between the cursor and where a move leads, and
+    /// keeps it for `yank` if it is anything.
+    ///
+    /// # Errors
+    ///
+    /// `AllocError` if memory is refused. Then the area is as it was.
+    pub fn kill(&mut self, to: Move) -> Result<(), AllocError>
+        ensures ok { OnOk result (self.new ≡ killing (reached to self.old) self.old) }
+        ensures err { OnErr result (self.new ≡ self.old) }
+    {
+        let part = self.reached(to);
+        self.kill_part(part)
+    }
+
+    /// Deletes what is selected, and keeps it for `yank` if it is anything.
+    ///
+    /// # Errors
+    ///
+    /// `AllocError` if memory is refused. Then the area is as it was.
+    pub fn cut(&mut self) -> Result<(), AllocError>
+        ensures ok { OnOk result (self.new ≡ killing (selection self.old) self.old) }
+        ensures err { OnErr result (self.new ≡ self.old) }
+    {
+        let part = self.selection();
+        self.kill_part(part)
+    }
+
+    /// Keeps what is selected for `yank` if it is anything. It stays selected.
+    ///
+    /// # Errors
+    ///
+    /// `AllocError` if memory is refused. Then the area is as it was.
+    pub fn copy(&mut self) -> Result<(), AllocError>
+        ensures ok { OnOk result (self.new ≡ holding (selection self.old) self.old) }
+        ensures err { OnErr result (self.new ≡ self.old) }
+    {
+        let part = self.selection();
+        let held = self.copied(part)?;
+        self.hold(held);
+        Ok(())
+    }
+
+    /// Answers whether there is anything to undo.
+    pub fn can_undo(&self) -> bool
+        ensures { IsTrue result ↔ (0 < length self.now.journal.past) }
+    {
+        self.journal.can_undo()
+    }
+
+    /// Answers whether there is anything to redo.
+    pub fn can_redo(&self) -> bool
+        ensures { IsTrue result ↔ (0 < length self.now.journal.future) }
+    {
+        self.journal.can_redo()
+    }
+
+    /// Undoes the last change: the text and the cursor are what they were before it, and nothing is
+    /// selected. It answers whether there was one.
+    ///
+    /// # Errors
+    ///
+    /// `AllocError` if memory is refused. Then the area is as it was.
+    pub fn undo(&mut self) -> Result<bool, AllocError>
+        ensures ok { OnOk result (self.new ≡ undoing self.old) }
+        ensures done { IfOk result (λ done. IsTrue done ↔ (0 < length self.old.journal.past)) }
+        ensures err { OnErr result (self.new ≡ self.old) }
+    {
+        let done = self.journal.undo()?;
+        self.anchor = None;
+        self.aim = None;
+        Ok(done)
+    }
+
+    /// Does again what was undone last: the text and the cursor are what they were before that, and
+    /// nothing is selected. It answers whether there was anything. A change leaves nothing to redo.
+    ///
+    /// # Errors
+    ///
+    /// `AllocError` if memory is refused. Then the area is as it was.
+    pub fn redo(&mut self) -> Result<bool, AllocError>
+        ensures ok { OnOk result (self.new ≡ redoing self.old) }
+        ensures done { IfOk result (λ done. IsTrue done ↔ (0 < length self.old.journal.future)) }
+        ensures err { OnErr result (self.new ≡ self.old) }
+    {
+        let done = self.journal.redo()?;
+        self.anchor = None;
+        self.aim = None;
+        Ok(done)
     }
 }
