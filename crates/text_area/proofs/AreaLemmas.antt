@@ -1,11 +1,10 @@
 -- Areas as their texts and cursors.
-use Rattle.std.proofs.Common.{ℕ, ◌≡◌, ◌+◌, ◌-◌, ◌≤◌, List, ◌++◌, length, take, drop, sym, ap, ap₂, ◌∙◌, arith, subst, Option, Some, None, IfSome}
+use Rattle.std.proofs.Common.{ℕ, zero, suc, min, max, ◌≡◌, ◌+◌, ◌-◌, ◌≤◌, List, ◌++◌, length, take, drop, sym, ap, ap₂, ◌∙◌, arith, subst, Option, Some, None, IfSome}
 use Rattle.std.proofs.lemmas.{List.take_at, List.drop_at}
 use Rattle.std.specs.Str.{IsCharBoundary}
 use Rattle.text_field.specs.History.{CursorText}
 use Rattle.text_area.specs.Drafts.{draft_text, cursor_at}
-use Rattle.text_area.specs.Extents.{extent_left, extent_right}
-use Rattle.text_area.specs.declared.extent.Extent.{Extent}
+use Rattle.text_area.specs.Areas.{ends}
 use Rattle.text_area.proofs.DraftLemmas.{text-at}
 
 -- the two parts of a text
@@ -20,4 +19,25 @@ pub anchor-go : (anchor : Option ℕ) (t : CursorText) (at : ℕ) → IfSome anc
     → IfSome anchor (λ b. IsCharBoundary (draft_text (cursor_at at t)) b)
 anchor-go anchor t at can = subst (λ w. IfSome anchor (λ b. IsCharBoundary w b)) (sym (text-at (draft_text t) at)) can
 
-pub ruleset area_rules = (part-before, part-after, anchor-go, text-at)
+-- what holds of two places holds of the first of them, and of the last
+least : (P : ℕ → Type 0) (a b : ℕ) → P a → P b → P (min a b)
+least P zero b pa pb = let same : zero ≡ min zero b = omega arith in subst P same pa
+least P (suc a) zero pa pb = let same : zero ≡ min (suc a) zero = omega arith in subst P same pb
+least P (suc a) (suc b) pa pb =
+    let same : suc (min a b) ≡ min (suc a) (suc b) = omega arith in subst P same (least (λ n. P (suc n)) a b pa pb)
+
+most : (P : ℕ → Type 0) (a b : ℕ) → P a → P b → P (max a b)
+most P zero b pa pb = let same : b ≡ max zero b = omega arith in subst P same pb
+most P (suc a) zero pa pb = let same : suc a ≡ max (suc a) zero = omega arith in subst P same pa
+most P (suc a) (suc b) pa pb =
+    let same : suc (max a b) ≡ max (suc a) (suc b) = omega arith in subst P same (most (λ n. P (suc n)) a b pa pb)
+
+pub boundary-first : (text : List ℕ) (r : ℕ × ℕ) (a b : ℕ) → r ≡ ends a b → IsCharBoundary text a → IsCharBoundary text b
+    → IsCharBoundary text r.0
+boundary-first text r a b is pa pb = subst (λ (p : ℕ × ℕ). IsCharBoundary text p.0) (sym is) (least (IsCharBoundary text) a b pa pb)
+
+pub boundary-last : (text : List ℕ) (r : ℕ × ℕ) (a b : ℕ) → r ≡ ends a b → IsCharBoundary text a → IsCharBoundary text b
+    → IsCharBoundary text r.1
+boundary-last text r a b is pa pb = subst (λ (p : ℕ × ℕ). IsCharBoundary text p.1) (sym is) (most (IsCharBoundary text) a b pa pb)
+
+pub ruleset area_rules = (boundary-first, boundary-last, part-before, part-after, anchor-go, text-at)

@@ -23,20 +23,12 @@ use crate::typed::{is_written_whole, loaded, written_part};
 use std::alloc::{AllocError, Global};
 use std::marker::Model;
 
-// Two places of a text in their order.
-fn ends(_text: &str, a: usize, b: usize) -> (usize, usize)
-    requires a { IsCharBoundary _text.now a }
-    requires b { IsCharBoundary _text.now b }
+// Two places in their order.
+fn ends(a: usize, b: usize) -> (usize, usize)
     ensures value { result ≡ ends a b }
     ensures order { result.0 ≤ result.1 }
-    ensures start { IsCharBoundary _text.now result.0 }
-    ensures end { IsCharBoundary _text.now result.1 }
 {
-    if a <= b {
-        (a, b)
-    } else {
-        (b, a)
-    }
+    (a.min(b), a.max(b))
 }
 
 /// A `TextArea` is a text of several lines with a cursor in it.
@@ -270,7 +262,7 @@ impl TextArea {
         ensures end { IsCharBoundary (area_text self.now) result.1 }
     {
         let at = self.cursor_byte();
-        ends(self.text(), self.anchor.unwrap_or(at), at)
+        ends(self.anchor.unwrap_or(at), at)
     }
 
     // What a deletion by a move is about.
@@ -284,7 +276,7 @@ impl TextArea {
         if part.0 != part.1 {
             return part;
         }
-        ends(self.text(), self.cursor_byte(), self.target(to))
+        ends(self.cursor_byte(), self.target(to))
     }
 
     /// Answers what is selected: nothing if there is no selection.
