@@ -3,5 +3,6 @@ pub mod Drafts
 pub mod Lines
 pub mod Journals
 pub mod Areas
+pub mod AreaKeys
 pub mod Inner
 pub mod Typing

@@ -5,6 +5,7 @@ mod area;
 mod draft;
 mod extent;
 mod journal;
+mod keys;
 mod lines;
 mod moves;
 mod steps;
@@ -12,4 +13,5 @@ mod typed;
 
 pub use area::TextArea;
 pub use extent::Extent;
+pub use keys::{AreaEdit, area_edit_of};
 pub use moves::Move;
