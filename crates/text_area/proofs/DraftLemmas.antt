@@ -5,7 +5,7 @@ use Rattle.std.proofs.lemmas.{List.length-take-le, List.take-append-drop, List.t
 use Rattle.std.proofs.lemmas.{Str.IsCharBoundary-at_seam, Str.IsUtf8-drop, Str.IsUtf8-append, Str.IsUtf8-take}
 use Rattle.std.specs.{Str.IsUtf8, Str.IsCharBoundary, List.replace_range}
 use Rattle.text_field.specs.History.{CursorText, cursor_text_at}
-use Rattle.text_area.specs.Drafts.{draft_text, cursor_at, replaced}
+use Rattle.text_area.specs.Drafts.{draft_text, cursor_at, part_replaced}
 
 -- a draft of its parts
 abbrev pub made : List ℕ → List ℕ → CursorText
@@ -23,7 +23,7 @@ moved-to text at to = ap (λ w. cursor_text_at w to) (sym (text-at text at))
 -- a text of which a part has given way, with its cursor after the piece
 pub replaced-at : (text new piece : List ℕ) (at from to end : ℕ) → from ≤ length text
     → new ≡ replace_range text from to piece → end ≡ from + length piece
-    → cursor_text_at new end ≡ replaced from to piece (cursor_text_at text at)
+    → cursor_text_at new end ≡ part_replaced from to piece (cursor_text_at text at)
 replaced-at text new piece at from to end le is place =
     let size : length (take from text ++ piece) ≡ end =
     omega (arith, length-append (take from text) piece, length-take-le from text le, place) in

@@ -6,7 +6,7 @@ use Rattle.std.proofs.lemmas.{Str.IsCharBoundary-at_seam, Str.IsUtf8-append, Str
 use Rattle.std.specs.{List.replace_range, Str.IsUtf8, Str.IsCharBoundary}
 use Rattle.text_field.specs.History.{CursorText, cursor_text_at}
 use Rattle.text_field.proofs.FieldLemmas.{take-behind}
-use Rattle.text_area.specs.Drafts.{draft_text, cursor_at, replaced}
+use Rattle.text_area.specs.Drafts.{draft_text, cursor_at, part_replaced}
 use Rattle.text_area.specs.Journals.{StepData, IsStepOf, Undoes, undone_text, step_for, stepped_text, stepped_onto}
 use Rattle.text_area.proofs.DraftLemmas.{text-at, boundary-piece}
 

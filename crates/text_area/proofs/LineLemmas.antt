@@ -9,7 +9,7 @@ use Rattle.unicode_segmentation.specs.Grapheme.{graphemes}
 use Rattle.unicode_segmentation.proofs.SegmentsLemmas.{concat-segments}
 use Rattle.text_field.proofs.{FieldLemmas.take-behind, ListLemmas.drop-reverse, ReachLemmas.boundary-behind}
 use Rattle.text_area.specs.Extents.{is_feed, in_run, line_left, line_right}
-use Rattle.text_area.specs.Lines.{feeds, line_start, columns_len, first_line, last_line}
+use Rattle.text_area.specs.Lines.{feeds, nth_start, columns_len, first_line, last_line}
 use Rattle.text_area.specs.Inner.{BeginsLine}
 use Rattle.text_area.specs.declared.extent.Run.TheVariants as run
 
@@ -17,35 +17,35 @@ pub feed-yes : (b : ℕ) → b ≡ 10 → is_feed b ≡ true
 feed-yes b is = ap is_feed is
 
 -- one more line
-start-yes : (b n r : ℕ) (text : List ℕ) → is_feed b ≡ true → line_start n text ≡ r → line_start (suc n) (b ∷ text) ≡ suc r
-start-yes b n r text holds is = ap (λ t. suc (line_start (if t then n else suc n) text)) holds ∙ ap suc is
+start-yes : (b n r : ℕ) (text : List ℕ) → is_feed b ≡ true → nth_start n text ≡ r → nth_start (suc n) (b ∷ text) ≡ suc r
+start-yes b n r text holds is = ap (λ t. suc (nth_start (if t then n else suc n) text)) holds ∙ ap suc is
 
-start-no : (b n r : ℕ) (text : List ℕ) → is_feed b ≡ false → line_start (suc n) text ≡ r → line_start (suc n) (b ∷ text) ≡ suc r
-start-no b n r text fails is = ap (λ t. suc (line_start (if t then n else suc n) text)) fails ∙ ap suc is
+start-no : (b n r : ℕ) (text : List ℕ) → is_feed b ≡ false → nth_start (suc n) text ≡ r → nth_start (suc n) (b ∷ text) ≡ suc r
+start-no b n r text fails is = ap (λ t. suc (nth_start (if t then n else suc n) text)) fails ∙ ap suc is
 
 -- a place after a line feed has one before it
 pub feeds-step : (text : List ℕ) (s : ℕ) → s < length text → get_or text s 0 ≡ 10
     → feeds (take (s + 1) text) ≡ feeds (take s text) + 1
 feeds-step text s lt is = count_by_more_yes is_feed text s 0 lt (feed-yes _ is)
 
-start-cases : (t : Bool) (b n r : ℕ) (text : List ℕ) → is_feed b ≡ t → line_start n text ≡ r → (t ≡ false → 0 < n)
-    → line_start (cond t 1 0 + n) (b ∷ text) ≡ suc r
+start-cases : (t : Bool) (b n r : ℕ) (text : List ℕ) → is_feed b ≡ t → nth_start n text ≡ r → (t ≡ false → 0 < n)
+    → nth_start (cond t 1 0 + n) (b ∷ text) ≡ suc r
 start-cases true b n r text holds is some =
-    let one : 1 + n ≡ suc n = omega arith in ap (λ m. line_start m (b ∷ text)) one ∙ start-yes b n r text holds is
+    let one : 1 + n ≡ suc n = omega arith in ap (λ m. nth_start m (b ∷ text)) one ∙ start-yes b n r text holds is
 start-cases false b zero r text fails is some = absurd (omega (arith, some refl))
 start-cases false b (suc n) r text fails is some =
-    let none : 0 + suc n ≡ suc n = omega arith in ap (λ m. line_start m (b ∷ text)) none ∙ start-no b n r text fails is
+    let none : 0 + suc n ≡ suc n = omega arith in ap (λ m. nth_start m (b ∷ text)) none ∙ start-no b n r text fails is
 
 -- the line of a place at which one begins
 pub start-feeds : (text : List ℕ) (s : ℕ) → s ≤ length text → (0 < s → get_or text (s - 1) 0 ≡ 10)
-    → line_start (feeds (take s text)) text ≡ s
+    → nth_start (feeds (take s text)) text ≡ s
 start-feeds [] zero le feed = refl
 start-feeds [] (suc s) le feed = absurd (omega (arith, le))
 start-feeds (b ∷ text) zero le feed = refl
 start-feeds (b ∷ text) (suc zero) le feed =
     let same : suc zero - 1 ≡ 0 = omega arith in
     let byte : b ≡ 10 = subst (λ i. get_or (b ∷ text) i 0 ≡ 10) same (feed (omega arith)) in
-    ap (λ m. line_start m (b ∷ text)) (sum_by-cons (λ x. cond (is_feed x) 1 0) b [])
+    ap (λ m. nth_start m (b ∷ text)) (sum_by-cons (λ x. cond (is_feed x) 1 0) b [])
     ∙ start-cases (is_feed b) b 0 0 text refl refl (λ fails. cc (feed-yes b byte))
 start-feeds (b ∷ text) (suc (suc q)) le feed =
     let same : suc (suc q) - 1 ≡ suc q = omega arith in
@@ -54,7 +54,7 @@ start-feeds (b ∷ text) (suc (suc q)) le feed =
     let before : get_or text (suc q - 1) 0 ≡ 10 = ap (λ i. get_or text i 0) here ∙ byte in
     let more : feeds (take (suc q) text) ≡ feeds (take q text) + 1 =
     ap (λ i. feeds (take i text)) (sym (add-one q)) ∙ feeds-step text q (omega (arith, le)) byte in
-    ap (λ m. line_start m (b ∷ text)) (sum_by-cons (λ x. cond (is_feed x) 1 0) b (take (suc q) text))
+    ap (λ m. nth_start m (b ∷ text)) (sum_by-cons (λ x. cond (is_feed x) 1 0) b (take (suc q) text))
     ∙ start-cases (is_feed b) b (feeds (take (suc q) text)) (suc q) text refl
     (start-feeds text (suc q) (omega (arith, le)) (λ _. before)) (λ fails. omega (arith, more))
 
@@ -124,9 +124,9 @@ feeds-above text top begins some =
     let same : top ≡ top - 1 + 1 = omega (arith, some) in
     ap (λ m. feeds (take m text)) same ∙ feeds-step text (top - 1) (omega (arith, begins.boundary.0, some)) (begins.feed some)
 
-pub start-of : (text : List ℕ) (top n : ℕ) → BeginsLine text top → feeds (take top text) ≡ n → top ≡ line_start n text
+pub start-of : (text : List ℕ) (top n : ℕ) → BeginsLine text top → feeds (take top text) ≡ n → top ≡ nth_start n text
 start-of text top n begins is =
-    sym (start-feeds text top begins.boundary.0 begins.feed) ∙ ap (λ m. line_start m text) is
+    sym (start-feeds text top begins.boundary.0 begins.feed) ∙ ap (λ m. nth_start m text) is
 
 pub feeds-at_start : (text : List ℕ) (top : ℕ) → top ≤ 0 → feeds (take top text) ≡ 0
 feeds-at_start text zero le = refl

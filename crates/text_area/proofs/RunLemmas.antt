@@ -33,7 +33,7 @@ word-left text at gap start le first second =
     let part : take (length (take at text) - suffix_len (in_run run.Gap) (take at text)) (take at text) ≡ take gap text =
     ap (λ m. take m (take at text)) size ∙ take-take gap at text (omega (arith, first)) in
     let word : suffix_len (in_run run.Word) (take (length (take at text) - suffix_len (in_run run.Gap) (take at text)) (take at text))
-        ≡ suffix_len (in_run run.Word) (take gap text) =
+    ≡ suffix_len (in_run run.Word) (take gap text) =
     ap (suffix_len (in_run run.Word)) part in
     omega (arith, first, second, word)
 
@@ -45,7 +45,7 @@ word-right text at gap end first second =
     let part : drop gap text ≡ drop (prefix_len (in_run run.Gap) (drop at text)) (drop at text) =
     ap (λ m. drop m text) first ∙ sym (drop-drop (prefix_len (in_run run.Gap) (drop at text)) at text) in
     let word : prefix_len (in_run run.Word) (drop gap text)
-        ≡ prefix_len (in_run run.Word) (drop (prefix_len (in_run run.Gap) (drop at text)) (drop at text)) =
+    ≡ prefix_len (in_run run.Word) (drop (prefix_len (in_run run.Gap) (drop at text)) (drop at text)) =
     ap (prefix_len (in_run run.Word)) part in
     omega (arith, first, second, word)
 

@@ -4,7 +4,7 @@ use Rattle.std.proofs.Common.{chars, encode_utf8_all, get_or, refl, sym, ap, sub
 use Rattle.std.proofs.lemmas.{List.drop_more, List.drop_all, List.append-nil, Str.encodes-chars, Str.encodes-append, Bool.and_parts}
 use Rattle.std.specs.{List.list_all, Str.IsUtf8}
 use Rattle.text_field.proofs.TypedLemmas.{filter-passing}
-use Rattle.text_area.specs.Typing.{unified_char, unified, loaded_text, is_written, written_text}
+use Rattle.text_area.specs.Typing.{unified_char, unified, loaded_text, may_be_typed, written_text}
 
 -- no carriage return, nothing that changes
 same-cases : (t : Bool) (c : ℕ) (cs : List ℕ) → (c == 13) ≡ t → t ≡ false → unified false cs ≡ cs
@@ -27,21 +27,21 @@ pub loaded-same : (text : List ℕ) → IsUtf8 text → list_all (λ c. not (c =
 loaded-same text utf8 all = ap encode_utf8_all (unified-same (chars text) all) ∙ encodes-chars text utf8
 
 -- a carriage return isn't typed
-return-cases : (t : Bool) (c : ℕ) → (c == 13) ≡ t → is_written c ≡ true → not t ≡ true
+return-cases : (t : Bool) (c : ℕ) → (c == 13) ≡ t → may_be_typed c ≡ true → not t ≡ true
 return-cases true c is written = grind arith
 return-cases false c is written = refl
 
-all-no_return : (cs : List ℕ) → list_all is_written cs ≡ true → list_all (λ c. not (c == 13)) cs ≡ true
+all-no_return : (cs : List ℕ) → list_all may_be_typed cs ≡ true → list_all (λ c. not (c == 13)) cs ≡ true
 all-no_return [] all = refl
 all-no_return (c ∷ cs) all =
-    let both = and_parts (is_written c) (list_all is_written cs) all in
+    let both = and_parts (may_be_typed c) (list_all may_be_typed cs) all in
     ap (λ t. t && list_all (λ d. not (d == 13)) cs) (return-cases (c == 13) c refl both.0) ∙ all-no_return cs both.1
 
-pub written-same : (text : List ℕ) → IsUtf8 text → list_all is_written (chars text) ≡ true → written_text text ≡ text
+pub written-same : (text : List ℕ) → IsUtf8 text → list_all may_be_typed (chars text) ≡ true → written_text text ≡ text
 written-same text utf8 all =
     let loaded : loaded_text text ≡ text = loaded-same text utf8 (all-no_return (chars text) all) in
-    ap (λ w. encode_utf8_all (filter is_written (chars w))) loaded
-    ∙ ap encode_utf8_all (filter-passing is_written (chars text) all) ∙ encodes-chars text utf8
+    ap (λ w. encode_utf8_all (filter may_be_typed (chars w))) loaded
+    ∙ ap encode_utf8_all (filter-passing may_be_typed (chars text) all) ∙ encodes-chars text utf8
 
 -- one more character
 pub unified-step : (cs out new : List ℕ) (k c : ℕ) (after : Bool) → k < length cs → c ≡ get_or cs k c

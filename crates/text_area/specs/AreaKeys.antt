@@ -17,8 +17,8 @@ use Rattle.text_area.specs.declared.moves.Move.{Move}
 use Rattle.text_area.specs.declared.moves.Move.TheVariants.{Left, Right, Up, Down, PageUp, PageDown}
 use Rattle.text_area.specs.declared.keys.AreaEdit.{AreaEdit}
 use Rattle.text_area.specs.declared.keys.AreaEdit.TheVariants.{Insert, Yank, Go, Select, Delete, Kill, Cut, Copy, Undo, Redo}
-use Rattle.text_area.specs.Areas.{AreaData, typing_over, yanking, gone, unselected, selecting, deleting, reached, killing}
-use Rattle.text_area.specs.Areas.{selection, holding, undoing, redoing}
+use Rattle.text_area.specs.Areas.{AreaData, typing_over, yanking, gone, unselected, selection_begun, deleting, reached, killing}
+use Rattle.text_area.specs.Areas.{selection, keeping_part, undoing, redoing}
 
 -- what a letter does beside Control
 abbrev pub area_control_keys : List (ℕ × AreaEdit)
@@ -133,11 +133,11 @@ abbrev pub area_edited : AreaEdit → AreaData → AreaData
 area_edited (Insert c) a = typing_over (encode_utf8 c) a
 area_edited Yank a = yanking a
 area_edited (Go to) a = gone to (unselected a)
-area_edited (Select to) a = gone to (selecting a)
+area_edited (Select to) a = gone to (selection_begun a)
 area_edited (Delete to) a = deleting (reached to a) a
 area_edited (Kill to) a = killing (reached to a) a
 area_edited Cut a = killing (selection a) a
-area_edited Copy a = holding (selection a) a
+area_edited Copy a = keeping_part (selection a) a
 area_edited Undo a = undoing a
 area_edited Redo a = redoing a
 

@@ -106,17 +106,17 @@ abbrev pub deleting : ℕ × ℕ → AreaData → AreaData
 deleting part a = put_over part [] a
 
 -- a part is kept for yanking; nothing is no part
-abbrev pub holding : ℕ × ℕ → AreaData → AreaData
-holding part a =
+abbrev pub keeping_part : ℕ × ℕ → AreaData → AreaData
+keeping_part part a =
     area_of a.journal a.anchor a.aim (kept_of (slice_range (area_text a) part.0 part.1) a.killed) a.page
 
 -- it is deleted, and kept
 abbrev pub killing : ℕ × ℕ → AreaData → AreaData
-killing part a = deleting part (holding part a)
+killing part a = deleting part (keeping_part part a)
 
 -- a selection begins at the cursor, unless there is one
-abbrev pub selecting : AreaData → AreaData
-selecting a = area_of a.journal (Some (unwrap_or a.anchor (area_cursor a))) a.aim a.killed a.page
+abbrev pub selection_begun : AreaData → AreaData
+selection_begun a = area_of a.journal (Some (unwrap_or a.anchor (area_cursor a))) a.aim a.killed a.page
 
 -- all is selected, with the cursor at the end
 abbrev pub selecting_all : AreaData → AreaData

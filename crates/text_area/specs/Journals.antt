@@ -4,7 +4,7 @@ use Rattle.std.specs.Prelude.{slice_range}
 use Rattle.std.specs.List.{replace_range}
 use Rattle.std.specs.Str.{IsUtf8, IsCharBoundary}
 use Rattle.text_field.specs.History.{CursorText, cursor_text_at}
-use Rattle.text_area.specs.Drafts.{draft_text, cursor_at, replaced}
+use Rattle.text_area.specs.Drafts.{draft_text, cursor_at, part_replaced}
 
 -- how a change is undone: the part between two bytes gives way to what stood there, and the cursor goes to where it was
 pub record StepData : Type 0 where
@@ -13,8 +13,8 @@ pub record StepData : Type 0 where
   pub was : List ℕ
   pub cursor : ℕ
 
-abbrev pub step_of : ℕ → ℕ → List ℕ → ℕ → StepData
-step_of at to was cursor = record { at = at; to = to; was = was; cursor = cursor }
+abbrev pub undo_step : ℕ → ℕ → List ℕ → ℕ → StepData
+undo_step at to was cursor = record { at = at; to = to; was = was; cursor = cursor }
 
 -- a text after a step
 abbrev pub undone_text : StepData → List ℕ → List ℕ
@@ -22,7 +22,7 @@ undone_text s text = replace_range text s.at s.to s.was
 
 -- how it is undone that a part of a text gives way to so many bytes
 abbrev pub step_for : ℕ → ℕ → ℕ → CursorText → StepData
-step_for from to size t = step_of from (from + size) (slice_range (draft_text t) from to) (length t.before)
+step_for from to size t = undo_step from (from + size) (slice_range (draft_text t) from to) (length t.before)
 
 -- a step can be made: no character is cut, and the cursor stands at a place of the text
 pub record IsStepOf (s : StepData) (text : List ℕ) : Type 0 where
@@ -53,13 +53,13 @@ abbrev pub moved_cursor : ℕ → JournalData → JournalData
 moved_cursor at j = record j { text = cursor_at at j.text }
 
 -- nothing gives way to nothing
-abbrev pub is_nothing : ℕ → ℕ → List ℕ → Bool
-is_nothing from to piece = (from == to) && (length piece == 0)
+abbrev pub changes_nothing : ℕ → ℕ → List ℕ → Bool
+changes_nothing from to piece = (from == to) && (length piece == 0)
 
 -- a part of the text gives way to a piece: that can be undone, and nothing can be done again
 abbrev pub changed : ℕ → ℕ → List ℕ → JournalData → JournalData
 changed from to piece j =
-    if is_nothing from to piece then j else journal_of (replaced from to piece j.text)
+    if changes_nothing from to piece then j else journal_of (part_replaced from to piece j.text)
     (take j.most (step_for from to (length piece) j.text ∷ j.past)) [] j.most
 
 -- nothing can be undone or done again, and so many steps are kept from now on

@@ -18,9 +18,9 @@ abbrev pub loaded_text : List ℕ → List ℕ
 loaded_text text = encode_utf8_all (unified false (chars text))
 
 -- a character that may be typed: no control character but a line feed or a tab
-abbrev pub is_written : ℕ → Bool
-is_written c = not (is_control c) || ((c == 10) || (c == 9))
+abbrev pub may_be_typed : ℕ → Bool
+may_be_typed c = not (is_control c) || ((c == 10) || (c == 9))
 
 -- what is typed of a text: its characters that may be, with a line feed for each line break
 abbrev pub written_text : List ℕ → List ℕ
-written_text text = encode_utf8_all (filter is_written (chars (loaded_text text)))
+written_text text = encode_utf8_all (filter may_be_typed (chars (loaded_text text)))

@@ -6,13 +6,13 @@ ghost use Rattle.std.specs.Prelude.{is_some, true, is_none, not, ◌==◌};
 ghost use Rattle.std.specs.Str.{IsCharBoundary};
 ghost use Rattle.text_field.specs.Field.{kept_of};
 ghost use Rattle.text_field.specs.History.{CursorText};
-ghost use Rattle.text_area.specs.Lines.{feeds, line_at, column_after, place_above, place_below};
+ghost use Rattle.text_area.specs.Lines.{feeds, nth_line, column_after, place_above, place_below};
 ghost use Rattle.text_area.specs.Drafts.{draft_text};
 ghost use Rattle.text_area.specs.Journals.{JournalData};
 ghost use Rattle.text_area.specs.Areas.{AreaData, area_of, area_text, area_before, area_after};
 ghost use Rattle.text_area.specs.Areas.{area_cursor, new_area, loaded_area, aim_of, target, aim_after};
 ghost use Rattle.text_area.specs.Areas.{gone, selection, selected, reached, put_over, typing_over};
-ghost use Rattle.text_area.specs.Areas.{yanking, deleting, holding, killing, selecting, selecting_all};
+ghost use Rattle.text_area.specs.Areas.{yanking, deleting, keeping_part, killing, selection_begun, selecting_all};
 ghost use Rattle.text_area.specs.Areas.{unselected, undoing, redoing, keeping_steps, ends};
 
 use crate::extent::{left_of, right_of};
@@ -151,7 +151,7 @@ impl TextArea {
     /// Answers a line without its line feed, or `None` if no line has this number. The first one
     /// has the number 0. It reads the text up to there.
     pub fn line(&self, number: usize) -> Option<&str>
-        ensures some { IfSome result (λ line. line.now ≡ line_at number (area_text self.now)) }
+        ensures some { IfSome result (λ line. line.now ≡ nth_line number (area_text self.now)) }
         ensures within { is_some result ≡ true → number ≤ feeds (area_text self.now) }
         ensures none { IfNone result (feeds (area_text self.now) < number) }
     {
@@ -289,7 +289,7 @@ impl TextArea {
 
     /// Begins a selection at the cursor, unless there is one. It goes to where the cursor goes.
     pub fn select(&mut self)
-        ensures { self.new ≡ selecting self.old }
+        ensures { self.new ≡ selection_begun self.old }
     {
         let at = self.cursor_byte();
         self.anchor = Some(self.anchor.unwrap_or(at));
@@ -459,7 +459,7 @@ impl TextArea {
     ///
     /// `AllocError` if memory is refused. Then the area is as it was.
     pub fn copy(&mut self) -> Result<(), AllocError>
-        ensures ok { OnOk result (self.new ≡ holding (selection self.old) self.old) }
+        ensures ok { OnOk result (self.new ≡ keeping_part (selection self.old) self.old) }
         ensures err { OnErr result (self.new ≡ self.old) }
     {
         let part = self.selection();

@@ -3,7 +3,7 @@
 ghost use Rattle.std.specs.Prelude.{◌≡◌, ◌≤◌, [], OnOk, OnErr, length, string_bytes};
 ghost use Rattle.std.specs.Str.{IsCharBoundary};
 ghost use Rattle.text_field.specs.History.{CursorText, cursor_text_at};
-ghost use Rattle.text_area.specs.Drafts.{draft_text, cursor_at, replaced};
+ghost use Rattle.text_area.specs.Drafts.{draft_text, cursor_at, part_replaced};
 
 use std::alloc::{AllocError, Global};
 use std::marker::Model;
@@ -78,16 +78,11 @@ impl Draft {
     }
 
     // Puts a piece in place of a part of the text, and the cursor after it.
-    pub(crate) fn replace(
-        &mut self,
-        from: usize,
-        to: usize,
-        piece: &str,
-    ) -> Result<(), AllocError>
+    pub(crate) fn replace(&mut self, from: usize, to: usize, piece: &str) -> Result<(), AllocError>
         requires order { from ≤ to }
         requires start { IsCharBoundary (draft_text self.old) from }
         requires end { IsCharBoundary (draft_text self.old) to }
-        ensures ok { OnOk result (self.new ≡ replaced from to piece.now self.old) }
+        ensures ok { OnOk result (self.new ≡ part_replaced from to piece.now self.old) }
         ensures err { OnErr result (self.new ≡ self.old) }
     {
         self.text.replace_range(from..to, piece)?;

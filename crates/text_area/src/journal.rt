@@ -4,7 +4,7 @@ ghost use Rattle.std.specs.Prelude.{◌≡◌, ◌≤◌, ◌<◌, ◌+◌, [], 
 ghost use Rattle.std.specs.Prelude.{OnOk, OnErr, IfOk, IsTrue, ◌↔◌};
 ghost use Rattle.std.specs.Str.{IsCharBoundary};
 ghost use Rattle.text_field.specs.History.{CursorText, cursor_text_at};
-ghost use Rattle.text_area.specs.Drafts.{draft_text, replaced};
+ghost use Rattle.text_area.specs.Drafts.{draft_text, part_replaced};
 ghost use Rattle.text_area.specs.Journals.{StepData, IsStepOf, Undoes, JournalData, journal_of, step_for};
 ghost use Rattle.text_area.specs.Journals.{changed, moved_cursor, forgetting, stepped_text};
 ghost use Rattle.text_area.specs.Journals.{stepped_onto, undone, redone};
@@ -26,7 +26,7 @@ fn record(
     requires order { from ≤ to }
     requires start { IsCharBoundary (draft_text draft.old) from }
     requires end { IsCharBoundary (draft_text draft.old) to }
-    ensures ok { OnOk result (draft.new ≡ replaced from to piece.now draft.old) }
+    ensures ok { OnOk result (draft.new ≡ part_replaced from to piece.now draft.old) }
     ensures past { OnOk result
         (past.new ≡ step_for from to (length piece.now) draft.old ∷ past.old) }
     ensures undoes { Undoes past.old (draft_text draft.old)
@@ -175,12 +175,7 @@ impl Journal {
     }
 
     // Puts a piece in place of a part of the text, and the cursor after it.
-    pub(crate) fn change(
-        &mut self,
-        from: usize,
-        to: usize,
-        piece: &str,
-    ) -> Result<(), AllocError>
+    pub(crate) fn change(&mut self, from: usize, to: usize, piece: &str) -> Result<(), AllocError>
         requires order { from ≤ to }
         requires start { IsCharBoundary (draft_text self.old.text) from }
         requires end { IsCharBoundary (draft_text self.old.text) to }

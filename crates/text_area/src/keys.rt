@@ -1,7 +1,7 @@
 //! Which events edit a text area.
 
 ghost use Rattle.std.specs.Prelude.{◌≡◌, OnOk, OnErr, IfOk, IsOk, is_some, true, option_map};
-ghost use Rattle.text_area.specs.Areas.{gone, unselected, selecting, undoing, redoing};
+ghost use Rattle.text_area.specs.Areas.{gone, unselected, selection_begun, undoing, redoing};
 ghost use Rattle.text_area.specs.AreaKeys.{area_control_keys, area_alt_keys, area_control_shift_keys};
 ghost use Rattle.text_area.specs.AreaKeys.{area_edit_among, move_of, far_move_of, typing_edit};
 ghost use Rattle.text_area.specs.AreaKeys.{far_deletion, table_edit, area_key_edit, area_edit_of};
@@ -194,7 +194,7 @@ fn beside_both(code: KeyCode) -> Option<AreaEdit>
 }
 
 // The edit that moves the cursor.
-fn going(to: Option<Move>) -> Option<AreaEdit>
+fn go_edit(to: Option<Move>) -> Option<AreaEdit>
     ensures { result ≡ option_map Go to }
 {
     match to {
@@ -204,7 +204,7 @@ fn going(to: Option<Move>) -> Option<AreaEdit>
 }
 
 // The edit that moves the cursor and selects.
-fn selecting(to: Option<Move>) -> Option<AreaEdit>
+fn select_edit(to: Option<Move>) -> Option<AreaEdit>
     ensures { result ≡ option_map Select to }
 {
     match to {
@@ -220,12 +220,12 @@ fn key_edit(key: KeyEvent) -> Option<AreaEdit>
 {
     let code = key.code;
     match key.modifiers.to_bits() {
-        0 => typing_edit(code).or(going(move_of(code))),
-        1 => typing_edit(code).or(selecting(move_of(code))),
-        2 => beside_alt(code).or(going(far_move_of(code))),
-        3 => beside_alt(code).or(selecting(far_move_of(code))),
-        4 => beside_control(code).or(going(far_move_of(code))),
-        5 => beside_both(code).or(selecting(far_move_of(code))),
+        0 => typing_edit(code).or(go_edit(move_of(code))),
+        1 => typing_edit(code).or(select_edit(move_of(code))),
+        2 => beside_alt(code).or(go_edit(far_move_of(code))),
+        3 => beside_alt(code).or(select_edit(far_move_of(code))),
+        4 => beside_control(code).or(go_edit(far_move_of(code))),
+        5 => beside_both(code).or(select_edit(far_move_of(code))),
         _ => None,
     }
 }
@@ -263,7 +263,7 @@ impl TextArea {
 
     // Moves the cursor and selects.
     fn go_selecting(&mut self, to: Move)
-        ensures { self.new ≡ gone to (selecting self.old) }
+        ensures { self.new ≡ gone to (selection_begun self.old) }
     {
         self.select();
         self.go(to);

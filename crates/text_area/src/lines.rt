@@ -6,8 +6,8 @@ ghost use Rattle.std.specs.Prelude.{IfSome, IfNone, is_some};
 ghost use Rattle.std.specs.List.{concat};
 ghost use Rattle.std.specs.Str.{IsCharBoundary};
 ghost use Rattle.unicode_segmentation.specs.Grapheme.{graphemes};
-ghost use Rattle.text_area.specs.Lines.{feeds, line_start, columns_len, column_after, place_above};
-ghost use Rattle.text_area.specs.Lines.{place_below, first_line, line_at};
+ghost use Rattle.text_area.specs.Lines.{feeds, nth_start, columns_len, column_after, place_above};
+ghost use Rattle.text_area.specs.Lines.{place_below, first_line, nth_line};
 ghost use Rattle.text_area.specs.Inner.{BeginsLine};
 
 use crate::extent::{line_begin, line_end};
@@ -86,7 +86,7 @@ fn next_line(text: &str, at: usize) -> Option<usize>
 #[tactic(auto, using(crate::proofs::LineLemmas::step_rules))]
 fn start_above(text: &str, start: usize, lines: usize) -> usize
     requires { BeginsLine text.now start }
-    ensures value { result ≡ line_start (feeds (take start text.now) - lines) text.now }
+    ensures value { result ≡ nth_start (feeds (take start text.now) - lines) text.now }
     ensures begins { BeginsLine text.now result }
 {
     let mut top = start;
@@ -103,7 +103,7 @@ fn start_above(text: &str, start: usize, lines: usize) -> usize
 fn start_below(text: &str, start: usize, lines: usize) -> usize
     requires { BeginsLine text.now start }
     ensures value { result
-        ≡ line_start (min (feeds (take start text.now) + lines) (feeds text.now)) text.now }
+        ≡ nth_start (min (feeds (take start text.now) + lines) (feeds text.now)) text.now }
     ensures begins { BeginsLine text.now result }
 {
     let mut top = start;
@@ -167,8 +167,8 @@ pub(crate) fn feeds(text: &str) -> usize
 
 // Where a line begins, if there is one of that number.
 #[tactic(auto, using(crate::proofs::LineLemmas::step_rules))]
-fn line_start(text: &str, line: usize) -> Option<usize>
-    ensures some { IfSome result (λ start. start ≡ line_start line text.now) }
+fn nth_start(text: &str, line: usize) -> Option<usize>
+    ensures some { IfSome result (λ start. start ≡ nth_start line text.now) }
     ensures boundary { IfSome result (λ start. IsCharBoundary text.now start) }
     ensures within { is_some result ≡ true → line ≤ feeds text.now }
     ensures none { IfNone result (feeds text.now < line) }
@@ -187,11 +187,11 @@ fn line_start(text: &str, line: usize) -> Option<usize>
 
 // A line, if there is one of that number.
 pub(crate) fn line(text: &str, line: usize) -> Option<&str>
-    ensures some { IfSome result (λ found. found.now ≡ line_at line text.now) }
+    ensures some { IfSome result (λ found. found.now ≡ nth_line line text.now) }
     ensures within { is_some result ≡ true → line ≤ feeds text.now }
     ensures none { IfNone result (feeds text.now < line) }
 {
-    match line_start(text, line) {
+    match nth_start(text, line) {
         None => None,
         Some(start) => Some(&text[start..line_end(text, start)]),
     }

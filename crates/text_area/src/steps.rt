@@ -2,7 +2,7 @@
 
 ghost use Rattle.std.specs.Prelude.{◌≡◌, ◌≤◌, ◌+◌, [], ◌∷◌, length, take, drop, OnOk, OnErr, IfOk};
 ghost use Rattle.std.specs.Prelude.{IfSome, IfNone, string_bytes, IsTrue, ◌↔◌};
-ghost use Rattle.text_area.specs.Journals.{StepData, step_of};
+ghost use Rattle.text_area.specs.Journals.{StepData, undo_step};
 
 use std::alloc::{AllocError, Global};
 use std::marker::Model;
@@ -19,16 +19,16 @@ pub(crate) struct Step {
 
 impl Model for Step {
     ghost use Rattle.std.specs.Prelude.{string_bytes};
-    ghost use Rattle.text_area.specs.Journals.{StepData, step_of};
+    ghost use Rattle.text_area.specs.Journals.{StepData, undo_step};
 
     ghost Value = { StepData };
 
-    ghost view = { λ step. step_of step.at step.to (string_bytes step.was) step.cursor };
+    ghost view = { λ step. undo_step step.at step.to (string_bytes step.was) step.cursor };
 }
 
 impl Step {
     pub(crate) fn new(at: usize, to: usize, was: String, cursor: usize) -> Step
-        ensures { result ≡ step_of at to (string_bytes was) cursor }
+        ensures { result ≡ undo_step at to (string_bytes was) cursor }
     {
         Step {
             at,

@@ -3,22 +3,22 @@
 ghost use Rattle.std.specs.Prelude.{◌≡◌, ◌++◌, chars, encode_utf8_all, string_bytes};
 ghost use Rattle.std.specs.Prelude.{IfOk, OnOk, IsTrue, not, ◌==◌};
 ghost use Rattle.std.specs.List.{list_all};
-ghost use Rattle.text_area.specs.Typing.{unified_char, loaded_text, is_written, written_text};
+ghost use Rattle.text_area.specs.Typing.{unified_char, loaded_text, may_be_typed, written_text};
 
 use std::alloc::{AllocError, Global};
 
 // Whether a character may be typed.
-fn is_written(c: char) -> bool
-    ensures { result ≡ is_written c }
+fn may_be_typed(c: char) -> bool
+    ensures { result ≡ may_be_typed c }
 {
     !c.is_control() || c == '\n' || c == '\t'
 }
 
 // Whether each character of a text may be typed as it is.
 fn are_written(text: &str) -> bool
-    ensures { result ≡ list_all is_written (chars text.now) }
+    ensures { result ≡ list_all may_be_typed (chars text.now) }
 {
-    text.chars().all(|c| is_written(c))
+    text.chars().all(|c| may_be_typed(c))
 }
 
 // Adds what becomes of a character, after a carriage return or not.
@@ -76,7 +76,11 @@ pub(crate) fn written_part(alloc: Global, text: &str) -> Result<String, AllocErr
     ensures { IfOk result (λ part. string_bytes part ≡ written_text text.now) }
 {
     let whole = with_feeds(alloc, text)?;
-    whole.as_str().chars().filter(|c| is_written(*c)).collect(alloc)
+    whole
+        .as_str()
+        .chars()
+        .filter(|c| may_be_typed(*c))
+        .collect(alloc)
 }
 
 // A text with a line feed for each line break: the same one if it has them.

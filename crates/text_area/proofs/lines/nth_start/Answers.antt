@@ -1,6 +1,6 @@
 use Rattle.std.proofs.Common.{arith}
 use Rattle.std.proofs.lemmas.Str.{IsCharBoundary-start}
-use Rattle.text_area.proofs.lines.line_start.Goals as goal
+use Rattle.text_area.proofs.lines.nth_start.Goals as goal
 
 pub walk-init : goal.walk-init
 walk-init c = (
