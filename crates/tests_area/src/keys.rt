@@ -53,11 +53,32 @@ fn keys_move_up_and_down(rt: HostRuntime) -> Result<(), Fail> {
     assert!(rt; makes(alloc, "o|ne", "Up Down Ctrl+P Ctrl+N", "o|ne"));
     // The column stays what it was before the first of these moves.
     assert!(rt; makes(alloc, "three|\na\n\nthree", "Down", "three\na|\n\nthree"));
-    assert!(rt; makes(alloc, "three|\na\n\nthree", "Down Down Down", "three\na\n\nthree|"));
-    assert!(rt; makes(alloc, "three|\na\n\nthree", "Down Home Down Down", "three\na\n\n|three"));
+    assert!(rt;
+        makes(
+            alloc,
+            "three|\na\n\nthree",
+            "Down Down Down",
+            "three\na\n\nthree|"
+        )
+    );
+    assert!(rt;
+        makes(
+            alloc,
+            "three|\na\n\nthree",
+            "Down Home Down Down",
+            "three\na\n\n|three"
+        )
+    );
     assert!(rt; makes(alloc, "1\n2\n3\n4|\n", "PageUp", "1\n2|\n3\n4\n"));
     assert!(rt; makes(alloc, "1\n2\n3\n4|\n", "PageUp PageUp", "1|\n2\n3\n4\n"));
-    assert!(rt; makes(alloc, "|1\n2\n3\n4\n", "PageDown Ctrl+V Ctrl+V", "1\n2\n3\n4\n|"));
+    assert!(rt;
+        makes(
+            alloc,
+            "|1\n2\n3\n4\n",
+            "PageDown Ctrl+V Ctrl+V",
+            "1\n2\n3\n4\n|"
+        )
+    );
     assert!(rt; makes(alloc, "1\n2\n3|", "Alt+V", "1|\n2\n3"));
     Ok(())
 }
@@ -79,8 +100,22 @@ fn keys_select(rt: HostRuntime) -> Result<(), Fail> {
     let alloc = rt.alloc();
     assert!(rt; makes(alloc, "o|ne\ntwo", "Shift+Down x", "ox|wo"));
     assert!(rt; makes(alloc, "one\nt|wo", "Shift+Up Backspace", "o|wo"));
-    assert!(rt; makes(alloc, "one t|wo", "Shift+Home Ctrl+X End Ctrl+Y", "woone t|"));
-    assert!(rt; makes(alloc, "one |two", "Shift+End Ctrl+C Home Ctrl+Y", "two|one two"));
+    assert!(rt;
+        makes(
+            alloc,
+            "one t|wo",
+            "Shift+Home Ctrl+X End Ctrl+Y",
+            "woone t|"
+        )
+    );
+    assert!(rt;
+        makes(
+            alloc,
+            "one |two",
+            "Shift+End Ctrl+C Home Ctrl+Y",
+            "two|one two"
+        )
+    );
     assert!(rt; makes(alloc, "one |two", "Ctrl+Shift+Right Enter", "one \n|"));
     // A move without Shift ends the selection.
     assert!(rt; makes(alloc, "one |two", "Shift+Right Right x", "one twx|o"));
@@ -94,11 +129,25 @@ fn keys_undo_and_redo(rt: HostRuntime) -> Result<(), Fail> {
     assert!(rt; makes(alloc, "|", "a b c Ctrl+Z", "ab|"));
     assert!(rt; makes(alloc, "|", "a b c Ctrl+Z Ctrl+Z Ctrl+R", "ab|"));
     assert!(rt; makes(alloc, "o|ne\ntwo", "Shift+Down x Ctrl+Z", "one\nt|wo"));
-    assert!(rt; makes(alloc, "o|ne\ntwo", "Shift+Down x Ctrl+Z Ctrl+Shift+Z", "ox|wo"));
+    assert!(rt;
+        makes(
+            alloc,
+            "o|ne\ntwo",
+            "Shift+Down x Ctrl+Z Ctrl+Shift+Z",
+            "ox|wo"
+        )
+    );
     assert!(rt; makes(alloc, "o|ne", "Ctrl+Z", "o|ne"));
     assert!(rt; makes(alloc, "|", "a b Ctrl+Z x Ctrl+R", "ax|"));
     assert!(rt; makes(alloc, "a\n|b", "Backspace Ctrl+K Ctrl+Z Ctrl+Z", "a\n|b"));
-    assert!(rt; makes(alloc, "a\n|b", "Backspace Ctrl+K Ctrl+Z Ctrl+Z Ctrl+R Ctrl+R", "a|"));
+    assert!(rt;
+        makes(
+            alloc,
+            "a\n|b",
+            "Backspace Ctrl+K Ctrl+Z Ctrl+Z Ctrl+R Ctrl+R",
+            "a|"
+        )
+    );
     // A move is no step, nor is a deletion of nothing.
     assert!(rt; makes(alloc, "|", "a Left Backspace Ctrl+Z", "|"));
     Ok(())
@@ -113,7 +162,14 @@ fn graphemes_are_kept_whole(rt: HostRuntime) -> Result<(), Fail> {
     assert!(rt; makes(alloc, FAMILY, "Backspace", "|"));
     assert!(rt; makes(alloc, "e\u{301}|x", "Left", "|e\u{301}x"));
     assert!(rt; makes(alloc, "世界\nab|", "Up", "世界|\nab"));
-    assert!(rt; makes(alloc, "e\u{301}e\u{301}e\na|b", "Up", "e\u{301}|e\u{301}e\nab"));
+    assert!(rt;
+        makes(
+            alloc,
+            "e\u{301}e\u{301}e\na|b",
+            "Up",
+            "e\u{301}|e\u{301}e\nab"
+        )
+    );
     Ok(())
 }
 

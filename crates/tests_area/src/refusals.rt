@@ -31,7 +31,21 @@ fn makes(alloc: Global, before: &str, edit: AreaEdit, wanted: &str) -> bool {
 fn what_is_refused_is_as_it_was(rt: HostRuntime) -> Result<(), Fail> {
     let alloc = rt.alloc();
     assert!(rt; makes(alloc, "a|b", AreaEdit::Insert('x'), "ax|b"));
-    assert!(rt; makes(alloc, "a|b", AreaEdit::Delete(Move::Left(Extent::Grapheme)), "|b"));
-    assert!(rt; makes(alloc, "a|b", AreaEdit::Kill(Move::Right(Extent::Line)), "a|"));
+    assert!(rt;
+        makes(
+            alloc,
+            "a|b",
+            AreaEdit::Delete(Move::Left(Extent::Grapheme)),
+            "|b"
+        )
+    );
+    assert!(rt;
+        makes(
+            alloc,
+            "a|b",
+            AreaEdit::Kill(Move::Right(Extent::Line)),
+            "a|"
+        )
+    );
     Ok(())
 }

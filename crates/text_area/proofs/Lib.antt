@@ -5,3 +5,4 @@ pub mod TypedLemmas
 pub mod StepLemmas
 pub mod JournalLemmas
 pub mod AreaLemmas
+pub mod LawLemmas

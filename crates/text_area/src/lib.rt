@@ -6,6 +6,7 @@ mod draft;
 mod extent;
 mod journal;
 mod keys;
+pub mod laws;
 mod lines;
 mod moves;
 mod steps;
