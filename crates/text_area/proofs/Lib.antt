@@ -6,3 +6,4 @@ pub mod StepLemmas
 pub mod JournalLemmas
 pub mod AreaLemmas
 pub mod LawLemmas
+pub mod FindLemmas

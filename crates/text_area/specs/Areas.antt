@@ -73,6 +73,12 @@ aim_after to a = Some (aim_of a)
 abbrev pub gone : Move → AreaData → AreaData
 gone to a = area_of (moved_cursor (target to a) a.journal) a.anchor (aim_after to a) a.killed a.page
 
+-- the cursor is after so many graphemes of a line, of the last one if no line has the number
+abbrev pub gone_to : ℕ → ℕ → AreaData → AreaData
+gone_to line column a =
+    let at = place_below line column [] (area_text a) in
+    area_of (moved_cursor at a.journal) a.anchor None a.killed a.page
+
 -- two places in their order
 abbrev pub ends : ℕ → ℕ → ℕ × ℕ
 ends a b = (min a b, max a b)

@@ -4,5 +4,6 @@ pub mod Lines
 pub mod Journals
 pub mod Areas
 pub mod AreaKeys
+pub mod Finding
 pub mod Inner
 pub mod Typing

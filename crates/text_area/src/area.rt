@@ -9,11 +9,12 @@ ghost use Rattle.text_field.specs.History.{CursorText};
 ghost use Rattle.text_area.specs.Lines.{feeds, nth_line, column_after, place_above, place_below};
 ghost use Rattle.text_area.specs.Drafts.{draft_text};
 ghost use Rattle.text_area.specs.Journals.{JournalData};
+ghost use Rattle.text_area.specs.Finding.{part_selected};
 ghost use Rattle.text_area.specs.Areas.{AreaData, area_of, area_text, area_before, area_after};
 ghost use Rattle.text_area.specs.Areas.{area_cursor, new_area, loaded_area, aim_of, target, aim_after};
 ghost use Rattle.text_area.specs.Areas.{gone, selection, selected, reached, put_over, typing_over};
 ghost use Rattle.text_area.specs.Areas.{yanking, deleting, keeping_part, killing, selection_begun, selecting_all};
-ghost use Rattle.text_area.specs.Areas.{unselected, undoing, redoing, keeping_steps, ends};
+ghost use Rattle.text_area.specs.Areas.{unselected, undoing, redoing, keeping_steps, ends, gone_to};
 
 use crate::extent::{left_of, right_of};
 use crate::journal::Journal;
@@ -255,7 +256,7 @@ impl TextArea {
     }
 
     // Between which places is selected.
-    fn selection(&self) -> (usize, usize)
+    pub(crate) fn selection(&self) -> (usize, usize)
         ensures value { result ≡ selection self.now }
         ensures order { result.0 ≤ result.1 }
         ensures start { IsCharBoundary (area_text self.now) result.0 }
@@ -302,6 +303,31 @@ impl TextArea {
         let end = self.text().len();
         self.journal.go(end);
         self.anchor = Some(0);
+        self.aim = None;
+    }
+
+    /// Selects a part of the text between two bytes of it, with the cursor at its end. No character
+    /// may be cut there: what `find_next` answers, and so many bytes on as the pattern has, can be
+    /// selected.
+    pub fn select_part(&mut self, from: usize, to: usize)
+        requires start { IsCharBoundary (area_text self.old) from }
+        requires end { IsCharBoundary (area_text self.old) to }
+        ensures { self.new ≡ part_selected from to self.old }
+    {
+        self.journal.go(to);
+        self.anchor = Some(from);
+        self.aim = None;
+    }
+
+    /// Moves the cursor to the line of a number, the first one being 0, or to the last line if no
+    /// line has it; there it stands after so many graphemes, or at the line's end if there are
+    /// fewer. What is selected goes on from where the selection began. It reads the text up to
+    /// there.
+    pub fn go_to(&mut self, line: usize, column: usize)
+        ensures { self.new ≡ gone_to line column self.old }
+    {
+        let at = place_below(self.text(), 0, line, column);
+        self.journal.go(at);
         self.aim = None;
     }
 

@@ -4,6 +4,7 @@
 mod area;
 mod draft;
 mod extent;
+mod find;
 mod journal;
 mod keys;
 pub mod laws;
