@@ -1,21 +1,8 @@
-//! Rows: a text in which `|` is the cursor, keys by name, and the text that they make of it.
+//! Rows: a text, words, and the text that they make of it.
 
-use ratatui_events::{Event, KeyEvent};
+use crate::words::{act, unescaped};
 use std::alloc::{AllocError, Global};
 use text_area::{Extent, Move, TextArea};
-
-// Presses keys by name, with a blank between each two; answers whether the area took each.
-pub(crate) fn press(area: &mut TextArea, names: &str) -> bool {
-    for name in names.split(' ') {
-        let Ok(key) = name.parse::<KeyEvent>() else {
-            return false;
-        };
-        let Ok(true) = area.handle(&Event::Key(key)) else {
-            return false;
-        };
-    }
-    true
-}
 
 // An area with these texts before and after its cursor, of which nothing can be undone.
 fn area_of(alloc: Global, before: &str, after: &str) -> Result<TextArea, AllocError> {
@@ -28,26 +15,67 @@ fn area_of(alloc: Global, before: &str, after: &str) -> Result<TextArea, AllocEr
     Ok(area)
 }
 
-// An area of a text with a mark.
-pub(crate) fn marked(alloc: Global, text: &str) -> Result<TextArea, AllocError> {
+// What stands before the cursor in a text with a mark, and after it.
+fn parts_of(text: &str) -> (&str, &str) {
     match text.split_once('|') {
-        Some((before, after)) => area_of(alloc, before, after),
-        None => area_of(alloc, text, ""),
+        Some((before, after)) => (before, after),
+        None => (text, ""),
     }
 }
 
-// Whether an area has a text with its mark.
-pub(crate) fn is_marked(area: &TextArea, text: &str) -> bool {
-    match text.split_once('|') {
-        Some((before, after)) => area.before() == before && area.after() == after,
-        None => false,
-    }
+// Whether an area has a text with a mark.
+fn is_marked(alloc: Global, area: &TextArea, text: &str) -> Result<bool, AllocError> {
+    let (before, after) = parts_of(text);
+    let before = unescaped(alloc, before)?;
+    let after = unescaped(alloc, after)?;
+    Ok(area.before() == before.as_str() && area.after() == after.as_str())
 }
 
-// Whether keys make of a text another one.
-pub(crate) fn makes(alloc: Global, text: &str, names: &str, wanted: &str) -> bool {
-    let Ok(mut area) = marked(alloc, text) else {
-        return false;
+// Does a word; if memory is refused, the area has to be as it was, and the word is done once more.
+fn insist(alloc: Global, area: &mut TextArea, word: &str) -> Result<bool, AllocError> {
+    let before = String::from_str(alloc, area.before())?;
+    let after = String::from_str(alloc, area.after())?;
+    let undoes = area.can_undo();
+    let redoes = area.can_redo();
+    if let Ok(done) = act(alloc, area, word) {
+        return Ok(done);
+    }
+    let same = area.before() == before.as_str() && area.after() == after.as_str();
+    if !same || area.can_undo() != undoes || area.can_redo() != redoes {
+        return Ok(false);
+    }
+    act(alloc, area, word)
+}
+
+// Does words with a blank between each two; answers whether each was done.
+fn insist_all(alloc: Global, area: &mut TextArea, words: &str) -> Result<bool, AllocError> {
+    for word in words.split(' ') {
+        if !insist(alloc, area, word)? {
+            return Ok(false);
+        }
+    }
+    Ok(true)
+}
+
+// Whether words make of a text another one.
+fn makes(alloc: Global, text: &str, words: &str, wanted: &str) -> Result<bool, AllocError> {
+    let (before, after) = parts_of(text);
+    let before = unescaped(alloc, before)?;
+    let after = unescaped(alloc, after)?;
+    let mut area = area_of(alloc, before.as_str(), after.as_str())?;
+    if !insist_all(alloc, &mut area, words)? {
+        return Ok(false);
+    }
+    is_marked(alloc, &area, wanted)
+}
+
+// Whether a row holds.
+pub(crate) fn holds(alloc: Global, row: &str) -> Result<bool, AllocError> {
+    let Some((text, rest)) = row.split_once('\t') else {
+        return Ok(false);
     };
-    press(&mut area, names) && is_marked(&area, wanted)
+    let Some((words, wanted)) = rest.split_once('\t') else {
+        return Ok(false);
+    };
+    makes(alloc, text, words, wanted)
 }

@@ -307,8 +307,7 @@ impl TextArea {
     }
 
     /// Selects a part of the text between two bytes of it, with the cursor at its end. No character
-    /// may be cut there: what `find_next` answers, and so many bytes on as the pattern has, can be
-    /// selected.
+    /// may be cut there: what `find_next` answers can be selected.
     pub fn select_part(&mut self, from: usize, to: usize)
         requires start { IsCharBoundary (area_text self.old) from }
         requires end { IsCharBoundary (area_text self.old) to }
