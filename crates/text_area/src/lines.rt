@@ -1,0 +1,198 @@
+//! Lines of a text, and columns in them.
+
+ghost use Rattle.std.specs.Prelude.{◌≡◌, ◌+◌, ◌-◌, ◌<◌, ◌≤◌, length, take, drop, min};
+ghost use Rattle.std.specs.Prelude.{slice_index, true};
+ghost use Rattle.std.specs.Prelude.{IfSome, IfNone, is_some};
+ghost use Rattle.std.specs.List.{concat};
+ghost use Rattle.std.specs.Str.{IsCharBoundary};
+ghost use Rattle.unicode_segmentation.specs.Grapheme.{graphemes};
+ghost use Rattle.text_area.specs.Lines.{feeds, nth_start, columns_len, column_after, place_above};
+ghost use Rattle.text_area.specs.Lines.{place_below, first_line, nth_line};
+ghost use Rattle.text_area.specs.Inner.{BeginsLine};
+
+use crate::extent::{line_begin, line_end};
+use unicode_segmentation::UnicodeSegmentation;
+
+// How many graphemes a text has.
+fn grapheme_count(text: &str) -> usize
+    ensures { result ≡ length (graphemes true text.now) }
+{
+    text.graphemes(true).count()
+}
+
+// How many graphemes stand before a text's end in its last line.
+#[tactic(auto, using(crate::proofs::LineLemmas::column_rules))]
+pub(crate) fn column_after(before: &str) -> usize
+    ensures { result ≡ column_after before.now }
+{
+    let start = line_begin(before, before.len());
+    grapheme_count(before.split_at(start).1)
+}
+
+// What stands after the first graphemes of a line, at most so many.
+#[tactic(auto, using(crate::proofs::LineLemmas::column_rules))]
+fn after_columns(line: &str, columns: usize) -> &str
+    ensures { result.now ≡ concat (drop columns (graphemes true line.now)) }
+{
+    let mut left = line.graphemes(true);
+    let mut more = columns;
+    'walk: while more > 0 {
+        let Some(_grapheme) = left.next() else {
+            return left.as_str();
+        };
+        more -= 1;
+    }
+    left.as_str()
+}
+
+// How many bytes the first graphemes of a line take, at most so many.
+#[tactic(auto, using(crate::proofs::LineLemmas::column_rules))]
+fn columns_len(line: &str, columns: usize) -> usize
+    ensures value { result ≡ columns_len columns line.now }
+    ensures boundary { IsCharBoundary line.now result }
+{
+    let rest = after_columns(line, columns);
+    line.len() - rest.len()
+}
+
+// Where the line begins in which a place stands.
+#[tactic(auto, using(crate::proofs::LineLemmas::row_rules))]
+fn start_of_line(text: &str, at: usize) -> usize
+    requires { at ≤ length text.now }
+    ensures begins { BeginsLine text.now result }
+    ensures row { feeds (take result text.now) ≡ feeds (take at text.now) }
+    ensures within { result ≤ at }
+{
+    line_begin(text, at)
+}
+
+// Where the line after that begins in which a place stands, or the text's end if there is none.
+#[tactic(auto, using(crate::proofs::LineLemmas::row_rules))]
+fn next_line(text: &str, at: usize) -> Option<usize>
+    requires { at ≤ length text.now }
+    ensures next { IfSome result (λ start. BeginsLine text.now start
+        × (feeds (take start text.now) ≡ feeds (take at text.now) + 1) × (at < start)) }
+    ensures none { IfNone result (feeds (take at text.now) ≡ feeds text.now) }
+{
+    let end = line_end(text, at);
+    if end < text.len() {
+        Some(end + 1)
+    } else {
+        None
+    }
+}
+
+// Where the line begins that is so many above the one that begins at a place.
+#[tactic(auto, using(crate::proofs::LineLemmas::step_rules))]
+fn start_above(text: &str, start: usize, lines: usize) -> usize
+    requires { BeginsLine text.now start }
+    ensures value { result ≡ nth_start (feeds (take start text.now) - lines) text.now }
+    ensures begins { BeginsLine text.now result }
+{
+    let mut top = start;
+    let mut left = lines;
+    'walk: while left > 0 && top > 0 {
+        top = start_of_line(text, top - 1);
+        left -= 1;
+    }
+    top
+}
+
+// Where the line begins that is so many below the one that begins at a place.
+#[tactic(auto, using(crate::proofs::LineLemmas::step_rules))]
+fn start_below(text: &str, start: usize, lines: usize) -> usize
+    requires { BeginsLine text.now start }
+    ensures value { result
+        ≡ nth_start (min (feeds (take start text.now) + lines) (feeds text.now)) text.now }
+    ensures begins { BeginsLine text.now result }
+{
+    let mut top = start;
+    let mut left = lines;
+    'walk: while left > 0 {
+        let Some(next) = next_line(text, top) else {
+            return top;
+        };
+        top = next;
+        left -= 1;
+    }
+    top
+}
+
+// The place after so many graphemes of the line that begins at a place.
+#[tactic(auto, using(crate::proofs::LineLemmas::place_rules))]
+fn place_in_line(text: &str, start: usize, columns: usize) -> usize
+    requires { IsCharBoundary text.now start }
+    ensures value { result ≡ start + columns_len columns (first_line (drop start text.now)) }
+    ensures boundary { IsCharBoundary text.now result }
+{
+    let end = line_end(text, start);
+    start + columns_len(&text[start..end], columns)
+}
+
+// The place after so many graphemes of the line so many above that of a place.
+pub(crate) fn place_above(text: &str, at: usize, lines: usize, columns: usize) -> usize
+    requires { at ≤ length text.now }
+    ensures value { result ≡ place_above lines columns (take at text.now) text.now }
+    ensures boundary { IsCharBoundary text.now result }
+{
+    let start = start_above(text, start_of_line(text, at), lines);
+    place_in_line(text, start, columns)
+}
+
+// The place after so many graphemes of the line so many below that of a place.
+pub(crate) fn place_below(text: &str, at: usize, lines: usize, columns: usize) -> usize
+    requires { at ≤ length text.now }
+    ensures value { result ≡ place_below lines columns (take at text.now) text.now }
+    ensures boundary { IsCharBoundary text.now result }
+{
+    let start = start_below(text, start_of_line(text, at), lines);
+    place_in_line(text, start, columns)
+}
+
+// How many line feeds a text has.
+#[tactic(auto, using(crate::proofs::LineLemmas::count_rules))]
+pub(crate) fn feeds(text: &str) -> usize
+    ensures value { result ≡ feeds text.now }
+    ensures within { result ≤ length text.now }
+{
+    let bytes = text.as_bytes();
+    let mut count = 0;
+    for byte in bytes {
+        if *byte == b'\n' {
+            count += 1;
+        }
+    }
+    count
+}
+
+// Where a line begins, if there is one of that number.
+#[tactic(auto, using(crate::proofs::LineLemmas::step_rules))]
+fn nth_start(text: &str, line: usize) -> Option<usize>
+    ensures some { IfSome result (λ start. start ≡ nth_start line text.now) }
+    ensures boundary { IfSome result (λ start. IsCharBoundary text.now start) }
+    ensures within { is_some result ≡ true → line ≤ feeds text.now }
+    ensures none { IfNone result (feeds text.now < line) }
+{
+    let mut top = 0;
+    let mut left = line;
+    'walk: while left > 0 {
+        let Some(next) = next_line(text, top) else {
+            return None;
+        };
+        top = next;
+        left -= 1;
+    }
+    Some(top)
+}
+
+// A line, if there is one of that number.
+pub(crate) fn line(text: &str, line: usize) -> Option<&str>
+    ensures some { IfSome result (λ found. found.now ≡ nth_line line text.now) }
+    ensures within { is_some result ≡ true → line ≤ feeds text.now }
+    ensures none { IfNone result (feeds text.now < line) }
+{
+    match nth_start(text, line) {
+        None => None,
+        Some(start) => Some(&text[start..line_end(text, start)]),
+    }
+}
