@@ -43,7 +43,7 @@ draws-within nothing r old new same = rw same (within-same r old)
 draws-within (put t) r old new is = thing-within t r old new is
 draws-within (over c d) r old new is = within-wider (cut_from c r) r old new (cut-inside c r) (draws-within d (cut_from c r) old new is)
 draws-within (a before b) r old new is =
-    within-then r old is.0 new (draws-within a r old is.0 is.1.0) (draws-within b r is.0 new is.1.1)
+    within-then r old is.0 new (draws-within a r old is.0 is.1) (draws-within b r is.0 new is.2)
 
 stops-within : (d : Drawing) (r : Rect) (old new : BufferData) → IsStopped d r old new → ChangesWithin r old new
 stops-within nothing r old new never = absurd never
@@ -52,8 +52,8 @@ stops-within (over c d) r old new is = within-wider (cut_from c r) r old new (cu
 stops-within (a before b) r old new is =
     ⊎_elim (λ (one : IsStopped a r old new). stops-within a r old new one)
     (λ (two : (mid : BufferData) × IsDrawn a r old mid × IsStopped b r mid new).
-    within-then r old two.0 new (draws-within a r old two.0 two.1.0)
-    (stops-within b r two.0 new two.1.1)) is
+    within-then r old two.0 new (draws-within a r old two.0 two.1)
+    (stops-within b r two.0 new two.2)) is
 
 pub done-within : {A : Type 0} {d : Drawing} {r : Rect} {old new : BufferData} (result : Result A AllocError)
     → IsDone d r result old new → ChangesWithin r old new
@@ -69,7 +69,7 @@ stops-long (a before b) r old new short is =
     ⊎_elim (λ (one : IsStopped a r old new). stops-long a r old new short.0 one)
     (λ (two : (mid : BufferData) × IsDrawn a r old mid × IsStopped b r mid new).
     stops-long b r two.0 new (subst (λ own. IsShortDrawing own b r)
-    (sym (draws-within a r old two.0 two.1.0).same_area) short.1) two.1.1) is
+    (sym (draws-within a r old two.0 two.1).same_area) short.1) two.2) is
 
 pub done-short : {A : Type 0} {d : Drawing} {r : Rect} {old new : BufferData} (result : Result A AllocError)
     → IsShortDrawing old.area d r → IsDone d r result old new → IsOk result
@@ -93,7 +93,7 @@ draws-plain nothing r old new narrow plain same = rw same plain
 draws-plain (put t) r old new narrow plain is = thing-plain t r old new narrow plain is
 draws-plain (over c d) r old new narrow plain is = draws-plain d (cut_from c r) old new narrow plain is
 draws-plain (a before b) r old new narrow plain is =
-    draws-plain b r is.0 new narrow.1 (draws-plain a r old is.0 narrow.0 plain is.1.0) is.1.1
+    draws-plain b r is.0 new narrow.1 (draws-plain a r old is.0 narrow.0 plain is.1) is.2
 
 -- 4. and so a buffer settled
 pub draws-settled : (d : Drawing) (r : Rect) (old new : BufferData) → EdgesFit old.area → IsNarrowDrawing d → IsPlainFrom 0 old
@@ -112,13 +112,13 @@ done-err (Err f) err is = record { ok = tt; err = is.err }
 
 pub done-then : {A B : Type 0} {a b : Drawing} {r : Rect} {x : A} {old mid new : BufferData} (result : Result B AllocError)
     → IsDone a r (Ok x) old mid → IsDone b r result mid new → IsDone (a before b) r result old new
-done-then (Ok y) one two = record { ok = (_, (one.ok, two.ok)); err = tt }
-done-then (Err e) one two = record { ok = tt; err = inr ((_, (one.ok, two.err))) }
+done-then (Ok y) one two = record { ok = (_, one.ok, two.ok); err = tt }
+done-then (Err e) one two = record { ok = tt; err = inr ((_, one.ok, two.err)) }
 
 pub draws-then : {B : Type 0} {a b : Drawing} {r : Rect} {old mid new : BufferData} (result : Result B AllocError)
     → IsDrawn a r old mid → IsDone b r result mid new → IsDone (a before b) r result old new
-draws-then (Ok y) one two = record { ok = (_, (one, two.ok)); err = tt }
-draws-then (Err e) one two = record { ok = tt; err = inr ((_, (one, two.err))) }
+draws-then (Ok y) one two = record { ok = (_, one, two.ok); err = tt }
+draws-then (Err e) one two = record { ok = tt; err = inr ((_, one, two.err)) }
 
 pub done-stop : {A B : Type 0} {a b : Drawing} {r : Rect} {e : AllocError} {old new : BufferData} (result : Result B AllocError)
     → IsErr result → IsDone {A = A} a r (Err e) old new → IsDone (a before b) r result old new
@@ -137,8 +137,8 @@ continues-all = record { ok = λ new is. is; err = λ new is. is }
 pub continues-next : {A : Type 0} {a b all : Drawing} {r whole : Rect} {x : A} {old now mid : BufferData}
     → Continues (a before b) r all whole old now → IsDone a r (Ok x) now mid → Continues b r all whole old mid
 continues-next is one = record {
-  ok = λ new rest. is.ok new ((_, (one.ok, rest)));
-  err = λ new rest. is.err new (inr ((_, (one.ok, rest))));
+  ok = λ new rest. is.ok new ((_, one.ok, rest));
+  err = λ new rest. is.err new (inr ((_, one.ok, rest)));
 }
 
 pub continues-in : {d all : Drawing} {r whole : Rect} {old now : BufferData} (c : Cut) → Continues (over c d) r all whole old now

@@ -1,5 +1,5 @@
 -- What a widget draws in an area: things over it or over parts of it, one after the other.
-use Rattle.std.specs.Prelude.{◌≡◌, ℕ, Bool, ◌+◌, ◌≤◌, ◌⊎◌, List, Result, OnOk, OnErr, ⊤, if◌then◌else◌}
+use Rattle.std.specs.Prelude.{◌≡◌, ℕ, Bool, ◌+◌, ◌≤◌, ◌⊎◌, List, Result, OnOk, OnErr, ⊤, true, false}
 use Rattle.std.specs.declared.alloc.AllocError.{AllocError}
 use Rattle.rtui_geometry.specs.{declared.rect.Rect.Rect, declared.position.Position.Position, Rect.corner}
 use Rattle.rtui_geometry.specs.Rect.{intersected}
@@ -50,7 +50,8 @@ put_change f is_light = put (a_change f is_light)
 
 -- a drawing, if there is to be one
 abbrev pub draw_if : Bool → Drawing → Drawing
-draw_if b d = if b then d else nothing
+draw_if true d = d
+draw_if false d = nothing
 
 -- pieces from the corner of an area on, and nothing outside the area
 pub record WritesIn (r : Rect) (ps : List Piece) (old new : BufferData) : Type 0 where

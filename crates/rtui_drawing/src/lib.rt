@@ -8,7 +8,6 @@
 #![tactic(auto)]
 
 mod cut;
-pub mod laws;
 mod put;
 
 pub use cut::Cut;

@@ -7,7 +7,6 @@
 #![tactic(auto)]
 
 mod inside;
-pub mod laws;
 mod state;
 
 pub use inside::{DrawInside, render_inside};

@@ -1,6 +1,6 @@
 -- Tabs: where each part of their row stands, and what they make of a buffer.
 use Rattle.std.specs.Prelude.{◌≡◌, ℕ, Bool, true, false, ◌+◌, ◌-◌, ◌==◌, zero, suc, min, List, [], ◌∷◌}
-use Rattle.std.specs.Prelude.{length, codes, encode_utf8_all, Option, Some, None, if◌then◌else◌, unwrap_or}
+use Rattle.std.specs.Prelude.{length, codes, encode_utf8_all, Option, Some, None, if◌then◌else◌, nat_lt, unwrap_or}
 use Rattle.std.specs.Prelude.{All, IfSome}
 use Rattle.ratatui_core.specs.Layout.{Rect}
 use Rattle.ratatui_core.specs.Style.{Style, new_style, with_modifier, modifier_of}
@@ -85,9 +85,8 @@ abbrev pub tabs_from : TabsData → ℕ → ℕ → List LineData → Drawing
 tabs_from t room k [] = nothing
 tabs_from t room k (line ∷ lines) =
     let n = columns_of_part (tab_part t k line) room in
-    if room == 0 then nothing
-    else (drawing_of_part t.highlight_style (tab_part t k line) room before over (After n) (tabs_from t (room - n)
-    (k + 1) lines))
+    draw_if (nat_lt 0 room) (drawing_of_part t.highlight_style (tab_part t k line) room
+    before over (After n) (tabs_from t (room - n) (k + 1) lines))
 
 -- all that tabs draw in an area: in its first row
 abbrev pub tabs_drawing : TabsData → Rect → Drawing

@@ -7,6 +7,6 @@ returns-in_err-columns c = part-refused c.from_residual.result c.from_residual.e
 
 pub returns : goal.returns
 returns c =
-    part-drawn c.args.self.now.highlight_style (span_part c.args.span.now) c.args.row c.without_first.result c.in_ok-columns.columns
-    c.args.buf.now c.write_span.new.buf c.requires c.in_ok-columns.ensures.fits c.without_first.ensures
+    part-drawn c.args.self.now.highlight_style (span_part c.args.span.now) c.args.row c.of.result c.in_ok-columns.columns
+    c.args.buf.now c.write_span.new.buf c.requires c.in_ok-columns.ensures.fits c.of.ensures
     c.in_ok-columns.ensures.columns c.in_ok-columns.ensures.done.ok
