@@ -37,9 +37,9 @@ pub filled-left : {A : Type 0} (style : Style) (o : Option Block) (area inner : 
     → FramesInside style o area old framed inner → (d : Rect → Drawing) (result : Result A AllocError)
     → IsDone (d inner) inner result framed new → OnErr result (LeavesInside style o d area old new)
 filled-left style o area inner old framed new is d (Ok x) done = tt
-filled-left {A = A} style o area inner old framed new is d (Err e) done = λ _.
-    frame-filled style o area inner old framed new is (λ _ _ r. IsStopped (d r) r) tt tt (Ok {E = AllocError} tt)
-    (done-within (Err {A = A} e) done) done.err
+filled-left style o area inner old framed new is d (Err e) done = λ _.
+    frame-filled style o area inner old framed new is (λ _ _ r. IsStopped (d r) r) tt tt (Ok e)
+    (done-within (Err e) done) done.err
 
 -- the same of a state
 pub filled-state : {A S : Type 0} (style : Style) (o : Option Block) (area inner : Rect) (old framed new : BufferData)
@@ -47,8 +47,8 @@ pub filled-state : {A S : Type 0} (style : Style) (o : Option Block) (area inner
     (result : Result A AllocError) → IsDone (d s inner) inner result framed new → OnOk result (t ≡ next s inner)
     → OnOk result (DrawsStateInside style o d next s t area old new)
 filled-state style o area inner old framed new is d next s t (Ok x) done state =
-    frame-filled style o area inner old framed new is (DrawsState d next) s t (Ok {E = AllocError} x)
-    (done-within (Ok {E = AllocError} x) done) (record { drawn = done.ok; state = state })
+    frame-filled style o area inner old framed new is (DrawsState d next) s t (Ok x)
+    (done-within (Ok x) done) (record { drawn = done.ok; state = state })
 filled-state style o area inner old framed new is d next s t (Err e) done state = tt
 
 -- what a style and a box leave, and narrow things drawn inside, keep cells plain
