@@ -1,14 +1,18 @@
-//! Examples on `ratatui_core` alone; docs/USING.md walks through them.
+//! Examples; docs/USING.md and docs/WIDGETS.md walk through them.
 //!
 //! [`greet`] is the README's first example. [`draw_checked`] draws a frame on a terminal, [`log`]
 //! logs rows above it, [`renew`] makes a list of calls, and [`label`] paints on a buffer. [`Gauge`]
-//! is a widget of one's own: a labelled bar. [`draw_text`] draws a text over a whole frame, and
+//! is a widget of one's own that is painted from the ground up: a labelled bar. [`Badge`] says what
+//! it draws, [`Banner`] promises nothing, and [`Growing`] has a state. [`draw_text`] draws a text over a whole frame, and
 //! [`draw_gauge`] a gauge, by `Terminal::draw_widget`. [`head_and_body`] divides an area.
 #![tactic(auto)]
 
 mod areas;
+mod badge;
+mod banner;
 mod frames;
 mod gauge;
+mod growing;
 mod hello;
 mod labels;
 mod lines;
@@ -17,8 +21,11 @@ mod renewing;
 mod widget_frames;
 
 pub use areas::head_and_body;
+pub use badge::Badge;
+pub use banner::Banner;
 pub use frames::draw_checked;
 pub use gauge::Gauge;
+pub use growing::Growing;
 pub use hello::greet;
 pub use labels::{label, pieces_stand};
 pub use lines::restyle_first;

@@ -1,5 +1,5 @@
 -- Tabs of narrow texts keep cells plain.
-use Rattle.std.proofs.Common.{◌≡◌, ℕ, zero, suc, ◌+◌, ◌-◌, ◌≤◌, ◌==◌, Bool, true, false, IfSome, if◌then◌else◌, List, [], ◌∷◌, All}
+use Rattle.std.proofs.Common.{◌≡◌, ℕ, zero, suc, ◌+◌, ◌-◌, ◌≤◌, ◌==◌, nat_lt, Bool, true, false, IfSome, if◌then◌else◌, List, [], ◌∷◌, All}
 use Rattle.std.proofs.Common.{Option, Some, None, arith, codes}
 use Rattle.std.proofs.lemmas.{List.Elements.All-head, List.Elements.All-tail}
 use Rattle.ratatui_core.specs.Layout.{Rect, intersected}
@@ -7,14 +7,14 @@ use Rattle.ratatui_core.specs.{Style.Style, Text.LineData, Text.ArePrintable}
 use Rattle.ratatui_core.specs.Text.{EachGrapheme, EachSpanGrapheme, TakesOneColumn}
 use Rattle.ratatui_core.specs.{Buffer.BufferData, Buffer.IsPlainFrom}
 use Rattle.rtui_drawing.specs.declared.cut.Cut.TheVariants.{After}
-use Rattle.rtui_drawing.specs.{Drawings.Drawing, Drawings.nothing, Drawings.over, Drawings.◌before◌}
+use Rattle.rtui_drawing.specs.{Drawings.Drawing, Drawings.over, Drawings.◌before◌, Drawings.draw_if}
 use Rattle.rtui_drawing.specs.{Laws.IsNarrowDrawing}
-use Rattle.rtui_drawing.proofs.{DrawingLemmas.draws-plain, NarrowLemmas.text-narrow, NarrowLemmas.line-narrow}
+use Rattle.rtui_drawing.proofs.NarrowLemmas.{text-narrow, line-narrow}
 use Rattle.rtui_boxes.specs.{declared.block.Block.Block, Boxes.IsNarrowBox, Framed.inner_if}
-use Rattle.rtui_boxes.proofs.InnerLemmas.{plain-inside}
+use Rattle.rtui_inside.proofs.InsideLemmas.{inside-plain, inner-columns}
 use Rattle.rtui_tabs.specs.declared.tabs.Tabs.{Tabs as TabsData}
 use Rattle.rtui_tabs.specs.Tabs.{TabPart, no_part, span_part, line_part, ◌beside◌, columns_of_part, drawing_of_part, padding_part}
-use Rattle.rtui_tabs.specs.Tabs.{divider_part, tab_part, tabs_from, tabs_drawing, ShowsTabs, RendersTabs, IsNarrowTabLine, HasNarrowTabs}
+use Rattle.rtui_tabs.specs.Tabs.{divider_part, tab_part, tabs_from, tabs_drawing, RendersTabs, IsNarrowTabLine, HasNarrowTabs}
 
 -- a blank is printable
 pub blank-printable : ArePrintable (codes " ")
@@ -37,9 +37,9 @@ part-narrow highlight (line_part line true) room le is = (line-narrow room line.
 part-narrow highlight (a beside b) room le is =
     (part-narrow highlight a room le is.0, part-narrow highlight b (room - columns_of_part a room) (omega arith) is.1)
 
-none-or : (stop : Bool) (d : Drawing) → IsNarrowDrawing d → IsNarrowDrawing (if stop then nothing else d)
-none-or true d narrow = tt
-none-or false d narrow = narrow
+if-narrow : (b : Bool) (d : Drawing) → IsNarrowDrawing d → IsNarrowDrawing (draw_if b d)
+if-narrow true d narrow = narrow
+if-narrow false d narrow = tt
 
 module _ (t : TabsData) (blank : EachGrapheme TakesOneColumn (codes " ")) (narrow : HasNarrowTabs t) where
   padding-narrow : (o : Option LineData) → IfSome o IsNarrowTabLine → IsNarrowPart (padding_part o)
@@ -58,7 +58,7 @@ module _ (t : TabsData) (blank : EachGrapheme TakesOneColumn (codes " ")) (narro
   from-narrow room k (line ∷ lines) le all =
       let part = tab_part t k line in
       let n = columns_of_part part room in
-      none-or (room == 0) (drawing_of_part t.highlight_style part room before over (After n) (tabs_from t (room - n) (k + 1)
+      if-narrow (nat_lt 0 room) (drawing_of_part t.highlight_style part room before over (After n) (tabs_from t (room - n) (k + 1)
       lines)) (
         part-narrow t.highlight_style part room le (
           divider-narrow k,
@@ -70,14 +70,9 @@ module _ (t : TabsData) (blank : EachGrapheme TakesOneColumn (codes " ")) (narro
         from-narrow (room - n) (k + 1) lines (omega arith) (All-tail IsNarrowTabLine line lines all),
       )
 
-inner-small : (o : Option Block) (area own : Rect) → (inner_if o (intersected area own)).width ≤ 65535
-inner-small None area own = omega arith
-inner-small (Some b) area own = omega arith
-
 pub tabs-keep : EachGrapheme TakesOneColumn (codes " ") → (t : TabsData) (area : Rect) (old new : BufferData)
     → IfSome t.block IsNarrowBox → HasNarrowTabs t → IsPlainFrom 0 old → RendersTabs t area old new → IsPlainFrom 0 new
-tabs-keep blank t area old new box narrow plain is =
-    let r = inner_if t.block (intersected area old.area) in
-    plain-inside t.style t.block (λ _ _. ShowsTabs t) tt tt area old new box plain (λ framed cells shows.
-    draws-plain (tabs_drawing t r) r framed new
-    (from-narrow t blank narrow r.width 0 t.titles.items (inner-small t.block area old.area) narrow.titles) cells shows) is
+tabs-keep blank t area old new box narrow plain =
+    inside-plain t.style t.block area old new box plain (tabs_drawing t)
+    (from-narrow t blank narrow (inner_if t.block (intersected area old.area)).width 0 t.titles.items
+    (inner-columns t.block area old.area) narrow.titles)

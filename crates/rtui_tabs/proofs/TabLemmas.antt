@@ -1,5 +1,5 @@
 -- Parts of tabs drawn one after the other in a row.
-use Rattle.std.proofs.Common.{◌≡◌, ℕ, ◌+◌, ◌-◌, ◌<◌, ◌≤◌, ◌==◌, min, true, false, [], ◌∷◌, length, drop, refl, sym, ap, ◌∙◌, arith}
+use Rattle.std.proofs.Common.{◌≡◌, ℕ, ◌+◌, ◌-◌, ◌<◌, ◌≤◌, nat_lt, min, true, false, [], ◌∷◌, length, drop, refl, sym, ap, ◌∙◌, arith}
 use Rattle.std.proofs.Common.{Bool, List, Result, Ok, Err, IfOk}
 use Rattle.std.specs.Result.{IsErr}
 use Rattle.std.specs.declared.alloc.AllocError.{AllocError}
@@ -86,23 +86,19 @@ part-drawn highlight part row rest n old new is le at columns made =
     }
 
 -- the first row of an area that a buffer has
-pub row-of : (own r row : Rect) → IsBoxArea r → IsInside r own → row ≡ record r { height = 1 }
-    → IsRowIn own row × (row ≡ cut_from (Rows 0 1) r)
+pub row-of : (own r row : Rect) → IsBoxArea r → IsInside r own → row ≡ cut_from (Rows 0 1) r → IsRowIn own row
 row-of own r row box inside at =
     let some = box.rows in let down = box.down in
     let y : min (r.y + 0) 65535 ≡ r.y = omega arith in
     let h : min 1 (r.height - 0) ≡ 1 = omega arith in
-    (
-      rw at (record {
-        there = part-has_row r own r.y box inside (omega arith) (omega arith);
-        left = part-starts r own r.x box inside (omega arith);
-        right = part-right r own r.x r.width box inside (omega arith);
-        edge = box.across;
-        down = omega arith;
-        high = omega arith;
-      }),
-      rw (at, y, h) refl,
-    )
+    rw (at, y, h) (record {
+      there = part-has_row r own r.y box inside (omega arith) (omega arith);
+      left = part-starts r own r.x box inside (omega arith);
+      right = part-right r own r.x r.width box inside (omega arith);
+      edge = box.across;
+      down = omega arith;
+      high = omega arith;
+    })
 
 -- the titles from one on
 pub title-next : (t : TabsData) (room k : ℕ) (title : LineData) → k < length t.titles.items
@@ -111,11 +107,11 @@ pub title-next : (t : TabsData) (room k : ℕ) (title : LineData) → k < length
     before over (After (columns_of_part (tab_part t k title) room)) (tabs_from t
     (room - columns_of_part (tab_part t k title) room) (k + 1) (drop (k + 1) t.titles.items)))
 title-next t room k title lt is some =
-    let test : (room == 0) ≡ false = grind (arith, nat_tests) in
+    let test : nat_lt 0 room ≡ true = grind (arith, nat_tests) in
     let lines = drop_more t.titles.items k title lt ∙ ap (λ l. l ∷ drop (k + 1) t.titles.items) (sym is) in
     rw (lines, test) refl
 
 -- nothing is left without columns
 pub tabs-end : (t : TabsData) (room k : ℕ) (lines : List LineData) → room ≡ 0 → tabs_from t room k lines ≡ nothing
 tabs-end t room k [] none = refl
-tabs-end t room k (line ∷ lines) none = let test : (room == 0) ≡ true = grind (arith, nat_tests) in rw test refl
+tabs-end t room k (line ∷ lines) none = let test : nat_lt 0 room ≡ false = grind (arith, nat_tests) in rw test refl

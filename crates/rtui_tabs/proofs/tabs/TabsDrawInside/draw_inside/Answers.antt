@@ -6,9 +6,10 @@ use Rattle.rtui_tabs.proofs.TabLemmas.{row-of, title-next, tabs-end}
 use Rattle.rtui_tabs.proofs.tabs.TabsDrawInside.draw_inside.Goals as goal
 
 pub loop-k-init : goal.loop-k-init
-loop-k-init c =
-    let first = row-of c.args.buf.now.area c.args.inner _ c.requires.some c.requires.inside refl in
-    record { row = first.0; rest = rw first.1 (continues-in (Rows 0 1) continues-all) }
+loop-k-init c = record {
+  row = row-of c.args.buf.now.area c.args.inner c.of-row.result c.requires.some c.requires.inside c.of-row.ensures;
+  rest = rw c.of-row.ensures (continues-in (Rows 0 1) continues-all);
+}
 
 pub returns-then-row-eq0 : goal.returns-then-row-eq0
 returns-then-row-eq0 c =
