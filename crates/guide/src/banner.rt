@@ -24,6 +24,6 @@ impl<'b, 'a> Widget for &'b Banner<'a> {
 
     fn render(self, area: Rect, buf: &mut Buffer) -> Result<(), AllocError> {
         buf.set_style(area, self.style);
-        self.line.render(area, buf)
+        (&self.line).render(area, buf)
     }
 }

@@ -1,10 +1,11 @@
 //! Examples; docs/USING.md and docs/WIDGETS.md walk through them.
 //!
 //! [`greet`] is the README's first example. [`draw_checked`] draws a frame on a terminal, [`log`]
-//! logs rows above it, [`renew`] makes a list of calls, and [`label`] paints on a buffer. [`Gauge`]
-//! is a widget of one's own that is painted from the ground up: a labelled bar. [`Badge`] says what
-//! it draws, [`Banner`] promises nothing, and [`Growing`] has a state. [`draw_text`] draws a text over a whole frame, and
-//! [`draw_gauge`] a gauge, by `Terminal::draw_widget`. [`head_and_body`] divides an area.
+//! logs rows above it, [`renew`] makes a list of calls, and [`label`] paints on a buffer. Widgets of
+//! one's own are [`Badge`], which says what it draws, [`Banner`], which promises nothing,
+//! [`Growing`], which has a state, and [`Gauge`], which is painted from the ground up. [`draw_text`]
+//! draws a text over a whole frame, and [`draw_gauge`] a gauge, by `Terminal::draw_widget`.
+//! [`head_and_body`] divides an area.
 #![tactic(auto)]
 
 mod areas;
