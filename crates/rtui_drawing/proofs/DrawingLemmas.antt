@@ -1,5 +1,5 @@
 -- What holds of a drawing, and of drawings one after the other.
-use Rattle.std.proofs.Common.{◌≡◌, ◌⊎◌, ⊎_elim, inl, inr, false, true, refl, sym, ◌∙◌, ap, subst, Result, Ok, Err, IsOk, OnOk, OnErr, arith}
+use Rattle.std.proofs.Common.{◌≡◌, ◌⊎◌, ⊎_elim, inl, inr, Bool, false, true, refl, sym, ◌∙◌, ap, subst, Result, Ok, Err, IsOk, OnOk, OnErr, arith}
 use Rattle.std.specs.Result.{IsErr}
 use Rattle.std.specs.declared.alloc.AllocError.{AllocError}
 use Rattle.rtui_geometry.specs.{declared.rect.Rect.Rect, Rect.HasPosition, Rect.IsInside, Rect.EdgesFit, Rect.corner}
@@ -12,7 +12,7 @@ use Rattle.rtui_widgets.proofs.NarrowTextLemmas.{pieces-plain, styled-plain, lin
 use Rattle.rtui_drawing.specs.{declared.cut.Cut.Cut, Cuts.cut_from}
 use Rattle.rtui_drawing.specs.declared.cut.Cut.TheVariants.{First, After, Last, BeforeLast, Middle, Rows}
 use Rattle.rtui_drawing.specs.Drawings.{Thing, a_style, some_pieces, a_line, a_text, a_change, Drawing, nothing, put, over, ◌before◌}
-use Rattle.rtui_drawing.specs.Drawings.{IsPut, IsDrawn, Refuses, IsShortThing, IsStopped, IsDone, IsShortDrawing}
+use Rattle.rtui_drawing.specs.Drawings.{draw_if, IsPut, DrawsAll, Refuses, IsShortThing, IsStopped, IsDone, IsShortDrawing}
 use Rattle.rtui_drawing.specs.Laws.{IsNarrowThing, IsNarrowDrawing, Continues}
 
 -- a part lies in its area
@@ -38,7 +38,7 @@ thing-within (a_line l) r old new is = is.within
 thing-within (a_text t) r old new is = is.within
 thing-within (a_change f is_light) r old new is = Changes-within r r f old new (λ p h. h) is
 
-pub draws-within : (d : Drawing) (r : Rect) (old new : BufferData) → IsDrawn d r old new → ChangesWithin r old new
+pub draws-within : (d : Drawing) (r : Rect) (old new : BufferData) → DrawsAll d r old new → ChangesWithin r old new
 draws-within nothing r old new same = rw same (within-same r old)
 draws-within (put t) r old new is = thing-within t r old new is
 draws-within (over c d) r old new is = within-wider (cut_from c r) r old new (cut-inside c r) (draws-within d (cut_from c r) old new is)
@@ -51,7 +51,7 @@ stops-within (put t) r old new is = is.within
 stops-within (over c d) r old new is = within-wider (cut_from c r) r old new (cut-inside c r) (stops-within d (cut_from c r) old new is)
 stops-within (a before b) r old new is =
     ⊎_elim (λ (one : IsStopped a r old new). stops-within a r old new one)
-    (λ (two : (mid : BufferData) × IsDrawn a r old mid × IsStopped b r mid new).
+    (λ (two : (mid : BufferData) × DrawsAll a r old mid × IsStopped b r mid new).
     within-then r old two.0 new (draws-within a r old two.0 two.1)
     (stops-within b r two.0 new two.2)) is
 
@@ -67,7 +67,7 @@ stops-long (put t) r old new short is = is.long short
 stops-long (over c d) r old new short is = stops-long d (cut_from c r) old new short is
 stops-long (a before b) r old new short is =
     ⊎_elim (λ (one : IsStopped a r old new). stops-long a r old new short.0 one)
-    (λ (two : (mid : BufferData) × IsDrawn a r old mid × IsStopped b r mid new).
+    (λ (two : (mid : BufferData) × DrawsAll a r old mid × IsStopped b r mid new).
     stops-long b r two.0 new (subst (λ own. IsShortDrawing own b r)
     (sym (draws-within a r old two.0 two.1).same_area) short.1) two.2) is
 
@@ -87,7 +87,7 @@ thing-plain (a_line l) r old new narrow plain is = line-stays r old new plain l 
 thing-plain (a_text t) r old new narrow plain is = text-stays r old new plain t narrow is
 thing-plain (a_change f is_light) r old new narrow plain is = plain-changed r f old new narrow is plain
 
-pub draws-plain : (d : Drawing) (r : Rect) (old new : BufferData) → IsNarrowDrawing d → IsPlainFrom 0 old → IsDrawn d r old new
+pub draws-plain : (d : Drawing) (r : Rect) (old new : BufferData) → IsNarrowDrawing d → IsPlainFrom 0 old → DrawsAll d r old new
     → IsPlainFrom 0 new
 draws-plain nothing r old new narrow plain same = rw same plain
 draws-plain (put t) r old new narrow plain is = thing-plain t r old new narrow plain is
@@ -95,14 +95,18 @@ draws-plain (over c d) r old new narrow plain is = draws-plain d (cut_from c r) 
 draws-plain (a before b) r old new narrow plain is =
     draws-plain b r is.0 new narrow.1 (draws-plain a r old is.0 narrow.0 plain is.1) is.2
 
+pub if-narrow : (b : Bool) (d : Drawing) → IsNarrowDrawing d → IsNarrowDrawing (draw_if b d)
+if-narrow true d narrow = narrow
+if-narrow false d narrow = tt
+
 -- 4. and so a buffer settled
 pub draws-settled : (d : Drawing) (r : Rect) (old new : BufferData) → EdgesFit old.area → IsNarrowDrawing d → IsPlainFrom 0 old
-    → IsDrawn d r old new → IsSettledBuffer new
+    → DrawsAll d r old new → IsSettledBuffer new
 draws-settled d r old new edges narrow plain is =
     settled-plain new (subst EdgesFit (sym (draws-within d r old new is).same_area) edges) (draws-plain d r old new narrow plain is)
 
 -- 5. calls one after the other
-pub done-all : {A : Type 0} {d : Drawing} {r : Rect} {x : A} {old new : BufferData} → IsDrawn d r old new → IsDone d r (Ok x) old new
+pub done-all : {A : Type 0} {d : Drawing} {r : Rect} {x : A} {old new : BufferData} → DrawsAll d r old new → IsDone d r (Ok x) old new
 done-all is = record { ok = is; err = tt }
 
 pub done-err : {A B : Type 0} {d : Drawing} {r : Rect} {e : AllocError} {old new : BufferData} (result : Result B AllocError)
@@ -116,7 +120,7 @@ done-then (Ok y) one two = record { ok = (_, one.ok, two.ok); err = tt }
 done-then (Err e) one two = record { ok = tt; err = inr ((_, one.ok, two.err)) }
 
 pub draws-then : {B : Type 0} {a b : Drawing} {r : Rect} {old mid new : BufferData} (result : Result B AllocError)
-    → IsDrawn a r old mid → IsDone b r result mid new → IsDone (a before b) r result old new
+    → DrawsAll a r old mid → IsDone b r result mid new → IsDone (a before b) r result old new
 draws-then (Ok y) one two = record { ok = (_, one, two.ok); err = tt }
 draws-then (Err e) one two = record { ok = tt; err = inr ((_, one, two.err)) }
 

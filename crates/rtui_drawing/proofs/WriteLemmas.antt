@@ -12,7 +12,20 @@ use Rattle.rtui_buffer.specs.PaintedText.{room_at, IsBeside, IsSameBeside, Paint
 use Rattle.rtui_buffer.proofs.{ColumnLemmas.PaintsByColumns-paints, ColumnLemmas.same-beside, ColumnLemmas.text-keeps}
 use Rattle.rtui_buffer.proofs.{ColumnLemmas.line-keeps, PaintsLemmas.front-beside}
 use Rattle.rtui_widgets.specs.Rendering.{ChangesWithin}
+use Rattle.rtui_drawing.specs.Cuts.{cut_from}
+use Rattle.rtui_drawing.specs.declared.cut.Cut.TheVariants.{After}
 use Rattle.rtui_drawing.specs.Drawings.{some_pieces, put, IsDone, IsRowIn}
+
+-- what is left of a row of a buffer is one
+pub row-after : (own row : Rect) (n : ℕ) → n ≤ row.width → IsRowIn own row → IsRowIn own (cut_from (After n) row)
+row-after own row n le is = let l = is.left in let r = is.right in let e = is.edge in record {
+  there = is.there;
+  left = omega arith;
+  right = omega arith;
+  edge = omega arith;
+  down = is.down;
+  high = is.high;
+}
 
 -- the buffer has all columns of a row of its own, and a text in it is no longer
 pub room-is : (own row : Rect) → IsRowIn own row → room_at own row.x row.width ≡ row.width

@@ -67,11 +67,11 @@ IsPut (a_text t) r old new = RendersText t r old new
 IsPut (a_change f is_light) r old new = ChangesEach r f old new
 
 -- a drawing stands in an area, each thing over the ones before it, and nothing else changed
-abbrev pub IsDrawn : Drawing → Rect → BufferData → BufferData → Type 0
-IsDrawn nothing r old new = new ≡ old
-IsDrawn (put thing) r old new = IsPut thing r old new
-IsDrawn (over c d) r old new = IsDrawn d (cut_from c r) old new
-IsDrawn (a before b) r old new = (mid : BufferData) × IsDrawn a r old mid × IsDrawn b r mid new
+abbrev pub DrawsAll : Drawing → Rect → BufferData → BufferData → Type 0
+DrawsAll nothing r old new = new ≡ old
+DrawsAll (put thing) r old new = IsPut thing r old new
+DrawsAll (over c d) r old new = DrawsAll d (cut_from c r) old new
+DrawsAll (a before b) r old new = (mid : BufferData) × DrawsAll a r old mid × DrawsAll b r mid new
 
 -- what is left of a thing for which memory was refused: a front of its graphemes, or some cells changed
 abbrev pub LeavesThing : Thing → Rect → BufferData → BufferData → Type 0
@@ -101,12 +101,12 @@ IsStopped nothing r old new = ⊥
 IsStopped (put thing) r old new = Refuses thing r old new
 IsStopped (over c d) r old new = IsStopped d (cut_from c r) old new
 IsStopped (a before b) r old new =
-    IsStopped a r old new ⊎ ((mid : BufferData) × IsDrawn a r old mid × IsStopped b r mid new)
+    IsStopped a r old new ⊎ ((mid : BufferData) × DrawsAll a r old mid × IsStopped b r mid new)
 
 -- a call draws in an area, or memory is refused for one of the things
 pub record IsDone {A : Type 0} (d : Drawing) (r : Rect) (result : Result A AllocError)
     (old new : BufferData) : Type 0 where
-  pub ok : OnOk result (IsDrawn d r old new)
+  pub ok : OnOk result (DrawsAll d r old new)
   pub err : OnErr result (IsStopped d r old new)
 
 -- a drawing takes no memory in an area of a buffer

@@ -6,7 +6,7 @@ use Rattle.rtui_text.specs.Graphemes.{TakesOneColumn}
 use Rattle.rtui_buffer.specs.BufferData.{BufferData}
 use Rattle.rtui_widgets.specs.{Plain.IsPlain, Graphemes.EachLineGrapheme, Graphemes.EachTextGrapheme}
 use Rattle.rtui_drawing.specs.Drawings.{Thing, a_style, some_pieces, a_line, a_text, a_change}
-use Rattle.rtui_drawing.specs.Drawings.{Drawing, nothing, put, over, ◌before◌, IsDrawn, IsStopped}
+use Rattle.rtui_drawing.specs.Drawings.{Drawing, nothing, put, over, ◌before◌, DrawsAll, IsStopped}
 
 -- a thing whose symbols take at most one column each
 abbrev pub IsNarrowThing : Thing → Type 0
@@ -26,5 +26,5 @@ IsNarrowDrawing (a before b) = IsNarrowDrawing a × IsNarrowDrawing b
 -- is refused
 pub record Continues (left : Drawing) (r : Rect) (all : Drawing) (whole : Rect)
     (old now : BufferData) : Type 0 where
-  pub ok : (new : BufferData) → IsDrawn left r now new → IsDrawn all whole old new
+  pub ok : (new : BufferData) → DrawsAll left r now new → DrawsAll all whole old new
   pub err : (new : BufferData) → IsStopped left r now new → IsStopped all whole old new

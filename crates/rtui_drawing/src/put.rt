@@ -4,7 +4,7 @@ ghost use Rattle.std.specs.Prelude.{◌≡◌, ◌≤◌, IfOk};
 ghost use Rattle.rtui_buffer.specs.Line.{line_pieces};
 ghost use Rattle.rtui_buffer.specs.Painting.{columns, text_pieces};
 ghost use Rattle.rtui_drawing.specs.Drawings.{put_style, put_pieces, put_line, put_text, put_change};
-ghost use Rattle.rtui_drawing.specs.Drawings.{IsDrawn, IsDone, IsRowIn};
+ghost use Rattle.rtui_drawing.specs.Drawings.{DrawsAll, IsDone, IsRowIn};
 
 use rtui_buffer::Buffer;
 use rtui_geometry::Rect;
@@ -15,7 +15,7 @@ use std::alloc::AllocError;
 
 /// Lays a style over an area.
 pub fn put_style(style: Style, area: Rect, buf: &mut Buffer)
-    ensures { IsDrawn (put_style style) area buf.old buf.new }
+    ensures { DrawsAll (put_style style) area buf.old buf.new }
 {
     buf.set_style(area, style);
 }

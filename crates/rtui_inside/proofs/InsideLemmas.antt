@@ -1,15 +1,17 @@
 -- What is drawn inside a frame: the clauses of a widget that draws it there.
-use Rattle.std.proofs.Common.{◌≡◌, ◌≤◌, ◌∙◌, Option, Some, None, IfSome, Result, Ok, Err, OnOk, OnErr, IsOk, arith}
+use Rattle.std.proofs.Common.{◌≡◌, ℕ, ◌+◌, ◌-◌, ◌<◌, ◌≤◌, min, ◌∙◌, Option, Some, None, IfSome, Result, Ok, Err, OnOk, OnErr, IsOk, arith}
 use Rattle.std.specs.declared.alloc.AllocError.{AllocError}
-use Rattle.ratatui_core.specs.{Layout.Rect, Layout.intersected, Style.Style, Buffer.BufferData, Buffer.IsPlainFrom, Widgets.ChangesWithin}
+use Rattle.ratatui_core.specs.{Layout.Rect, Layout.IsInside, Layout.intersected, Style.Style, Buffer.BufferData, Buffer.IsPlainFrom, Widgets.ChangesWithin}
 use Rattle.ratatui_core.proofs.WidgetLemmas.{holds_anyway}
-use Rattle.rtui_drawing.specs.Drawings.{Drawing, IsDrawn, IsDone, IsStopped}
+use Rattle.rtui_drawing.specs.Cuts.{cut_from}
+use Rattle.rtui_drawing.specs.declared.cut.Cut.TheVariants.{Rows}
+use Rattle.rtui_drawing.specs.Drawings.{Drawing, DrawsAll, IsDone, IsStopped, IsRowIn}
 use Rattle.rtui_drawing.specs.Laws.{IsNarrowDrawing}
 use Rattle.rtui_drawing.proofs.DrawingLemmas.{done-within, done-short, draws-plain}
 use Rattle.rtui_boxes.specs.declared.block.Block.{Block}
-use Rattle.rtui_boxes.specs.{Boxes.IsNarrowBox, Framed.FramesInside, Framed.inner_if}
+use Rattle.rtui_boxes.specs.{Boxes.IsBoxArea, Boxes.IsNarrowBox, Framed.FramesInside, Framed.inner_if}
 use Rattle.rtui_boxes.proofs.FrameLemmas.{frame-filled, frame-within, frame-inner}
-use Rattle.rtui_boxes.proofs.InnerLemmas.{plain-inside}
+use Rattle.rtui_boxes.proofs.{InnerLemmas.plain-inside, PaintLemmas.part-has_row, PaintLemmas.part-starts, PaintLemmas.part-right}
 use Rattle.rtui_inside.specs.Inside.{DrawsInside, LeavesInside, IsShortInside, DrawsState, DrawsStateInside}
 
 module _ {A : Type 0} (style : Style) (o : Option Block) (area inner : Rect) (old framed new : BufferData)
@@ -22,7 +24,7 @@ module _ {A : Type 0} (style : Style) (o : Option Block) (area inner : Rect) (ol
   filled-area = within.same_area ∙ is.within.same_area
 
   pub filled-ok : OnOk result (DrawsInside style o d area old new)
-  filled-ok = frame-filled style o area inner old framed new is (λ _ _ r. IsDrawn (d r) r) tt tt result within done.ok
+  filled-ok = frame-filled style o area inner old framed new is (λ _ _ r. DrawsAll (d r) r) tt tt result within done.ok
 
   pub filled-err : OnErr result (ChangesWithin area old new)
   filled-err = holds_anyway result (frame-within style o area inner old framed new is within)
@@ -58,7 +60,7 @@ module _ (style : Style) (o : Option Block) (area : Rect) (old new : BufferData)
       → DrawsInside style o d area old new → IsPlainFrom 0 new
   inside-plain d narrow is =
       let r = inner_if o (intersected area old.area) in
-      plain-inside style o (λ _ _ r. IsDrawn (d r) r) tt tt area old new box plain (λ framed cells drawn.
+      plain-inside style o (λ _ _ r. DrawsAll (d r) r) tt tt area old new box plain (λ framed cells drawn.
       draws-plain (d r) r framed new narrow cells drawn) is
 
   pub state-plain : {S : Type 0} (d : S → Rect → Drawing) (next : S → Rect → S) (s t : S)
@@ -73,3 +75,19 @@ module _ (style : Style) (o : Option Block) (area : Rect) (old new : BufferData)
 pub inner-columns : (o : Option Block) (area own : Rect) → (inner_if o (intersected area own)).width ≤ 65535
 inner-columns None area own = omega arith
 inner-columns (Some b) area own = omega arith
+
+-- a row of an area that a buffer has is one of the buffer's
+pub row-inside : (own r row : Rect) (k : ℕ) → IsBoxArea r → IsInside r own → k < r.height → row ≡ cut_from (Rows k 1) r
+    → IsRowIn own row
+row-inside own r row k box inside lt at =
+    let down = box.down in
+    let y : min (r.y + k) 65535 ≡ r.y + k = omega arith in
+    let h : min 1 (r.height - k) ≡ 1 = omega arith in
+    rw (at, y, h) (record {
+      there = part-has_row r own (r.y + k) box inside (omega arith) (omega arith);
+      left = part-starts r own r.x box inside (omega arith);
+      right = part-right r own r.x r.width box inside (omega arith);
+      edge = box.across;
+      down = omega arith;
+      high = omega arith;
+    })

@@ -3,11 +3,11 @@ use Rattle.std.specs.Prelude.{◌≡◌, Option}
 use Rattle.ratatui_core.specs.{Layout.Rect, Layout.intersected, Style.Style, Buffer.BufferData}
 use Rattle.rtui_boxes.specs.{declared.block.Block.Block, Framed.RendersInFrame, Framed.RendersStateInFrame}
 use Rattle.rtui_boxes.specs.{Framed.IsShortFrame, Framed.inner_if}
-use Rattle.rtui_drawing.specs.Drawings.{Drawing, IsDrawn, IsStopped, IsShortDrawing}
+use Rattle.rtui_drawing.specs.Drawings.{Drawing, DrawsAll, IsStopped, IsShortDrawing}
 
 -- a style and a box over the part of an area that a buffer has, and inside, if there are cells, a drawing
 abbrev pub DrawsInside : Style → Option Block → (Rect → Drawing) → Rect → BufferData → BufferData → Type 0
-DrawsInside style block d = RendersInFrame style block (λ r. IsDrawn (d r) r)
+DrawsInside style block d = RendersInFrame style block (λ r. DrawsAll (d r) r)
 
 -- what a refusal leaves, if the box takes no memory: style and box stand, and inside all before one thing
 abbrev pub LeavesInside : Style → Option Block → (Rect → Drawing) → Rect → BufferData → BufferData → Type 0
@@ -23,7 +23,7 @@ pub record IsShortInside (block : Option Block) (d : Rect → Drawing) (area : R
 -- the drawing of a state, which leads to the next one
 pub record DrawsState {S : Type 0} (d : S → Rect → Drawing) (next : S → Rect → S) (s t : S) (r : Rect)
     (old new : BufferData) : Type 0 where
-  pub drawn : IsDrawn (d s r) r old new
+  pub drawn : DrawsAll (d s r) r old new
   pub state : t ≡ next s r
 
 -- a style and a box, and inside the drawing of a state; without cells inside the state stays

@@ -9,7 +9,7 @@ use Rattle.ratatui_core.specs.{Buffer.BufferData, Buffer.IsPlainFrom}
 use Rattle.rtui_drawing.specs.declared.cut.Cut.TheVariants.{After}
 use Rattle.rtui_drawing.specs.{Drawings.Drawing, Drawings.over, Drawings.◌before◌, Drawings.draw_if}
 use Rattle.rtui_drawing.specs.{Laws.IsNarrowDrawing}
-use Rattle.rtui_drawing.proofs.NarrowLemmas.{text-narrow, line-narrow}
+use Rattle.rtui_drawing.proofs.{DrawingLemmas.if-narrow, NarrowLemmas.text-narrow, NarrowLemmas.line-narrow}
 use Rattle.rtui_boxes.specs.{declared.block.Block.Block, Boxes.IsNarrowBox, Framed.inner_if}
 use Rattle.rtui_inside.proofs.InsideLemmas.{inside-plain, inner-columns}
 use Rattle.rtui_tabs.specs.declared.tabs.Tabs.{Tabs as TabsData}
@@ -36,10 +36,6 @@ part-narrow highlight (line_part line false) room le is = (line-narrow room line
 part-narrow highlight (line_part line true) room le is = (line-narrow room line.style line.spans le is, tt)
 part-narrow highlight (a beside b) room le is =
     (part-narrow highlight a room le is.0, part-narrow highlight b (room - columns_of_part a room) (omega arith) is.1)
-
-if-narrow : (b : Bool) (d : Drawing) → IsNarrowDrawing d → IsNarrowDrawing (draw_if b d)
-if-narrow true d narrow = narrow
-if-narrow false d narrow = tt
 
 module _ (t : TabsData) (blank : EachGrapheme TakesOneColumn (codes " ")) (narrow : HasNarrowTabs t) where
   padding-narrow : (o : Option LineData) → IfSome o IsNarrowTabLine → IsNarrowPart (padding_part o)

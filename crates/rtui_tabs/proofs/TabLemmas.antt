@@ -5,21 +5,20 @@ use Rattle.std.specs.Result.{IsErr}
 use Rattle.std.specs.declared.alloc.AllocError.{AllocError}
 use Rattle.std.proofs.Math.ListN.{get_or}
 use Rattle.std.proofs.lemmas.{Bool.Decides.nat_tests, List.drop_more}
-use Rattle.ratatui_core.specs.{Layout.Rect, Layout.IsInside, Style.Style, Text.LineData}
+use Rattle.ratatui_core.specs.{Layout.Rect, Style.Style, Text.LineData}
 use Rattle.ratatui_core.specs.Buffer.{BufferData, line_pieces}
 use Rattle.rtui_drawing.specs.Cuts.{cut_from}
-use Rattle.rtui_drawing.specs.declared.cut.Cut.TheVariants.{After, Rows}
-use Rattle.rtui_drawing.specs.Drawings.{nothing, put_pieces, over, ◌before◌, IsDrawn, IsDone, IsRowIn}
+use Rattle.rtui_drawing.specs.declared.cut.Cut.TheVariants.{After}
+use Rattle.rtui_drawing.specs.Drawings.{nothing, put_pieces, over, ◌before◌, DrawsAll, IsDone, IsRowIn}
 use Rattle.rtui_drawing.proofs.DrawingLemmas.{draws-within, done-err, done-in, done-then, done-stop}
-use Rattle.rtui_boxes.specs.Boxes.{IsBoxArea}
-use Rattle.rtui_boxes.proofs.PaintLemmas.{part-has_row, part-starts, part-right}
+use Rattle.rtui_drawing.proofs.WriteLemmas.{row-after}
 use Rattle.rtui_tabs.specs.declared.tabs.Tabs.{Tabs as TabsData}
 use Rattle.rtui_tabs.specs.Tabs.{TabPart, line_part, ◌beside◌, columns_of_part, drawing_of_part, tab_part, tabs_from}
 use Rattle.rtui_tabs.specs.Inner.{DrawsPart}
 
--- behind so many columns, and behind so many more
-behind-behind : (m n : ℕ) (r : Rect) → cut_from (After n) (cut_from (After m) r) ≡ cut_from (After (m + n)) r
-behind-behind m n r =
+-- after so many columns, and after so many more
+after-after : (m n : ℕ) (r : Rect) → cut_from (After n) (cut_from (After m) r) ≡ cut_from (After (m + n)) r
+after-after m n r =
     let x : min (min (r.x + m) 65535 + n) 65535 ≡ min (r.x + (m + n)) 65535 = omega arith in
     let w : r.width - m - n ≡ r.width - (m + n) = omega arith in
     rw (x, w) refl
@@ -41,7 +40,7 @@ part_then {a = a} {b = b} {row = row} r first second =
         → IfOk r (λ q. q ≡ cut_from (After (columns_of_part b (row.width - columns_of_part a row.width)))
         (cut_from (After (columns_of_part a row.width)) row))
         → IfOk r (λ q. q ≡ cut_from (After (columns_of_part (a beside b) row.width)) row)
-    rests (Ok q) is = is ∙ behind-behind (columns_of_part a row.width) _ row
+    rests (Ok q) is = is ∙ after-after (columns_of_part a row.width) _ row
     rests (Err e) is = tt
 
 pub part_stop : {highlight : Style} {a b : TabPart} {row : Rect} {e : AllocError} {old new : BufferData}
@@ -69,36 +68,13 @@ line-refused (Err f) err is = record { done = done-stop (Err f) refl is; rest = 
 -- a part is drawn that takes so many columns; what is left of a row of a buffer is one
 pub part-drawn : (highlight : Style) (part : TabPart) (row rest : Rect) (n : ℕ) (old new : BufferData) → IsRowIn old.area row
     → n ≤ row.width → rest ≡ cut_from (After n) row → n ≡ columns_of_part part row.width
-    → IsDrawn (drawing_of_part highlight part row.width) row old new → DrawsPart highlight part row (Ok rest) old new
-part-drawn highlight part row rest n old new is le at columns made =
-    let l = is.left in let r = is.right in let e = is.edge in
-    record {
-      done = record { ok = made; err = tt };
-      rest = at ∙ ap (λ n. cut_from (After n) row) columns;
-      left = rw (at, (draws-within (drawing_of_part highlight part row.width) row old new made).same_area) (record {
-        there = is.there;
-        left = omega arith;
-        right = omega arith;
-        edge = omega arith;
-        down = is.down;
-        high = is.high;
-      });
-    }
-
--- the first row of an area that a buffer has
-pub row-of : (own r row : Rect) → IsBoxArea r → IsInside r own → row ≡ cut_from (Rows 0 1) r → IsRowIn own row
-row-of own r row box inside at =
-    let some = box.rows in let down = box.down in
-    let y : min (r.y + 0) 65535 ≡ r.y = omega arith in
-    let h : min 1 (r.height - 0) ≡ 1 = omega arith in
-    rw (at, y, h) (record {
-      there = part-has_row r own r.y box inside (omega arith) (omega arith);
-      left = part-starts r own r.x box inside (omega arith);
-      right = part-right r own r.x r.width box inside (omega arith);
-      edge = box.across;
-      down = omega arith;
-      high = omega arith;
-    })
+    → DrawsAll (drawing_of_part highlight part row.width) row old new → DrawsPart highlight part row (Ok rest) old new
+part-drawn highlight part row rest n old new is le at columns made = record {
+  done = record { ok = made; err = tt };
+  rest = at ∙ ap (λ n. cut_from (After n) row) columns;
+  left = rw (at, (draws-within (drawing_of_part highlight part row.width) row old new made).same_area)
+      (row-after old.area row n le is);
+}
 
 -- the titles from one on
 pub title-next : (t : TabsData) (room k : ℕ) (title : LineData) → k < length t.titles.items

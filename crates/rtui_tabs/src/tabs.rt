@@ -3,7 +3,7 @@
 ghost use Rattle.std.specs.Prelude.{◌≡◌, ◌==◌, length, Some, IfOk, true, map, List};
 ghost use Rattle.std.specs.Iterator.{IsFinite, Drains};
 ghost use Rattle.ratatui_core.specs.Text.{LineData, raw_line};
-ghost use Rattle.rtui_drawing.specs.Drawings.{IsDrawn, IsRowIn, draw_if, put_style};
+ghost use Rattle.rtui_drawing.specs.Drawings.{DrawsAll, IsRowIn, draw_if, put_style};
 ghost use Rattle.rtui_tabs.specs.Tabs.{IsNewTabs, selected_of, is_tab_selected, no_part, span_part};
 ghost use Rattle.rtui_tabs.specs.Tabs.{line_part, padding_part, divider_part, tab_part};
 ghost use Rattle.rtui_tabs.specs.Inner.{DrawsPart};
@@ -205,7 +205,7 @@ impl<'a> Tabs<'a> {
     // Lays the highlight over the selected title.
     fn highlight_if(&self, is_selected: bool, area: Rect, buf: &mut Buffer)
         ensures { let style = self.now.highlight_style in
-            IsDrawn (draw_if is_selected (put_style style)) area buf.old buf.new }
+            DrawsAll (draw_if is_selected (put_style style)) area buf.old buf.new }
     {
         if is_selected {
             put_style(self.highlight_style, area, buf);

@@ -4,8 +4,8 @@
 
 #[cfg(test)]
 mod cuts;
-mod label;
+mod tag;
 #[cfg(test)]
 mod widgets;
 
-pub use label::Label;
+pub use tag::Tag;

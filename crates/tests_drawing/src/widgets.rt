@@ -3,7 +3,7 @@
 ghost use Rattle.ratatui_core.specs.Layout.{Rect as RectData};
 ghost use Rattle.ratatui_core.specs.Buffer.{BufferData};
 
-use crate::label::Label;
+use crate::tag::Tag;
 use guide::{Badge, Banner, Growing};
 use ratatui_core::buffer::Buffer;
 use ratatui_core::layout::Rect;
@@ -54,12 +54,12 @@ fn badges(rt: HostRuntime) -> Result<(), Fail> {
         line: Line::raw(a, "new")?,
     };
     assert!(rt; leaves(a, &badge, "┌────┐│new │└────┘", 4)?);
-    let label = Label {
+    let tag = Tag {
         block: None,
         style: green(),
         line: Line::raw(a, "new")?,
     };
-    assert!(rt; leaves(a, &label, "new               ", 18)?);
+    assert!(rt; leaves(a, &tag, "new               ", 18)?);
     Ok(())
 }
 

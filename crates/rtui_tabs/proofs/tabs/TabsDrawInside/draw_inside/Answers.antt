@@ -2,12 +2,14 @@ use Rattle.std.proofs.Common.{drop, refl, arith}
 use Rattle.std.proofs.lemmas.List.{drop_all}
 use Rattle.rtui_drawing.specs.declared.cut.Cut.TheVariants.{Rows}
 use Rattle.rtui_drawing.proofs.DrawingLemmas.{continues-all, continues-in, continues-next, continues-stop, continues-end}
-use Rattle.rtui_tabs.proofs.TabLemmas.{row-of, title-next, tabs-end}
+use Rattle.rtui_inside.proofs.InsideLemmas.{row-inside}
+use Rattle.rtui_tabs.proofs.TabLemmas.{title-next, tabs-end}
 use Rattle.rtui_tabs.proofs.tabs.TabsDrawInside.draw_inside.Goals as goal
 
 pub loop-k-init : goal.loop-k-init
 loop-k-init c = record {
-  row = row-of c.args.buf.now.area c.args.inner c.of-row.result c.requires.some c.requires.inside c.of-row.ensures;
+  row = row-inside c.args.buf.now.area c.args.inner c.of-row.result 0 c.requires.some c.requires.inside c.requires.some.rows
+      c.of-row.ensures;
   rest = rw c.of-row.ensures (continues-in (Rows 0 1) continues-all);
 }
 

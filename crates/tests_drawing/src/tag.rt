@@ -12,7 +12,7 @@ use std::alloc::AllocError;
 
 /// A line on a colour, in a box if there is one.
 #[derive(Drop)]
-pub struct Label<'a> {
+pub struct Tag<'a> {
     /// The box around it.
     pub block: Option<Block<'a>>,
     /// The colour under the line.
@@ -22,10 +22,10 @@ pub struct Label<'a> {
 }
 
 // The colour, and the line over it.
-impl<'a> DrawInside for Label<'a> {
-    ghost use Rattle.tests_drawing.specs.Labels.{label_drawing};
+impl<'a> DrawInside for Tag<'a> {
+    ghost use Rattle.tests_drawing.specs.Tags.{tag_drawing};
 
-    ghost drawing = { label_drawing };
+    ghost drawing = { tag_drawing };
 
     #[tactic(auto, using(rtui_drawing::proofs::DrawingLemmas::drawing_steps))]
     fn draw_inside(&self, inner: Rect, buf: &mut Buffer) -> Result<(), AllocError> {
@@ -35,14 +35,14 @@ impl<'a> DrawInside for Label<'a> {
 }
 
 /// Over the area, as far as the buffer has it: the box, and inside the colour with the line on it.
-impl<'b, 'a> Widget for &'b Label<'a> {
-    ghost use Rattle.tests_drawing.specs.Labels.{RendersLabel, LeavesLabel, IsShortLabel};
+impl<'b, 'a> Widget for &'b Tag<'a> {
+    ghost use Rattle.tests_drawing.specs.Tags.{RendersTag, LeavesTag, IsShortTag};
 
-    ghost renders = { λ label. RendersLabel label.now };
+    ghost renders = { λ tag. RendersTag tag.now };
 
-    ghost leaves = { λ label. LeavesLabel label.now };
+    ghost leaves = { λ tag. LeavesTag tag.now };
 
-    ghost is_short = { λ label. IsShortLabel label.now };
+    ghost is_short = { λ tag. IsShortTag tag.now };
 
     fn render(self, area: Rect, buf: &mut Buffer) -> Result<(), AllocError> {
         render_inside(self, Style::new(), &self.block, area, buf)
