@@ -4,3 +4,5 @@ pub mod Labels
 pub mod Logging
 pub mod Restyling
 pub mod Renewing
+pub mod Badges
+pub mod Growing

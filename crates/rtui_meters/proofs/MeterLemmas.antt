@@ -1,17 +1,21 @@
 -- Shares of a number, and bars over a part of a buffer.
-use Rattle.std.proofs.Common.{◌≡◌, ℕ, ◌+◌, ◌-◌, ◌*◌, ◌/◌, ◌<◌, ◌≤◌, List, min, Option, Some, None, arith, Result, Ok, Err, OnOk}
+use Rattle.std.proofs.Common.{◌≡◌, ℕ, ◌+◌, ◌-◌, ◌*◌, ◌/◌, ◌<◌, ◌≤◌, List, min, Option, Some, None, arith, Result, Ok, refl}
 use Rattle.std.proofs.Math.Nat.{div-lt_iff_lt-mul}
 use Rattle.std.specs.declared.alloc.AllocError.{AllocError}
-use Rattle.ratatui_core.specs.Layout.{Rect, IsInside, corner}
-use Rattle.ratatui_core.specs.Buffer.{BufferData, ChangesEach, Piece, columns, PaintsPieces, Paints, HasRow}
+use Rattle.ratatui_core.specs.Layout.{Rect, IsInside}
+use Rattle.ratatui_core.specs.Buffer.{BufferData, columns, Paints, HasRow}
 use Rattle.ratatui_core.specs.Buffer.{pieces_at, position_of}
 use Rattle.ratatui_core.specs.{Widgets.ChangesWithin, Style.Style, Style.new_style, Text.LineData}
-use Rattle.ratatui_core.proofs.BufferLemmas.{line-keeps, text-keeps}
+use Rattle.ratatui_core.proofs.BufferLemmas.{text-keeps}
+use Rattle.rtui_drawing.specs.Cuts.{cut_from}
+use Rattle.rtui_drawing.specs.declared.cut.Cut.TheVariants.{After, Rows}
+use Rattle.rtui_drawing.specs.Drawings.{put_pieces, put_change, IsDone, IsRowIn}
+use Rattle.rtui_drawing.proofs.{DrawingLemmas.done-in, DrawingLemmas.done-then, WriteLemmas.text-fits, WriteLemmas.line-fits}
 use Rattle.rtui_boxes.specs.Boxes.{IsBoxArea}
 use Rattle.rtui_boxes.proofs.PaintLemmas.{paints-within, part-has_row, part-starts}
 use Rattle.rtui_meters.specs.{declared.line_gauge.LineGauge.LineGauge}
 use Rattle.rtui_meters.specs.{Shares.filled_part, Shares.even_percent_text, Gauges.label_part}
-use Rattle.rtui_meters.specs.LineGauges.{pieces_of_label, line_label_pieces, line_start, line_cell, FillsLine}
+use Rattle.rtui_meters.specs.LineGauges.{pieces_of_label, line_label_pieces, line_cut, line_cell, HasShortLine, line_gauge_drawing}
 
 -- a rounded share of a number is at most the number
 rounded-below : (n p w : ℕ) → p ≤ w → 0 < w → 2 * n * p + w < (n + 1) * (2 * w)
@@ -25,52 +29,30 @@ rounded-le n p w le some =
     (rounded-below n p w le some) in
     omega arith
 
--- pieces painted from the corner of a part on, in at most its columns
-pub corner-within : {A : Type 0} (r : Result A AllocError) (part : Rect) (ps : List Piece) (old new : BufferData) → IsBoxArea part
-    → IsInside part old.area → columns ps ≤ part.width → Paints (corner part) ps r old new
-    → ChangesWithin part old new
-corner-within r part ps old new box inside le paints =
-    let wide = box.columns in let high = box.rows in
-    paints-within r part part.x part.y ps old new box inside (omega arith) (omega arith) (omega arith) (omega arith) paints
-
--- a label's pieces keep to the part's columns
-pub pieces-keep : (g : LineGauge) (o : Option LineData) (r own : Rect) → columns (pieces_of_label g o r own) ≤ r.width
-pieces-keep g None r own = text-keeps own r.x r.width new_style (even_percent_text g.share)
-pieces-keep g (Some label) r own = line-keeps own r.x r.width label
-
-pub label-within : {A : Type 0} (res : Result A AllocError) (g : LineGauge) (r : Rect) (old new : BufferData) → IsBoxArea r
-    → IsInside r old.area → Paints (corner r) (line_label_pieces g r old.area) res old new → ChangesWithin r old new
-label-within res g r old new box inside paints = corner-within res r (line_label_pieces g r old.area) old new box inside
-    (pieces-keep g g.label r old.area) paints
-
--- what is right of a column in a part's first row
-pub right-inside : (r : Rect) (x width : ℕ) → IsBoxArea r → r.x ≤ x → width ≡ r.x + r.width - x
-    → IsInside (record { x = x; y = r.y; width = width; height = 1 }) r
-right-inside r x width box le e p h =
-    let a = box.across in let d = box.down in let wide = box.columns in let high = box.rows in
-    let left = h.left in let right = h.right in let top = h.top in let bottom = h.bottom in
-    record { left = omega arith; right = omega arith; top = omega arith; bottom = omega arith }
+-- a label's pieces keep to the columns of a row
+pub pieces-keep : (g : LineGauge) (o : Option LineData) (own row : Rect) → IsRowIn own row
+    → columns (pieces_of_label g o row.width) ≤ row.width
+pieces-keep g None own row is = text-fits own row new_style (even_percent_text g.share) is
+pieces-keep g (Some label) own row is = line-fits own row label is
 
 -- the label, and the line after it
-pub fills-line : {A : Type 0} (res : Result A AllocError) (g : LineGauge) (r : Rect) (start width end : ℕ)
-    (old labelled new : BufferData) → PaintsPieces (corner r) (line_label_pieces g r old.area) old labelled
-    → start ≡ line_start g r old.area
-    → width ≡ r.x + r.width - start → end ≡ min (start + filled_part g.share width) 65535
-    → OnOk res (ChangesEach (record { x = start; y = r.y; width = width; height = 1 })
-    (line_cell (record {
+pub fills-line : {A B : Type 0} {x : A} (result : Result B AllocError) (g : LineGauge) (r row part : Rect) (n k end : ℕ)
+    (old labelled new : BufferData) → row ≡ cut_from (Rows 0 1) r
+    → IsDone (put_pieces (line_label_pieces g row.width)) row (Ok x) old labelled → n ≡ columns (line_label_pieces g row.width)
+    → k ≡ min (n + 1) 65535 → part ≡ cut_from (After k) row → end ≡ min (part.x + filled_part g.share part.width) 65535
+    → IsDone (put_change (line_cell (record {
       end = end;
       filled_symbol = g.filled_symbol;
       unfilled_symbol = g.unfilled_symbol;
       filled_style = g.filled_style;
       unfilled_style = g.unfilled_style;
-    })) labelled new)
-    → OnOk res (FillsLine g r old new)
-fills-line (Ok v) g r start width end old labelled new label e1 e2 e3 line = record {
-  labelled = labelled;
-  label = label;
-  line = rw (e3, e2, e1) at line;
-}
-fills-line (Err e) g r start width end old labelled new label e1 e2 e3 line = tt
+    })) (λ _ _. HasShortLine g)) part result labelled new → IsDone (line_gauge_drawing g r) r result old new
+fills-line {x = x} result g r row part n k end old labelled new e0 label e1 e2 e3 e4 line =
+    done-in (Rows 0 1) (cut_from (Rows 0 1) r) result
+    (done-then {x = x} result (rw e0 at label)
+    (done-in (line_cut g r.width) (cut_from (line_cut g r.width) (cut_from (Rows 0 1) r)) result
+    (rw (e4, e3, e2, e1, e0) at line) refl))
+    refl
 
 -- where a label stands in a part
 pub record IsLabelIn (r l : Rect) : Type 0 where

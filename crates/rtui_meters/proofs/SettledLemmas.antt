@@ -1,5 +1,5 @@
 -- Gauges of narrow symbols keep a buffer settled.
-use Rattle.std.proofs.Common.{◌≡◌, ℕ, zero, suc, ◌+◌, ◌≤◌, true, ◌&&◌, nat_lt, ◌==◌, List, IfSome}
+use Rattle.std.proofs.Common.{◌≡◌, ℕ, zero, suc, ◌+◌, ◌≤◌, min, true, ◌&&◌, nat_lt, ◌==◌, List, IfSome}
 use Rattle.std.proofs.Common.{[], ◌∷◌, inr, refl, subst, arith, codes, slice_index_or, map}
 use Rattle.std.proofs.Common.{drop}
 use Rattle.std.specs.{List.list_all}
@@ -7,7 +7,7 @@ use Rattle.std.proofs.lemmas.Bool.{and_parts, and_from}
 use Rattle.std.proofs.Math.ListN.{get_or-map}
 use Rattle.ratatui_core.specs.Layout.{Rect, Position, EdgesFit, IsInside, corner}
 use Rattle.ratatui_core.specs.{Style.Style, declared.style.Color.Color, Symbols.is_narrow, Symbols.block_levels}
-use Rattle.ratatui_core.specs.Buffer.{BufferData, Cell, with_symbol, width_of, text_width, columns, IsPlain, IsPlainFrom}
+use Rattle.ratatui_core.specs.Buffer.{BufferData, Cell, with_symbol, width_of, text_width, columns, IsPlain, IsPlainFrom, PaintsPieces}
 use Rattle.ratatui_core.specs.Buffer.{IsSettledBuffer}
 use Rattle.ratatui_core.proofs.BufferLemmas.{narrow-test, blocks-narrow, plain-styled, plain-with_symbol, plain-if, plain-changed}
 use Rattle.ratatui_core.proofs.BufferLemmas.{painted-settled, text-keeps, PaintsByColumns-paints, ready-row, ready-plain}
@@ -15,10 +15,14 @@ use Rattle.ratatui_core.proofs.BufferLemmas.{ready-next, changed-settled}
 use Rattle.rtui_boxes.specs.Boxes.{IsBoxArea, IsNarrowBox}
 use Rattle.rtui_boxes.proofs.{PaintLemmas.part-right, PaintLemmas.part-has_row, PaintLemmas.part-starts}
 use Rattle.rtui_boxes.proofs.{InnerLemmas.settled-frame}
+use Rattle.rtui_drawing.specs.Cuts.{cut_from}
+use Rattle.rtui_drawing.specs.declared.cut.Cut.TheVariants.{Rows}
+use Rattle.rtui_drawing.specs.Drawings.{DrawsAll}
+use Rattle.rtui_inside.proofs.InsideLemmas.{row-inside}
 use Rattle.rtui_meters.specs.{declared.gauge.Gauge.Gauge, declared.gauge.Fill.Fill, declared.gauge.TheConstants.FULL_BLOCK}
 use Rattle.rtui_meters.specs.{declared.gauge.TheConstants.TIPS}
 use Rattle.rtui_meters.specs.{declared.line_gauge.LineGauge.LineGauge, declared.line_gauge.LineFill.LineFill}
-use Rattle.rtui_meters.specs.LineGauges.{line_label_pieces, line_part, line_fill, line_cell, FillsLine, RendersLineGauge}
+use Rattle.rtui_meters.specs.LineGauges.{line_label_pieces, line_cut, line_fill, line_cell, line_gauge_drawing, RendersLineGauge}
 use Rattle.rtui_meters.specs.LineGauges.{HasNarrowLine}
 use Rattle.rtui_meters.specs.{Shares.eighths_of}
 use Rattle.rtui_meters.specs.Gauges.{label_part, pieces_on_bar, filled_cell, in_colors, is_under_label, text_of_label}
@@ -108,25 +112,31 @@ plain-line f filled unfilled p c is =
     (plain-styled f.unfilled_style _ (plain-with_symbol f.unfilled_symbol.now c is unfilled))
 
 settled-line : (g : LineGauge) (r : Rect) (old new : BufferData) → HasNarrowLine g → IsBoxArea r → IsInside r old.area
-    → EdgesFit old.area → IsPlainFrom 0 old → FillsLine g r old new → IsSettledBuffer new
+    → EdgesFit old.area → IsPlainFrom 0 old → DrawsAll (line_gauge_drawing g r) r old new → IsSettledBuffer new
 settled-line g r old new narrow box inside edges plain is =
-    let ps = line_label_pieces g r old.area in
-    let keeps = pieces-keep g g.label r old.area in
+    let ps = line_label_pieces g r.width in
     let high = box.rows in
+    let down = box.down in
+    let across = box.across in
+    let keeps = pieces-keep g g.label old.area (cut_from (Rows 0 1) r)
+    (row-inside old.area r (cut_from (Rows 0 1) r) 0 box inside high refl) in
+    let y : min (r.y + 0) 65535 ≡ r.y = omega arith in
+    let label : PaintsPieces (corner r) ps old is.0 = rw y at is.1.pieces in
     let row = part-has_row r old.area r.y box inside (omega arith) (omega arith) in
     let starts = part-starts r old.area r.x box inside (omega arith) in
     let right = part-right r old.area r.x (columns ps) box inside (omega arith) in
-    let settled = painted-settled r.x r.y ps old is.labelled edges plain row starts right is.label in
-    let by = PaintsByColumns-paints (corner r) ps old is.labelled row starts (omega arith) is.label in
+    let settled = painted-settled r.x r.y ps old is.0 edges plain row starts right label in
+    let by = PaintsByColumns-paints (corner r) ps old is.0 row starts (omega arith) label in
     let from = ready-row r.x r.y old (ready-plain r.y old edges plain) row (omega arith) in
-    let ready = ready-next r.x r.y old from row starts (columns ps) ps is.labelled right (omega arith) is.label.area by settled in
-    changed-settled (r.x + columns ps) r.y (line_part g r old.area) (line_cell (line_fill g r old.area)) is.labelled new ready
+    let ready = ready-next r.x r.y old from row starts (columns ps) ps is.0 right (omega arith) label.area by settled in
+    let part = cut_from (line_cut g r.width) (cut_from (Rows 0 1) r) in
+    changed-settled (r.x + columns ps) r.y part (line_cell (line_fill g part)) is.0 new ready
     (λ p here. let l = here.left in let e = here.right in let t = here.top in let b = here.bottom in
     inr (omega arith, omega arith))
-    (plain-line (line_fill g r old.area) narrow.filled narrow.unfilled) is.line
+    (plain-line (line_fill g part) narrow.filled narrow.unfilled) is.2
 
 pub settled-line_gauge : (g : LineGauge) (area : Rect) (old new : BufferData) → EdgesFit old.area → IsPlainFrom 0 old
     → IfSome g.block IsNarrowBox → HasNarrowLine g → RendersLineGauge g area old new → IsSettledBuffer new
 settled-line_gauge g area old new edges plain box narrow is =
-    settled-frame g.style g.block (FillsLine g) area old new edges plain box (λ r s t some inside fit cells fills.
-    settled-line g r s t narrow some inside fit cells fills) is
+    settled-frame g.style g.block (λ r. DrawsAll (line_gauge_drawing g r) r) area old new edges plain box
+    (λ r s t some inside fit cells drawn. settled-line g r s t narrow some inside fit cells drawn) is

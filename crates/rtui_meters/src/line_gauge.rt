@@ -1,21 +1,21 @@
 //! A line that is filled by a share of a row.
 
-ghost use Rattle.std.specs.Prelude.{◌≡◌, ◌<◌, ◌+◌, Some, OnOk, IfOk, IsOk, true};
-ghost use Rattle.ratatui_core.specs.Layout.{IsInside, corner};
-ghost use Rattle.ratatui_core.specs.Buffer.{columns, Paints, IsShort};
-ghost use Rattle.ratatui_core.specs.Widgets.{ChangesWithin};
-ghost use Rattle.rtui_boxes.specs.Boxes.{IsBoxArea};
+ghost use Rattle.std.specs.Prelude.{◌≡◌, ◌<◌, ◌+◌, Some, IfOk, true};
+ghost use Rattle.ratatui_core.specs.Buffer.{columns, IsShort};
+ghost use Rattle.rtui_drawing.specs.Drawings.{put_pieces, IsDone, IsRowIn};
 ghost use Rattle.rtui_meters.specs.Shares.{share_of};
-ghost use Rattle.rtui_meters.specs.LineGauges.{IsNewLineGauge, line_label_pieces, FillsLine, HasShortLine};
+ghost use Rattle.rtui_meters.specs.LineGauges.{IsNewLineGauge, line_label_pieces};
 
 use crate::share::Share;
-use ratatui_core::buffer::{Buffer, Cell, CellChange, change_area};
+use ratatui_core::buffer::{Buffer, Cell, CellChange};
 use ratatui_core::layout::{Position, Rect};
 use ratatui_core::style::Style;
 use ratatui_core::symbols::line;
 use ratatui_core::text::Line;
 use ratatui_core::widgets::Widget;
-use rtui_boxes::{Block, cloned_block, cloned_line, render_frame};
+use rtui_boxes::{Block, cloned_block, cloned_line};
+use rtui_drawing::{Cut, put_change, write, write_line};
+use rtui_inside::{DrawInside, render_inside};
 use std::alloc::{AllocError, Global};
 
 /// The line that a gauge is made of if it says nothing else.
@@ -157,50 +157,42 @@ impl<'a> LineGauge<'a> {
         })
     }
 
-    // Paints the label, and answers the column after it.
-    fn paint_label(&self, inner: Rect, buf: &mut Buffer) -> Result<u16, AllocError>
-        requires some { IsBoxArea inner }
-        requires inside { IsInside inner buf.old.area }
-        ensures paints { let ps = line_label_pieces self.now inner buf.old.area in
-            Paints (corner inner) ps result buf.old buf.new }
-        ensures place { let ps = line_label_pieces self.now inner buf.old.area in
-            IfOk result (λ x. x ≡ inner.x + columns ps) }
+    // Writes the label, and answers how many columns it took.
+    fn write_label(&self, row: Rect, buf: &mut Buffer) -> Result<u16, AllocError>
+        requires { IsRowIn buf.old.area row }
+        ensures done { let ps = line_label_pieces self.now row.width in
+            IsDone (put_pieces ps) row result buf.old buf.new }
+        ensures columns { let ps = line_label_pieces self.now row.width in
+            IfOk result (λ n. n ≡ columns ps) }
     {
-        let (x, _) = match &self.label {
-            Some(label) => buf.set_line(inner.x, inner.y, label, inner.width)?,
+        match &self.label {
+            Some(label) => write_line(label, row, buf),
             None => {
                 let text = self.share.even_text();
-                let width = usize::from(inner.width);
-                buf.set_stringn(inner.x, inner.y, text.as_str(), width, Style::new())?
+                write(text.as_str(), Style::new(), row, buf)
             }
-        };
-        Ok(x)
+        }
     }
+}
 
-    // Renders the label and the line inside the box.
-    fn render_line(&self, inner: Rect, buf: &mut Buffer) -> Result<(), AllocError>
-        requires some { IsBoxArea inner }
-        requires inside { IsInside inner buf.old.area }
-        ensures within { ChangesWithin inner buf.old buf.new }
-        ensures ok { OnOk result (FillsLine self.now inner buf.old buf.new) }
-        ensures short { HasShortLine self.now inner buf.old.area → IsOk result }
-    {
-        let start = self.paint_label(inner, buf)?.saturating_add(1);
-        let columns = (inner.x + inner.width).saturating_sub(start);
+// The label in the first row inside the box, and the line after it.
+impl<'a> DrawInside for LineGauge<'a> {
+    ghost use Rattle.rtui_meters.specs.LineGauges.{line_gauge_drawing};
+
+    ghost drawing = { line_gauge_drawing };
+
+    fn draw_inside(&self, inner: Rect, buf: &mut Buffer) -> Result<(), AllocError> {
+        let row = Cut::Rows(0, 1).of(inner);
+        let label = self.write_label(row, buf)?;
+        let part = Cut::After(label.saturating_add(1)).of(row);
         let line = LineFill {
-            end: start.saturating_add(self.share.filled(columns)),
+            end: part.x.saturating_add(self.share.filled(part.width)),
             filled_symbol: self.filled_symbol,
             unfilled_symbol: self.unfilled_symbol,
             filled_style: self.filled_style,
             unfilled_style: self.unfilled_style,
         };
-        let part = Rect {
-            x: start,
-            y: inner.y,
-            width: columns,
-            height: 1,
-        };
-        change_area(buf, part, &line)
+        put_change(&line, part, buf)
     }
 }
 
@@ -242,24 +234,27 @@ impl<'a> CellChange for LineFill<'a> {
 /// Over the area, as far as the buffer has it: the style, the box, and in the first row inside the
 /// label and the line.
 impl<'b, 'a> Widget for &'b LineGauge<'a> {
-    ghost use Rattle.rtui_meters.specs.LineGauges.{RendersLineGauge, IsShortLineGauge};
+    ghost use Rattle.rtui_meters.specs.LineGauges.{RendersLineGauge, LeavesLineGauge};
+    ghost use Rattle.rtui_meters.specs.LineGauges.{IsShortLineGauge};
 
     ghost renders = { λ gauge. RendersLineGauge gauge.now };
+
+    ghost leaves = { λ gauge. LeavesLineGauge gauge.now };
 
     ghost is_short = { λ gauge. IsShortLineGauge gauge.now };
 
     fn render(self, area: Rect, buf: &mut Buffer) -> Result<(), AllocError> {
-        let Some(inner) = render_frame(self.style, &self.block, area, buf)? else {
-            return Ok(());
-        };
-        self.render_line(inner, buf)
+        render_inside(self, self.style, &self.block, area, buf)
     }
 }
 
 impl<'a> Widget for LineGauge<'a> {
-    ghost use Rattle.rtui_meters.specs.LineGauges.{RendersLineGauge, IsShortLineGauge};
+    ghost use Rattle.rtui_meters.specs.LineGauges.{RendersLineGauge, LeavesLineGauge};
+    ghost use Rattle.rtui_meters.specs.LineGauges.{IsShortLineGauge};
 
     ghost renders = { RendersLineGauge };
+
+    ghost leaves = { LeavesLineGauge };
 
     ghost is_short = { IsShortLineGauge };
 

@@ -4,8 +4,11 @@ use Rattle.std.specs.Prelude.{None, unwrap_or, slice_get, All}
 use Rattle.ratatui_core.specs.Layout.{Rect, Position}
 use Rattle.ratatui_core.specs.Style.{Style, new_style, patch}
 use Rattle.ratatui_core.specs.Symbols.{bar_texts, bar_levels}
-use Rattle.ratatui_core.specs.Buffer.{BufferData, Cell, styled, with_symbol, text_width, ChangesEach, IsShort}
-use Rattle.rtui_boxes.specs.Framed.{RendersInFrame, IsShortFrame}
+use Rattle.ratatui_core.specs.Buffer.{BufferData, Cell, styled, with_symbol, text_width, IsShort}
+use Rattle.rtui_boxes.specs.Framed.{IsShortFrame}
+use Rattle.rtui_drawing.specs.{declared.cut.Cut.Cut, Drawings.Drawing, Drawings.over, Drawings.put_change}
+use Rattle.rtui_drawing.specs.declared.cut.Cut.TheVariants.{First, Last}
+use Rattle.rtui_inside.specs.Inside.{DrawsInside, LeavesInside}
 use Rattle.rtui_sparkline.specs.{declared.sparkline.Sparkline.Sparkline}
 use Rattle.rtui_sparkline.specs.{declared.sparkline.SparklineBar.SparklineBar}
 use Rattle.rtui_sparkline.specs.declared.sparkline.RenderDirection.{RenderDirection}
@@ -32,16 +35,13 @@ greatest_value (bar ∷ bars) = max (unwrap_or bar.value 0) (greatest_value bars
 abbrev pub greatest_of : Sparkline → ℕ
 greatest_of s = unwrap_or s.max (greatest_value s.bars.items)
 
--- how many columns the bars take, and where they stand
+-- how many columns the bars take, and the part of an area in which they stand
 abbrev pub bars_width : Sparkline → Rect → ℕ
 bars_width s r = min (length s.bars.items) r.width
 
-abbrev pub bars_start : RenderDirection → ℕ → Rect → ℕ
-bars_start LeftToRight n r = r.x
-bars_start RightToLeft n r = r.x + (r.width - n)
-
-abbrev pub bars_part : Sparkline → Rect → Rect
-bars_part s r = record r { x = bars_start s.direction (bars_width s r) r; width = bars_width s r }
+abbrev pub bars_cut : RenderDirection → ℕ → Cut
+bars_cut LeftToRight n = First n
+bars_cut RightToLeft n = Last n
 
 -- the number of the bar in a column
 abbrev pub number_of_column : RenderDirection → Rect → ℕ → ℕ
@@ -70,19 +70,24 @@ bar_cell_of s greatest r p =
     cell_of_bar s greatest r (row_from_below r p.y)
     (slice_get s.bars.items (number_of_column s.direction r p.x))
 
--- the bars of a sparkline over an area, each in a column
-abbrev pub ShowsBars : Sparkline → Rect → BufferData → BufferData → Type 0
-ShowsBars s r = ChangesEach (bars_part s r) (bar_cell_of s (greatest_of s) r)
-
--- A sparkline over the part of an area that a buffer has: its box, and inside the bars. Its style is theirs
--- alone. Nothing outside the area changes.
-abbrev pub RendersSparkline : Sparkline → Rect → BufferData → BufferData → Type 0
-RendersSparkline s = RendersInFrame new_style s.block (ShowsBars s)
-
 -- no symbol of it takes memory
 pub record HasShortLevels (s : Sparkline) : Type 0 where
   pub absent : IsShort s.absent_value_symbol.now
   pub levels : All IsShort (bar_texts s.bar_set)
+
+-- the bars of a sparkline in an area, each in a column
+abbrev pub sparkline_drawing : Sparkline → Rect → Drawing
+sparkline_drawing s r = over (bars_cut s.direction (bars_width s r))
+    (put_change (bar_cell_of s (greatest_of s) r) (λ _ _. HasShortLevels s))
+
+-- A sparkline over the part of an area that a buffer has: its box, and inside the bars. Its style is theirs
+-- alone. Nothing outside the area changes.
+abbrev pub RendersSparkline : Sparkline → Rect → BufferData → BufferData → Type 0
+RendersSparkline s = DrawsInside new_style s.block (sparkline_drawing s)
+
+-- what a refusal leaves: if the box takes no memory it stands
+abbrev pub LeavesSparkline : Sparkline → Rect → BufferData → BufferData → Type 0
+LeavesSparkline s = LeavesInside new_style s.block (sparkline_drawing s)
 
 pub record IsShortSparkline (s : Sparkline) (b : BufferData) : Type 0 where
   pub frame : IsShortFrame s.block b

@@ -1,22 +1,22 @@
 //! Bars of one column each.
 
-ghost use Rattle.std.specs.Prelude.{◌≡◌, ◌<◌, ◌+◌, ◌-◌, Some, OnOk, IsOk, IfOk, true};
+ghost use Rattle.std.specs.Prelude.{◌≡◌, ◌<◌, ◌+◌, ◌-◌, Some, IfOk, true};
 ghost use Rattle.ratatui_core.specs.Style.{patch};
 ghost use Rattle.ratatui_core.specs.Buffer.{IsShort};
-ghost use Rattle.ratatui_core.specs.Widgets.{ChangesWithin};
-ghost use Rattle.rtui_boxes.specs.Boxes.{IsBoxArea};
-ghost use Rattle.rtui_sparkline.specs.Sparklines.{IsNewSparkline, greatest_of, bars_part, ShowsBars};
+ghost use Rattle.rtui_sparkline.specs.Sparklines.{IsNewSparkline, greatest_of, bars_width, bars_cut};
 ghost use Rattle.rtui_sparkline.specs.Sparklines.{HasShortLevels, number_of_column, mark_of_value};
 ghost use Rattle.rtui_sparkline.specs.Sparklines.{style_of_bar};
 ghost use Rattle.rtui_sparkline.specs.Levels.{row_from_below};
 
 use crate::level::{eighths_of, left_at, level_of};
-use ratatui_core::buffer::{Buffer, Cell, CellChange, change_area};
+use ratatui_core::buffer::{Buffer, Cell, CellChange};
 use ratatui_core::layout::{Position, Rect};
 use ratatui_core::style::Style;
 use ratatui_core::symbols::{bar, shade};
 use ratatui_core::widgets::Widget;
-use rtui_boxes::{Block, cloned_block, render_frame};
+use rtui_boxes::{Block, cloned_block};
+use rtui_drawing::{Cut, put_change};
+use rtui_inside::{DrawInside, render_inside};
 use std::alloc::{AllocError, Global};
 
 /// From which side bars stand one after the other.
@@ -190,35 +190,32 @@ impl<'a> Sparkline<'a> {
         greatest
     }
 
-    // Where the bars stand in an area.
-    fn bars_part(&self, inner: Rect) -> Rect
-        requires { IsBoxArea inner }
-        ensures { result ≡ bars_part self.now inner }
+    // The part of an area in which the bars stand.
+    fn bars_cut(&self, inner: Rect) -> Cut
+        ensures { result ≡ bars_cut self.now.direction (bars_width self.now inner) }
     {
         let width = self.bars.len().min(usize::from(inner.width)) as u16;
         match self.direction {
-            RenderDirection::LeftToRight => Rect { width, ..inner },
-            RenderDirection::RightToLeft => Rect {
-                x: inner.x + (inner.width - width),
-                width,
-                ..inner
-            },
+            RenderDirection::LeftToRight => Cut::First(width),
+            RenderDirection::RightToLeft => Cut::Last(width),
         }
     }
+}
 
-    // Shows the bars inside the box.
-    fn render_bars(&self, inner: Rect, buf: &mut Buffer) -> Result<(), AllocError>
-        requires { IsBoxArea inner }
-        ensures within { ChangesWithin inner buf.old buf.new }
-        ensures ok { OnOk result (ShowsBars self.now inner buf.old buf.new) }
-        ensures short { HasShortLevels self.now → IsOk result }
-    {
+// The bars inside the box, each in a column.
+impl<'a> DrawInside for Sparkline<'a> {
+    ghost use Rattle.rtui_sparkline.specs.Sparklines.{sparkline_drawing};
+
+    ghost drawing = { sparkline_drawing };
+
+    #[tactic(auto, using(rtui_drawing::proofs::DrawingLemmas::drawing_steps))]
+    fn draw_inside(&self, inner: Rect, buf: &mut Buffer) -> Result<(), AllocError> {
         let bars = Bars {
             sparkline: self,
             greatest: self.greatest(),
             area: inner,
         };
-        change_area(buf, self.bars_part(inner), &bars)
+        put_change(&bars, self.bars_cut(inner).of(inner), buf)
     }
 }
 
@@ -301,24 +298,27 @@ impl<'b, 'a> CellChange for Bars<'b, 'a> {
 /// Over the area, as far as the buffer has it: the box, and inside a bar in each column, as far as
 /// there are bars, in the style of the sparkline under its own.
 impl<'b, 'a> Widget for &'b Sparkline<'a> {
-    ghost use Rattle.rtui_sparkline.specs.Sparklines.{RendersSparkline, IsShortSparkline};
+    ghost use Rattle.rtui_sparkline.specs.Sparklines.{RendersSparkline, LeavesSparkline};
+    ghost use Rattle.rtui_sparkline.specs.Sparklines.{IsShortSparkline};
 
     ghost renders = { λ sparkline. RendersSparkline sparkline.now };
+
+    ghost leaves = { λ sparkline. LeavesSparkline sparkline.now };
 
     ghost is_short = { λ sparkline _. IsShortSparkline sparkline.now };
 
     fn render(self, area: Rect, buf: &mut Buffer) -> Result<(), AllocError> {
-        let Some(inner) = render_frame(Style::new(), &self.block, area, buf)? else {
-            return Ok(());
-        };
-        self.render_bars(inner, buf)
+        render_inside(self, Style::new(), &self.block, area, buf)
     }
 }
 
 impl<'a> Widget for Sparkline<'a> {
-    ghost use Rattle.rtui_sparkline.specs.Sparklines.{RendersSparkline, IsShortSparkline};
+    ghost use Rattle.rtui_sparkline.specs.Sparklines.{RendersSparkline, LeavesSparkline};
+    ghost use Rattle.rtui_sparkline.specs.Sparklines.{IsShortSparkline};
 
     ghost renders = { RendersSparkline };
+
+    ghost leaves = { LeavesSparkline };
 
     ghost is_short = { λ sparkline _. IsShortSparkline sparkline };
 

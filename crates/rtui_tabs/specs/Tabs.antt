@@ -1,16 +1,15 @@
 -- Tabs: where each part of their row stands, and what they make of a buffer.
-use Rattle.std.specs.Prelude.{◌≡◌, ℕ, Bool, true, false, ◌+◌, ◌==◌, zero, suc, min, List, [], ◌∷◌, ◌++◌}
-use Rattle.std.specs.Prelude.{length, codes, encode_utf8_all, Option, Some, None, if◌then◌else◌, unwrap_or}
-use Rattle.std.specs.Prelude.{All, IfSome, ⊤}
-use Rattle.ratatui_core.specs.Layout.{Rect, corner, intersected}
+use Rattle.std.specs.Prelude.{◌≡◌, ℕ, Bool, true, false, ◌+◌, ◌-◌, ◌==◌, zero, suc, min, List, [], ◌∷◌}
+use Rattle.std.specs.Prelude.{length, codes, encode_utf8_all, Option, Some, None, if◌then◌else◌, nat_lt, unwrap_or}
+use Rattle.std.specs.Prelude.{All, IfSome}
+use Rattle.ratatui_core.specs.Layout.{Rect}
 use Rattle.ratatui_core.specs.Style.{Style, new_style, with_modifier, modifier_of}
 use Rattle.ratatui_core.specs.Text.{SpanData, LineData, unstyled, EachGrapheme, EachSpanGrapheme}
 use Rattle.ratatui_core.specs.Text.{TakesOneColumn}
-use Rattle.ratatui_core.specs.Buffer.{BufferData, Piece, text_pieces, line_pieces, columns, AreShort}
-use Rattle.ratatui_core.specs.Buffer.{PaintsPieces, IsStyled}
-use Rattle.ratatui_core.specs.Widgets.{first_row}
-use Rattle.rtui_boxes.specs.{Titles.without_first, Titles.first_columns, Titles.InTurn}
-use Rattle.rtui_boxes.specs.Framed.{RendersInFrame, IsShortFrame, inner_if}
+use Rattle.ratatui_core.specs.Buffer.{BufferData, text_pieces, line_pieces, columns}
+use Rattle.rtui_drawing.specs.declared.cut.Cut.TheVariants.{First, After, Rows}
+use Rattle.rtui_drawing.specs.Drawings.{Drawing, nothing, over, ◌before◌, draw_if, put_style, put_pieces}
+use Rattle.rtui_inside.specs.Inside.{DrawsInside, LeavesInside, IsShortInside}
 use Rattle.rtui_tabs.specs.declared.tabs.Tabs.{Tabs as TabsData}
 
 -- the style in which foreground and background are exchanged
@@ -34,21 +33,37 @@ pub record IsNewTabs (titles : List LineData) (t : TabsData) : Type 0 where
   pub blank_left : t.padding_left ≡ None
   pub blank_right : t.padding_right ≡ None
 
--- a part of the row: what is painted of it in so many columns, and whether the highlight lies over it
-pub record TabPart : Type 0 where
-  pub pieces : ℕ → List Piece
-  pub is_lit : Bool
+-- a part of the row: a text, a line that may be highlighted, or one part beside another
+pub data TabPart : Type 0 where
+  no_part : TabPart
+  span_part : SpanData → TabPart
+  line_part : LineData → Bool → TabPart
+  ◌beside◌ : TabPart → TabPart → TabPart
 
-abbrev pub part_of_span : SpanData → TabPart
-part_of_span span = record { pieces = λ room. text_pieces room span.style span.content; is_lit = false }
+infixr 6 ◌beside◌
 
-abbrev pub part_of_line : LineData → Bool → TabPart
-part_of_line line is_lit = record { pieces = λ room. line_pieces room line.style line.spans; is_lit = is_lit }
+-- how many of so many columns a part takes
+abbrev pub columns_of_part : TabPart → ℕ → ℕ
+columns_of_part no_part room = 0
+columns_of_part (span_part span) room = columns (text_pieces room span.style span.content)
+columns_of_part (line_part line is_lit) room = columns (line_pieces room line.style line.spans)
+columns_of_part (a beside b) room = columns_of_part a room + columns_of_part b (room - columns_of_part a room)
+
+-- what is drawn of a part in a row of so many columns
+abbrev pub drawing_of_part : Style → TabPart → ℕ → Drawing
+drawing_of_part highlight no_part room = nothing
+drawing_of_part highlight (span_part span) room = put_pieces (text_pieces room span.style span.content)
+drawing_of_part highlight (line_part line is_lit) room =
+    let ps = line_pieces room line.style line.spans in
+    put_pieces ps before over (First (columns ps)) (draw_if is_lit (put_style highlight))
+drawing_of_part highlight (a beside b) room =
+    let n = columns_of_part a room in
+    drawing_of_part highlight a room before over (After n) (drawing_of_part highlight b (room - n))
 
 -- a padding: a blank, if it is no other
-abbrev pub part_of_padding : Option LineData → TabPart
-part_of_padding None = part_of_span (unstyled (codes " "))
-part_of_padding (Some line) = part_of_line line false
+abbrev pub padding_part : Option LineData → TabPart
+padding_part None = span_part (unstyled (codes " "))
+padding_part (Some line) = line_part line false
 
 -- the number is the selected one
 abbrev pub is_tab_selected : Option ℕ → ℕ → Bool
@@ -56,90 +71,39 @@ is_tab_selected None k = false
 is_tab_selected (Some selected) k = selected == k
 
 -- the divider before each title but the first
-abbrev pub divider_parts : TabsData → ℕ → List TabPart
-divider_parts t k = if k == 0 then [] else part_of_span t.divider ∷ []
+abbrev pub divider_part : TabsData → ℕ → TabPart
+divider_part t k = if k == 0 then no_part else span_part t.divider
 
--- a title between its paddings
-abbrev pub title_parts : TabsData → ℕ → LineData → List TabPart
-title_parts t k line =
-    part_of_padding t.padding_left
-    ∷ (part_of_line line (is_tab_selected t.selected k) ∷ (part_of_padding t.padding_right ∷ []))
+-- a title between its paddings, after the divider if it isn't the first one
+abbrev pub tab_part : TabsData → ℕ → LineData → TabPart
+tab_part t k line =
+    divider_part t k beside (padding_part t.padding_left beside (line_part line (is_tab_selected t.selected k)
+    beside padding_part t.padding_right))
 
--- a title after the divider, if it isn't the first one
-abbrev pub tab_parts : TabsData → ℕ → LineData → List TabPart
-tab_parts t k line = divider_parts t k ++ title_parts t k line
+-- the titles from number k on, in a row of so many columns, as far as it has some
+abbrev pub tabs_from : TabsData → ℕ → ℕ → List LineData → Drawing
+tabs_from t room k [] = nothing
+tabs_from t room k (line ∷ lines) =
+    let n = columns_of_part (tab_part t k line) room in
+    draw_if (nat_lt 0 room) (drawing_of_part t.highlight_style (tab_part t k line) room
+    before over (After n) (tabs_from t (room - n) (k + 1) lines))
 
--- a part where it stands
-pub record PlacedPart : Type 0 where
-  pub area : Rect
-  pub pieces : List Piece
-  pub is_lit : Bool
-
--- a part at the left of a row, and the row after it
-abbrev pub placed_part : Rect → TabPart → PlacedPart
-placed_part r p =
-    let ps = p.pieces r.width in record {
-      area = first_columns (columns ps) r;
-      pieces = ps;
-      is_lit = p.is_lit;
-    }
-
-abbrev pub after_part : Rect → TabPart → Rect
-after_part r p = without_first (columns (p.pieces r.width)) r
-
--- parts from the left of a row on, each in the columns that are left, and the row after them
-abbrev pub placed_parts : Rect → List TabPart → List PlacedPart
-placed_parts r [] = []
-placed_parts r (p ∷ ps) = placed_part r p ∷ placed_parts (after_part r p) ps
-
-abbrev pub after_parts : Rect → List TabPart → Rect
-after_parts r [] = r
-after_parts r (p ∷ ps) = after_parts (after_part r p) ps
-
--- a style over an area, or nothing
-abbrev pub IsStyledIf : Bool → Rect → Style → BufferData → BufferData → Type 0
-IsStyledIf true r style old new = IsStyled r style old new
-IsStyledIf false r style old new = new ≡ old
-
--- a part: its pieces, and over them the highlight if it has it
-pub record RendersPart (highlight : Style) (p : PlacedPart) (old new : BufferData) : Type 0 where
-  pub painted : BufferData
-  pub paints : PaintsPieces (corner p.area) p.pieces old painted
-  pub lit : IsStyledIf p.is_lit p.area highlight painted new
-
--- parts, each rendered after the ones before
-abbrev pub RendersParts : Style → List PlacedPart → BufferData → BufferData → Type 0
-RendersParts highlight [] old new = new ≡ old
-RendersParts highlight (p ∷ ps) old new = InTurn (RendersPart highlight p) (RendersParts highlight ps) old new
-
--- the titles from number k on, as far as the row has columns
-abbrev pub tabs_from : TabsData → Rect → ℕ → List LineData → List PlacedPart
-tabs_from t r k [] = []
-tabs_from t r k (line ∷ lines) =
-    if r.width == 0 then []
-    else placed_parts r (tab_parts t k line) ++ tabs_from t (after_parts r (tab_parts t k line)) (k + 1) lines
-
--- all parts of tabs over an area: they stand in its first row
-abbrev pub placed_tabs : TabsData → Rect → List PlacedPart
-placed_tabs t r = tabs_from t (first_row r) 0 t.titles.items
-
-abbrev pub ShowsTabs : TabsData → Rect → BufferData → BufferData → Type 0
-ShowsTabs t r = RendersParts t.highlight_style (placed_tabs t r)
+-- all that tabs draw in an area: in its first row
+abbrev pub tabs_drawing : TabsData → Rect → Drawing
+tabs_drawing t r = over (Rows 0 1) (tabs_from t r.width 0 t.titles.items)
 
 -- Tabs over the part of an area that a buffer has: their style, their box, and in the first row inside the
 -- titles. Nothing outside the area changes.
 abbrev pub RendersTabs : TabsData → Rect → BufferData → BufferData → Type 0
-RendersTabs t = RendersInFrame t.style t.block (ShowsTabs t)
+RendersTabs t = DrawsInside t.style t.block (tabs_drawing t)
 
--- no grapheme of the parts takes memory
-abbrev pub AreShortTabParts : List PlacedPart → Type 0
-AreShortTabParts [] = ⊤
-AreShortTabParts (p ∷ ps) = AreShort p.pieces × AreShortTabParts ps
+-- what a refusal leaves: if the box takes no memory, it stands, and all before one of the texts
+abbrev pub LeavesTabs : TabsData → Rect → BufferData → BufferData → Type 0
+LeavesTabs t = LeavesInside t.style t.block (tabs_drawing t)
 
 -- tabs take no memory if their box takes none and all that shows of them is short
-pub record IsShortTabs (t : TabsData) (area : Rect) (s : BufferData) : Type 0 where
-  pub frame : IsShortFrame t.block s
-  pub shown : AreShortTabParts (placed_tabs t (inner_if t.block (intersected area s.area)))
+abbrev pub IsShortTabs : TabsData → Rect → BufferData → Type 0
+IsShortTabs t = IsShortInside t.block (tabs_drawing t)
 
 -- each grapheme of a line that is painted whole takes one column
 abbrev pub IsNarrowTabLine : LineData → Type 0

@@ -1,17 +1,12 @@
 //! Titles in a row.
 
-ghost use Rattle.std.specs.Prelude.{◌≡◌, ◌+◌, ◌-◌, ◌≤◌, ◌<◌, ◌==◌, [], ◌∷◌, length, Some, OnOk, IsOk};
-ghost use Rattle.std.specs.Prelude.{IfOk, true, map, List};
+ghost use Rattle.std.specs.Prelude.{◌≡◌, ◌==◌, length, Some, IfOk, true, map, List};
 ghost use Rattle.std.specs.Iterator.{IsFinite, Drains};
 ghost use Rattle.ratatui_core.specs.Text.{LineData, raw_line};
-ghost use Rattle.ratatui_core.specs.Layout.{IsInside};
-ghost use Rattle.ratatui_core.specs.Widgets.{ChangesWithin};
-ghost use Rattle.rtui_boxes.specs.Boxes.{IsBoxArea};
-ghost use Rattle.rtui_boxes.specs.Titles.{without_first};
-ghost use Rattle.rtui_tabs.specs.Tabs.{IsNewTabs, selected_of, is_tab_selected, IsStyledIf, part_of_span};
-ghost use Rattle.rtui_tabs.specs.Tabs.{part_of_line, part_of_padding, divider_parts, tab_parts, placed_tabs};
-ghost use Rattle.rtui_tabs.specs.Tabs.{ShowsTabs, AreShortTabParts};
-ghost use Rattle.rtui_tabs.specs.Inner.{IsRowInBuffer, PutsParts};
+ghost use Rattle.rtui_drawing.specs.Drawings.{DrawsAll, IsRowIn, draw_if, put_style};
+ghost use Rattle.rtui_tabs.specs.Tabs.{IsNewTabs, selected_of, is_tab_selected, no_part, span_part};
+ghost use Rattle.rtui_tabs.specs.Tabs.{line_part, padding_part, divider_part, tab_part};
+ghost use Rattle.rtui_tabs.specs.Inner.{DrawsPart};
 
 use ratatui_core::buffer::Buffer;
 use ratatui_core::layout::Rect;
@@ -19,7 +14,9 @@ use ratatui_core::style::{Modifier, Style};
 use ratatui_core::symbols::line;
 use ratatui_core::text::{Line, Lines, Span};
 use ratatui_core::widgets::Widget;
-use rtui_boxes::{Block, cloned_block, cloned_line, render_frame};
+use rtui_boxes::{Block, cloned_block, cloned_line};
+use rtui_drawing::{Cut, put_style, write_line, write_span};
+use rtui_inside::{DrawInside, render_inside};
 use std::alloc::{AllocError, Global};
 
 /// Titles one after the other in a row, with a divider between each two, of which one may be
@@ -207,22 +204,21 @@ impl<'a> Tabs<'a> {
 
     // Lays the highlight over the selected title.
     fn highlight_if(&self, is_selected: bool, area: Rect, buf: &mut Buffer)
-        ensures within { ChangesWithin area buf.old buf.new }
-        ensures styled { IsStyledIf is_selected area self.now.highlight_style buf.old buf.new }
+        ensures { let style = self.now.highlight_style in
+            DrawsAll (draw_if is_selected (put_style style)) area buf.old buf.new }
     {
         if is_selected {
-            buf.set_style(area, self.highlight_style);
+            put_style(self.highlight_style, area, buf);
         }
     }
 
     // Puts a text at the left of a row.
     fn put_span(&self, span: &Span<'_>, row: Rect, buf: &mut Buffer) -> Result<Rect, AllocError>
-        requires { IsRowInBuffer buf.old.area row }
-        ensures { let ps = part_of_span span.now ∷ [] in
-            PutsParts self.now.highlight_style ps row result buf.old buf.new }
+        requires { IsRowIn buf.old.area row }
+        ensures { DrawsPart self.now.highlight_style (span_part span.now) row result buf.old buf.new }
     {
-        let (x, _) = buf.set_span(row.x, row.y, span, row.width)?;
-        Ok(from_column(row, x))
+        let columns = write_span(span, row, buf)?;
+        Ok(Cut::After(columns).of(row))
     }
 
     // Puts a line at the left of a row, and the highlight over it if it is selected.
@@ -233,24 +229,20 @@ impl<'a> Tabs<'a> {
         row: Rect,
         buf: &mut Buffer,
     ) -> Result<Rect, AllocError>
-        requires { IsRowInBuffer buf.old.area row }
-        ensures { let ps = part_of_line line.now is_selected ∷ [] in
-            PutsParts self.now.highlight_style ps row result buf.old buf.new }
+        requires { IsRowIn buf.old.area row }
+        ensures { let part = line_part line.now is_selected in
+            DrawsPart self.now.highlight_style part row result buf.old buf.new }
     {
-        let (x, _) = buf.set_line(row.x, row.y, line, row.width)?;
-        let area = Rect {
-            width: x - row.x,
-            ..row
-        };
-        self.highlight_if(is_selected, area, buf);
-        Ok(from_column(row, x))
+        let columns = write_line(line, row, buf)?;
+        self.highlight_if(is_selected, Cut::First(columns).of(row), buf);
+        Ok(Cut::After(columns).of(row))
     }
 
     // Puts a divider at the left of a row, if it isn't before the first title.
     fn put_divider(&self, k: usize, row: Rect, buf: &mut Buffer) -> Result<Rect, AllocError>
-        requires { IsRowInBuffer buf.old.area row }
-        ensures { let ps = divider_parts self.now k in
-            PutsParts self.now.highlight_style ps row result buf.old buf.new }
+        requires { IsRowIn buf.old.area row }
+        ensures { let part = divider_part self.now k in
+            DrawsPart self.now.highlight_style part row result buf.old buf.new }
     {
         if k == 0 {
             return Ok(row);
@@ -265,9 +257,9 @@ impl<'a> Tabs<'a> {
         row: Rect,
         buf: &mut Buffer,
     ) -> Result<Rect, AllocError>
-        requires { IsRowInBuffer buf.old.area row }
-        ensures { let ps = part_of_padding padding.now ∷ [] in
-            PutsParts self.now.highlight_style ps row result buf.old buf.new }
+        requires { IsRowIn buf.old.area row }
+        ensures { let part = padding_part padding.now in
+            DrawsPart self.now.highlight_style part row result buf.old buf.new }
     {
         match padding {
             Some(line) => self.put_line(line, false, row, buf),
@@ -276,6 +268,7 @@ impl<'a> Tabs<'a> {
     }
 
     // Puts a title between its paddings at the left of a row, after a divider if it isn't the first.
+    #[tactic(auto, using(crate::proofs::TabLemmas::tab_steps))]
     fn put_tab(
         &self,
         k: usize,
@@ -283,26 +276,26 @@ impl<'a> Tabs<'a> {
         row: Rect,
         buf: &mut Buffer,
     ) -> Result<Rect, AllocError>
-        requires { IsRowInBuffer buf.old.area row }
-        ensures { let ps = tab_parts self.now k title.now in
-            PutsParts self.now.highlight_style ps row result buf.old buf.new }
+        requires { IsRowIn buf.old.area row }
+        ensures { let part = tab_part self.now k title.now in
+            DrawsPart self.now.highlight_style part row result buf.old buf.new }
     {
         let row = self.put_divider(k, row, buf)?;
         let row = self.put_padding(&self.padding_left, row, buf)?;
         let row = self.put_line(title, self.is_selected(k), row, buf)?;
         self.put_padding(&self.padding_right, row, buf)
     }
+}
 
-    // Renders the titles in the first row inside the box, as far as it has columns.
-    fn render_tabs(&self, inner: Rect, buf: &mut Buffer) -> Result<(), AllocError>
-        requires some { IsBoxArea inner }
-        requires inside { IsInside inner buf.old.area }
-        ensures within { ChangesWithin inner buf.old buf.new }
-        ensures ok { OnOk result (ShowsTabs self.now inner buf.old buf.new) }
-        ensures short { AreShortTabParts (placed_tabs self.now inner) → IsOk result }
-    {
+// The titles in the first row inside the box, as far as it has columns.
+impl<'a> DrawInside for Tabs<'a> {
+    ghost use Rattle.rtui_tabs.specs.Tabs.{tabs_drawing};
+
+    ghost drawing = { tabs_drawing };
+
+    fn draw_inside(&self, inner: Rect, buf: &mut Buffer) -> Result<(), AllocError> {
         let titles = self.titles.as_slice();
-        let mut row = Rect { height: 1, ..inner };
+        let mut row = Cut::Rows(0, 1).of(inner);
         for k in 0..titles.len() {
             if row.width == 0 {
                 return Ok(());
@@ -323,40 +316,28 @@ fn selected_of(count: usize, was: Option<usize>) -> Option<usize>
     Some(was.unwrap_or(0).min(count - 1))
 }
 
-// A row from a column of its own on, or from the one after them.
-fn from_column(row: Rect, x: u16) -> Rect
-    requires from { row.x ≤ x }
-    requires to { x ≤ row.x + row.width }
-    ensures { result ≡ without_first (x - row.x) row }
-{
-    Rect {
-        x,
-        width: row.width - (x - row.x),
-        ..row
-    }
-}
-
 /// Over the area, as far as the buffer has it: the style, the box, and in the first row inside the
 /// titles, as far as it has columns.
 impl<'b, 'a> Widget for &'b Tabs<'a> {
-    ghost use Rattle.rtui_tabs.specs.Tabs.{RendersTabs, IsShortTabs};
+    ghost use Rattle.rtui_tabs.specs.Tabs.{RendersTabs, LeavesTabs, IsShortTabs};
 
     ghost renders = { λ tabs. RendersTabs tabs.now };
+
+    ghost leaves = { λ tabs. LeavesTabs tabs.now };
 
     ghost is_short = { λ tabs. IsShortTabs tabs.now };
 
     fn render(self, area: Rect, buf: &mut Buffer) -> Result<(), AllocError> {
-        let Some(inner) = render_frame(self.style, &self.block, area, buf)? else {
-            return Ok(());
-        };
-        self.render_tabs(inner, buf)
+        render_inside(self, self.style, &self.block, area, buf)
     }
 }
 
 impl<'a> Widget for Tabs<'a> {
-    ghost use Rattle.rtui_tabs.specs.Tabs.{RendersTabs, IsShortTabs};
+    ghost use Rattle.rtui_tabs.specs.Tabs.{RendersTabs, LeavesTabs, IsShortTabs};
 
     ghost renders = { RendersTabs };
+
+    ghost leaves = { LeavesTabs };
 
     ghost is_short = { IsShortTabs };
 
