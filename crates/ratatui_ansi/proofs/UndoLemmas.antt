@@ -5,6 +5,10 @@ use Rattle.ansi_model.specs.{Emulator.Emulator, Emulator.rested, Emulator.Phase.
 use Rattle.ansi_model.specs.{Sends.LeadsBy, Endings.ClosesAlternate, Endings.left_below, Endings.left_back}
 use Rattle.ansi_model.specs.Windows.{Window, feed_window}
 use Rattle.ansi_model.specs.{declared.command.Command.Command, Commands.command_bytes, Commands.keyboard_pop_bytes}
+use Rattle.ansi_model.specs.declared.command.Command.TheVariants.{DisableMouseCapture, DisableBracketedPaste, DisableFocusChange}
+use Rattle.ansi_model.specs.declared.command.Command.TheVariants.{DisableSizeReports, BringTitleBack}
+use Rattle.ansi_model.specs.declared.command.Command.TheVariants as Asked
+use Rattle.ansi_model.specs.declared.command.SetCursorStyle.TheVariants.{DefaultUserShape}
 use Rattle.ratatui_ansi.specs.{declared.settings.Settings.Settings, Settings.taken_back, Settings.undo_bytes}
 use Rattle.ansi_model.proofs.{ReadLemmas.feed-append, ReadLemmas.command-read, ReadLemmas.keyboard_pop-read}
 use Rattle.ansi_model.proofs.{WindowLemmas.window-read, WindowLemmas.window-append}
@@ -15,6 +19,7 @@ record IsQuiet (bytes : List ℕ) : Type 0 where
   pub rests : (t : Emulator) → t.phase ≡ Ground → rested (feed bytes t) ≡ rested t
 
 quiet-none : IsQuiet []
+unfolding feed
 quiet-none = record { ground = λ t ground. ground; rests = λ t ground. refl }
 
 quiet-read : (bytes : List ℕ) → ((t : Emulator) → t.phase ≡ Ground → feed bytes t ≡ rested t) → IsQuiet bytes
@@ -41,9 +46,10 @@ quiet-flags n false small = quiet-none
 
 quiet-undo : (s : Settings) → s.flags < 2 ^ 64 → IsQuiet (undo_bytes s)
 quiet-undo s small =
-    quiet-both _ _ (quiet-taken s.mouse _) (quiet-both _ _ (quiet-taken s.pastes _)
-    (quiet-both _ _ (quiet-taken s.focus _) (quiet-both _ _ (quiet-taken s.sizes _)
-    (quiet-both _ _ (quiet-taken s.shape _) (quiet-both _ _ (quiet-taken s.title _)
+    quiet-both _ _ (quiet-taken s.mouse DisableMouseCapture) (quiet-both _ _ (quiet-taken s.pastes DisableBracketedPaste)
+    (quiet-both _ _ (quiet-taken s.focus DisableFocusChange) (quiet-both _ _ (quiet-taken s.sizes DisableSizeReports)
+    (quiet-both _ _ (quiet-taken s.shape (Asked.SetCursorStyle DefaultUserShape))
+    (quiet-both _ _ (quiet-taken s.title BringTitleBack)
     (quiet-flags s.flags (nat_lt 0 s.flags) small))))))
 
 -- what leaves a terminal leaves it also after what was set was taken back

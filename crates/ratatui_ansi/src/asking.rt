@@ -220,8 +220,9 @@ impl<W: Write + Drop> AnsiBackend<W> {
         ensures state { AnswersSet result (with_title self.old.settings) self.old self.new }
         ensures counts { Counts result self.old.failures self.new.failures }
     {
+        let after = self.settings.with_title();
         let answer = self.show_title(title);
-        self.note(&answer, self.settings.with_title());
+        self.note(&answer, after);
         answer
     }
 

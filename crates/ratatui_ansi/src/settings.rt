@@ -1,6 +1,6 @@
 //! What an application set on its terminal, beside its screen.
 
-ghost use Rattle.std.specs.Prelude.{◌≡◌, ◌+◌, ◌≤◌, ◌++◌, if◌then◌else◌, [], length, nat_lt};
+ghost use Rattle.std.specs.Prelude.{◌≡◌, ◌+◌, ◌<◌, ◌≤◌, ◌^◌, ◌++◌, if◌then◌else◌, [], length, nat_lt};
 ghost use Rattle.ansi_model.specs.Commands.{keyboard_pop_bytes};
 ghost use Rattle.ratatui_ansi.specs.Settings.{after_command, with_flags, with_title, either};
 ghost use Rattle.ratatui_ansi.specs.Settings.{no_settings, undo_bytes, is_user_shape, taken_back};
@@ -145,6 +145,7 @@ impl Settings {
     pub(crate) fn undo(self) -> Farewell
         ensures bytes { result.bytes ≡ undo_bytes self }
         ensures short { length result.bytes ≤ 224 }
+        ensures flags { self.flags < 2 ^ 16 }
     {
         let mut text = ArrayString::new();
         take_back(&mut text, self.mouse, Command::DisableMouseCapture);
