@@ -2,3 +2,8 @@ use Rattle.ratatui_ansi.proofs.tracker.Tracker.collect.Goals as goal
 
 pub returns-in_ok-command-in-Command-clause-ok : goal.returns-in_ok-command-in-Command-clause-ok
 returns-in_ok-command-in-Command-clause-ok c = rw c.in-Command.is c.in_ok-command-in-Command.ensures.ok
+
+pub returns-in_ok-push_keyboard_flags-in-PushKeyboardFlags-clause-ok :
+    goal.returns-in_ok-push_keyboard_flags-in-PushKeyboardFlags-clause-ok
+returns-in_ok-push_keyboard_flags-in-PushKeyboardFlags-clause-ok c =
+    rw c.in-PushKeyboardFlags.is c.in_ok-push_keyboard_flags-in-PushKeyboardFlags.ensures.ok
