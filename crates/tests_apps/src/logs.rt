@@ -187,7 +187,9 @@ fn fails_to_write(alloc: Global, left: usize) -> Result<bool, AllocError> {
     let mut reader = "3 1\na".as_bytes();
     match run(alloc, &mut reader, &mut Full { left }) {
         Ok(()) => Ok(false),
-        Err(fault) => Ok(fault == LogFault::Write && reads_as(alloc, fault, "output: write failed")?),
+        Err(fault) => Ok(
+            fault == LogFault::Write && reads_as(alloc, fault, "output: write failed")?,
+        ),
     }
 }
 
