@@ -1,6 +1,6 @@
 //! The answers of docs/HOW.md, each run.
 use crate::symbol_at;
-use ratatui_ansi::AnsiBackend;
+use ratatui_ansi::{AnsiBackend, AnsiError, KeyboardEnhancementFlags};
 use ratatui_core::backend::TestBackend;
 use ratatui_core::layout::{Constraint, Position, Rect, Size, SplitArea};
 use ratatui_core::style::Stylize;
@@ -111,6 +111,23 @@ fn a_title_is_sent(rt: HostRuntime) -> Result<(), Fail> {
     };
     assert!(rt; backend.send_title("mine").is_ok());
     assert!(rt; backend.writer().as_slice().ends_with(b"mine\x1b\\"));
+    Ok(())
+}
+
+// Sends flags of the keyboard.
+fn tell_releases(backend: &mut AnsiBackend<Vec<u8>>) -> Result<(), AnsiError> {
+    backend.push_keyboard_enhancement_flags(KeyboardEnhancementFlags::REPORT_EVENT_TYPES)?;
+    Ok(())
+}
+
+#[test]
+fn keyboard_flags_are_sent(rt: HostRuntime) -> Result<(), Fail> {
+    let alloc = rt.alloc();
+    let Ok(mut backend) = AnsiBackend::new(alloc, Vec::new(alloc), Size::new(8, 1)) else {
+        return Err(Fail::from(AllocError));
+    };
+    assert!(rt; tell_releases(&mut backend).is_ok());
+    assert!(rt; backend.writer().as_slice().ends_with(b"\x1b[>2u"));
     Ok(())
 }
 

@@ -21,3 +21,10 @@ fn parts(rt: HostRuntime) -> Result<(), Fail> {
     assert!(rt; is_part(Cut::Rows(2, 9), 2, 3, 10, 1));
     Ok(())
 }
+
+#[test]
+fn the_example(rt: HostRuntime) {
+    assert!(rt; Cut::First(4).of(Rect::new(2, 0, 10, 3)) == Rect::new(2, 0, 4, 3));
+    assert!(rt; Cut::After(4).of(Rect::new(2, 0, 10, 3)) == Rect::new(6, 0, 6, 3));
+    assert!(rt; Cut::Rows(1, 1).of(Rect::new(2, 0, 10, 3)) == Rect::new(2, 1, 10, 1));
+}
