@@ -213,7 +213,7 @@ other-cases : (t : Bool) (b k : ℕ) (xs : List ℕ) → is_feed b ≡ t
 other-cases true b k xs is rest = rest
 other-cases false b k xs is rest = rest ∙ sym (onto-others b k (slice_split is_feed xs))
 
-fewer-cases : (t : Bool) (k n m : ℕ) → suc k ≤ n → n ≡ cond t 1 0 + m → (if t then k else suc k) ≤ m
+pub fewer-cases : (t : Bool) (k n m : ℕ) → suc k ≤ n → n ≡ cond t 1 0 + m → (if t then k else suc k) ≤ m
 fewer-cases true k n m le is = omega (arith, le, is)
 fewer-cases false k n m le is = omega (arith, le, is)
 
