@@ -1,8 +1,8 @@
 -- Drafts as their texts and cursors.
-use Rattle.std.proofs.Common.{ℕ, ◌≡◌, ◌+◌, ◌-◌, ◌≤◌, List, ◌++◌, length, take, drop, sym, ap, ap₂, ◌∙◌, arith, subst}
-use Rattle.std.proofs.Common.{length-append, append_assoc}
+use Rattle.std.proofs.Common.{ℕ, ◌≡◌, ◌+◌, ◌≤◌, List, ◌++◌, length, take, drop, sym, ap, ap₂, ◌∙◌, arith, subst}
+use Rattle.std.proofs.Common.{length-append}
 use Rattle.std.proofs.lemmas.{List.length-take-le, List.take-append-drop, List.take_at, List.drop_at}
-use Rattle.std.proofs.lemmas.{Str.IsCharBoundary-at_seam, Str.IsUtf8-drop, Str.IsUtf8-append, Str.IsUtf8-take}
+use Rattle.std.proofs.lemmas.{Str.IsCharBoundary-at_seam, Str.IsUtf8-drop}
 use Rattle.std.specs.{Str.IsUtf8, Str.IsCharBoundary, List.replace_range}
 use Rattle.text_field.specs.History.{CursorText, cursor_text_at}
 use Rattle.text_area.specs.Drafts.{draft_text, cursor_at, part_replaced}

@@ -1,8 +1,8 @@
 -- Where a pattern occurs in a text, from where it occurs in a part of it.
-use Rattle.std.proofs.Common.{ℕ, ◌≡◌, ◌≢◌, ◌+◌, ◌-◌, ◌<◌, ◌≤◌, List, ◌++◌, length, take, drop, refl, sym, ap, ap₂, subst, ◌∙◌, arith}
-use Rattle.std.proofs.Common.{append_assoc, length-append}
+use Rattle.std.proofs.Common.{ℕ, ◌≡◌, ◌+◌, ◌-◌, ◌≤◌, List, ◌++◌, length, take, drop, refl, sym, ap, ap₂, subst, ◌∙◌, arith}
+use Rattle.std.proofs.Common.{append_assoc}
 use Rattle.std.proofs.lemmas.{List.drop-drop, List.take-append-drop, List.drop-append-le, List.length-take-le, List.length-drop, List.drop-take, List.take_at, List.drop_at}
-use Rattle.std.proofs.lemmas.{List.length-take, Str.IsCharBoundary-from_rest}
+use Rattle.std.proofs.lemmas.{Str.IsCharBoundary-from_rest}
 use Rattle.std.specs.Str.{IsUtf8, IsCharBoundary}
 use Rattle.std.specs.Str.Pattern.{HasTextAt, LacksTextAt, FindsText, RFindsText, MatchBeginsAt}
 use Rattle.text_field.proofs.{ReachLemmas.boundary-before, FieldLemmas.take-behind}

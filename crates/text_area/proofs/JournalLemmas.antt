@@ -1,13 +1,13 @@
 -- Changes of a text, and how they are undone.
-use Rattle.std.proofs.Common.{ℕ, zero, suc, ◌≡◌, ◌+◌, ◌-◌, ◌<◌, ◌≤◌, List, [], ◌∷◌, ◌++◌, length, take, drop, slice_range}
+use Rattle.std.proofs.Common.{ℕ, zero, suc, ◌≡◌, ◌+◌, ◌-◌, ◌≤◌, List, [], ◌∷◌, ◌++◌, length, take, drop, slice_range}
 use Rattle.std.proofs.Common.{refl, sym, ap, ap₂, subst, ◌∙◌, arith, append_assoc, length-append}
 use Rattle.std.proofs.lemmas.{List.take_at, List.drop_at, List.length-take-le, List.length-take, List.take-append-drop}
 use Rattle.std.proofs.lemmas.{Str.IsCharBoundary-at_seam, Str.IsUtf8-append, Str.IsUtf8-drop, Str.IsUtf8-between}
 use Rattle.std.specs.{List.replace_range, Str.IsUtf8, Str.IsCharBoundary}
 use Rattle.text_field.specs.History.{CursorText, cursor_text_at}
 use Rattle.text_field.proofs.FieldLemmas.{take-behind}
-use Rattle.text_area.specs.Drafts.{draft_text, cursor_at, part_replaced}
-use Rattle.text_area.specs.Journals.{StepData, IsStepOf, Undoes, undone_text, step_for, stepped_text, stepped_onto}
+use Rattle.text_area.specs.Drafts.{draft_text, cursor_at}
+use Rattle.text_area.specs.Journals.{StepData, IsStepOf, Undoes, undone_text, step_for}
 use Rattle.text_area.proofs.DraftLemmas.{text-at, boundary-piece}
 
 -- a part of a text that has given way is put back

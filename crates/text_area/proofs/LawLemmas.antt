@@ -1,20 +1,19 @@
 -- What the laws of text areas say.
-use Rattle.std.proofs.Common.{ℕ, zero, suc, ◌≡◌, ◌+◌, ◌-◌, ◌<◌, ◌≤◌, ◌==◌, ◌&&◌, min, max, Bool, true, false, not, cond, if◌then◌else◌, List, [], ◌∷◌, ◌++◌}
+use Rattle.std.proofs.Common.{ℕ, zero, suc, ◌≡◌, ◌+◌, ◌-◌, ◌<◌, ◌≤◌, ◌==◌, ◌&&◌, Bool, true, false, not, cond, if◌then◌else◌, List, [], ◌∷◌, ◌++◌}
 use Rattle.std.proofs.Common.{length, take, drop, get_or, slice_range, refl, sym, ap, ap₂, subst, ◌∙◌, arith, append_assoc, length-append}
-use Rattle.std.proofs.Common.{Option, Some, None}
-use Rattle.std.proofs.lemmas.{List.take_at, List.drop_at, List.length-take-le, List.length-drop, List.take-append-drop, List.append-nil, List.take_all}
+use Rattle.std.proofs.Common.{None}
+use Rattle.std.proofs.lemmas.{List.take_at, List.drop_at, List.length-take-le, List.length-drop, List.take-append-drop, List.append-nil}
 use Rattle.std.proofs.lemmas.{List.Sums.sum_by-cons, List.nil_from_length, Bool.ne_eqb}
-use Rattle.std.specs.{List.replace_range, List.slice_split, List.onto_first, List.prefix_len, Str.IsCharBoundary}
+use Rattle.std.specs.{List.replace_range, List.slice_split, List.onto_first}
 use Rattle.text_field.specs.History.{CursorText, cursor_text_at}
 use Rattle.text_field.specs.Field.{kept_of}
 use Rattle.text_field.proofs.FieldLemmas.{take-behind}
-use Rattle.text_area.specs.Extents.{is_feed, in_run, line_right}
-use Rattle.text_area.specs.Lines.{feeds, nth_start, nth_line, first_line}
-use Rattle.text_area.specs.Drafts.{draft_text, cursor_at, part_replaced}
-use Rattle.text_area.specs.Journals.{JournalData, StepData, IsStepOf, Undoes, journal_of, undo_step, undone, redone, undone_text, changed, changes_nothing, step_for, stepped_text, stepped_onto}
-use Rattle.text_area.specs.Areas.{AreaData, area_of, area_text, area_cursor, put_over, selection, selected, typing_over, killing, yanking, ends}
+use Rattle.text_area.specs.Extents.{is_feed, line_right}
+use Rattle.text_area.specs.Lines.{feeds, nth_line, first_line}
+use Rattle.text_area.specs.Drafts.{draft_text, part_replaced}
+use Rattle.text_area.specs.Journals.{JournalData, StepData, IsStepOf, Undoes, journal_of, undo_step, undone, redone, undone_text, changed, changes_nothing, step_for, stepped_text}
+use Rattle.text_area.specs.Areas.{AreaData, area_of, area_text, area_cursor, put_over, selection, selected, typing_over, killing, yanking}
 use Rattle.text_area.specs.Typing.{written_text}
-use Rattle.text_area.specs.declared.extent.Run.TheVariants as run
 use Rattle.text_area.proofs.DraftLemmas.{text-at, made}
 use Rattle.text_area.proofs.JournalLemmas.{undone-twice}
 use borrow.Author.Tests.{eqb-true}
@@ -214,7 +213,7 @@ other-cases : (t : Bool) (b k : ℕ) (xs : List ℕ) → is_feed b ≡ t
 other-cases true b k xs is rest = rest
 other-cases false b k xs is rest = rest ∙ sym (onto-others b k (slice_split is_feed xs))
 
-fewer-cases : (t : Bool) (k n m : ℕ) → suc k ≤ n → n ≡ cond t 1 0 + m → (if t then k else suc k) ≤ m
+pub fewer-cases : (t : Bool) (k n m : ℕ) → suc k ≤ n → n ≡ cond t 1 0 + m → (if t then k else suc k) ≤ m
 fewer-cases true k n m le is = omega (arith, le, is)
 fewer-cases false k n m le is = omega (arith, le, is)
 

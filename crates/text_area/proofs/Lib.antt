@@ -7,3 +7,4 @@ pub mod JournalLemmas
 pub mod AreaLemmas
 pub mod LawLemmas
 pub mod FindLemmas
+pub mod LineLaws

@@ -1,17 +1,16 @@
 -- Lines of a text, and columns in them.
 use Rattle.std.proofs.Common.{ℕ, zero, suc, get_or, add-one, ◌≡◌, ◌≢◌, ◌+◌, ◌-◌, ◌<◌, ◌≤◌, Bool, true, false, not, cond, List, [], ◌∷◌, ◌++◌}
-use Rattle.std.proofs.Common.{length, take, drop, reverse, min, refl, sym, ap, subst, ◌∙◌, arith, length-append, if◌then◌else◌}
+use Rattle.std.proofs.Common.{length, take, drop, reverse, refl, sym, ap, subst, ◌∙◌, arith, length-append, if◌then◌else◌}
 use Rattle.std.proofs.lemmas.{List.take-take, List.take_all, List.drop-drop, List.take-append-drop, List.reverse-append, List.length-take-le, List.drop_all}
 use Rattle.std.proofs.lemmas.{List.Sums.sum_by-cons, List.Sums.sum_by-append, List.Sums.sum_by-take-drop, List.Sums.sum_by-take-le, List.Sums.count_by_more_yes, List.Sums.count_by_more_no, List.Sums.count_by-le-length, Bool.ne_eqb}
 use Rattle.std.proofs.lemmas.{List.Folds.concat-append, Str.IsCharBoundary-at_seam, Str.IsCharBoundary-after_ascii}
-use Rattle.std.specs.{List.concat, List.count_by, List.prefix_len, Str.IsUtf8, Str.IsCharBoundary}
+use Rattle.std.specs.{List.concat, Str.IsUtf8, Str.IsCharBoundary}
 use Rattle.unicode_segmentation.specs.Grapheme.{graphemes}
 use Rattle.unicode_segmentation.proofs.SegmentsLemmas.{concat-segments}
 use Rattle.text_field.proofs.{FieldLemmas.take-behind, ListLemmas.drop-reverse, ReachLemmas.boundary-behind}
-use Rattle.text_area.specs.Extents.{is_feed, in_run, line_left, line_right}
-use Rattle.text_area.specs.Lines.{feeds, nth_start, columns_len, first_line, last_line}
+use Rattle.text_area.specs.Extents.{is_feed, line_left, line_right}
+use Rattle.text_area.specs.Lines.{feeds, nth_start, columns_len, last_line}
 use Rattle.text_area.specs.Inner.{BeginsLine}
-use Rattle.text_area.specs.declared.extent.Run.TheVariants as run
 
 pub feed-yes : (b : ℕ) → b ≡ 10 → is_feed b ≡ true
 feed-yes b is = ap is_feed is

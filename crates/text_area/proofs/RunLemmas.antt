@@ -1,11 +1,10 @@
 -- Runs of bytes in a text, and where they end.
-use Rattle.std.proofs.Common.{ℕ, zero, suc, get_or, add-one, ◌≡◌, ◌+◌, ◌-◌, ◌<◌, ◌≤◌, ◌==◌, Bool, true, false, not, ◌||◌, List, [], ◌∷◌, length, take, drop, refl, sym, ap, subst, ◌∙◌, arith}
-use Rattle.std.proofs.lemmas.{List.take-take, List.drop-drop, List.length-take-le, List.length-drop, Str.IsCharBoundary-after_ascii, Str.IsCharBoundary-start, Str.IsCharBoundary-before_ascii, Str.IsCharBoundary-end}
+use Rattle.std.proofs.Common.{ℕ, zero, suc, get_or, add-one, ◌≡◌, ◌+◌, ◌-◌, ◌<◌, ◌≤◌, false, List, length, take, drop, sym, ap, subst, ◌∙◌, arith}
+use Rattle.std.proofs.lemmas.{List.take-take, List.drop-drop, List.length-take-le, Str.IsCharBoundary-after_ascii, Str.IsCharBoundary-start}
 use Rattle.std.specs.{List.prefix_len, List.suffix_len, Str.IsUtf8, Str.IsCharBoundary}
-use Rattle.text_area.specs.Extents.{is_feed, is_gap, in_run, line_left, line_right, extent_left, extent_right}
-use Rattle.text_area.specs.declared.extent.Extent.TheVariants.{Word, LineOrBreak}
+use Rattle.text_area.specs.Extents.{in_run, extent_left, extent_right}
+use Rattle.text_area.specs.declared.extent.Extent.TheVariants.{Word}
 use Rattle.text_area.specs.declared.extent.Run.TheVariants as run
-use borrow.Author.Tests.{eqb-true}
 
 pub line-stop : (b : ℕ) → in_run run.Line b ≡ false → b ≡ 10
 line-stop b is = grind arith

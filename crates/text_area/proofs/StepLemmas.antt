@@ -1,6 +1,6 @@
 -- Steps, the last one first.
-use Rattle.std.proofs.Common.{ℕ, zero, suc, add-one, ◌≡◌, ◌+◌, ◌-◌, ◌<◌, ◌≤◌, List, [], ◌∷◌, ◌++◌, length, take, drop, reverse, get_or}
-use Rattle.std.proofs.Common.{refl, sym, ap, subst, ◌∙◌, arith}
+use Rattle.std.proofs.Common.{ℕ, ◌≡◌, ◌+◌, ◌-◌, ◌<◌, ◌≤◌, List, [], ◌∷◌, ◌++◌, length, take, drop, reverse, get_or}
+use Rattle.std.proofs.Common.{refl, sym, ap, ◌∙◌, arith}
 use Rattle.std.proofs.lemmas.{List.reverse-append, List.length-reverse, List.take-append-drop, List.take_at, List.take_all, List.drop_at, List.length-drop, List.take_more}
 use Rattle.std.specs.List.{remove}
 use Rattle.text_area.specs.Journals.{StepData}

@@ -1,6 +1,6 @@
 -- What a text area takes of a text.
-use Rattle.std.proofs.Common.{ℕ, zero, suc, ◌≡◌, ◌+◌, ◌<◌, ◌≤◌, ◌==◌, ◌&&◌, ◌||◌, Bool, true, false, not, cond, List, [], ◌∷◌, ◌++◌, length, drop, filter}
-use Rattle.std.proofs.Common.{chars, encode_utf8_all, get_or, refl, sym, ap, subst, ◌∙◌, arith, append_assoc}
+use Rattle.std.proofs.Common.{ℕ, ◌≡◌, ◌+◌, ◌<◌, ◌≤◌, ◌==◌, ◌&&◌, Bool, true, false, not, cond, List, [], ◌∷◌, ◌++◌, length, drop, filter}
+use Rattle.std.proofs.Common.{chars, encode_utf8_all, get_or, refl, sym, ap, ◌∙◌, arith, append_assoc}
 use Rattle.std.proofs.lemmas.{List.drop_more, List.drop_all, List.append-nil, Str.encodes-chars, Str.encodes-append, Bool.and_parts}
 use Rattle.std.specs.{List.list_all, Str.IsUtf8}
 use Rattle.text_field.proofs.TypedLemmas.{filter-passing}

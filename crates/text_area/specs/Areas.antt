@@ -1,9 +1,9 @@
 -- A text area: a text of lines with a cursor, and what is done to it.
-use Rattle.std.specs.Prelude.{ℕ, ◌+◌, ◌-◌, ◌==◌, Bool, true, false, if◌then◌else◌, List, [], ◌∷◌, length, slice_range}
+use Rattle.std.specs.Prelude.{ℕ, ◌+◌, ◌-◌, ◌==◌, if◌then◌else◌, List, [], length, slice_range}
 use Rattle.std.specs.Prelude.{min, max, Option, Some, None}
 use Rattle.std.specs.Option.{unwrap_or}
 use Rattle.text_field.specs.Field.{kept_of}
-use Rattle.text_field.specs.History.{CursorText, cursor_text_at}
+use Rattle.text_field.specs.History.{cursor_text_at}
 use Rattle.text_area.specs.Extents.{extent_left, extent_right}
 use Rattle.text_area.specs.Lines.{column_after, place_above, place_below}
 use Rattle.text_area.specs.Drafts.{draft_text}

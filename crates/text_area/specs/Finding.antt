@@ -1,5 +1,5 @@
 -- Where a pattern occurs in a text, and what is selected there.
-use Rattle.std.specs.Prelude.{◌≡◌, ℕ, ◌+◌, ◌<◌, ◌≤◌, List, length, Some, None}
+use Rattle.std.specs.Prelude.{ℕ, ◌+◌, ◌<◌, ◌≤◌, List, length, Some, None}
 use Rattle.std.specs.Str.{IsCharBoundary}
 use Rattle.std.specs.Str.Pattern.{HasTextAt, LacksTextAt}
 use Rattle.text_area.specs.Journals.{moved_cursor}

@@ -1,5 +1,5 @@
 -- A text with a cursor, and how its changes are undone.
-use Rattle.std.specs.Prelude.{ℕ, ◌+◌, ◌≤◌, ◌==◌, ◌&&◌, Bool, true, if◌then◌else◌, List, [], ◌∷◌, length, take, drop}
+use Rattle.std.specs.Prelude.{ℕ, ◌+◌, ◌≤◌, ◌==◌, ◌&&◌, Bool, if◌then◌else◌, List, [], ◌∷◌, length, take, drop}
 use Rattle.std.specs.Prelude.{slice_range}
 use Rattle.std.specs.List.{replace_range}
 use Rattle.std.specs.Str.{IsUtf8, IsCharBoundary}

@@ -1,5 +1,5 @@
 -- Lines of a text, by their numbers from 0 on, and columns in them.
-use Rattle.std.specs.Prelude.{ℕ, zero, suc, ◌+◌, ◌-◌, if◌then◌else◌, List, [], ◌∷◌, ◌++◌, length, take, drop}
+use Rattle.std.specs.Prelude.{ℕ, zero, suc, ◌+◌, ◌-◌, if◌then◌else◌, List, [], ◌∷◌, length, take, drop}
 use Rattle.std.specs.Prelude.{min, true}
 use Rattle.std.specs.List.{count_by, concat}
 use Rattle.unicode_segmentation.specs.Grapheme.{graphemes}

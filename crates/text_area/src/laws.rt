@@ -1,17 +1,20 @@
 //! Laws of text areas.
 
-ghost use Rattle.std.specs.Prelude.{◌≡◌, ◌≤◌, ◌<◌, ◌+◌, ◌++◌, ℕ, List, [], ◌∷◌, length, take, drop, get_or};
-ghost use Rattle.std.specs.Prelude.{slice_range, false};
+ghost use Rattle.std.specs.Prelude.{◌≡◌, ◌≤◌, ◌<◌, ◌+◌, ◌-◌, ◌++◌, ℕ, List, [], ◌∷◌, length, get_or};
+ghost use Rattle.std.specs.Prelude.{false};
 ghost use Rattle.std.specs.List.{replace_range, slice_split, join_with_byte};
+ghost use Rattle.std.specs.Str.{IsUtf8};
 ghost use Rattle.text_area.specs.Extents.{is_feed};
-ghost use Rattle.text_area.specs.Lines.{feeds, nth_line};
+ghost use Rattle.text_area.specs.Lines.{feeds, nth_line, nth_place};
 ghost use Rattle.text_area.specs.Drafts.{draft_text};
-ghost use Rattle.text_area.specs.Journals.{JournalData, StepData, Undoes, journal_of, undone, redone};
+ghost use Rattle.text_area.specs.Journals.{JournalData, StepData, Undoes, undone, redone};
 ghost use Rattle.text_area.specs.Journals.{changes_nothing};
-ghost use Rattle.text_area.specs.Areas.{AreaData, area_text, area_cursor, put_over, gone, undoing};
+ghost use Rattle.text_area.specs.Areas.{AreaData, area_text, area_before, area_cursor, aim_of};
+ghost use Rattle.text_area.specs.Areas.{put_over, gone, undoing};
 ghost use Rattle.text_area.specs.Areas.{selected, typing_over, killing, yanking};
 ghost use Rattle.text_area.specs.Typing.{written_text};
 ghost use Rattle.text_area.specs.declared.moves.Move.{Move};
+ghost use Rattle.text_area.specs.declared.moves.Move.TheVariants.{Up, Down};
 
 /// A change puts a piece in place of a part of the text, and changes nothing else of it; the cursor
 /// stands after the piece.
@@ -70,4 +73,13 @@ pub fn a_text_is_its_lines()
     ensures count { (text : List ℕ) → length (slice_split is_feed text) ≡ feeds text + 1 }
     ensures lines { (text : List ℕ) (i : ℕ) → i ≤ feeds text
         → nth_line i text ≡ get_or (slice_split is_feed text) i [] }
+{}
+
+/// Going up and then down comes back, if the cursor stood where the column that it aims at is in its
+/// own line, whatever the length of the line above.
+pub fn going_down_undoes_going_up()
+    ensures { (a : AreaData) → IsUtf8 (nth_line (feeds (area_before a) - 1) (area_text a))
+        → 0 < feeds (area_before a)
+        → nth_place (feeds (area_before a)) (aim_of a) (area_text a) ≡ area_cursor a
+        → (gone Down (gone Up a)).journal ≡ a.journal }
 {}

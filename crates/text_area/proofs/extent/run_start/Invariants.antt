@@ -1,4 +1,4 @@
-use Rattle.std.proofs.Common.{◌≡◌, ◌+◌, ◌≤◌, length, take}
+use Rattle.std.proofs.Common.{◌≡◌, ◌+◌, ◌≤◌, take}
 use Rattle.std.specs.List.{suffix_len}
 use Rattle.text_area.specs.Extents.{in_run}
 use Rattle.text_area.proofs.extent.run_start.Given as goal

@@ -1,4 +1,4 @@
-use Rattle.std.proofs.Common.{◌≡◌, ◌∙◌, length, subst, rules}
+use Rattle.std.proofs.Common.{◌≡◌, length, subst, rules}
 use Rattle.std.specs.Str.{IsUtf8, IsCharBoundary}
 use Rattle.text_area.specs.Drafts.{draft_text}
 use Rattle.text_area.specs.Journals.{step_for}

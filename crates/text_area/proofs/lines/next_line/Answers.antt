@@ -1,4 +1,4 @@
-use Rattle.std.proofs.Common.{◌+◌, arith}
+use Rattle.std.proofs.Common.{arith}
 use Rattle.text_area.proofs.LineLemmas.{feeds-next, begins-after}
 use Rattle.text_area.proofs.lines.next_line.Goals as goal
 

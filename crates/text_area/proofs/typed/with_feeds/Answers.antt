@@ -1,4 +1,4 @@
-use Rattle.std.proofs.Common.{length, chars, string_bytes, ◌∙◌, sym, arith}
+use Rattle.std.proofs.Common.{length, chars, string_bytes, ◌∙◌, arith}
 use Rattle.std.proofs.lemmas.{Iterator.YieldsList-from_chars, Iterator.Consumers.YieldsList-turn}
 use Rattle.std.proofs.lemmas.{Iterator.Consumers.YieldsList-end, List.length_push}
 use Rattle.text_area.proofs.TypedLemmas.{unified-step, unified-end}
