@@ -1,8 +1,8 @@
 -- What holds of a drawing, and of drawings one after the other.
-use Rattle.std.proofs.Common.{◌≡◌, ◌⊎◌, ⊎_elim, inl, inr, Bool, false, true, refl, sym, ◌∙◌, ap, subst, Result, Ok, Err, IsOk, OnOk, OnErr, arith}
+use Rattle.std.proofs.Common.{◌≡◌, ◌⊎◌, ⊎_elim, inl, inr, Bool, false, true, refl, sym, subst, Result, Ok, Err, IsOk, arith}
 use Rattle.std.specs.Result.{IsErr}
 use Rattle.std.specs.declared.alloc.AllocError.{AllocError}
-use Rattle.rtui_geometry.specs.{declared.rect.Rect.Rect, Rect.HasPosition, Rect.IsInside, Rect.EdgesFit, Rect.corner}
+use Rattle.rtui_geometry.specs.{declared.rect.Rect.Rect, Rect.IsInside, Rect.EdgesFit, Rect.corner}
 use Rattle.rtui_buffer.specs.{BufferData.BufferData, Shown.IsSettledBuffer}
 use Rattle.rtui_widgets.specs.{Plain.IsPlainFrom, Rendering.ChangesWithin}
 use Rattle.rtui_widgets.proofs.{WithinLemmas.within-then, WithinLemmas.within-styled}
@@ -12,7 +12,7 @@ use Rattle.rtui_widgets.proofs.NarrowTextLemmas.{pieces-plain, styled-plain, lin
 use Rattle.rtui_drawing.specs.{declared.cut.Cut.Cut, Cuts.cut_from}
 use Rattle.rtui_drawing.specs.declared.cut.Cut.TheVariants.{First, After, Last, BeforeLast, Middle, Rows}
 use Rattle.rtui_drawing.specs.Drawings.{Thing, a_style, some_pieces, a_line, a_text, a_change, Drawing, nothing, put, over, ◌before◌}
-use Rattle.rtui_drawing.specs.Drawings.{draw_if, IsPut, DrawsAll, Refuses, IsShortThing, IsStopped, IsDone, IsShortDrawing}
+use Rattle.rtui_drawing.specs.Drawings.{draw_if, IsPut, DrawsAll, IsStopped, IsDone, IsShortDrawing}
 use Rattle.rtui_drawing.specs.Laws.{IsNarrowThing, IsNarrowDrawing, Continues}
 
 -- a part lies in its area

@@ -1,5 +1,5 @@
 -- Texts whose graphemes take one column are written in narrow pieces.
-use Rattle.std.proofs.Common.{◌≡◌, ℕ, ◌-◌, ◌≤◌, List, [], ◌∷◌, All, subst, arith}
+use Rattle.std.proofs.Common.{◌≡◌, ℕ, ◌-◌, ◌≤◌, List, [], ◌∷◌, subst, arith}
 use Rattle.std.proofs.lemmas.{List.Elements.All-nil, List.Elements.All-append, List.Elements.All-head, List.Elements.All-tail}
 use Rattle.rtui_geometry.specs.declared.rect.Rect.{Rect}
 use Rattle.rtui_style.specs.{declared.Style.Style, Style.patch}

@@ -1,5 +1,5 @@
 -- Pieces written from the left of a row on.
-use Rattle.std.proofs.Common.{◌≡◌, ℕ, ◌+◌, ◌-◌, ◌<◌, ◌≤◌, ⊎_elim, inl, inr, false, true, refl, List, arith, Result, Ok, Err}
+use Rattle.std.proofs.Common.{◌≡◌, ℕ, ◌+◌, ◌<◌, ◌≤◌, ⊎_elim, inl, inr, false, true, List, arith, Result, Ok, Err}
 use Rattle.std.proofs.lemmas.Bool.{cases_lt}
 use Rattle.std.specs.Result.{IsErr}
 use Rattle.std.specs.declared.alloc.AllocError.{AllocError}
@@ -8,8 +8,8 @@ use Rattle.rtui_geometry.specs.Rect.{HasPosition, corner}
 use Rattle.rtui_style.specs.declared.Style.{Style}
 use Rattle.rtui_text.specs.Text.{LineData}
 use Rattle.rtui_buffer.specs.{BufferData.BufferData, Painting.Piece, Painting.columns, Painting.text_pieces, Line.line_pieces}
-use Rattle.rtui_buffer.specs.PaintedText.{room_at, IsBeside, IsSameBeside, Paints, PaintsPieces}
-use Rattle.rtui_buffer.proofs.{ColumnLemmas.PaintsByColumns-paints, ColumnLemmas.same-beside, ColumnLemmas.text-keeps}
+use Rattle.rtui_buffer.specs.PaintedText.{room_at, IsBeside, Paints}
+use Rattle.rtui_buffer.proofs.{ColumnLemmas.same-beside, ColumnLemmas.text-keeps}
 use Rattle.rtui_buffer.proofs.{ColumnLemmas.line-keeps, PaintsLemmas.front-beside}
 use Rattle.rtui_widgets.specs.Rendering.{ChangesWithin}
 use Rattle.rtui_drawing.specs.Cuts.{cut_from}

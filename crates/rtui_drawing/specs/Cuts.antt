@@ -1,11 +1,11 @@
 -- Parts of an area, each of which lies in it.
-use Rattle.std.specs.Prelude.{ℕ, ◌+◌, ◌-◌, ◌/◌, min}
+use Rattle.std.specs.Prelude.{◌+◌, ◌-◌, ◌/◌, min}
 use Rattle.rtui_geometry.specs.declared.rect.Rect.{Rect}
 use Rattle.rtui_drawing.specs.declared.cut.Cut.{Cut}
 use Rattle.rtui_drawing.specs.declared.cut.Cut.TheVariants.{First, After, Last, BeforeLast, Middle, Rows}
 
--- the part that a cut leaves of an area: its first columns, or those after these; its last columns, or those before
--- these; columns in its middle; or some rows
+-- the part that a cut leaves of an area: its first columns, or those after these; its last columns, or those
+-- before these; columns in its middle; or some rows
 abbrev pub cut_from : Cut → Rect → Rect
 cut_from (First n) r = record r { width = min n r.width }
 cut_from (After n) r = record r { x = min (r.x + n) 65535; width = r.width - n }

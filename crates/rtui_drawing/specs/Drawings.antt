@@ -14,8 +14,8 @@ use Rattle.rtui_widgets.specs.Rendering.{ChangesWithin, RendersLine, RendersText
 use Rattle.rtui_widgets.specs.Refused.{LeavesLine, LeavesText}
 use Rattle.rtui_drawing.specs.{declared.cut.Cut.Cut, Cuts.cut_from}
 
--- what may be put over an area: a style; pieces of text, from the area's corner on; a line, in its first row; a text;
--- or a change of each cell, with where it takes no memory
+-- what may be put over an area: a style; pieces of text, from the area's corner on; a line, in its first row;
+-- a text; or a change of each cell, with where it takes no memory
 pub data Thing : Type 1 where
   a_style : Style → Thing
   some_pieces : List Piece → Thing
@@ -23,7 +23,8 @@ pub data Thing : Type 1 where
   a_text : TextData → Thing
   a_change : (Position → Cell → Cell) → (Position → Cell → Type 0) → Thing
 
--- a drawing in an area: nothing, a thing over all of it, a drawing in a part of it, or one drawing before another
+-- a drawing in an area: nothing, a thing over all of it, a drawing in a part of it, or one drawing before
+-- another
 pub data Drawing : Type 1 where
   nothing : Drawing
   put : Thing → Drawing
@@ -31,7 +32,6 @@ pub data Drawing : Type 1 where
   ◌before◌ : Drawing → Drawing → Drawing
 
 infixr 5 ◌before◌
-
 -- the drawing of each thing
 abbrev pub put_style : Style → Drawing
 put_style style = put (a_style style)
@@ -86,7 +86,8 @@ abbrev pub IsShortThing : Rect → Thing → Rect → Type 0
 IsShortThing own (a_style s) r = ⊤
 IsShortThing own (some_pieces ps) r = AreShort ps
 IsShortThing own (a_line l) r = IsShortLine l.alignment l (intersected r own).width
-IsShortThing own (a_text t) r = let part = intersected r own in (k : ℕ) → k + 1 ≤ part.height → IsShortRow t part.width k
+IsShortThing own (a_text t) r =
+    let part = intersected r own in (k : ℕ) → k + 1 ≤ part.height → IsShortRow t part.width k
 IsShortThing own (a_change f is_light) r = (p : Position) (c : Cell) → is_light p c
 
 -- memory was refused for a thing, which wasn't short

@@ -16,14 +16,15 @@ IsNarrowThing (a_line l) = EachLineGrapheme TakesOneColumn l
 IsNarrowThing (a_text t) = EachTextGrapheme TakesOneColumn t
 IsNarrowThing (a_change f is_light) = (p : Position) (c : Cell) → IsPlain c → IsPlain (f p c)
 
+-- a drawing of such things alone
 abbrev pub IsNarrowDrawing : Drawing → Type 0
 IsNarrowDrawing nothing = ⊤
 IsNarrowDrawing (put thing) = IsNarrowThing thing
 IsNarrowDrawing (over c d) = IsNarrowDrawing d
 IsNarrowDrawing (a before b) = IsNarrowDrawing a × IsNarrowDrawing b
 
--- to draw what is left in an area on what stands now is to draw all in another on what stood before, also if memory
--- is refused
+-- to draw what is left in an area on what stands now is to draw all in another on what stood before, also if
+-- memory is refused
 pub record Continues (left : Drawing) (r : Rect) (all : Drawing) (whole : Rect)
     (old now : BufferData) : Type 0 where
   pub ok : (new : BufferData) → DrawsAll left r now new → DrawsAll all whole old new

@@ -48,11 +48,7 @@ pub fn put_text(text: &Text<'_>, area: Rect, buf: &mut Buffer) -> Result<(), All
 /// # Errors
 ///
 /// `AllocError` if memory is refused; some cells of the area may have changed then.
-pub fn put_change<C: CellChange>(
-    change: &C,
-    area: Rect,
-    buf: &mut Buffer,
-) -> Result<(), AllocError>
+pub fn put_change<C: CellChange>(change: &C, area: Rect, buf: &mut Buffer) -> Result<(), AllocError>
     ensures { let d = put_change (C.made change.now) (C.is_light change.now) in
         IsDone d area result buf.old buf.new }
 {
@@ -68,12 +64,7 @@ pub fn put_change<C: CellChange>(
 /// # Errors
 ///
 /// `AllocError` if memory is refused; a front of the text's graphemes stands then.
-pub fn write(
-    text: &str,
-    style: Style,
-    row: Rect,
-    buf: &mut Buffer,
-) -> Result<u16, AllocError>
+pub fn write(text: &str, style: Style, row: Rect, buf: &mut Buffer) -> Result<u16, AllocError>
     requires { IsRowIn buf.old.area row }
     ensures done { let ps = text_pieces row.width style text.now in
         IsDone (put_pieces ps) row result buf.old buf.new }

@@ -1,5 +1,5 @@
 -- Tabs of narrow texts keep cells plain.
-use Rattle.std.proofs.Common.{◌≡◌, ℕ, zero, suc, ◌+◌, ◌-◌, ◌≤◌, ◌==◌, nat_lt, Bool, true, false, IfSome, if◌then◌else◌, List, [], ◌∷◌, All}
+use Rattle.std.proofs.Common.{ℕ, zero, suc, ◌+◌, ◌-◌, ◌≤◌, ◌==◌, nat_lt, true, false, IfSome, if◌then◌else◌, List, [], ◌∷◌, All}
 use Rattle.std.proofs.Common.{Option, Some, None, arith, codes}
 use Rattle.std.proofs.lemmas.{List.Elements.All-head, List.Elements.All-tail}
 use Rattle.ratatui_core.specs.Layout.{Rect, intersected}
@@ -7,10 +7,10 @@ use Rattle.ratatui_core.specs.{Style.Style, Text.LineData, Text.ArePrintable}
 use Rattle.ratatui_core.specs.Text.{EachGrapheme, EachSpanGrapheme, TakesOneColumn}
 use Rattle.ratatui_core.specs.{Buffer.BufferData, Buffer.IsPlainFrom}
 use Rattle.rtui_drawing.specs.declared.cut.Cut.TheVariants.{After}
-use Rattle.rtui_drawing.specs.{Drawings.Drawing, Drawings.over, Drawings.◌before◌, Drawings.draw_if}
+use Rattle.rtui_drawing.specs.{Drawings.over, Drawings.◌before◌}
 use Rattle.rtui_drawing.specs.{Laws.IsNarrowDrawing}
 use Rattle.rtui_drawing.proofs.{DrawingLemmas.if-narrow, NarrowLemmas.text-narrow, NarrowLemmas.line-narrow}
-use Rattle.rtui_boxes.specs.{declared.block.Block.Block, Boxes.IsNarrowBox, Framed.inner_if}
+use Rattle.rtui_boxes.specs.{Boxes.IsNarrowBox, Framed.inner_if}
 use Rattle.rtui_inside.proofs.InsideLemmas.{inside-plain, inner-columns}
 use Rattle.rtui_tabs.specs.declared.tabs.Tabs.{Tabs as TabsData}
 use Rattle.rtui_tabs.specs.Tabs.{TabPart, no_part, span_part, line_part, ◌beside◌, columns_of_part, drawing_of_part, padding_part}

@@ -1,7 +1,7 @@
 -- Tabs: where each part of their row stands, and what they make of a buffer.
-use Rattle.std.specs.Prelude.{◌≡◌, ℕ, Bool, true, false, ◌+◌, ◌-◌, ◌==◌, zero, suc, min, List, [], ◌∷◌}
-use Rattle.std.specs.Prelude.{length, codes, encode_utf8_all, Option, Some, None, if◌then◌else◌, nat_lt, unwrap_or}
-use Rattle.std.specs.Prelude.{All, IfSome}
+use Rattle.std.specs.Prelude.{◌≡◌, ℕ, Bool, false, ◌+◌, ◌-◌, ◌==◌, zero, suc, min, List, [], ◌∷◌}
+use Rattle.std.specs.Prelude.{length, codes, encode_utf8_all, Option, Some, None, if◌then◌else◌, nat_lt}
+use Rattle.std.specs.Prelude.{unwrap_or, All, IfSome}
 use Rattle.ratatui_core.specs.Layout.{Rect}
 use Rattle.ratatui_core.specs.Style.{Style, new_style, with_modifier, modifier_of}
 use Rattle.ratatui_core.specs.Text.{SpanData, LineData, unstyled, EachGrapheme, EachSpanGrapheme}
@@ -41,7 +41,6 @@ pub data TabPart : Type 0 where
   ◌beside◌ : TabPart → TabPart → TabPart
 
 infixr 6 ◌beside◌
-
 -- how many of so many columns a part takes
 abbrev pub columns_of_part : TabPart → ℕ → ℕ
 columns_of_part no_part room = 0

@@ -9,8 +9,7 @@ pub returns : goal.returns
 returns c =
     part-drawn c.args.self.now.highlight_style (line_part c.args.line.now c.args.is_selected) c.args.row c.of-2.result
     c.in_ok-columns.columns c.args.buf.now c.highlight_if.new.buf c.requires c.in_ok-columns.ensures.fits c.of-2.ensures
-    c.in_ok-columns.ensures.columns
-    (
+    c.in_ok-columns.ensures.columns (
       c.write_line.new.buf,
       c.in_ok-columns.ensures.done.ok,
       rw (c.of.ensures, c.in_ok-columns.ensures.columns) at c.highlight_if.ensures,

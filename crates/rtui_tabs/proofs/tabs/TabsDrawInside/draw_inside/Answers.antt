@@ -1,4 +1,4 @@
-use Rattle.std.proofs.Common.{drop, refl, arith}
+use Rattle.std.proofs.Common.{drop, arith}
 use Rattle.std.proofs.lemmas.List.{drop_all}
 use Rattle.rtui_drawing.specs.declared.cut.Cut.TheVariants.{Rows}
 use Rattle.rtui_drawing.proofs.DrawingLemmas.{continues-all, continues-in, continues-next, continues-stop, continues-end}
