@@ -38,8 +38,11 @@ row-of_place text i n utf8 le =
     let rest : List ℕ = drop (nth_start i text) text in
     let k : ℕ = columns_len n (nth_line i text) in
     let fits : k ≤ line_right rest =
-    omega (arith, columns-value (nth_line i text) (concat (drop n (graphemes true (nth_line i text)))) n utf8 refl,
-    length-take (line_right rest) rest) in
+    omega (
+      arith,
+      columns-value (nth_line i text) (concat (drop n (graphemes true (nth_line i text)))) n utf8 refl,
+      length-take (line_right rest) rest,
+    ) in
     let none : feeds (take k rest) ≤ feeds (take (line_right rest) rest) =
     omega (arith, ap feeds (take-take k (line_right rest) rest fits), feeds-le (take (line_right rest) rest) k) in
     let parts : feeds (take (nth_start i text + k) text) ≡ feeds (take (nth_start i text) text) + feeds (take k rest) =
