@@ -81,7 +81,7 @@ fn full() -> Full {
 }
 
 #[test]
-fn a_failed_write_is_not_told(rt: HostRuntime) {
+fn a_failed_write_is_told_in_a_line(rt: HostRuntime) {
     let mut errors = Vec::new(rt.alloc());
     let mut log = "2 1".as_bytes();
     assert!(rt;
@@ -93,7 +93,7 @@ fn a_failed_write_is_not_told(rt: HostRuntime) {
         print_script(rt.alloc(), &mut script, &mut full(), &mut errors).is_ok_and(|code| code
             == ExitCode::FAILURE)
     );
-    assert!(rt; errors.is_empty());
+    assert!(rt; errors.as_slice() == b"output: write failed\noutput: write failed\n");
 }
 
 #[test]
