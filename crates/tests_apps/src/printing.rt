@@ -93,7 +93,8 @@ fn a_failed_write_is_told_in_a_line(rt: HostRuntime) {
         print_script(rt.alloc(), &mut script, &mut full(), &mut errors).is_ok_and(|code| code
             == ExitCode::FAILURE)
     );
-    assert!(rt; errors.as_slice() == b"output: write failed\noutput: write failed\n");
+    let told = "output: write failed\noutput: write failed\n";
+    assert!(rt; errors.as_slice() == told.as_bytes());
 }
 
 #[test]
