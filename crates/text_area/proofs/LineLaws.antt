@@ -1,6 +1,6 @@
 -- Up and down: a place in a line, and the line of that place.
-use Rattle.std.proofs.Common.{ℕ, zero, suc, ◌≡◌, ◌+◌, ◌-◌, ◌<◌, ◌≤◌, min, Bool, true, false, cond, if◌then◌else◌, List, [], ◌∷◌, ◌++◌}
-use Rattle.std.proofs.Common.{length, take, drop, refl, sym, ap, ap₂, ◌∙◌, arith}
+use Rattle.std.proofs.Common.{ℕ, zero, suc, ◌≡◌, ◌+◌, ◌-◌, ◌<◌, ◌≤◌, min, Bool, true, false, cond, if◌then◌else◌, List, [], ◌∷◌}
+use Rattle.std.proofs.Common.{take, drop, refl, sym, ap, ◌∙◌, arith}
 use Rattle.std.proofs.lemmas.{List.take-take, List.length-take, List.Sums.sum_by-cons, List.Sums.sum_by-append}
 use Rattle.std.specs.{List.concat, Str.IsUtf8}
 use Rattle.unicode_segmentation.specs.Grapheme.{graphemes}
@@ -10,7 +10,7 @@ use Rattle.text_area.specs.Extents.{is_feed, line_right}
 use Rattle.text_area.specs.Lines.{feeds, nth_start, nth_line, nth_place, columns_len}
 use Rattle.text_area.specs.Drafts.{draft_text}
 use Rattle.text_area.specs.Journals.{journal_of}
-use Rattle.text_area.specs.Areas.{AreaData, area_text, area_before, area_cursor, aim_of, gone, target}
+use Rattle.text_area.specs.Areas.{AreaData, area_text, area_before, area_cursor, aim_of, gone}
 use Rattle.text_area.specs.declared.moves.Move.TheVariants.{Up, Down}
 use Rattle.text_area.proofs.{DraftLemmas.text-at, LawLemmas.text-again, LawLemmas.fewer-cases}
 use Rattle.text_area.proofs.LineLemmas.{columns-value, feeds-none, feeds-le}
@@ -38,8 +38,11 @@ row-of_place text i n utf8 le =
     let rest : List ℕ = drop (nth_start i text) text in
     let k : ℕ = columns_len n (nth_line i text) in
     let fits : k ≤ line_right rest =
-    omega (arith, columns-value (nth_line i text) (concat (drop n (graphemes true (nth_line i text)))) n utf8 refl,
-    length-take (line_right rest) rest) in
+    omega (
+      arith,
+      columns-value (nth_line i text) (concat (drop n (graphemes true (nth_line i text)))) n utf8 refl,
+      length-take (line_right rest) rest,
+    ) in
     let none : feeds (take k rest) ≤ feeds (take (line_right rest) rest) =
     omega (arith, ap feeds (take-take k (line_right rest) rest fits), feeds-le (take (line_right rest) rest) k) in
     let parts : feeds (take (nth_start i text + k) text) ≡ feeds (take (nth_start i text) text) + feeds (take k rest) =
