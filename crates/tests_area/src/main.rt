@@ -8,12 +8,15 @@
 //! `former:TEXT`, `line:NUMBER:COLUMN`, `steps:NUMBER`, `all`, `mark` and `unmark`. A line `# NAME`
 //! begins a group. Where memory is refused, the area has to be as it was, and the word is done once
 //! more. It prints each row that doesn't hold and how many do, and ends with status 1 if any doesn't.
+//! For a number in place of a file it makes so many requests for memory of its own: so a run can
+//! choose the request that is refused.
 #![tactic(auto)]
 
 mod rows;
 mod words;
 
 use crate::rows::holds;
+use std::alloc::Global;
 use std::process::ExitCode;
 use std::{env, fs, io};
 
@@ -35,14 +38,30 @@ fn check_rows(rt: &HostRuntime, text: &str) -> io::Result<(usize, usize)> {
     Ok((held, differ))
 }
 
-// Checks the rows of the files that the arguments name; how many don't hold.
+// Checks the rows of a file, and prints what came of them; how many don't hold.
+fn check_file(rt: &HostRuntime, name: &str) -> io::Result<usize> {
+    let text = fs::read_to_string(rt, name)?;
+    let (held, differ) = check_rows(rt, text.as_str())?;
+    println!(rt; "{held} rows hold, {differ} differ")?;
+    Ok(differ)
+}
+
+// Makes so many requests; the number of the one that is refused.
+fn request(alloc: Global, count: usize) -> Option<usize> {
+    (0..count).find(|_| String::from_str(alloc, "request").is_err())
+}
+
+// Does what the words say; how many rows don't hold.
 fn check_files(rt: &HostRuntime) -> io::Result<usize> {
     let mut failed = 0usize;
-    for name in env::args(rt)?.skip(1) {
-        let text = fs::read_to_string(rt, name.as_str())?;
-        let (held, differ) = check_rows(rt, text.as_str())?;
-        println!(rt; "{held} rows hold, {differ} differ")?;
-        failed = failed.saturating_add(differ);
+    for word in env::args(rt)?.skip(1) {
+        if let Ok(count) = word.as_str().parse::<usize>() {
+            if let Some(number) = request(rt.alloc(), count) {
+                println!(rt; "request {number} refused")?;
+            }
+        } else {
+            failed = failed.saturating_add(check_file(rt, word.as_str())?);
+        }
     }
     Ok(failed)
 }

@@ -1,6 +1,6 @@
 -- Up and down: a place in a line, and the line of that place.
-use Rattle.std.proofs.Common.{ℕ, zero, suc, ◌≡◌, ◌+◌, ◌-◌, ◌<◌, ◌≤◌, min, Bool, true, false, cond, if◌then◌else◌, List, [], ◌∷◌, ◌++◌}
-use Rattle.std.proofs.Common.{length, take, drop, refl, sym, ap, ap₂, ◌∙◌, arith}
+use Rattle.std.proofs.Common.{ℕ, zero, suc, ◌≡◌, ◌+◌, ◌-◌, ◌<◌, ◌≤◌, min, Bool, true, false, cond, if◌then◌else◌, List, [], ◌∷◌}
+use Rattle.std.proofs.Common.{take, drop, refl, sym, ap, ◌∙◌, arith}
 use Rattle.std.proofs.lemmas.{List.take-take, List.length-take, List.Sums.sum_by-cons, List.Sums.sum_by-append}
 use Rattle.std.specs.{List.concat, Str.IsUtf8}
 use Rattle.unicode_segmentation.specs.Grapheme.{graphemes}
@@ -10,7 +10,7 @@ use Rattle.text_area.specs.Extents.{is_feed, line_right}
 use Rattle.text_area.specs.Lines.{feeds, nth_start, nth_line, nth_place, columns_len}
 use Rattle.text_area.specs.Drafts.{draft_text}
 use Rattle.text_area.specs.Journals.{journal_of}
-use Rattle.text_area.specs.Areas.{AreaData, area_text, area_before, area_cursor, aim_of, gone, target}
+use Rattle.text_area.specs.Areas.{AreaData, area_text, area_before, area_cursor, aim_of, gone}
 use Rattle.text_area.specs.declared.moves.Move.TheVariants.{Up, Down}
 use Rattle.text_area.proofs.{DraftLemmas.text-at, LawLemmas.text-again, LawLemmas.fewer-cases}
 use Rattle.text_area.proofs.LineLemmas.{columns-value, feeds-none, feeds-le}
