@@ -45,31 +45,57 @@ fn has(alloc: Global, buffer: &Buffer, symbols: &str) -> Result<bool, AllocError
     Ok(shown.as_str() == symbols)
 }
 
+// The row itself.
+fn all() -> Rect
+    ensures { result ≡ record { x = 0; y = 0; width = 6; height = 1 } }
+{
+    Rect::new(0, 0, 6, 1)
+}
+
+// Whether a text that is written takes so many columns, and leaves these symbols.
+fn writes(alloc: Global, text: &str, columns: u16, symbols: &str) -> Result<bool, AllocError> {
+    let mut buffer = row(alloc)?;
+    let taken = write(text, Style::new(), all(), &mut buffer)?;
+    Ok(taken == columns && has(alloc, &buffer, symbols)?)
+}
+
+// The same of a span.
+fn writes_span(alloc: Global, text: &str, columns: u16, symbols: &str) -> Result<bool, AllocError> {
+    let mut buffer = row(alloc)?;
+    let taken = write_span(&Span::raw(text), all(), &mut buffer)?;
+    Ok(taken == columns && has(alloc, &buffer, symbols)?)
+}
+
+// The same of a line.
+fn writes_line(alloc: Global, text: &str, columns: u16, symbols: &str) -> Result<bool, AllocError> {
+    let mut buffer = row(alloc)?;
+    let taken = write_line(&Line::raw(alloc, text)?, all(), &mut buffer)?;
+    Ok(taken == columns && has(alloc, &buffer, symbols)?)
+}
+
+// Whether a line at the right, a text in the first column and stars in the middle leave these symbols.
+fn puts(alloc: Global, line: &str, text: &str, symbols: &str) -> Result<bool, AllocError> {
+    let mut buffer = row(alloc)?;
+    put_line(&Line::raw(alloc, line)?.right_aligned(), all(), &mut buffer)?;
+    put_text(
+        &Text::raw(alloc, text)?,
+        Cut::First(1).of(all()),
+        &mut buffer,
+    )?;
+    put_change(&Stars, Cut::Middle(2).of(all()), &mut buffer)?;
+    has(alloc, &buffer, symbols)
+}
+
 #[test]
 fn what_is_written(rt: HostRuntime) -> Result<(), Fail> {
-    let a = rt.alloc();
-    let mut buffer = row(a)?;
-    let all = Rect::new(0, 0, 6, 1);
-    assert!(rt; write("コab", Style::new(), all, &mut buffer)? == 4);
-    assert!(rt; has(a, &buffer, "コ ab  ")?);
-    assert!(rt; write_span(&Span::raw("too long"), all, &mut buffer)? == 6);
-    assert!(rt; has(a, &buffer, "too lo")?);
-    let line = Line::raw(a, "xyz")?;
-    assert!(rt; write_line(&line, all, &mut buffer)? == 3);
-    assert!(rt; has(a, &buffer, "xyz lo")?);
+    assert!(rt; writes(rt.alloc(), "コab", 4, "コ ab  ")?);
+    assert!(rt; writes_span(rt.alloc(), "too long", 6, "too lo")?);
+    assert!(rt; writes_line(rt.alloc(), "xyz", 3, "xyz   ")?);
     Ok(())
 }
 
 #[test]
 fn what_is_put(rt: HostRuntime) -> Result<(), Fail> {
-    let a = rt.alloc();
-    let mut buffer = row(a)?;
-    let all = Rect::new(0, 0, 6, 1);
-    put_line(&Line::raw(a, "ab")?.right_aligned(), all, &mut buffer)?;
-    assert!(rt; has(a, &buffer, "    ab")?);
-    put_text(&Text::raw(a, "cd")?, Cut::First(1).of(all), &mut buffer)?;
-    assert!(rt; has(a, &buffer, "c   ab")?);
-    put_change(&Stars, Cut::Middle(2).of(all), &mut buffer)?;
-    assert!(rt; has(a, &buffer, "c **ab")?);
+    assert!(rt; puts(rt.alloc(), "ab", "cd", "c **ab")?);
     Ok(())
 }
