@@ -1,8 +1,8 @@
 -- Runs from beginning to end.
-use Rattle.std.proofs.Common.{◌≡◌, ℕ, Bool, true, List, Option, Result, Ok, Err, OnOk, IfErr, sym, subst, ◌∙◌}
+use Rattle.std.proofs.Common.{◌≡◌, ℕ, Bool, true, false, List, Option, Result, Ok, Err, OnOk, IfOk, IfErr, sym, subst, ◌∙◌}
 use Rattle.ratatui_core.specs.{Backend.Screen, Backend.size_of, Layout.Rect, Layout.Position, Buffer.BufferData}
 use Rattle.ratatui_core.specs.Terminal.{TerminalData, TerminalError, Viewport, Starts, IsAtRest, IsFixed, FitsSize, IsBlank, Stays}
-use Rattle.ratatui_ansi.specs.Backend.{BackendState, shown_by, is_flushed}
+use Rattle.ratatui_ansi.specs.Backend.{BackendState, shown_by, is_flushed, LeavesTerminal, BringsBack}
 use Rattle.ratatui_ansi.specs.{declared.error.AnsiError.AnsiError}
 use Rattle.ratatui_acts.specs.declared.fault.Fault.{Fault}
 use Rattle.ratatui_acts.specs.Turns.{ActingRules, Standing}
@@ -103,3 +103,12 @@ module _ {W S C R H O : Type 0} (rules : ActingRules S C R) (paints : S → Rect
     stops = rw is at stops;
     given_back = rw same at given;
   }
+
+-- a backend that was left has given its terminal back, whichever screen it was on
+pub given-back : {W E : Type 0} (b : BackendState W) (contents : W → Option (List ℕ)) (answer : Result W E)
+    → b.is_broken ≡ false
+    → IfOk answer (λ writer. b.is_broken ≡ false → b.is_on_alternate ≡ false → LeavesTerminal b (contents writer))
+    → IfOk answer (λ writer. b.is_broken ≡ false → b.is_on_alternate ≡ true → BringsBack b (contents writer))
+    → IfOk answer (λ writer. IsGivenBack b (contents writer))
+given-back b contents (Ok writer) works left back = record { left = left works; back = back works }
+given-back b contents (Err error) works left back = tt
