@@ -247,17 +247,17 @@ fn names_a_read_that_fails_later(rt: HostRuntime) -> Result<(), Fail> {
     Ok(())
 }
 
-// Whether the run of a script fails at its first write, which has no text.
+// Whether the run of a script fails at its first write, and tells that.
 fn fails_to_write(alloc: Global, script: &str) -> Result<bool, AllocError> {
     let mut reader = script.as_bytes();
     match run(alloc, &mut reader, &mut Narrow { left: 0 }) {
-        Err(RunError::Write) => reads_as(alloc, RunError::Write, ""),
+        Err(RunError::Write) => reads_as(alloc, RunError::Write, "output: write failed"),
         _ => Ok(false),
     }
 }
 
 #[test]
-fn says_nothing_of_a_failed_write(rt: HostRuntime) -> Result<(), Fail> {
+fn a_failed_write_is_told(rt: HostRuntime) -> Result<(), Fail> {
     assert!(rt; fails_to_write(rt.alloc(), "screen 3 1\nshow")?);
     Ok(())
 }
