@@ -35,7 +35,8 @@ replaced-at text new piece at from to end le is place =
     ap₂ made (front ∙ ap (λ w. take from w ++ piece) whole) (back ∙ ap (drop to) whole)
 
 -- the place after a piece is a place of the text
-pub boundary-piece : (text new piece : List ℕ) (from to end : ℕ) → IsUtf8 text → IsCharBoundary text from → IsCharBoundary text to
+pub boundary-piece : (text new piece : List ℕ) (from to end : ℕ) → IsUtf8 text → IsCharBoundary text from
+    → IsCharBoundary text to
     → new ≡ replace_range text from to piece → end ≡ from + length piece → IsCharBoundary new end
 boundary-piece text new piece from to end utf8 start stop is place =
     let size : length (take from text ++ piece) ≡ end =

@@ -15,7 +15,8 @@ lacks-from pattern text from k le lacks = λ rest is.
     let place : from + (k - from) ≡ k = omega (arith, le) in
     lacks rest (drop-drop (k - from) from text ∙ ap (λ n. drop n text) place ∙ is)
 
-has-from : (pattern text : List ℕ) (from i j : ℕ) → from ≤ length text → HasTextAt pattern (drop from text) i j
+has-from : (pattern text : List ℕ) (from i j : ℕ) → from ≤ length text
+    → HasTextAt pattern (drop from text) i j
     → HasTextAt pattern text (from + i) (from + i + length pattern)
 has-from pattern text from i j le has =
     let ends : from + j ≡ from + i + length pattern = omega (arith, has.ends) in
@@ -23,7 +24,8 @@ has-from pattern text from i j le has =
       split = sym (drop-drop i from text) ∙ has.split
           ∙ ap (λ w. pattern ++ w) (drop-drop j from text ∙ ap (λ n. drop n text) ends);
       ends = refl;
-      after = subst (IsCharBoundary text) place (IsCharBoundary-from_rest text from (i + length pattern) le has.after);
+      after = subst (IsCharBoundary text) place (IsCharBoundary-from_rest text from (i + length pattern) le
+          has.after);
     }
 
 pub first-is : (pattern text part : List ℕ) (from i : ℕ) → IsCharBoundary text from → part ≡ drop from text
@@ -40,7 +42,8 @@ pub first-none : (pattern text part : List ℕ) (from : ℕ) → part ≡ drop f
     → ((i : ℕ) → i ≤ length part → LacksTextAt pattern part i) → IsNowhereFrom pattern text from
 first-none pattern text part from is lacks = λ k le within.
     lacks-from pattern text from k le
-    (subst (λ w. LacksTextAt pattern w (k - from)) is (lacks (k - from) (omega (arith, ap length is, length-drop from text, le, within))))
+    (subst (λ w. LacksTextAt pattern w (k - from)) is
+    (lacks (k - from) (omega (arith, ap length is, length-drop from text, le, within))))
 
 -- the front of two lists that goes beyond the first
 take-beyond : (xs ys : List ℕ) (n : ℕ) → take (length xs + n) (xs ++ ys) ≡ xs ++ take n ys
@@ -59,19 +62,24 @@ lacks-before pattern text to k le fits lacks = λ rest is.
     lacks (take (to - k - length pattern) rest)
     (ap (λ n. drop k (take n text)) (sym size) ∙ drop-take k (to - k) text ∙ ap (take (to - k)) is ∙ front)
 
-has-before : (pattern text : List ℕ) (to i j : ℕ) → IsUtf8 text → IsCharBoundary text to → i ≤ j → j ≤ length (take to text)
+has-before : (pattern text : List ℕ) (to i j : ℕ) → IsUtf8 text → IsCharBoundary text to → i ≤ j
+    → j ≤ length (take to text)
     → HasTextAt pattern (take to text) i j → HasTextAt pattern text i (i + length pattern)
 has-before pattern text to i j utf8 stop order within has =
     let whole : text ≡ take to text ++ drop to text = sym (take-append-drop to text) in record {
-      split = ap (drop i) whole ∙ drop-append-le i (take to text) (drop to text) (omega (arith, order, within))
-          ∙ ap (λ w. w ++ drop to text) has.split ∙ append_assoc pattern (drop j (take to text)) (drop to text)
-          ∙ ap (λ w. pattern ++ w) (sym (drop-append-le j (take to text) (drop to text) within) ∙ ap (drop j) (sym whole))
+      split = ap (drop i) whole ∙ drop-append-le i (take to text) (drop to text)
+          (omega (arith, order, within))
+          ∙ ap (λ w. w ++ drop to text) has.split
+          ∙ append_assoc pattern (drop j (take to text)) (drop to text)
+          ∙ ap (λ w. pattern ++ w) (sym (drop-append-le j (take to text) (drop to text) within)
+          ∙ ap (drop j) (sym whole))
           ∙ ap (λ n. pattern ++ drop n text) has.ends;
       ends = refl;
       after = boundary-before text to (i + length pattern) utf8 stop has.after;
     }
 
-pub last-is : (pattern text part : List ℕ) (to i : ℕ) → IsUtf8 text → IsCharBoundary text to → part ≡ take to text
+pub last-is : (pattern text part : List ℕ) (to i : ℕ) → IsUtf8 text → IsCharBoundary text to → part
+    ≡ take to text
     → MatchBeginsAt (RFindsText pattern) part i → IsLastBefore pattern text to i
 last-is pattern text part to i utf8 stop is found =
     let match = subst (λ w. MatchBeginsAt (RFindsText pattern) w i) is found in
@@ -79,13 +87,15 @@ last-is pattern text part to i utf8 stop is found =
       before = omega (arith, match.1.1.ends, match.4.0, size);
       start = boundary-before text to i utf8 stop match.3;
       occurs = has-before pattern text to i match.0 utf8 stop match.2 match.4.0 match.1.1;
-      last = λ k lt fits. lacks-before pattern text to k stop.0 fits (match.1.0 k lt (omega (arith, size, fits)));
+      last = λ k lt fits. lacks-before pattern text to k stop.0 fits
+          (match.1.0 k lt (omega (arith, size, fits)));
     }
 
 pub last-none : (pattern text part : List ℕ) (to : ℕ) → to ≤ length text → part ≡ take to text
     → ((i : ℕ) → i ≤ length part → LacksTextAt pattern part i) → IsNowhereBefore pattern text to
 last-none pattern text part to le is lacks = λ k fits.
     lacks-before pattern text to k le fits
-    (subst (λ w. LacksTextAt pattern w k) is (lacks k (omega (arith, ap length is, length-take-le to text le, fits))))
+    (subst (λ w. LacksTextAt pattern w k) is (lacks k
+    (omega (arith, ap length is, length-take-le to text le, fits))))
 
 pub ruleset find_rules = (first-is, first-none, last-is, last-none)

@@ -43,34 +43,41 @@ pub text-changed : (a : AreaData) (part : ℕ × ℕ) (piece : List ℕ)
 text-changed a part piece =
     text-cases (changes_nothing part.0 part.1 piece) part.0 part.1 piece a.journal
     (journal_of (part_replaced part.0 part.1 piece a.journal.text)
-    (take a.journal.most (step_for part.0 part.1 (length piece) a.journal.text ∷ a.journal.past)) [] a.journal.most) refl refl
+    (take a.journal.most (step_for part.0 part.1 (length piece) a.journal.text ∷ a.journal.past)) []
+    a.journal.most) refl refl
 
 -- an area after a change that is one
 pub put-changed : (a : AreaData) (part : ℕ × ℕ) (piece : List ℕ) → changes_nothing part.0 part.1 piece ≡ false
     → put_over part piece a ≡ area_of (journal_of (part_replaced part.0 part.1 piece a.journal.text)
-    (take a.journal.most (step_for part.0 part.1 (length piece) a.journal.text ∷ a.journal.past)) [] a.journal.most)
+    (take a.journal.most (step_for part.0 part.1 (length piece) a.journal.text ∷ a.journal.past)) []
+    a.journal.most)
     None None a.killed a.page
 put-changed a part piece fails =
     ap (λ b. area_of (if b then a.journal else journal_of (part_replaced part.0 part.1 piece a.journal.text)
-    (take a.journal.most (step_for part.0 part.1 (length piece) a.journal.text ∷ a.journal.past)) [] a.journal.most)
+    (take a.journal.most (step_for part.0 part.1 (length piece) a.journal.text ∷ a.journal.past)) []
+    a.journal.most)
     None None a.killed a.page) fails
 
-pub cursor-changed : (a : AreaData) (part : ℕ × ℕ) (piece : List ℕ) → changes_nothing part.0 part.1 piece ≡ false
+pub cursor-changed : (a : AreaData) (part : ℕ × ℕ) (piece : List ℕ) → changes_nothing part.0 part.1 piece
+    ≡ false
     → part.0 ≤ length (area_text a) → area_cursor (put_over part piece a) ≡ part.0 + length piece
 cursor-changed a part piece fails le =
     ap (λ (b : AreaData). area_cursor b) (put-changed a part piece fails)
-    ∙ length-append (take part.0 (area_text a)) piece ∙ ap (λ n. n + length piece) (length-take-le part.0 (area_text a) le)
+    ∙ length-append (take part.0 (area_text a)) piece
+    ∙ ap (λ n. n + length piece) (length-take-le part.0 (area_text a) le)
 
 -- a text with its cursor, by its text and the cursor's byte
 pub text-again : (t : CursorText) → cursor_text_at (draft_text t) (length t.before) ≡ t
-text-again t = ap₂ made (take_at t.before t.after (length t.before) refl) (drop_at t.before t.after (length t.before) refl)
+text-again t = ap₂ made (take_at t.before t.after (length t.before) refl)
+    (drop_at t.before t.after (length t.before) refl)
 
 first-step : (most : ℕ) (s : StepData) (past : List StepData) (t : CursorText) → 0 < most
     → stepped_text (take most (s ∷ past)) t ≡ stepped_text (s ∷ []) t
 first-step zero s past t some = absurd (omega (arith, some))
 first-step (suc most) s past t some = refl
 
-pub undone-change : (a : AreaData) (part : ℕ × ℕ) (piece : List ℕ) → changes_nothing part.0 part.1 piece ≡ false
+pub undone-change : (a : AreaData) (part : ℕ × ℕ) (piece : List ℕ) → changes_nothing part.0 part.1 piece
+    ≡ false
     → 0 < a.journal.most → part.0 ≤ part.1 → part.1 ≤ length (area_text a)
     → (undone (put_over part piece a).journal).text ≡ a.journal.text
 undone-change a part piece fails some order within =
@@ -82,7 +89,8 @@ undone-change a part piece fails some order within =
     (undone-twice (draft_text t) piece part.0 part.1 (part.0 + length piece) order within refl)
     ∙ text-again t
 
-pub future-changed : (a : AreaData) (part : ℕ × ℕ) (piece : List ℕ) → changes_nothing part.0 part.1 piece ≡ false
+pub future-changed : (a : AreaData) (part : ℕ × ℕ) (piece : List ℕ) → changes_nothing part.0 part.1 piece
+    ≡ false
     → (put_over part piece a).journal.future ≡ []
 future-changed a part piece fails = ap (λ (b : AreaData). b.journal.future) (put-changed a part piece fails)
 
@@ -108,29 +116,34 @@ step-again s t can =
     let text : List ℕ = draft_text t in
     let new : List ℕ = undone_text s text in
     let whole : draft_text (cursor_text_at new s.cursor) ≡ new = text-at new s.cursor in
-    let to : s.at + length (slice_range text s.at s.to) ≡ s.to = length-part text s.at s.to can.order can.end.0 in
+    let to : s.at + length (slice_range text s.at s.to)
+    ≡ s.to = length-part text s.at s.to can.order can.end.0 in
     let was : slice_range (draft_text (cursor_text_at new s.cursor)) s.at (s.at + length s.was) ≡ s.was =
     ap (λ w. slice_range w s.at (s.at + length s.was)) whole ∙ part-put text s.was s.at s.to can.start.0 in
     let cursor : length (take s.cursor new) ≡ s.cursor = length-take-le s.cursor new can.cursor.0 in
-    ap₂ (λ n w. undo_step s.at n w (length (take s.cursor new))) to was ∙ ap (undo_step s.at s.to s.was) cursor
+    ap₂ (λ n w. undo_step s.at n w (length (take s.cursor new))) to was
+    ∙ ap (undo_step s.at s.to s.was) cursor
 
 text-back : (s : StepData) (t : CursorText) → IsStepOf s (draft_text t)
     → stepped_text (step_for s.at s.to (length s.was) t ∷ []) (stepped_text (s ∷ []) t) ≡ t
 text-back s t can =
     let text : List ℕ = draft_text t in
     let new : List ℕ = undone_text s text in
-    ap (λ w. cursor_text_at (replace_range w s.at (s.at + length s.was) (slice_range text s.at s.to)) (length t.before))
+    ap (λ w. cursor_text_at (replace_range w s.at (s.at + length s.was) (slice_range text s.at s.to))
+    (length t.before))
     (text-at new s.cursor)
     ∙ ap (λ w. cursor_text_at w (length t.before))
     (undone-twice text s.was s.at s.to (s.at + length s.was) can.order can.end.0 refl)
     ∙ text-again t
 
-pub redone-again : (t : CursorText) (s : StepData) (past future : List StepData) (most : ℕ) → IsStepOf s (draft_text t)
+pub redone-again : (t : CursorText) (s : StepData) (past future : List StepData) (most : ℕ)
+    → IsStepOf s (draft_text t)
     → redone (undone (journal_of t (s ∷ past) future most)) ≡ journal_of t (s ∷ past) future most
 redone-again t s past future most can =
     ap₂ (λ u r. journal_of u (r ∷ past) future most) (text-back s t can) (step-again s t can)
 
-pub undone-again : (t : CursorText) (s : StepData) (past future : List StepData) (most : ℕ) → IsStepOf s (draft_text t)
+pub undone-again : (t : CursorText) (s : StepData) (past future : List StepData) (most : ℕ)
+    → IsStepOf s (draft_text t)
     → undone (redone (journal_of t past (s ∷ future) most)) ≡ journal_of t past (s ∷ future) most
 undone-again t s past future most can =
     ap₂ (λ u r. journal_of u past (r ∷ future) most) (text-back s t can) (step-again s t can)
@@ -138,22 +151,26 @@ undone-again t s past future most can =
 pub redone-undone : (j : JournalData) (s : StepData) (past : List StepData) → j.past ≡ s ∷ past
     → Undoes j.past (draft_text j.text) → redone (undone j) ≡ j
 redone-undone j s past is can =
-    let same : j ≡ journal_of j.text (s ∷ past) j.future j.most = ap (λ p. journal_of j.text p j.future j.most) is in
+    let same : j ≡ journal_of j.text (s ∷ past) j.future j.most = ap
+    (λ p. journal_of j.text p j.future j.most) is in
     let step : Undoes (s ∷ past) (draft_text j.text) = subst (λ p. Undoes p (draft_text j.text)) is can in
     ap (λ k. redone (undone k)) same ∙ redone-again j.text s past j.future j.most step.0 ∙ sym same
 
 pub undone-redone : (j : JournalData) (s : StepData) (future : List StepData) → j.future ≡ s ∷ future
     → Undoes j.future (draft_text j.text) → undone (redone j) ≡ j
 undone-redone j s future is can =
-    let same : j ≡ journal_of j.text j.past (s ∷ future) j.most = ap (λ f. journal_of j.text j.past f j.most) is in
+    let same : j ≡ journal_of j.text j.past (s ∷ future) j.most = ap
+    (λ f. journal_of j.text j.past f j.most) is in
     let step : Undoes (s ∷ future) (draft_text j.text) = subst (λ f. Undoes f (draft_text j.text)) is can in
     ap (λ k. undone (redone k)) same ∙ undone-again j.text s j.past future j.most step.0 ∙ sym same
 
 -- a text is the part between two places, and what stands around it
-part-between : (text : List ℕ) (from to : ℕ) → from ≤ to → (take from text ++ slice_range text from to) ++ drop to text ≡ text
+part-between : (text : List ℕ) (from to : ℕ) → from ≤ to → (take from text ++ slice_range text from to)
+    ++ drop to text ≡ text
 part-between text from to order =
     let same : from + (to - from) ≡ to = omega (arith, order) in
-    ap (λ x. x ++ drop to text) (take-behind text from (to - from) ∙ ap (λ n. take n text) same) ∙ take-append-drop to text
+    ap (λ x. x ++ drop to text) (take-behind text from (to - from) ∙ ap (λ n. take n text) same)
+    ∙ take-append-drop to text
 
 pub typed-over : (a : AreaData) (text : List ℕ)
     → (front back : List ℕ) × (area_text a ≡ (front ++ selected a) ++ back)
@@ -183,7 +200,12 @@ yanked-back a part order within =
     cursor-changed held part [] fails (omega (arith, order, within)) ∙ omega arith in
     let low : (selection (killing part a)).0 ≡ part.0 = omega (arith, here) in
     let high : (selection (killing part a)).1 ≡ part.0 = omega (arith, here) in
-    let some : 0 < length piece = omega (arith, length-part text part.0 part.1 (omega (arith, order)) within, order) in
+    let some : 0 < length piece = omega (
+      arith,
+      length-part text part.0 part.1 (omega (arith, order))
+          within,
+      order,
+    ) in
     text-changed (killing part a) (selection (killing part a)) (kept_of piece a.killed)
     ∙ ap₂ (λ m n. replace_range (area_text (killing part a)) m n (kept_of piece a.killed)) low high
     ∙ ap₂ (λ w p. replace_range w part.0 part.0 p) (text-changed held part []) (kept-some piece a.killed some)
@@ -194,11 +216,13 @@ onto-first : (b : ℕ) (parts : List (List ℕ)) → get_or (onto_first b parts)
 onto-first b [] = refl
 onto-first b (part ∷ parts) = refl
 
-onto-others : (b i : ℕ) (parts : List (List ℕ)) → get_or (onto_first b parts) (suc i) [] ≡ get_or parts (suc i) []
+onto-others : (b i : ℕ) (parts : List (List ℕ)) → get_or (onto_first b parts) (suc i) []
+    ≡ get_or parts (suc i) []
 onto-others b i [] = refl
 onto-others b i (part ∷ parts) = refl
 
-first-cases : (t : Bool) (b : ℕ) (xs : List ℕ) → is_feed b ≡ t → first_line xs ≡ get_or (slice_split is_feed xs) 0 []
+first-cases : (t : Bool) (b : ℕ) (xs : List ℕ) → is_feed b ≡ t → first_line xs
+    ≡ get_or (slice_split is_feed xs) 0 []
     → take (cond (not t) (1 + line_right xs) 0) (b ∷ xs)
     ≡ get_or (cond t ([] ∷ slice_split is_feed xs) (onto_first b (slice_split is_feed xs))) 0 []
 first-cases true b xs is rest = refl
@@ -217,7 +241,8 @@ pub fewer-cases : (t : Bool) (k n m : ℕ) → suc k ≤ n → n ≡ cond t 1 0 
 fewer-cases true k n m le is = omega (arith, le, is)
 fewer-cases false k n m le is = omega (arith, le, is)
 
-pub nth-line_is : (text : List ℕ) (i : ℕ) → i ≤ feeds text → nth_line i text ≡ get_or (slice_split is_feed text) i []
+pub nth-line_is : (text : List ℕ) (i : ℕ) → i ≤ feeds text → nth_line i text
+    ≡ get_or (slice_split is_feed text) i []
 nth-line_is [] zero le = refl
 nth-line_is [] (suc i) le = absurd (omega (arith, le))
 nth-line_is (b ∷ xs) zero le = first-cases (is_feed b) b xs refl (nth-line_is xs zero (omega arith))

@@ -16,12 +16,15 @@ use Rattle.text_area.proofs.{DraftLemmas.text-at, LawLemmas.text-again, LawLemma
 use Rattle.text_area.proofs.LineLemmas.{columns-value, feeds-none, feeds-le}
 
 -- the line that begins where a line begins is this one
-row-cases : (t : Bool) (b i m : ℕ) (xs : List ℕ) → is_feed b ≡ t → feeds (take m xs) ≡ (if t then i else suc i)
+row-cases : (t : Bool) (b i m : ℕ) (xs : List ℕ) → is_feed b ≡ t → feeds (take m xs)
+    ≡ (if t then i else suc i)
     → feeds (b ∷ take m xs) ≡ suc i
 row-cases true b i m xs is rest =
-    sum_by-cons (λ x. cond (is_feed x) 1 0) b (take m xs) ∙ ap (λ t. cond t 1 0 + feeds (take m xs)) is ∙ omega (arith, rest)
+    sum_by-cons (λ x. cond (is_feed x) 1 0) b (take m xs) ∙ ap (λ t. cond t 1 0 + feeds (take m xs)) is
+    ∙ omega (arith, rest)
 row-cases false b i m xs is rest =
-    sum_by-cons (λ x. cond (is_feed x) 1 0) b (take m xs) ∙ ap (λ t. cond t 1 0 + feeds (take m xs)) is ∙ omega (arith, rest)
+    sum_by-cons (λ x. cond (is_feed x) 1 0) b (take m xs) ∙ ap (λ t. cond t 1 0 + feeds (take m xs)) is
+    ∙ omega (arith, rest)
 
 row-of_start : (text : List ℕ) (i : ℕ) → i ≤ feeds text → feeds (take (nth_start i text) text) ≡ i
 row-of_start text zero le = refl
@@ -44,13 +47,20 @@ row-of_place text i n utf8 le =
       length-take (line_right rest) rest,
     ) in
     let none : feeds (take k rest) ≤ feeds (take (line_right rest) rest) =
-    omega (arith, ap feeds (take-take k (line_right rest) rest fits), feeds-le (take (line_right rest) rest) k) in
-    let parts : feeds (take (nth_start i text + k) text) ≡ feeds (take (nth_start i text) text) + feeds (take k rest) =
+    omega (
+      arith,
+      ap feeds (take-take k (line_right rest) rest fits),
+      feeds-le (take (line_right rest) rest)
+          k,
+    ) in
+    let parts : feeds (take (nth_start i text + k) text) ≡ feeds (take (nth_start i text) text)
+    + feeds (take k rest) =
     ap feeds (sym (take-behind text (nth_start i text) k))
     ∙ sum_by-append (λ x. cond (is_feed x) 1 0) (take (nth_start i text) text) (take k rest) in
     omega (arith, parts, row-of_start text i le, none, feeds-none rest)
 
-pub up-down : (a : AreaData) → IsUtf8 (nth_line (feeds (area_before a) - 1) (area_text a)) → 0 < feeds (area_before a)
+pub up-down : (a : AreaData) → IsUtf8 (nth_line (feeds (area_before a) - 1) (area_text a))
+    → 0 < feeds (area_before a)
     → nth_place (feeds (area_before a)) (aim_of a) (area_text a) ≡ area_cursor a
     → (gone Down (gone Up a)).journal ≡ a.journal
 up-down a utf8 some stands =
@@ -59,7 +69,8 @@ up-down a utf8 some stands =
     let p : ℕ = nth_place (row - 1) (aim_of a) text in
     let within : row ≤ feeds text =
     omega (arith, sum_by-append (λ x. cond (is_feed x) 1 0) (area_before a) a.journal.text.after) in
-    let above : feeds (take p text) ≡ row - 1 = row-of_place text (row - 1) (aim_of a) utf8 (omega (arith, within)) in
+    let above : feeds (take p text) ≡ row - 1 = row-of_place text (row - 1) (aim_of a) utf8
+    (omega (arith, within)) in
     let same : draft_text (cursor_text_at text p) ≡ text = text-at text p in
     let line : min (feeds (take p text) + 1) (feeds text) ≡ row = omega (arith, above, within, some) in
     let back : nth_place (min (feeds (take p text) + 1) (feeds text)) (aim_of a) text ≡ area_cursor a =
@@ -67,4 +78,5 @@ up-down a utf8 some stands =
     ap (λ w. journal_of (cursor_text_at w (nth_place (min (feeds (take p text) + 1) (feeds w)) (aim_of a) w))
     a.journal.past a.journal.future a.journal.most) same
     ∙ ap (λ at. journal_of (cursor_text_at text at) a.journal.past a.journal.future a.journal.most) back
-    ∙ ap (λ (t : CursorText). journal_of t a.journal.past a.journal.future a.journal.most) (text-again a.journal.text)
+    ∙ ap (λ (t : CursorText). journal_of t a.journal.past a.journal.future a.journal.most)
+    (text-again a.journal.text)

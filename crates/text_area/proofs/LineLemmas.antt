@@ -16,10 +16,12 @@ pub feed-yes : (b : ℕ) → b ≡ 10 → is_feed b ≡ true
 feed-yes b is = ap is_feed is
 
 -- one more line
-start-yes : (b n r : ℕ) (text : List ℕ) → is_feed b ≡ true → nth_start n text ≡ r → nth_start (suc n) (b ∷ text) ≡ suc r
+start-yes : (b n r : ℕ) (text : List ℕ) → is_feed b ≡ true → nth_start n text ≡ r
+    → nth_start (suc n) (b ∷ text) ≡ suc r
 start-yes b n r text holds is = ap (λ t. suc (nth_start (if t then n else suc n) text)) holds ∙ ap suc is
 
-start-no : (b n r : ℕ) (text : List ℕ) → is_feed b ≡ false → nth_start (suc n) text ≡ r → nth_start (suc n) (b ∷ text) ≡ suc r
+start-no : (b n r : ℕ) (text : List ℕ) → is_feed b ≡ false → nth_start (suc n) text ≡ r
+    → nth_start (suc n) (b ∷ text) ≡ suc r
 start-no b n r text fails is = ap (λ t. suc (nth_start (if t then n else suc n) text)) fails ∙ ap suc is
 
 -- a place after a line feed has one before it
@@ -27,13 +29,16 @@ pub feeds-step : (text : List ℕ) (s : ℕ) → s < length text → get_or text
     → feeds (take (s + 1) text) ≡ feeds (take s text) + 1
 feeds-step text s lt is = count_by_more_yes is_feed text s 0 lt (feed-yes _ is)
 
-start-cases : (t : Bool) (b n r : ℕ) (text : List ℕ) → is_feed b ≡ t → nth_start n text ≡ r → (t ≡ false → 0 < n)
+start-cases : (t : Bool) (b n r : ℕ) (text : List ℕ) → is_feed b ≡ t → nth_start n text ≡ r
+    → (t ≡ false → 0 < n)
     → nth_start (cond t 1 0 + n) (b ∷ text) ≡ suc r
 start-cases true b n r text holds is some =
-    let one : 1 + n ≡ suc n = omega arith in ap (λ m. nth_start m (b ∷ text)) one ∙ start-yes b n r text holds is
+    let one : 1 + n ≡ suc n = omega arith in ap (λ m. nth_start m (b ∷ text)) one
+    ∙ start-yes b n r text holds is
 start-cases false b zero r text fails is some = absurd (omega (arith, some refl))
 start-cases false b (suc n) r text fails is some =
-    let none : 0 + suc n ≡ suc n = omega arith in ap (λ m. nth_start m (b ∷ text)) none ∙ start-no b n r text fails is
+    let none : 0 + suc n ≡ suc n = omega arith in ap (λ m. nth_start m (b ∷ text)) none
+    ∙ start-no b n r text fails is
 
 -- the line of a place at which one begins
 pub start-feeds : (text : List ℕ) (s : ℕ) → s ≤ length text → (0 < s → get_or text (s - 1) 0 ≡ 10)
@@ -88,7 +93,8 @@ feeds-left text at start le is =
     let front : feeds (take n (reverse ys)) ≡ 0 = feeds-none (reverse ys) in
     let both : feeds (take n (reverse ys)) + feeds (drop n (reverse ys)) ≡ feeds ys =
     sum_by-take-drop (λ y. cond (is_feed y) 1 0) (reverse ys) n ∙ feeds-reverse ys in
-    let part : feeds (take start ys) ≡ feeds (take start text) = ap feeds (take-take start at text (omega (arith, is))) in
+    let part : feeds (take start ys) ≡ feeds (take start text) = ap feeds
+    (take-take start at text (omega (arith, is))) in
     omega (arith, behind, front, both, part)
 
 pub feeds-right : (text : List ℕ) (at end : ℕ) → end ≡ at + line_right (drop at text)
@@ -97,7 +103,12 @@ feeds-right text at end is =
     let n : ℕ = line_right (drop at text) in
     let parts : feeds (take end text) ≡ feeds (take at text ++ take n (drop at text)) =
     ap (λ m. feeds (take m text)) is ∙ ap feeds (sym (take-behind text at n)) in
-    omega (arith, parts, sum_by-append (λ y. cond (is_feed y) 1 0) (take at text) (take n (drop at text)), feeds-none (drop at text))
+    omega (
+      arith,
+      parts,
+      sum_by-append (λ y. cond (is_feed y) 1 0) (take at text) (take n (drop at text)),
+      feeds-none (drop at text),
+    )
 
 pub feeds-next : (text : List ℕ) (at end : ℕ) → end ≡ at + line_right (drop at text) → end < length text
     → get_or text end 0 ≡ 10 → feeds (take (end + 1) text) ≡ feeds (take at text) + 1
@@ -121,9 +132,11 @@ pub feeds-above : (text : List ℕ) (top : ℕ) → BeginsLine text top → 0 < 
     → feeds (take top text) ≡ feeds (take (top - 1) text) + 1
 feeds-above text top begins some =
     let same : top ≡ top - 1 + 1 = omega (arith, some) in
-    ap (λ m. feeds (take m text)) same ∙ feeds-step text (top - 1) (omega (arith, begins.boundary.0, some)) (begins.feed some)
+    ap (λ m. feeds (take m text)) same ∙ feeds-step text (top - 1) (omega (arith, begins.boundary.0, some))
+    (begins.feed some)
 
-pub start-of : (text : List ℕ) (top n : ℕ) → BeginsLine text top → feeds (take top text) ≡ n → top ≡ nth_start n text
+pub start-of : (text : List ℕ) (top n : ℕ) → BeginsLine text top → feeds (take top text) ≡ n → top
+    ≡ nth_start n text
 start-of text top n begins is =
     sym (start-feeds text top begins.boundary.0 begins.feed) ∙ ap (λ m. nth_start m text) is
 
@@ -145,32 +158,48 @@ line-parts line rest n utf8 is =
 pub columns-value : (line rest : List ℕ) (n : ℕ) → IsUtf8 line → rest ≡ concat (drop n (graphemes true line))
     → length line - length rest ≡ columns_len n line
 columns-value line rest n utf8 is =
-    omega (arith, ap length (line-parts line rest n utf8 is), length-append (concat (take n (graphemes true line))) rest)
+    omega (
+      arith,
+      ap length (line-parts line rest n utf8 is),
+      length-append
+          (concat (take n (graphemes true line))) rest,
+    )
 
 pub columns-le : (line rest : List ℕ) (n : ℕ) → IsUtf8 line → rest ≡ concat (drop n (graphemes true line))
     → length rest ≤ length line
 columns-le line rest n utf8 is =
-    omega (arith, ap length (line-parts line rest n utf8 is), length-append (concat (take n (graphemes true line))) rest)
+    omega (
+      arith,
+      ap length (line-parts line rest n utf8 is),
+      length-append
+          (concat (take n (graphemes true line))) rest,
+    )
 
-pub columns-boundary : (line rest : List ℕ) (n : ℕ) → IsUtf8 line → IsUtf8 rest → rest ≡ concat (drop n (graphemes true line))
+pub columns-boundary : (line rest : List ℕ) (n : ℕ) → IsUtf8 line → IsUtf8 rest → rest
+    ≡ concat (drop n (graphemes true line))
     → IsCharBoundary line (length line - length rest)
 columns-boundary line rest n utf8 piece is =
     subst (IsCharBoundary line) (sym (columns-value line rest n utf8 is))
-    (IsCharBoundary-at_seam line (concat (take n (graphemes true line))) rest (line-parts line rest n utf8 is) piece)
+    (IsCharBoundary-at_seam line (concat (take n (graphemes true line))) rest
+    (line-parts line rest n utf8 is) piece)
 
 -- one grapheme less is left
-pub left-step : (gs left rest : List (List ℕ)) (g : List ℕ) (n m : ℕ) → left ≡ drop n gs → left ≡ g ∷ rest → m ≡ n + 1
+pub left-step : (gs left rest : List (List ℕ)) (g : List ℕ) (n m : ℕ) → left ≡ drop n gs → left ≡ g ∷ rest
+    → m ≡ n + 1
     → rest ≡ drop m gs
 left-step gs left rest g n m is cons more =
     ap (drop 1) (sym cons ∙ is) ∙ drop-drop 1 n gs ∙ ap (λ k. drop k gs) (sym more)
 
-pub left-none : (gs left : List (List ℕ)) (n m : ℕ) → left ≡ drop n gs → left ≡ [] → n ≤ m → concat left ≡ concat (drop m gs)
+pub left-none : (gs left : List (List ℕ)) (n m : ℕ) → left ≡ drop n gs → left ≡ [] → n ≤ m → concat left
+    ≡ concat (drop m gs)
 left-none gs left n m is none le =
-    let all : drop m gs ≡ [] = ap (λ k. drop k gs) (omega (arith, le)) ∙ sym (drop-drop (m - n) n gs) ∙ ap (drop (m - n)) (sym is ∙ none)
+    let all : drop m gs ≡ [] = ap (λ k. drop k gs) (omega (arith, le)) ∙ sym (drop-drop (m - n) n gs)
+    ∙ ap (drop (m - n)) (sym is ∙ none)
     ∙ drop_all (m - n) [] (omega arith)
     in ap concat (none ∙ sym all)
 
-pub last-line_at : (text : List ℕ) (start : ℕ) → start + line_left text ≡ length text → drop start text ≡ last_line text
+pub last-line_at : (text : List ℕ) (start : ℕ) → start + line_left text ≡ length text → drop start text
+    ≡ last_line text
 last-line_at text start is = ap (λ n. drop n text) (omega (arith, is))
 
 -- a count of line feeds

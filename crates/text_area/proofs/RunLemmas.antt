@@ -13,7 +13,8 @@ pub word-stop : (b : ℕ) → in_run run.Word b ≡ false → b < 128
 word-stop b is = grind arith
 
 -- no character is cut after an ASCII character, or before one
-pub boundary-after : (text : List ℕ) (n : ℕ) → IsUtf8 text → n ≤ length text → (0 < n → get_or text (n - 1) 0 < 128)
+pub boundary-after : (text : List ℕ) (n : ℕ) → IsUtf8 text → n ≤ length text
+    → (0 < n → get_or text (n - 1) 0 < 128)
     → IsCharBoundary text n
 boundary-after text zero utf8 le small = IsCharBoundary-start text utf8
 boundary-after text (suc m) utf8 le small =
@@ -29,9 +30,11 @@ pub word-left : (text : List ℕ) (at gap start : ℕ) → at ≤ length text
 word-left text at gap start le first second =
     let size : length (take at text) - suffix_len (in_run run.Gap) (take at text) ≡ gap =
     omega (arith, length-take-le at text le, first) in
-    let part : take (length (take at text) - suffix_len (in_run run.Gap) (take at text)) (take at text) ≡ take gap text =
+    let part : take (length (take at text) - suffix_len (in_run run.Gap) (take at text)) (take at text)
+    ≡ take gap text =
     ap (λ m. take m (take at text)) size ∙ take-take gap at text (omega (arith, first)) in
-    let word : suffix_len (in_run run.Word) (take (length (take at text) - suffix_len (in_run run.Gap) (take at text)) (take at text))
+    let word : suffix_len (in_run run.Word) (take
+    (length (take at text) - suffix_len (in_run run.Gap) (take at text)) (take at text))
     ≡ suffix_len (in_run run.Word) (take gap text) =
     ap (suffix_len (in_run run.Word)) part in
     omega (arith, first, second, word)

@@ -12,11 +12,13 @@ drop-reverse : (xs : List StepData) (n m : ℕ) → n + m ≡ length xs → drop
 drop-reverse xs n m both =
     let parts : reverse xs ≡ reverse (drop m xs) ++ reverse (take m xs) =
     ap reverse (sym (take-append-drop m xs)) ∙ reverse-append (take m xs) (drop m xs) in
-    let size : length (reverse (drop m xs)) ≡ n = length-reverse (drop m xs) ∙ length-drop m xs ∙ omega (arith, both) in
+    let size : length (reverse (drop m xs)) ≡ n = length-reverse (drop m xs) ∙ length-drop m xs
+    ∙ omega (arith, both) in
     ap (drop n) parts ∙ drop_at (reverse (drop m xs)) (reverse (take m xs)) n size
 
 -- without the last one
-pub reverse-shorter : (xs : List StepData) (n : ℕ) → n ≡ length xs → reverse (take (n - 1) xs) ≡ drop 1 (reverse xs)
+pub reverse-shorter : (xs : List StepData) (n : ℕ) → n ≡ length xs → reverse (take (n - 1) xs)
+    ≡ drop 1 (reverse xs)
 reverse-shorter [] n is = let none : List StepData = [] in ap (λ m. reverse (take (m - 1) none)) is
 reverse-shorter (x ∷ xs) n is = sym (drop-reverse (x ∷ xs) 1 (n - 1) (omega (arith, is)))
 
@@ -27,11 +29,14 @@ reverse-first xs x some is =
     let same : length xs - 1 + 1 ≡ length xs = omega (arith, some) in
     let parts : xs ≡ take (length xs - 1) xs ++ x ∷ [] =
     sym (take_all (length xs) xs (omega arith)) ∙ ap (λ m. take m xs) (sym same)
-    ∙ take_more xs (length xs - 1) x (omega (arith, some)) ∙ ap (λ y. take (length xs - 1) xs ++ y ∷ []) (sym is) in
-    ap reverse parts ∙ reverse-push (take (length xs - 1) xs) x ∙ ap (λ ys. x ∷ ys) (reverse-shorter xs (length xs) refl)
+    ∙ take_more xs (length xs - 1) x (omega (arith, some))
+    ∙ ap (λ y. take (length xs - 1) xs ++ y ∷ []) (sym is) in
+    ap reverse parts ∙ reverse-push (take (length xs - 1) xs) x
+    ∙ ap (λ ys. x ∷ ys) (reverse-shorter xs (length xs) refl)
 
 -- without the first one, which is the last
-pub reverse-kept : (xs : List StepData) (most : ℕ) → length xs ≡ most + 1 → reverse (remove xs 0) ≡ take most (reverse xs)
+pub reverse-kept : (xs : List StepData) (most : ℕ) → length xs ≡ most + 1 → reverse (remove xs 0)
+    ≡ take most (reverse xs)
 reverse-kept [] most is = absurd (omega (arith, is))
 reverse-kept (x ∷ xs) most is =
     sym (ap (take most) (reverse-append (x ∷ []) xs)
@@ -40,4 +45,11 @@ reverse-kept (x ∷ xs) most is =
 pub reverse-all : (xs : List StepData) (most : ℕ) → length xs ≤ most → reverse xs ≡ take most (reverse xs)
 reverse-all xs most le = sym (take_all most (reverse xs) (omega (arith, length-reverse xs, le)))
 
-pub ruleset stack_rules = (reverse-push, reverse-shorter, reverse-first, reverse-kept, reverse-all, length-reverse)
+pub ruleset stack_rules = (
+  reverse-push,
+  reverse-shorter,
+  reverse-first,
+  reverse-kept,
+  reverse-all,
+  length-reverse,
+)

@@ -23,7 +23,8 @@ unified-same (c ∷ cs) all =
     let both = and_parts (not (c == 13)) (list_all (λ d. not (d == 13)) cs) all in
     same-cases (c == 13) c cs refl (not-true (c == 13) both.0) (unified-same cs both.1)
 
-pub loaded-same : (text : List ℕ) → IsUtf8 text → list_all (λ c. not (c == 13)) (chars text) ≡ true → loaded_text text ≡ text
+pub loaded-same : (text : List ℕ) → IsUtf8 text → list_all (λ c. not (c == 13)) (chars text) ≡ true
+    → loaded_text text ≡ text
 loaded-same text utf8 all = ap encode_utf8_all (unified-same (chars text) all) ∙ encodes-chars text utf8
 
 -- a carriage return isn't typed
@@ -35,9 +36,11 @@ all-no_return : (cs : List ℕ) → list_all may_be_typed cs ≡ true → list_a
 all-no_return [] all = refl
 all-no_return (c ∷ cs) all =
     let both = and_parts (may_be_typed c) (list_all may_be_typed cs) all in
-    ap (λ t. t && list_all (λ d. not (d == 13)) cs) (return-cases (c == 13) c refl both.0) ∙ all-no_return cs both.1
+    ap (λ t. t && list_all (λ d. not (d == 13)) cs) (return-cases (c == 13) c refl both.0)
+    ∙ all-no_return cs both.1
 
-pub written-same : (text : List ℕ) → IsUtf8 text → list_all may_be_typed (chars text) ≡ true → written_text text ≡ text
+pub written-same : (text : List ℕ) → IsUtf8 text → list_all may_be_typed (chars text) ≡ true
+    → written_text text ≡ text
 written-same text utf8 all =
     let loaded : loaded_text text ≡ text = loaded-same text utf8 (all-no_return (chars text) all) in
     ap (λ w. encode_utf8_all (filter may_be_typed (chars w))) loaded
@@ -46,11 +49,14 @@ written-same text utf8 all =
 -- one more character
 pub unified-step : (cs out new : List ℕ) (k c : ℕ) (after : Bool) → k < length cs → c ≡ get_or cs k c
     → new ≡ out ++ encode_utf8_all (unified_char after c)
-    → new ++ encode_utf8_all (unified (c == 13) (drop (k + 1) cs)) ≡ out ++ encode_utf8_all (unified after (drop k cs))
+    → new ++ encode_utf8_all (unified (c == 13) (drop (k + 1) cs)) ≡ out
+    ++ encode_utf8_all (unified after (drop k cs))
 unified-step cs out new k c after lt is pushed =
-    let rest : drop k cs ≡ c ∷ drop (k + 1) cs = drop_more cs k c lt ∙ ap (λ d. d ∷ drop (k + 1) cs) (sym is) in
+    let rest : drop k cs ≡ c ∷ drop (k + 1) cs = drop_more cs k c lt
+    ∙ ap (λ d. d ∷ drop (k + 1) cs) (sym is) in
     ap (λ w. w ++ encode_utf8_all (unified (c == 13) (drop (k + 1) cs))) pushed
-    ∙ append_assoc out (encode_utf8_all (unified_char after c)) (encode_utf8_all (unified (c == 13) (drop (k + 1) cs)))
+    ∙ append_assoc out (encode_utf8_all (unified_char after c))
+    (encode_utf8_all (unified (c == 13) (drop (k + 1) cs)))
     ∙ ap (λ w. out ++ w) (sym (encodes-append (unified_char after c) (unified (c == 13) (drop (k + 1) cs))))
     ∙ ap (λ ds. out ++ encode_utf8_all (unified after ds)) (sym rest)
 

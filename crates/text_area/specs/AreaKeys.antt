@@ -104,16 +104,20 @@ abbrev pub table_edit : List (ℕ × AreaEdit) → KeyCode → Option AreaEdit
 table_edit table (code.Char c) = area_edit_among table c
 table_edit table other = far_deletion other
 
--- the edit of a key beside which these are held: none, Shift (1), Alt (2), Control (4), or one of these with Shift;
+-- the edit of a key beside which these are held: none, Shift (1), Alt (2), Control (4), or one of these
+-- with Shift;
 -- with Shift a move selects
 abbrev pub area_key_edit : KeyModifiers → KeyCode → Option AreaEdit
 area_key_edit m c =
     if modifier_bits m == 0 then option_or (typing_edit c) (option_map Go (move_of c)) else
     if modifier_bits m == 1 then option_or (typing_edit c) (option_map Select (move_of c)) else
     if modifier_bits m == 2 then option_or (table_edit area_alt_keys c) (option_map Go (far_move_of c)) else
-    if modifier_bits m == 3 then option_or (table_edit area_alt_keys c) (option_map Select (far_move_of c)) else
-    if modifier_bits m == 4 then option_or (table_edit area_control_keys c) (option_map Go (far_move_of c)) else
-    if modifier_bits m == 5 then option_or (table_edit area_control_shift_keys c) (option_map Select (far_move_of c)) else
+    if modifier_bits m == 3 then option_or (table_edit area_alt_keys c) (option_map Select (far_move_of c))
+    else
+    if modifier_bits m == 4 then option_or (table_edit area_control_keys c) (option_map Go (far_move_of c))
+    else
+    if modifier_bits m == 5 then option_or (table_edit area_control_shift_keys c)
+    (option_map Select (far_move_of c)) else
     None
 
 -- a key that is let go edits nothing

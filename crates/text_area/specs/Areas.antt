@@ -12,8 +12,10 @@ use Rattle.text_area.specs.Journals.{JournalData, journal_of, moved_cursor, chan
 use Rattle.text_area.specs.declared.moves.Move.{Move}
 use Rattle.text_area.specs.declared.moves.Move.TheVariants.{Left, Right, Up, Down, PageUp, PageDown}
 
--- the text with its cursor, and how its changes are undone; the byte at which what is selected begins or ends, if
--- the cursor is not to be its only end; the column that the cursor aims at when it goes up and down, if it does;
+-- the text with its cursor, and how its changes are undone; the byte at which what is selected begins or
+-- ends, if
+-- the cursor is not to be its only end; the column that the cursor aims at when it goes up and down, if it
+-- does;
 -- what was killed last; and how many lines a page has
 pub record AreaData : Type 0 where
   pub journal : JournalData
@@ -91,7 +93,8 @@ selection a = ends (unwrap_or a.anchor (area_cursor a)) (area_cursor a)
 abbrev pub selected : AreaData → List ℕ
 selected a = slice_range (area_text a) (selection a).0 (selection a).1
 
--- what a deletion by a move is about: what is selected, and else what is between the cursor and where the move leads
+-- what a deletion by a move is about: what is selected, and else what is between the cursor and where the
+-- move leads
 abbrev pub reached : Move → AreaData → ℕ × ℕ
 reached to a = if (selection a).0 == (selection a).1 then ends (area_cursor a) (target to a) else selection a
 

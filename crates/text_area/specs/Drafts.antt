@@ -12,4 +12,8 @@ cursor_at at t = cursor_text_at (draft_text t) at
 
 -- the part between two places gives way to a piece, and the cursor stands after that
 abbrev pub part_replaced : ℕ → ℕ → List ℕ → CursorText → CursorText
-part_replaced from to piece t = record { before = take from (draft_text t) ++ piece; after = drop to (draft_text t) }
+part_replaced from to piece t = record {
+  before = take from (draft_text t)
+      ++ piece;
+  after = drop to (draft_text t);
+}

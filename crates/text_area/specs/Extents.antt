@@ -30,7 +30,8 @@ line_right text = prefix_len (in_run run.Line) text
 abbrev pub line_left : List ℕ → ℕ
 line_left text = suffix_len (in_run run.Line) text
 
--- how far it is to the right: over the first grapheme, over what is between words and the word after it, to the
+-- how far it is to the right: over the first grapheme, over what is between words and the word after it, to
+-- the
 -- line's end, the same but over the line feed if there is nothing else, or over all
 abbrev pub extent_right : Extent → List ℕ → ℕ
 extent_right Grapheme text = length (first_text (graphemes true text))

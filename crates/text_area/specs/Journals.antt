@@ -6,7 +6,8 @@ use Rattle.std.specs.Str.{IsUtf8, IsCharBoundary}
 use Rattle.text_field.specs.History.{CursorText, cursor_text_at}
 use Rattle.text_area.specs.Drafts.{draft_text, cursor_at, part_replaced}
 
--- how a change is undone: the part between two bytes gives way to what stood there, and the cursor goes to where it was
+-- how a change is undone: the part between two bytes gives way to what stood there, and the cursor goes to
+-- where it was
 pub record StepData : Type 0 where
   pub at : ℕ
   pub to : ℕ
@@ -37,7 +38,8 @@ abbrev pub Undoes : List StepData → List ℕ → Type 0
 Undoes [] text = Unit {0}
 Undoes (s ∷ steps) text = IsStepOf s text × Undoes steps (undone_text s text)
 
--- a text with a cursor; how its last changes are undone, the last one first; how what was undone last is done again,
+-- a text with a cursor; how its last changes are undone, the last one first; how what was undone last is
+-- done again,
 -- the last one first; and how many steps of both are kept at most
 pub record JournalData : Type 0 where
   pub text : CursorText
@@ -78,8 +80,10 @@ stepped_onto (s ∷ steps) t onto = step_for s.at s.to (length s.was) t ∷ onto
 
 -- the last change is undone, if there is one
 abbrev pub undone : JournalData → JournalData
-undone j = journal_of (stepped_text j.past j.text) (drop 1 j.past) (stepped_onto j.past j.text j.future) j.most
+undone j = journal_of (stepped_text j.past j.text) (drop 1 j.past) (stepped_onto j.past j.text j.future)
+    j.most
 
 -- what was undone last is done again, if anything was
 abbrev pub redone : JournalData → JournalData
-redone j = journal_of (stepped_text j.future j.text) (stepped_onto j.future j.text j.past) (drop 1 j.future) j.most
+redone j = journal_of (stepped_text j.future j.text) (stepped_onto j.future j.text j.past) (drop 1 j.future)
+    j.most

@@ -3,7 +3,8 @@ use Rattle.std.specs.Prelude.{ℕ, ◌==◌, ◌&&◌, ◌||◌, Bool, false, no
 use Rattle.std.specs.Prelude.{chars, encode_utf8_all}
 use Rattle.std.specs.Char.{is_control}
 
--- what becomes of a character, after a carriage return or not: a carriage return is a line feed, together with the
+-- what becomes of a character, after a carriage return or not: a carriage return is a line feed, together
+-- with the
 -- line feed right after it
 abbrev pub unified_char : Bool → ℕ → List ℕ
 unified_char after c = if c == 13 then 10 ∷ [] else if after && (c == 10) then [] else c ∷ []

@@ -11,9 +11,11 @@ ghost use Rattle.text_area.specs.Drafts.{draft_text};
 ghost use Rattle.text_area.specs.Journals.{JournalData};
 ghost use Rattle.text_area.specs.Finding.{part_selected};
 ghost use Rattle.text_area.specs.Areas.{AreaData, area_of, area_text, area_before, area_after};
-ghost use Rattle.text_area.specs.Areas.{area_cursor, new_area, loaded_area, aim_of, target, aim_after};
+ghost use Rattle.text_area.specs.Areas.{area_cursor, new_area, loaded_area, aim_of, target};
+ghost use Rattle.text_area.specs.Areas.{aim_after};
 ghost use Rattle.text_area.specs.Areas.{gone, selection, selected, reached, put_over, typing_over};
-ghost use Rattle.text_area.specs.Areas.{yanking, deleting, keeping_part, killing, selection_begun, selecting_all};
+ghost use Rattle.text_area.specs.Areas.{yanking, deleting, keeping_part, killing, selection_begun};
+ghost use Rattle.text_area.specs.Areas.{selecting_all};
 ghost use Rattle.text_area.specs.Areas.{unselected, undoing, redoing, keeping_steps, ends, gone_to};
 
 use crate::extent::{left_of, right_of};

@@ -4,7 +4,8 @@ ghost use Rattle.std.specs.Prelude.{◌≡◌, ◌+◌, ◌<◌, ◌≤◌, ℕ,
 ghost use Rattle.std.specs.Prelude.{true, false};
 ghost use Rattle.std.specs.Str.{IsCharBoundary};
 ghost use Rattle.text_area.specs.Areas.{AreaData, area_text, selection};
-ghost use Rattle.text_area.specs.Finding.{IsFirstFrom, IsNowhereFrom, IsLastBefore, IsNowhereBefore};
+ghost use Rattle.text_area.specs.Finding.{IsFirstFrom, IsNowhereFrom, IsLastBefore};
+ghost use Rattle.text_area.specs.Finding.{IsNowhereBefore};
 ghost use Rattle.text_area.specs.Finding.{part_selected};
 
 use crate::area::TextArea;

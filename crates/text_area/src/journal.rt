@@ -5,7 +5,8 @@ ghost use Rattle.std.specs.Prelude.{OnOk, OnErr, IfOk, IsTrue, ◌↔◌};
 ghost use Rattle.std.specs.Str.{IsCharBoundary};
 ghost use Rattle.text_field.specs.History.{CursorText, cursor_text_at};
 ghost use Rattle.text_area.specs.Drafts.{draft_text, part_replaced};
-ghost use Rattle.text_area.specs.Journals.{StepData, IsStepOf, Undoes, JournalData, journal_of, step_for};
+ghost use Rattle.text_area.specs.Journals.{StepData, IsStepOf, Undoes, JournalData, journal_of};
+ghost use Rattle.text_area.specs.Journals.{step_for};
 ghost use Rattle.text_area.specs.Journals.{changed, moved_cursor, forgetting, stepped_text};
 ghost use Rattle.text_area.specs.Journals.{stepped_onto, undone, redone};
 
@@ -119,7 +120,8 @@ impl Model for Journal {
 
     ghost view = { λ j. journal_of j.draft j.past j.future j.most };
 
-    ghost invariant = { λ j. Undoes j.past (draft_text j.draft) × Undoes j.future (draft_text j.draft)
+    ghost invariant = { λ j. Undoes j.past (draft_text j.draft)
+        × Undoes j.future (draft_text j.draft)
         × (length j.past + length j.future ≤ j.most) };
 }
 

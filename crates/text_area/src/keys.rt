@@ -2,7 +2,8 @@
 
 ghost use Rattle.std.specs.Prelude.{◌≡◌, OnOk, OnErr, IfOk, IsOk, is_some, true, option_map};
 ghost use Rattle.text_area.specs.Areas.{gone, unselected, selection_begun, undoing, redoing};
-ghost use Rattle.text_area.specs.AreaKeys.{area_control_keys, area_alt_keys, area_control_shift_keys};
+ghost use Rattle.text_area.specs.AreaKeys.{area_control_keys, area_alt_keys};
+ghost use Rattle.text_area.specs.AreaKeys.{area_control_shift_keys};
 ghost use Rattle.text_area.specs.AreaKeys.{area_edit_among, move_of, far_move_of, typing_edit};
 ghost use Rattle.text_area.specs.AreaKeys.{far_deletion, table_edit, area_key_edit, area_edit_of};
 ghost use Rattle.text_area.specs.AreaKeys.{area_edited, area_edited_if, is_move, is_move_if};

@@ -1,6 +1,7 @@
 //! Laws of text areas.
 
-ghost use Rattle.std.specs.Prelude.{◌≡◌, ◌≤◌, ◌<◌, ◌+◌, ◌-◌, ◌++◌, ℕ, List, [], ◌∷◌, length, get_or};
+ghost use Rattle.std.specs.Prelude.{◌≡◌, ◌≤◌, ◌<◌, ◌+◌, ◌-◌, ◌++◌, ℕ, List, [], ◌∷◌, length};
+ghost use Rattle.std.specs.Prelude.{get_or};
 ghost use Rattle.std.specs.Prelude.{false};
 ghost use Rattle.std.specs.List.{replace_range, slice_split, join_with_byte};
 ghost use Rattle.std.specs.Str.{IsUtf8};
@@ -48,10 +49,10 @@ pub fn undoing_gives_what_was()
 /// Redoing what was undone, and undoing what was redone, gives back the text, the cursor and what
 /// can be undone and redone.
 pub fn redoing_undoes_undoing()
-    ensures redone { (j : JournalData) (s : StepData) (past : List StepData) → j.past ≡ s ∷ past
-        → Undoes j.past (draft_text j.text) → redone (undone j) ≡ j }
-    ensures undone { (j : JournalData) (s : StepData) (future : List StepData) → j.future ≡ s ∷ future
-        → Undoes j.future (draft_text j.text) → undone (redone j) ≡ j }
+    ensures redone { (j : JournalData) (s : StepData) (past : List StepData)
+        → j.past ≡ s ∷ past → Undoes j.past (draft_text j.text) → redone (undone j) ≡ j }
+    ensures undone { (j : JournalData) (s : StepData) (future : List StepData)
+        → j.future ≡ s ∷ future → Undoes j.future (draft_text j.text) → undone (redone j) ≡ j }
 {}
 
 /// What is typed stands in place of what was selected, and all else stays.

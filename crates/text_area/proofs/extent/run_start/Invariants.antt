@@ -5,7 +5,8 @@ use Rattle.text_area.proofs.extent.run_start.Given as goal
 
 abbrev pub invariant-walk : goal.invariant-walk
 invariant-walk l =
-    (l.start + suffix_len (in_run l.run) (take l.end l.bytes) ≡ l.end + suffix_len (in_run l.run) (take l.start l.bytes))
+    (l.start + suffix_len (in_run l.run) (take l.end l.bytes) ≡ l.end
+    + suffix_len (in_run l.run) (take l.start l.bytes))
     × (l.start ≤ l.end)
 
 abbrev pub decreases-walk : goal.decreases-walk

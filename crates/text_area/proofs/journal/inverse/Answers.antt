@@ -7,7 +7,9 @@ use Rattle.text_area.proofs.journal.inverse.Goals as goal
 
 pub returns-clause-undoes : goal.returns-clause-undoes
 returns-clause-undoes c = λ steps can.
-    let is : c.new.result ≡ step_for c.args.step.now.at c.args.step.now.to (length c.args.step.now.was) c.args.draft.now = search rules in
+    let is : c.new.result ≡ step_for c.args.step.now.at c.args.step.now.to (length c.args.step.now.was)
+    c.args.draft.now = search rules in
     undoes-inverse c.args.step.now c.new.result steps c.args.draft.now is
     (subst IsUtf8 c.text-text.ensures c.text-text.utf8)
-    (subst (IsCharBoundary (draft_text c.args.draft.now)) c.at.ensures.value c.at.ensures.boundary) c.requires can
+    (subst (IsCharBoundary (draft_text c.args.draft.now)) c.at.ensures.value c.at.ensures.boundary)
+    c.requires can

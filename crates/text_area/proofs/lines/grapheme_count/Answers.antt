@@ -5,4 +5,5 @@ use Rattle.text_area.proofs.lines.grapheme_count.Goals as goal
 
 pub returns : goal.returns
 returns c =
-    count_from_yields_List _ _ c.count.ensures.ran (YieldsList-from_gives _ _ c.graphemes.result) ∙ ap length c.graphemes.ensures.left
+    count_from_yields_List _ _ c.count.ensures.ran (YieldsList-from_gives _ _ c.graphemes.result)
+    ∙ ap length c.graphemes.ensures.left

@@ -5,4 +5,5 @@ use Rattle.text_area.proofs.typed.with_feeds.Given as goal
 -- what is copied, and what is still to come
 abbrev pub invariant-loop-c : goal.invariant-loop-c
 invariant-loop-c l =
-    string_bytes l.copy ++ encode_utf8_all (unified l.after (drop (length l.yielded) (chars l.text))) ≡ loaded_text l.text
+    string_bytes l.copy ++ encode_utf8_all (unified l.after (drop (length l.yielded) (chars l.text)))
+    ≡ loaded_text l.text
