@@ -1,5 +1,6 @@
 -- What is written of a set of flags is read as it.
-use Rattle.std.proofs.Common.{◌≡◌, ℕ, ◌<◌, ◌≤◌, ◌==◌, Bool, true, false, eqb, Result, Ok, Err, refl, ap, arith}
+use Rattle.std.proofs.Common.{◌≡◌, ℕ, ◌<◌, ◌≤◌, ◌==◌, Bool, true, false, eqb, Result, Ok, Err}
+use Rattle.std.proofs.Common.{refl, ap, arith}
 use Rattle.std.specs.{Fmt.digits, Int.RustNames.bit_and}
 use Rattle.std.proofs.lemmas.Bool.{agree_below, agree_below_at, eqb-true}
 use Rattle.std.proofs.lemmas.Nat.{and_le_l}
@@ -28,7 +29,8 @@ all-modifiers-read = refl
 
 pub modifiers-read-back : (n : ℕ) → n < 512 → ReadsFlags 16 modifier_table n (flags_text 16 modifier_table n)
 unfolding modifiers-read
-modifiers-read-back n lt = from-reads-as n _ (agree_below_at modifiers-read (λ _. true) 512 n all-modifiers-read lt)
+modifiers-read-back n lt =
+    from-reads-as n _ (agree_below_at modifiers-read (λ _. true) 512 n all-modifiers-read lt)
 
 sides-read : ℕ → Bool
 sides-read n = reads-as n (read_text (flag_piece border_table 8) (flags_text 8 border_table n))

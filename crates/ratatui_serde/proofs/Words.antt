@@ -1,5 +1,7 @@
 -- Words that are written into a text of a fixed size, and words that are read.
-use Rattle.std.proofs.Common.{◌≡◌, ℕ, ◌+◌, ◌<◌, ◌==◌, Bool, true, false, List, [], ◌∷◌, ◌++◌, Option, Some, None, Result, Ok, Err, IfOk, inl, codes, fold, take, get_or, length, refl, ap, sym, ◌∙◌}
+use Rattle.std.proofs.Common.{◌≡◌, ℕ, ◌+◌, ◌<◌, ◌==◌, Bool, true, false, List, [], ◌∷◌, ◌++◌}
+use Rattle.std.proofs.Common.{Option, Some, None, Result, Ok, Err, IfOk, inl, codes, fold, take, get_or}
+use Rattle.std.proofs.Common.{length, refl, ap, sym, ◌∙◌}
 use Rattle.std.proofs.lemmas.List.{take_more, append_assoc}
 use Rattle.std.proofs.lemmas.Fmt.{contents_after_writes}
 use Rattle.std.specs.{Fmt.digits, Fmt.WritesText}
@@ -9,14 +11,16 @@ use Rattle.bitflags.specs.Text.{bits_result, flag_piece, read_text}
 use Rattle.bitflags.specs.declared.parser.ParseError.{ParseError}
 use Rattle.rtui_boxes.specs.{declared.borders.Borders.Borders, Borders.border_table, Borders.sides_of}
 use Rattle.rtui_style.specs.{declared.Modifier.Modifier, Modifier.bits_of, Modifier.modifier_table}
-use Rattle.ratatui_serde.specs.Flags.{with_part, has_flag, names_in, with_names, with_stray, ReadsFlags, ReadsSides}
+use Rattle.ratatui_serde.specs.Flags.{with_part, has_flag, names_in, with_names, with_stray}
+use Rattle.ratatui_serde.specs.Flags.{ReadsFlags, ReadsSides}
 
 -- a colour that is no error is there
 pub read-color : (color : Color) (o : Option Color) → Ok color ≡ color_or_error o → o ≡ Some color
 read-color color (Some c) e = cc
 read-color color None e = absurd (cc)
 
-fold-append : {A B : Type 0} (f : B → A → B) (a : B) (xs ys : List A) → fold f a (xs ++ ys) ≡ fold f (fold f a xs) ys
+fold-append : {A B : Type 0} (f : B → A → B) (a : B) (xs ys : List A)
+    → fold f a (xs ++ ys) ≡ fold f (fold f a xs) ys
 fold-append f a [] ys = refl
 fold-append f a (x ∷ xs) ys = fold-append f (f a x) xs ys
 
@@ -36,8 +40,10 @@ names-append (x ∷ xs) ys bits =
     ∙ sym (ap (λ l. l ++ names_in ys bits) (names-front x xs [] bits (has_flag bits x) refl refl))
 
 -- a text with the names of one row more
-pub names-more : (text : List ℕ) (table : List Row) (i : ℕ) (row : Row) (bits : ℕ) → i < length table → get_or table i row ≡ row
-    → with_names text (take (i + 1) table) bits ≡ with_names (with_names text (take i table) bits) (row ∷ []) bits
+pub names-more : (text : List ℕ) (table : List Row) (i : ℕ) (row : Row) (bits : ℕ) → i < length table
+    → get_or table i row ≡ row
+    → with_names text (take (i + 1) table) bits
+    ≡ with_names (with_names text (take i table) bits) (row ∷ []) bits
 names-more text table i row bits lt at =
     ap (λ l. with_names text l bits) (take_more table i row lt ∙ ap (λ x. take i table ++ x ∷ []) at)
     ∙ ap (fold with_part text) (names-append (take i table) (row ∷ []) bits)
@@ -45,16 +51,20 @@ names-more text table i row bits lt at =
 
 part-longer : (text a b : List ℕ) → with_part text a ++ b ≡ with_part text (a ++ b)
 part-longer [] a b = refl
-part-longer (c ∷ text) a b = append_assoc (c ∷ text) (codes " | " ++ a) b ∙ ap (λ l. (c ∷ text) ++ l) (append_assoc (codes " | ") a b)
+part-longer (c ∷ text) a b =
+    append_assoc (c ∷ text) (codes " | " ++ a) b
+    ∙ ap (λ l. (c ∷ text) ++ l) (append_assoc (codes " | ") a b)
 
 -- a hexadecimal number after its mark
-pub stray-is : (text : List ℕ) (bits : ℕ) → (bits == 0) ≡ false → with_part text (codes "0x") ++ digits 16 false bits ≡ with_stray text bits
+pub stray-is : (text : List ℕ) (bits : ℕ) → (bits == 0) ≡ false
+    → with_part text (codes "0x") ++ digits 16 false bits ≡ with_stray text bits
 stray-is text bits some = part-longer text (codes "0x") (digits 16 false bits) ∙ rw some refl
 
 -- what a text that appends holds after a value was printed
 pub text-after : {W : Type 0} (took : W → List ℕ → W → Type 0) (contents : W → List ℕ)
     → ((w : W) (bs : List ℕ) (v : W) → took w bs v → contents v ≡ contents w ++ bs)
-    → (w v : W) (o : Option (List ℕ)) (bs : List ℕ) → o ≡ Some bs → WritesText took w o v → contents v ≡ contents w ++ bs
+    → (w v : W) (o : Option (List ℕ)) (bs : List ℕ) → o ≡ Some bs
+    → WritesText took w o v → contents v ≡ contents w ++ bs
 text-after took contents appends w v (Some x) bs e h =
     contents_after_writes took contents appends w x v h ∙ ap (λ l. contents w ++ l) (cc)
 text-after took contents appends w v None bs e h = absurd (cc)

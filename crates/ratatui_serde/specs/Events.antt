@@ -10,6 +10,6 @@ SendsAll es None new = ⊤
 SendsAll es (Some was) new = new ≡ Some (was ++ es)
 
 -- one text was read, and this holds of it
-abbrev pub ReadsText : {F E M : Type 0} → (F → List ℕ → Event → F → Type 0) → (List ℕ → Type 0) → Deserializer F E M
-    → Deserializer F E M → Type 0
+abbrev pub ReadsText : {F E M : Type 0} → (F → List ℕ → Event → F → Type 0) → (List ℕ → Type 0)
+    → Deserializer F E M → Deserializer F E M → Type 0
 ReadsText gives P old new = (word : List ℕ) × Gives gives old (text word) new × P word

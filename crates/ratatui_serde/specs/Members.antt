@@ -1,9 +1,12 @@
 -- What a constraint and a style send to a serializer.
-use Rattle.std.specs.Prelude.{ℕ, List, [], ◌∷◌, ◌++◌, ◌==◌, codes, fold, map, sum, Option, Some, None, if◌then◌else◌}
-use Rattle.serde.specs.Event.{Event, text, unsigned, seq_begins, seq_ends, map_begins, map_ends, field_key, variant_key}
+use Rattle.std.specs.Prelude.{ℕ, List, [], ◌∷◌, ◌++◌, ◌==◌, codes, fold, map, sum, Option}
+use Rattle.std.specs.Prelude.{Some, None, if◌then◌else◌}
+use Rattle.serde.specs.Event.{Event, text, unsigned, seq_begins, seq_ends, map_begins, map_ends, field_key}
+use Rattle.serde.specs.Event.{variant_key}
 use Rattle.serde.specs.declared.name.Case.TheVariants.{AsIs}
 use Rattle.rtui_layout.specs.declared.constraint.Constraint.{Constraint}
-use Rattle.rtui_layout.specs.declared.constraint.Constraint.TheVariants.{Min, Max, Length, Percentage, Ratio, Fill}
+use Rattle.rtui_layout.specs.declared.constraint.Constraint.TheVariants.{Min, Max, Length, Percentage}
+use Rattle.rtui_layout.specs.declared.constraint.Constraint.TheVariants.{Ratio, Fill}
 use Rattle.rtui_style.specs.{declared.color.Color.Color, declared.Modifier.Modifier, declared.Style.Style}
 use Rattle.rtui_style.specs.{Color.color_text, Modifier.bits_of, Modifier.modifier_table}
 use Rattle.ratatui_serde.specs.Flags.{flags_text}
@@ -15,8 +18,8 @@ number_events name n = map_begins (Some 1) ∷ variant_key name AsIs ∷ unsigne
 -- the name of a ratio with both of its numbers
 abbrev pub ratio_events : ℕ → ℕ → List Event
 ratio_events part whole =
-    map_begins (Some 1) ∷ variant_key (codes "Ratio") AsIs ∷ seq_begins (Some 2) ∷ unsigned part ∷ unsigned whole
-    ∷ seq_ends ∷ map_ends ∷ []
+    map_begins (Some 1) ∷ variant_key (codes "Ratio") AsIs ∷ seq_begins (Some 2) ∷ unsigned part
+    ∷ unsigned whole ∷ seq_ends ∷ map_ends ∷ []
 
 abbrev pub constraint_events : Constraint → List Event
 constraint_events (Min n) = number_events (codes "Min") n
@@ -39,8 +42,10 @@ modifier_member key m =
 -- the members of a style that say something
 abbrev pub style_members : Style → List (List Event)
 style_members s =
-    color_member (codes "fg") s.fg ∷ color_member (codes "bg") s.bg ∷ color_member (codes "underline_color") s.underline_color
-    ∷ modifier_member (codes "add_modifier") s.add_modifier ∷ modifier_member (codes "sub_modifier") s.sub_modifier ∷ []
+    color_member (codes "fg") s.fg ∷ color_member (codes "bg") s.bg
+    ∷ color_member (codes "underline_color") s.underline_color
+    ∷ modifier_member (codes "add_modifier") s.add_modifier
+    ∷ modifier_member (codes "sub_modifier") s.sub_modifier ∷ []
 
 -- one for a member that says something
 abbrev pub said : List Event → ℕ
@@ -53,4 +58,5 @@ member_count s = sum (map said (style_members s))
 
 -- a map of them
 abbrev pub style_events : Style → List Event
-style_events s = map_begins (Some (member_count s)) ∷ (fold (λ es more. es ++ more) [] (style_members s) ++ map_ends ∷ [])
+style_events s =
+    map_begins (Some (member_count s)) ∷ (fold (λ es more. es ++ more) [] (style_members s) ++ map_ends ∷ [])

@@ -24,7 +24,8 @@ fn push_part(text: &mut Words, part: &str) -> fmt::Result
 // Writes the name of a flag if a set has it.
 fn push_flag<B: Flags>(text: &mut Words, set: &B, flag: &Flag<B>) -> fmt::Result
     ensures { B.exact → OnOk result (text.new.bytes
-        ≡ with_names text.old.bytes ((flag.now.name.now, B.set_of flag.now.value) ∷ []) (B.set_of set.now)) }
+        ≡ with_names text.old.bytes ((flag.now.name.now, B.set_of flag.now.value) ∷ [])
+        (B.set_of set.now)) }
 {
     if set.contains(B::from_bits_retain(flag.value().bits())) {
         return push_part(text, flag.name());

@@ -21,7 +21,8 @@ pub fn colors_are_read_back(color: Color)
 
 /// The text that modifiers are written as is read as these modifiers, if they are among the nine.
 pub fn modifiers_are_read_back(modifier: Modifier)
-    ensures { has_all all_modifiers modifier ≡ true → ReadsFlags 16 modifier_table (bits_of modifier)
+    ensures { has_all all_modifiers modifier ≡ true
+        → ReadsFlags 16 modifier_table (bits_of modifier)
         (flags_text 16 modifier_table (bits_of modifier)) }
 {}
 

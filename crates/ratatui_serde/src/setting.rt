@@ -20,7 +20,8 @@ pub trait Setting: Copy + Drop {
     ///
     /// Those of the serializer.
     fn write<S: Serializer>(&self, out: &mut S) -> Result<(), S::Error>
-        ensures { OnOk result (SendsAll (events self.now) (S.written out.old) (S.written out.new)) };
+        ensures { OnOk result
+            (SendsAll (events self.now) (S.written out.old) (S.written out.new)) };
 
     /// Reads one.
     ///
@@ -33,7 +34,8 @@ pub trait Setting: Copy + Drop {
 /// A setting that has serde's traits itself, for a list, a map or an option of them.
 ///
 /// ```
-/// let widths: Vec<Serde<Constraint>> = serde_json::from_str(alloc, r#"[{"Length":3},{"Fill":1}]"#)?;
+/// let widths: Vec<Serde<Constraint>> =
+///     serde_json::from_str(alloc, r#"[{"Length":3},{"Fill":1}]"#)?;
 /// ```
 #[derive(Debug, Default, Clone, Copy, PartialEq, Eq, Hash)]
 pub struct Serde<T>(pub T);

@@ -9,6 +9,7 @@ unfolding known_from
 returns c =
     let bits = sides_of c.args.borders in
     c.in_ok-push_stray.ensures
-    ∙ ap (with_stray c.push_names.new.text.bytes) (c.from.ensures ∙ c.bits.ensures tt ∙ c.difference.ensures tt)
+    ∙ ap (with_stray c.push_names.new.text.bytes)
+    (c.from.ensures ∙ c.bits.ensures tt ∙ c.difference.ensures tt)
     ∙ ap (λ t. with_stray t (without 8 bits (known_bits border_table)))
     (c.in_ok-push_names.ensures tt ∙ ap (λ t. with_names t border_table bits) c.new-words.ensures)
