@@ -18,9 +18,9 @@ fn a_line_is_killed(rt: HostRuntime) -> Result<(), Fail> {
     Ok(())
 }
 
-// Writes a word as Americans do.
+// Writes the next such word as Americans do.
 fn spell(area: &mut TextArea) -> Result<(), AllocError> {
-    while area.select_next("colour") {
+    if area.select_next("colour") {
         area.insert_str("color")?;
     }
     Ok(())
@@ -32,7 +32,7 @@ fn a_word_is_replaced(rt: HostRuntime) -> Result<(), Fail> {
     area.insert_str("colours and a colour")?;
     area.go(Move::Left(Extent::Text));
     spell(&mut area)?;
-    assert!(rt; area.text() == "colors and a color");
+    assert!(rt; area.text() == "colors and a colour");
     Ok(())
 }
 

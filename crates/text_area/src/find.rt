@@ -66,7 +66,7 @@ impl TextArea {
     /// To replace it, type over it.
     ///
     /// ```
-    /// while area.select_next("colour") {
+    /// if area.select_next("colour") {
     ///     area.insert_str("color")?;
     /// }
     /// ```
