@@ -1,16 +1,26 @@
-use Rattle.std.proofs.Common.{[], ap, ◌∙◌}
+use Rattle.std.proofs.Common.{[], ap, ◌∙◌, subst, false}
 use Rattle.ratatui_input.specs.Encodings.{fresh_decoder}
-use Rattle.ratatui_acts.specs.Seats.{seated}
+use Rattle.ratatui_acts.specs.{Seats.seated, Turns.Standing, Runs.RunsToEnd}
 use Rattle.remover.specs.declared.remover.Remover.{Remover}
-use Rattle.remover.specs.Laws.{heard, unheard, gave_answer}
+use Rattle.remover.specs.Laws.{on_terminal, heard, unheard, gave_answer}
 use Rattle.remover.proofs.RemoverLemmas.{run-named}
 use Rattle.remover.proofs.from_blank.remove_from_blank.Goals as goal
 
 pub returns-in-Ok-run : goal.returns-in-Ok-run
 returns-in-Ok-run g c =
     let coming = g.S.Source.coming in
-    let ran = rw (c.new-seat.ensures ∙ ap (λ (s : Remover). record { decoder = fresh_decoder; left = []; state = s })
-    c.new-2.ensures) at c.in-Ok-run.ensures.runs in record {
+    let ran = subst (λ (s : Standing Remover). RunsToEnd (on_terminal (heard coming) (unheard coming) gave_answer) false (record {
+      standing = s;
+      glass = c.in-Ok-begin.glass;
+      ears = c.args.source.now;
+      outside = c.args.folder.now;
+    }) (record {
+      standing = seated c.run.new.seat;
+      glass = c.run.new.glass;
+      ears = c.run.new.ears;
+      outside = c.run.new.outside;
+    })) (c.new-seat.ensures ∙ ap (λ (s : Remover). record { decoder = fresh_decoder; left = []; state = s }) c.new-2.ensures)
+    c.in-Ok-run.ensures.runs in record {
       begun = c.in-Ok-begin.glass;
       after = seated c.run.new.seat;
       runs = ran;
