@@ -1,10 +1,13 @@
-"""Programs that are built unproved, with the checks of `rt try`, and kept: crates/CRATE/out/played.
+"""`rt try` from a copy of the kit: without its hints, which take as long as the try, and with programs that are kept: crates/CRATE/out/played.
 
-`rt try` builds a program, runs it without a terminal, and keeps nothing. So it is run here from a folder that is the kit but for its
-linker, which keeps what it linked and then ends in an error: the program isn't run, and what was kept is an ordinary one.
-tools/play begins it, tools/look looks at it, and tools/install installs it where there is none that was built over proofs.
+`rt try` builds a program, runs it without a terminal, and keeps nothing. So it is run here from a folder that is the kit but for two
+files: the prover, which ends at once, since `rt try` has it only look for names that a check would refuse; and the linker, which keeps
+what it linked, an ordinary program. If it then ends in an error, the program isn't run.
+tools/test tries so, tools/play begins what was kept, tools/look looks at it, and tools/install installs it if there is none that was
+built over proofs.
 """
 
+import contextlib
 import glob
 import hashlib
 import os
@@ -15,14 +18,14 @@ import tempfile
 from shared import TOP
 
 LINKER = """#!/bin/bash
-# Links, keeps the program, and fails, so that rt try doesn't run it. rt try passes no variables on.
+# Links, and keeps the program. If this fails then, rt try doesn't run it. rt try passes no variables on.
 (exec -a ld.lld {linker} "$@") || exit
 before=
 for word in "$@"; do
     [ "$before" != -o ] || cp "$word" {kept}
     before=$word
 done
-exit 1
+exit {status}
 """
 
 
@@ -80,8 +83,8 @@ def stamp(crate, version):
     return sums.hexdigest()
 
 
-def copy_of_kit(folder, at, kept):
-    """Makes a folder that is the kit but for its linker, of links; but rt finds its kit from where its own file lies."""
+def copy_of_kit(folder, at, kept, status):
+    """Makes a folder that is the kit but for its prover and its linker, of links; but rt finds its kit from where its own file lies."""
     for name in set(os.listdir(folder)) - {"bin", "toolchain"}:
         os.symlink(f"{folder}/{name}", f"{at}/{name}")
     for part in ("bin", "toolchain", "toolchain/bin"):
@@ -91,8 +94,7 @@ def copy_of_kit(folder, at, kept):
                 shutil.copy(f"{folder}/{part}/{name}", f"{at}/{part}/{name}")
             elif (part, name) != ("bin", "rattle"):
                 os.symlink(f"{folder}/{part}/{name}", f"{at}/{part}/{name}")
-    script(f"{at}/toolchain/bin/ld.lld", LINKER.format(linker=f"'{folder}/toolchain/bin/ld.lld'", kept=f"'{kept}'"))
-    # rt try has the prover look for names that a check would refuse, and goes on without it. It takes a third of the time.
+    script(f"{at}/toolchain/bin/ld.lld", LINKER.format(linker=f"'{folder}/toolchain/bin/ld.lld'", kept=f"'{kept}'", status=status))
     script(f"{at}/bin/rattle", "#!/bin/sh\nexit 1\n")
 
 
@@ -103,25 +105,50 @@ def script(at, text):
     os.chmod(at, 0o755)
 
 
-def build(crate, folder, made):
-    """Builds a program with the kit of a folder, and puts it at a path."""
+@contextlib.contextmanager
+def copied(folder, status):
+    """The rt of a copy of the kit, and where the program is that its linker kept; the linker ends with the status."""
     with tempfile.TemporaryDirectory() as place:
-        copy, kept = f"{place}/kit", f"{place}/kept"
-        os.mkdir(copy)
+        os.mkdir(f"{place}/kit")
         try:
-            copy_of_kit(folder, copy, kept)
+            copy_of_kit(folder, f"{place}/kit", f"{place}/kept", status)
         except OSError as error:
-            raise NotBuilt(f"this kit isn't laid out as is known here ({error}), so no program can be kept: rt try runs one, without keys") from error
+            raise NotBuilt(f"this kit isn't laid out as is known here ({error}), so it can't be copied: call rt try itself") from error
+        yield f"{place}/kit/bin/rt", f"{place}/kept"
+
+
+def put(program, crate, version):
+    """Keeps a program that was built of a crate as it is now."""
+    made = f"{TOP}/crates/{crate}/out/played"
+    os.makedirs(os.path.dirname(made), exist_ok=True)
+    shutil.copy(program, f"{made}.{os.getpid()}")
+    os.replace(f"{made}.{os.getpid()}", made)
+    with open(f"{made}.stamp", "w", encoding="utf-8") as file:
+        file.write(f"{stamp(crate, version)}\n")
+
+
+def build(crate, folder, version):
+    """Builds a program with the kit of a folder, and keeps it."""
+    with copied(folder, 1) as (rt, kept):
         how = {"stdin": subprocess.DEVNULL, "stdout": subprocess.PIPE, "stderr": subprocess.STDOUT}
-        ran = subprocess.run([f"{copy}/bin/rt", "try", "--steps", "1", "--seconds", "1"], cwd=f"{TOP}/crates/{crate}", **how)
+        ran = subprocess.run([rt, "try", "--steps", "1", "--seconds", "1"], cwd=f"{TOP}/crates/{crate}", **how)
         said = ran.stdout.decode(errors="replace")
         if not os.path.isfile(kept):
             if "run=ended" in said:
                 raise NotBuilt("this kit links in a way that isn't known here, so no program can be kept: rt try runs one, without keys")
             raise Refused(said.strip() or f"rt try failed with status {ran.returncode}, and said nothing")
-        os.makedirs(os.path.dirname(made), exist_ok=True)
-        shutil.copy(kept, f"{made}.{os.getpid()}")
-        os.replace(f"{made}.{os.getpid()}", made)
+        put(kept, crate, version)
+
+
+def tried(crate, *words):
+    """What `rt try` said of a crate, and its status; a program is kept."""
+    folder, version = kit()
+    with copied(folder, 0) as (rt, kept):
+        how = {"stdin": subprocess.DEVNULL, "stdout": subprocess.PIPE, "stderr": subprocess.STDOUT, "text": True}
+        ran = subprocess.run([rt, "try", *words], cwd=f"{TOP}/crates/{crate}", **how)
+        if os.path.isfile(kept) and is_program(crate) and "--test" not in words:
+            put(kept, crate, version)
+    return ran.returncode, ran.stdout
 
 
 def is_program(crate):
@@ -143,9 +170,7 @@ def played(crate, tell=lambda line: None):
         is_fresh = False
     if not is_fresh:
         tell(f"building {crate} unproved, which takes up to a minute ..")
-        build(crate, folder, made)
-        with open(f"{made}.stamp", "w", encoding="utf-8") as file:
-            file.write(f"{wanted}\n")
+        build(crate, folder, version)
     return made
 
 

@@ -3,9 +3,10 @@
 //! `pager_frames FILE COLUMNS ROWS` shows a file on a screen in memory. Each line of standard input
 //! is the bytes of a read: words, each all its characters or the name of a byte (`ESC`, `SP`, `CR`,
 //! `TAB`, `DEL`), and `TICK` a read that finds nothing. After each it prints the screen, with `^`
-//! below what is shown reversed. Then it plays all bytes again, cut at random places, and compares
-//! the last screen; and with each read and each call of the screen failing in turn, and counts the
-//! faults that were told. With wrong words, or if a screen is another one, the status is 1.
+//! below what is shown reversed. Then it plays the second half again, in which each kind of key is:
+//! cut at random places, and compares the last screen; and with each read and each call of the
+//! screen failing in turn, and counts the faults that were told. With wrong words, or if a screen is
+//! another one, the status is 1.
 //!
 //! With a number as a fourth word it shows the same reads as bytes for a terminal while one request
 //! for memory is refused, and prints what came of it. `tools/refusals` has each request refused.
@@ -38,7 +39,7 @@ fn play(rt: &HostRuntime, words: &[String]) -> anyhow::Result<bool> {
     };
     let text = fs::read_to_string(rt, file.as_str())?;
     let script = io::read_to_string(rt.alloc(), rt.reader())?;
-    let recording = Recording::read(rt.alloc(), script.as_str())?;
+    let recording = Recording::read(rt.alloc(), script.as_str(), 0)?;
     let stage = Stage {
         alloc: rt.alloc(),
         text: text.as_str(),
@@ -52,7 +53,8 @@ fn play(rt: &HostRuntime, words: &[String]) -> anyhow::Result<bool> {
         return Ok(true);
     }
     let frames = print_frames(rt, stage, script.as_str(), &recording)?;
-    let trials = print_trials(rt, stage, &recording)?;
+    let second_half = Recording::read(rt.alloc(), script.as_str(), recording.ends.len() / 2)?;
+    let trials = print_trials(rt, stage, &second_half)?;
     Ok(frames && trials)
 }
 

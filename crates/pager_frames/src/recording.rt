@@ -25,11 +25,11 @@ fn bytes_of(word: &str) -> &[u8] {
 }
 
 impl Recording {
-    /// The reads of a script, one a line.
-    pub fn read(alloc: Global, script: &str) -> Result<Recording, AllocError> {
+    /// The reads of a script, one a line, from a line on.
+    pub fn read(alloc: Global, script: &str, first: usize) -> Result<Recording, AllocError> {
         let mut bytes = Vec::new(alloc);
         let mut ends = Vec::new(alloc);
-        for line in script.lines() {
+        for line in script.lines().skip(first) {
             for word in line.split(' ') {
                 bytes.extend_from_slice(bytes_of(word))?;
             }

@@ -1,7 +1,13 @@
-//! Tests of the examples of doc comments: each of their lines stands here, and what it shows is
-//! compared. `tools/recipes` says which lines of examples stand in no crate.
+//! Tests of the examples of doc comments, in which each of their lines stands (`tools/recipes` says
+//! which stand in no crate), of macros and arrays, and of what tests print.
 #![tactic(auto)]
 
+#[cfg(test)]
+mod apart;
+#[cfg(test)]
+mod arrays;
+#[cfg(test)]
+mod asserted;
 #[cfg(test)]
 mod buffers;
 #[cfg(test)]
@@ -16,6 +22,14 @@ mod geometry;
 mod how;
 #[cfg(test)]
 mod input;
+#[cfg(test)]
+mod macros;
+#[cfg(test)]
+mod macros_called;
+#[cfg(test)]
+mod screens;
+#[cfg(test)]
+mod stored;
 #[cfg(test)]
 mod styles;
 #[cfg(test)]

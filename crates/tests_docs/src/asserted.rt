@@ -1,4 +1,4 @@
-//! The examples of doc comments.
+//! The examples of what tests print and compare.
 
 use ratatui_core::backend::TestBackend;
 use ratatui_core::buffer::Buffer;

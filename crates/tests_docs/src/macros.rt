@@ -1,4 +1,4 @@
-//! The examples of doc comments.
+//! The examples of the macros' doc comments.
 
 use ratatui_core::buffer::Buffer;
 use ratatui_core::layout::{Constraint, Rect, SplitInto};

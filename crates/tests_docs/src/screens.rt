@@ -1,4 +1,4 @@
-//! What screens show. `tools/test --accept tests_test` writes them anew.
+//! What screens show. `tools/test --accept tests_docs` writes them anew.
 
 pub(crate) const GREETING: &[&str] = &[" Hello, world! ", "               "];
 

@@ -1,4 +1,4 @@
-//! What each macro makes.
+//! Each macro, and what it makes.
 
 use ratatui_core::layout::{Constraint, Rect, SplitInto};
 use ratatui_core::style::{Color, Stylize};
