@@ -1,4 +1,5 @@
 -- Runs from beginning to end.
+use Rattle.std.specs.declared.time.Duration.{Duration}
 use Rattle.std.proofs.Common.{◌≡◌, ℕ, Bool, true, false, List, Option, Result, Ok, Err, OnOk, IfOk, IfErr, sym, subst, ◌∙◌}
 use Rattle.ratatui_core.specs.{Backend.Screen, Backend.size_of, Layout.Rect, Layout.Position, Buffer.BufferData}
 use Rattle.ratatui_core.specs.Terminal.{TerminalData, TerminalError, Viewport, Starts, IsAtRest, IsFixed, FitsSize, IsBlank, Stays}
@@ -65,7 +66,7 @@ module _ {W : Type 0} where
   }
 
 module _ {W S C R H O : Type 0} (rules : ActingRules S C R) (paints : S → Rect → BufferData → BufferData → Type 0)
-    (cursor : S → Rect → Option Position) (gives : H → ℕ → List ℕ → H → Type 0) (fails : H → H → Type 0)
+    (cursor : S → Rect → Option Position) (gives : H → ℕ → List ℕ → Duration → H → Type 0) (fails : H → H → Type 0)
     (answers : O → C → R → O → Type 0) (viewport : Viewport) (backend : BackendState W) where
   -- how a run ended, and what giving back the terminal answered
   pub runs-whole : (r : Result (Unit {0}) (Fault (TerminalError AnsiError))) (has_ticks : Bool)

@@ -28,7 +28,7 @@ counter_by_event _ c = c
 
 abbrev pub counter_after : {R : Type 0} → Counter → Message R → Counter
 counter_after c (message.Event event) = counter_by_event event c
-counter_after c message.Tick = c
+counter_after c (message.Tick passed) = c
 counter_after c (message.Answer answer) = c
 
 -- the number in the first row of the area, if the buffer has that row

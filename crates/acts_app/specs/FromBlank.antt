@@ -3,7 +3,8 @@ use Rattle.std.specs.Prelude.{◌≡◌, false, [], None}
 use Rattle.ratatui_core.specs.Terminal.{TerminalError}
 use Rattle.ratatui_ansi.specs.{declared.error.AnsiError.AnsiError}
 use Rattle.ratatui_input.specs.Encodings.{fresh_decoder}
-use Rattle.ratatui_reads.specs.Sources.{Coming, GivesRead, GivesReads, StaysKnown, MayFail}
+use Rattle.ratatui_reads.specs.Sources.{Coming, GivesReads}
+use Rattle.ratatui_acts.specs.Hearing.{GivesUntimed, FailsToGive}
 use Rattle.ratatui_acts.specs.declared.nothing.{Never.Never, Nothing.Nothing}
 use Rattle.ratatui_acts.specs.Turns.{ActingRules, Standing}
 use Rattle.ratatui_acts.specs.Runs.{Ground, RunsToEnd, turns_of}
@@ -22,8 +23,7 @@ module _ {W H : Type 0} where
   -- what a run of it stands on: what a source gives, and how it fails; and nothing is asked for
   abbrev pub counting_on : (H → Coming) → Ground Counter Never Never (OnGlass W) (TerminalError AnsiError) H Nothing
   counting_on coming = on_glass counter_rules PaintsCounter (λ _. no_cursor)
-      (λ s room bytes t. GivesRead room (coming s) (coming t) bytes)
-      (λ s t. StaysKnown (coming s) (coming t) × MayFail (coming s)) (λ _ _ _ _. ⊥)
+      (GivesUntimed coming) (FailsToGive coming) (λ _ _ _ _. ⊥)
 
   -- a run from nothing to its end: the number is what its reads make of 0, and these are what the source gave
   pub record CountsFromBlank (coming : H → Coming) (ears ears' : H) (glass : OnGlass W) : Type 0 where

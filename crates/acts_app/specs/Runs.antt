@@ -1,4 +1,5 @@
 -- Runs of an application on a terminal that is sent bytes.
+use Rattle.std.specs.declared.time.Duration.{Duration}
 use Rattle.std.specs.Prelude.{◌≡◌, ℕ, Bool, true, false, List, Option}
 use Rattle.ratatui_core.specs.{Layout.Rect, Layout.Position, Buffer.BufferData}
 use Rattle.ratatui_core.specs.Terminal.{TerminalData, TerminalError, Viewport}
@@ -14,7 +15,7 @@ use Rattle.acts_app.specs.Glass.{StandsOnGlass, MovesAndAsks, StopsOnGlass}
 module _ {W S C R H O : Type 0} where
   -- what a run of an application stands on, on such a terminal
   abbrev pub on_glass : ActingRules S C R → (S → Rect → BufferData → BufferData → Type 0) → (S → Rect → Option Position)
-      → (H → ℕ → List ℕ → H → Type 0) → (H → H → Type 0) → (O → C → R → O → Type 0)
+      → (H → ℕ → List ℕ → Duration → H → Type 0) → (H → H → Type 0) → (O → C → R → O → Type 0)
       → Ground S C R (OnGlass W) (TerminalError AnsiError) H O
   on_glass rules paints cursor gives fails answers = record {
     rules = rules;

@@ -68,7 +68,7 @@ impl Acts for Counter {
         let before = *self;
         match message {
             Message::Event(event) => self.hear(event),
-            Message::Tick | Message::Answer(_) => {}
+            Message::Tick(_) | Message::Answer(_) => {}
         }
         Ok(*self != before)
     }

@@ -2,3 +2,4 @@ pub mod TakingLemmas
 pub mod TurnLemmas
 pub mod RunLemmas
 pub mod ReadingLemmas
+pub mod TimeLemmas

@@ -1,6 +1,7 @@
 -- Of states that ask for nothing the reads decide.
 use Rattle.std.proofs.Common.{◌≡◌, ◌||◌, ℕ, Bool, true, false, List, [], ◌∷◌, ◌++◌, refl, ap, ap₂, sym, ◌∙◌, subst}
-use Rattle.std.proofs.Common.{◌⊎◌, inl, inr, Option, Some, None, is_some}
+use Rattle.std.proofs.Common.{inl, inr, Option, Some, is_some}
+use Rattle.std.specs.declared.time.Duration.{Duration}
 use Rattle.ratatui_events.specs.declared.event.Event.{Event}
 use Rattle.ratatui_input.specs.declared.decoder.Decoder.{Decoder}
 use Rattle.ratatui_reads.specs.Reads.{Between, told_by, all_updated, next_state, after_read, after_reads}
@@ -15,14 +16,15 @@ use Rattle.ratatui_acts.proofs.TurnLemmas.{true-false}
 use Rattle.ratatui_acts.proofs.RunLemmas.{run-rests}
 
 -- one read more
-reads-came : {C R : Type 0} (ts : List (Turn C R)) (bytes : List ℕ) → turn_reads (ts ++ (Came bytes ∷ [])) ≡ turn_reads ts ++ (bytes ∷ [])
-reads-came [] bytes = refl
-reads-came (Came b ∷ ts) bytes = ap (λ (l : List (List ℕ)). b ∷ l) (reads-came ts bytes)
-reads-came (Done command answer ∷ ts) bytes = reads-came ts bytes
+reads-came : {C R : Type 0} (ts : List (Turn C R)) (bytes : List ℕ) (passed : Duration)
+    → turn_reads (ts ++ (Came bytes passed ∷ [])) ≡ turn_reads ts ++ (bytes ∷ [])
+reads-came [] bytes passed = refl
+reads-came (Came b p ∷ ts) bytes passed = ap (λ (l : List (List ℕ)). b ∷ l) (reads-came ts bytes passed)
+reads-came (Done command answer ∷ ts) bytes passed = reads-came ts bytes passed
 
 reads-done : {C R : Type 0} (ts : List (Turn C R)) (c : C) (r : R) → turn_reads (ts ++ (Done c r ∷ [])) ≡ turn_reads ts
 reads-done [] c r = refl
-reads-done (Came b ∷ ts) c r = ap (λ (l : List (List ℕ)). b ∷ l) (reads-done ts c r)
+reads-done (Came b p ∷ ts) c r = ap (λ (l : List (List ℕ)). b ∷ l) (reads-done ts c r)
 reads-done (Done command answer ∷ ts) c r = reads-done ts c r
 
 module _ {S C R : Type 0} (rules : ActingRules S C R) where
@@ -69,9 +71,9 @@ module _ {S C R : Type 0} (rules : ActingRules S C R) where
           ∙ others
           ∙ ap (λ (x : S). record { decoder = d; state = all_updated (event_rules rules) x es }) (sym (on-next s e on))
 
-  tick-nothing : (bytes : List ℕ) (s : S) → AsksNothing rules → ticked rules bytes s ≡ s
-  tick-nothing [] s nothing = nothing.ticks s
-  tick-nothing (b ∷ bytes) s nothing = refl
+  tick-nothing : (bytes : List ℕ) (passed : Duration) (s : S) → AsksNothing rules → ticked rules bytes passed s ≡ s
+  tick-nothing [] passed s nothing = nothing.ticks s passed
+  tick-nothing (b ∷ bytes) passed s nothing = refl
 
   over-if : (s : S) → AsksNothing rules → waits rules s ≡ true → rules.is_over s ≡ true
   over-if s nothing w = by-bool (rules.is_over s) refl
@@ -88,11 +90,11 @@ module _ {S C R : Type 0} (rules : ActingRules S C R) where
       let over = over-if b.state nothing w in
       all-over b.state (b.left ++ es) over ∙ sym (all-over b.state es over)
 
-  turn-between : (b : Standing S) (bytes : List ℕ) → AsksNothing rules → Rests rules b
-      → seat_between (after_turn rules b (Came bytes)) ≡ after_read (event_rules rules) (seat_between b) bytes
-  turn-between b bytes nothing rests =
+  turn-between : (b : Standing S) (bytes : List ℕ) (passed : Duration) → AsksNothing rules → Rests rules b
+      → seat_between (after_turn rules b (Came bytes passed)) ≡ after_read (event_rules rules) (seat_between b) bytes
+  turn-between b bytes passed nothing rests =
       ap (λ (s : S). seat_between (taking rules (told_by b.decoder bytes).1 (b.left ++ (told_by b.decoder bytes).0) s))
-      (tick-nothing bytes b.state nothing)
+      (tick-nothing bytes passed b.state nothing)
       ∙ taking-between (told_by b.decoder bytes).1 (b.left ++ (told_by b.decoder bytes).0) b.state nothing
       ∙ ap (λ (x : S). record { decoder = (told_by b.decoder bytes).1; state = x })
       (left-read b (told_by b.decoder bytes).0 nothing rests)
@@ -106,11 +108,11 @@ module _ {S C R G E H O : Type 0} (ground : Ground S C R G E H O) where
 
   turn-reads : AsksNothing ground.rules → (begun before now : Now S G H O) (ts : List (Turn C R)) (t : Turn C R)
       → Rests ground.rules before.standing → IsTurn ground before t now → Reads begun before ts → Reads begun now (ts ++ (t ∷ []))
-  turn-reads nothing begun before now ts (Came bytes) rests is made =
-      ap (λ (b : Standing S). seat_between b) is.made ∙ turn-between ground.rules before.standing bytes nothing rests
+  turn-reads nothing begun before now ts (Came bytes passed) rests is made =
+      ap (λ (b : Standing S). seat_between b) is.made ∙ turn-between ground.rules before.standing bytes passed nothing rests
       ∙ ap (λ (x : Between S). after_read (event_rules ground.rules) x bytes) made
       ∙ sym (reads-more ground.rules (seat_between begun.standing) (turn_reads ts) bytes)
-      ∙ ap (λ (l : List (List ℕ)). after_reads (event_rules ground.rules) (seat_between begun.standing) l) (sym (reads-came ts bytes))
+      ∙ ap (λ (l : List (List ℕ)). after_reads (event_rules ground.rules) (seat_between begun.standing) l) (sym (reads-came ts bytes passed))
   turn-reads nothing begun before now ts (Done command answer) rests is made =
       absurd (some-none ground.rules command before.standing.state nothing is.wanted)
 
@@ -122,20 +124,22 @@ module _ {S C R G E H O : Type 0} (ground : Ground S C R G E H O) where
       is.1 (run-reads nothing begun p.before earlier none is.0)
 
   turn-given : (coming : H → Coming)
-      → ((h : H) (bytes : List ℕ) (h' : H) → ground.gives h read_room bytes h' → GivesRead read_room (coming h) (coming h') bytes)
+      → ((h : H) (bytes : List ℕ) (passed : Duration) (h' : H) → ground.gives h read_room bytes passed h'
+      → GivesRead read_room (coming h) (coming h') bytes)
       → (begun before now : Now S G H O) (ts : List (Turn C R)) (t : Turn C R) → IsTurn ground before t now
       → GivesReads (coming begun.ears) (coming before.ears) (turn_reads ts)
       → GivesReads (coming begun.ears) (coming now.ears) (turn_reads (ts ++ (t ∷ [])))
-  turn-given coming f begun before now ts (Came bytes) is given =
-      subst (λ (l : List (List ℕ)). GivesReads (coming begun.ears) (coming now.ears) l) (sym (reads-came ts bytes))
+  turn-given coming f begun before now ts (Came bytes passed) is given =
+      subst (λ (l : List (List ℕ)). GivesReads (coming begun.ears) (coming now.ears) l) (sym (reads-came ts bytes passed))
       (gives-more (coming begun.ears) (coming before.ears) (coming now.ears) (turn_reads ts) bytes given
-      (f before.ears bytes now.ears is.given.0))
+      (f before.ears bytes passed now.ears is.given.0))
   turn-given coming f begun before now ts (Done command answer) is given =
       subst (λ (l : List (List ℕ)). GivesReads (coming begun.ears) (coming now.ears) l) (sym (reads-done ts command answer))
       (subst (λ (x : H). GivesReads (coming begun.ears) (coming x) (turn_reads ts)) (sym is.given.1) given)
 
   pub run-given : (coming : H → Coming)
-      → ((h : H) (bytes : List ℕ) (h' : H) → ground.gives h read_room bytes h' → GivesRead read_room (coming h) (coming h') bytes)
+      → ((h : H) (bytes : List ℕ) (passed : Duration) (h' : H) → ground.gives h read_room bytes passed h'
+      → GivesRead read_room (coming h) (coming h') bytes)
       → (begun now : Now S G H O) (past : List (Past S C R G H O)) → HasRun ground begun past now
       → GivesReads (coming begun.ears) (coming now.ears) (turn_reads (turns_of ground past))
   run-given coming f begun now [] is = ap (λ (n : Now S G H O). coming n.ears) is

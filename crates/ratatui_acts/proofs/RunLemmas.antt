@@ -6,12 +6,10 @@ use Rattle.ratatui_acts.specs.Turns.{WasNothing, IsQuiet, first_told}
 use Rattle.ratatui_acts.specs.declared.told.Told.{Told}
 use Rattle.ratatui_acts.proofs.TakingLemmas.{Rests, taking-rests}
 use Rattle.ratatui_acts.proofs.TurnLemmas.{true-false}
-use Rattle.ratatui_acts.specs.Seats.{TurnsTo, StopsTurn}
-use Rattle.ratatui_acts.specs.declared.fault.Fault.{Fault}
-use Rattle.ratatui_acts.specs.declared.fault.Fault.TheVariants.{Read, Outside, Memory, Show, Endless}
-use Rattle.ratatui_acts.specs.Runs.{Now, Past, Ground, IsTurn, HasRun, Runs, FailsToShow, StopsNext, turns_of, IsAnswered, AreAnswered}
+use Rattle.ratatui_acts.specs.Seats.{TurnsTo}
+use Rattle.ratatui_acts.specs.Runs.{Now, Past, Ground, IsTurn, HasRun, Runs, turns_of, IsAnswered, AreAnswered}
 use Rattle.ratatui_acts.specs.Runs.{GaveNothing, GaveSomething, LastGaveNothing, RunsToEnd}
-use Rattle.ratatui_acts.specs.Runs.{AreSome, OnlyLastGaveNothing, BeforeRead, IsTimely, AreTimely}
+use Rattle.ratatui_acts.specs.Runs.{AreSome, OnlyLastGaveNothing, BeforeRead, AreTimely}
 use Rattle.ratatui_acts.specs.Steps.{ShowsTurn, ends_by}
 
 -- one turn more
@@ -57,12 +55,12 @@ module _ {S C R G E H O : Type 0} (ground : Ground S C R G E H O) where
     pub typed : has_ticks ≡ false → OnlyLastGaveNothing ground runs.past
 
   gave-nothing : (t : Turn C R) (earlier : Type 0) → WasNothing t → GaveNothing t earlier
-  gave-nothing (Came bytes) earlier is = is
+  gave-nothing (Came bytes passed) earlier is = is
   gave-nothing (Done command answer) earlier is = absurd is
 
   gave-before : (s : S) (t : Turn C R) (earlier : Type 0) → is_some (ground.rules.asked s) ≡ true → IsWanted ground.rules s t
       → earlier → GaveNothing t earlier
-  gave-before s (Came bytes) earlier asks wanted e =
+  gave-before s (Came bytes passed) earlier asks wanted e =
       absurd (true-false (sym asks ∙ ap (λ (o : Option C). is_some o) wanted))
   gave-before s (Done command answer) earlier asks wanted e = e
 
@@ -79,8 +77,8 @@ module _ {S C R G E H O : Type 0} (ground : Ground S C R G E H O) where
   ends-next has_ticks now after false true asks past t before again wanted nothing is = absurd (true-false (sym is))
 
   gave-something : (t : Turn C R) → (WasNothing t → ⊥) → GaveSomething t
-  gave-something (Came []) f = f refl
-  gave-something (Came (b ∷ bytes)) f = tt
+  gave-something (Came [] passed) f = f refl
+  gave-something (Came (b ∷ bytes) passed) f = tt
   gave-something (Done command answer) f = tt
 
   -- something came at each turn
@@ -95,9 +93,9 @@ module _ {S C R G E H O : Type 0} (ground : Ground S C R G E H O) where
   typed-next : (used : Bool) (s : S) (t : Turn C R) (some typed : Type 0)
       → (used ≡ true → is_some (ground.rules.asked s) ≡ true) → IsWanted ground.rules s t → (used ≡ false → some) → typed
       → BeforeRead t some typed
-  typed-next true s (Came bytes) some typed again wanted before is =
+  typed-next true s (Came bytes passed) some typed again wanted before is =
       absurd (true-false (sym (again refl) ∙ ap (λ (o : Option C). is_some o) wanted))
-  typed-next false s (Came bytes) some typed again wanted before is = before refl
+  typed-next false s (Came bytes passed) some typed again wanted before is = before refl
   typed-next used s (Done command answer) some typed again wanted before is = is
 
   pub runs-on-start : (has_ticks : Bool) (before : Now S G H O) (glass : G) → ground.shows glass before.standing.state
@@ -163,41 +161,6 @@ module _ {S C R G E H O : Type 0} (ground : Ground S C R G E H O) where
     came_is = refl;
   }
 
-  -- a turn that stopped, before its frame
-  pub stops-turn : (now : Now S G H O) (standing : Standing S) (h : H) (o : O) (fault : Fault E)
-      → StopsTurn ground.rules ground.gives ground.fails ground.answers now.standing now.ears now.outside standing h o fault
-      → StopsNext ground now (record { standing = standing; glass = now.glass; ears = h; outside = o }) fault
-  stops-turn now standing h o (Read error) stops = (
-    stops.0,
-    ap₂ (λ (x : Standing S) (y : O). record { standing = x; glass = now.glass; ears = h; outside = y }) stops.1 stops.2,
-  )
-  stops-turn now standing h o (Outside error) stops =
-      ap₂ (λ (x : Standing S) (y : H). record { standing = x; glass = now.glass; ears = y; outside = o }) stops.0 stops.1
-  stops-turn now standing h o Memory stops = record {
-    turn = stops.turn;
-    wanted = stops.wanted;
-    given = stops.given;
-    refused = stops.refused;
-    glass = refl;
-  }
-  stops-turn now standing h o (Show error) stops = absurd stops
-  stops-turn now standing h o Endless stops = absurd stops
-
-  -- a turn whose frame failed
-  pub lacks-frame : (now : Now S G H O) (told : Told) (standing : Standing S) (glass : G) (h : H) (o : O) (error : E)
-      → TurnsTo ground.rules ground.gives ground.fails ground.answers now.standing now.ears now.outside told standing h o
-      → ground.lacks told standing.state now.glass glass error
-      → FailsToShow ground now (record { standing = standing; glass = glass; ears = h; outside = o }) error
-  lacks-frame now told standing glass h o error turns lacks = record {
-    turn = turns.turn;
-    wanted = turns.wanted;
-    given = turns.given;
-    made = turns.made;
-    told = told;
-    tells = turns.tells;
-    lacks = lacks;
-  }
-
   -- a run makes what its turns make
   pub run-makes : (begun now : Now S G H O) (past : List (Past S C R G H O)) → HasRun ground begun past now
       → now.standing ≡ after_turns ground.rules begun.standing (turns_of ground past)
@@ -208,7 +171,7 @@ module _ {S C R G E H O : Type 0} (ground : Ground S C R G E H O) where
       ∙ sym (turns-append ground.rules begun.standing (turns_of ground earlier) p.turn)
 
   turn-rests : (b : Standing S) (t : Turn C R) → Rests ground.rules (after_turn ground.rules b t)
-  turn-rests b (Came bytes) = taking-rests ground.rules _ _ _
+  turn-rests b (Came bytes passed) = taking-rests ground.rules _ _ _
   turn-rests b (Done command answer) = taking-rests ground.rules _ _ _
 
   pub run-rests : (begun now : Now S G H O) (past : List (Past S C R G H O)) → begun.standing.left ≡ []
@@ -227,7 +190,7 @@ module _ {S C R G E H O : Type 0} (ground : Ground S C R G E H O) where
 
   turn-answered : (before after : Now S G H O) (t : Turn C R) → Rests ground.rules before.standing
       → IsTurn ground before t after → IsAnswered ground before.standing t
-  turn-answered before after (Came bytes) rests is =
+  turn-answered before after (Came bytes passed) rests is =
       nothing-left before.standing (no-wait before.standing.state is.goes_on is.wanted) rests
   turn-answered before after (Done command answer) rests is = tt
 

@@ -1,12 +1,12 @@
 -- Events that are told one after the other.
-use Rattle.std.proofs.Common.{◌≡◌, ℕ, ◌+◌, ◌≤◌, Bool, true, false, List, [], ◌∷◌, ◌++◌, length, refl, ap, sym, ◌∙◌, subst, ◌⊎◌, inl, inr, ◌||◌}
+use Rattle.std.proofs.Common.{◌≡◌, ℕ, ◌+◌, Bool, true, false, List, [], ◌∷◌, ◌++◌, length, refl, ap, sym, ◌∙◌, subst, ◌⊎◌, inl, inr, ◌||◌}
 use Rattle.std.proofs.Common.{append-nil, append_assoc, arith}
 use Rattle.ratatui_events.specs.declared.event.Event.{Event}
 use Rattle.ratatui_input.specs.declared.decoder.Decoder.{Decoder}
 use Rattle.ratatui_reads.specs.Reads.{all_updated}
 use Rattle.ratatui_acts.specs.declared.message.Message.TheVariants as message
 use Rattle.ratatui_acts.specs.Redraws.{is_redraw, has_redraw}
-use Rattle.ratatui_acts.specs.Turns.{Standing, ActingRules, waits, taking, all_told, TellsSome}
+use Rattle.ratatui_acts.specs.Turns.{Standing, ActingRules, waits, taking, all_told}
 
 -- a queue is told events
 pub queued : (q es : List Event)
@@ -56,9 +56,6 @@ module _ {S C R : Type 0} (rules : ActingRules S C R) where
     pub made : s' ≡ all_told rules s told
     pub is_anew : anew ≡ has_redraw told
 
-  pub left-all : (d : Decoder) (all : List Event) (s : S) → Left d all s d all s 0 false
-  left-all d all s = record { same = refl; count = omega arith; told = []; split = refl; made = refl; is_anew = refl }
-
   pub left-next : (d : Decoder) (all : List Event) (s : S) (d' : Decoder) (left : List Event) (s' : S) (done : ℕ) (anew : Bool)
       (e : Event) (es : List Event) (s'' : S) → waits rules s' ≡ false → left ≡ e ∷ es → s'' ≡ rules.updated s' (message.Event e)
       → Left d all s d' left s' done anew → Left d all s d' es s'' (done + 1) (anew || is_redraw e)
@@ -86,24 +83,6 @@ module _ {S C R : Type 0} (rules : ActingRules S C R) where
       (anew : Bool) → waits rules s' ≡ true → Left d all s d' left s' done anew
       → record { decoder = d'; left = left; state = s' } ≡ taking rules d all s
   left-waits d all s d' left s' done anew w h = sym (h.same ∙ taking-waits d' left s' w)
-
-  pub left-end : (d : Decoder) (all : List Event) (s : S) (d' : Decoder) (left : List Event) (s' : S) (done : ℕ)
-      (anew : Bool) → length all ≤ done → Left d all s d' left s' done anew
-      → record { decoder = d'; left = left; state = s' } ≡ taking rules d all s
-  left-end d all s d' [] s' done anew past h = sym h.same
-  left-end d all s d' (e ∷ es) s' done anew past h = absurd (omega (arith, past, h.count))
-
-  -- or where an event is refused
-  pub left-refused : (d : Decoder) (all : List Event) (s : S) (d' : Decoder) (left : List Event) (s' : S) (done : ℕ)
-      (anew : Bool) (e : Event) (es : List Event) (s'' : S) → left ≡ e ∷ es → s'' ≡ s'
-      → Left d all s d' left s' done anew → TellsSome rules all s s''
-  left-refused d all s d' left s' done anew e es s'' is kept h = record {
-    told = h.told;
-    next = e;
-    rest = es;
-    events_are = h.split ∙ ap (λ (l : List Event). h.told ++ l) is;
-    after_is = kept ∙ h.made;
-  }
 
   -- where a state waits, something may be left, and else nothing is
   abbrev pub Rests : Standing S → Type 0

@@ -1,5 +1,6 @@
 -- One turn: a read, or something that was done.
 use Rattle.std.proofs.Common.{rules, ◌≡◌, ℕ, true, false, List, Some, None, Result, Ok, Err, OnOk, IfOk, IfErr, refl}
+use Rattle.std.specs.declared.time.Duration.{Duration}
 use Rattle.ratatui_acts.specs.declared.message.Message.TheVariants as message
 use Rattle.ratatui_acts.specs.declared.told.Told.{Told}
 use Rattle.ratatui_acts.specs.Turns.{Came, Done, Standing, ActingRules, taking, Tells, RefusesTurn}
@@ -14,13 +15,13 @@ pub ok-then : {A E P Q : Type 0} (r : Result A E) → (P → Q) → OnOk r P →
 ok-then (Ok x) f p = f p
 ok-then (Err e) f p = tt
 
-module _ {S C R H O : Type 0} (u : ActingRules S C R) (gives : H → ℕ → List ℕ → H → Type 0) (fails : H → H → Type 0)
+module _ {S C R H O : Type 0} (u : ActingRules S C R) (gives : H → ℕ → List ℕ → Duration → H → Type 0) (fails : H → H → Type 0)
     (answers : O → C → R → O → Type 0) where
   pub heard-turn : {E : Type 0} (r : Result Told E) (before : Standing S) (h : H) (o : O) (after : Standing S) (h' : H) (o' : O)
       → u.asked before.state ≡ None → o' ≡ o → IfOk r (λ told. HearsTo u gives fails before h told after h')
       → IfOk r (λ told. TurnsTo u gives fails answers before h o told after h' o')
   heard-turn (Ok told) before h o after h' o' free stays heard = record {
-    turn = Came heard.bytes;
+    turn = Came heard.bytes heard.passed;
     wanted = free;
     given = (heard.given, stays);
     made = heard.made;
@@ -35,10 +36,10 @@ module _ {S C R H O : Type 0} (u : ActingRules S C R) (gives : H → ℕ → Lis
   heard-stops (Err (Read error)) before h o after h' o' free stays stops = (stops.0, stops.1, stays)
   heard-stops (Err (Outside error)) before h o after h' o' free stays stops = absurd stops
   heard-stops (Err Memory) before h o after h' o' free stays stops = record {
-    turn = Came stops.0;
+    turn = Came stops.0 stops.1;
     wanted = free;
-    given = (stops.1, stays);
-    refused = stops.2;
+    given = (stops.2, stays);
+    refused = stops.3;
   }
   heard-stops (Err (Show error)) before h o after h' o' free stays stops = absurd stops
   heard-stops (Err Endless) before h o after h' o' free stays stops = absurd stops

@@ -1,5 +1,6 @@
 pub mod Redraws
 pub mod Turns
+pub mod Hearing
 pub mod Seats
 pub mod Runs
 pub mod Steps

@@ -1,5 +1,6 @@
 -- Runs: what was heard and done, turn by turn, and what the glass showed then.
 use Rattle.std.specs.Prelude.{◌≡◌, ◌⊎◌, ℕ, Bool, true, false, List, [], ◌∷◌, ◌++◌, None}
+use Rattle.std.specs.declared.time.Duration.{Duration}
 use Rattle.ratatui_acts.specs.declared.fault.Fault.{Fault}
 use Rattle.ratatui_acts.specs.declared.fault.Fault.TheVariants.{Read, Outside, Memory, Show, Endless}
 use Rattle.ratatui_acts.specs.declared.told.Told.{Told}
@@ -27,22 +28,22 @@ pub record Ground (S C R G E H O : Type 0) : Type 1 where
   pub shows : G → S → Type 0
   pub moves : Told → G → G → Type 0
   pub lacks : Told → S → G → G → E → Type 0
-  pub gives : H → ℕ → List ℕ → H → Type 0
+  pub gives : H → ℕ → List ℕ → Duration → H → Type 0
   pub fails : H → H → Type 0
   pub answers : O → C → R → O → Type 0
 
 -- a turn was a read that gave nothing, or, if it was no read, this is so
 abbrev pub GaveNothing : {C R : Type 0} → Turn C R → Type 0 → Type 0
-GaveNothing (Came bytes) earlier = bytes ≡ []
+GaveNothing (Came bytes passed) earlier = bytes ≡ []
 GaveNothing (Done command answer) earlier = earlier
 
 abbrev pub GaveSomething : {C R : Type 0} → Turn C R → Type 0
-GaveSomething (Came bytes) = IsNonEmpty bytes
+GaveSomething (Came bytes passed) = IsNonEmpty bytes
 GaveSomething (Done command answer) = Unit {0}
 
 -- at a read one thing is so, and else another
 abbrev pub BeforeRead : {C R : Type 0} → Turn C R → Type 0 → Type 0 → Type 0
-BeforeRead (Came bytes) here other = here
+BeforeRead (Came bytes passed) here other = here
 BeforeRead (Done command answer) here other = other
 
 module _ {S C R G E H O : Type 0} (ground : Ground S C R G E H O) where
@@ -76,7 +77,7 @@ module _ {S C R G E H O : Type 0} (ground : Ground S C R G E H O) where
 
   -- at a read nothing was left that had been read before and not been told
   abbrev pub IsAnswered : Standing S → Turn C R → Type 0
-  IsAnswered before (Came bytes) = before.left ≡ []
+  IsAnswered before (Came bytes passed) = before.left ≡ []
   IsAnswered before (Done command answer) = Unit {0}
 
   abbrev pub AreAnswered : List (Past S C R G H O) → Type 0

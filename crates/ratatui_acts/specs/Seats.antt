@@ -1,5 +1,6 @@
 -- A state in its seat, and one turn.
 use Rattle.std.specs.Prelude.{◌≡◌, ℕ, List}
+use Rattle.std.specs.declared.time.Duration.{Duration}
 use Rattle.ratatui_reads.specs.Sources.{read_room}
 use Rattle.ratatui_acts.specs.declared.seat.Seat.{Seat}
 use Rattle.ratatui_acts.specs.declared.told.Told.{Told}
@@ -12,7 +13,7 @@ use Rattle.ratatui_acts.specs.Turns.{RefusesTurn, Tells}
 abbrev pub seated : {S : Type 0} → Seat S → Standing S
 seated seat = record { decoder = seat.decoder; left = seat.left; state = seat.state }
 
-module _ {S C R H O : Type 0} (rules : ActingRules S C R) (gives : H → ℕ → List ℕ → H → Type 0)
+module _ {S C R H O : Type 0} (rules : ActingRules S C R) (gives : H → ℕ → List ℕ → Duration → H → Type 0)
     (fails : H → H → Type 0) (answers : O → C → R → O → Type 0) where
   -- one turn, the one that the state wanted
   pub record TurnsTo (before : Standing S) (h : H) (o : O) (told : Told) (after : Standing S) (h' : H)
@@ -40,20 +41,22 @@ module _ {S C R H O : Type 0} (rules : ActingRules S C R) (gives : H → ℕ →
   StopsTurn before h o after h' o' (Show error) = ⊥
   StopsTurn before h o after h' o' Endless = ⊥
 
-module _ {S C R H : Type 0} (rules : ActingRules S C R) (gives : H → ℕ → List ℕ → H → Type 0)
+module _ {S C R H : Type 0} (rules : ActingRules S C R) (gives : H → ℕ → List ℕ → Duration → H → Type 0)
     (fails : H → H → Type 0) where
   -- a read, and what it told
   pub record HearsTo (before : Standing S) (h : H) (told : Told) (after : Standing S) (h' : H) : Type 0 where
     pub bytes : List ℕ
-    pub given : gives h read_room bytes h'
-    pub made : after ≡ after_turn rules before (Came bytes)
-    pub tells : Tells rules before (Came bytes) told after
+    pub passed : Duration
+    pub given : gives h read_room bytes passed h'
+    pub made : after ≡ after_turn rules before (Came bytes passed)
+    pub tells : Tells rules before (Came bytes passed) told after
 
   -- where it stops: it failed, and nothing was told; or memory was refused for what it gave
   abbrev pub StopsHearing : {E : Type 0} → Standing S → H → Standing S → H → Fault E → Type 0
   StopsHearing before h after h' (Read error) = fails h h' × (after ≡ before)
   StopsHearing before h after h' (Outside error) = ⊥
   StopsHearing before h after h' Memory =
-      (bytes : List ℕ) × gives h read_room bytes h' × RefusesTurn rules before (Came bytes) after.state
+      (bytes : List ℕ) × (passed : Duration) × gives h read_room bytes passed h'
+      × RefusesTurn rules before (Came bytes passed) after.state
   StopsHearing before h after h' (Show error) = ⊥
   StopsHearing before h after h' Endless = ⊥

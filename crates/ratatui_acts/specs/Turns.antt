@@ -1,6 +1,7 @@
 -- What turns make of a state: a turn is a read, or something that was done.
 use Rattle.std.specs.Prelude.{◌≡◌, ◌||◌, ◌⊎◌, ℕ, Bool, true, false, is_some, if◌then◌else◌}
 use Rattle.std.specs.Prelude.{List, [], ◌∷◌, ◌++◌, Option, Some, None}
+use Rattle.std.specs.declared.time.Duration.{Duration}
 use Rattle.ratatui_events.specs.declared.event.Event.{Event}
 use Rattle.ratatui_input.specs.declared.decoder.Decoder.{Decoder}
 use Rattle.ratatui_input.specs.Decoding as decoding
@@ -10,10 +11,10 @@ use Rattle.ratatui_acts.specs.declared.told.Told.{Told}
 use Rattle.ratatui_acts.specs.declared.acts.Acts.{Ghosts}
 use Rattle.ratatui_acts.specs.Redraws.{has_redraw}
 
--- what happened between two looks at the glass: a read gave bytes, none where nothing came; or a command was
--- done, and this was its answer
+-- what happened between two looks at the glass: a read gave bytes, none if nothing came, and so much time had
+-- gone since the last one that gave none; or a command was done, and this was its answer
 pub data Turn (C R : Type 0) : Type 0 where
-  Came : List ℕ → Turn C R
+  Came : List ℕ → Duration → Turn C R
   Done : C → R → Turn C R
 
 -- a state, the decoder, and the events that were read and that the state has not been told yet
@@ -39,16 +40,16 @@ module _ {S C R : Type 0} (rules : ActingRules S C R) where
       else taking d es (rules.updated s (message.Event e))
 
   -- a read that gives nothing is a tick
-  abbrev pub ticked : List ℕ → S → S
-  ticked [] s = rules.updated s message.Tick
-  ticked (b ∷ bytes) s = s
+  abbrev pub ticked : List ℕ → Duration → S → S
+  ticked [] passed s = rules.updated s (message.Tick passed)
+  ticked (b ∷ bytes) passed s = s
 
-  abbrev pub after_messages : decoding.Told → List ℕ → Standing S → Standing S
-  after_messages told bytes b = taking told.1 (b.left ++ told.0) (ticked bytes b.state)
+  abbrev pub after_messages : decoding.Told → List ℕ → Duration → Standing S → Standing S
+  after_messages told bytes passed b = taking told.1 (b.left ++ told.0) (ticked bytes passed b.state)
 
   -- what a turn makes of all
   abbrev pub after_turn : Standing S → Turn C R → Standing S
-  after_turn b (Came bytes) = after_messages (told_by b.decoder bytes) bytes b
+  after_turn b (Came bytes passed) = after_messages (told_by b.decoder bytes) bytes passed b
   after_turn b (Done command answer) = taking b.decoder b.left (rules.updated b.state (message.Answer answer))
 
   abbrev pub after_turns : Standing S → List (Turn C R) → Standing S
@@ -57,16 +58,16 @@ module _ {S C R : Type 0} (rules : ActingRules S C R) where
 
   -- a turn is the one that the state wants: what it asks for is done, and if it asks for nothing, it is read
   abbrev pub IsWanted : S → Turn C R → Type 0
-  IsWanted s (Came bytes) = rules.asked s ≡ None
+  IsWanted s (Came bytes passed) = rules.asked s ≡ None
   IsWanted s (Done command answer) = rules.asked s ≡ Some command
 
   -- the events that wait at a turn to be told, and the state that they are told to
   abbrev pub queued : Standing S → Turn C R → List Event
-  queued b (Came bytes) = b.left ++ (told_by b.decoder bytes).0
+  queued b (Came bytes passed) = b.left ++ (told_by b.decoder bytes).0
   queued b (Done command answer) = b.left
 
   abbrev pub state_begun : Standing S → Turn C R → S
-  state_begun b (Came bytes) = ticked bytes b.state
+  state_begun b (Came bytes passed) = ticked bytes passed b.state
   state_begun b (Done command answer) = rules.updated b.state (message.Answer answer)
 
   -- a state that is told all of these events
@@ -89,12 +90,12 @@ module _ {S C R : Type 0} (rules : ActingRules S C R) where
 
 -- the last size that a turn tells
 abbrev pub turn_size : {S C R : Type 0} → Standing S → Turn C R → Option (ℕ × ℕ)
-turn_size b (Came bytes) = size_told b.decoder bytes
+turn_size b (Came bytes passed) = size_told b.decoder bytes
 turn_size b (Done command answer) = None
 
 -- the turn was a read that gave nothing
 abbrev pub WasNothing : {C R : Type 0} → Turn C R → Type 0
-WasNothing (Came bytes) = bytes ≡ []
+WasNothing (Came bytes passed) = bytes ≡ []
 WasNothing (Done command answer) = ⊥
 
 -- what is told of a turn to the glass: the last size; whether something came; whether one of the events that
@@ -120,9 +121,9 @@ pub record IsQuiet (told : Told) : Type 0 where
   pub size : told.size ≡ None
   pub kept : told.anew ≡ false
 
-module _ {C R H O : Type 0} (gives : H → ℕ → List ℕ → H → Type 0) (answers : O → C → R → O → Type 0) where
-  -- what is outside made a turn: what gives reads gave these bytes, or what does commands did this one, with
+module _ {C R H O : Type 0} (gives : H → ℕ → List ℕ → Duration → H → Type 0) (answers : O → C → R → O → Type 0) where
+  -- what is outside made a turn: what gives reads gave these bytes and this time, or what does commands did this one, with
   -- this answer; the other one stayed
   abbrev pub GivesTurn : H → O → Turn C R → H → O → Type 0
-  GivesTurn h o (Came bytes) h' o' = gives h read_room bytes h' × (o' ≡ o)
+  GivesTurn h o (Came bytes passed) h' o' = gives h read_room bytes passed h' × (o' ≡ o)
   GivesTurn h o (Done command answer) h' o' = answers o command answer o' × (h' ≡ h)

@@ -1,16 +1,22 @@
 //! Laws of runs.
 
-ghost use Rattle.std.specs.Prelude.{◌≡◌, [], List};
+ghost use Rattle.std.specs.Prelude.{◌≡◌, ◌+◌, [], List};
 ghost use Rattle.ratatui_acts.specs.Turns.{after_turns};
 ghost use Rattle.ratatui_reads.specs.Reads.{after_reads};
-ghost use Rattle.ratatui_reads.specs.Sources.{GivesRead, GivesReads, StaysKnown, MayFail};
+ghost use Rattle.ratatui_reads.specs.Sources.{GivesReads};
+ghost use Rattle.ratatui_acts.specs.Hearing.{GivesUntimed, FailsToGive};
 ghost use Rattle.ratatui_acts.specs.Reading.{AsksNothing, seat_between, event_rules, turn_reads};
 ghost use Rattle.ratatui_acts.specs.Runs.{Now, Past, HasRun, AreAnswered, AreTimely, turns_of};
+
+ghost use Rattle.ratatui_acts.specs.declared.clocked.Clocked.{Clocked as ClockedSource};
+ghost use Rattle.ratatui_acts.specs.Hearing.{GivesTimed, time_told};
+ghost use Rattle.std.specs.Time.{instant_nanos};
 
 use crate::acts::Acts;
 use crate::glass::Glass;
 use crate::outside::{Hears, Outside};
 use ratatui_reads::Source;
+use std::rt::Clock;
 
 /// Where a run stands now, the state is what its turns make of the first one, one after the other:
 /// what was read, and what was answered. What was read and waits is in the seat.
@@ -140,8 +146,8 @@ pub fn the_reads_are_what_a_source_gave<A: Acts, G: Glass<A>, S: Source, O: Outs
           shows = G.shows;
           moves = G.moves;
           lacks = G.lacks;
-          gives = λ s room bytes t. GivesRead room (S.coming s) (S.coming t) bytes;
-          fails = λ s t. StaysKnown (S.coming s) (S.coming t) × MayFail (S.coming s);
+          gives = GivesUntimed S.coming;
+          fails = FailsToGive S.coming;
           answers = O.answers;
         }) begun past now
         → GivesReads (S.coming begun.ears) (S.coming now.ears) (turn_reads (turns_of (record {
@@ -149,8 +155,40 @@ pub fn the_reads_are_what_a_source_gave<A: Acts, G: Glass<A>, S: Source, O: Outs
           shows = G.shows;
           moves = G.moves;
           lacks = G.lacks;
-          gives = λ s room bytes t. GivesRead room (S.coming s) (S.coming t) bytes;
-          fails = λ s t. StaysKnown (S.coming s) (S.coming t) × MayFail (S.coming s);
+          gives = GivesUntimed S.coming;
+          fails = FailsToGive S.coming;
           answers = O.answers;
         }) past)) }
+{}
+
+/// The times that the ticks of a run tell add up to what the clock has gone on from the beginning
+/// to the last tick.
+pub fn ticks_tell_the_time_of_the_clock<
+    'a,
+    A: Acts,
+    G: Glass<A>,
+    S: Source + Drop,
+    C: Clock,
+    O: Outside<A, G>,
+>()
+    ensures { (begun now : Now A G (ClockedSource S C) O)
+        (past : List (Past A A.Command A.Answer G (ClockedSource S C) O))
+        → HasRun (record {
+          rules = A.Acts;
+          shows = G.shows;
+          moves = G.moves;
+          lacks = G.lacks;
+          gives = GivesTimed (λ c. S.coming c.source) (λ c. instant_nanos c.last);
+          fails = FailsToGive (λ c. S.coming c.source);
+          answers = O.answers;
+        }) begun past now
+        → instant_nanos now.ears.last ≡ instant_nanos begun.ears.last + time_told (turns_of (record {
+          rules = A.Acts;
+          shows = G.shows;
+          moves = G.moves;
+          lacks = G.lacks;
+          gives = GivesTimed (λ c. S.coming c.source) (λ c. instant_nanos c.last);
+          fails = FailsToGive (λ c. S.coming c.source);
+          answers = O.answers;
+        }) past) }
 {}

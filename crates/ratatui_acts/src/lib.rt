@@ -2,6 +2,7 @@
 #![tactic(auto)]
 
 mod acts;
+mod clocked;
 mod fault;
 mod glass;
 pub mod laws;
@@ -14,11 +15,12 @@ mod seat;
 mod told;
 
 pub use acts::Acts;
+pub use clocked::Clocked;
 pub use fault::Fault;
 pub use glass::Glass;
 pub use message::Message;
 pub use nothing::{Never, Nothing};
-pub use outside::{Hears, Outside};
+pub use outside::{Heard, Hears, Outside};
 pub use running::run;
 pub use seat::Seat;
 pub use told::Told;

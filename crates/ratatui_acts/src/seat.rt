@@ -21,6 +21,7 @@ use crate::told::{Told, is_anew};
 use ratatui_input::Decoder;
 use std::alloc::{AllocError, Global};
 use std::io;
+use std::time::Duration;
 
 /// A state, and what was read for it and not told yet. Nothing else can tell it anything.
 #[derive(Drop)]
@@ -90,14 +91,14 @@ impl<A: Acts> Seat<A> {
     }
 
     // Tells it a tick, if nothing came.
-    fn tick(&mut self, bytes: &[u8]) -> Result<bool, AllocError>
-        ensures ok { OnOk result
-            (self.new ≡ record self.old { state = ticked A.Acts bytes.now self.old.state }) }
+    fn tick(&mut self, bytes: &[u8], passed: Duration) -> Result<bool, AllocError>
+        ensures ok { OnOk result (self.new
+            ≡ record self.old { state = ticked A.Acts bytes.now passed self.old.state }) }
         ensures same { IfOk result (λ is. is ≡ false → self.new.state ≡ self.old.state) }
         ensures refused { OnErr result (self.new ≡ self.old) }
     {
         if bytes.is_empty() {
-            self.tell(Message::Tick, false)
+            self.tell(Message::Tick(passed), false)
         } else {
             Ok(false)
         }
@@ -134,19 +135,19 @@ impl<A: Acts> Seat<A> {
     }
 
     // Tells it what a read gave.
-    fn came(&mut self, bytes: &[u8]) -> Result<Told, AllocError>
+    fn came(&mut self, bytes: &[u8], passed: Duration) -> Result<Told, AllocError>
         ensures ok { OnOk result
-            (seated self.new ≡ after_turn A.Acts (seated self.old) (Came bytes.now)) }
+            (seated self.new ≡ after_turn A.Acts (seated self.old) (Came bytes.now passed)) }
         ensures tells { IfOk result (λ told.
-            Tells A.Acts (seated self.old) (Came bytes.now) told (seated self.new)) }
+            Tells A.Acts (seated self.old) (Came bytes.now passed) told (seated self.new)) }
         ensures refused { OnErr result
-            (RefusesTurn A.Acts (seated self.old) (Came bytes.now) self.new.state) }
+            (RefusesTurn A.Acts (seated self.old) (Came bytes.now passed) self.new.state) }
     {
         let taken = match self.left.add(bytes, &mut self.decoder) {
             Ok(taken) => taken,
             Err(error) => return Err(error),
         };
-        let ticked = match self.tick(bytes) {
+        let ticked = match self.tick(bytes, passed) {
             Ok(ticked) => ticked,
             Err(error) => return Err(error),
         };
@@ -205,11 +206,11 @@ impl<A: Acts> Seat<A> {
             (seated self.old) ears.old (seated self.new) ears.new) }
     {
         let mut buf = [0u8; 1024];
-        let count = match ears.hear(glass, &self.state, &mut buf) {
-            Ok(count) => count,
+        let heard = match ears.hear(glass, &self.state, &mut buf) {
+            Ok(heard) => heard,
             Err(error) => return Err(Fault::Read(error)),
         };
-        match self.came(&buf[..count]) {
+        match self.came(&buf[..heard.count], heard.passed) {
             Ok(told) => Ok(told),
             Err(_) => Err(Fault::Memory),
         }

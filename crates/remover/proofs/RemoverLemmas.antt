@@ -1,4 +1,5 @@
 -- What is asked for is what is shown.
+use Rattle.std.specs.declared.time.Duration.{Duration}
 use Rattle.std.proofs.Common.{rules, ◌≡◌, ℕ, Bool, List, [], ◌∷◌, Option, Some, None, ap, subst}
 use Rattle.std.specs.Prelude.{unwrap_or}
 use Rattle.ratatui_acts.specs.Turns.{Turn, Came, Done}
@@ -33,14 +34,14 @@ pub asked-on-glass : {W : Type 0} (s : Remover) (name : List ℕ) (t : TerminalD
 asked-on-glass s name t shows is =
     subst (λ (text : List ℕ). StandsOnGlass (PaintsFirstRow text) no_cursor t) (asked-line s name is) shows
 
-module _ {W H O : Type 0} (gives : H → ℕ → List ℕ → H → Type 0) (fails : H → H → Type 0)
+module _ {W H O : Type 0} (gives : H → ℕ → List ℕ → Duration → H → Type 0) (fails : H → H → Type 0)
     (answers : O → List ℕ → Bool → O → Type 0) where
   abbrev at_glass : Ground Remover (List ℕ) Bool (OnGlass W) (TerminalError AnsiError) H O
   at_glass = on_terminal gives fails answers
 
   turn-named : (before after : Now Remover (OnGlass W) H O) (turn : Turn (List ℕ) Bool)
       → IsTurn at_glass before turn after → NamesWhatIsRemoved before.glass turn
-  turn-named before after (Came bytes) is = tt
+  turn-named before after (Came bytes passed) is = tt
   turn-named before after (Done name is_removed) is =
       asked-on-glass before.standing.state name before.glass.terminal is.shown is.wanted
 

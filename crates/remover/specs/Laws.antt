@@ -1,7 +1,9 @@
 -- What is known of each removal of a run.
 use Rattle.std.specs.Prelude.{◌≡◌, ℕ, Bool, false, List, [], ◌∷◌}
 use Rattle.ratatui_input.specs.Encodings.{fresh_decoder}
-use Rattle.ratatui_reads.specs.Sources.{Coming, GivesRead, StaysKnown, MayFail}
+use Rattle.std.specs.declared.time.Duration.{Duration}
+use Rattle.ratatui_reads.specs.Sources.{Coming}
+use Rattle.ratatui_acts.specs.Hearing.{GivesUntimed, FailsToGive}
 use Rattle.ratatui_acts.specs.Turns.{Turn, Came, Done, ActingRules, Standing}
 use Rattle.ratatui_acts.specs.Runs.{Past, Ground, RunsToEnd}
 use Rattle.ratatui_core.specs.Terminal.{TerminalError}
@@ -20,12 +22,12 @@ removing = record { updated = after_message; asked = asked_by; is_over = λ s. e
 -- a turn at a glass: if it was a removal, each terminal that had read what was sent until then showed the
 -- question that names what was removed
 abbrev pub NamesWhatIsRemoved : {W : Type 0} → OnGlass W → Turn (List ℕ) Bool → Type 0
-NamesWhatIsRemoved glass (Came bytes) = Unit {0}
+NamesWhatIsRemoved glass (Came bytes passed) = Unit {0}
 NamesWhatIsRemoved glass (Done name is_removed) = StandsOnGlass (PaintsFirstRow (question name)) no_cursor glass.terminal
 
 module _ {W H O : Type 0} where
   -- what a run of them stands on, on a terminal that is sent bytes
-  abbrev pub on_terminal : (H → ℕ → List ℕ → H → Type 0) → (H → H → Type 0) → (O → List ℕ → Bool → O → Type 0)
+  abbrev pub on_terminal : (H → ℕ → List ℕ → Duration → H → Type 0) → (H → H → Type 0) → (O → List ℕ → Bool → O → Type 0)
       → Ground Remover (List ℕ) Bool (OnGlass W) (TerminalError AnsiError) H O
   on_terminal = on_glass removing (λ s. PaintsFirstRow (line_shown s)) (λ _. no_cursor)
 
@@ -33,13 +35,6 @@ module _ {W H O : Type 0} where
   abbrev pub AreNamed : List (Past Remover (List ℕ) Bool (OnGlass W) H O) → Type 0
   AreNamed [] = Unit {0}
   AreNamed (p ∷ earlier) = NamesWhatIsRemoved p.before.glass p.turn × AreNamed earlier
-
--- what a source gives, and how it fails
-abbrev pub heard : {H : Type 0} → (H → Coming) → H → ℕ → List ℕ → H → Type 0
-heard coming s room bytes t = GivesRead room (coming s) (coming t) bytes
-
-abbrev pub unheard : {H : Type 0} → (H → Coming) → H → H → Type 0
-unheard coming s t = StaysKnown (coming s) (coming t) × MayFail (coming s)
 
 -- a folder's next answer
 abbrev pub gave_answer : Folder → List ℕ → Bool → Folder → Type 0
@@ -50,7 +45,7 @@ pub record RemovesFromBlank {W H : Type 0} (coming : H → Coming) (first : Remo
     (ears' : H) (folder' : Folder) (glass : OnGlass W) : Type 0 where
   pub begun : OnGlass W
   pub after : Standing Remover
-  pub runs : RunsToEnd (on_terminal (heard coming) (unheard coming) gave_answer) false (record {
+  pub runs : RunsToEnd (on_terminal (GivesUntimed coming) (FailsToGive coming) gave_answer) false (record {
     standing = record { decoder = fresh_decoder; left = []; state = first };
     glass = begun;
     ears = ears;

@@ -47,7 +47,7 @@ without_name s =
 
 abbrev pub after_message : Remover → Message Bool → Remover
 after_message s (message.Event event) = remover_by_event event s
-after_message s message.Tick = s
+after_message s (message.Tick passed) = s
 after_message s (message.Answer true) = without_name s
 after_message s (message.Answer false) = record s { phase = Looking }
 

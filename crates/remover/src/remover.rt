@@ -161,7 +161,7 @@ impl Acts for Remover {
     {
         match message {
             Message::Event(event) => self.take_event(event),
-            Message::Tick => return Ok(false),
+            Message::Tick(_) => return Ok(false),
             Message::Answer(true) => self.drop_name(),
             Message::Answer(false) => self.phase = Phase::Looking,
         }
