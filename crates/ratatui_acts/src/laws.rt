@@ -7,7 +7,6 @@ ghost use Rattle.ratatui_reads.specs.Sources.{GivesReads};
 ghost use Rattle.ratatui_acts.specs.Hearing.{GivesUntimed, FailsToGive};
 ghost use Rattle.ratatui_acts.specs.Reading.{AsksNothing, seat_between, event_rules, turn_reads};
 ghost use Rattle.ratatui_acts.specs.Runs.{Now, Past, HasRun, AreAnswered, AreTimely, turns_of};
-
 ghost use Rattle.ratatui_acts.specs.declared.clocked.Clocked.{Clocked as ClockedSource};
 ghost use Rattle.ratatui_acts.specs.Hearing.{GivesTimed, time_told};
 ghost use Rattle.std.specs.Time.{instant_nanos};
