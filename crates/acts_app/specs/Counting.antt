@@ -1,8 +1,7 @@
 -- A number that keys change, and how it is painted.
-use Rattle.std.specs.Prelude.{◌≡◌, ℕ, ◌+◌, ◌-◌, ◌==◌, min, true, if◌then◌else◌}
+use Rattle.std.specs.Prelude.{ℕ, ◌+◌, ◌-◌, ◌==◌, min, true, if◌then◌else◌}
 use Rattle.std.specs.Fmt.{decimal}
 use Rattle.ratatui_core.specs.{Layout.Rect, Buffer.BufferData}
-use Rattle.ratatui_core.specs.{Widgets.HasFirstRow, Widgets.RendersStr}
 use Rattle.ratatui_events.specs.declared.event.Event.{Event}
 use Rattle.ratatui_events.specs.declared.event.Event.TheVariants.{Key}
 use Rattle.ratatui_events.specs.declared.key.KeyCode.{KeyCode}
@@ -10,6 +9,7 @@ use Rattle.ratatui_events.specs.declared.key.KeyCode.TheVariants.{Char}
 use Rattle.ratatui_acts.specs.declared.message.Message.{Message}
 use Rattle.ratatui_acts.specs.declared.message.Message.TheVariants as message
 use Rattle.acts_app.specs.declared.counter.Counter.{Counter}
+use Rattle.acts_app.specs.Lines.{PaintsLine}
 
 -- + and - change the number, and q ends
 abbrev pub counter_by_character : ℕ → Counter → Counter
@@ -31,7 +31,6 @@ counter_after c (message.Event event) = counter_by_event event c
 counter_after c (message.Tick passed) = c
 counter_after c (message.Answer answer) = c
 
--- the number in the first row of the area, if the buffer has that row
-pub record PaintsCounter (c : Counter) (area : Rect) (old new : BufferData) : Type 0 where
-  pub painted : HasFirstRow area old → RendersStr (decimal c.count) area old new
-  pub kept : (HasFirstRow area old → ⊥) → new ≡ old
+-- the number is painted
+abbrev pub PaintsCounter : Counter → Rect → BufferData → BufferData → Type 0
+PaintsCounter c = PaintsLine (decimal c.count)

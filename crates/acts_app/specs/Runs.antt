@@ -1,6 +1,6 @@
 -- Runs of an application on a terminal that is sent bytes.
 use Rattle.std.specs.declared.time.Duration.{Duration}
-use Rattle.std.specs.Prelude.{◌≡◌, ℕ, Bool, true, false, List, Option}
+use Rattle.std.specs.Prelude.{◌≡◌, ℕ, Bool, true, List, Option}
 use Rattle.ratatui_core.specs.{Layout.Rect, Layout.Position, Buffer.BufferData}
 use Rattle.ratatui_core.specs.Terminal.{TerminalData, TerminalError, Viewport}
 use Rattle.ratatui_ansi.specs.Backend.{BackendState}

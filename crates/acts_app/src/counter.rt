@@ -4,12 +4,11 @@ ghost use Rattle.std.specs.Prelude.{◌≡◌, false, None, OnOk, OnErr, IfOk};
 ghost use Rattle.acts_app.specs.Counting.{counter_after, counter_by_event, counter_by_character};
 
 use crate::application::Application;
+use crate::line::paint_line;
 use itoa::Buffer as Digits;
 use ratatui_acts::{Acts, Message, Never};
 use ratatui_core::buffer::Buffer;
 use ratatui_core::layout::{Position, Rect};
-use ratatui_core::widgets::Widget;
-use ratatui_core::widgets::laws::ascii_texts_take_no_memory;
 use ratatui_events::{Event, KeyCode};
 use std::alloc::AllocError;
 
@@ -85,25 +84,21 @@ impl Acts for Counter {
 impl Application for Counter {
     ghost use Rattle.acts_app.specs.Counting.{PaintsCounter};
     ghost use Rattle.acts_app.specs.Glass.{no_cursor};
-    ghost use Rattle.acts_app.specs.CountLemmas.{counter-settled};
+    ghost use Rattle.std.specs.Fmt.{decimal};
+    ghost use Rattle.acts_app.specs.LineLemmas.{line-settled};
 
     ghost paints = { PaintsCounter };
 
     ghost cursor = { λ _. no_cursor };
 
     fn paint(&self, area: Rect, buf: &mut Buffer) -> Result<(), AllocError> {
-        ascii_texts_take_no_memory();
-        let own = *buf.area();
-        if area.x < own.x || area.y < own.y || own.bottom() <= area.y {
-            return Ok(());
-        }
         let mut digits = Digits::new();
-        digits.format(self.count).render(area, buf)
+        paint_line(digits.format(self.count), area, buf)
     }
 
     fn cursor(&self, _area: Rect) -> Option<Position> {
         None
     }
 
-    ghost is_settled = { counter-settled };
+    ghost is_settled = { λ c. line-settled (decimal c.count) };
 }

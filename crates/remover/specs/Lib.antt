@@ -1,3 +1,2 @@
 pub mod Removing
-pub mod TextLemmas
 pub mod Laws

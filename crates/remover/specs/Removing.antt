@@ -1,7 +1,6 @@
 -- Names of files, of which the one that is selected can be removed, after a question.
-use Rattle.std.specs.Prelude.{◌≡◌, ◌<◌, ℕ, ◌+◌, ◌-◌, ◌==◌, ◌++◌, min, nat_lt, Bool, true, false, if◌then◌else◌}
+use Rattle.std.specs.Prelude.{ℕ, ◌+◌, ◌-◌, ◌==◌, ◌++◌, min, nat_lt, Bool, true, false, if◌then◌else◌}
 use Rattle.std.specs.Prelude.{List, [], length, remove, slice_get, codes, Option, None, unwrap_or}
-use Rattle.ratatui_core.specs.{Layout.Rect, Buffer.BufferData, Widgets.HasFirstRow, Widgets.RendersStr}
 use Rattle.ratatui_events.specs.declared.event.Event.{Event}
 use Rattle.ratatui_events.specs.declared.event.Event.TheVariants.{Key}
 use Rattle.ratatui_events.specs.declared.key.KeyCode.{KeyCode}
@@ -75,8 +74,3 @@ shown_in Over name = []
 
 abbrev pub line_shown : Remover → List ℕ
 line_shown s = shown_in s.phase (unwrap_or (selected_name s) [])
-
--- a text in the first row of the area, if the area has rows, and the buffer has that one
-pub record PaintsFirstRow (text : List ℕ) (area : Rect) (old new : BufferData) : Type 0 where
-  pub painted : 0 < area.height → HasFirstRow area old → RendersStr text area old new
-  pub kept : (0 < area.height → HasFirstRow area old → ⊥) → new ≡ old

@@ -8,11 +8,10 @@ ghost use Rattle.remover.specs.Removing.{asked_by, ends_in, line_shown, shown_in
 ghost use Rattle.remover.specs.Removing.{selected_name};
 
 use crate::name::{Name, Names};
-use acts_app::Application;
+use acts_app::{Application, paint_line};
 use ratatui_acts::{Acts, Message};
 use ratatui_core::buffer::Buffer;
 use ratatui_core::layout::{Position, Rect};
-use ratatui_core::widgets::Widget;
 use ratatui_events::{Event, KeyCode};
 use std::alloc::{AllocError, Global};
 
@@ -181,24 +180,18 @@ impl Acts for Remover {
 }
 
 impl Application for Remover {
-    ghost use Rattle.remover.specs.Removing.{PaintsFirstRow, line_shown};
-    ghost use Rattle.remover.specs.TextLemmas.{line-settled};
+    ghost use Rattle.remover.specs.Removing.{line_shown};
+    ghost use Rattle.acts_app.specs.Lines.{PaintsLine};
+    ghost use Rattle.acts_app.specs.LineLemmas.{line-settled};
     ghost use Rattle.acts_app.specs.Glass.{no_cursor};
 
-    ghost paints = { λ s. PaintsFirstRow (line_shown s) };
+    ghost paints = { λ s. PaintsLine (line_shown s) };
 
     ghost cursor = { λ _. no_cursor };
 
     fn paint(&self, area: Rect, buf: &mut Buffer) -> Result<(), AllocError> {
-        if area.height == 0 {
-            return Ok(());
-        }
-        let own = *buf.area();
-        if area.x < own.x || area.y < own.y || own.bottom() <= area.y {
-            return Ok(());
-        }
         let text = self.line()?;
-        text.as_str().render(area, buf)
+        paint_line(text.as_str(), area, buf)
     }
 
     fn cursor(&self, _area: Rect) -> Option<Position> {

@@ -23,7 +23,7 @@ returns-in-Ok-run g c =
       outside = record {};
       outside' = c.run.new.outside;
       runs = ran;
-      counted = c.reads_decide_where_nothing_is_asked_for.ensures (record { asks = λ s. refl; ticks = λ s. refl }) _ _
+      counted = c.reads_decide_where_nothing_is_asked_for.ensures (record { asks = λ s. refl; ticks = λ s passed. refl }) _ _
           ran.runs.past refl ran.runs.has_run;
       given = c.the_reads_are_what_a_source_gave.ensures _ _ ran.runs.past ran.runs.has_run;
     }

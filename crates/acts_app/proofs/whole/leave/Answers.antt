@@ -1,4 +1,4 @@
-use Rattle.std.proofs.Common.{◌≡◌, false, sym, ap, ◌∙◌, subst, IfOk}
+use Rattle.std.proofs.Common.{ap, ◌∙◌, subst, IfOk}
 use Rattle.ratatui_ansi.specs.Backend.{BackendState}
 use Rattle.ratatui_app.specs.Glass.{IsGivenBack}
 use Rattle.acts_app.proofs.WholeLemmas.{given-back}
