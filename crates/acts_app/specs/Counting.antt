@@ -9,7 +9,7 @@ use Rattle.ratatui_events.specs.declared.key.KeyCode.TheVariants.{Char}
 use Rattle.ratatui_acts.specs.declared.message.Message.{Message}
 use Rattle.ratatui_acts.specs.declared.message.Message.TheVariants as message
 use Rattle.acts_app.specs.declared.counter.Counter.{Counter}
-use Rattle.acts_app.specs.Lines.{PaintsLine}
+use Rattle.acts_app.specs.Lines.{PaintsFirstLine}
 
 -- + and - change the number, and q ends
 abbrev pub counter_by_character : ℕ → Counter → Counter
@@ -33,4 +33,4 @@ counter_after c (message.Answer answer) = c
 
 -- the number is painted
 abbrev pub PaintsCounter : Counter → Rect → BufferData → BufferData → Type 0
-PaintsCounter c = PaintsLine (decimal c.count)
+PaintsCounter c = PaintsFirstLine (decimal c.count)

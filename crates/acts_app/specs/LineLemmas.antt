@@ -4,12 +4,12 @@ use Rattle.ratatui_core.specs.{Layout.Rect, Layout.EdgesFit, Buffer.BufferData, 
 use Rattle.ratatui_core.specs.{Buffer.IsSettledBuffer}
 use Rattle.ratatui_core.proofs.{BufferLemmas.IsSettledBuffer-empty}
 use Rattle.ratatui_core.proofs.WidgetLemmas.{has-first-row, text-settled}
-use Rattle.acts_app.specs.Lines.{PaintsLine}
+use Rattle.acts_app.specs.Lines.{PaintsFirstLine}
 
 -- by whether the area has rows
 by-height : (height : ℕ) (text : List ℕ) (blank painted : BufferData) → painted.area.height ≡ height
     → IsEmptied painted.area blank
-    → PaintsLine text painted.area blank painted → IsSettledBuffer painted
+    → PaintsFirstLine text painted.area blank painted → IsSettledBuffer painted
 by-height zero text blank painted is empty paints =
     let same : painted ≡ blank = paints.kept (λ some first. omega (arith, is, some)) in
     subst (λ (s : BufferData). IsSettledBuffer s) (sym same) (IsSettledBuffer-empty painted.area blank empty)
@@ -21,6 +21,6 @@ by-height (suc k) text blank painted is empty paints =
     (omega (arith, left)) (paints.painted (omega (arith, is)) first)
 
 pub line-settled : (text : List ℕ) (blank painted : BufferData) → EdgesFit painted.area
-    → IsEmptied painted.area blank → PaintsLine text painted.area blank painted → IsSettledBuffer painted
+    → IsEmptied painted.area blank → PaintsFirstLine text painted.area blank painted → IsSettledBuffer painted
 line-settled text blank painted edges empty paints =
     by-height painted.area.height text blank painted refl empty paints

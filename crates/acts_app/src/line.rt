@@ -2,7 +2,7 @@
 
 ghost use Rattle.std.specs.Prelude.{◌≡◌, OnOk, OnErr};
 ghost use Rattle.ratatui_core.specs.Widgets.{ChangesWithin};
-ghost use Rattle.acts_app.specs.Lines.{PaintsLine};
+ghost use Rattle.acts_app.specs.Lines.{PaintsFirstLine};
 
 use ratatui_core::buffer::Buffer;
 use ratatui_core::layout::Rect;
@@ -11,7 +11,7 @@ use std::alloc::AllocError;
 
 /// Paints a text in the first row of an area, as far as the row goes. An area without rows, or
 /// whose first row isn't in the buffer, changes nothing. An application that is shown as a line
-/// paints so: the clause of `paint` is `PaintsLine`, and `line-settled` says that a screen can
+/// paints so: the clause of `paint` is `PaintsFirstLine`, and `line-settled` says that a screen can
 /// show it.
 ///
 /// # Errors
@@ -20,7 +20,7 @@ use std::alloc::AllocError;
 /// area has changed.
 pub fn paint_line(text: &str, area: Rect, buf: &mut Buffer) -> Result<(), AllocError>
     ensures area { buf.new.area ≡ buf.old.area }
-    ensures ok { OnOk result (PaintsLine text.now area buf.old buf.new) }
+    ensures ok { OnOk result (PaintsFirstLine text.now area buf.old buf.new) }
     ensures err { OnErr result (ChangesWithin area buf.old buf.new) }
 {
     if area.height == 0 {

@@ -12,7 +12,7 @@ use Rattle.ratatui_ansi.specs.Backend.{BackendState}
 use Rattle.remover.specs.declared.remover.Phase.{Phase}
 use Rattle.remover.specs.declared.remover.Phase.TheVariants.{Looking, Asking, Removing, Over}
 use Rattle.remover.specs.declared.remover.Remover.{Remover}
-use Rattle.acts_app.specs.Lines.{PaintsLine}
+use Rattle.acts_app.specs.Lines.{PaintsFirstLine}
 use Rattle.remover.specs.Removing.{asked_in, asked_by, shown_in, line_shown, question, selected_name}
 use Rattle.acts_app.specs.Glass.{StandsOnGlass, no_cursor}
 
@@ -31,9 +31,9 @@ pub asked-line : (s : Remover) (name : List ℕ) → asked_by s ≡ Some name �
 asked-line s name is = by-phase s.phase s name is
 
 pub asked-on-glass : {W : Type 0} (s : Remover) (name : List ℕ) (t : TerminalData (BackendState W))
-    → StandsOnGlass (PaintsLine (line_shown s)) no_cursor t → asked_by s ≡ Some name → StandsOnGlass (PaintsLine (question name)) no_cursor t
+    → StandsOnGlass (PaintsFirstLine (line_shown s)) no_cursor t → asked_by s ≡ Some name → StandsOnGlass (PaintsFirstLine (question name)) no_cursor t
 asked-on-glass s name t shows is =
-    subst (λ (text : List ℕ). StandsOnGlass (PaintsLine text) no_cursor t) (asked-line s name is) shows
+    subst (λ (text : List ℕ). StandsOnGlass (PaintsFirstLine text) no_cursor t) (asked-line s name is) shows
 
 module _ {W H O : Type 0} (gives : H → ℕ → List ℕ → Duration → H → Type 0) (fails : H → H → Type 0)
     (answers : O → List ℕ → Bool → O → Type 0) where

@@ -13,7 +13,7 @@ use Rattle.remover.specs.declared.folder.Folder.{Folder}
 use Rattle.remover.specs.declared.remover.Remover.{Remover}
 use Rattle.acts_app.specs.declared.on_glass.OnGlass.{OnGlass}
 use Rattle.acts_app.specs.Glass.{StandsOnGlass, no_cursor}
-use Rattle.acts_app.specs.Lines.{PaintsLine}
+use Rattle.acts_app.specs.Lines.{PaintsFirstLine}
 use Rattle.remover.specs.Removing.{question, line_shown, after_message, asked_by, ends_in}
 
 -- the names that can be removed, as a state that acts
@@ -24,13 +24,13 @@ removing = record { updated = after_message; asked = asked_by; is_over = λ s. e
 -- question that names what was removed
 abbrev pub NamesWhatIsRemoved : {W : Type 0} → OnGlass W → Turn (List ℕ) Bool → Type 0
 NamesWhatIsRemoved glass (Came bytes passed) = Unit {0}
-NamesWhatIsRemoved glass (Done name is_removed) = StandsOnGlass (PaintsLine (question name)) no_cursor glass.terminal
+NamesWhatIsRemoved glass (Done name is_removed) = StandsOnGlass (PaintsFirstLine (question name)) no_cursor glass.terminal
 
 module _ {W H O : Type 0} where
   -- what a run of them stands on, on a terminal that is sent bytes
   abbrev pub on_terminal : (H → ℕ → List ℕ → Duration → H → Type 0) → (H → H → Type 0) → (O → List ℕ → Bool → O → Type 0)
       → Ground Remover (List ℕ) Bool (OnGlass W) (TerminalError AnsiError) H O
-  on_terminal = on_glass removing (λ s. PaintsLine (line_shown s)) (λ _. no_cursor)
+  on_terminal = on_glass removing (λ s. PaintsFirstLine (line_shown s)) (λ _. no_cursor)
 
   -- so it was at each turn
   abbrev pub AreNamed : List (Past Remover (List ℕ) Bool (OnGlass W) H O) → Type 0

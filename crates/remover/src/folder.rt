@@ -2,7 +2,7 @@
 
 ghost use Rattle.std.specs.Prelude.{◌≡◌, ◌∷◌, IfOk};
 ghost use Rattle.acts_app.specs.Glass.{StandsOnGlass, no_cursor};
-ghost use Rattle.acts_app.specs.Lines.{PaintsLine};
+ghost use Rattle.acts_app.specs.Lines.{PaintsFirstLine};
 ghost use Rattle.remover.specs.Removing.{question};
 
 use crate::name::Name;
@@ -29,7 +29,7 @@ impl<'a> Folder<'a> {
     // Removes a file of this name. Nobody can ask for that but where each terminal that has read
     // what was sent shows the question that names the file.
     fn remove<W: Write + Drop>(&mut self, _glass: &OnGlass<W>, _name: &Name) -> io::Result<bool>
-        requires on_glass { StandsOnGlass (PaintsLine (question _name.now)) no_cursor _glass.now.terminal }
+        requires on_glass { StandsOnGlass (PaintsFirstLine (question _name.now)) no_cursor _glass.now.terminal }
         ensures { IfOk result (λ is_removed.
             self.old.answers.now ≡ is_removed ∷ self.new.answers.now) }
     {

@@ -181,11 +181,11 @@ impl Acts for Remover {
 
 impl Application for Remover {
     ghost use Rattle.remover.specs.Removing.{line_shown};
-    ghost use Rattle.acts_app.specs.Lines.{PaintsLine};
+    ghost use Rattle.acts_app.specs.Lines.{PaintsFirstLine};
     ghost use Rattle.acts_app.specs.LineLemmas.{line-settled};
     ghost use Rattle.acts_app.specs.Glass.{no_cursor};
 
-    ghost paints = { λ s. PaintsLine (line_shown s) };
+    ghost paints = { λ s. PaintsFirstLine (line_shown s) };
 
     ghost cursor = { λ _. no_cursor };
 

@@ -1,7 +1,7 @@
 //! A folder of the system's files.
 
 ghost use Rattle.acts_app.specs.Glass.{StandsOnGlass, no_cursor};
-ghost use Rattle.acts_app.specs.Lines.{PaintsLine};
+ghost use Rattle.acts_app.specs.Lines.{PaintsFirstLine};
 ghost use Rattle.remover.specs.Removing.{question};
 
 use acts_app::OnGlass;
@@ -32,7 +32,7 @@ impl<'a> Disk<'a> {
     // Removes a file of this name. Nobody can ask for that but where each terminal that has read
     // what was sent shows the question that names the file. Answers whether it is gone.
     fn remove<W: Write + Drop>(&mut self, _glass: &OnGlass<W>, name: &Name) -> io::Result<bool>
-        requires { StandsOnGlass (PaintsLine (question name.now)) no_cursor _glass.now.terminal }
+        requires { StandsOnGlass (PaintsFirstLine (question name.now)) no_cursor _glass.now.terminal }
     {
         let mut path = String::from_str(self.alloc, self.folder)?;
         path.push('/')?;

@@ -97,10 +97,10 @@ impl Acts for Stopwatch {
 
 impl Application for Stopwatch {
     ghost use Rattle.acts_app.specs.Glass.{no_cursor};
-    ghost use Rattle.acts_app.specs.Lines.{PaintsLine};
+    ghost use Rattle.acts_app.specs.Lines.{PaintsFirstLine};
     ghost use Rattle.acts_app.specs.LineLemmas.{line-settled};
 
-    ghost paints = { λ w. PaintsLine (seconds w) };
+    ghost paints = { λ w. PaintsFirstLine (seconds w) };
 
     ghost cursor = { λ _. no_cursor };
 

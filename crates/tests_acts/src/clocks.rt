@@ -51,7 +51,16 @@ fn ticks_tell_the_time_since_the_last_tick(rt: HostRuntime) -> Result<(), Fail> 
     let mut buf = [0u8; 8];
     // a tick; two events, which look at no clock; a tick that has their time, too; a clock that
     // went back; one that went on from where it had been; and one that can't be read any more
-    for (count, millis) in [(0, 100), (1, 0), (1, 0), (0, 250), (0, 0), (0, 150), (0, 0), (1, 0)] {
+    for (count, millis) in [
+        (0, 100),
+        (1, 0),
+        (1, 0),
+        (0, 250),
+        (0, 0),
+        (0, 150),
+        (0, 0),
+        (1, 0),
+    ] {
         let passed = Duration::from_millis(millis);
         assert!(rt; ears.hear(&glass, &counter, &mut buf)? == Heard { count, passed });
     }

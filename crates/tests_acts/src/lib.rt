@@ -1,5 +1,5 @@
-//! Tests of applications that act: a counter over pieces, what its terminal is sent, and names that
-//! are removed.
+//! Tests of applications that act: a counter over pieces, what its terminal is sent, reads that a
+//! clock times, and names that are removed.
 #![tactic(auto)]
 
 #[cfg(test)]
