@@ -16,6 +16,7 @@ use Rattle.ratatui_input.specs.Keys.{typed_key, control_key, with_alt}
 use Rattle.ratatui_input.specs.Decoding.{stepped, first, begun, partial, after_escape, in_character, character_event, read}
 use Rattle.ratatui_input.specs.Decoding.{byte_told, decoded, told_event}
 use Rattle.ratatui_input.specs.Encodings.{fresh_decoder, Gives}
+use Rattle.ratatui_input.specs.Grammar.{OpensNothing}
 use Rattle.ratatui_input.proofs.EncodingLemmas.{first-typed}
 use Rattle.ratatui_input.proofs.StepLemmas.{at, Leads, leads-one, leads-cons, ends}
 
@@ -282,12 +283,26 @@ pub ground-begins : Begins Ground false
 unfolding stepped
 ground-begins = record { begins = λ b h. refl }
 
-pub after-escape : (b : ℕ) → b ≢ 27 → b ≢ 91 → b ≢ 79 → stepped Escape b ≡ first b true
+pub after-escape : (b : ℕ) → b ≢ 27 → OpensNothing b → stepped Escape b ≡ first b true
 unfolding stepped after_escape
-after-escape b x y z = grind (arith, common_steps)
+after-escape b x h =
+    let bracket = h.0 in let single = h.1 in let dcs = h.2 in let sos = h.3 in let others = h.4 in
+    grind (arith, common_steps)
+
+-- what is below these or above them opens nothing
+pub opens-nothing : (b : ℕ) → (b < 79) ⊎ (95 < b) → OpensNothing b
+opens-nothing b h = (
+  λ e. omega (arith, h, e),
+  λ e. omega (arith, h, e),
+  λ e. omega (arith, h, e),
+  λ e. omega (arith, h, e),
+  elim h [ inl low ↦ inl (omega (arith, low)) | inr high ↦ inr high ],
+)
 
 escape-begins : Begins Escape true
-escape-begins = record { begins = λ b h. after-escape b (λ e. omega (arith, e)) (λ e. omega (arith, e)) (λ e. omega (arith, e)) }
+escape-begins = record {
+  begins = λ b h. after-escape b (λ e. omega (arith, e, h)) (opens-nothing b (inr (omega (arith, h))));
+}
 
 pub ground-first : (b : ℕ) → stepped Ground b ≡ first b false
 unfolding stepped
@@ -306,10 +321,10 @@ character-gives c scalar plain = record {
       ∙ key-told (typed_key c) false;
 }
 
-pub alt-character-gives : (c : ℕ) → IsScalar c → is_control c ≡ false → c ≢ 91 → c ≢ 79
+pub alt-character-gives : (c : ℕ) → IsScalar c → is_control c ≡ false → OpensNothing c
     → Gives (27 ∷ encode c) (with_alt (typed_key c) true ∷ [])
-alt-character-gives c scalar plain x y = record {
-  all = escape-reached (encode c) ∙ character-read false Escape true c escape-begins (after-escape c (no-escape c plain) x y)
+alt-character-gives c scalar plain x = record {
+  all = escape-reached (encode c) ∙ character-read false Escape true c escape-begins (after-escape c (no-escape c plain) x)
       scalar plain
       ∙ key-told (typed_key c) true;
 }
@@ -329,6 +344,7 @@ pub alt-control-gives : (b : ℕ) → (b < 32) ⊎ (b ≡ 127) → b ≢ 27 → 
 alt-control-gives b low other = record {
   all = escape-reached (b ∷ [])
       ∙ ends false Escape b (with_alt (control_key b) true)
-      (after-escape b other (λ e. omega (arith, low, e)) (λ e. omega (arith, low, e)) ∙ first-control b true low other)
+      (after-escape b other (opens-nothing b (elim low [ inl l ↦ inl (omega (arith, l)) | inr e ↦ inr (omega (arith, e)) ]))
+      ∙ first-control b true low other)
       ∙ key-told (control_key b) true;
 }

@@ -15,7 +15,7 @@ use Rattle.ratatui_events.specs.declared.key.KeyEventKind.TheVariants.{Press}
 use Rattle.ratatui_input.specs.declared.decoder.Partial.{Partial}
 use Rattle.ratatui_input.specs.declared.decoder.State.{State}
 use Rattle.ratatui_input.specs.declared.decoder.State.TheVariants.{Ground, Escape, Single, Bracket, Function, Numbers, Click}
-use Rattle.ratatui_input.specs.declared.decoder.State.TheVariants.{ClickButton, ClickColumn, Character}
+use Rattle.ratatui_input.specs.declared.decoder.State.TheVariants.{ClickButton, ClickColumn, Character, Opened, Text, TextEscape}
 use Rattle.ratatui_input.specs.declared.decoder.Next.{Next}
 use Rattle.ratatui_input.specs.declared.decoder.Next.TheVariants.{Whole, More, Apart}
 use Rattle.ratatui_input.specs.declared.sequence.Sequence.{Sequence}
@@ -26,16 +26,17 @@ use Rattle.ratatui_input.specs.Mouse.{mouse_event}
 use Rattle.ratatui_input.specs.Encodings.{value_after}
 use Rattle.ratatui_input.specs.Grammar.{WritesNumber, value_from, csi, key_told, mouse_told}
 use Rattle.ratatui_input.specs.Grammar.{character, control, alt_character, alt_control, by_single, single_enter, by_console}
-use Rattle.ratatui_input.specs.Grammar.{by_bytes}
+use Rattle.ratatui_input.specs.Grammar.{by_bytes, IsOpener, OpensNothing, AreText}
 use Rattle.ratatui_input.specs.Sequences.{pushed, digit_pushed, from_mouse, sequence_event, source_event, letter_event}
 use Rattle.ratatui_input.specs.Sequences.{single_event}
 use Rattle.ratatui_input.specs.Decoding.{stepped, first, begun, beginning, after_escape, after_bracket, in_sequence, going_on}
 use Rattle.ratatui_input.specs.Decoding.{after_single, after_function, in_character, character_event, scalar_event, after_click}
-use Rattle.ratatui_input.specs.Decoding.{cut, lies_in}
+use Rattle.ratatui_input.specs.Decoding.{cut, lies_in, opens_string, may_be_in_string, after_opened, in_text, after_text}
 use Rattle.ratatui_input.specs.Pieces.{KeepsNumber}
-use Rattle.ratatui_input.proofs.CharacterLemmas.{encode-one, encode-two, encode-three, encode-four}
+use Rattle.ratatui_input.proofs.CharacterLemmas.{encode-one, encode-two, encode-three, encode-four, opens-nothing}
 use Rattle.ratatui_input.proofs.StandLemmas.{Stands, if-stands, same, differ, lies, not-below, grammar_stands, escape_stands}
-use Rattle.ratatui_input.proofs.StandLemmas.{bracket_stands, single_stands, not_known}
+use Rattle.ratatui_input.proofs.StandLemmas.{bracket_stands, single_stands, not_known, opener_stands}
+use Rattle.ratatui_input.proofs.StringLemmas.{opener-asked, opener-not, text-asked, text-snoc, IsJoined}
 use Rattle.ratatui_input.proofs.CodeLemmas.{letter-of, scalar-is}
 use Rattle.ratatui_input.proofs.NumberLemmas.{keeps-digit, keeps-none, Come, come-numbers, come-source, come-digit, with_colon}
 use Rattle.ratatui_input.proofs.NumberLemmas.{with_semicolon, come-colon, come-semicolon, field_comes, come_one}
@@ -138,6 +139,11 @@ pub data HasCome : State → List ℕ → Type 0 where
   click_comes : HasCome Click (27 ∷ 91 ∷ 77 ∷ [])
   button_comes : (n : ℕ) → 32 ≤ n → n < 256 → HasCome (ClickButton n) (27 ∷ 91 ∷ 77 ∷ n ∷ [])
   column_comes : (n x : ℕ) → 32 ≤ n → n < 256 → 32 ≤ x → x < 256 → HasCome (ClickColumn n x) (27 ∷ 91 ∷ 77 ∷ n ∷ x ∷ [])
+  opened_comes : {opener : ℕ} → IsOpener opener → HasCome (Opened opener) (27 ∷ opener ∷ [])
+  text_comes : {opener : ℕ} (t : ℕ) (ts : List ℕ) → IsOpener opener → AreText (t ∷ ts)
+      → HasCome (Text (opener == 93) 0) (27 ∷ opener ∷ t ∷ ts)
+  text_escape_comes : {opener : ℕ} (t : ℕ) (ts : List ℕ) → IsOpener opener → AreText (t ∷ ts)
+      → HasCome TextEscape (27 ∷ opener ∷ t ∷ (ts ++ (27 ∷ [])))
   character_comes : {alt : Bool} {p : Partial} {bytes : List ℕ} → CharacterComes alt p bytes
       → HasCome (Character p) (after_alt alt bytes)
 
@@ -163,14 +169,14 @@ control-stands true b low other = grammar_stands (alt_control b low other)
 low-scalar : (c : ℕ) → c < 128 → IsScalar c
 low-scalar c h = grind (arith, nat_tests)
 
-typed-stands : (alt : Bool) (b : ℕ) → 32 ≤ b → b ≤ 126 → (alt ≡ true → (b ≢ 91) × (b ≢ 79))
+typed-stands : (alt : Bool) (b : ℕ) → 32 ≤ b → b ≤ 126 → (alt ≡ true → OpensNothing b)
     → Stands (after_alt alt (b ∷ [])) (with_alt (typed_key b) alt)
 typed-stands false b low high other =
     subst (λ (x : List ℕ). Stands x (with_alt (typed_key b) false)) (encode-one b (omega arith))
     (grammar_stands (character b (low-scalar b (omega arith)) (printed-plain b low high)))
 typed-stands true b low high other =
     subst (λ (x : List ℕ). Stands (27 ∷ x) (with_alt (typed_key b) true)) (encode-one b (omega arith))
-    (grammar_stands (alt_character b (low-scalar b (omega arith)) (printed-plain b low high) (other refl).0 (other refl).1))
+    (grammar_stands (alt_character b (low-scalar b (omega arith)) (printed-plain b low high) (other refl)))
 
 -- the first byte of a character
 abbrev IsBegun : Bool → ℕ → Option Partial → Type 0
@@ -240,14 +246,14 @@ at-escape : (alt : Bool) (b : ℕ) → b ≡ 27 → (alt ≡ true → b ≢ 27) 
 at-escape false b e other = subst (λ (x : ℕ). HasCome Escape (x ∷ [])) (sym e) escape_comes
 at-escape true b e other = absurd (other refl e)
 
-any-first : (alt : Bool) (b : ℕ) → (alt ≡ true → (b ≢ 27) × (b ≢ 91) × (b ≢ 79)) → Follows (first b alt) (after_alt alt (b ∷ []))
+any-first : (alt : Bool) (b : ℕ) → (alt ≡ true → (b ≢ 27) × OpensNothing b) → Follows (first b alt) (after_alt alt (b ∷ []))
 unfolding first
 any-first alt b other =
     if-follows (after_alt alt (b ∷ [])) (b == 27) _ _ (λ e. at-escape alt b (same b 27 e) (λ a. (other a).0))
     (λ n1. if-follows (after_alt alt (b ∷ [])) (nat_le b 31 || (b == 127)) _ _ (λ e. control-stands alt b (control-asked b e)
     (differ b 27 n1))
     (λ n2. if-follows (after_alt alt (b ∷ [])) (lies_in 32 126 b) _ _ (λ e. let f = lies 32 126 b e in
-    typed-stands alt b f.0 f.1 (λ a. ((other a).1, (other a).2)))
+    typed-stands alt b f.0 f.1 (λ a. (other a).1))
     (λ n3. beginning-follows alt b (begun b alt) (begun-comes alt b))))
 
 pub first-follows : (b : ℕ) → Follows (first b false) (b ∷ [])
@@ -261,7 +267,9 @@ escape-follows b =
     (sym (same b 91 e)) bracket_comes)
     (λ n2. if-follows (27 ∷ b ∷ []) (b == 79) _ _ (λ e. subst (λ (x : ℕ). HasCome (Single 0) (27 ∷ x ∷ [])) (sym (same b 79 e))
     (single_comes keeps-none))
-    (λ n3. any-first true b (λ a. (differ b 27 n1, differ b 91 n2, differ b 79 n3)))))
+    (λ n3. if-follows (27 ∷ b ∷ []) (opens_string b) _ _ (λ e. opened_comes (opener-asked b e))
+    (λ n4. any-first true b (λ a. let other = opener-not b n4 in
+    (differ b 27 n1, (differ b 91 n2, differ b 79 n3, other.0, other.1, other.2)))))))
 
 -- a number that is kept whole
 kept-least : (ds : List ℕ) (n : ℕ) → value_after (min n (2 ^ 32 - 1)) ds ≡ min (value_from n ds) (2 ^ 32 - 1)
@@ -361,7 +369,7 @@ plain-stands false c bytes high scalar_it is plain = subst (λ (x : List ℕ). S
     (grammar_stands (character c scalar_it plain))
 plain-stands true c bytes high scalar_it is plain =
     subst (λ (x : List ℕ). Stands (27 ∷ x) (with_alt (typed_key c) true)) is
-    (grammar_stands (alt_character c scalar_it plain (λ e. omega (arith, e)) (λ e. omega (arith, e))))
+    (grammar_stands (alt_character c scalar_it plain (opens-nothing c (inr (omega arith)))))
 
 scalar-answer : (alt : Bool) (c : ℕ) (bytes : List ℕ) (t : Bool) → 128 ≤ c → bytes ≢ []
     → (t ≡ true → IsScalar c × (encode c ≡ bytes))
@@ -480,6 +488,30 @@ after-snoc : (alt : Bool) (bytes : List ℕ) (b : ℕ) → after_alt alt (bytes 
 after-snoc true bytes b = refl
 after-snoc false bytes b = refl
 
+opened-follows : {opener : ℕ} (b : ℕ) → IsOpener opener → Follows (after_opened opener b) (27 ∷ opener ∷ b ∷ [])
+unfolding after_opened
+opened-follows {opener = opener} b o =
+    if-follows (27 ∷ opener ∷ b ∷ []) (may_be_in_string b) _ _ (λ e. text_comes b [] o (text-asked b e, tt)) (λ n. tt)
+
+string-some : (opener t : ℕ) (ts : List ℕ) → 27 ∷ opener ∷ t ∷ ts ≢ []
+string-some opener t ts e = cc
+
+text-follows : {opener : ℕ} (t : ℕ) (ts : List ℕ) (b : ℕ) → IsOpener opener → AreText (t ∷ ts)
+    → Follows (in_text (opener == 93) b) (27 ∷ opener ∷ t ∷ (ts ++ (b ∷ [])))
+unfolding in_text
+text-follows {opener = opener} t ts b o h =
+    let all = 27 ∷ opener ∷ t ∷ (ts ++ (b ∷ [])) in
+    if-follows all (may_be_in_string b) _ _ (λ e. text_comes t (ts ++ (b ∷ [])) o (h.0, text-snoc ts b h.1 (text-asked b e)))
+    (λ n1. if-follows all (b == 27) _ _
+    (λ e. subst (λ (x : ℕ). HasCome TextEscape (27 ∷ opener ∷ t ∷ (ts ++ (x ∷ [])))) (sym (same b 27 e))
+    (text_escape_comes t ts o h))
+    (λ n2. if-follows all ((b == 7) && (opener == 93)) _ _ (λ e. not_known (string-some opener t (ts ++ (b ∷ []))))
+    (λ n3. tt)))
+
+after_text-follows : (come : List ℕ) (b : ℕ) → come ≢ [] → Follows (after_text b) come
+unfolding after_text
+after_text-follows come b some = if-follows come (b == 92) _ _ (λ e. not_known some) (λ n. tt)
+
 pub follows : {s : State} {come : List ℕ} → HasCome s come → (b : ℕ) → b < 256 → Follows (stepped s b) (come ++ (b ∷ []))
 unfolding stepped
 follows nothing b small = first-follows b
@@ -494,14 +526,15 @@ follows (button_comes n n1 n2) b small =
 follows (column_comes n x n1 n2 x1 x2) b small =
     click-follows (27 ∷ 91 ∷ 77 ∷ n ∷ x ∷ b ∷ []) b (Whole (mouse_event (n - 32) (x - 32) (b - 32) false))
     (λ low. click-stands n x b n1 n2 x1 x2 low small)
+follows (opened_comes o) b small = opened-follows b o
+follows (text_comes t ts o h) b small = text-follows t ts b o h
+follows (text_escape_comes {opener = opener} t ts o h) b small =
+    after_text-follows (27 ∷ opener ∷ t ∷ ((ts ++ (27 ∷ [])) ++ (b ∷ []))) b
+    (string-some opener t ((ts ++ (27 ∷ [])) ++ (b ∷ [])))
 follows (character_comes {alt = alt} {p = p} {bytes = bytes} h) b small =
     subst (Follows (in_character p b)) (after-snoc alt bytes b) (character-follows b h)
 
 -- a byte with nothing before it is never apart from it
-abbrev pub IsJoined : Next → Type 0
-IsJoined Apart = ⊥
-IsJoined next = Unit {0}
-
 if-joined : (t : Bool) (x y : Next) → IsJoined x → IsJoined y → IsJoined (if t then x else y)
 if-joined true x y h k = h
 if-joined false x y h k = k
@@ -544,6 +577,9 @@ cut-stands (single_comes {n = n} {ds = ds} h) = (
 cut-stands bracket_comes = (bracket_stands, λ e. cc)
 cut-stands function_comes = unknown-cut (λ e. cc)
 cut-stands (numbers_come h) = unknown-cut (λ e. cc)
+cut-stands (opened_comes o) = (opener_stands o, λ e. cc)
+cut-stands (text_comes t ts o h) = unknown-cut (λ e. cc)
+cut-stands (text_escape_comes t ts o h) = unknown-cut (λ e. cc)
 cut-stands click_comes = unknown-cut (λ e. cc)
 cut-stands (button_comes n n1 n2) = unknown-cut (λ e. cc)
 cut-stands (column_comes n x n1 n2 x1 x2) = unknown-cut (λ e. cc)

@@ -28,7 +28,7 @@ use Rattle.ratatui_input.specs.Sequences.{pushed, digit_pushed, size_event, posi
 use Rattle.ratatui_input.specs.Sequences.{kind_of}
 use Rattle.ratatui_input.specs.Decoding.{Told, stepped, first, after_escape, after_bracket, in_sequence, after_single}
 use Rattle.ratatui_input.specs.Decoding.{after_function, after_click, cut, read, byte_told, decoded, some_list}
-use Rattle.ratatui_input.specs.Encodings.{fresh_decoder, Gives}
+use Rattle.ratatui_input.specs.Encodings.{fresh_decoder, Gives, IsNoText}
 use Rattle.ratatui_input.specs.KeyTables.{IsLetter, IsTilde, IsCode}
 use Rattle.ratatui_input.specs.Grammar.{Encodes, WritesNumber, Held, AreCodes, held_down, held_told, csi, two_numbers}
 use Rattle.ratatui_input.specs.Grammar.{three_numbers, key_told, letter_told, code_told, mouse_told}
@@ -511,7 +511,7 @@ position-read {row = row} {column = column} {ds = ds} {es = es} w h a v b =
 pub encodes-read : {bytes : List ℕ} {event : Event} → Encodes bytes event → Gives bytes (event ∷ [])
 encodes-read (character c scalar plain) = character-gives c scalar plain
 encodes-read (control b low other) = control-gives b low other
-encodes-read (alt_character c scalar plain x y) = alt-character-gives c scalar plain x y
+encodes-read (alt_character c scalar plain x) = alt-character-gives c scalar plain x
 encodes-read (alt_control b low other) = alt-control-gives b low other
 encodes-read (by_letter letter w small) = letter-read letter w small
 encodes-read (by_letter_held letter w h small) = letter-held-read letter w h small
@@ -545,11 +545,11 @@ encodes-among before bytes after events event h e =
     (gives-append before bytes events (event ∷ []) h (encodes-read e))
 
 -- after whatever has come of an event that isn't whole
-pub encodes-anyhow : (state : State) (bytes after : List ℕ) (event : Event) → Encodes (27 ∷ bytes) event
+pub encodes-anyhow : (state : State) (bytes after : List ℕ) (event : Event) → IsNoText state → Encodes (27 ∷ bytes) event
     → decoded (at false state) (27 ∷ (bytes ++ after)) ≡ (
       some_list (cut state) ++ (event ∷ (decoded fresh_decoder after).0),
       (decoded fresh_decoder after).1,
     )
-encodes-anyhow state bytes after event e =
-    anew-from-escape state (bytes ++ after)
+encodes-anyhow state bytes after event quiet e =
+    anew-from-escape state (bytes ++ after) quiet
     ∙ ap (λ (t : Told). (some_list (cut state) ++ t.0, t.1)) (gives-before (27 ∷ bytes) after (event ∷ []) (encodes-read e))

@@ -8,6 +8,7 @@ pub mod CharacterLemmas
 pub mod GrammarLemmas
 pub mod NothingLemmas
 pub mod StandLemmas
+pub mod StringLemmas
 pub mod CodeLemmas
 pub mod NumberLemmas
 pub mod SequenceLemmas

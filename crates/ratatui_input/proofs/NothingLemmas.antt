@@ -25,7 +25,7 @@ use Rattle.ratatui_input.specs.Encodings.{Gives}
 use Rattle.ratatui_input.specs.KeyTables.{IsLetter, IsTilde, IsCode}
 use Rattle.ratatui_input.specs.KeyTables.{letter_up, letter_down, letter_right, letter_left, letter_keypad_begin, letter_end}
 use Rattle.ratatui_input.specs.KeyTables.{letter_home, letter_f1, letter_f2, letter_f3, letter_f4, letter_back_tab}
-use Rattle.ratatui_input.specs.Grammar.{WritesNumber, csi, two_numbers, IsMark, AreNumbers, AreInside, StandsForNothing, stray}
+use Rattle.ratatui_input.specs.Grammar.{WritesNumber, csi, two_numbers, IsMark, AreNumbers, AreInside, StandsForNothing, stray, string}
 use Rattle.ratatui_input.specs.Grammar.{marked, held_by_letter, held_by_tilde, held_by_code, nameless, numberless, IsNameless}
 use Rattle.ratatui_input.specs.Grammar.{IsNoTilde}
 use Rattle.ratatui_input.proofs.TableLemmas.{none-above, seq, EndsSequence, letter-held, letter-ends, tilde-told, tilde-small}
@@ -33,6 +33,7 @@ use Rattle.ratatui_input.proofs.TableLemmas.{code-told, code-small}
 use Rattle.ratatui_input.proofs.StepLemmas.{csi-alone, Leads, leads-none, leads-cons, leads-append, IsPlain, ends-plain}
 use Rattle.ratatui_input.proofs.StepLemmas.{csi-gives, bracket-two}
 use Rattle.ratatui_input.proofs.GrammarLemmas.{code-first}
+use Rattle.ratatui_input.proofs.StringLemmas.{string-told}
 
 unknown-plain : IsPlain Unknown
 unfolding read
@@ -315,6 +316,7 @@ numberless-told {n = n} {ds = ds} h w small =
 
 pub nothing-told : {bytes : List ℕ} → StandsForNothing bytes → Gives bytes (Unknown ∷ [])
 nothing-told (stray b h) = stray-told b h
+nothing-told (string b text end o h e) = string-told b text end o h e
 nothing-told (marked before after mark last h m k low high) = marked-told before after mark last h m k low high
 nothing-told (held_by_letter letter w v many small) = letter-told letter w v many small
 nothing-told (held_by_tilde tilde w v many small) = tilde-nothing tilde w v many small

@@ -7,7 +7,6 @@ use Rattle.ratatui_input.specs.declared.sequence.Source.{Source}
 use Rattle.ratatui_input.specs.Encodings.{IsDigits, value_after}
 use Rattle.ratatui_input.specs.Grammar.{AreCodes, AreNumbers}
 use Rattle.ratatui_input.specs.Sequences.{with_digit, digit_pushed}
-use Rattle.ratatui_input.specs.Decoding.{first}
 use Rattle.ratatui_input.specs.Pieces.{KeepsNumber, Field, plain_field, field_with_codes, HeldField, held_field, held_with_kind}
 use Rattle.ratatui_input.specs.Pieces.{held_with_more, HasNumbers, has_one, has_two, has_three, has_more}
 use Rattle.ratatui_input.proofs.TableLemmas.{seq}

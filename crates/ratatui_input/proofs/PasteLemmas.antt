@@ -2,7 +2,7 @@
 use Rattle.std.proofs.Common.{◌≡◌, ◌⊎◌, inl, inr, ℕ, Bool, true, false, List, [], ◌∷◌, ◌++◌, Option, Some, None, refl, ap, sym}
 use Rattle.std.proofs.Common.{◌∙◌, subst, map}
 use lib.Utf8.{encode, encodes}
-use Rattle.std.specs.Prelude.{◌==◌, nat_le, ◌&&◌, if◌then◌else◌}
+use Rattle.std.specs.Prelude.{◌==◌, nat_lt, nat_le, ◌&&◌, if◌then◌else◌}
 use Rattle.std.specs.Char.Unicode.Uppercase.{is_uppercase}
 use Rattle.ratatui_events.specs.declared.event.Event.{Event}
 use Rattle.ratatui_events.specs.declared.event.Event.TheVariants.{FocusGained, FocusLost, Key, Mouse, PasteBegun, PasteEnded}
@@ -13,12 +13,13 @@ use Rattle.ratatui_events.specs.Key.{pressed, held}
 use Rattle.ratatui_input.specs.declared.decoder.Decoder.{Decoder}
 use Rattle.ratatui_input.specs.declared.decoder.State.{State}
 use Rattle.ratatui_input.specs.declared.decoder.State.TheVariants.{Ground, Escape, Single, Bracket, Function, Numbers, Click}
-use Rattle.ratatui_input.specs.declared.decoder.State.TheVariants.{ClickButton, ClickColumn, Character}
+use Rattle.ratatui_input.specs.declared.decoder.State.TheVariants.{ClickButton, ClickColumn, Character, Opened, Text, TextEscape}
 use Rattle.ratatui_input.specs.declared.decoder.Next.{Next}
 use Rattle.ratatui_input.specs.declared.decoder.Next.TheVariants.{Whole, More, Apart}
 use Rattle.ratatui_input.specs.Keys.{control_key, typed_key, with_alt}
 use Rattle.ratatui_input.specs.Sequences.{sequence_event, keys_event, tilde_event, pushed, digit_pushed}
 use Rattle.ratatui_input.specs.Decoding.{Told, stepped, first, after_escape, after_bracket, in_sequence, cut, read, fresh}
+use Rattle.ratatui_input.specs.Decoding.{begun_anew}
 use Rattle.ratatui_input.specs.Decoding.{after_cut, byte_told, fed_next, decoded, next_told, pasted_code, settled, told_event}
 use Rattle.ratatui_input.specs.Encodings.{fresh_decoder, in_brackets, IsNoKey, AreNoKeys, HaveEnd}
 use Rattle.ratatui_input.specs.Encodings.{IsTextCharacter, AreTextCharacters}
@@ -140,16 +141,19 @@ cut-keeps Click = refl
 cut-keeps (ClickButton b) = refl
 cut-keeps (ClickColumn b c) = refl
 cut-keeps (Character q) = refl
+cut-keeps (Opened o) = refl
+cut-keeps (Text o n) = refl
+cut-keeps TextEscape = refl
 
-after_cut-no_keys : (what : Option Event) (b : ℕ) → KeepsPaste what → AreNoKeys (after_cut what b true).0
-after_cut-no_keys None b h = fresh-no_keys (first b false)
-after_cut-no_keys (Some event) b h =
-    (read-no_key event, subst (λ (p : Bool). AreNoKeys (fresh (first b false) p).0) (sym h) (fresh-no_keys (first b false)))
+after_cut-no_keys : (what : Option Event) (next : Next) → KeepsPaste what → AreNoKeys (after_cut what next true).0
+after_cut-no_keys None next h = fresh-no_keys next
+after_cut-no_keys (Some event) next h =
+    (read-no_key event, subst (λ (p : Bool). AreNoKeys (fresh next p).0) (sym h) (fresh-no_keys next))
 
 next-no_keys : (next : Next) (state : State) (b : ℕ) → AreNoKeys (fed_next next state b true).0
 next-no_keys (Whole event) state b = (read-no_key event, tt)
 next-no_keys (More further) state b = tt
-next-no_keys Apart state b = after_cut-no_keys (cut state) b (cut-keeps state)
+next-no_keys Apart state b = after_cut-no_keys (cut state) (begun_anew state b) (cut-keeps state)
 
 pub fed-no_keys : (state : State) (b : ℕ) → AreNoKeys (byte_told (at true state) b).0
 unfolding byte_told
@@ -185,19 +189,19 @@ later : (event : Event) (events : List Event) → HaveEnd events → HaveEnd (ev
 later PasteEnded events h = tt
 later event events h = h
 
-after_cut-goes_on : (what : Option Event) (b : ℕ) → KeepsPaste what → GoesOn (after_cut what b true)
-after_cut-goes_on None b h = fresh-goes_on (first b false)
-after_cut-goes_on (Some event) b h =
-    subst (λ (p : Bool). GoesOn (let told = fresh (first b false) p in ((read true event).0 ∷ told.0, told.1))) (sym h)
-    (elim (fresh-goes_on (first b false)) [
+after_cut-goes_on : (what : Option Event) (next : Next) → KeepsPaste what → GoesOn (after_cut what next true)
+after_cut-goes_on None next h = fresh-goes_on next
+after_cut-goes_on (Some event) next h =
+    subst (λ (p : Bool). GoesOn (let told = fresh next p in ((read true event).0 ∷ told.0, told.1))) (sym h)
+    (elim (fresh-goes_on next) [
       | inl k ↦ inl k
-      | inr k ↦ inr (later (read true event).0 (fresh (first b false) true).0 k)
+      | inr k ↦ inr (later (read true event).0 (fresh next true).0 k)
     ])
 
 next-goes_on : (next : Next) (state : State) (b : ℕ) → GoesOn (fed_next next state b true)
 next-goes_on (Whole event) state b = fresh-goes_on (Whole event)
 next-goes_on (More further) state b = inl refl
-next-goes_on Apart state b = after_cut-goes_on (cut state) b (cut-keeps state)
+next-goes_on Apart state b = after_cut-goes_on (cut state) (begun_anew state b) (cut-keeps state)
 
 pub fed-goes_on : (state : State) (b : ℕ) → GoesOn (byte_told (at true state) b)
 unfolding byte_told
@@ -209,6 +213,10 @@ single-no_keys : (b : Bool) (d : Decoder)
     → AreNoKeys (let t : Told = if b then told_event (with_alt (typed_key 79) true) Ground true else ([], d) in t).0
 single-no_keys true d = (read-no_key (with_alt (typed_key 79) true), tt)
 single-no_keys false d = tt
+
+text-no_keys : (b : Bool) (x y : Told) → AreNoKeys x.0 → AreNoKeys y.0 → AreNoKeys (let t : Told = if b then x else y in t).0
+text-no_keys true x y h k = h
+text-no_keys false x y h k = k
 
 pub settled-no_keys : (state : State) → AreNoKeys (settled state (at true state)).0
 unfolding settled
@@ -222,3 +230,6 @@ settled-no_keys Click = tt
 settled-no_keys (ClickButton b) = tt
 settled-no_keys (ClickColumn b c) = tt
 settled-no_keys (Character q) = tt
+settled-no_keys (Opened o) = (read-no_key (with_alt (typed_key o) true), tt)
+settled-no_keys (Text o n) = text-no_keys (nat_lt n 9) _ _ tt (read-no_key Unknown, tt)
+settled-no_keys TextEscape = (read-no_key Unknown, tt)

@@ -16,7 +16,6 @@ use Rattle.ratatui_input.specs.Mouse.{mouse_kind, mouse_event, kind_told}
 use Rattle.ratatui_input.specs.Grammar.{csi, key_told, letter_told, code_told, mouse_told}
 use Rattle.ratatui_input.specs.Sequences.{kind_of, keys_event, pointer_event, letter_event, tilde_event, code_event, size_event}
 use Rattle.ratatui_input.specs.Sequences.{position_event, key_event, letter_code_event, code_key_event, number_key_event}
-use Rattle.ratatui_input.specs.Decoding.{first}
 use Rattle.ratatui_input.specs.Pieces.{HasNumbers, IsCodePoint}
 use Rattle.ratatui_input.specs.Pieces.{any_letter, any_tilde, any_code, any_other, any_begun, any_ended, any_size, any_position}
 use Rattle.ratatui_input.specs.Pieces.{any_plain_mouse, any_down, any_up, any_gained, any_lost}

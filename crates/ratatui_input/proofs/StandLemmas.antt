@@ -1,5 +1,5 @@
 -- Bytes that stand for an event, or for nothing that is known.
-use Rattle.std.proofs.Common.{◌≡◌, ◌≢◌, ◌⊎◌, ℕ, ◌-◌, ◌<◌, ◌≤◌, Bool, true, false, List, [], ◌∷◌, refl, arith}
+use Rattle.std.proofs.Common.{◌≡◌, ◌≢◌, ◌⊎◌, ℕ, ◌<◌, ◌≤◌, Bool, true, false, List, [], ◌∷◌, refl, arith}
 use Rattle.std.specs.Prelude.{nat_lt, if◌then◌else◌, ◌==◌}
 use Rattle.std.proofs.lemmas.Bool.Decides.{nat_tests}
 use Rattle.ratatui_events.specs.declared.event.Event.{Event}
@@ -7,7 +7,7 @@ use Rattle.ratatui_events.specs.declared.event.Event.TheVariants.{Key, Unknown}
 use Rattle.ratatui_events.specs.declared.key.KeyCode.TheVariants.{Esc}
 use Rattle.ratatui_events.specs.Key.{held, pressed}
 use Rattle.ratatui_input.specs.Keys.{typed_key, with_alt}
-use Rattle.ratatui_input.specs.Grammar.{WritesNumber, Encodes}
+use Rattle.ratatui_input.specs.Grammar.{WritesNumber, Encodes, IsOpener}
 use Rattle.ratatui_input.specs.Decoding.{lies_in}
 use Rattle.ratatui_input.specs.Pieces.{Tolerates}
 
@@ -17,6 +17,7 @@ pub data Stands : List ℕ → Event → Type 0 where
   numbers_stand : {bytes : List ℕ} {event : Event} → Tolerates bytes event → Stands bytes event
   escape_stands : Stands (27 ∷ []) (Key (pressed Esc (held 0)))
   bracket_stands : Stands (27 ∷ 91 ∷ []) (with_alt (typed_key 91) true)
+  opener_stands : {b : ℕ} → IsOpener b → Stands (27 ∷ b ∷ []) (with_alt (typed_key b) true)
   single_stands : {ds : List ℕ} → WritesNumber ds 0 → Stands (27 ∷ 79 ∷ ds) (with_alt (typed_key 79) true)
   not_known : {bytes : List ℕ} → bytes ≢ [] → Stands bytes Unknown
 

@@ -19,7 +19,7 @@ use Rattle.ratatui_input.proofs.ToleratedLemmas.{tolerated-read}
 encoded-known : {bytes : List ℕ} {event : Event} → Encodes bytes event → event ≢ Unknown
 encoded-known (character c scalar plain) is = cc
 encoded-known (control b low other) is = cc
-encoded-known (alt_character c scalar plain x y) is = cc
+encoded-known (alt_character c scalar plain x) is = cc
 encoded-known (alt_control b low other) is = cc
 encoded-known (by_letter letter w small) is = cc
 encoded-known (by_letter_held letter w h small) is = cc

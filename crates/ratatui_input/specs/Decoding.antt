@@ -18,7 +18,7 @@ use Rattle.ratatui_input.specs.declared.sequence.Sequence.{Sequence}
 use Rattle.ratatui_input.specs.declared.decoder.State.{State}
 use Rattle.ratatui_input.specs.declared.decoder.State.TheVariants.{Ground, Escape, Single, Bracket, Function}
 use Rattle.ratatui_input.specs.declared.decoder.State.TheVariants.{Numbers, Click, ClickButton, ClickColumn}
-use Rattle.ratatui_input.specs.declared.decoder.State.TheVariants.{Character}
+use Rattle.ratatui_input.specs.declared.decoder.State.TheVariants.{Character, Opened, Text, TextEscape}
 use Rattle.ratatui_input.specs.declared.decoder.Partial.{Partial}
 use Rattle.ratatui_input.specs.declared.decoder.Next.{Next}
 use Rattle.ratatui_input.specs.declared.decoder.Next.TheVariants.{Whole, More, Apart}
@@ -63,9 +63,17 @@ first b is_alt =
     else (if lies_in 32 126 b then Whole (with_alt (typed_key b) is_alt)
     else beginning (begun b is_alt) is_alt))
 
+-- whether a byte after ESC opens a string of the terminal: P, X, ], ^ and _ do
+abbrev pub opens_string : ℕ → Bool
+opens_string b = (b == 80) || ((b == 88) || lies_in 93 95 b)
+
 unfoldable pub after_escape : ℕ → Next
-after_escape b = if b == 27 then Apart else (if b == 91 then More Bracket else (if b == 79
-    then More (Single 0) else first b true))
+after_escape b =
+    if b == 27 then Apart
+    else (if b == 91 then More Bracket
+    else (if b == 79 then More (Single 0)
+    else (if opens_string b then More (Opened b)
+    else first b true)))
 
 abbrev pub going_on : Option Sequence → Next
 going_on (Some longer) = More (Numbers longer)
@@ -116,6 +124,24 @@ in_character p b =
 unfoldable pub after_click : ℕ → Next → Next
 after_click b next = if nat_lt b 32 then Apart else next
 
+-- whether a byte stands in a string: control characters don't
+abbrev pub may_be_in_string : ℕ → Bool
+may_be_in_string b = lies_in 32 126 b || nat_le 128 b
+
+-- a string of the terminal: what opens it, text, and its end, which is ESC \ or, after ESC ], also BEL
+unfoldable pub after_opened : ℕ → ℕ → Next
+after_opened opener b = if may_be_in_string b then More (Text (opener == 93) 0) else Apart
+
+unfoldable pub in_text : Bool → ℕ → Next
+in_text has_bell b =
+    if may_be_in_string b then More (Text has_bell 0)
+    else (if b == 27 then More TextEscape
+    else (if (b == 7) && has_bell then Whole Unknown
+    else Apart))
+
+unfoldable pub after_text : ℕ → Next
+after_text b = if b == 92 then Whole Unknown else Apart
+
 -- what a byte makes of what has come
 unfoldable pub stepped : State → ℕ → Next
 stepped Ground b = first b false
@@ -129,6 +155,19 @@ stepped (ClickButton button) b = after_click b (More (ClickColumn button b))
 stepped (ClickColumn button column) b =
     after_click b (Whole (mouse_event (button - 32) (column - 32) (b - 32) false))
 stepped (Character p) b = in_character p b
+stepped (Opened opener) b = after_opened opener b
+stepped (Text has_bell ticks) b = in_text has_bell b
+stepped TextEscape b = after_text b
+
+-- what a byte is that doesn't go on with what has come: with nothing before it; but after an ESC that ended a
+-- string, with that ESC, if it goes on with it
+abbrev pub unless_apart : Next → ℕ → Next
+unless_apart Apart b = first b false
+unless_apart next b = next
+
+unfoldable pub begun_anew : State → ℕ → Next
+begun_anew TextEscape b = unless_apart (after_escape b) b
+begun_anew state b = first b false
 
 -- what has come, where nothing goes on with it
 unfoldable pub cut : State → Option Event
@@ -136,6 +175,7 @@ cut Ground = None
 cut Escape = Some (Key (pressed Esc (held 0)))
 cut (Single number) = Some (if number == 0 then with_alt (typed_key 79) true else Unknown)
 cut Bracket = Some (with_alt (typed_key 91) true)
+cut (Opened opener) = Some (with_alt (typed_key opener) true)
 cut _ = Some Unknown
 
 -- the character that a key is in a paste
@@ -169,13 +209,13 @@ fresh (Whole event) is_pasting = told_event event Ground is_pasting
 fresh (More state) is_pasting = ([], record { state = state; is_pasting = is_pasting })
 fresh Apart is_pasting = ([], record { state = Ground; is_pasting = is_pasting })
 
-abbrev pub after_cut : Option Event → ℕ → Bool → Told
-after_cut None b is_pasting = fresh (first b false) is_pasting
-after_cut (Some event) b is_pasting =
-    let r = read is_pasting event in let told = fresh (first b false) r.1 in (r.0 ∷ told.0, told.1)
+abbrev pub after_cut : Option Event → Next → Bool → Told
+after_cut None next is_pasting = fresh next is_pasting
+after_cut (Some event) next is_pasting =
+    let r = read is_pasting event in let told = fresh next r.1 in (r.0 ∷ told.0, told.1)
 
 abbrev pub fed_next : Next → State → ℕ → Bool → Told
-fed_next Apart state b is_pasting = after_cut (cut state) b is_pasting
+fed_next Apart state b is_pasting = after_cut (cut state) (begun_anew state b) is_pasting
 fed_next next state b is_pasting = fresh next is_pasting
 
 -- what one more byte gives
@@ -205,13 +245,21 @@ escaped None is_pasting = ([], record { state = Escape; is_pasting = is_pasting 
 escaped (Some event) is_pasting = let r = read is_pasting event
     in (r.0 ∷ [], record { state = Escape; is_pasting = r.1 })
 
--- what is told where nothing more follows for now: ESC, ESC [ and ESC O are keys
+-- what is told where nothing more follows for now: ESC, ESC [, ESC O and ESC with what opens a string are
+-- keys; a string is over at the tenth time in a row, and at once if ESC has come within it
 abbrev pub settled_single : ℕ → Decoder → Told
 settled_single number d = if number == 0
     then told_event (with_alt (typed_key 79) true) Ground d.is_pasting else ([], d)
+
+abbrev pub settled_text : Bool → ℕ → Decoder → Told
+settled_text has_bell ticks d = if nat_lt ticks 9 then ([], record d { state = Text has_bell (ticks + 1) })
+    else told_event Unknown Ground d.is_pasting
 
 unfoldable pub settled : State → Decoder → Told
 settled Escape d = told_event (Key (pressed Esc (held 0))) Ground d.is_pasting
 settled Bracket d = told_event (with_alt (typed_key 91) true) Ground d.is_pasting
 settled (Single number) d = settled_single number d
+settled (Opened opener) d = told_event (with_alt (typed_key opener) true) Ground d.is_pasting
+settled (Text has_bell ticks) d = settled_text has_bell ticks d
+settled TextEscape d = told_event Unknown Escape d.is_pasting
 settled state d = ([], d)

@@ -1,11 +1,12 @@
 -- Bytes that stand for events, whatever follows them; what a paste is; and what settling tells.
-use Rattle.std.specs.Prelude.{◌≡◌, ◌⊎◌, ◌≤◌, ◌+◌, ◌-◌, ◌*◌, ◌^◌, min, ℕ, List, [], ◌∷◌, ◌++◌, false}
+use Rattle.std.specs.Prelude.{◌≡◌, ◌≢◌, ◌⊎◌, ◌<◌, ◌≤◌, ◌+◌, ◌-◌, ◌*◌, ◌^◌, min, ℕ, List, [], ◌∷◌, ◌++◌, false}
 use Rattle.std.specs.Prelude.{encode_utf8_all}
 use Rattle.std.specs.Char.{IsScalar, is_control}
 use Rattle.ratatui_events.specs.declared.event.Event.{Event}
 use Rattle.ratatui_events.specs.declared.event.Event.TheVariants.{Key, PasteEnded}
 use Rattle.ratatui_input.specs.declared.decoder.Decoder.{Decoder}
-use Rattle.ratatui_input.specs.declared.decoder.State.TheVariants.{Ground}
+use Rattle.ratatui_input.specs.declared.decoder.State.{State}
+use Rattle.ratatui_input.specs.declared.decoder.State.TheVariants.{Ground, Text, TextEscape}
 use Rattle.ratatui_input.specs.Decoding.{Told, decoded, settled}
 
 -- a decoder that has read nothing
@@ -53,6 +54,22 @@ abbrev pub HaveEnd : List Event → Type 0
 HaveEnd [] = ⊥
 HaveEnd (PasteEnded ∷ events) = Unit {0}
 HaveEnd (event ∷ events) = HaveEnd events
+
+-- what has come is no string with text
+abbrev pub IsNoText : State → Type 0
+IsNoText (Text has_bell ticks) = ⊥
+IsNoText state = Unit {0}
+
+-- nor one after whose text ESC has come
+abbrev pub IsNoString : State → Type 0
+IsNoString (Text has_bell ticks) = ⊥
+IsNoString TextEscape = ⊥
+IsNoString state = Unit {0}
+
+-- a byte that goes on with an ESC that ends a string: any but ESC, those that begin no character, and \, which
+-- is the end of the string itself
+abbrev pub FollowsEscape : ℕ → Type 0
+FollowsEscape b = (b ≢ 27) × (b ≢ 92) × ((b < 128) ⊎ ((194 ≤ b) × (b ≤ 244)))
 
 -- what is told of bytes where nothing follows them
 abbrev pub settled_after : List ℕ → Told

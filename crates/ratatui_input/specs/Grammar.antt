@@ -74,13 +74,34 @@ abbrev pub mouse_told : MouseEventKind → ℕ → ℕ → ℕ → Event
 mouse_told kind n x y =
     Mouse (record { kind = kind; column = x - 1; row = y - 1; modifiers = held (bit_and (n / 4) 7) })
 
+-- the bytes that after ESC open a string of the terminal: P (DCS), X (SOS), ] (OSC), ^ (PM) and _ (APC)
+abbrev pub IsOpener : ℕ → Type 0
+IsOpener b = (b ≡ 80) ⊎ (b ≡ 88) ⊎ ((93 ≤ b) × (b ≤ 95))
+
+-- a character that after ESC opens neither a sequence nor a string
+abbrev pub OpensNothing : ℕ → Type 0
+OpensNothing c = (c ≢ 91) × (c ≢ 79) × (c ≢ 80) × (c ≢ 88) × ((c < 93) ⊎ (95 < c))
+
+-- what stands in a string: no control character
+abbrev pub IsText : ℕ → Type 0
+IsText b = ((32 ≤ b) × (b ≤ 126)) ⊎ (128 ≤ b)
+
+abbrev pub AreText : List ℕ → Type 0
+AreText [] = Unit {0}
+AreText (b ∷ bs) = IsText b × AreText bs
+
+-- how a string ends: by ESC \, and one that ESC ] opens by BEL, too
+pub data EndsString : ℕ → List ℕ → Type 0 where
+  by_terminator : {opener : ℕ} → EndsString opener (27 ∷ 92 ∷ [])
+  by_bell : EndsString 93 (7 ∷ [])
+
 -- bytes that stand for an event
 pub data Encodes : List ℕ → Event → Type 0 where
   -- characters in UTF-8 and control characters, and after ESC the same with Alt
   character : (c : ℕ) → IsScalar c → is_control c ≡ false
       → Encodes (encode_utf8 c) (with_alt (typed_key c) false)
   control : (b : ℕ) → (b < 32) ⊎ (b ≡ 127) → b ≢ 27 → Encodes (b ∷ []) (with_alt (control_key b) false)
-  alt_character : (c : ℕ) → IsScalar c → is_control c ≡ false → c ≢ 91 → c ≢ 79
+  alt_character : (c : ℕ) → IsScalar c → is_control c ≡ false → OpensNothing c
       → Encodes (27 ∷ encode_utf8 c) (with_alt (typed_key c) true)
   alt_control : (b : ℕ) → (b < 32) ⊎ (b ≡ 127) → b ≢ 27
       → Encodes (27 ∷ b ∷ []) (with_alt (control_key b) true)
@@ -176,6 +197,10 @@ IsNoTilde n = (n ≡ 0) ⊎ (n ≡ 9) ⊎ (n ≡ 10) ⊎ (n ≡ 16) ⊎ (n ≡ 2
 pub data StandsForNothing : List ℕ → Type 0 where
   -- a byte that begins no character in UTF-8
   stray : (b : ℕ) → ((128 ≤ b) × (b ≤ 193)) ⊎ (245 ≤ b) → StandsForNothing (b ∷ [])
+  -- a string of the terminal, as its answers are
+  string : {opener : ℕ} (first : ℕ) (text end : List ℕ) → IsOpener opener → AreText (first ∷ text)
+      → EndsString opener end
+      → StandsForNothing (27 ∷ opener ∷ first ∷ (text ++ end))
   -- a sequence with a mark that no event has
   marked : (before after : List ℕ) (mark last : ℕ) → AreNumbers before → IsMark mark → AreInside after
       → 64 ≤ last → last ≤ 126

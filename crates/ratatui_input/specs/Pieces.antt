@@ -16,7 +16,7 @@ use Rattle.ratatui_input.specs.KeyTables.{IsLetter, IsTilde, IsCode}
 use Rattle.ratatui_input.specs.Encodings.{IsDigits, value_after}
 use Rattle.ratatui_input.specs.Decoding.{Told, decoded, pasted_code}
 use Rattle.ratatui_input.specs.Grammar.{Encodes, csi, AreCodes, AreNumbers, key_told, letter_told, code_told}
-use Rattle.ratatui_input.specs.Grammar.{mouse_told, WritesNumber}
+use Rattle.ratatui_input.specs.Grammar.{mouse_told, WritesNumber, IsOpener}
 use Rattle.ratatui_input.specs.declared.decoder.State.TheVariants.{Ground}
 
 -- numbers that a byte can be
@@ -104,12 +104,13 @@ pub data Tolerates : List ℕ → Event → Type 0 where
   any_lost : {body : List ℕ} {n m t k : ℕ} → HasNumbers body 0 n m t k → Tolerates (csi body 79) FocusLost
 
 -- bytes that stand for an event: by the grammar, by a sequence with further numbers, or as a key by itself,
--- which ESC, ESC [ and ESC O are where nothing goes on with them
+-- which ESC, ESC [, ESC O and ESC with what opens a string are where nothing goes on with them
 pub data StandsFor : List ℕ → Event → Type 0 where
   by_grammar : {bytes : List ℕ} {event : Event} → Encodes bytes event → StandsFor bytes event
   by_numbers : {bytes : List ℕ} {event : Event} → Tolerates bytes event → StandsFor bytes event
   lone_escape : StandsFor (27 ∷ []) (Key (pressed Esc (held 0)))
   lone_bracket : StandsFor (27 ∷ 91 ∷ []) (with_alt (typed_key 91) true)
+  lone_opener : {b : ℕ} → IsOpener b → StandsFor (27 ∷ b ∷ []) (with_alt (typed_key b) true)
   lone_single : {ds : List ℕ} → WritesNumber ds 0 → StandsFor (27 ∷ 79 ∷ ds) (with_alt (typed_key 79) true)
 
 -- bytes that stand for nothing: neither the grammar has them, nor are they a sequence with further numbers

@@ -5,7 +5,8 @@ ghost use Rattle.ratatui_input.specs.Decoding.{begun, first, after_escape, after
 ghost use Rattle.ratatui_input.specs.Decoding.{after_single, after_function, in_character, character_event};
 ghost use Rattle.ratatui_input.specs.Decoding.{stepped, cut, pasted_code, read, byte_told, events_of};
 ghost use Rattle.ratatui_input.specs.Decoding.{some_list};
-ghost use Rattle.ratatui_input.specs.Decoding.{after_cut, settled};
+ghost use Rattle.ratatui_input.specs.Decoding.{after_cut, settled, may_be_in_string, after_opened, in_text, after_text};
+ghost use Rattle.ratatui_input.specs.Decoding.{begun_anew};
 ghost use Rattle.ratatui_input.specs.Keys.{with_alt};
 ghost use Rattle.ratatui_input.specs.Mouse.{mouse_event};
 ghost use Rattle.ratatui_input.specs.declared.decoder.State.TheVariants.{Ground};
@@ -37,7 +38,17 @@ enum State {
     // The first bytes of a character: what they say of it, how many are to come, and between which
     // the next one is.
     Character(Partial),
+    // ESC and the byte that opens a string of the terminal.
+    Opened(u8),
+    // The same, and text: whether BEL ends it, and how many ticks have come since the last byte. The
+    // text isn't kept.
+    Text(bool, u8),
+    // The same, and ESC.
+    TextEscape,
 }
+
+// How many ticks in a row leave a string as it is.
+const PATIENCE: u8 = 9;
 
 #[derive(Debug, Clone, Copy, PartialEq, Eq)]
 struct Partial {
@@ -126,6 +137,7 @@ fn after_escape(byte: u8) -> Next
         0x1b => Next::Apart,
         b'[' => Next::More(State::Bracket),
         b'O' => Next::More(State::Single(0)),
+        b'P' | b'X' | b']'..=b'_' => Next::More(State::Opened(byte)),
         _ => first(byte, true),
     }
 }
@@ -231,6 +243,48 @@ fn in_character(partial: Partial, byte: u8) -> Next
     Next::Whole(character_event(code, partial.is_alt))
 }
 
+// Whether a byte stands in a string: it is no control character.
+fn may_be_in_string(byte: u8) -> bool
+    ensures { result ≡ may_be_in_string byte }
+{
+    (b' ' <= byte && byte <= b'~') || 0x80 <= byte
+}
+
+#[tactic(auto, unfolding(crate::specs::Decoding::after_opened))]
+fn after_opened(opener: u8, byte: u8) -> Next
+    ensures { result ≡ after_opened opener byte }
+{
+    if may_be_in_string(byte) {
+        Next::More(State::Text(opener == b']', 0))
+    } else {
+        Next::Apart
+    }
+}
+
+#[tactic(auto, unfolding(crate::specs::Decoding::in_text))]
+fn in_text(has_bell: bool, byte: u8) -> Next
+    ensures { result ≡ in_text has_bell byte }
+{
+    if may_be_in_string(byte) {
+        return Next::More(State::Text(has_bell, 0));
+    }
+    match byte {
+        0x1b => Next::More(State::TextEscape),
+        0x07 if has_bell => Next::Whole(Event::Unknown),
+        _ => Next::Apart,
+    }
+}
+
+#[tactic(auto, unfolding(crate::specs::Decoding::after_text))]
+fn after_text(byte: u8) -> Next
+    ensures { result ≡ after_text byte }
+{
+    match byte {
+        b'\\' => Next::Whole(Event::Unknown),
+        _ => Next::Apart,
+    }
+}
+
 #[inline(always)]
 #[tactic(auto, unfolding(crate::specs::Decoding::stepped, crate::specs::Decoding::after_click))]
 fn step(state: State, byte: u8) -> Next
@@ -250,6 +304,24 @@ fn step(state: State, byte: u8) -> Next
         State::ClickColumn(_, _) if byte < 32 => Next::Apart,
         State::ClickColumn(button, column) => Next::Whole(click_event(button, column, byte)),
         State::Character(partial) => in_character(partial, byte),
+        State::Opened(opener) => after_opened(opener, byte),
+        State::Text(has_bell, _) => in_text(has_bell, byte),
+        State::TextEscape => after_text(byte),
+    }
+}
+
+// What a byte is that doesn't go on with what has come: with nothing before it; but after an ESC that
+// ended a string, with that ESC, if it goes on with it.
+#[tactic(auto, unfolding(crate::specs::Decoding::begun_anew))]
+fn begun_anew(state: State, byte: u8) -> Next
+    ensures { result ≡ begun_anew state byte }
+{
+    match state {
+        State::TextEscape => match after_escape(byte) {
+            Next::Apart => first(byte, false),
+            next => next,
+        },
+        _ => first(byte, false),
     }
 }
 
@@ -274,6 +346,7 @@ fn cut(state: State) -> Option<Event>
         State::Escape => Some(Event::Key(KeyEvent::new(KeyCode::Esc, KeyModifiers::NONE))),
         State::Single(0) => Some(with_alt(typed('O'), true)),
         State::Bracket => Some(with_alt(typed('['), true)),
+        State::Opened(opener) => Some(with_alt(typed(opener as char), true)),
         _ => Some(Event::Unknown),
     }
 }
@@ -360,13 +433,14 @@ impl Decoder {
 
     // Reads a byte that doesn't go on with what has come.
     fn feed_apart(&mut self, byte: u8) -> Fed
-        ensures { (events_of result, self.new) ≡ after_cut (cut self.old.state) byte self.old.is_pasting }
+        ensures { (events_of result, self.new)
+            ≡ after_cut (cut self.old.state) (begun_anew self.old.state byte) self.old.is_pasting }
     {
         let cut = match cut(self.state) {
             Some(event) => Some(self.read(event)),
             None => None,
         };
-        match first(byte, false) {
+        match begun_anew(self.state, byte) {
             Next::Whole(event) => {
                 self.state = State::Ground;
                 Fed {
@@ -395,19 +469,31 @@ impl Decoder {
         }
     }
 
-    /// Takes what has come as whole, if it is a key by itself: ESC, or Alt with [ or O. Call it
-    /// where nothing more follows for now.
+    /// Takes what has come as whole, if it is a key by itself: ESC, or Alt with [, O, P, X, ], ^ or _.
+    /// A string of the terminal is left as it is, but the tenth call in a row with no byte between ends
+    /// it; an ESC within a string ends it, and is a key by itself then. Call it where nothing more
+    /// follows for now.
     #[tactic(auto, unfolding(crate::specs::Decoding::settled))]
     pub fn settle(&mut self) -> Option<Event>
         ensures { (some_list result, self.new) ≡ settled self.old.state self.old }
     {
-        let key = match self.state {
-            State::Escape => Event::Key(KeyEvent::new(KeyCode::Esc, KeyModifiers::NONE)),
-            State::Bracket => with_alt(typed('['), true),
-            State::Single(0) => with_alt(typed('O'), true),
+        let (event, state) = match self.state {
+            State::Escape => (
+                Event::Key(KeyEvent::new(KeyCode::Esc, KeyModifiers::NONE)),
+                State::Ground,
+            ),
+            State::Bracket => (with_alt(typed('['), true), State::Ground),
+            State::Single(0) => (with_alt(typed('O'), true), State::Ground),
+            State::Opened(opener) => (with_alt(typed(opener as char), true), State::Ground),
+            State::Text(has_bell, ticks) if ticks < PATIENCE => {
+                self.state = State::Text(has_bell, ticks + 1);
+                return None;
+            }
+            State::Text(_, _) => (Event::Unknown, State::Ground),
+            State::TextEscape => (Event::Unknown, State::Escape),
             _ => return None,
         };
-        self.state = State::Ground;
-        Some(self.read(key))
+        self.state = state;
+        Some(self.read(event))
     }
 }

@@ -73,15 +73,25 @@ fn tell(alloc: Global, told: &mut String, event: Option<Event>) -> Result<(), Al
     }
 }
 
+// What a word gives: a byte, or nothing for a while.
+fn fed(decoder: &mut Decoder, word: &str) -> Option<Fed> {
+    if word == "TICK" {
+        return Some(Fed {
+            cut: None,
+            event: decoder.settle(),
+        });
+    }
+    Some(decoder.feed(byte_of(word)?))
+}
+
 // The events of bytes that come at once, as text. None if a word isn't a byte.
 fn events_of(alloc: Global, bytes: &str) -> Result<Option<String>, AllocError> {
     let mut decoder = Decoder::new();
     let mut told = String::new(alloc);
     for word in bytes.split(' ') {
-        let Some(byte) = byte_of(word) else {
+        let Some(Fed { cut, event }) = fed(&mut decoder, word) else {
             return Ok(None);
         };
-        let Fed { cut, event } = decoder.feed(byte);
         tell(alloc, &mut told, cut)?;
         tell(alloc, &mut told, event)?;
     }
