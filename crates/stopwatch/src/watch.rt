@@ -1,6 +1,6 @@
 //! The time that has gone.
 
-ghost use Rattle.std.specs.Prelude.{◌≡◌, ◌/◌, false, None, OnOk, OnErr, IfOk};
+ghost use Rattle.std.specs.Prelude.{◌≡◌, true, false, None, OnOk, OnErr, IfOk};
 ghost use Rattle.stopwatch.specs.Watching.{watch_after, watch_by_event, watch_by_character, seconds};
 
 use acts_app::{Application, paint_line};
