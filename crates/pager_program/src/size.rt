@@ -20,9 +20,14 @@ pub struct Given {
     pub rows: Option<u16>,
 }
 
-/// Whether standard input is a terminal.
-pub fn is_terminal(rt: &HostRuntime) -> bool {
-    match fs::read_link(rt, "/proc/self/fd/0") {
+/// Where the system says what standard input is, and standard output.
+pub const INPUT: &str = "/proc/self/fd/0";
+
+pub const OUTPUT: &str = "/proc/self/fd/1";
+
+/// Whether one of these is a terminal.
+pub fn is_terminal(rt: &HostRuntime, stream: &str) -> bool {
+    match fs::read_link(rt, stream) {
         Ok(path) => {
             let path = path.as_path();
             path.starts_with("/dev/pts") || path.starts_with("/dev/tty")

@@ -21,7 +21,9 @@ pub fn command<'a>(alloc: Global) -> Result<Command<'a>, AllocError> {
         .value_parser(value_parser!(u16).range(1..=65535));
     Command::new(alloc, "pager")
         .bin_name("pager")?
-        .about("Shows a text page by page, moved by keys; h lists them")
+        .about(
+            "Shows a text page by page, moved by keys; h lists them. +42 begins at line 42, +/WORDS at these words",
+        )
         .arg(file)?
         .arg(columns)?
         .arg(rows)

@@ -1,0 +1,22 @@
+//! What is typed first.
+
+use std::alloc::{AllocError, Global};
+
+/// The first word that begins with `+`, which is taken out of the words: what comes after it.
+pub fn taken(alloc: Global, words: &mut Vec<String>) -> Result<String, AllocError> {
+    match words.iter().position(|word| word.as_str().starts_with('+')) {
+        Some(at) => String::from_str(alloc, words.remove(at).as_str().get(1..).unwrap_or("")),
+        None => Ok(String::new(alloc)),
+    }
+}
+
+/// The keys that such a word stands for: `42` goes to line 42, `/WORDS` searches, and other
+/// characters are keys.
+pub fn typed(mut word: String) -> Result<String, AllocError> {
+    if word.as_str().starts_with(['/', '?']) {
+        word.push('\r')?;
+    } else if !word.is_empty() && word.as_str().bytes().all(|byte| byte.is_ascii_digit()) {
+        word.push('g')?;
+    }
+    Ok(word)
+}

@@ -1,0 +1,35 @@
+//! A text of any bytes.
+
+use std::alloc::{AllocError, Global};
+
+// Puts a byte as `<FF>` at the end of a text: its value in two hexadecimal digits.
+fn push_byte(text: &mut String, byte: u8) -> Result<(), AllocError> {
+    text.push('<')?;
+    for digit in [byte >> 4, byte & 15] {
+        text.push(char::from_digit(u32::from(digit), 16).map_or(
+            '?',
+            |digit| digit.to_ascii_uppercase(),
+        ))?;
+    }
+    text.push('>')
+}
+
+// A text of bytes some of which are part of no character in UTF-8.
+fn with_bytes_shown(alloc: Global, bytes: &[u8]) -> Result<String, AllocError> {
+    let mut text = String::new(alloc);
+    for chunk in bytes.utf8_chunks() {
+        text.push_str(chunk.valid())?;
+        for byte in chunk.invalid() {
+            push_byte(&mut text, *byte)?;
+        }
+    }
+    Ok(text)
+}
+
+/// The text that bytes are in UTF-8. A byte that is part of no character stands as `<FF>`.
+pub fn text_of(alloc: Global, bytes: Vec<u8>) -> Result<String, AllocError> {
+    match String::from_utf8(bytes) {
+        Ok(text) => Ok(text),
+        Err(error) => with_bytes_shown(alloc, error.as_bytes()),
+    }
+}
