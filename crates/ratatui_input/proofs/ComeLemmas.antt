@@ -38,8 +38,8 @@ use Rattle.ratatui_input.proofs.StandLemmas.{Stands, if-stands, same, differ, li
 use Rattle.ratatui_input.proofs.StandLemmas.{bracket_stands, single_stands, not_known, opener_stands}
 use Rattle.ratatui_input.proofs.StringLemmas.{opener-asked, opener-not, text-asked, text-snoc, IsJoined}
 use Rattle.ratatui_input.proofs.CodeLemmas.{letter-of, scalar-is}
-use Rattle.ratatui_input.proofs.NumberLemmas.{keeps-digit, keeps-none, Come, come-numbers, come-source, come-digit, with_colon}
-use Rattle.ratatui_input.proofs.NumberLemmas.{with_semicolon, come-colon, come-semicolon, field_comes, come_one}
+use Rattle.ratatui_input.proofs.NumberLemmas.{keeps-digit, keeps-none, Come, come-numbers, come-text, come-source, come-digit, with_colon}
+use Rattle.ratatui_input.proofs.NumberLemmas.{with_semicolon, come-colon, come-semicolon, held_comes, come_one}
 use Rattle.ratatui_input.proofs.NothingLemmas.{digit-keeps}
 use Rattle.ratatui_input.proofs.TableLemmas.{printed-plain}
 use Rattle.ratatui_input.proofs.SequenceLemmas.{csi-some, letter-answer, mouse-stands, keys-stand, pointer-stands}
@@ -52,7 +52,7 @@ pub data InSequence : Sequence → List ℕ → Type 0 where
 sequence-stands : {s : Sequence} {body : List ℕ} (b : ℕ) → InSequence s body → Stands (csi body b) (sequence_event s b)
 unfolding sequence_event
 sequence-stands {s = s} {body = body} b (keys_come h) =
-    subst (λ (x : Source). Stands (csi body b) (source_event x s b)) (sym (come-source h)) (keys-stand s body b (come-numbers h))
+    subst (λ (x : Source). Stands (csi body b) (source_event x s b)) (sym (come-source h)) (keys-stand s body b (come-numbers h) (come-text h))
 sequence-stands {s = s} b (mouse_comes {body = body} h) =
     subst (λ (x : Source). Stands (csi (60 ∷ body) b) (source_event x s b)) (sym (come-source h))
     (pointer-stands s body b (come-numbers h))
@@ -323,8 +323,8 @@ bracket-follows b =
     (sym (same b 77 e)) click_comes)
     (λ n2. if-follows (27 ∷ 91 ∷ b ∷ []) (b == 60) _ _
     (λ e. subst (λ (x : ℕ). HasCome (Numbers from_mouse) (27 ∷ 91 ∷ x ∷ [])) (sym (same b 60 e))
-    (numbers_come (mouse_comes (come_one (field_comes keeps-none)))))
-    (λ n3. sequence-follows b (keys_come (come_one (field_comes keeps-none))))))
+    (numbers_come (mouse_comes (come_one (held_comes keeps-none)))))
+    (λ n3. sequence-follows b (keys_come (come_one (held_comes keeps-none))))))
 
 function-some : (b : ℕ) → 27 ∷ 91 ∷ 91 ∷ b ∷ [] ≢ []
 function-some b e = cc

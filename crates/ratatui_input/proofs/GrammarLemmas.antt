@@ -1,6 +1,6 @@
 -- Each encoding is read as its event.
 use Rattle.std.proofs.Common.{◌≡◌, ◌≢◌, ◌⊎◌, inl, inr, ℕ, ◌+◌, ◌-◌, ◌*◌, min, ◌<◌, ◌≤◌, ◌^◌, Bool, true, false, List, [], ◌∷◌}
-use Rattle.std.proofs.Common.{◌++◌, Option, Some, refl, ap, ◌∙◌, subst, append_assoc, arith}
+use Rattle.std.proofs.Common.{◌%◌, ◌++◌, Option, Some, None, refl, ap, ◌∙◌, subst, append_assoc, arith}
 use Rattle.std.specs.Prelude.{nat_lt, if◌then◌else◌}
 use Rattle.std.proofs.lemmas.Bool.{cases_eq}
 use Rattle.std.proofs.lemmas.Grind.{common_steps}
@@ -19,7 +19,6 @@ use Rattle.ratatui_input.specs.declared.decoder.State.{State}
 use Rattle.ratatui_input.specs.declared.decoder.State.TheVariants.{Bracket, Function, Single, Click, ClickButton, ClickColumn}
 use Rattle.ratatui_input.specs.declared.decoder.State.TheVariants.{Numbers}
 use Rattle.ratatui_input.specs.declared.decoder.Next.TheVariants.{Whole, More}
-use Rattle.ratatui_input.specs.declared.sequence.Sequence.{Sequence}
 use Rattle.ratatui_input.specs.declared.sequence.Source.TheVariants.{Keys, Mouse as FromMouse}
 use Rattle.ratatui_input.specs.Keys.{key_at, code_key, tab_key}
 use Rattle.ratatui_input.specs.Mouse.{mouse_kind, mouse_event, kind_told}
@@ -34,21 +33,33 @@ use Rattle.ratatui_input.specs.Grammar.{Encodes, WritesNumber, Held, AreCodes, h
 use Rattle.ratatui_input.specs.Grammar.{three_numbers, key_told, letter_told, code_told, mouse_told}
 use Rattle.ratatui_input.specs.Grammar.{character, control, alt_character, alt_control, by_letter, by_letter_held, by_single}
 use Rattle.ratatui_input.specs.Grammar.{single_enter, by_console}
-use Rattle.ratatui_input.specs.Grammar.{by_tilde, by_tilde_held, by_code, by_code_held, by_codes, by_other, by_numbers_down}
+use Rattle.ratatui_input.specs.Grammar.{by_tilde, by_tilde_held, by_code, by_code_held, by_codes, by_shifted, by_text, by_other, by_numbers_down}
 use Rattle.ratatui_input.specs.Grammar.{by_numbers_up, by_bytes, by_plain_numbers}
 use Rattle.ratatui_input.specs.Grammar.{focus_gained, focus_lost, size, position}
+use lib.Utf8.{scalar_cases}
+use Rattle.std.specs.Prelude.{◌==◌}
+use Rattle.std.specs.Char.{IsScalar, is_control}
+use Rattle.ratatui_events.specs.declared.key.KeyCode.TheVariants.{Char}
+use Rattle.ratatui_input.specs.Keys.{keypad_key, name_key}
+use Rattle.ratatui_input.specs.Sequences.{told_code_event, text_event, typed_mask}
+use Rattle.ratatui_input.specs.Grammar.{ToldFirst, told_alone, told_with_codes, typed_told, told_character}
+use Rattle.ratatui_input.proofs.ToldLemmas.{told-is, typed-is, beside-some}
 use Rattle.ratatui_input.proofs.DecodingLemmas.{anew-from-escape}
 use Rattle.ratatui_input.proofs.EncodingLemmas.{gives-before, gives-append}
 use Rattle.ratatui_input.proofs.TableLemmas.{seq, EndsSequence, letter-alone, letter-held, letter-single, letter-ends, letter-is}
 use Rattle.ratatui_input.proofs.TableLemmas.{tilde-told, tilde-small, code-told, code-small, key-is}
 use Rattle.ratatui_input.proofs.StepLemmas.{at, Leads, leads-none, leads-one, leads-cons, leads-append, IsPlain, ends-plain}
-use Rattle.ratatui_input.proofs.StepLemmas.{csi-alone, csi-gives, single-read, bracket-two, bracket-colon, second-after}
+use Rattle.ratatui_input.proofs.StepLemmas.{csi-alone, csi-gives, single-read, bracket-two, bracket-colon, number-read}
 use Rattle.ratatui_input.proofs.StepLemmas.{bracket-three, mouse-three, kind-read, digit_of}
 use Rattle.ratatui_input.proofs.CharacterLemmas.{character-gives, alt-character-gives, control-gives, alt-control-gives}
 
 key-plain : (key : KeyEvent) → IsPlain (Key key)
 unfolding read
 key-plain key = record { told = refl }
+
+either-plain : (b : Bool) (x y : KeyEvent) → IsPlain (if b then Key x else Key y)
+either-plain true x y = key-plain x
+either-plain false x y = key-plain y
 
 mouse-plain : (mouse : MouseEvent) → IsPlain (Mouse mouse)
 unfolding read
@@ -180,12 +191,19 @@ tilde-held-read {n = n} {m = m} {code = code} {ds = ds} {tail = tail} {kind = ki
     (omega arith)
     (tilde-told tilde 1 r.parts m 0 r.number ∙ key-is r.number code false m small ∙ ap (key_told code false m) r.is) (key-plain _)
 
-code-event-is : {n : ℕ} {code : KeyCode} {is_keypad : Bool} → IsCode n code is_keypad → (k m : ℕ) → m ≤ 256
+code-key-is : {n : ℕ} {code : KeyCode} {is_keypad : Bool} → IsCode n code is_keypad → (k m : ℕ) → m ≤ 256
     → code_key_event (code_key n) k m ≡ code_told code is_keypad m (kind_of k)
-code-event-is {code = code} {is_keypad = is_keypad} h k m small =
+code-key-is {code = code} {is_keypad = is_keypad} h k m small =
     ap (λ (o : Option (KeyCode × Bool)). code_key_event o k m) (code-told h) ∙ key-is k (tab_key code m) is_keypad m small
 
-pub code-first : (numbers p n m t k : ℕ) → sequence_event (seq Keys numbers p n m t k) 117 ≡ code_key_event (code_key n) k m
+code-event-is : {n : ℕ} {code : KeyCode} {is_keypad : Bool} → IsCode n code is_keypad → (numbers p m t k : ℕ) → m ≤ 256
+    → told_code_event (code_key n) (told_character t) (seq Keys numbers p n m t k) ≡ typed_told (told_character t) code is_keypad m (kind_of k)
+code-event-is {n = n} {code = code} {is_keypad = is_keypad} h numbers p m t k small =
+    ap (λ (o : Option (KeyCode × Bool)). told_code_event o (told_character t) (seq Keys numbers p n m t k)) (code-told h)
+    ∙ told-is (told_character t) code is_keypad k m small
+
+pub code-first : (numbers p n m t k : ℕ)
+    → sequence_event (seq Keys numbers p n m t k) 117 ≡ told_code_event (code_key n) (told_character t) (seq Keys numbers p n m t k)
 unfolding sequence_event keys_event code_event
 code-first numbers p n m t k = refl
 
@@ -200,7 +218,7 @@ code-read : {n : ℕ} {code : KeyCode} {is_keypad : Bool} {ds : List ℕ} → Is
     → Gives (csi ds 117) (code_told code is_keypad 0 Press ∷ [])
 code-read {n = n} {code = code} {is_keypad = is_keypad} {ds = ds} h w =
     csi-alone ds n 117 (code_told code is_keypad 0 Press) w (code-small h) code-ends (code-first 0 0 n 0 0 0
-    ∙ code-event-is h 0 0 (omega arith)) (key-plain _)
+    ∙ code-event-is h 0 0 0 0 0 (omega arith)) (key-plain _)
 
 code-held-read : {n m : ℕ} {code : KeyCode} {is_keypad : Bool} {ds tail : List ℕ} {kind : KeyEventKind} → IsCode n code is_keypad
     → WritesNumber ds n → Held tail m kind
@@ -209,165 +227,277 @@ code-held-read {n = n} {m = m} {code = code} {is_keypad = is_keypad} {ds = ds} {
     let r = held-read w (code-small c) h small in
     csi-gives (ds ++ tail) (seq Keys 1 r.parts n m 0 r.number) 117 (code_told code is_keypad m kind) r.leads (omega arith)
     (omega arith)
-    (code-first 1 r.parts n m 0 r.number ∙ code-event-is c r.number m small ∙ ap (code_told code is_keypad m) r.is) (key-plain _)
+    (code-first 1 r.parts n m 0 r.number ∙ code-event-is c 1 r.parts m 0 r.number small ∙ ap (code_told code is_keypad m) r.is)
+    (key-plain _)
 
--- ---- further codes, which are read over
+-- ---- further codes, of which the first is kept until a third number begins
 
-record CodesRead (n : ℕ) (parts : ℕ) (bytes : List ℕ) : Type 0 where
+-- codes that change no number
+record Stays (numbers p n m t k : ℕ) (bytes : List ℕ) : Type 0 where
   to : ℕ
-  low : 1 ≤ to
-  leads : Leads (Numbers (seq Keys 0 parts n 0 0 0)) bytes (Numbers (seq Keys 0 to n 0 0 0))
+  leads : Leads (Numbers (seq Keys numbers p n m t k)) bytes (Numbers (seq Keys numbers to n m t k))
 
-code-digit : (n parts b : ℕ) → 1 ≤ parts → 48 ≤ b → b ≤ 57
-    → stepped (Numbers (seq Keys 0 parts n 0 0 0)) b ≡ More (Numbers (seq Keys 0 parts n 0 0 0))
-unfolding stepped in_sequence pushed digit_pushed
-code-digit n parts b h low high = grind (arith, nat_tests)
-
-code-colon : (n parts : ℕ) → stepped (Numbers (seq Keys 0 parts n 0 0 0)) 58 ≡ More
-    (Numbers (seq Keys 0 (if nat_lt parts 2 then parts + 1 else 2) n 0 0 0))
+code-colon : (numbers p n m t k : ℕ) → stepped (Numbers (seq Keys numbers p n m t k)) 58 ≡ More
+    (Numbers (seq Keys numbers (if nat_lt p 2 then p + 1 else 2) n m t k))
 unfolding stepped in_sequence pushed
-code-colon n parts = refl
+code-colon numbers p n m t k = refl
 
-further : (parts : ℕ) → 1 ≤ (if nat_lt parts 2 then parts + 1 else 2)
-further parts = grind (arith, nat_tests)
+further : (low p : ℕ) → low ≤ 2 → low ≤ p → low ≤ (if nat_lt p 2 then p + 1 else 2)
+further low p h k = grind (arith, nat_tests)
 
-codes-read : (bs : List ℕ) (n parts : ℕ) → AreCodes bs → 1 ≤ parts → CodesRead n parts bs
-codes-read [] n parts h low = record { to = parts; low = low; leads = leads-none (Numbers (seq Keys 0 parts n 0 0 0)) }
-codes-read (b ∷ bs) n parts h low =
-    elim (cases_eq b 58) [
-      | inl e ↦
-          let rest = codes-read bs n (if nat_lt parts 2 then parts + 1 else 2) h.2 (further parts) in
-          record {
-            to = rest.to;
-            low = rest.low;
-            leads = leads-cons (Numbers (seq Keys 0 parts n 0 0 0))
-                (Numbers (seq Keys 0 (if nat_lt parts 2 then parts + 1 else 2) n 0 0 0))
-                (Numbers (seq Keys 0 rest.to n 0 0 0)) b bs (ap (stepped (Numbers (seq Keys 0 parts n 0 0 0))) e
-                ∙ code-colon n parts) rest.leads;
-          }
-      | inr other ↦
-          let rest = codes-read bs n parts h.2 low in
-          record {
-            to = rest.to;
-            low = rest.low;
-            leads = leads-cons (Numbers (seq Keys 0 parts n 0 0 0)) (Numbers (seq Keys 0 parts n 0 0 0))
-                (Numbers (seq Keys 0 rest.to n 0 0 0)) b bs
-                (code-digit n parts b low h.0 (omega (arith, h.1, other))) rest.leads;
-          }
-    ]
+module _ (low numbers n m t k : ℕ) (few : low ≤ 2) (deaf : (q b : ℕ) → low ≤ q → 48 ≤ b → b ≤ 57
+    → stepped (Numbers (seq Keys numbers q n m t k)) b ≡ More (Numbers (seq Keys numbers q n m t k))) where
+  codes-stay : (bs : List ℕ) (p : ℕ) → AreCodes bs → low ≤ p → Stays numbers p n m t k bs
+  codes-stay [] p h l = record { to = p; leads = leads-none (Numbers (seq Keys numbers p n m t k)) }
+  codes-stay (b ∷ bs) p h l =
+      elim (cases_eq b 58) [
+        | inl e ↦
+            let rest = codes-stay bs (if nat_lt p 2 then p + 1 else 2) h.2 (further low p few l) in
+            record {
+              to = rest.to;
+              leads = leads-cons (Numbers (seq Keys numbers p n m t k))
+                  (Numbers (seq Keys numbers (if nat_lt p 2 then p + 1 else 2) n m t k))
+                  (Numbers (seq Keys numbers rest.to n m t k)) b bs (ap (stepped (Numbers (seq Keys numbers p n m t k))) e
+                  ∙ code-colon numbers p n m t k) rest.leads;
+            }
+        | inr other ↦
+            let rest = codes-stay bs p h.2 l in
+            record {
+              to = rest.to;
+              leads = leads-cons (Numbers (seq Keys numbers p n m t k)) (Numbers (seq Keys numbers p n m t k))
+                  (Numbers (seq Keys numbers rest.to n m t k)) b bs
+                  (deaf p b l h.0 (omega (arith, h.1, other))) rest.leads;
+            }
+      ]
 
--- what is held after them
-record HeldAfter (from : Sequence) (tail : List ℕ) (n m : ℕ) (kind : KeyEventKind) : Type 0 where
-  parts : ℕ
-  number : ℕ
-  leads : Leads (Numbers from) tail (Numbers (seq Keys 1 parts n m 0 number))
-  is : kind_of number ≡ kind
+shift-digit : (n t b : ℕ) → 48 ≤ b → b ≤ 57
+    → stepped (Numbers (seq Keys 0 1 n 0 t 0)) b ≡ More (Numbers (seq Keys 0 1 n 0 (min (t * 10 + (b - 48)) (2 ^ 32 - 1)) 0))
+unfolding stepped in_sequence pushed digit_pushed
+shift-digit n t b low high = grind (arith, common_steps, digit_of b low high)
 
-held-after : {tail : List ℕ} {m : ℕ} {kind : KeyEventKind} (n parts : ℕ) → Held tail m kind → m ≤ 256
-    → HeldAfter (seq Keys 0 parts n 0 0 0) tail n m kind
-held-after {m = m} n parts (held_down {es = es} v) low =
-    record { parts = 0; number = 0; leads = second-after parts n es m v (omega arith); is = refl }
-held-after {m = m} n parts (held_told {es = es} {ks = ks} {k = k} v u tiny) low = record {
-  parts = 1;
-  number = k;
-  leads = leads-append (Numbers (seq Keys 0 parts n 0 0 0)) (Numbers (seq Keys 1 0 n m 0 0)) (Numbers (seq Keys 1 1 n m 0 k))
-      (59 ∷ es) (58 ∷ ks)
-      (second-after parts n es m v (omega arith)) (kind-read n m ks k u (omega arith));
-  is = refl;
-}
+shift-deaf : (n t q b : ℕ) → 2 ≤ q → 48 ≤ b → b ≤ 57
+    → stepped (Numbers (seq Keys 0 q n 0 t 0)) b ≡ More (Numbers (seq Keys 0 q n 0 t 0))
+unfolding stepped in_sequence pushed digit_pushed
+shift-deaf n t q b many low high = grind (arith, nat_tests)
 
--- the codes of a text, which are read over
-record TextRead (from : Sequence) (bytes : List ℕ) (n m k : ℕ) : Type 0 where
-  parts : ℕ
-  third : ℕ
-  leads : Leads (Numbers from) bytes (Numbers (seq Keys 2 parts n m third k))
-
-text-first : (n m k t b : ℕ) → 48 ≤ b → b ≤ 57
+text-digit : (n m k t b : ℕ) → 48 ≤ b → b ≤ 57
     → stepped (Numbers (seq Keys 2 0 n m t k)) b ≡ More (Numbers (seq Keys 2 0 n m (min (t * 10 + (b - 48)) (2 ^ 32 - 1)) k))
 unfolding stepped in_sequence pushed digit_pushed
-text-first n m k t b low high = grind (arith, common_steps, digit_of b low high)
+text-digit n m k t b low high = grind (arith, common_steps, digit_of b low high)
 
-text-other : (n m k t p b : ℕ) → p ≢ 0 → 48 ≤ b → b ≤ 57
-    → stepped (Numbers (seq Keys 2 p n m t k)) b ≡ More (Numbers (seq Keys 2 p n m t k))
+text-deaf : (n m k t q b : ℕ) → 1 ≤ q → 48 ≤ b → b ≤ 57
+    → stepped (Numbers (seq Keys 2 q n m t k)) b ≡ More (Numbers (seq Keys 2 q n m t k))
 unfolding stepped in_sequence pushed digit_pushed
-text-other n m k t p b h low high = grind (arith, nat_tests)
+text-deaf n m k t q b some low high = grind (arith, nat_tests)
 
-text-colon : (n m k t p : ℕ) → stepped (Numbers (seq Keys 2 p n m t k)) 58 ≡ More
-    (Numbers (seq Keys 2 (if nat_lt p 2 then p + 1 else 2) n m t k))
-unfolding stepped in_sequence pushed
-text-colon n m k t p = refl
+-- the first of the codes is kept
+record FirstRead (n t : ℕ) (bytes : List ℕ) : Type 0 where
+  to : ℕ
+  leads : Leads (Numbers (seq Keys 0 1 n 0 0 0)) bytes (Numbers (seq Keys 0 to n 0 t 0))
 
-text-read : (bs : List ℕ) (n m k t p : ℕ) → AreCodes bs → TextRead (seq Keys 2 p n m t k) bs n m k
-text-read [] n m k t p h = record { parts = p; third = t; leads = leads-none (Numbers (seq Keys 2 p n m t k)) }
-text-read (b ∷ bs) n m k t p h =
+first-told : {bytes : List ℕ} {t : ℕ} (n : ℕ) → ToldFirst bytes t → FirstRead n t bytes
+first-told {bytes = bytes} {t = t} n (told_alone w small) =
+    record { to = 1; leads = number-read (λ (v : ℕ). Numbers (seq Keys 0 1 n 0 v 0)) (shift-digit n) bytes t w small }
+first-told {t = t} n (told_with_codes {ds = ds} cs w small h) =
+    let rest = codes-stay 2 0 n 0 t 0 (omega arith) (shift-deaf n t) cs 2 h (omega arith) in
+    record {
+      to = rest.to;
+      leads = leads-append (Numbers (seq Keys 0 1 n 0 0 0)) (Numbers (seq Keys 0 1 n 0 t 0)) (Numbers (seq Keys 0 rest.to n 0 t 0))
+          ds (58 ∷ cs)
+          (number-read (λ (v : ℕ). Numbers (seq Keys 0 1 n 0 v 0)) (shift-digit n) ds t w small)
+          (leads-cons (Numbers (seq Keys 0 1 n 0 t 0)) (Numbers (seq Keys 0 2 n 0 t 0)) (Numbers (seq Keys 0 rest.to n 0 t 0)) 58 cs
+          (code-colon 0 1 n 0 t 0) rest.leads);
+    }
+
+record TextRead (n m k t : ℕ) (bytes : List ℕ) : Type 0 where
+  to : ℕ
+  leads : Leads (Numbers (seq Keys 2 0 n m 0 k)) bytes (Numbers (seq Keys 2 to n m t k))
+
+text-told : {bytes : List ℕ} {t : ℕ} (n m k : ℕ) → ToldFirst bytes t → TextRead n m k t bytes
+text-told {bytes = bytes} {t = t} n m k (told_alone w small) =
+    record { to = 0; leads = number-read (λ (v : ℕ). Numbers (seq Keys 2 0 n m v k)) (text-digit n m k) bytes t w small }
+text-told {t = t} n m k (told_with_codes {ds = ds} cs w small h) =
+    let rest = codes-stay 1 2 n m t k (omega arith) (text-deaf n m k t) cs 1 h (omega arith) in
+    record {
+      to = rest.to;
+      leads = leads-append (Numbers (seq Keys 2 0 n m 0 k)) (Numbers (seq Keys 2 0 n m t k)) (Numbers (seq Keys 2 rest.to n m t k))
+          ds (58 ∷ cs)
+          (number-read (λ (v : ℕ). Numbers (seq Keys 2 0 n m v k)) (text-digit n m k) ds t w small)
+          (leads-cons (Numbers (seq Keys 2 0 n m t k)) (Numbers (seq Keys 2 1 n m t k)) (Numbers (seq Keys 2 rest.to n m t k)) 58 cs
+          (code-colon 2 0 n m t k) rest.leads);
+    }
+
+-- any codes
+record CodesRead (p n t : ℕ) (bytes : List ℕ) : Type 0 where
+  to : ℕ
+  third : ℕ
+  leads : Leads (Numbers (seq Keys 0 p n 0 t 0)) bytes (Numbers (seq Keys 0 to n 0 third 0))
+
+codes-read : (bs : List ℕ) (p n t : ℕ) → AreCodes bs → 1 ≤ p → CodesRead p n t bs
+codes-read [] p n t h low = record { to = p; third = t; leads = leads-none (Numbers (seq Keys 0 p n 0 t 0)) }
+codes-read (b ∷ bs) p n t h low =
     elim (cases_eq b 58) [
       | inl e ↦
-          let rest = text-read bs n m k t (if nat_lt p 2 then p + 1 else 2) h.2 in
+          let rest = codes-read bs (if nat_lt p 2 then p + 1 else 2) n t h.2 (further 1 p (omega arith) low) in
           record {
-            parts = rest.parts;
+            to = rest.to;
             third = rest.third;
-            leads = leads-cons (Numbers (seq Keys 2 p n m t k)) (Numbers (seq Keys 2 (if nat_lt p 2 then p + 1 else 2) n m t k))
-                (Numbers (seq Keys 2 rest.parts n m rest.third k)) b bs (ap (stepped (Numbers (seq Keys 2 p n m t k))) e
-                ∙ text-colon n m k t p) rest.leads;
+            leads = leads-cons (Numbers (seq Keys 0 p n 0 t 0)) (Numbers (seq Keys 0 (if nat_lt p 2 then p + 1 else 2) n 0 t 0))
+                (Numbers (seq Keys 0 rest.to n 0 rest.third 0)) b bs (ap (stepped (Numbers (seq Keys 0 p n 0 t 0))) e
+                ∙ code-colon 0 p n 0 t 0) rest.leads;
           }
-      | inr other ↦ elim (cases_eq p 0) [
-        | inl zero_parts ↦
-            let rest = text-read bs n m k (min (t * 10 + (b - 48)) (2 ^ 32 - 1)) 0 h.2 in
+      | inr other ↦ elim (cases_eq p 1) [
+        | inl one ↦
+            let rest = codes-read bs 1 n (min (t * 10 + (b - 48)) (2 ^ 32 - 1)) h.2 (omega arith) in
             record {
-              parts = rest.parts;
+              to = rest.to;
               third = rest.third;
-              leads = leads-cons (Numbers (seq Keys 2 p n m t k))
-                  (Numbers (seq Keys 2 0 n m (min (t * 10 + (b - 48)) (2 ^ 32 - 1)) k))
-                  (Numbers (seq Keys 2 rest.parts n m rest.third k)) b bs
-                  (ap (λ (q : ℕ). stepped (Numbers (seq Keys 2 q n m t k)) b) zero_parts
-                  ∙ text-first n m k t b h.0 (omega (arith, h.1, other))) rest.leads;
+              leads = leads-cons (Numbers (seq Keys 0 p n 0 t 0))
+                  (Numbers (seq Keys 0 1 n 0 (min (t * 10 + (b - 48)) (2 ^ 32 - 1)) 0))
+                  (Numbers (seq Keys 0 rest.to n 0 rest.third 0)) b bs
+                  (ap (λ (q : ℕ). stepped (Numbers (seq Keys 0 q n 0 t 0)) b) one
+                  ∙ shift-digit n t b h.0 (omega (arith, h.1, other))) rest.leads;
             }
-        | inr some_parts ↦
-            let rest = text-read bs n m k t p h.2 in
+        | inr more ↦
+            let rest = codes-read bs p n t h.2 low in
             record {
-              parts = rest.parts;
+              to = rest.to;
               third = rest.third;
-              leads = leads-cons (Numbers (seq Keys 2 p n m t k)) (Numbers (seq Keys 2 p n m t k))
-                  (Numbers (seq Keys 2 rest.parts n m rest.third k)) b bs
-                  (text-other n m k t p b some_parts h.0 (omega (arith, h.1, other))) rest.leads;
+              leads = leads-cons (Numbers (seq Keys 0 p n 0 t 0)) (Numbers (seq Keys 0 p n 0 t 0))
+                  (Numbers (seq Keys 0 rest.to n 0 rest.third 0)) b bs
+                  (shift-deaf n t p b (omega (arith, low, more)) h.0 (omega (arith, h.1, other))) rest.leads;
             }
       ]
     ]
 
-text-begins : (p n m k : ℕ) → stepped (Numbers (seq Keys 1 p n m 0 k)) 59 ≡ More (Numbers (seq Keys 2 0 n m 0 k))
+-- what is held after them
+record HeldAfter (parts n t : ℕ) (tail : List ℕ) (m : ℕ) (kind : KeyEventKind) : Type 0 where
+  to : ℕ
+  number : ℕ
+  leads : Leads (Numbers (seq Keys 0 parts n 0 t 0)) tail (Numbers (seq Keys 1 to n m t number))
+  is : kind_of number ≡ kind
+
+held-digit : (n t m b : ℕ) → 48 ≤ b → b ≤ 57
+    → stepped (Numbers (seq Keys 1 0 n m t 0)) b ≡ More (Numbers (seq Keys 1 0 n (min (m * 10 + (b - 48)) (2 ^ 32 - 1)) t 0))
+unfolding stepped in_sequence pushed digit_pushed
+held-digit n t m b low high = grind (arith, common_steps, digit_of b low high)
+
+held-kind-digit : (n m t k b : ℕ) → 48 ≤ b → b ≤ 57
+    → stepped (Numbers (seq Keys 1 1 n m t k)) b ≡ More (Numbers (seq Keys 1 1 n m t (min (k * 10 + (b - 48)) (2 ^ 32 - 1))))
+unfolding stepped in_sequence pushed digit_pushed
+held-kind-digit n m t k b low high = grind (arith, common_steps, digit_of b low high)
+
+held-begins : (parts n t : ℕ) → stepped (Numbers (seq Keys 0 parts n 0 t 0)) 59 ≡ More (Numbers (seq Keys 1 0 n 0 t 0))
 unfolding stepped in_sequence pushed
-text-begins p n m k = refl
+held-begins parts n t = refl
 
-whole-codes : (ds codes tail text : List ℕ)
-    → (ds ++ (58 ∷ [])) ++ (codes ++ (tail ++ (59 ∷ text))) ≡ ds ++ (58 ∷ (codes ++ (tail ++ (59 ∷ text))))
-whole-codes ds codes tail text = append_assoc ds (58 ∷ []) (codes ++ (tail ++ (59 ∷ text)))
+held-second : (parts n t : ℕ) (es : List ℕ) (m : ℕ) → WritesNumber es m → m < 2 ^ 32
+    → Leads (Numbers (seq Keys 0 parts n 0 t 0)) (59 ∷ es) (Numbers (seq Keys 1 0 n m t 0))
+held-second parts n t es m w small =
+    leads-cons (Numbers (seq Keys 0 parts n 0 t 0)) (Numbers (seq Keys 1 0 n 0 t 0)) (Numbers (seq Keys 1 0 n m t 0)) 59 es
+    (held-begins parts n t)
+    (number-read (λ (v : ℕ). Numbers (seq Keys 1 0 n v t 0)) (held-digit n t) es m w small)
 
-codes-held-read : {n m : ℕ} {code : KeyCode} {is_keypad : Bool} {ds tail : List ℕ} {kind : KeyEventKind} (codes text : List ℕ)
+held-after : {tail : List ℕ} {m : ℕ} {kind : KeyEventKind} (parts n t : ℕ) → Held tail m kind → m ≤ 256
+    → HeldAfter parts n t tail m kind
+held-after {m = m} parts n t (held_down {es = es} v) low =
+    record { to = 0; number = 0; leads = held-second parts n t es m v (omega arith); is = refl }
+held-after {m = m} parts n t (held_told {es = es} {ks = ks} {k = k} v u tiny) low = record {
+  to = 1;
+  number = k;
+  leads = leads-append (Numbers (seq Keys 0 parts n 0 t 0)) (Numbers (seq Keys 1 0 n m t 0)) (Numbers (seq Keys 1 1 n m t k))
+      (59 ∷ es) (58 ∷ ks) (held-second parts n t es m v (omega arith))
+      (leads-cons (Numbers (seq Keys 1 0 n m t 0)) (Numbers (seq Keys 1 1 n m t 0)) (Numbers (seq Keys 1 1 n m t k)) 58 ks
+      (code-colon 1 0 n m t 0)
+      (number-read (λ (v : ℕ). Numbers (seq Keys 1 1 n m t v)) (held-kind-digit n m t) ks k u (omega arith)));
+  is = refl;
+}
+
+text-begins : (p n m t k : ℕ) → stepped (Numbers (seq Keys 1 p n m t k)) 59 ≡ More (Numbers (seq Keys 2 0 n m 0 k))
+unfolding stepped in_sequence pushed
+text-begins p n m t k = refl
+
+typed-plain : (told : Option ℕ) (code : KeyCode) (is_keypad : Bool) (m : ℕ) (kind : KeyEventKind)
+    → IsPlain (typed_told told code is_keypad m kind)
+typed-plain (Some c) (Char d) is_keypad m kind = either-plain ((m - 1) % 2 == 1) _ _
+typed-plain (Some c) code is_keypad m kind = key-plain _
+typed-plain None code is_keypad m kind = key-plain _
+
+codes-held-read : {n m t : ℕ} {code : KeyCode} {is_keypad : Bool} {ds tail text : List ℕ} {kind : KeyEventKind} (codes : List ℕ)
     → IsCode n code is_keypad → WritesNumber ds n
-    → AreCodes codes → Held tail m kind → m ≤ 256 → AreCodes text
-    → Gives (csi (ds ++ (58 ∷ (codes ++ (tail ++ (59 ∷ text))))) 117) (code_told code is_keypad m kind ∷ [])
-codes-held-read {n = n} {m = m} {code = code} {is_keypad = is_keypad} {ds = ds} {tail = tail} {kind = kind} codes text c w
-    further_codes h small text_codes =
-    let r = codes-read codes n 1 further_codes (omega arith) in
-    let held_part = held-after n r.to h small in
-    let last = text-read text n m held_part.number 0 0 text_codes in
+    → AreCodes codes → Held tail m kind → m ≤ 256 → ToldFirst text t
+    → Gives (csi (ds ++ (58 ∷ (codes ++ (tail ++ (59 ∷ text))))) 117) (typed_told (told_character t) code is_keypad m kind ∷ [])
+codes-held-read {n = n} {m = m} {t = t} {code = code} {is_keypad = is_keypad} {ds = ds} {tail = tail} {text = text} {kind = kind}
+    codes c w further_codes h small told =
+    let r = codes-read codes 1 n 0 further_codes (omega arith) in
+    let held_part = held-after r.to n r.third h small in
+    let last = text-told n m held_part.number told in
     let first_state = Numbers (seq Keys 0 1 n 0 0 0) in
-    let codes_state = Numbers (seq Keys 0 r.to n 0 0 0) in
-    let held_state = Numbers (seq Keys 1 held_part.parts n m 0 held_part.number) in
-    let last_state = Numbers (seq Keys 2 last.parts n m last.third held_part.number) in
+    let codes_state = Numbers (seq Keys 0 r.to n 0 r.third 0) in
+    let held_state = Numbers (seq Keys 1 held_part.to n m r.third held_part.number) in
+    let last_state = Numbers (seq Keys 2 last.to n m t held_part.number) in
     let body : Leads Bracket (ds ++ (58 ∷ (codes ++ (tail ++ (59 ∷ text))))) last_state =
-    subst (λ (bs : List ℕ). Leads Bracket bs last_state) (whole-codes ds codes tail text)
+    subst (λ (bs : List ℕ). Leads Bracket bs last_state) (append_assoc ds (58 ∷ []) (codes ++ (tail ++ (59 ∷ text))))
     (leads-append Bracket first_state last_state (ds ++ (58 ∷ [])) (codes ++ (tail ++ (59 ∷ text)))
     (bracket-colon ds n w (code-small c))
     (leads-append first_state codes_state last_state codes (tail ++ (59 ∷ text)) r.leads
     (leads-append codes_state held_state last_state tail (59 ∷ text) held_part.leads
     (leads-cons held_state (Numbers (seq Keys 2 0 n m 0 held_part.number)) last_state 59 text
-    (text-begins held_part.parts n m held_part.number) last.leads)))) in
-    csi-gives (ds ++ (58 ∷ (codes ++ (tail ++ (59 ∷ text))))) (seq Keys 2 last.parts n m last.third held_part.number) 117
-    (code_told code is_keypad m kind) body
+    (text-begins held_part.to n m r.third held_part.number) last.leads)))) in
+    csi-gives (ds ++ (58 ∷ (codes ++ (tail ++ (59 ∷ text))))) (seq Keys 2 last.to n m t held_part.number) 117
+    (typed_told (told_character t) code is_keypad m kind) body (omega arith) (omega arith)
+    (code-first 2 last.to n m t held_part.number ∙ code-event-is c 2 last.to m t held_part.number small
+    ∙ ap (typed_told (told_character t) code is_keypad m) held_part.is) (typed-plain (told_character t) code is_keypad m kind)
+
+shifted-read : {n m t : ℕ} {code : KeyCode} {is_keypad : Bool} {ds codes tail : List ℕ} {kind : KeyEventKind}
+    → IsCode n code is_keypad → WritesNumber ds n
+    → ToldFirst codes t → Held tail m kind → m ≤ 256
+    → Gives (csi (ds ++ (58 ∷ (codes ++ tail))) 117) (typed_told (told_character t) code is_keypad m kind ∷ [])
+shifted-read {n = n} {m = m} {t = t} {code = code} {is_keypad = is_keypad} {ds = ds} {codes = codes} {tail = tail} {kind = kind}
+    c w told h small =
+    let r = first-told n told in
+    let held_part = held-after r.to n t h small in
+    let first_state = Numbers (seq Keys 0 1 n 0 0 0) in
+    let codes_state = Numbers (seq Keys 0 r.to n 0 t 0) in
+    let held_state = Numbers (seq Keys 1 held_part.to n m t held_part.number) in
+    let body : Leads Bracket (ds ++ (58 ∷ (codes ++ tail))) held_state =
+    subst (λ (bs : List ℕ). Leads Bracket bs held_state) (append_assoc ds (58 ∷ []) (codes ++ tail))
+    (leads-append Bracket first_state held_state (ds ++ (58 ∷ [])) (codes ++ tail) (bracket-colon ds n w (code-small c))
+    (leads-append first_state codes_state held_state codes tail r.leads held_part.leads)) in
+    csi-gives (ds ++ (58 ∷ (codes ++ tail))) (seq Keys 1 held_part.to n m t held_part.number) 117
+    (typed_told (told_character t) code is_keypad m kind) body (omega arith) (omega arith)
+    (code-first 1 held_part.to n m t held_part.number ∙ code-event-is c 1 held_part.to m t held_part.number small
+    ∙ ap (typed_told (told_character t) code is_keypad m) held_part.is) (typed-plain (told_character t) code is_keypad m kind)
+
+-- ---- text without a key
+
+no-key : code_key 0 ≡ None
+unfolding code_key keypad_key name_key key_at
+no-key = refl
+
+pub text-says : (m t k : ℕ) → IsScalar t → is_control t ≡ false → m ≤ 256
+    → sequence_event (seq Keys 2 0 0 m t k) 117 ≡ key_told (Char t) false (typed_mask t m) (kind_of k)
+text-says m t k scalar plain small =
+    code-first 2 0 0 m t k
+    ∙ ap (λ (o : Option (KeyCode × Bool)). told_code_event o (told_character t) (seq Keys 2 0 0 m t k)) no-key
+    ∙ ap (λ (o : Option ℕ). text_event o (seq Keys 2 0 0 m t k)) (beside-some t scalar plain)
+    ∙ typed-is k t false m small
+
+text-read : {m t : ℕ} {ds tail fs : List ℕ} {kind : KeyEventKind} → WritesNumber ds 0 → Held tail m kind → m ≤ 256
+    → WritesNumber fs t → IsScalar t → is_control t ≡ false
+    → Gives (csi ((ds ++ tail) ++ (59 ∷ fs)) 117) (key_told (Char t) false (typed_mask t m) kind ∷ [])
+text-read {m = m} {t = t} {ds = ds} {tail = tail} {fs = fs} {kind = kind} w h small u scalar plain =
+    let r = held-read w (omega arith) h small in
+    let below = scalar_cases t scalar in
+    csi-gives ((ds ++ tail) ++ (59 ∷ fs)) (seq Keys 2 0 0 m t r.number) 117 (key_told (Char t) false (typed_mask t m) kind)
+    (leads-append Bracket (Numbers (seq Keys 1 r.parts 0 m 0 r.number)) (Numbers (seq Keys 2 0 0 m t r.number)) (ds ++ tail)
+    (59 ∷ fs) r.leads
+    (leads-cons (Numbers (seq Keys 1 r.parts 0 m 0 r.number)) (Numbers (seq Keys 2 0 0 m 0 r.number))
+    (Numbers (seq Keys 2 0 0 m t r.number)) 59 fs
+    (text-begins r.parts 0 m 0 r.number)
+    (number-read (λ (v : ℕ). Numbers (seq Keys 2 0 0 m v r.number)) (text-digit 0 m r.number) fs t u (omega (arith, below)))))
     (omega arith) (omega arith)
-    (code-first 2 last.parts n m last.third held_part.number ∙ code-event-is c held_part.number m small
-    ∙ ap (code_told code is_keypad m) held_part.is) (key-plain _)
+    (text-says m t r.number scalar plain small ∙ ap (key_told (Char t) false (typed_mask t m)) r.is) (key-plain _)
 
 other-read : {n m : ℕ} {code : KeyCode} {is_keypad : Bool} {ds es fs : List ℕ} → IsCode n code is_keypad → WritesNumber ds 27
     → WritesNumber es m → m ≤ 256 → WritesNumber fs n
@@ -375,7 +505,7 @@ other-read : {n m : ℕ} {code : KeyCode} {is_keypad : Bool} {ds es fs : List �
 other-read {n = n} {m = m} {code = code} {is_keypad = is_keypad} {ds = ds} {es = es} {fs = fs} c w v small u =
     csi-gives (three_numbers ds es fs) (seq Keys 2 0 27 m n 0) 126 (code_told code is_keypad m Press)
     (bracket-three ds es fs 27 m n w (omega arith) v (omega arith) u (code-small c)) (omega arith) (omega arith)
-    (code-third n m ∙ code-event-is c 0 m small) (key-plain _)
+    (code-third n m ∙ code-key-is c 0 m small) (key-plain _)
 
 -- ---- the mouse
 
@@ -522,7 +652,9 @@ encodes-read (by_tilde tilde w) = tilde-read tilde w
 encodes-read (by_tilde_held tilde w h small) = tilde-held-read tilde w h small
 encodes-read (by_code code w) = code-read code w
 encodes-read (by_code_held code w h small) = code-held-read code w h small
-encodes-read (by_codes codes text code w more h small last) = codes-held-read codes text code w more h small last
+encodes-read (by_codes codes code w more h small told) = codes-held-read codes code w more h small told
+encodes-read (by_shifted code w told h small) = shifted-read code w told h small
+encodes-read (by_text w h small u scalar plain) = text-read w h small u scalar plain
 encodes-read (by_other code w v small u) = other-read code w v small u
 encodes-read (by_numbers_down w v u a b c e) = down-read w v u a b c e
 encodes-read (by_numbers_up w v u a b c e) = up-read w v u a b c e

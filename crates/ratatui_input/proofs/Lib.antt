@@ -3,6 +3,7 @@ pub mod EncodingLemmas
 pub mod PasteLemmas
 pub mod ReaderLemmas
 pub mod TableLemmas
+pub mod ToldLemmas
 pub mod StepLemmas
 pub mod CharacterLemmas
 pub mod GrammarLemmas

@@ -1,7 +1,7 @@
 -- Bytes that belong together and stand for nothing.
 use Rattle.std.proofs.Common.{◌≡◌, ◌≢◌, ◌⊎◌, inl, inr, ℕ, ◌+◌, ◌<◌, ◌≤◌, ◌^◌, Bool, true, false, List, [], ◌∷◌, ◌++◌, Option}
 use Rattle.std.proofs.Common.{Some, None, refl, ap, ◌∙◌, arith}
-use Rattle.std.specs.Prelude.{if◌then◌else◌, ◌==◌, ◌&&◌, nat_lt}
+use Rattle.std.specs.Prelude.{if◌then◌else◌, ◌==◌, ◌&&◌, ◌||◌, nat_lt}
 use Rattle.std.proofs.lemmas.Bool.{cases_lt, cases_eq}
 use Rattle.std.proofs.lemmas.Bool.Decides.{nat_tests}
 use Rattle.std.proofs.lemmas.Grind.{common_steps}
@@ -17,7 +17,7 @@ use Rattle.ratatui_input.specs.declared.sequence.Source.TheVariants.{Keys, Other
 use Rattle.ratatui_input.specs.declared.keys.TheConstants.{NUMBERS}
 use Rattle.ratatui_input.specs.Keys.{key_at, letter_key, number_key, tab_key}
 use Rattle.ratatui_input.specs.Sequences.{keys_event, letter_event, tilde_event, number_key_event, sequence_event, source_event}
-use Rattle.ratatui_input.specs.Sequences.{pushed, digit_pushed, no_numbers, key_event, letter_code_event, code_key_event}
+use Rattle.ratatui_input.specs.Sequences.{pushed, digit_pushed, no_numbers, key_event, letter_code_event, told_code_event}
 use Rattle.ratatui_input.specs.Sequences.{with_shift}
 use Rattle.ratatui_input.specs.Decoding.{stepped, first, begun, beginning, after_bracket, in_sequence, going_on, read}
 use Rattle.ratatui_input.specs.declared.decoder.Partial.{Partial}
@@ -72,7 +72,7 @@ pub digit-keeps : (s : Sequence) (b : ℕ) → s.source ≡ Other → (digit_pus
 unfolding digit_pushed
 digit-keeps s b h =
     either ((s.numbers == 0) && (s.parts == 0)) _ _ h
-    (either ((s.numbers == 1) && (s.parts == 0)) _ _ h (either ((s.numbers == 2) && (s.parts == 0)) _ _ h
+    (either ((s.numbers == 1) && (s.parts == 0)) _ _ h (either (((s.numbers == 0) && (s.parts == 1)) || ((s.numbers == 2) && (s.parts == 0))) _ _ h
     (either ((s.numbers == 1) && (s.parts == 1)) _ _ h h)))
 
 pub digit-goes : (s : Sequence) (b : ℕ) → 48 ≤ b → b ≤ 57 → pushed s b ≡ Some (digit_pushed s b)
@@ -91,6 +91,7 @@ colon-goes s = refl
 semicolon-goes : (s : Sequence) → pushed s 59 ≡ Some (record s {
   numbers = if nat_lt s.numbers 3 then s.numbers + 1 else 3;
   parts = 0;
+  third = if s.numbers == 1 then 0 else s.third;
 })
 unfolding pushed
 semicolon-goes s = refl
@@ -113,7 +114,11 @@ goes s b low high =
           }
           | inr d ↦ elim (cases_eq b 59) [
             | inl e ↦ record {
-              next = record s { numbers = if nat_lt s.numbers 3 then s.numbers + 1 else 3; parts = 0 };
+              next = record s {
+                numbers = if nat_lt s.numbers 3 then s.numbers + 1 else 3;
+                parts = 0;
+                third = if s.numbers == 1 then 0 else s.third;
+              };
               leads = ap (pushed s) e ∙ semicolon-goes s;
               keeps = λ h. h;
             }
@@ -261,7 +266,7 @@ code-nothing : {n m : ℕ} {code : KeyCode} {is_keypad : Bool} {ds es : List ℕ
 code-nothing {n = n} {m = m} {code = code} {is_keypad = is_keypad} {ds = ds} {es = es} c w v many small =
     csi-gives (two_numbers ds es) (seq Keys 1 0 n m 0 0) 117 Unknown (bracket-two ds es n m w (code-small c) v small)
     (omega arith) (omega arith)
-    (code-first 1 0 n m 0 0 ∙ ap (λ (o : Option (KeyCode × Bool)). code_key_event o 0 m) (code-told c)
+    (code-first 1 0 n m 0 0 ∙ ap (λ (o : Option (KeyCode × Bool)). told_code_event o None (seq Keys 1 0 n m 0 0)) (code-told c)
     ∙ too-many 0 (tab_key code m) is_keypad m many) unknown-plain
 
 -- ---- a letter and a number that no key has

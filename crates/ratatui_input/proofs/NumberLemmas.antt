@@ -8,7 +8,7 @@ use Rattle.ratatui_input.specs.Encodings.{IsDigits, value_after}
 use Rattle.ratatui_input.specs.Grammar.{AreCodes, AreNumbers}
 use Rattle.ratatui_input.specs.Sequences.{with_digit, digit_pushed}
 use Rattle.ratatui_input.specs.Pieces.{KeepsNumber, Field, plain_field, field_with_codes, HeldField, held_field, held_with_kind}
-use Rattle.ratatui_input.specs.Pieces.{held_with_more, HasNumbers, has_one, has_two, has_three, has_more}
+use Rattle.ratatui_input.specs.Pieces.{held_with_more, HasNumbers, has_one, has_two, has_three, has_more, HasText, has_text}
 use Rattle.ratatui_input.proofs.TableLemmas.{seq}
 use Rattle.ratatui_input.proofs.StepLemmas.{digit_of}
 
@@ -103,22 +103,33 @@ held-colon {m = m} {k = k} (more_kinds_come {ds = ds} {ks = ks} cs h i c) =
 
 -- what stands in a sequence
 pub data Come : Source → Sequence → List ℕ → Type 0 where
-  come_one : {source : Source} {ds : List ℕ} {n p : ℕ} → FieldComes p ds n → Come source (seq source 0 p n 0 0 0) ds
-  come_two : {source : Source} {ds es : List ℕ} {n m k p q : ℕ} → FieldComes p ds n → HeldComes q es m k
-      → Come source (seq source 1 q n m 0 k) (ds ++ (59 ∷ es))
-  come_three : {source : Source} {ds es fs : List ℕ} {n m t k p q r : ℕ} → FieldComes p ds n → HeldComes q es m k
+  come_one : {source : Source} {ds : List ℕ} {n t p : ℕ} → HeldComes p ds n t → Come source (seq source 0 p n 0 t 0) ds
+  come_two : {source : Source} {ds es : List ℕ} {n m t k p q : ℕ} → HeldComes p ds n t → HeldComes q es m k
+      → Come source (seq source 1 q n m t k) (ds ++ (59 ∷ es))
+  come_three : {source : Source} {ds es fs : List ℕ} {n m t u k p q r : ℕ} → HeldComes p ds n u → HeldComes q es m k
       → FieldComes r fs t
       → Come source (seq source 2 r n m t k) ((ds ++ (59 ∷ es)) ++ (59 ∷ fs))
-  come_more : {source : Source} {ds es fs : List ℕ} {n m t k p q r s : ℕ} (gs : List ℕ) → FieldComes p ds n → HeldComes q es m k
+  come_more : {source : Source} {ds es fs : List ℕ} {n m t u k p q r s : ℕ} (gs : List ℕ) → HeldComes p ds n u
+      → HeldComes q es m k
       → FieldComes r fs t → AreNumbers gs
       → Come source (seq source 3 s n m t k) (((ds ++ (59 ∷ es)) ++ (59 ∷ fs)) ++ (59 ∷ gs))
 
 pub come-numbers : {source : Source} {s : Sequence} {body : List ℕ} → Come source s body
     → HasNumbers body s.numbers s.first s.second s.third s.kind
-come-numbers (come_one h) = has_one (field-whole h)
-come-numbers (come_two h i) = has_two (field-whole h) (held-whole i)
-come-numbers (come_three h i j) = has_three (field-whole h) (held-whole i) (field-whole j)
-come-numbers (come_more gs h i j k) = has_more gs (field-whole h) (held-whole i) (field-whole j) k
+come-numbers (come_one h) = has_one (held-whole h)
+come-numbers (come_two h i) = has_two (held-whole h) (held-whole i)
+come-numbers (come_three h i j) = has_three (held-whole h) (held-whole i) (field-whole j)
+come-numbers (come_more gs h i j k) = has_more gs (held-whole h) (held-whole i) (field-whole j) k
+
+-- where the third number is one code point, it is a text
+pub come-text : {source : Source} {s : Sequence} {body : List ℕ} → Come source s body → s.numbers ≡ 2 → s.parts ≡ 0
+    → HasText body s.first s.second s.third s.kind
+come-text (come_one h) two none = absurd (let e : 0 ≡ 2 = two in omega (arith, e))
+come-text (come_two h i) two none = absurd (let e : 1 ≡ 2 = two in omega (arith, e))
+come-text (come_three h i (field_comes j)) two none = has_text (held-whole h) (held-whole i) j
+come-text (come_three h i (codes_come cs j k)) two none = absurd (let e : 1 ≡ 0 = none in omega (arith, e))
+come-text (come_three h i (more_codes_come cs j k)) two none = absurd (let e : 2 ≡ 0 = none in omega (arith, e))
+come-text (come_more gs h i j k) two none = absurd (let e : 3 ≡ 2 = two in omega (arith, e))
 
 pub come-source : {source : Source} {s : Sequence} {body : List ℕ} → Come source s body → s.source ≡ source
 come-source (come_one h) = refl
@@ -127,21 +138,22 @@ come-source (come_three h i j) = refl
 come-source (come_more gs h i j k) = refl
 
 -- a digit of the first, second or third number
-one-digit : {source : Source} {p n : ℕ} {ds : List ℕ} (b : ℕ) → FieldComes p ds n → 48 ≤ b → b ≤ 57
-    → Come source (digit_pushed (seq source 0 p n 0 0 0) b) (ds ++ (b ∷ []))
+one-digit : {source : Source} {p n t : ℕ} {ds : List ℕ} (b : ℕ) → HeldComes p ds n t → 48 ≤ b → b ≤ 57
+    → Come source (digit_pushed (seq source 0 p n 0 t 0) b) (ds ++ (b ∷ []))
 unfolding digit_pushed
-one-digit b (field_comes h) low high = come_one (field-digit b (field_comes h) low high)
-one-digit b (codes_come cs h k) low high = come_one (field-digit b (codes_come cs h k) low high)
-one-digit b (more_codes_come cs h k) low high = come_one (field-digit b (more_codes_come cs h k) low high)
+one-digit b (held_comes h) low high = come_one (held-digit b (held_comes h) low high)
+one-digit b (kind_comes h i) low high = come_one (held-digit b (kind_comes h i) low high)
+one-digit b (more_kinds_come cs h i c) low high = come_one (held-digit b (more_kinds_come cs h i c) low high)
 
-two-digit : {source : Source} {p q n m k : ℕ} {ds es : List ℕ} (b : ℕ) → FieldComes p ds n → HeldComes q es m k → 48 ≤ b → b ≤ 57
-    → Come source (digit_pushed (seq source 1 q n m 0 k) b) (ds ++ (59 ∷ (es ++ (b ∷ []))))
+two-digit : {source : Source} {p q n m t k : ℕ} {ds es : List ℕ} (b : ℕ) → HeldComes p ds n t → HeldComes q es m k → 48 ≤ b
+    → b ≤ 57
+    → Come source (digit_pushed (seq source 1 q n m t k) b) (ds ++ (59 ∷ (es ++ (b ∷ []))))
 unfolding digit_pushed
 two-digit b f (held_comes h) low high = come_two f (held-digit b (held_comes h) low high)
 two-digit b f (kind_comes h i) low high = come_two f (held-digit b (kind_comes h i) low high)
 two-digit b f (more_kinds_come cs h i c) low high = come_two f (held-digit b (more_kinds_come cs h i c) low high)
 
-three-digit : {source : Source} {p q r n m t k : ℕ} {ds es fs : List ℕ} (b : ℕ) → FieldComes p ds n → HeldComes q es m k
+three-digit : {source : Source} {p q r n m t u k : ℕ} {ds es fs : List ℕ} (b : ℕ) → HeldComes p ds n u → HeldComes q es m k
     → FieldComes r fs t → 48 ≤ b → b ≤ 57
     → Come source (digit_pushed (seq source 2 r n m t k) b) ((ds ++ (59 ∷ es)) ++ (59 ∷ (fs ++ (b ∷ []))))
 unfolding digit_pushed
@@ -167,11 +179,15 @@ abbrev pub with_colon : Sequence → Sequence
 with_colon s = record s { parts = if nat_lt s.parts 2 then s.parts + 1 else 2 }
 
 abbrev pub with_semicolon : Sequence → Sequence
-with_semicolon s = record s { numbers = if nat_lt s.numbers 3 then s.numbers + 1 else 3; parts = 0 }
+with_semicolon s = record s {
+  numbers = if nat_lt s.numbers 3 then s.numbers + 1 else 3;
+  parts = 0;
+  third = if s.numbers == 1 then 0 else s.third;
+}
 
 pub come-colon : {source : Source} {s : Sequence} {body : List ℕ} → Come source s body
     → Come source (with_colon s) (body ++ (58 ∷ []))
-come-colon (come_one f) = come_one (field-colon f)
+come-colon (come_one f) = come_one (held-colon f)
 come-colon {source = source} {s = s} (come_two {ds = ds} {es = es} f h) =
     subst (Come source (with_colon s)) (sym (append_assoc ds (59 ∷ es) (58 ∷ []))) (come_two f (held-colon h))
 come-colon {source = source} {s = s} (come_three {ds = ds} {es = es} {fs = fs} f h g) =

@@ -16,13 +16,18 @@ use Rattle.ratatui_input.specs.Mouse.{mouse_kind, mouse_event, kind_told}
 use Rattle.ratatui_input.specs.Grammar.{csi, key_told, letter_told, code_told, mouse_told}
 use Rattle.ratatui_input.specs.Sequences.{kind_of, keys_event, pointer_event, letter_event, tilde_event, code_event, size_event}
 use Rattle.ratatui_input.specs.Sequences.{position_event, key_event, letter_code_event, code_key_event, number_key_event}
-use Rattle.ratatui_input.specs.Pieces.{HasNumbers, IsCodePoint}
+use Rattle.ratatui_input.specs.Pieces.{HasNumbers, HasText, IsCodePoint}
+use Rattle.std.specs.Char.{IsScalar, is_control}
+use Rattle.ratatui_input.specs.Keys.{plain_character, is_scalar}
+use Rattle.ratatui_input.specs.Grammar.{told_character}
+use Rattle.ratatui_input.specs.Sequences.{typed_event, told_key_event, text_event, told_code_event}
+use Rattle.ratatui_input.proofs.ToldLemmas.{told-is, told-many, typed-is, typed-many}
 use Rattle.ratatui_input.specs.Pieces.{any_letter, any_tilde, any_code, any_other, any_begun, any_ended, any_size, any_position}
-use Rattle.ratatui_input.specs.Pieces.{any_plain_mouse, any_down, any_up, any_gained, any_lost}
+use Rattle.ratatui_input.specs.Pieces.{any_plain_mouse, any_down, any_up, any_gained, any_lost, any_text}
 use Rattle.ratatui_input.proofs.TableLemmas.{letter-is}
 use Rattle.ratatui_input.proofs.NothingLemmas.{letter-too-many}
 use Rattle.ratatui_input.proofs.StandLemmas.{Stands, if-stands, same, differ, not-below, numbers_stand, not_known}
-use Rattle.ratatui_input.proofs.CodeLemmas.{LetterOrEnter, letter-of, tilde-of, IsCodeOf, code-of}
+use Rattle.ratatui_input.proofs.CodeLemmas.{LetterOrEnter, letter-of, tilde-of, IsCodeOf, code-of, scalar-is}
 
 pub csi-some : (body : List ℕ) (last : ℕ) → csi body last ≢ []
 csi-some body last e = cc
@@ -110,12 +115,59 @@ tilde-stands s body h =
     (λ z. tilde-answer s.first (number_key s.first) s.kind s.second (csi-some body 126) (tilde-of s.first)
     (λ code is small. numbers_stand (any_tilde h is small)))))
 
+told-stands : (s : Sequence) (body : List ℕ) (key : KeyCode × Bool)
+    → HasNumbers body s.numbers s.first s.second s.third s.kind → IsCodePoint s.first key.0 key.1
+    → Stands (csi body 117) (told_key_event (told_character s.third) key.0 key.1 s.kind s.second)
+told-stands s body key h is =
+    elim (cases_lt 256 s.second) [
+      | inl many ↦ subst (Stands (csi body 117)) (sym (told-many (told_character s.third) key.0 key.1 s.kind s.second many))
+          (not_known (csi-some body 117))
+      | inr small ↦ subst (Stands (csi body 117)) (sym (told-is (told_character s.third) key.0 key.1 s.kind s.second small))
+          (numbers_stand (any_code h is small))
+    ]
+
+text-asked : (n c p : ℕ) → ((n == 0) && ((c == 2) && (p == 0))) ≡ true → (n ≡ 0) × (c ≡ 2) × (p ≡ 0)
+text-asked n c p h = grind (arith, nat_tests)
+
+text-stands : (s : Sequence) (body : List ℕ) → HasText body 0 s.second s.third s.kind → IsScalar s.third
+    → is_control s.third ≡ false
+    → Stands (csi body 117) (typed_event s.kind s.third false s.second)
+text-stands s body h scalar plain =
+    elim (cases_lt 256 s.second) [
+      | inl many ↦ subst (Stands (csi body 117)) (sym (typed-many s.kind s.third false s.second many))
+          (not_known (csi-some body 117))
+      | inr small ↦ subst (Stands (csi body 117)) (sym (typed-is s.kind s.third false s.second small))
+          (numbers_stand (any_text h scalar plain small))
+    ]
+
+plain-answer : (s : Sequence) (body : List ℕ) (b : Bool) → (b ≡ false → is_control s.third ≡ false) → IsScalar s.third
+    → (s.numbers ≡ 2 → s.parts ≡ 0 → HasText body s.first s.second s.third s.kind)
+    → Stands (csi body 117) (text_event (if b then None else Some s.third) s)
+plain-answer s body true plain scalar text = not_known (csi-some body 117)
+plain-answer s body false plain scalar text =
+    if-stands ((s.first == 0) && ((s.numbers == 2) && (s.parts == 0))) (typed_event s.kind s.third false s.second) Unknown
+    (λ e. let f = text-asked s.first s.numbers s.parts e in
+    text-stands s body (subst (λ (n : ℕ). HasText body n s.second s.third s.kind) f.0 (text f.1 f.2)) scalar (plain refl))
+    (λ e. not_known (csi-some body 117))
+
+text-answer : (s : Sequence) (body : List ℕ) (a : Bool) → (a ≡ true → IsScalar s.third)
+    → (s.numbers ≡ 2 → s.parts ≡ 0 → HasText body s.first s.second s.third s.kind)
+    → Stands (csi body 117) (text_event (plain_character (if a then Some s.third else None)) s)
+text-answer s body false scalar text = not_known (csi-some body 117)
+text-answer s body true scalar text = plain-answer s body (is_control s.third) (λ e. e) (scalar refl) text
+
+told-answer : (s : Sequence) (body : List ℕ) (o : Option (KeyCode × Bool))
+    → HasNumbers body s.numbers s.first s.second s.third s.kind
+    → (s.numbers ≡ 2 → s.parts ≡ 0 → HasText body s.first s.second s.third s.kind) → IsCodeOf s.first o
+    → Stands (csi body 117) (told_code_event o (told_character s.third) s)
+told-answer s body (Some key) h text is = told-stands s body key h is
+told-answer s body None h text is = text-answer s body (is_scalar s.third) (scalar-is s.third) text
+
 code-stands : (s : Sequence) (body : List ℕ) → HasNumbers body s.numbers s.first s.second s.third s.kind
-    → Stands (csi body 117) (code_event s s.first)
+    → (s.numbers ≡ 2 → s.parts ≡ 0 → HasText body s.first s.second s.third s.kind)
+    → Stands (csi body 117) (code_event s)
 unfolding code_event
-code-stands s body h =
-    code-answer s.first (code_key s.first) s.kind s.second (csi-some body 117) (code-of s.first)
-    (λ code is_keypad is small. numbers_stand (any_code h is small))
+code-stands s body h text = told-answer s body (code_key s.first) h text (code-of s.first)
 
 size-tests : (n c m t : ℕ) → (((n == 48) || (n == 8)) && (nat_le 2 c && (nat_le m 65535 && nat_le t 65535))) ≡ true
     → ((n ≡ 48) ⊎ (n ≡ 8)) × (2 ≤ c) × (m ≤ 65535) × (t ≤ 65535)
@@ -169,13 +221,14 @@ plain-mouse s body h many high =
     (omega arith) h) many a b c is))
 
 pub keys-stand : (s : Sequence) (body : List ℕ) (b : ℕ) → HasNumbers body s.numbers s.first s.second s.third s.kind
+    → (s.numbers ≡ 2 → s.parts ≡ 0 → HasText body s.first s.second s.third s.kind)
     → Stands (csi body b) (keys_event s b)
 unfolding keys_event
-keys-stand s body b h =
+keys-stand s body b h text =
     if-stands (b == 126) _ _ (λ e. subst (λ (x : ℕ). Stands (csi body x) (tilde_event s)) (sym (same b 126 e))
     (tilde-stands s body h))
-    (λ n1. if-stands (b == 117) _ _ (λ e. subst (λ (x : ℕ). Stands (csi body x) (code_event s s.first)) (sym (same b 117 e))
-    (code-stands s body h))
+    (λ n1. if-stands (b == 117) _ _ (λ e. subst (λ (x : ℕ). Stands (csi body x) (code_event s)) (sym (same b 117 e))
+    (code-stands s body h text))
     (λ n2. if-stands (b == 116) _ _ (λ e. subst (λ (x : ℕ). Stands (csi body x) (size_event s)) (sym (same b 116 e))
     (size-stands s body h))
     (λ n3. if-stands ((b == 82) && ((s.numbers == 1) && (if s.first == 1 then false else true))) _ _

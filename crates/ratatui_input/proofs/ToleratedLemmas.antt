@@ -22,22 +22,23 @@ use Rattle.ratatui_input.specs.KeyTables.{letter_up, letter_down, letter_right, 
 use Rattle.ratatui_input.specs.KeyTables.{letter_home, letter_f1, letter_f2, letter_f3, letter_f4, letter_back_tab}
 use Rattle.ratatui_input.specs.Mouse.{mouse_event}
 use Rattle.ratatui_input.specs.Encodings.{IsDigits}
-use Rattle.ratatui_input.specs.Grammar.{csi, AreCodes, AreNumbers, code_told}
+use Rattle.ratatui_input.specs.Grammar.{csi, AreCodes, AreNumbers, code_told, typed_told, told_character}
 use Rattle.ratatui_input.specs.Sequences.{kind_of, pushed, digit_pushed, no_numbers, sequence_event, keys_event, pointer_event}
 use Rattle.ratatui_input.specs.Sequences.{letter_event, tilde_event, code_event, size_event, position_event, letter_code_event}
-use Rattle.ratatui_input.specs.Sequences.{code_key_event}
+use Rattle.ratatui_input.specs.Sequences.{code_key_event, told_code_event}
 use Rattle.ratatui_input.specs.Decoding.{Told, stepped, first, after_escape, after_bracket, in_sequence, going_on, decoded}
 use Rattle.ratatui_input.specs.Decoding.{byte_told, told_event}
 use Rattle.ratatui_input.specs.Pieces.{KeepsNumber, Field, plain_field, field_with_codes, HeldField, held_field, held_with_kind}
-use Rattle.ratatui_input.specs.Pieces.{held_with_more, HasNumbers, has_one, has_two, has_three, has_more, IsCodePoint, named_code}
+use Rattle.ratatui_input.specs.Pieces.{held_with_more, HasNumbers, has_one, has_two, has_three, has_more, HasText, has_text, IsCodePoint, named_code}
 use Rattle.ratatui_input.specs.Pieces.{private_code}
-use Rattle.ratatui_input.specs.Pieces.{Tolerates, any_letter, any_tilde, any_code, any_other, any_begun, any_ended, any_size}
+use Rattle.ratatui_input.specs.Pieces.{Tolerates, any_letter, any_tilde, any_code, any_text, any_other, any_begun, any_ended, any_size}
 use Rattle.ratatui_input.specs.Pieces.{any_position, any_plain_mouse, any_down, any_up, any_gained, any_lost}
 use Rattle.ratatui_input.proofs.TableLemmas.{seq, letter-is, key-is, letter-ends, tilde-told, code-told}
 use Rattle.ratatui_input.proofs.StepLemmas.{at, Leads, leads-none, leads-one, leads-cons, leads-append, ends, digit_of}
-use Rattle.ratatui_input.proofs.StepLemmas.{digits-kept, first-digit, second-digit, bracket-last, last-byte}
+use Rattle.ratatui_input.proofs.StepLemmas.{digits-kept, first-digit, bracket-last, last-byte}
 use Rattle.ratatui_input.proofs.NothingLemmas.{inside-step, digit-goes, bracket-step, goes}
-use Rattle.ratatui_input.proofs.GrammarLemmas.{code-first, mouse-is}
+use Rattle.ratatui_input.proofs.GrammarLemmas.{code-first, text-says, mouse-is}
+use Rattle.ratatui_input.proofs.ToldLemmas.{told-is}
 use Rattle.ratatui_input.proofs.CodeLemmas.{at-table, names, pads, IsName, IsPad, function-code}
 use Rattle.ratatui_input.proofs.NumberLemmas.{more_parts}
 
@@ -47,13 +48,14 @@ use Rattle.ratatui_input.proofs.NumberLemmas.{more_parts}
 record IsDeaf (numbers parts : ℕ) : Type 0 where
   some : parts ≢ 0
   no_kind : numbers ≡ 1 → parts ≢ 1
+  no_shift : numbers ≡ 0 → parts ≢ 1
 
 deaf : (source : Source) (c p n m t k b : ℕ) → IsDeaf c p → digit_pushed (seq source c p n m t k) b ≡ seq source c p n m t k
 unfolding digit_pushed
-deaf source c p n m t k b h = let x = h.some in let y = h.no_kind in grind (arith, nat_tests)
+deaf source c p n m t k b h = let x = h.some in let y = h.no_kind in let z = h.no_shift in grind (arith, nat_tests)
 
 two-deaf : (c : ℕ) → IsDeaf c 2
-two-deaf c = record { some = λ e. omega (arith, e); no_kind = λ i e. omega (arith, e) }
+two-deaf c = record { some = λ e. omega (arith, e); no_kind = λ i e. omega (arith, e); no_shift = λ i e. omega (arith, e) }
 
 more-two : (p : ℕ) → p ≢ 0 → more_parts p ≡ 2
 more-two p h = grind (arith, nat_tests)
@@ -64,7 +66,11 @@ unfolding stepped in_sequence pushed
 colon-step s = refl
 
 semicolon-step : (s : Sequence)
-    → stepped (Numbers s) 59 ≡ More (Numbers (record s { numbers = if nat_lt s.numbers 3 then s.numbers + 1 else 3; parts = 0 }))
+    → stepped (Numbers s) 59 ≡ More (Numbers (record s {
+      numbers = if nat_lt s.numbers 3 then s.numbers + 1 else 3;
+      parts = 0;
+      third = if s.numbers == 1 then 0 else s.third;
+    }))
 unfolding stepped in_sequence pushed
 semicolon-step s = refl
 
@@ -141,10 +147,20 @@ numbers-over (b ∷ gs) source p n m t k h =
 
 -- ---- the numbers
 
-kind-digit : (source : Source) (f s n b : ℕ) → 48 ≤ b → b ≤ 57
-    → stepped (Numbers (seq source 1 1 f s 0 n)) b ≡ More (Numbers (seq source 1 1 f s 0 (min (n * 10 + (b - 48)) (2 ^ 32 - 1))))
+kind-digit : (source : Source) (f s t n b : ℕ) → 48 ≤ b → b ≤ 57
+    → stepped (Numbers (seq source 1 1 f s t n)) b ≡ More (Numbers (seq source 1 1 f s t (min (n * 10 + (b - 48)) (2 ^ 32 - 1))))
 unfolding stepped in_sequence pushed digit_pushed
-kind-digit source f s n b low high = grind (arith, common_steps, digit_of b low high)
+kind-digit source f s t n b low high = grind (arith, common_steps, digit_of b low high)
+
+second-digit : (source : Source) (f t n b : ℕ) → 48 ≤ b → b ≤ 57
+    → stepped (Numbers (seq source 1 0 f n t 0)) b ≡ More (Numbers (seq source 1 0 f (min (n * 10 + (b - 48)) (2 ^ 32 - 1)) t 0))
+unfolding stepped in_sequence pushed digit_pushed
+second-digit source f t n b low high = grind (arith, common_steps, digit_of b low high)
+
+shift-digit : (source : Source) (f n b : ℕ) → 48 ≤ b → b ≤ 57
+    → stepped (Numbers (seq source 0 1 f 0 n 0)) b ≡ More (Numbers (seq source 0 1 f 0 (min (n * 10 + (b - 48)) (2 ^ 32 - 1)) 0))
+unfolding stepped in_sequence pushed digit_pushed
+shift-digit source f n b low high = grind (arith, common_steps, digit_of b low high)
 
 third-digit : (source : Source) (f s k n b : ℕ) → 48 ≤ b → b ≤ 57
     → stepped (Numbers (seq source 2 0 f s n k)) b ≡ More (Numbers (seq source 2 0 f s (min (n * 10 + (b - 48)) (2 ^ 32 - 1)) k))
@@ -156,51 +172,62 @@ module _ (state : ℕ → State) (one : (n b : ℕ) → 48 ≤ b → b ≤ 57 �
   kept-read : (ds : List ℕ) (n : ℕ) → KeepsNumber ds n → Leads (state 0) ds (state n)
   kept-read ds n h = subst (λ (v : ℕ). Leads (state 0) ds (state v)) h.number (digits-kept state one ds 0 h.digits)
 
-first-over : (source : Source) {ds : List ℕ} {n : ℕ} → Field ds n
-    → LeadsOver (Numbers (seq source 0 0 0 0 0 0)) ds source 0 n 0 0 0
-first-over source {ds = ds} {n = n} (plain_field h) = record {
+shift-over : (source : Source) {ds ks : List ℕ} {n t : ℕ} → KeepsNumber ds n → KeepsNumber ks t
+    → Leads (Numbers (seq source 0 0 0 0 0 0)) (ds ++ (58 ∷ ks)) (Numbers (seq source 0 1 n 0 t 0))
+shift-over source {ds = ds} {ks = ks} {n = n} {t = t} h i =
+    leads-append (Numbers (seq source 0 0 0 0 0 0)) (Numbers (seq source 0 0 n 0 0 0)) (Numbers (seq source 0 1 n 0 t 0)) ds
+    (58 ∷ ks)
+    (kept-read (λ (v : ℕ). Numbers (seq source 0 0 v 0 0 0)) (first-digit source) ds n h)
+    (leads-cons (Numbers (seq source 0 0 n 0 0 0)) (Numbers (seq source 0 1 n 0 0 0)) (Numbers (seq source 0 1 n 0 t 0)) 58 ks
+    (colon-step (seq source 0 0 n 0 0 0))
+    (kept-read (λ (v : ℕ). Numbers (seq source 0 1 n 0 v 0)) (shift-digit source n) ks t i))
+
+first-over : (source : Source) {ds : List ℕ} {n t : ℕ} → HeldField ds n t
+    → LeadsOver (Numbers (seq source 0 0 0 0 0 0)) ds source 0 n 0 t 0
+first-over source {ds = ds} {n = n} (held_field h) = record {
   parts = 0;
   leads = kept-read (λ (v : ℕ). Numbers (seq source 0 0 v 0 0 0)) (first-digit source) ds n h;
 }
-first-over source {n = n} (field_with_codes {ds = ds} cs h k) =
-    let rest = codes-over cs source 0 1 n 0 0 0 k (record { some = λ e. omega (arith, e); no_kind = λ i e. omega (arith, i) }) in
+first-over source (held_with_kind h i) = record { parts = 1; leads = shift-over source h i }
+first-over source {n = n} {t = t} (held_with_more {ds = ds} {ks = ks} cs h i c) =
+    let rest = codes-over cs source 0 2 n 0 t 0 c (two-deaf 0) in
     record {
       parts = rest.parts;
-      leads = leads-append (Numbers (seq source 0 0 0 0 0 0)) (Numbers (seq source 0 0 n 0 0 0))
-          (Numbers (seq source 0 rest.parts n 0 0 0)) ds (58 ∷ cs)
-          (kept-read (λ (v : ℕ). Numbers (seq source 0 0 v 0 0 0)) (first-digit source) ds n h)
-          (leads-cons (Numbers (seq source 0 0 n 0 0 0)) (Numbers (seq source 0 1 n 0 0 0))
-          (Numbers (seq source 0 rest.parts n 0 0 0)) 58 cs
-          (colon-step (seq source 0 0 n 0 0 0)) rest.leads);
+      leads = leads-append (Numbers (seq source 0 0 0 0 0 0)) (Numbers (seq source 0 1 n 0 t 0))
+          (Numbers (seq source 0 rest.parts n 0 t 0)) (ds ++ (58 ∷ ks)) (58 ∷ cs)
+          (shift-over source h i)
+          (leads-cons (Numbers (seq source 0 1 n 0 t 0)) (Numbers (seq source 0 2 n 0 t 0))
+          (Numbers (seq source 0 rest.parts n 0 t 0)) 58 cs
+          (colon-step (seq source 0 1 n 0 t 0)) rest.leads);
     }
 
-kind-over : (source : Source) (n : ℕ) {ds ks : List ℕ} {m k : ℕ} → KeepsNumber ds m → KeepsNumber ks k
-    → Leads (Numbers (seq source 1 0 n 0 0 0)) (ds ++ (58 ∷ ks)) (Numbers (seq source 1 1 n m 0 k))
-kind-over source n {ds = ds} {ks = ks} {m = m} {k = k} h i =
-    leads-append (Numbers (seq source 1 0 n 0 0 0)) (Numbers (seq source 1 0 n m 0 0)) (Numbers (seq source 1 1 n m 0 k)) ds
+kind-over : (source : Source) (n t : ℕ) {ds ks : List ℕ} {m k : ℕ} → KeepsNumber ds m → KeepsNumber ks k
+    → Leads (Numbers (seq source 1 0 n 0 t 0)) (ds ++ (58 ∷ ks)) (Numbers (seq source 1 1 n m t k))
+kind-over source n t {ds = ds} {ks = ks} {m = m} {k = k} h i =
+    leads-append (Numbers (seq source 1 0 n 0 t 0)) (Numbers (seq source 1 0 n m t 0)) (Numbers (seq source 1 1 n m t k)) ds
     (58 ∷ ks)
-    (kept-read (λ (v : ℕ). Numbers (seq source 1 0 n v 0 0)) (second-digit source n) ds m h)
-    (leads-cons (Numbers (seq source 1 0 n m 0 0)) (Numbers (seq source 1 1 n m 0 0)) (Numbers (seq source 1 1 n m 0 k)) 58 ks
-    (colon-step (seq source 1 0 n m 0 0))
-    (kept-read (λ (v : ℕ). Numbers (seq source 1 1 n m 0 v)) (kind-digit source n m) ks k i))
+    (kept-read (λ (v : ℕ). Numbers (seq source 1 0 n v t 0)) (second-digit source n t) ds m h)
+    (leads-cons (Numbers (seq source 1 0 n m t 0)) (Numbers (seq source 1 1 n m t 0)) (Numbers (seq source 1 1 n m t k)) 58 ks
+    (colon-step (seq source 1 0 n m t 0))
+    (kept-read (λ (v : ℕ). Numbers (seq source 1 1 n m t v)) (kind-digit source n m t) ks k i))
 
-second-over : (source : Source) (n : ℕ) {es : List ℕ} {m k : ℕ} → HeldField es m k
-    → LeadsOver (Numbers (seq source 1 0 n 0 0 0)) es source 1 n m 0 k
-second-over source n {es = es} {m = m} (held_field h) = record {
+second-over : (source : Source) (n t : ℕ) {es : List ℕ} {m k : ℕ} → HeldField es m k
+    → LeadsOver (Numbers (seq source 1 0 n 0 t 0)) es source 1 n m t k
+second-over source n t {es = es} {m = m} (held_field h) = record {
   parts = 0;
-  leads = kept-read (λ (v : ℕ). Numbers (seq source 1 0 n v 0 0)) (second-digit source n) es m h;
+  leads = kept-read (λ (v : ℕ). Numbers (seq source 1 0 n v t 0)) (second-digit source n t) es m h;
 }
-second-over source n (held_with_kind h i) = record { parts = 1; leads = kind-over source n h i }
-second-over source n {m = m} {k = k} (held_with_more {ds = ds} {ks = ks} cs h i c) =
-    let rest = codes-over cs source 1 2 n m 0 k c (two-deaf 1) in
+second-over source n t (held_with_kind h i) = record { parts = 1; leads = kind-over source n t h i }
+second-over source n t {m = m} {k = k} (held_with_more {ds = ds} {ks = ks} cs h i c) =
+    let rest = codes-over cs source 1 2 n m t k c (two-deaf 1) in
     record {
       parts = rest.parts;
-      leads = leads-append (Numbers (seq source 1 0 n 0 0 0)) (Numbers (seq source 1 1 n m 0 k))
-          (Numbers (seq source 1 rest.parts n m 0 k)) (ds ++ (58 ∷ ks)) (58 ∷ cs)
-          (kind-over source n h i)
-          (leads-cons (Numbers (seq source 1 1 n m 0 k)) (Numbers (seq source 1 2 n m 0 k))
-          (Numbers (seq source 1 rest.parts n m 0 k)) 58 cs
-          (colon-step (seq source 1 1 n m 0 k)) rest.leads);
+      leads = leads-append (Numbers (seq source 1 0 n 0 t 0)) (Numbers (seq source 1 1 n m t k))
+          (Numbers (seq source 1 rest.parts n m t k)) (ds ++ (58 ∷ ks)) (58 ∷ cs)
+          (kind-over source n t h i)
+          (leads-cons (Numbers (seq source 1 1 n m t k)) (Numbers (seq source 1 2 n m t k))
+          (Numbers (seq source 1 rest.parts n m t k)) 58 cs
+          (colon-step (seq source 1 1 n m t k)) rest.leads);
     }
 
 third-over : (source : Source) (n m k : ℕ) {fs : List ℕ} {t : ℕ} → Field fs t
@@ -210,7 +237,8 @@ third-over source n m k {fs = fs} {t = t} (plain_field h) = record {
   leads = kept-read (λ (v : ℕ). Numbers (seq source 2 0 n m v k)) (third-digit source n m k) fs t h;
 }
 third-over source n m k {t = t} (field_with_codes {ds = ds} cs h i) =
-    let rest = codes-over cs source 2 1 n m t k i (record { some = λ e. omega (arith, e); no_kind = λ x e. omega (arith, x) }) in
+    let rest = codes-over cs source 2 1 n m t k i
+    (record { some = λ e. omega (arith, e); no_kind = λ x e. omega (arith, x); no_shift = λ x e. omega (arith, x) }) in
     record {
       parts = rest.parts;
       leads = leads-append (Numbers (seq source 2 0 n m 0 k)) (Numbers (seq source 2 0 n m t k))
@@ -221,33 +249,37 @@ third-over source n m k {t = t} (field_with_codes {ds = ds} cs h i) =
           (colon-step (seq source 2 0 n m t k)) rest.leads);
     }
 
-two-over : (source : Source) {ds es : List ℕ} {n m k : ℕ} → Field ds n → HeldField es m k
-    → LeadsOver (Numbers (seq source 0 0 0 0 0 0)) (ds ++ (59 ∷ es)) source 1 n m 0 k
-two-over source {ds = ds} {es = es} {n = n} {m = m} {k = k} f h =
+two-over : (source : Source) {ds es : List ℕ} {n m t k : ℕ} → HeldField ds n t → HeldField es m k
+    → LeadsOver (Numbers (seq source 0 0 0 0 0 0)) (ds ++ (59 ∷ es)) source 1 n m t k
+two-over source {ds = ds} {es = es} {n = n} {m = m} {t = t} {k = k} f h =
     let a = first-over source f in
-    let b = second-over source n h in
+    let b = second-over source n t h in
     record {
       parts = b.parts;
-      leads = leads-append (Numbers (seq source 0 0 0 0 0 0)) (Numbers (seq source 0 a.parts n 0 0 0))
-          (Numbers (seq source 1 b.parts n m 0 k)) ds (59 ∷ es) a.leads
-          (leads-cons (Numbers (seq source 0 a.parts n 0 0 0)) (Numbers (seq source 1 0 n 0 0 0))
-          (Numbers (seq source 1 b.parts n m 0 k)) 59 es
-          (semicolon-step (seq source 0 a.parts n 0 0 0)) b.leads);
+      leads = leads-append (Numbers (seq source 0 0 0 0 0 0)) (Numbers (seq source 0 a.parts n 0 t 0))
+          (Numbers (seq source 1 b.parts n m t k)) ds (59 ∷ es) a.leads
+          (leads-cons (Numbers (seq source 0 a.parts n 0 t 0)) (Numbers (seq source 1 0 n 0 t 0))
+          (Numbers (seq source 1 b.parts n m t k)) 59 es
+          (semicolon-step (seq source 0 a.parts n 0 t 0)) b.leads);
     }
 
-three-over : (source : Source) {ds es fs : List ℕ} {n m t k : ℕ} → Field ds n → HeldField es m k → Field fs t
-    → LeadsOver (Numbers (seq source 0 0 0 0 0 0)) ((ds ++ (59 ∷ es)) ++ (59 ∷ fs)) source 2 n m t k
-three-over source {ds = ds} {es = es} {fs = fs} {n = n} {m = m} {t = t} {k = k} f h g =
+-- a third number begins
+third-begins : (source : Source) {ds es fs : List ℕ} {n m s t k : ℕ} (r : ℕ) → HeldField ds n s → HeldField es m k
+    → Leads (Numbers (seq source 2 0 n m 0 k)) fs (Numbers (seq source 2 r n m t k))
+    → Leads (Numbers (seq source 0 0 0 0 0 0)) ((ds ++ (59 ∷ es)) ++ (59 ∷ fs)) (Numbers (seq source 2 r n m t k))
+third-begins source {ds = ds} {es = es} {fs = fs} {n = n} {m = m} {s = s} {t = t} {k = k} r f h leads =
     let a = two-over source f h in
+    leads-append (Numbers (seq source 0 0 0 0 0 0)) (Numbers (seq source 1 a.parts n m s k))
+    (Numbers (seq source 2 r n m t k)) (ds ++ (59 ∷ es)) (59 ∷ fs) a.leads
+    (leads-cons (Numbers (seq source 1 a.parts n m s k)) (Numbers (seq source 2 0 n m 0 k))
+    (Numbers (seq source 2 r n m t k)) 59 fs
+    (semicolon-step (seq source 1 a.parts n m s k)) leads)
+
+three-over : (source : Source) {ds es fs : List ℕ} {n m s t k : ℕ} → HeldField ds n s → HeldField es m k → Field fs t
+    → LeadsOver (Numbers (seq source 0 0 0 0 0 0)) ((ds ++ (59 ∷ es)) ++ (59 ∷ fs)) source 2 n m t k
+three-over source {n = n} {m = m} {k = k} f h g =
     let b = third-over source n m k g in
-    record {
-      parts = b.parts;
-      leads = leads-append (Numbers (seq source 0 0 0 0 0 0)) (Numbers (seq source 1 a.parts n m 0 k))
-          (Numbers (seq source 2 b.parts n m t k)) (ds ++ (59 ∷ es)) (59 ∷ fs) a.leads
-          (leads-cons (Numbers (seq source 1 a.parts n m 0 k)) (Numbers (seq source 2 0 n m 0 k))
-          (Numbers (seq source 2 b.parts n m t k)) 59 fs
-          (semicolon-step (seq source 1 a.parts n m 0 k)) b.leads);
-    }
+    record { parts = b.parts; leads = third-begins source b.parts f h b.leads }
 
 numbers-read : (source : Source) {body : List ℕ} {c n m t k : ℕ} → HasNumbers body c n m t k
     → LeadsOver (Numbers (seq source 0 0 0 0 0 0)) body source c n m t k
@@ -299,16 +331,16 @@ held-are (held_with_more {ds = ds} {ks = ks} cs h i c) =
     (digits-are ds h.digits) (digits-are ks i.digits))
     (codes-are cs c)
 
-two-are : {ds es : List ℕ} {n m k : ℕ} → Field ds n → HeldField es m k → AreNumbers (ds ++ (59 ∷ es))
-two-are {ds = ds} {es = es} f h = joined-are ds es 59 (omega arith) (omega arith) (field-are f) (held-are h)
+two-are : {ds es : List ℕ} {n m s k : ℕ} → HeldField ds n s → HeldField es m k → AreNumbers (ds ++ (59 ∷ es))
+two-are {ds = ds} {es = es} f h = joined-are ds es 59 (omega arith) (omega arith) (held-are f) (held-are h)
 
-three-are : {ds es fs : List ℕ} {n m t k : ℕ} → Field ds n → HeldField es m k → Field fs t
+three-are : {ds es fs : List ℕ} {n m s t k : ℕ} → HeldField ds n s → HeldField es m k → Field fs t
     → AreNumbers ((ds ++ (59 ∷ es)) ++ (59 ∷ fs))
 three-are {ds = ds} {es = es} {fs = fs} f h g = joined-are (ds ++ (59 ∷ es)) fs 59 (omega arith) (omega arith) (two-are f h)
     (field-are g)
 
 all-are : {body : List ℕ} {c n m t k : ℕ} → HasNumbers body c n m t k → AreNumbers body
-all-are (has_one f) = field-are f
+all-are (has_one f) = held-are f
 all-are (has_two f h) = two-are f h
 all-are (has_three f h g) = three-are f h g
 all-are (has_more {ds = ds} {es = es} {fs = fs} gs f h g k) =
@@ -432,10 +464,27 @@ point-told (private_code c low high free) =
     (no-entry (key_at CODES c) (λ code e. free code false (at-table IsName CODES c code names e)))
     ∙ private-named c low high (outside c free)
 
-point-says : {n : ℕ} {code : KeyCode} {is_keypad : Bool} (k m : ℕ) → IsCodePoint n code is_keypad → m ≤ 256
+third-says : {n : ℕ} {code : KeyCode} {is_keypad : Bool} (k m : ℕ) → IsCodePoint n code is_keypad → m ≤ 256
     → code_key_event (code_key n) k m ≡ code_told code is_keypad m (kind_of k)
-point-says {code = code} {is_keypad = is_keypad} k m h small =
+third-says {code = code} {is_keypad = is_keypad} k m h small =
     ap (λ (o : Option (KeyCode × Bool)). code_key_event o k m) (point-told h) ∙ key-is k (tab_key code m) is_keypad m small
+
+point-says : {n : ℕ} {code : KeyCode} {is_keypad : Bool} (c p m t k : ℕ) → IsCodePoint n code is_keypad → m ≤ 256
+    → told_code_event (code_key n) (told_character t) (seq Keys c p n m t k) ≡ typed_told (told_character t) code is_keypad m (kind_of k)
+point-says {n = n} {code = code} {is_keypad = is_keypad} c p m t k h small =
+    ap (λ (o : Option (KeyCode × Bool)). told_code_event o (told_character t) (seq Keys c p n m t k)) (point-told h)
+    ∙ told-is (told_character t) code is_keypad k m small
+
+-- one code point of text
+record TextOver (body : List ℕ) (n m t k : ℕ) : Type 0 where
+  leads : Leads (Numbers no_numbers) body (Numbers (seq Keys 2 0 n m t k))
+  are : AreNumbers body
+
+text-over : {body : List ℕ} {n m t k : ℕ} → HasText body n m t k → TextOver body n m t k
+text-over {n = n} {m = m} {t = t} {k = k} (has_text {fs = fs} f h g) = record {
+  leads = third-begins Keys 0 f h (kept-read (λ (v : ℕ). Numbers (seq Keys 2 0 n m v k)) (third-digit Keys n m k) fs t g);
+  are = three-are f h (plain_field g);
+}
 
 other-says : (c p m t k : ℕ) → sequence_event (seq Keys c p 27 m t k) 126 ≡ code_key_event (code_key t) k m
 unfolding sequence_event keys_event tilde_event code_event
@@ -491,10 +540,14 @@ tolerated-read (any_tilde {c = c} {n = n} {m = m} {t = t} {k = k} {code = code} 
     (λ p. tilde-told tilde c p m t k ∙ key-is k code false m small)
 tolerated-read (any_code {c = c} {n = n} {m = m} {t = t} {k = k} h code small) q =
     csi-told q 117 _ h (omega arith) (omega arith) (λ e. omega (arith, e)) (λ e. omega (arith, e)) (λ p. code-first c p n m t k
-    ∙ point-says k m code small)
+    ∙ point-says c p m t k code small)
+tolerated-read (any_text {body = body} {m = m} {t = t} {k = k} h scalar plain small) q =
+    let over = text-over h in
+    csi-from q body 2 0 0 m t k 117 _ over.leads over.are (omega arith) (omega arith) (λ e. omega (arith, e))
+    (λ e. omega (arith, e)) (text-says m t k scalar plain small)
 tolerated-read (any_other {c = c} {m = m} {t = t} {k = k} h code small) q =
     csi-told q 126 _ h (omega arith) (omega arith) (λ e. omega (arith, e)) (λ e. omega (arith, e)) (λ p. other-says c p m t k
-    ∙ point-says k m code small)
+    ∙ third-says k m code small)
 tolerated-read (any_begun {c = c} {m = m} {t = t} {k = k} h) q =
     csi-told q 126 _ h (omega arith) (omega arith) (λ e. omega (arith, e)) (λ e. omega (arith, e)) (λ p. begun-says c p m t k)
 tolerated-read (any_ended {c = c} {m = m} {t = t} {k = k} h) q =

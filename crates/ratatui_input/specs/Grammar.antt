@@ -1,20 +1,20 @@
 -- Which bytes stand for which event: the encodings of the terminals' protocols, each with what it stands for.
 use Rattle.std.specs.Prelude.{◌≡◌, ◌≢◌, ◌⊎◌, ◌<◌, ◌≤◌, ◌+◌, ◌-◌, ◌*◌, ◌/◌, ◌%◌, ◌^◌, ℕ, Bool, true, false}
-use Rattle.std.specs.Prelude.{Some, List, [], ◌∷◌, ◌++◌, encode_utf8, if◌then◌else◌}
+use Rattle.std.specs.Prelude.{Option, ◌==◌, Some, List, [], ◌∷◌, ◌++◌, encode_utf8, if◌then◌else◌}
 use Rattle.std.specs.Int.RustNames.{bit_and}
 use Rattle.std.specs.Char.{IsScalar, is_control}
 use Rattle.ratatui_events.specs.declared.event.Event.{Event}
 use Rattle.ratatui_events.specs.declared.event.Event.TheVariants.{Key, Mouse, FocusGained, FocusLost, Size}
 use Rattle.ratatui_events.specs.declared.event.Event.TheVariants.{Position}
 use Rattle.ratatui_events.specs.declared.key.KeyCode.{KeyCode}
-use Rattle.ratatui_events.specs.declared.key.KeyCode.TheVariants.{F, Enter, BackTab}
+use Rattle.ratatui_events.specs.declared.key.KeyCode.TheVariants.{F, Enter, BackTab, Char}
 use Rattle.ratatui_events.specs.declared.key.KeyEventKind.{KeyEventKind}
 use Rattle.ratatui_events.specs.declared.key.KeyEventKind.TheVariants.{Press}
 use Rattle.ratatui_events.specs.declared.mouse.MouseEventKind.{MouseEventKind}
 use Rattle.ratatui_events.specs.Key.{held, locks, pressed, key_of_kind}
-use Rattle.ratatui_input.specs.Keys.{typed_key, control_key, with_alt, tab_key}
+use Rattle.ratatui_input.specs.Keys.{typed_key, control_key, with_alt, tab_key, plain_character, scalar_at}
 use Rattle.ratatui_input.specs.Mouse.{mouse_kind}
-use Rattle.ratatui_input.specs.Sequences.{kind_of}
+use Rattle.ratatui_input.specs.Sequences.{kind_of, typed_mask}
 use Rattle.ratatui_input.specs.Encodings.{IsDigits}
 use Rattle.ratatui_input.specs.KeyTables.{IsLetter, IsTilde, IsCode}
 
@@ -67,6 +67,22 @@ letter_told code m kind = key_told code false (letter_number code m) kind
 -- Tab with Shift is BackTab
 abbrev pub code_told : KeyCode → Bool → ℕ → KeyEventKind → Event
 code_told code is_keypad m kind = key_told (tab_key code m) is_keypad m kind
+
+-- a code point, and perhaps further ones, each after a colon
+pub data ToldFirst : List ℕ → ℕ → Type 0 where
+  told_alone : {ds : List ℕ} {t : ℕ} → WritesNumber ds t → t < 2 ^ 32 → ToldFirst ds t
+  told_with_codes : {ds : List ℕ} {t : ℕ} (cs : List ℕ) → WritesNumber ds t → t < 2 ^ 32 → AreCodes cs
+      → ToldFirst (ds ++ (58 ∷ cs)) t
+
+-- the character that is told beside a key, if it is one and no control character
+abbrev pub told_character : ℕ → Option ℕ
+told_character t = plain_character (scalar_at t)
+
+-- a key, and the character that is told beside it: a character's key with Shift is that character
+abbrev pub typed_told : Option ℕ → KeyCode → Bool → ℕ → KeyEventKind → Event
+typed_told (Some c) (Char d) is_keypad m kind = if (m - 1) % 2 == 1
+    then key_told (Char c) is_keypad (typed_mask c m) kind else key_told (Char d) is_keypad m kind
+typed_told told code is_keypad m kind = code_told code is_keypad m kind
 
 -- what the mouse did, with Shift, Alt and Control as the bits 4, 8 and 16 of the number; columns and rows are
 -- counted from 1
@@ -130,11 +146,22 @@ pub data Encodes : List ℕ → Event → Type 0 where
   by_code_held : {n m : ℕ} {code : KeyCode} {is_keypad : Bool} {ds tail : List ℕ} {kind : KeyEventKind}
       → IsCode n code is_keypad → WritesNumber ds n → Held tail m kind → m ≤ 256
       → Encodes (csi (ds ++ tail) 117) (code_told code is_keypad m kind)
-  by_codes : {n m : ℕ} {code : KeyCode} {is_keypad : Bool} {ds tail : List ℕ} {kind : KeyEventKind}
-      (codes text : List ℕ) → IsCode n code is_keypad → WritesNumber ds n → AreCodes codes → Held tail m kind
+  -- with further code points of the key, of which the first is the character that Shift makes of it, and with
+  -- the text that was typed
+  by_codes : {n m t : ℕ} {code : KeyCode} {is_keypad : Bool} {ds tail text : List ℕ} {kind : KeyEventKind}
+      (codes : List ℕ) → IsCode n code is_keypad → WritesNumber ds n → AreCodes codes → Held tail m kind
       → m ≤ 256
-      → AreCodes text
-      → Encodes (csi (ds ++ (58 ∷ (codes ++ (tail ++ (59 ∷ text))))) 117) (code_told code is_keypad m kind)
+      → ToldFirst text t
+      → Encodes (csi (ds ++ (58 ∷ (codes ++ (tail ++ (59 ∷ text))))) 117)
+      (typed_told (told_character t) code is_keypad m kind)
+  by_shifted : {n m t : ℕ} {code : KeyCode} {is_keypad : Bool} {ds codes tail : List ℕ} {kind : KeyEventKind}
+      → IsCode n code is_keypad → WritesNumber ds n → ToldFirst codes t → Held tail m kind → m ≤ 256
+      → Encodes (csi (ds ++ (58 ∷ (codes ++ tail))) 117) (typed_told (told_character t) code is_keypad m kind)
+  -- text that no key has typed: one character
+  by_text : {m t : ℕ} {ds tail fs : List ℕ} {kind : KeyEventKind} → WritesNumber ds 0 → Held tail m kind
+      → m ≤ 256
+      → WritesNumber fs t → IsScalar t → is_control t ≡ false
+      → Encodes (csi ((ds ++ tail) ++ (59 ∷ fs)) 117) (key_told (Char t) false (typed_mask t m) kind)
   by_other : {n m : ℕ} {code : KeyCode} {is_keypad : Bool} {ds es fs : List ℕ} → IsCode n code is_keypad
       → WritesNumber ds 27 → WritesNumber es m → m ≤ 256 → WritesNumber fs n
       → Encodes (csi (three_numbers ds es fs) 126) (code_told code is_keypad m Press)

@@ -53,6 +53,11 @@ number_key number = key_at NUMBERS number
 abbrev pub scalar_at : ℕ → Option ℕ
 scalar_at code = if is_scalar code then Some code else None
 
+-- the character, if it is no control character
+abbrev pub plain_character : Option ℕ → Option ℕ
+plain_character None = None
+plain_character (Some c) = if is_control c then None else Some c
+
 -- the key of a character
 abbrev pub character_key : Option ℕ → Option (KeyCode × Bool)
 character_key None = None

@@ -1,6 +1,7 @@
 -- What was read, piece by piece: each piece stands for an event, and is told as that event.
 use Rattle.std.specs.Prelude.{◌≡◌, ◌≢◌, ◌⊎◌, ◌<◌, ◌≤◌, ◌+◌, ◌-◌, ◌==◌, ℕ, Bool, true, false, Some}
 use Rattle.std.specs.Prelude.{List, [], ◌∷◌, ◌++◌, if◌then◌else◌}
+use Rattle.std.specs.Char.{IsScalar, is_control}
 use Rattle.ratatui_events.specs.declared.event.Event.{Event}
 use Rattle.ratatui_events.specs.declared.event.Event.TheVariants.{Key, FocusGained, FocusLost, Size, Position}
 use Rattle.ratatui_events.specs.declared.event.Event.TheVariants.{PasteBegun, PasteEnded, Unknown}
@@ -11,11 +12,11 @@ use Rattle.ratatui_events.specs.declared.mouse.MouseEventKind.{MouseEventKind}
 use Rattle.ratatui_events.specs.Key.{held, pressed}
 use Rattle.ratatui_input.specs.Keys.{typed_key, with_alt}
 use Rattle.ratatui_input.specs.Mouse.{mouse_kind}
-use Rattle.ratatui_input.specs.Sequences.{kind_of}
+use Rattle.ratatui_input.specs.Sequences.{kind_of, typed_mask}
 use Rattle.ratatui_input.specs.KeyTables.{IsLetter, IsTilde, IsCode}
 use Rattle.ratatui_input.specs.Encodings.{IsDigits, value_after}
 use Rattle.ratatui_input.specs.Decoding.{Told, decoded, pasted_code}
-use Rattle.ratatui_input.specs.Grammar.{Encodes, csi, AreCodes, AreNumbers, key_told, letter_told, code_told}
+use Rattle.ratatui_input.specs.Grammar.{Encodes, csi, AreCodes, AreNumbers, key_told, letter_told, code_told, typed_told, told_character}
 use Rattle.ratatui_input.specs.Grammar.{mouse_told, WritesNumber, IsOpener}
 use Rattle.ratatui_input.specs.declared.decoder.State.TheVariants.{Ground}
 
@@ -35,8 +36,9 @@ pub data Field : List ℕ → ℕ → Type 0 where
   field_with_codes : {ds : List ℕ} {n : ℕ} (cs : List ℕ) → KeepsNumber ds n → AreCodes cs
       → Field (ds ++ (58 ∷ cs)) n
 
--- the same of the second number, which says what is held: after a first colon stands what the key did, 0
--- where there is none
+-- the same of the first and the second number: after a first colon stands a further one, 0 where there is
+-- none. It is the first number's character with Shift, and what the key did, of which the second says what is
+-- held
 pub data HeldField : List ℕ → ℕ → ℕ → Type 0 where
   held_field : {ds : List ℕ} {m : ℕ} → KeepsNumber ds m → HeldField ds m 0
   held_with_kind : {ds ks : List ℕ} {m k : ℕ} → KeepsNumber ds m → KeepsNumber ks k
@@ -46,16 +48,23 @@ pub data HeldField : List ℕ → ℕ → ℕ → Type 0 where
       → HeldField ((ds ++ (58 ∷ ks)) ++ (58 ∷ cs)) m k
 
 -- how many semicolons there are, 3 for more; the first three numbers, 0 where there is none; and what the key
--- did. Whatever stands after the third number means nothing
+-- did. Where there is no third number, what stands after the first one's colon is told in its place. Whatever
+-- stands after the third number means nothing
 pub data HasNumbers : List ℕ → ℕ → ℕ → ℕ → ℕ → ℕ → Type 0 where
-  has_one : {ds : List ℕ} {n : ℕ} → Field ds n → HasNumbers ds 0 n 0 0 0
-  has_two : {ds es : List ℕ} {n m k : ℕ} → Field ds n → HeldField es m k
-      → HasNumbers (ds ++ (59 ∷ es)) 1 n m 0 k
-  has_three : {ds es fs : List ℕ} {n m t k : ℕ} → Field ds n → HeldField es m k → Field fs t
+  has_one : {ds : List ℕ} {n t : ℕ} → HeldField ds n t → HasNumbers ds 0 n 0 t 0
+  has_two : {ds es : List ℕ} {n m t k : ℕ} → HeldField ds n t → HeldField es m k
+      → HasNumbers (ds ++ (59 ∷ es)) 1 n m t k
+  has_three : {ds es fs : List ℕ} {n m s t k : ℕ} → HeldField ds n s → HeldField es m k → Field fs t
       → HasNumbers ((ds ++ (59 ∷ es)) ++ (59 ∷ fs)) 2 n m t k
-  has_more : {ds es fs : List ℕ} {n m t k : ℕ} (gs : List ℕ) → Field ds n → HeldField es m k → Field fs t
+  has_more : {ds es fs : List ℕ} {n m s t k : ℕ} (gs : List ℕ) → HeldField ds n s → HeldField es m k
+      → Field fs t
       → AreNumbers gs
       → HasNumbers (((ds ++ (59 ∷ es)) ++ (59 ∷ fs)) ++ (59 ∷ gs)) 3 n m t k
+
+-- three numbers, of which the third is one code point
+pub data HasText : List ℕ → ℕ → ℕ → ℕ → ℕ → Type 0 where
+  has_text : {ds es fs : List ℕ} {n m s t k : ℕ} → HeldField ds n s → HeldField es m k → KeepsNumber fs t
+      → HasText ((ds ++ (59 ∷ es)) ++ (59 ∷ fs)) n m t k
 
 -- the keys with a code point: a character of the private use area is one, too, where it has no name
 pub data IsCodePoint : ℕ → KeyCode → Bool → Type 0 where
@@ -77,7 +86,9 @@ pub data Tolerates : List ℕ → Event → Type 0 where
       → Tolerates (csi body 126) (key_told code false m (kind_of k))
   any_code : {body : List ℕ} {c n m t k : ℕ} {code : KeyCode} {is_keypad : Bool} → HasNumbers body c n m t k
       → IsCodePoint n code is_keypad
-      → m ≤ 256 → Tolerates (csi body 117) (code_told code is_keypad m (kind_of k))
+      → m ≤ 256 → Tolerates (csi body 117) (typed_told (told_character t) code is_keypad m (kind_of k))
+  any_text : {body : List ℕ} {m t k : ℕ} → HasText body 0 m t k → IsScalar t → is_control t ≡ false → m ≤ 256
+      → Tolerates (csi body 117) (key_told (Char t) false (typed_mask t m) (kind_of k))
   any_other : {body : List ℕ} {c m t k : ℕ} {code : KeyCode} {is_keypad : Bool} → HasNumbers body c 27 m t k
       → IsCodePoint t code is_keypad
       → m ≤ 256 → Tolerates (csi body 126) (code_told code is_keypad m (kind_of k))

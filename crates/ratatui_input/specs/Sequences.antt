@@ -3,13 +3,14 @@ use Rattle.std.specs.Prelude.{ℕ, ◌+◌, ◌-◌, ◌*◌, ◌/◌, ◌%◌, 
 use Rattle.std.specs.Prelude.{Option, Some, None, nat_le, nat_lt, if◌then◌else◌}
 use Rattle.std.specs.Int.RustNames.{bit_and}
 use Rattle.ratatui_events.specs.Key.{held, locks, key_of_kind}
-use Rattle.ratatui_input.specs.Keys.{letter_key, number_key, code_key, tab_key}
+use Rattle.std.specs.Char.Unicode.Uppercase.{is_uppercase}
+use Rattle.ratatui_input.specs.Keys.{letter_key, number_key, code_key, tab_key, plain_character, scalar_at}
 use Rattle.ratatui_input.specs.Mouse.{mouse_event}
 use Rattle.ratatui_events.specs.declared.event.Event.{Event}
 use Rattle.ratatui_events.specs.declared.event.Event.TheVariants.{Unknown, Key, FocusGained, FocusLost}
 use Rattle.ratatui_events.specs.declared.event.Event.TheVariants.{PasteBegun, PasteEnded, Size, Position}
 use Rattle.ratatui_events.specs.declared.key.KeyCode.{KeyCode}
-use Rattle.ratatui_events.specs.declared.key.KeyCode.TheVariants.{BackTab}
+use Rattle.ratatui_events.specs.declared.key.KeyCode.TheVariants.{BackTab, Char}
 use Rattle.ratatui_events.specs.declared.key.KeyEventKind.{KeyEventKind}
 use Rattle.ratatui_events.specs.declared.key.KeyEventKind.TheVariants.{Press, Repeat, Release}
 use Rattle.ratatui_input.specs.declared.sequence.Sequence.{Sequence}
@@ -27,12 +28,13 @@ abbrev pub with_digit : ℕ → ℕ → ℕ
 with_digit number b = min (number * 10 + bit_and b 15) (2 ^ 32 - 1)
 
 -- the sequence with a further digit: of its first three numbers, and of what stands after the first colon of
--- the second
+-- the second; and before the third number begins, of what stands after the first colon of the first
 unfoldable pub digit_pushed : Sequence → ℕ → Sequence
 digit_pushed s b =
     if (s.numbers == 0) && (s.parts == 0) then record s { first = with_digit s.first b }
     else (if (s.numbers == 1) && (s.parts == 0) then record s { second = with_digit s.second b }
-    else (if (s.numbers == 2) && (s.parts == 0) then record s { third = with_digit s.third b }
+    else (if ((s.numbers == 0) && (s.parts == 1)) || ((s.numbers == 2) && (s.parts == 0))
+    then record s { third = with_digit s.third b }
     else (if (s.numbers == 1) && (s.parts == 1) then record s { kind = with_digit s.kind b }
     else s)))
 
@@ -44,6 +46,7 @@ pushed s b =
       numbers = if nat_lt s.numbers 3 then s.numbers + 1
           else 3;
       parts = 0;
+      third = if s.numbers == 1 then 0 else s.third;
     })
     else (if b == 58 then Some (record s { parts = if nat_lt s.parts 2 then s.parts + 1 else 2 })
     else (if (nat_le 32 b && nat_le b 47) || (nat_le 60 b && nat_le b 63)
@@ -77,9 +80,35 @@ abbrev pub code_key_event : Option (KeyCode × Bool) → ℕ → ℕ → Event
 code_key_event None kind mask = Unknown
 code_key_event (Some key) kind mask = key_event kind (tab_key key.0 mask) key.1 mask
 
--- a key by its code point
-unfoldable pub code_event : Sequence → ℕ → Event
-code_event s code = code_key_event (code_key code) s.kind s.second
+-- what is held beside a character that a terminal tells as typed: Shift with a capital letter, and with no
+-- other, as where it is typed without more being told
+abbrev pub typed_mask : ℕ → ℕ → ℕ
+typed_mask c mask = (mask - 1) / 2 * 2 + (if is_uppercase c then 2 else 1)
+
+abbrev pub typed_event : ℕ → ℕ → Bool → ℕ → Event
+typed_event kind c is_keypad mask = if nat_lt 256 mask then Unknown
+    else key_event kind (Char c) is_keypad (typed_mask c mask)
+
+-- a key by its code point, and the character that a terminal tells beside it: a character's key with Shift is
+-- that character
+abbrev pub told_key_event : Option ℕ → KeyCode → Bool → ℕ → ℕ → Event
+told_key_event (Some c) (Char d) is_keypad kind mask = if (mask - 1) % 2 == 1
+    then typed_event kind c is_keypad mask else key_event kind (Char d) is_keypad mask
+told_key_event told code is_keypad kind mask = key_event kind (tab_key code mask) is_keypad mask
+
+-- text that no key has typed is told with the number 0 for the key: one character
+abbrev pub text_event : Option ℕ → Sequence → Event
+text_event (Some c) s = if (s.first == 0) && ((s.numbers == 2) && (s.parts == 0))
+    then typed_event s.kind c false s.second else Unknown
+text_event None s = Unknown
+
+abbrev pub told_code_event : Option (KeyCode × Bool) → Option ℕ → Sequence → Event
+told_code_event (Some key) told s = told_key_event told key.0 key.1 s.kind s.second
+told_code_event None told s = text_event told s
+
+-- a key by its code point, or text without a key
+unfoldable pub code_event : Sequence → Event
+code_event s = told_code_event (code_key s.first) (plain_character (scalar_at s.third)) s
 
 abbrev pub number_key_event : Option KeyCode → ℕ → ℕ → Event
 number_key_event None kind mask = Unknown
@@ -89,7 +118,7 @@ unfoldable pub tilde_event : Sequence → Event
 tilde_event s =
     if s.first == 200 then PasteBegun
     else (if s.first == 201 then PasteEnded
-    else (if s.first == 27 then code_event s s.third
+    else (if s.first == 27 then code_key_event (code_key s.third) s.kind s.second
     else number_key_event (number_key s.first) s.kind s.second))
 
 -- the terminal's size: rows, then columns
@@ -107,7 +136,7 @@ position_event s = if nat_le s.first 65535 && nat_le s.second 65535
 unfoldable pub keys_event : Sequence → ℕ → Event
 keys_event s b =
     if b == 126 then tilde_event s
-    else (if b == 117 then code_event s s.first
+    else (if b == 117 then code_event s
     else (if b == 116 then size_event s
     else (if (b == 82) && ((s.numbers == 1) && (if s.first == 1 then false else true)) then position_event s
     else (if b == 77 then (if nat_le 2 s.numbers && nat_le 32 s.first

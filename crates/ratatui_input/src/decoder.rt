@@ -40,8 +40,8 @@ enum State {
     Character(Partial),
     // ESC and the byte that opens a string of the terminal.
     Opened(u8),
-    // The same, and text: whether BEL ends it, and how many ticks have come since the last byte. The
-    // text isn't kept.
+    // The same, and text: whether BEL ends it, and how many ticks have come since the last byte.
+    // The text isn't kept.
     Text(bool, u8),
     // The same, and ESC.
     TextEscape,
@@ -310,8 +310,8 @@ fn step(state: State, byte: u8) -> Next
     }
 }
 
-// What a byte is that doesn't go on with what has come: with nothing before it; but after an ESC that
-// ended a string, with that ESC, if it goes on with it.
+// What a byte is that doesn't go on with what has come: with nothing before it; but after an ESC
+// that ended a string, with that ESC, if it goes on with it.
 #[tactic(auto, unfolding(crate::specs::Decoding::begun_anew))]
 fn begun_anew(state: State, byte: u8) -> Next
     ensures { result ≡ begun_anew state byte }
@@ -469,10 +469,10 @@ impl Decoder {
         }
     }
 
-    /// Takes what has come as whole, if it is a key by itself: ESC, or Alt with [, O, P, X, ], ^ or _.
-    /// A string of the terminal is left as it is, but the tenth call in a row with no byte between ends
-    /// it; an ESC within a string ends it, and is a key by itself then. Call it where nothing more
-    /// follows for now.
+    /// Takes what has come as whole, if it is a key by itself: ESC, or Alt with [, O, P, X, ], ^ or
+    /// _. A string of the terminal is left as it is, but the tenth call in a row with no byte
+    /// between ends it; an ESC within a string ends it, and is a key by itself then. Call it where
+    /// nothing more follows for now.
     #[tactic(auto, unfolding(crate::specs::Decoding::settled))]
     pub fn settle(&mut self) -> Option<Event>
         ensures { (some_list result, self.new) ≡ settled self.old.state self.old }

@@ -3,7 +3,7 @@
 ghost use Rattle.std.specs.Prelude.{◌≡◌, ◌≤◌, ◌↔◌, IsTrue};
 ghost use Rattle.ratatui_input.specs.Keys.{typed_key, control_key, key_at, letter_key, number_key, code_key};
 ghost use Rattle.ratatui_input.specs.Keys.{scalar_at, character_key, named_key, tab_key, keypad_key};
-ghost use Rattle.ratatui_input.specs.Keys.{name_key};
+ghost use Rattle.ratatui_input.specs.Keys.{name_key, plain_character};
 
 use ratatui_events::{KeyCode, KeyEvent, KeyModifiers, MediaKeyCode, ModifierKeyCode};
 
@@ -213,6 +213,16 @@ fn character_key(code: u32) -> Option<(KeyCode, bool)>
                 Some((KeyCode::Char(c), false))
             }
         }
+    }
+}
+
+// The character of a code point, if it is no control character.
+pub(crate) fn plain_character(code: u32) -> Option<char>
+    ensures { result ≡ plain_character (scalar_at code) }
+{
+    match character(code) {
+        None => None,
+        Some(c) => { if c.is_control() { None } else { Some(c) } }
     }
 }
 

@@ -26,8 +26,8 @@ pub fn pieces_give_the_whole()
     ensures { (d : Decoder) (a b : List ℕ) → decoded d (a ++ b) ≡ next_told (decoded d a) b }
 {}
 
-/// Whatever has come, but text of a string, ESC begins anew: what had come is told as one event, and
-/// no byte of what follows is taken for a part of it.
+/// Whatever has come, but text of a string, ESC begins anew: what had come is told as one event,
+/// and no byte of what follows is taken for a part of it.
 pub fn escape_begins_anew()
     ensures { (state : State) (p : Bool) → IsNoText state
         → byte_told (record { state = state; is_pasting = p }) 27 ≡ escaped (cut state) p }
@@ -43,8 +43,8 @@ pub fn events_are_read_one_by_one()
 {}
 
 /// Outside a paste, all from ESC on is read as if nothing had come before; what had come is told as
-/// one event at most. So it is within a string, too, if the next byte goes on with the ESC and doesn't
-/// end the string with it, as a backslash does.
+/// one event at most. So it is within a string, too, if the next byte goes on with the ESC and
+/// doesn't end the string with it, as a backslash does.
 pub fn from_escape_on_nothing_is_lost()
     ensures outside { (state : State) (rest : List ℕ) → IsNoText state
         → decoded (record { state = state; is_pasting = false }) (27 ∷ rest)
@@ -75,7 +75,8 @@ pub fn what_is_pasted_is_no_key()
 {}
 
 /// The bytes of each encoding of an event are read as that event alone: by themselves, among others,
-/// and, if they begin with ESC, whatever has come of an event that isn't whole, but text of a string.
+/// and, if they begin with ESC, whatever has come of an event that isn't whole, but text of a
+/// string.
 pub fn encodings_are_read()
     ensures alone { (bytes : List ℕ) (event : Event) → Encodes bytes event → Gives bytes (event ∷ []) }
     ensures among { (before bytes after : List ℕ) (events : List Event) (event : Event)
@@ -91,8 +92,8 @@ pub fn encodings_are_read()
         ) }
 {}
 
-/// Bytes that belong together and stand for nothing are told as one unknown event, and nothing else;
-/// strings of the terminal are such bytes.
+/// Bytes that belong together and stand for nothing are told as one unknown event, and nothing
+/// else; strings of the terminal are such bytes.
 pub fn other_bytes_are_unknown()
     ensures { (bytes : List ℕ) → StandsForNothing bytes → Gives bytes (Unknown ∷ []) }
 {}
@@ -100,9 +101,9 @@ pub fn other_bytes_are_unknown()
 /// Whatever bytes are read, they are pieces, one for each event that is told, in order, and then bytes
 /// that tell nothing yet: no byte is lost, and none is read twice. Outside a paste a piece is bytes
 /// that stand for its event: by the grammar, by a sequence with further numbers, or as ESC, ESC [,
-/// ESC O or ESC and what opens a string by themselves. Unknown is told of bytes that stand for nothing, and of the end of a paste that
-/// hasn't begun, and of nothing else. Within a paste an event is the character of a key, the paste's
-/// end, or unknown.
+/// ESC O or ESC and what opens a string by themselves. Unknown is told of bytes that stand for
+/// nothing, and of the end of a paste that hasn't begun, and of nothing else. Within a paste an
+/// event is the character of a key, the paste's end, or unknown.
 pub fn what_is_read_is_pieces()
     ensures { (bytes : List ℕ) → AreBytes bytes → IsReadInPieces false bytes (decoded fresh_decoder bytes) }
 {}
@@ -119,9 +120,9 @@ pub fn a_byte_tells_two_events_at_most()
     ensures { (d : Decoder) (b : ℕ) → length (byte_told d b).0 ≤ 2 }
 {}
 
-/// Settling takes ESC, ESC [, ESC O and ESC with what opens a string for keys. The tenth in a row with
-/// no byte between ends a string; where ESC has come within it, the first one does, and ESC is left.
-/// Settling leaves all else as it is.
+/// Settling takes ESC, ESC [, ESC O and ESC with what opens a string for keys. The tenth in a row
+/// with no byte between ends a string; where ESC has come within it, the first one does, and ESC is
+/// left. Settling leaves all else as it is.
 pub fn settling_ends_keys_and_strings()
     ensures escape { settled_after (27 ∷ []) ≡ (Key (pressed Esc (held 0)) ∷ [], fresh_decoder) }
     ensures bracket { settled_after (27 ∷ 91 ∷ []) ≡ (with_alt (typed_key 91) true ∷ [], fresh_decoder) }

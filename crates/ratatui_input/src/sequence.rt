@@ -4,10 +4,11 @@ ghost use Rattle.std.specs.Prelude.{◌≡◌, false};
 ghost use Rattle.ratatui_input.specs.Sequences.{with_digit, digit_pushed, pushed, key_event, with_shift};
 ghost use Rattle.ratatui_input.specs.Sequences.{letter_event, code_event, tilde_event, size_event};
 ghost use Rattle.ratatui_input.specs.Sequences.{position_event, keys_event, pointer_event, sequence_event};
-ghost use Rattle.ratatui_input.specs.Sequences.{no_numbers};
+ghost use Rattle.ratatui_input.specs.Sequences.{no_numbers, code_key_event, typed_event, told_key_event, text_event};
+ghost use Rattle.ratatui_input.specs.Keys.{code_key};
 ghost use Rattle.ratatui_events.specs.declared.key.KeyCode.TheVariants.{BackTab};
 
-use crate::keys::{code_key, letter_key, number_key, tab_key};
+use crate::keys::{code_key, letter_key, number_key, plain_character, tab_key};
 use crate::mouse::mouse_event;
 use ratatui_events::{Event, KeyCode, KeyEvent, KeyEventKind, KeyEventState, KeyModifiers};
 
@@ -29,6 +30,7 @@ pub(crate) struct Sequence {
     pub parts: u8,
     pub first: u32,
     pub second: u32,
+    // The third number; before it begins, the part after a colon in the first number.
     pub third: u32,
     // The part after a colon in the second number.
     pub kind: u32,
@@ -58,7 +60,7 @@ impl Sequence {
         match (self.numbers, self.parts) {
             (0, 0) => self.first = with_digit(self.first, byte),
             (1, 0) => self.second = with_digit(self.second, byte),
-            (2, 0) => self.third = with_digit(self.third, byte),
+            (0, 1) | (2, 0) => self.third = with_digit(self.third, byte),
             (1, 1) => self.kind = with_digit(self.kind, byte),
             _ => {}
         }
@@ -79,6 +81,7 @@ impl Sequence {
                     3
                 },
                 parts: 0,
+                third: if self.numbers == 1 { 0 } else { self.third },
                 ..self
             }),
             b':' => Some(Sequence {
@@ -176,7 +179,7 @@ impl Sequence {
         match self.first {
             200 => Event::PasteBegun,
             201 => Event::PasteEnded,
-            27 => self.code_event(self.third),
+            27 => self.other_event(),
             _ => match number_key(self.first) {
                 None => Event::Unknown,
                 Some(code) => self.key(code, false, self.second),
@@ -184,15 +187,62 @@ impl Sequence {
         }
     }
 
-    #[tactic(auto, unfolding(crate::specs::Sequences::code_event))]
-    fn code_event(self, code: u32) -> Event
-        ensures { result ≡ code_event self code }
+    // A key by its code point, which stands third.
+    fn other_event(self) -> Event
+        ensures { result ≡ code_key_event (code_key self.third) self.kind self.second }
     {
-        match code_key(code) {
+        match code_key(self.third) {
             None => Event::Unknown,
             Some((key, is_keypad)) => {
                 self.key(tab_key(key, self.second), is_keypad, self.second)
             }
+        }
+    }
+
+    // A character that the terminal tells as typed.
+    fn typed_event(self, c: char, is_keypad: bool) -> Event
+        ensures { result ≡ typed_event self.kind c is_keypad self.second }
+    {
+        if self.second > 256 {
+            return Event::Unknown;
+        }
+        let shift = if c.is_uppercase() { 2 } else { 1 };
+        let held = self.second.saturating_sub(1) / 2 * 2;
+        self.key(KeyCode::Char(c), is_keypad, held + shift)
+    }
+
+    // A key by its code point, and the character that the terminal tells beside it.
+    fn told_key_event(self, told: Option<char>, code: KeyCode, is_keypad: bool) -> Event
+        ensures { result ≡ told_key_event told code is_keypad self.kind self.second }
+    {
+        match (told, code) {
+            (Some(c), KeyCode::Char(_)) if self.second.saturating_sub(1) % 2 == 1 => {
+                self.typed_event(c, is_keypad)
+            }
+            _ => self.key(tab_key(code, self.second), is_keypad, self.second),
+        }
+    }
+
+    // Text that no key has typed: one character.
+    fn text_event(self, told: Option<char>) -> Event
+        ensures { result ≡ text_event told self }
+    {
+        match told {
+            Some(c) if self.first == 0 && self.numbers == 2 && self.parts == 0 => {
+                self.typed_event(c, false)
+            }
+            _ => Event::Unknown,
+        }
+    }
+
+    #[tactic(auto, unfolding(crate::specs::Sequences::code_event))]
+    fn code_event(self) -> Event
+        ensures { result ≡ code_event self }
+    {
+        let told = plain_character(self.third);
+        match code_key(self.first) {
+            None => self.text_event(told),
+            Some((code, is_keypad)) => self.told_key_event(told, code, is_keypad),
         }
     }
 
@@ -226,7 +276,7 @@ impl Sequence {
     {
         match byte {
             b'~' => self.tilde_event(),
-            b'u' => self.code_event(self.first),
+            b'u' => self.code_event(),
             b't' => self.size_event(),
             b'R' if self.numbers == 1 && self.first != 1 => self.position_event(),
             b'M' if self.numbers >= 2 && self.first >= 32 => {

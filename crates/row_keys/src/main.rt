@@ -4,10 +4,10 @@
 //! `row_keys FILE..` reads files of rows, as `ESC [ 1 ; 5 A = Ctrl+Up`. A row has the bytes, `=`,
 //! and the events, with a comma between two. A byte is an ASCII character itself, two hexadecimal
 //! digits, or a name: `ESC`, `SP`, `CR`, `LF`, `TAB`, `DEL`. `TICK` is no byte: nothing comes for a
-//! while. The bytes between come at once, and after a row nothing comes for a while. `...` stands for
-//! what has come of an event that isn't whole. A line `# NAME` begins a group. The text of each key is
-//! read again, too, and has to give that key. It prints how many rows of each group hold, each row
-//! that doesn't with what is told, and then ends with status 1.
+//! while. The bytes between come at once, and after a row nothing comes for a while. `...` stands
+//! for what has come of an event that isn't whole. A line `# NAME` begins a group. The text of each
+//! key is read again, too, and has to give that key. It prints how many rows of each group hold,
+//! each row that doesn't with what is told, and then ends with status 1.
 #![tactic(auto)]
 
 mod rows;

@@ -51,3 +51,24 @@ fn moves(rt: HostRuntime) -> Result<(), Fail> {
     );
     Ok(())
 }
+
+// What a terminal answers is no key: `q` in it ends nothing, and `g` goes nowhere.
+#[test]
+fn answers_are_no_keys(rt: HostRuntime) -> Result<(), Fail> {
+    let alloc = rt.alloc();
+    let text = "one\ntwo\tx\nthr\u{1}e\n日本\nfive\nsix\n";
+    assert!(rt;
+        shows(
+            alloc,
+            text,
+            b"j\x1b]11;rgb:0/0/0\x1b\\\x1bP1$r0q\x1b\\\x1b]4;g\x07",
+            &[
+                "two     x     ",
+                "thr\u{fffd}e         ",
+                "日本          ",
+                "t 2-4/6 66%   "
+            ]
+        )
+    );
+    Ok(())
+}

@@ -33,6 +33,37 @@ impl Read for Interrupted {
     }
 }
 
+// Gives ESC, `]` and `q`, then nothing, and then `q`, BEL and `j`: what a terminal answers in two
+// pieces, and a key.
+#[derive(Drop)]
+struct Answering {
+    reads: u8,
+}
+
+impl Read for Answering {
+    fn read(&mut self, buf: &mut [u8]) -> io::Result<usize> {
+        self.reads = self.reads.saturating_add(1);
+        if buf.len() < 3 {
+            return Ok(0);
+        }
+        match self.reads {
+            1 => {
+                buf[0] = 0x1b;
+                buf[1] = b']';
+                buf[2] = b'q';
+                Ok(3)
+            }
+            3 => {
+                buf[0] = b'q';
+                buf[1] = 0x07;
+                buf[2] = b'j';
+                Ok(3)
+            }
+            _ => Ok(0),
+        }
+    }
+}
+
 // Whether the next event is this key, pressed with nothing held.
 fn is_next<R: Read>(events: &mut EventReader<R>, code: KeyCode) -> bool {
     match events.read() {
@@ -55,5 +86,14 @@ fn escape_at_the_end_is_a_key(rt: HostRuntime) {
     let mut events = EventReader::new(&b"\x1b[B\x1b"[..]);
     assert!(rt; is_next(&mut events, KeyCode::Down));
     assert!(rt; is_next(&mut events, KeyCode::Esc));
+    assert!(rt; matches!(events.read(), Ok(None)));
+}
+
+#[test]
+fn an_answer_in_pieces_is_one_event(rt: HostRuntime) {
+    let mut events = EventReader::new(Answering { reads: 0 });
+    assert!(rt; matches!(events.read(), Ok(None)));
+    assert!(rt; matches!(events.read(), Ok(Some(Event::Unknown))));
+    assert!(rt; is_next(&mut events, KeyCode::Char('j')));
     assert!(rt; matches!(events.read(), Ok(None)));
 }
