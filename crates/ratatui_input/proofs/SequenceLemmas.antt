@@ -97,6 +97,9 @@ mouse-stands n x y is_up some h =
     (λ e. let bounds = within-all n x y e in
     mouse-answer (mouse_kind n is_up) n x y some (λ kind is. h kind bounds.0 bounds.1 bounds.2 is)) (λ e. not_known some)
 
+other-asked : (n c : ℕ) → ((n == 27) && nat_le 2 c) ≡ true → (n ≡ 27) × (2 ≤ c)
+other-asked n c h = grind (arith, nat_tests)
+
 tilde-stands : (s : Sequence) (body : List ℕ) → HasNumbers body s.numbers s.first s.second s.third s.kind
     → Stands (csi body 126) (tilde_event s)
 unfolding tilde_event code_event
@@ -107,11 +110,12 @@ tilde-stands s body h =
     (λ x. if-stands (s.first == 201) PasteEnded _
     (λ e. numbers_stand (any_ended (subst (λ (n : ℕ). HasNumbers body s.numbers n s.second s.third s.kind)
     (same s.first 201 e) h)))
-    (λ y. if-stands (s.first == 27) (code_key_event (code_key s.third) s.kind s.second)
+    (λ y. if-stands ((s.first == 27) && nat_le 2 s.numbers) (code_key_event (code_key s.third) s.kind s.second)
     (number_key_event (number_key s.first) s.kind s.second)
-    (λ e. code-answer s.third (code_key s.third) s.kind s.second (csi-some body 126) (code-of s.third)
+    (λ e. let f = other-asked s.first s.numbers e in
+    code-answer s.third (code_key s.third) s.kind s.second (csi-some body 126) (code-of s.third)
     (λ code is_keypad is small. numbers_stand (any_other (subst (λ (n : ℕ). HasNumbers body s.numbers n s.second s.third s.kind)
-    (same s.first 27 e) h) is small)))
+    f.0 h) f.1 is small)))
     (λ z. tilde-answer s.first (number_key s.first) s.kind s.second (csi-some body 126) (tilde-of s.first)
     (λ code is small. numbers_stand (any_tilde h is small)))))
 

@@ -486,9 +486,9 @@ text-over {n = n} {m = m} {t = t} {k = k} (has_text {fs = fs} f h g) = record {
   are = three-are f h (plain_field g);
 }
 
-other-says : (c p m t k : ℕ) → sequence_event (seq Keys c p 27 m t k) 126 ≡ code_key_event (code_key t) k m
+other-says : (c p m t k : ℕ) → 2 ≤ c → sequence_event (seq Keys c p 27 m t k) 126 ≡ code_key_event (code_key t) k m
 unfolding sequence_event keys_event tilde_event code_event
-other-says c p m t k = refl
+other-says c p m t k many = grind (arith, nat_tests)
 
 begun-says : (c p m t k : ℕ) → sequence_event (seq Keys c p 200 m t k) 126 ≡ PasteBegun
 unfolding sequence_event keys_event tilde_event
@@ -545,8 +545,8 @@ tolerated-read (any_text {body = body} {m = m} {t = t} {k = k} h scalar plain sm
     let over = text-over h in
     csi-from q body 2 0 0 m t k 117 _ over.leads over.are (omega arith) (omega arith) (λ e. omega (arith, e))
     (λ e. omega (arith, e)) (text-says m t k scalar plain small)
-tolerated-read (any_other {c = c} {m = m} {t = t} {k = k} h code small) q =
-    csi-told q 126 _ h (omega arith) (omega arith) (λ e. omega (arith, e)) (λ e. omega (arith, e)) (λ p. other-says c p m t k
+tolerated-read (any_other {c = c} {m = m} {t = t} {k = k} h many code small) q =
+    csi-told q 126 _ h (omega arith) (omega arith) (λ e. omega (arith, e)) (λ e. omega (arith, e)) (λ p. other-says c p m t k many
     ∙ third-says k m code small)
 tolerated-read (any_begun {c = c} {m = m} {t = t} {k = k} h) q =
     csi-told q 126 _ h (omega arith) (omega arith) (λ e. omega (arith, e)) (λ e. omega (arith, e)) (λ p. begun-says c p m t k)

@@ -69,7 +69,7 @@ tolerated-known (any_tilde a b c) is = cc
 tolerated-known (any_code {m = m} {t = t} {k = k} {code = code} {is_keypad = is_keypad} a b c) is =
     typed-known (told_character t) code is_keypad m (kind_of k) is
 tolerated-known (any_text a b c d) is = cc
-tolerated-known (any_other a b c) is = cc
+tolerated-known (any_other a b c d) is = cc
 tolerated-known (any_begun a) is = cc
 tolerated-known (any_ended a) is = cc
 tolerated-known (any_size a b c d e) is = cc

@@ -89,7 +89,7 @@ pub data Tolerates : List ℕ → Event → Type 0 where
       → m ≤ 256 → Tolerates (csi body 117) (typed_told (told_character t) code is_keypad m (kind_of k))
   any_text : {body : List ℕ} {m t k : ℕ} → HasText body 0 m t k → IsScalar t → is_control t ≡ false → m ≤ 256
       → Tolerates (csi body 117) (key_told (Char t) false (typed_mask t m) (kind_of k))
-  any_other : {body : List ℕ} {c m t k : ℕ} {code : KeyCode} {is_keypad : Bool} → HasNumbers body c 27 m t k
+  any_other : {body : List ℕ} {c m t k : ℕ} {code : KeyCode} {is_keypad : Bool} → HasNumbers body c 27 m t k → 2 ≤ c
       → IsCodePoint t code is_keypad
       → m ≤ 256 → Tolerates (csi body 126) (code_told code is_keypad m (kind_of k))
   any_begun : {body : List ℕ} {c m t k : ℕ} → HasNumbers body c 200 m t k

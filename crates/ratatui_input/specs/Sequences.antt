@@ -118,7 +118,7 @@ unfoldable pub tilde_event : Sequence → Event
 tilde_event s =
     if s.first == 200 then PasteBegun
     else (if s.first == 201 then PasteEnded
-    else (if s.first == 27 then code_key_event (code_key s.third) s.kind s.second
+    else (if (s.first == 27) && nat_le 2 s.numbers then code_key_event (code_key s.third) s.kind s.second
     else number_key_event (number_key s.first) s.kind s.second))
 
 -- the terminal's size: rows, then columns

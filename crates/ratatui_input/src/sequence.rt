@@ -179,7 +179,7 @@ impl Sequence {
         match self.first {
             200 => Event::PasteBegun,
             201 => Event::PasteEnded,
-            27 => self.other_event(),
+            27 if self.numbers >= 2 => self.other_event(),
             _ => match number_key(self.first) {
                 None => Event::Unknown,
                 Some(code) => self.key(code, false, self.second),
