@@ -13,10 +13,10 @@ use Rattle.rtui_drawing.proofs.{Laws.IsNarrowDrawing, DrawingLemmas.if-narrow, D
 use Rattle.rtui_list.specs.Items.{is_selected_at}
 use Rattle.rtui_table.specs.{declared.table.Table.Table as TableData, declared.cell.Cell.Cell, declared.row.Row.Row}
 use Rattle.rtui_table.specs.{declared.state.TableState.TableState}
-use Rattle.rtui_table.specs.Rows.{PlacedRow, stacked_rows, rows_area, footer_area, cells_area, below, full_height}
+use Rattle.rtui_table.specs.Rows.{stacked_rows, rows_area, footer_area, cells_area, below, full_height}
 use Rattle.rtui_table.specs.Tables.{styled_text, cells_drawing, symbol_drawing, symbol_if, row_drawing, rows_drawing}
 use Rattle.rtui_table.specs.Tables.{outer_drawing, highlights, selected_row_area, selected_column, placed_rows}
-use Rattle.rtui_table.specs.Tables.{body_drawing, table_drawing, symbol_columns, ShowsTable, RendersTable}
+use Rattle.rtui_table.specs.Tables.{table_drawing, symbol_columns, ShowsTable, RendersTable}
 use Rattle.rtui_table.specs.Tables.{HasNarrowRows, HasNarrowCells}
 
 -- each grapheme of a text takes one column, if there is one

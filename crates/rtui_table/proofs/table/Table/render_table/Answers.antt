@@ -1,8 +1,7 @@
 use Rattle.std.proofs.Common.{◌≡◌, is_some, refl}
 use Rattle.rtui_drawing.proofs.DrawingLemmas.{done-within}
-use Rattle.rtui_table.specs.Rows.{rows_area, footer_area}
+use Rattle.rtui_table.specs.Rows.{rows_area}
 use Rattle.rtui_table.specs.Tables.{symbol_columns}
-use Rattle.rtui_table.proofs.PartLemmas.{below-area}
 use Rattle.rtui_table.proofs.table.Table.render_table.Goals as goal
 
 pub draw_table-requires-clause-symbol : goal.draw_table-requires-clause-symbol
