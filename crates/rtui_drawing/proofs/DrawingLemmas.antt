@@ -1,5 +1,6 @@
 -- What holds of a drawing, and of drawings one after the other.
-use Rattle.std.proofs.Common.{◌≡◌, ◌⊎◌, ⊎_elim, inl, inr, Bool, false, true, refl, sym, subst, Result, Ok, Err, IsOk, arith}
+use Rattle.std.proofs.Common.{◌≡◌, ◌<◌, ◌⊎◌, ⊎_elim, inl, inr, Bool, false, true, refl, sym, subst, arith}
+use Rattle.std.proofs.Common.{Result, Ok, Err, IsOk}
 use Rattle.std.specs.Result.{IsErr}
 use Rattle.std.specs.declared.alloc.AllocError.{AllocError}
 use Rattle.rtui_geometry.specs.{declared.rect.Rect.Rect, Rect.IsInside, Rect.EdgesFit, Rect.corner}
@@ -10,10 +11,11 @@ use Rattle.rtui_widgets.proofs.ChangeLemmas.{Changes-within, within-same, within
 use Rattle.rtui_widgets.proofs.PlainLemmas.{settled-plain, plain-changed}
 use Rattle.rtui_widgets.proofs.NarrowTextLemmas.{pieces-plain, styled-plain, line-stays, text-stays, over-all, from-over}
 use Rattle.rtui_drawing.specs.{declared.cut.Cut.Cut, Cuts.cut_from}
-use Rattle.rtui_drawing.specs.declared.cut.Cut.TheVariants.{First, After, Last, BeforeLast, Middle, Rows}
-use Rattle.rtui_drawing.specs.Drawings.{Thing, a_style, some_pieces, a_line, a_text, a_change, Drawing, nothing, put, over, ◌before◌}
-use Rattle.rtui_drawing.specs.Drawings.{draw_if, IsPut, DrawsAll, IsStopped, IsDone, IsShortDrawing}
-use Rattle.rtui_drawing.specs.Laws.{IsNarrowThing, IsNarrowDrawing, Continues}
+use Rattle.rtui_drawing.specs.declared.cut.Cut.TheVariants.{First, After, Last, BeforeLast, Middle, Rows, Below, Above, Within}
+use Rattle.rtui_drawing.specs.Drawings.{Thing, a_style, some_pieces, a_line, a_text, a_change}
+use Rattle.rtui_drawing.specs.Drawings.{Drawing, nothing, put, over, ◌before◌, draw_if, IsPut, DrawsAll, IsStopped}
+use Rattle.rtui_drawing.specs.Drawings.{IsDone, IsShortDrawing, IsPartOf}
+use Rattle.rtui_drawing.proofs.Laws.{IsNarrowThing, IsNarrowDrawing, Continues}
 
 -- a part lies in its area
 pub cut-inside : (c : Cut) (r : Rect) → IsInside (cut_from c r) r
@@ -29,6 +31,41 @@ cut-inside (Middle n) r p h = let l = h.left in let e = h.right in let t = h.top
     record { left = omega arith; right = omega arith; top = omega arith; bottom = omega arith }
 cut-inside (Rows y n) r p h = let l = h.left in let e = h.right in let t = h.top in let b = h.bottom in
     record { left = omega arith; right = omega arith; top = omega arith; bottom = omega arith }
+cut-inside (Below n) r p h = let l = h.left in let e = h.right in let t = h.top in let b = h.bottom in
+    record { left = omega arith; right = omega arith; top = omega arith; bottom = omega arith }
+cut-inside (Above n) r p h = let l = h.left in let e = h.right in let t = h.top in let b = h.bottom in
+    record { left = omega arith; right = omega arith; top = omega arith; bottom = omega arith }
+cut-inside (Within q) r p h = let l = h.left in let e = h.right in let t = h.top in let b = h.bottom in
+    record { left = omega arith; right = omega arith; top = omega arith; bottom = omega arith }
+
+-- its edges fit as the area's do, if it has cells
+cut-edges : (c : Cut) (r : Rect) → (0 < r.width → 0 < r.height → EdgesFit r) → 0 < (cut_from c r).width
+    → 0 < (cut_from c r).height → EdgesFit (cut_from c r)
+cut-edges (First n) r fit w h = let f = fit (omega arith) (omega arith) in let a = f.right in let d = f.bottom in
+    record { right = omega arith; bottom = omega arith }
+cut-edges (After n) r fit w h = let f = fit (omega arith) (omega arith) in let a = f.right in let d = f.bottom in
+    record { right = omega arith; bottom = omega arith }
+cut-edges (Last n) r fit w h = let f = fit (omega arith) (omega arith) in let a = f.right in let d = f.bottom in
+    record { right = omega arith; bottom = omega arith }
+cut-edges (BeforeLast n) r fit w h = let f = fit (omega arith) (omega arith) in let a = f.right in let d = f.bottom in
+    record { right = omega arith; bottom = omega arith }
+cut-edges (Middle n) r fit w h = let f = fit (omega arith) (omega arith) in let a = f.right in let d = f.bottom in
+    record { right = omega arith; bottom = omega arith }
+cut-edges (Rows y n) r fit w h = let f = fit (omega arith) (omega arith) in let a = f.right in let d = f.bottom in
+    record { right = omega arith; bottom = omega arith }
+cut-edges (Below n) r fit w h = let f = fit (omega arith) (omega arith) in let a = f.right in let d = f.bottom in
+    record { right = omega arith; bottom = omega arith }
+cut-edges (Above n) r fit w h = let f = fit (omega arith) (omega arith) in let a = f.right in let d = f.bottom in
+    record { right = omega arith; bottom = omega arith }
+cut-edges (Within q) r fit w h = let f = fit (omega arith) (omega arith) in let a = f.right in let d = f.bottom in
+    record { right = omega arith; bottom = omega arith }
+
+-- so a part of a part of a buffer is one
+pub part-cut : {own r : Rect} (c : Cut) → IsPartOf own r → IsPartOf own (cut_from c r)
+part-cut {r = r} c is = record {
+  inside = λ p h. is.inside p (cut-inside c r p h);
+  edges = λ w h. cut-edges c r is.edges w h;
+}
 
 -- 1. a drawing in an area changes nothing outside it, done or refused
 thing-within : (t : Thing) (r : Rect) (old new : BufferData) → IsPut t r old new → ChangesWithin r old new
@@ -41,14 +78,16 @@ thing-within (a_change f is_light) r old new is = Changes-within r r f old new (
 pub draws-within : (d : Drawing) (r : Rect) (old new : BufferData) → DrawsAll d r old new → ChangesWithin r old new
 draws-within nothing r old new same = rw same (within-same r old)
 draws-within (put t) r old new is = thing-within t r old new is
-draws-within (over c d) r old new is = within-wider (cut_from c r) r old new (cut-inside c r) (draws-within d (cut_from c r) old new is)
+draws-within (over c d) r old new is =
+    within-wider (cut_from c r) r old new (cut-inside c r) (draws-within d (cut_from c r) old new is)
 draws-within (a before b) r old new is =
     within-then r old is.0 new (draws-within a r old is.0 is.1) (draws-within b r is.0 new is.2)
 
 stops-within : (d : Drawing) (r : Rect) (old new : BufferData) → IsStopped d r old new → ChangesWithin r old new
 stops-within nothing r old new never = absurd never
 stops-within (put t) r old new is = is.within
-stops-within (over c d) r old new is = within-wider (cut_from c r) r old new (cut-inside c r) (stops-within d (cut_from c r) old new is)
+stops-within (over c d) r old new is =
+    within-wider (cut_from c r) r old new (cut-inside c r) (stops-within d (cut_from c r) old new is)
 stops-within (a before b) r old new is =
     ⊎_elim (λ (one : IsStopped a r old new). stops-within a r old new one)
     (λ (two : (mid : BufferData) × DrawsAll a r old mid × IsStopped b r mid new).
@@ -103,10 +142,20 @@ if-narrow false d narrow = tt
 pub draws-settled : (d : Drawing) (r : Rect) (old new : BufferData) → EdgesFit old.area → IsNarrowDrawing d → IsPlainFrom 0 old
     → DrawsAll d r old new → IsSettledBuffer new
 draws-settled d r old new edges narrow plain is =
-    settled-plain new (subst EdgesFit (sym (draws-within d r old new is).same_area) edges) (draws-plain d r old new narrow plain is)
+    settled-plain new (subst EdgesFit (sym (draws-within d r old new is).same_area) edges)
+    (draws-plain d r old new narrow plain is)
 
--- 5. calls one after the other
-pub done-all : {A : Type 0} {d : Drawing} {r : Rect} {x : A} {old new : BufferData} → DrawsAll d r old new → IsDone d r (Ok x) old new
+-- 5. what is drawn if a test holds, and calls one after the other
+pub done-if : {A : Type 0} {d : Drawing} {r : Rect} {old new : BufferData} {result : Result A AllocError} (b : Bool)
+    → b ≡ true → IsDone d r result old new → IsDone (draw_if b d) r result old new
+done-if b is done = rw is done
+
+pub done-skip : {A : Type 0} {r : Rect} {x : A} {s : BufferData} (b : Bool) (d : Drawing) → b ≡ false
+    → IsDone (draw_if b d) r (Ok x) s s
+done-skip b d is = rw is (record { ok = refl; err = tt })
+
+pub done-all : {A : Type 0} {d : Drawing} {r : Rect} {x : A} {old new : BufferData} → DrawsAll d r old new
+    → IsDone d r (Ok x) old new
 done-all is = record { ok = is; err = tt }
 
 pub done-err : {A B : Type 0} {d : Drawing} {r : Rect} {e : AllocError} {old new : BufferData} (result : Result B AllocError)
@@ -161,3 +210,6 @@ continues-end is = record { ok = is.ok _ refl; err = tt }
 
 -- what is drawn one after the other
 pub ruleset drawing_steps = (done-all, done-err, done-then, draws-then, done-stop, done-in)
+
+-- and what is drawn if a test holds
+pub ruleset drawing_choices = (done-if, done-skip)

@@ -7,8 +7,9 @@ use Rattle.rtui_cell.specs.Width.{text_width}
 use Rattle.rtui_text.specs.{Text.SpanData, Graphemes.EachGrapheme, Graphemes.EachSpanGrapheme, Graphemes.TakesOneColumn}
 use Rattle.rtui_buffer.specs.{Painting.Piece, Painting.columns, Painting.text_pieces, Line.line_pieces, PaintedText.room_at}
 use Rattle.rtui_widgets.proofs.NarrowTextLemmas.{pieces-narrow}
-use Rattle.rtui_drawing.specs.Laws.{IsNarrowThing}
-use Rattle.rtui_drawing.specs.Drawings.{some_pieces}
+use Rattle.rtui_drawing.proofs.Laws.{IsNarrowThing}
+use Rattle.rtui_drawing.specs.{declared.cut.Cut.Cut, Cuts.cut_from, Drawings.some_pieces}
+use Rattle.rtui_drawing.specs.declared.cut.Cut.TheVariants.{First, After, Last, BeforeLast, Middle, Rows, Below, Above, Within}
 
 -- a text, in as many columns as a buffer has
 pub text-narrow : (room : ℕ) (style : Style) (text : List ℕ) → room ≤ 65535 → EachGrapheme TakesOneColumn text
@@ -17,6 +18,18 @@ text-narrow room style text le narrow =
     let own : Rect = record { x = 0; y = 0; width = room; height = 1 } in
     let is : room_at own 0 room ≡ room = omega arith in
     subst (λ n. IsNarrowThing (some_pieces (text_pieces n style text))) is (pieces-narrow own 0 room style text narrow)
+
+-- a part of an area has no more columns than the area may have
+pub cut-width : (c : Cut) (r : Rect) → r.width ≤ 65535 → (cut_from c r).width ≤ 65535
+cut-width (First n) r le = omega arith
+cut-width (After n) r le = omega arith
+cut-width (Last n) r le = omega arith
+cut-width (BeforeLast n) r le = omega arith
+cut-width (Middle n) r le = omega arith
+cut-width (Rows y n) r le = le
+cut-width (Below n) r le = le
+cut-width (Above n) r le = le
+cut-width (Within q) r le = omega arith
 
 abbrev IsNarrowSpan : SpanData → Type 0
 IsNarrowSpan span = EachGrapheme TakesOneColumn span.content

@@ -1,5 +1,5 @@
 -- Pieces written from the left of a row on.
-use Rattle.std.proofs.Common.{◌≡◌, ℕ, ◌+◌, ◌<◌, ◌≤◌, ⊎_elim, inl, inr, false, true, List, arith, Result, Ok, Err}
+use Rattle.std.proofs.Common.{◌≡◌, ℕ, ◌+◌, ◌-◌, ◌<◌, ◌≤◌, ⊎_elim, inl, inr, false, true, List, arith, Result, Ok, Err}
 use Rattle.std.proofs.lemmas.Bool.{cases_lt}
 use Rattle.std.specs.Result.{IsErr}
 use Rattle.std.specs.declared.alloc.AllocError.{AllocError}
@@ -13,8 +13,8 @@ use Rattle.rtui_buffer.proofs.{ColumnLemmas.same-beside, ColumnLemmas.text-keeps
 use Rattle.rtui_buffer.proofs.{ColumnLemmas.line-keeps, PaintsLemmas.front-beside}
 use Rattle.rtui_widgets.specs.Rendering.{ChangesWithin}
 use Rattle.rtui_drawing.specs.Cuts.{cut_from}
-use Rattle.rtui_drawing.specs.declared.cut.Cut.TheVariants.{After}
-use Rattle.rtui_drawing.specs.Drawings.{some_pieces, put, IsDone, IsRowIn}
+use Rattle.rtui_drawing.specs.declared.cut.Cut.TheVariants.{After, Middle}
+use Rattle.rtui_drawing.specs.Drawings.{some_pieces, put, IsDone, IsRowIn, IsPartOf}
 
 -- what is left of a row of a buffer is one
 pub row-after : (own row : Rect) (n : ℕ) → n ≤ row.width → IsRowIn own row → IsRowIn own (cut_from (After n) row)
@@ -26,6 +26,37 @@ row-after own row n le is = let l = is.left in let r = is.right in let e = is.ed
   down = is.down;
   high = is.high;
 }
+
+-- and so are columns in its middle
+pub row-middle : (own row : Rect) (n : ℕ) → IsRowIn own row → IsRowIn own (cut_from (Middle n) row)
+row-middle own row n is = let l = is.left in let r = is.right in let e = is.edge in record {
+  there = is.there;
+  left = omega arith;
+  right = omega arith;
+  edge = omega arith;
+  down = is.down;
+  high = is.high;
+}
+
+-- a part of a buffer that has cells begins with a row of it
+pub row-of : {own r : Rect} → IsPartOf own r → 0 < r.width → 0 < r.height → IsRowIn own r
+row-of {own = own} {r = r} is w h =
+    let fit = is.edges w h in let a = fit.right in let d = fit.bottom in
+    let p : Position = record { x = r.x; y = r.y } in
+    let q : Position = record { x = r.x + (r.width - 1); y = r.y } in
+    let first = is.inside p
+    (record { left = omega arith; right = omega arith; top = omega arith; bottom = omega arith }) in
+    let last = is.inside q
+    (record { left = omega arith; right = omega arith; top = omega arith; bottom = omega arith }) in
+    let l = first.left in let t = first.top in let b = first.bottom in let e = last.right in
+    record {
+      there = record { top = omega arith; bottom = omega arith };
+      left = omega arith;
+      right = omega arith;
+      edge = omega arith;
+      down = omega arith;
+      high = omega arith;
+    }
 
 -- the buffer has all columns of a row of its own, and a text in it is no longer
 pub room-is : (own row : Rect) → IsRowIn own row → room_at own row.x row.width ≡ row.width

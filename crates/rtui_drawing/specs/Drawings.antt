@@ -1,8 +1,8 @@
 -- What a widget draws in an area: things over it or over parts of it, one after the other.
-use Rattle.std.specs.Prelude.{◌≡◌, ℕ, Bool, ◌+◌, ◌≤◌, ◌⊎◌, List, Result, OnOk, OnErr, ⊤, true, false}
+use Rattle.std.specs.Prelude.{◌≡◌, ℕ, Bool, ◌+◌, ◌<◌, ◌≤◌, ◌⊎◌, List, Result, OnOk, OnErr, ⊤, true, false}
 use Rattle.std.specs.declared.alloc.AllocError.{AllocError}
 use Rattle.rtui_geometry.specs.{declared.rect.Rect.Rect, declared.position.Position.Position, Rect.corner}
-use Rattle.rtui_geometry.specs.Rect.{intersected}
+use Rattle.rtui_geometry.specs.Rect.{intersected, IsInside, EdgesFit}
 use Rattle.rtui_style.specs.declared.Style.{Style}
 use Rattle.rtui_cell.specs.declared.cell.Cell.{Cell}
 use Rattle.rtui_text.specs.Text.{LineData, TextData}
@@ -116,6 +116,11 @@ IsShortDrawing own nothing r = ⊤
 IsShortDrawing own (put thing) r = IsShortThing own thing r
 IsShortDrawing own (over c d) r = IsShortDrawing own d (cut_from c r)
 IsShortDrawing own (a before b) r = IsShortDrawing own a r × IsShortDrawing own b r
+
+-- a part of a buffer's area, which may have no cells
+pub record IsPartOf (own r : Rect) : Type 0 where
+  pub inside : IsInside r own
+  pub edges : 0 < r.width → 0 < r.height → EdgesFit r
 
 -- a row, or a part of one, of a buffer's area
 pub record IsRowIn (own row : Rect) : Type 0 where

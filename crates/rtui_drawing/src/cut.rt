@@ -5,7 +5,8 @@ ghost use Rattle.rtui_drawing.specs.Cuts.{cut_from};
 
 use rtui_geometry::Rect;
 
-/// A part of an area, which lies in it: some columns or some rows, as far as the area has them.
+/// A part of an area, which lies in it: some columns or some rows, as far as the area has them, or
+/// what it shares with another area.
 ///
 /// ```
 /// Cut::First(4).of(Rect::new(2, 0, 10, 3)); // Rect::new(2, 0, 4, 3)
@@ -26,6 +27,12 @@ pub enum Cut {
     Middle(u16),
     /// Rows: the number of the first one, from 0 on, and how many there are.
     Rows(u16, u16),
+    /// All rows but so many at the top.
+    Below(u16),
+    /// All rows but so many at the bottom.
+    Above(u16),
+    /// What another area has of it.
+    Within(Rect),
 }
 
 impl Cut {
@@ -62,6 +69,16 @@ impl Cut {
                 height: n.min(area.height.saturating_sub(y)),
                 ..area
             },
+            Cut::Below(n) => Rect {
+                y: area.y.saturating_add(n),
+                height: area.height.saturating_sub(n),
+                ..area
+            },
+            Cut::Above(n) => Rect {
+                height: area.height.saturating_sub(n),
+                ..area
+            },
+            Cut::Within(other) => area.intersection(other),
         }
     }
 }

@@ -1,12 +1,14 @@
 -- What is drawn inside a frame: the clauses of a widget that draws it there.
-use Rattle.std.proofs.Common.{◌≡◌, ℕ, ◌+◌, ◌-◌, ◌<◌, ◌≤◌, min, ◌∙◌, Option, Some, None, IfSome, Result, Ok, Err, OnOk, OnErr, IsOk, arith}
+use Rattle.std.proofs.Common.{◌≡◌, ℕ, ◌+◌, ◌-◌, ◌<◌, ◌≤◌, min, ◌∙◌, Option, Some, None, IfSome, arith}
+use Rattle.std.proofs.Common.{Result, Ok, Err, OnOk, OnErr, IsOk}
 use Rattle.std.specs.declared.alloc.AllocError.{AllocError}
-use Rattle.ratatui_core.specs.{Layout.Rect, Layout.IsInside, Layout.intersected, Style.Style, Buffer.BufferData, Buffer.IsPlainFrom, Widgets.ChangesWithin}
+use Rattle.ratatui_core.specs.{Layout.Rect, Layout.IsInside, Layout.intersected, Style.Style, Buffer.BufferData}
+use Rattle.ratatui_core.specs.{Buffer.IsPlainFrom, Widgets.ChangesWithin}
 use Rattle.ratatui_core.proofs.WidgetLemmas.{holds_anyway}
 use Rattle.rtui_drawing.specs.Cuts.{cut_from}
 use Rattle.rtui_drawing.specs.declared.cut.Cut.TheVariants.{Rows}
-use Rattle.rtui_drawing.specs.Drawings.{Drawing, DrawsAll, IsDone, IsStopped, IsRowIn}
-use Rattle.rtui_drawing.specs.Laws.{IsNarrowDrawing}
+use Rattle.rtui_drawing.specs.Drawings.{Drawing, DrawsAll, IsDone, IsStopped, IsRowIn, IsPartOf}
+use Rattle.rtui_drawing.proofs.Laws.{IsNarrowDrawing}
 use Rattle.rtui_drawing.proofs.DrawingLemmas.{done-within, done-short, draws-plain}
 use Rattle.rtui_boxes.specs.declared.block.Block.{Block}
 use Rattle.rtui_boxes.specs.{Boxes.IsBoxArea, Boxes.IsNarrowBox, Framed.FramesInside, Framed.inner_if}
@@ -75,6 +77,10 @@ module _ (style : Style) (o : Option Block) (area : Rect) (old new : BufferData)
 pub inner-columns : (o : Option Block) (area own : Rect) → (inner_if o (intersected area own)).width ≤ 65535
 inner-columns None area own = omega arith
 inner-columns (Some b) area own = omega arith
+
+-- an area with cells that a buffer has is a part of it
+pub box-part : {own r : Rect} → IsBoxArea r → IsInside r own → IsPartOf own r
+box-part box inside = record { inside = inside; edges = λ w h. record { right = box.across; bottom = box.down } }
 
 -- a row of an area that a buffer has is one of the buffer's
 pub row-inside : (own r row : Rect) (k : ℕ) → IsBoxArea r → IsInside r own → k < r.height → row ≡ cut_from (Rows k 1) r

@@ -1,20 +1,19 @@
--- Shares of a number, and bars over a part of a buffer.
+-- Shares of a number, and what gauges draw one after the other.
 use Rattle.std.proofs.Common.{◌≡◌, ℕ, ◌+◌, ◌-◌, ◌*◌, ◌/◌, ◌<◌, ◌≤◌, List, min, Option, Some, None, arith, Result, Ok, refl}
 use Rattle.std.proofs.Math.Nat.{div-lt_iff_lt-mul}
 use Rattle.std.specs.declared.alloc.AllocError.{AllocError}
-use Rattle.ratatui_core.specs.Layout.{Rect, IsInside}
-use Rattle.ratatui_core.specs.Buffer.{BufferData, columns, Paints, HasRow}
-use Rattle.ratatui_core.specs.Buffer.{pieces_at, position_of}
-use Rattle.ratatui_core.specs.{Widgets.ChangesWithin, Style.Style, Style.new_style, Text.LineData}
-use Rattle.ratatui_core.proofs.BufferLemmas.{text-keeps}
+use Rattle.ratatui_core.specs.{Layout.Rect, Layout.IsInside, Style.Style, Style.new_style, Text.LineData}
+use Rattle.ratatui_core.specs.Buffer.{BufferData, ChangesEach, columns, text_pieces}
 use Rattle.rtui_drawing.specs.Cuts.{cut_from}
-use Rattle.rtui_drawing.specs.declared.cut.Cut.TheVariants.{After, Rows}
+use Rattle.rtui_drawing.specs.declared.cut.Cut.TheVariants.{After, Middle, Rows}
 use Rattle.rtui_drawing.specs.Drawings.{put_pieces, put_change, IsDone, IsRowIn}
-use Rattle.rtui_drawing.proofs.{DrawingLemmas.done-in, DrawingLemmas.done-then, WriteLemmas.text-fits, WriteLemmas.line-fits}
+use Rattle.rtui_drawing.proofs.DrawingLemmas.{done-in, done-then, draws-then}
+use Rattle.rtui_drawing.proofs.WriteLemmas.{text-fits, line-fits, row-middle}
 use Rattle.rtui_boxes.specs.Boxes.{IsBoxArea}
-use Rattle.rtui_boxes.proofs.PaintLemmas.{paints-within, part-has_row, part-starts}
-use Rattle.rtui_meters.specs.{declared.line_gauge.LineGauge.LineGauge}
-use Rattle.rtui_meters.specs.{Shares.filled_part, Shares.even_percent_text, Gauges.label_part}
+use Rattle.rtui_inside.proofs.InsideLemmas.{row-inside}
+use Rattle.rtui_meters.specs.{declared.line_gauge.LineGauge.LineGauge, declared.gauge.Gauge.Gauge, declared.gauge.Fill.Fill}
+use Rattle.rtui_meters.specs.{Shares.filled_part, Shares.even_percent_text}
+use Rattle.rtui_meters.specs.Gauges.{label_width, label_part, IsFillOf, filled_cell, bar_drawing}
 use Rattle.rtui_meters.specs.LineGauges.{pieces_of_label, line_label_pieces, line_cut, line_cell, HasShortLine, line_gauge_drawing}
 
 -- a rounded share of a number is at most the number
@@ -54,30 +53,20 @@ fills-line {x = x} result g r row part n k end old labelled new e0 label e1 e2 e
     (rw (e4, e3, e2, e1, e0) at line) refl))
     refl
 
--- where a label stands in a part
-pub record IsLabelIn (r l : Rect) : Type 0 where
-  pub left : r.x ≤ l.x
-  pub right : l.x + l.width ≤ r.x + r.width
-  pub top : r.y ≤ l.y
-  pub bottom : l.y < r.y + r.height
+-- a label stands in a row of the buffer
+pub label-row : (text : List ℕ) (own r : Rect) → IsBoxArea r → IsInside r own → IsRowIn own (label_part text r)
+label-row text own r box inside =
+    let high = box.rows in
+    let row = cut_from (Rows (r.height / 2) 1) r in
+    row-middle own row (label_width text) (row-inside own r row (r.height / 2) box inside (omega arith) refl)
 
-pub label-in : (text : List ℕ) (r l : Rect) → IsBoxArea r → l ≡ label_part text r → IsLabelIn r l
-label-in text r l box e =
-    let high = box.rows in let wide = box.columns in
-    rw e (record { left = omega arith; right = omega arith; top = omega arith; bottom = omega arith })
-
-pub label-row : (text : List ℕ) (r own l : Rect) → IsBoxArea r → IsInside r own → l ≡ label_part text r → HasRow own l.y
-label-row text r own l box inside e = let is = label-in text r l box e in part-has_row r own l.y box inside is.top is.bottom
-
-pub label-column : (text : List ℕ) (r own l : Rect) → IsBoxArea r → IsInside r own → l ≡ label_part text r → own.x ≤ l.x
-label-column text r own l box inside e = let is = label-in text r l box e in part-starts r own l.x box inside is.left
-
-pub label-paints : {A : Type 0} (res : Result A AllocError) (text : List ℕ) (style : Style) (r l : Rect) (old new : BufferData)
-    → IsBoxArea r → IsInside r old.area → l ≡ label_part text r
-    → Paints (position_of (l.x, l.y)) (pieces_at old.area l.x l.width style text) res old new → ChangesWithin r old new
-label-paints res text style r l old new box inside e paints =
-    let is = label-in text r l box e in
-    let keeps = text-keeps old.area l.x l.width style text in
-    let right = is.right in
-    paints-within res r l.x l.y (pieces_at old.area l.x l.width style text) old new box inside is.left
-    (omega arith) is.top is.bottom paints
+-- the bar, and the label on it
+pub labels-bar : {A : Type 0} (result : Result A AllocError) (g : Gauge) (text : List ℕ) (style : Style) (r : Rect) (fill : Fill)
+    (old filled new : BufferData) → IsFillOf g text r fill → ChangesEach r (filled_cell fill) old filled
+    → IsDone (put_pieces (text_pieces fill.label.width style text)) fill.label result filled new
+    → IsDone (bar_drawing g text style r) r result old new
+labels-bar result g text style r fill old filled new is bar label =
+    let row = Rows (r.height / 2) 1 in
+    let middle = Middle (label_width text) in
+    draws-then result (rw (is.end, is.has_tip, is.tip, is.label, is.style) at bar) (done-in row (cut_from row r) result
+    (done-in middle (cut_from middle (cut_from row r)) result (rw is.label at label) refl) refl)

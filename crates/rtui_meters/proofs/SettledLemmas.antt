@@ -8,9 +8,9 @@ use Rattle.std.proofs.Math.ListN.{get_or-map}
 use Rattle.ratatui_core.specs.Layout.{Rect, Position, EdgesFit, IsInside, corner}
 use Rattle.ratatui_core.specs.{Style.Style, declared.style.Color.Color, Symbols.is_narrow, Symbols.block_levels}
 use Rattle.ratatui_core.specs.Buffer.{BufferData, Cell, with_symbol, width_of, text_width, columns, IsPlain, IsPlainFrom, PaintsPieces}
-use Rattle.ratatui_core.specs.Buffer.{IsSettledBuffer}
+use Rattle.ratatui_core.specs.Buffer.{IsSettledBuffer, text_pieces}
 use Rattle.ratatui_core.proofs.BufferLemmas.{narrow-test, blocks-narrow, plain-styled, plain-with_symbol, plain-if, plain-changed}
-use Rattle.ratatui_core.proofs.BufferLemmas.{painted-settled, text-keeps, PaintsByColumns-paints, ready-row, ready-plain}
+use Rattle.ratatui_core.proofs.BufferLemmas.{painted-settled, PaintsByColumns-paints, ready-row, ready-plain}
 use Rattle.ratatui_core.proofs.BufferLemmas.{ready-next, changed-settled}
 use Rattle.rtui_boxes.specs.Boxes.{IsBoxArea, IsNarrowBox}
 use Rattle.rtui_boxes.proofs.{PaintLemmas.part-right, PaintLemmas.part-has_row, PaintLemmas.part-starts}
@@ -18,6 +18,7 @@ use Rattle.rtui_boxes.proofs.{InnerLemmas.settled-frame}
 use Rattle.rtui_drawing.specs.Cuts.{cut_from}
 use Rattle.rtui_drawing.specs.declared.cut.Cut.TheVariants.{Rows}
 use Rattle.rtui_drawing.specs.Drawings.{DrawsAll}
+use Rattle.rtui_drawing.proofs.WriteLemmas.{text-fits}
 use Rattle.rtui_inside.proofs.InsideLemmas.{row-inside}
 use Rattle.rtui_meters.specs.{declared.gauge.Gauge.Gauge, declared.gauge.Fill.Fill, declared.gauge.TheConstants.FULL_BLOCK}
 use Rattle.rtui_meters.specs.{declared.gauge.TheConstants.TIPS}
@@ -25,9 +26,9 @@ use Rattle.rtui_meters.specs.{declared.line_gauge.LineGauge.LineGauge, declared.
 use Rattle.rtui_meters.specs.LineGauges.{line_label_pieces, line_cut, line_fill, line_cell, line_gauge_drawing, RendersLineGauge}
 use Rattle.rtui_meters.specs.LineGauges.{HasNarrowLine}
 use Rattle.rtui_meters.specs.{Shares.eighths_of}
-use Rattle.rtui_meters.specs.Gauges.{label_part, pieces_on_bar, filled_cell, in_colors, is_under_label, text_of_label}
-use Rattle.rtui_meters.specs.Gauges.{style_of_label, FillsArea, FillsGauge, RendersAreaGauge}
-use Rattle.rtui_meters.proofs.{MeterLemmas.label-in, MeterLemmas.label-row, MeterLemmas.label-column, MeterLemmas.pieces-keep}
+use Rattle.rtui_meters.specs.Gauges.{label_part, fill_of, filled_cell, in_colors, is_under_label, text_of_label}
+use Rattle.rtui_meters.specs.Gauges.{style_of_label, bar_drawing, gauge_drawing, RendersAreaGauge}
+use Rattle.rtui_meters.proofs.{MeterLemmas.label-row, MeterLemmas.pieces-keep}
 
 pub full-narrow : is_narrow FULL_BLOCK.now ≡ true
 full-narrow = (and_parts (is_narrow FULL_BLOCK.now) (list_all is_narrow (drop 1 block_levels)) blocks-narrow).0
@@ -80,29 +81,26 @@ plain-filled f tip p c is =
     (plain-styled f.style c is))
 
 -- a bar with its label on plain cells
-pub settled-area : (g : Gauge) (text : List ℕ) (style : Style) (r : Rect) (old new : BufferData) → IsBoxArea r
-    → IsInside r old.area → EdgesFit old.area → IsPlainFrom 0 old → FillsArea g text style r old new → IsSettledBuffer new
+settled-area : (g : Gauge) (text : List ℕ) (style : Style) (r : Rect) (old new : BufferData) → IsBoxArea r → IsInside r old.area
+    → EdgesFit old.area → IsPlainFrom 0 old → DrawsAll (bar_drawing g text style r) r old new → IsSettledBuffer new
 settled-area g text style r old new box inside edges plain is =
-    let filled = is.filled in
-    let tip : is_narrow is.fill.tip.now ≡ true = rw is.is_fill.tip (tip-narrow (eighths_of g.share r.width)) in
-    let plain_ = plain-changed r (filled_cell is.fill) old filled (plain-filled is.fill tip) is.bar plain in
-    let inside_ : IsInside r filled.area = λ p h. rw is.bar.area (inside p h) in
-    let edges_ : EdgesFit filled.area = rw is.bar.area edges in
-    let place = label-in text r (label_part text r) box refl in
-    let keeps = text-keeps filled.area (label_part text r).x (label_part text r).width style text in
-    let right = place.right in
-    painted-settled (label_part text r).x (label_part text r).y (pieces_on_bar text style r filled.area) filled new edges_ plain_
-    (label-row text r filled.area (label_part text r) box inside_ refl)
-    (label-column text r filled.area (label_part text r) box inside_ refl)
-    (part-right r filled.area (label_part text r).x (columns (pieces_on_bar text style r filled.area)) box inside_ (omega arith))
-    is.label
+    let fill = fill_of g text r in
+    let m = label_part text r in
+    let tip = tip-narrow (eighths_of g.share r.width) in
+    let filled = plain-changed r (filled_cell fill) old is.0 (plain-filled fill tip) is.1 plain in
+    let there : IsInside r is.0.area = λ p h. rw is.1.area (inside p h) in
+    let fit : EdgesFit is.0.area = rw is.1.area edges in
+    let row = label-row text is.0.area r box there in
+    let fits = text-fits is.0.area m style text row in
+    let right = row.right in
+    painted-settled m.x m.y (text_pieces m.width style text) is.0 new fit filled row.there row.left (omega arith) is.2.pieces
 
 pub settled-gauge : (g : Gauge) (area : Rect) (old new : BufferData) → EdgesFit old.area → IsPlainFrom 0 old
     → IfSome g.block IsNarrowBox → RendersAreaGauge g area old new → IsSettledBuffer new
 settled-gauge g area old new edges plain box is =
-    settled-frame g.style g.block (FillsGauge g) area old new edges plain box
-    (λ r s t some inside fit cells fills. settled-area g (text_of_label g g.label)
-    (style_of_label g.label) r s t some inside fit cells fills) is
+    settled-frame g.style g.block (λ r. DrawsAll (gauge_drawing g r) r) area old new edges plain box
+    (λ r s t some inside fit cells drawn. settled-area g (text_of_label g g.label)
+    (style_of_label g.label) r s t some inside fit cells drawn) is
 
 -- a label, and after it a line of narrow symbols
 plain-line : (f : LineFill) → text_width f.filled_symbol.now ≤ 1 → text_width f.unfilled_symbol.now ≤ 1

@@ -1,12 +1,14 @@
 -- A gauge: which cell gets which symbol and style.
 use Rattle.std.specs.Prelude.{◌≡◌, ℕ, Bool, ◌+◌, ◌-◌, ◌/◌, ◌==◌, ◌&&◌, not, nat_le, nat_lt, min, List, []}
-use Rattle.std.specs.Prelude.{◌∷◌, codes, Option, Some, None, if◌then◌else◌, unwrap_or, slice_index_or, false}
-use Rattle.ratatui_core.specs.Layout.{Rect, Position, corner, intersected}
+use Rattle.std.specs.Prelude.{◌∷◌, codes, Option, Some, None, if◌then◌else◌, unwrap_or, slice_index_or, false, ⊤}
+use Rattle.ratatui_core.specs.Layout.{Rect, Position}
 use Rattle.ratatui_core.specs.{Style.Style, Style.new_style, declared.style.Color.Color}
 use Rattle.ratatui_core.specs.{declared.style.Color.TheVariants.Reset, Text.SpanData}
-use Rattle.ratatui_core.specs.Buffer.{BufferData, Cell, Piece, styled, with_symbol, pieces_at, text_columns}
-use Rattle.ratatui_core.specs.Buffer.{PaintsPieces, ChangesEach, AreShort}
-use Rattle.rtui_boxes.specs.Framed.{RendersInFrame, IsShortFrame, inner_if}
+use Rattle.ratatui_core.specs.Buffer.{BufferData, Cell, styled, with_symbol, text_columns, text_pieces}
+use Rattle.rtui_drawing.specs.{Cuts.cut_from, declared.cut.Cut.TheVariants.Middle}
+use Rattle.rtui_drawing.specs.{declared.cut.Cut.TheVariants.Rows}
+use Rattle.rtui_drawing.specs.Drawings.{Drawing, over, ◌before◌, put_change, put_pieces}
+use Rattle.rtui_inside.specs.Inside.{DrawsInside, LeavesInside, IsShortInside}
 use Rattle.rtui_meters.specs.{declared.gauge.Gauge.Gauge, declared.gauge.Fill.Fill}
 use Rattle.rtui_meters.specs.{declared.gauge.TheConstants.FULL_BLOCK, declared.gauge.TheConstants.TIPS}
 use Rattle.rtui_meters.specs.Shares.{share_of, filled_part, rounded_part, eighths_of, percent_text, is_full}
@@ -24,18 +26,12 @@ pub record IsNewGauge (g : Gauge) : Type 0 where
 abbrev pub full_columns : Gauge → ℕ → ℕ
 full_columns g width = if g.use_unicode then filled_part g.share width else rounded_part g.share width
 
--- how many columns of an area a label takes
-abbrev pub label_width : List ℕ → Rect → ℕ
-label_width text r = min (text_columns text) r.width
+-- how many columns a label takes, and where it stands: in the middle of an area
+abbrev pub label_width : List ℕ → ℕ
+label_width text = min (text_columns text) 65535
 
--- where a label stands: in the middle of an area
 abbrev pub label_part : List ℕ → Rect → Rect
-label_part text r = record {
-  x = r.x + (r.width - label_width text r) / 2;
-  y = r.y + r.height / 2;
-  width = label_width text r;
-  height = 1;
-}
+label_part text r = cut_from (Middle (label_width text)) (cut_from (Rows (r.height / 2) 1) r)
 
 -- the characters of a column that is filled by eighths, from none to all
 abbrev pub tip_codes : List (List ℕ)
@@ -48,6 +44,15 @@ abbrev pub tip_text : Gauge → Rect → List ℕ
 tip_text g r = (slice_index_or TIPS (eighths_of g.share r.width) FULL_BLOCK).now
 
 -- how a gauge fills an area in which a label stands
+abbrev pub fill_of : Gauge → List ℕ → Rect → Fill
+fill_of g text r = record {
+  end = r.x + full_columns g r.width;
+  has_tip = g.use_unicode && not (is_full g.share);
+  tip = record { ref_ptr = (0, 0); now = tip_text g r };
+  label = label_part text r;
+  style = g.gauge_style;
+}
+
 pub record IsFillOf (g : Gauge) (text : List ℕ) (r : Rect) (f : Fill) : Type 0 where
   pub end : f.end ≡ r.x + full_columns g r.width
   pub has_tip : f.has_tip ≡ (g.use_unicode && not (is_full g.share))
@@ -77,18 +82,12 @@ filled_cell f p c =
     if nat_lt p.x f.end then full_cell f p c
     else if f.has_tip && (p.x == f.end) then styled f.style (with_symbol f.tip.now c) else styled f.style c
 
--- the pieces of a label that are painted over an area of a buffer
-abbrev pub pieces_on_bar : List ℕ → Style → Rect → Rect → List Piece
-pieces_on_bar text style r own = pieces_at own (label_part text r).x (label_width text r) style text
-
 -- the bar over an area, and a label on it
-pub record FillsArea (g : Gauge) (text : List ℕ) (style : Style) (r : Rect)
-    (old new : BufferData) : Type 0 where
-  pub fill : Fill
-  pub is_fill : IsFillOf g text r fill
-  pub filled : BufferData
-  pub bar : ChangesEach r (filled_cell fill) old filled
-  pub label : PaintsPieces (corner (label_part text r)) (pieces_on_bar text style r filled.area) filled new
+abbrev pub bar_drawing : Gauge → List ℕ → Style → Rect → Drawing
+bar_drawing g text style r =
+    let n = label_width text in
+    put_change (filled_cell (fill_of g text r)) (λ _ _. ⊤)
+    before over (Rows (r.height / 2) 1) (over (Middle n) (put_pieces (text_pieces (min n r.width) style text)))
 
 -- the label's text, and its style: without a label the percentage
 abbrev pub text_of_label : Gauge → Option SpanData → List ℕ
@@ -99,19 +98,19 @@ abbrev pub style_of_label : Option SpanData → Style
 style_of_label None = new_style
 style_of_label (Some label) = label.style
 
--- the bar with its label over an area
-abbrev pub FillsGauge : Gauge → Rect → BufferData → BufferData → Type 0
-FillsGauge g r = FillsArea g (text_of_label g g.label) (style_of_label g.label) r
-
-abbrev pub gauge_pieces : Gauge → Rect → Rect → List Piece
-gauge_pieces g r own = pieces_on_bar (text_of_label g g.label) (style_of_label g.label) r own
+-- what a gauge draws in an area: the bar with its label
+abbrev pub gauge_drawing : Gauge → Rect → Drawing
+gauge_drawing g r = bar_drawing g (text_of_label g g.label) (style_of_label g.label) r
 
 -- A gauge over the part of an area that a buffer has: its style, its box, and inside the bar with its label.
 -- Nothing outside the area changes.
 abbrev pub RendersAreaGauge : Gauge → Rect → BufferData → BufferData → Type 0
-RendersAreaGauge g = RendersInFrame g.style g.block (FillsGauge g)
+RendersAreaGauge g = DrawsInside g.style g.block (gauge_drawing g)
+
+-- what a refusal leaves: if the box takes no memory, it stands, and so does the bar
+abbrev pub LeavesGauge : Gauge → Rect → BufferData → BufferData → Type 0
+LeavesGauge g = LeavesInside g.style g.block (gauge_drawing g)
 
 -- it takes no memory if its box takes none and the label's graphemes are short
-pub record IsShortGauge (g : Gauge) (area : Rect) (s : BufferData) : Type 0 where
-  pub frame : IsShortFrame g.block s
-  pub label : AreShort (gauge_pieces g (inner_if g.block (intersected area s.area)) s.area)
+abbrev pub IsShortGauge : Gauge → Rect → BufferData → Type 0
+IsShortGauge g = IsShortInside g.block (gauge_drawing g)

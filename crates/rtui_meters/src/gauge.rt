@@ -2,21 +2,22 @@
 
 ghost use Rattle.std.specs.Prelude.{◌≡◌, Some, OnOk, OnErr, IsOk, IfOk, true};
 ghost use Rattle.ratatui_core.specs.Layout.{IsInside};
-ghost use Rattle.ratatui_core.specs.Buffer.{AreShort, IsShort};
-ghost use Rattle.ratatui_core.specs.Widgets.{ChangesWithin};
+ghost use Rattle.ratatui_core.specs.Buffer.{IsShort};
 ghost use Rattle.rtui_boxes.specs.Boxes.{IsBoxArea};
+ghost use Rattle.rtui_drawing.specs.Drawings.{IsDone};
 ghost use Rattle.rtui_meters.specs.Shares.{share_of};
-ghost use Rattle.rtui_meters.specs.Gauges.{IsNewGauge, IsFillOf, is_under_label, full_cell, FillsArea};
-ghost use Rattle.rtui_meters.specs.Gauges.{FillsGauge, pieces_on_bar, gauge_pieces};
+ghost use Rattle.rtui_meters.specs.Gauges.{IsNewGauge, IsFillOf, is_under_label, full_cell, bar_drawing};
 
 use crate::share::Share;
-use ratatui_core::buffer::{Buffer, Cell, CellChange, change_area};
+use ratatui_core::buffer::{Buffer, Cell, CellChange};
 use ratatui_core::layout::{Position, Rect};
 use ratatui_core::style::{Color, Style};
 use ratatui_core::symbols::block;
 use ratatui_core::text::{Span, text_columns};
 use ratatui_core::widgets::Widget;
-use rtui_boxes::{Block, cloned_block, render_frame};
+use rtui_boxes::{Block, cloned_block};
+use rtui_drawing::{Cut, put_change, write};
+use rtui_inside::{DrawInside, render_inside};
 use std::alloc::{AllocError, Global};
 
 /// A bar that fills a share of an area from the left, with a label in the middle.
@@ -124,25 +125,8 @@ impl<'a> Gauge<'a> {
         })
     }
 
-    // Renders the bar and its label inside the box.
-    fn render_gauge(&self, inner: Rect, buf: &mut Buffer) -> Result<(), AllocError>
-        requires some { IsBoxArea inner }
-        requires inside { IsInside inner buf.old.area }
-        ensures within { ChangesWithin inner buf.old buf.new }
-        ensures ok { OnOk result (FillsGauge self.now inner buf.old buf.new) }
-        ensures short { AreShort (gauge_pieces self.now inner buf.old.area) → IsOk result }
-    {
-        match &self.label {
-            Some(label) => self.render_labelled(label.text(), label.style, inner, buf),
-            None => {
-                let text = self.share.text();
-                self.render_labelled(text.as_str(), Style::new(), inner, buf)
-            }
-        }
-    }
-
-    // Renders the bar and a label on it.
-    fn render_labelled(
+    // Draws the bar and a label on it.
+    fn draw_labelled(
         &self,
         text: &str,
         style: Style,
@@ -151,15 +135,12 @@ impl<'a> Gauge<'a> {
     ) -> Result<(), AllocError>
         requires some { IsBoxArea inner }
         requires inside { IsInside inner buf.old.area }
-        ensures within { ChangesWithin inner buf.old buf.new }
-        ensures ok { OnOk result (FillsArea self.now text.now style inner buf.old buf.new) }
-        ensures short { let ps = pieces_on_bar text.now style inner buf.old.area in
-            AreShort ps → IsOk result }
+        ensures { let d = bar_drawing self.now text.now style inner in
+            IsDone d inner result buf.old buf.new }
     {
         let fill = self.fill(text, inner);
-        let label = fill.label;
-        change_area(buf, inner, &fill)?;
-        buf.set_stringn(label.x, label.y, text, usize::from(label.width), style)?;
+        put_change(&fill, inner, buf)?;
+        write(text, style, fill.label, buf)?;
         Ok(())
     }
 
@@ -169,7 +150,7 @@ impl<'a> Gauge<'a> {
         ensures fill { IsFillOf self.now text.now inner result }
         ensures light { IsShort result.tip.now }
     {
-        let width = text_columns(text).min(usize::from(inner.width)) as u16;
+        let width = text_columns(text).min(65535) as u16;
         let columns = if self.use_unicode {
             self.share.filled(inner.width)
         } else {
@@ -179,12 +160,7 @@ impl<'a> Gauge<'a> {
             end: inner.x + columns,
             has_tip: self.use_unicode && !self.share.is_full(),
             tip: TIPS[self.share.eighths(inner.width)],
-            label: Rect {
-                x: inner.x + (inner.width - width) / 2,
-                y: inner.y + inner.height / 2,
-                width,
-                height: 1,
-            },
+            label: Cut::Middle(width).of(Cut::Rows(inner.height / 2, 1).of(inner)),
             style: self.gauge_style,
         }
     }
@@ -285,27 +261,45 @@ impl CellChange for Fill {
     }
 }
 
+// The bar inside the box, with its label.
+impl<'a> DrawInside for Gauge<'a> {
+    ghost use Rattle.rtui_meters.specs.Gauges.{gauge_drawing};
+
+    ghost drawing = { gauge_drawing };
+
+    fn draw_inside(&self, inner: Rect, buf: &mut Buffer) -> Result<(), AllocError> {
+        match &self.label {
+            Some(label) => self.draw_labelled(label.text(), label.style, inner, buf),
+            None => {
+                let text = self.share.text();
+                self.draw_labelled(text.as_str(), Style::new(), inner, buf)
+            }
+        }
+    }
+}
+
 /// Over the area, as far as the buffer has it: the style, the box, and the bar with its label
 /// inside.
 impl<'b, 'a> Widget for &'b Gauge<'a> {
-    ghost use Rattle.rtui_meters.specs.Gauges.{RendersAreaGauge, IsShortGauge};
+    ghost use Rattle.rtui_meters.specs.Gauges.{RendersAreaGauge, LeavesGauge, IsShortGauge};
 
     ghost renders = { λ gauge. RendersAreaGauge gauge.now };
+
+    ghost leaves = { λ gauge. LeavesGauge gauge.now };
 
     ghost is_short = { λ gauge. IsShortGauge gauge.now };
 
     fn render(self, area: Rect, buf: &mut Buffer) -> Result<(), AllocError> {
-        let Some(inner) = render_frame(self.style, &self.block, area, buf)? else {
-            return Ok(());
-        };
-        self.render_gauge(inner, buf)
+        render_inside(self, self.style, &self.block, area, buf)
     }
 }
 
 impl<'a> Widget for Gauge<'a> {
-    ghost use Rattle.rtui_meters.specs.Gauges.{RendersAreaGauge, IsShortGauge};
+    ghost use Rattle.rtui_meters.specs.Gauges.{RendersAreaGauge, LeavesGauge, IsShortGauge};
 
     ghost renders = { RendersAreaGauge };
+
+    ghost leaves = { LeavesGauge };
 
     ghost is_short = { IsShortGauge };
 

@@ -1,25 +1,25 @@
--- Of which parts a table is made, and what it makes of a buffer and of its state.
-use Rattle.std.specs.Prelude.{◌≡◌, ℕ, Bool, true, false, ◌/◌, ◌==◌, zero, suc, min, max, List, [], ◌∷◌}
-use Rattle.std.specs.Prelude.{◌++◌, length, drop, replicate, Option, Some, None, is_some, option_map}
-use Rattle.std.specs.Prelude.{if◌then◌else◌, slice_get, All, IfSome}
-use Rattle.std.specs.{List.flat_map, Option.option_or}
-use Rattle.ratatui_core.specs.Layout.{Rect, intersected, LayoutData, default_layout, inner, IsSplit}
+-- What a table draws, and what it makes of its state.
+use Rattle.std.specs.Prelude.{◌≡◌, ℕ, Bool, true, false, ◌/◌, ◌==◌, nat_lt, not, zero, suc, min, max, List, []}
+use Rattle.std.specs.Prelude.{◌∷◌, length, drop, replicate, Option, Some, None, is_some, if◌then◌else◌}
+use Rattle.std.specs.Prelude.{slice_get, All, IfSome}
+use Rattle.std.specs.{Option.option_or}
+use Rattle.ratatui_core.specs.Layout.{Rect, LayoutData, default_layout, inner, IsSplit}
 use Rattle.ratatui_core.specs.declared.layout.Constraint.{Constraint}
 use Rattle.ratatui_core.specs.declared.layout.Constraint.TheVariants.{Length}
 use Rattle.ratatui_core.specs.declared.layout.Direction.TheVariants.{Horizontal}
 use Rattle.ratatui_core.specs.declared.layout.Spacing.TheVariants.{Space}
 use Rattle.ratatui_core.specs.declared.layout.Flex.TheVariants as flex
-use Rattle.ratatui_core.specs.{Style.Style, Style.new_style, Text.TextData, Text.widest}
-use Rattle.ratatui_core.specs.Buffer.{BufferData, IsStyled}
-use Rattle.ratatui_core.specs.Widgets.{RendersText}
-use Rattle.rtui_boxes.specs.{Titles.InTurn, Framed.RendersStateInFrame}
+use Rattle.ratatui_core.specs.{Style.Style, Style.new_style, Text.TextData, Text.widest, Buffer.BufferData}
+use Rattle.ratatui_core.specs.Text.{TakesOneColumn, EachTextGrapheme}
+use Rattle.rtui_boxes.specs.{Framed.RendersStateInFrame}
+use Rattle.rtui_drawing.specs.declared.cut.Cut.TheVariants.{First, Within}
+use Rattle.rtui_drawing.specs.Drawings.{Drawing, nothing, over, ◌before◌, draw_if, put_style, put_text, DrawsAll}
 use Rattle.rtui_list.specs.Items.{has_mark_columns, without_columns, is_selected_at}
 use Rattle.rtui_list.specs.declared.list.HighlightSpacing.TheVariants.{WhenSelected}
 use Rattle.rtui_table.specs.{declared.table.Table.Table as TableData, declared.cell.Cell.Cell}
 use Rattle.rtui_table.specs.{declared.row.Row.Row, declared.state.TableState.TableState}
 use Rattle.rtui_table.specs.Rows.{PlacedRow, stacked_rows, rows_area, footer_area, cells_area, cells_at}
 use Rattle.rtui_table.specs.Rows.{IsRowOffset}
-use Rattle.ratatui_core.specs.Text.{TakesOneColumn, EachTextGrapheme}
 
 -- a table of these rows in columns of these widths, a column apart, without header, footer, box, styles and
 -- highlight symbol
@@ -38,31 +38,9 @@ pub record IsNewTable (rows : List Row) (widths : List Constraint) (t : TableDat
   pub spaced : t.highlight_spacing ≡ WhenSelected
   pub from_left : t.flex ≡ flex.Start
 
--- a part of a table: a style over an area, and a text there, if there is one
-pub record TablePart : Type 0 where
-  pub area : Rect
-  pub style : Style
-  pub content : Option TextData
-
-abbrev pub style_part : Rect → Style → TablePart
-style_part r style = record { area = r; style = style; content = None }
-
-abbrev pub text_part : Rect → Style → TextData → TablePart
-text_part r style text = record { area = r; style = style; content = Some text }
-
-abbrev pub RendersIfText : Option TextData → Rect → BufferData → BufferData → Type 0
-RendersIfText None r old new = new ≡ old
-RendersIfText (Some text) r old new = RendersText text r old new
-
-pub record RendersTablePart (p : TablePart) (old new : BufferData) : Type 0 where
-  pub laid : BufferData
-  pub styled : IsStyled p.area p.style old laid
-  pub text : RendersIfText p.content p.area laid new
-
--- parts, each rendered after the ones before
-abbrev pub RendersTableParts : List TablePart → BufferData → BufferData → Type 0
-RendersTableParts [] old new = new ≡ old
-RendersTableParts (p ∷ ps) old new = InTurn (RendersTablePart p) (RendersTableParts ps) old new
+-- a text in a style, over all of an area
+abbrev pub styled_text : Style → TextData → Drawing
+styled_text style text = put_style style before put_text text
 
 -- how many columns a table has: as many as the row, header or footer of most cells has cells
 abbrev pub most_cells : List Row → ℕ
@@ -112,46 +90,42 @@ abbrev pub AreColumns : TableData → ℕ → Rect → List Rect → Type 0
 AreColumns t n r columns =
     let l = columns_layout t r.width in IsSplit l (inner (without_columns n r) l.margin) columns
 
--- where a column meets an area
-abbrev pub in_column : Rect → Rect → Rect
-in_column column r = record r { x = column.x; width = column.width }
-
--- the cells of a row in their columns; a cell without a column isn't shown
-abbrev pub cell_parts : Rect → List Rect → List Cell → List TablePart
-cell_parts r [] cells = []
-cell_parts r (column ∷ columns) [] = []
-cell_parts r (column ∷ columns) (cell ∷ cells) =
-    text_part (in_column column r) cell.style cell.content ∷ cell_parts r columns cells
+-- the cells of a row, each where its column meets the row; a cell without a column isn't shown
+abbrev pub cells_drawing : List Rect → List Cell → Drawing
+cells_drawing [] cells = nothing
+cells_drawing (column ∷ columns) [] = nothing
+cells_drawing (column ∷ columns) (cell ∷ cells) =
+    over (Within column) (styled_text cell.style cell.content) before cells_drawing columns cells
 
 -- the highlight symbol in the first columns of a row
-abbrev pub symbol_parts : Option TextData → ℕ → Style → Rect → List TablePart
-symbol_parts None n style r = []
-symbol_parts (Some text) n style r = if n == 0 then [] else text_part (record r { width = n }) style text ∷ []
+abbrev pub symbol_drawing : Option TextData → ℕ → Style → Drawing
+symbol_drawing None n style = nothing
+symbol_drawing (Some text) n style = draw_if (nat_lt 0 n) (over (First n) (styled_text style text))
 
 -- a row: its style, the symbol if it has it, and its cells
-abbrev pub row_parts : Option TextData → ℕ → List Rect → Row → Rect → List TablePart
-row_parts symbol n columns row r =
-    style_part r row.style ∷ (symbol_parts symbol n row.style r ++ cell_parts r columns row.cells.items)
+abbrev pub row_drawing : Option TextData → ℕ → List Rect → Row → Drawing
+row_drawing symbol n columns row =
+    put_style row.style
+    before symbol_drawing symbol n row.style
+    before cells_drawing columns row.cells.items
 
 -- some rows, of which one may be selected
 abbrev pub symbol_if : Bool → Option TextData → Option TextData
 symbol_if true symbol = symbol
 symbol_if false symbol = None
 
-abbrev pub placed_row_parts : TableData → Option ℕ → ℕ → List Rect → PlacedRow → List TablePart
-placed_row_parts t selected n columns p =
+abbrev pub rows_drawing : TableData → Option ℕ → ℕ → List Rect → List PlacedRow → Drawing
+rows_drawing t selected n columns [] = nothing
+rows_drawing t selected n columns (p ∷ ps) =
     let symbol = symbol_if (is_selected_at selected p.number) t.highlight_symbol in
-    row_parts symbol n columns p.row p.area
-
-abbrev pub rows_parts : TableData → Option ℕ → ℕ → List Rect → List PlacedRow → List TablePart
-rows_parts t selected n columns ps = flat_map (placed_row_parts t selected n columns) ps
+    over (Within p.area) (row_drawing symbol n columns p.row) before rows_drawing t selected n columns ps
 
 -- the header or the footer
-abbrev pub outer_parts : List Rect → Option Row → Rect → List TablePart
-outer_parts columns None r = []
-outer_parts columns (Some row) r = row_parts None 0 columns row (cells_area row r)
+abbrev pub outer_drawing : List Rect → Option Row → Rect → Drawing
+outer_drawing columns None r = nothing
+outer_drawing columns (Some row) r = over (Within (cells_area row r)) (row_drawing None 0 columns row)
 
--- the area of the selected row, if it is one of these, and of the selected column, if there is one
+-- the area of the selected row, if it is one of these, and the selected column, if there is one
 abbrev pub area_if : Bool → Rect → Option Rect
 area_if true r = Some r
 area_if false r = None
@@ -161,19 +135,19 @@ selected_row_area selected [] = None
 selected_row_area selected (p ∷ ps) =
     option_or (area_if (is_selected_at selected p.number) p.area) (selected_row_area selected ps)
 
-abbrev pub selected_column_area : Option ℕ → List Rect → Rect → Option Rect
-selected_column_area None columns r = None
-selected_column_area (Some k) columns r = option_map (λ column. in_column column r) (slice_get columns k)
+abbrev pub selected_column : Option ℕ → List Rect → Option Rect
+selected_column None columns = None
+selected_column (Some k) columns = slice_get columns k
 
--- the highlights: over the selected row, over the selected column, and where they meet
-abbrev pub highlight_parts : TableData → Option Rect → Option Rect → List TablePart
-highlight_parts t None None = []
-highlight_parts t (Some row) None = style_part row t.row_highlight_style ∷ []
-highlight_parts t None (Some column) = style_part column t.column_highlight_style ∷ []
-highlight_parts t (Some row) (Some column) =
-    style_part row t.row_highlight_style
-    ∷ (style_part column t.column_highlight_style
-    ∷ (style_part (intersected row column) t.cell_highlight_style ∷ []))
+-- the highlights: over the selected row, over the selected column where rows stand, and where they meet
+abbrev pub highlights : TableData → Option Rect → Option Rect → Rect → Drawing
+highlights t None None r = nothing
+highlights t (Some row) None r = over (Within row) (put_style t.row_highlight_style)
+highlights t None (Some column) r = over (Within r) (over (Within column) (put_style t.column_highlight_style))
+highlights t (Some row) (Some column) r =
+    over (Within row) (put_style t.row_highlight_style)
+    before over (Within r) (over (Within column) (put_style t.column_highlight_style))
+    before over (Within row) (over (Within column) (put_style t.cell_highlight_style))
 
 -- the rows of a table over their area, from the state's first one on, and the highlights over them
 abbrev pub placed_rows : TableData → TableState → Rect → List PlacedRow
@@ -186,18 +160,20 @@ pub record IsShownWhole (t : TableData) (u : TableState) (r : Rect) (selected : 
   pub whole : area.height ≡ cells_at t.rows.items selected
 
 -- what stands in the area of the rows: the rows, and the highlights over them; nothing without rows
-abbrev pub body_parts : TableData → TableState → ℕ → List Rect → Rect → List TablePart
-body_parts t u n columns r =
-    if length t.rows.items == 0 then [] else rows_parts t u.selected n columns (placed_rows t u r)
-    ++ highlight_parts t (selected_row_area u.selected (placed_rows t u r))
-    (selected_column_area u.selected_column columns r)
+abbrev pub body_drawing : TableData → TableState → ℕ → List Rect → Rect → Drawing
+body_drawing t u n columns r =
+    let rows = placed_rows t u r in
+    let row = selected_row_area u.selected rows in
+    draw_if (not (length t.rows.items == 0)) (rows_drawing t u.selected n columns rows
+    before highlights t row (selected_column u.selected_column columns) r)
 
--- all parts of a table over an area: the header, the rows, and the footer
-abbrev pub table_parts : TableData → TableState → List Rect → Rect → List TablePart
-table_parts t u columns r =
-    outer_parts columns t.header r
-    ++ (body_parts t u (symbol_columns t (is_some u.selected) r) columns (rows_area t.header t.footer r)
-    ++ outer_parts columns t.footer (footer_area t.header t.footer r))
+-- what a table draws in an area: the header, the rows, and the footer
+abbrev pub table_drawing : TableData → TableState → List Rect → Rect → Drawing
+table_drawing t u columns r =
+    let n = symbol_columns t (is_some u.selected) r in
+    outer_drawing columns t.header r
+    before body_drawing t u n columns (rows_area t.header t.footer r)
+    before outer_drawing columns t.footer (footer_area t.header t.footer r)
 
 -- a number, but at most the last one of so many; none of none
 abbrev pub within_count : ℕ → Option ℕ → Option ℕ
@@ -212,12 +188,12 @@ pub record IsNextState (t : TableData) (height : ℕ) (s u : TableState) : Type 
   pub selected_column : u.selected_column ≡ within_count (column_count t) s.selected_column
   pub offset : IsRowOffset t.rows.items height u.selected s.offset u.offset
 
--- a table over an area: its columns, and its parts, each rendered after the ones before
+-- a table over an area: its columns, and what it draws
 pub record ShowsTable (t : TableData) (s u : TableState) (r : Rect) (old new : BufferData) : Type 0 where
   pub state : IsNextState t (rows_area t.header t.footer r).height s u
   pub columns : List Rect
   pub are_columns : AreColumns t (symbol_columns t (is_some u.selected) r) r columns
-  pub parts : RendersTableParts (table_parts t u columns r) old new
+  pub drawn : DrawsAll (table_drawing t u columns r) r old new
 
 -- a table in its style and its box, over the part of an area that a buffer has
 abbrev pub RendersTable : TableData → TableState → TableState → Rect → BufferData → BufferData → Type 0

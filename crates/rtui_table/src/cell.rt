@@ -1,16 +1,15 @@
 //! The cells of a table.
 
-ghost use Rattle.std.specs.Prelude.{◌≡◌, IfOk, IsOk, OnOk};
+ghost use Rattle.std.specs.Prelude.{◌≡◌, IfOk};
 ghost use Rattle.ratatui_core.specs.Style.{new_style};
-ghost use Rattle.rtui_table.specs.Rows.{raw_cell};
-ghost use Rattle.ratatui_core.specs.Widgets.{ChangesWithin};
-ghost use Rattle.rtui_table.specs.Tables.{text_part, RendersTablePart};
+ghost use Rattle.rtui_drawing.specs.Drawings.{IsDone};
+ghost use Rattle.rtui_table.specs.{Rows.raw_cell, Tables.styled_text};
 
 use ratatui_core::buffer::Buffer;
 use ratatui_core::layout::Rect;
 use ratatui_core::style::Style;
 use ratatui_core::text::Text;
-use ratatui_core::widgets::Widget;
+use rtui_drawing::{put_style, put_text};
 use std::alloc::{AllocError, Global};
 
 /// A cell of a table: a text in a style.
@@ -70,13 +69,13 @@ impl<'a> Cell<'a> {
         })
     }
 
-    // Renders the cell: its style, and its text over it.
-    pub(crate) fn render(&self, area: Rect, buf: &mut Buffer) -> Result<(), AllocError>
-        ensures within { ChangesWithin area buf.old buf.new }
-        ensures ok { let part = text_part area self.now.style self.now.content in
-            OnOk result (RendersTablePart part buf.old buf.new) }
+    // Draws the cell: its style, and its text over it.
+    #[tactic(auto, using(rtui_drawing::proofs::DrawingLemmas::drawing_steps))]
+    pub(crate) fn draw(&self, area: Rect, buf: &mut Buffer) -> Result<(), AllocError>
+        ensures { let d = styled_text self.now.style self.now.content in
+            IsDone d area result buf.old buf.new }
     {
-        buf.set_style(area, self.style);
-        (&self.content).render(area, buf)
+        put_style(self.style, area, buf);
+        put_text(&self.content, area, buf)
     }
 }

@@ -1,8 +1,8 @@
 //! A table: rows of cells in columns, of which a row and a column may be selected.
 //!
-//! It stands on `ratatui_core`, `rtui_boxes` and `rtui_list`. `specs/Rows` says which rows are
-//! shown and where each stands, `specs/TableStates` what selecting makes of a state, and
-//! `specs/Tables` of which parts a table is made and what it makes of a buffer and of its state.
+//! It stands on `ratatui_core`, `rtui_boxes`, `rtui_drawing` and `rtui_list`. `specs/Rows` says
+//! which rows are shown and where each stands, `specs/TableStates` what selecting makes of a state,
+//! and `specs/Tables` what a table draws, and what it makes of a buffer and of its state.
 #![tactic(auto)]
 
 mod cell;

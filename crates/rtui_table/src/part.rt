@@ -1,15 +1,12 @@
-//! The parts of a table.
+//! What a table draws.
 
-ghost use Rattle.std.specs.Prelude.{◌≡◌, ◌≤◌, ◌<◌, ◌+◌, drop, length, OnOk, IfOk};
-ghost use Rattle.ratatui_core.specs.Layout.{IsInside, corner};
-ghost use Rattle.ratatui_core.specs.Widgets.{ChangesWithin};
-ghost use Rattle.rtui_table.specs.Rows.{cells_area, stacked_rows};
+ghost use Rattle.std.specs.Prelude.{◌≡◌, is_some, IfOk};
+ghost use Rattle.rtui_drawing.specs.Drawings.{DrawsAll, IsDone};
+ghost use Rattle.rtui_table.specs.Rows.{rows_area, footer_area};
+ghost use Rattle.rtui_table.specs.Tables.{cells_drawing, symbol_drawing, symbol_if, row_drawing, rows_drawing};
+ghost use Rattle.rtui_table.specs.Tables.{outer_drawing, area_if, selected_row_area, selected_column};
+ghost use Rattle.rtui_table.specs.Tables.{highlights, body_drawing, placed_rows, symbol_columns, table_drawing};
 ghost use Rattle.rtui_table.specs.Inner.{IsTableArea};
-ghost use Rattle.rtui_table.specs.Tables.{cell_parts, symbol_parts, symbol_if, row_parts, rows_parts};
-ghost use Rattle.rtui_table.specs.Tables.{outer_parts, area_if, selected_row_area, selected_column_area};
-ghost use Rattle.rtui_table.specs.Tables.{in_column, highlight_parts, body_parts, placed_rows};
-ghost use Rattle.rtui_table.specs.Tables.{RendersTableParts};
-ghost use Rattle.rtui_table.specs.Inner.{AreWithin};
 
 use crate::cell::Cell;
 use crate::row::{Row, below};
@@ -18,35 +15,29 @@ use crate::table::Table;
 use ratatui_core::buffer::Buffer;
 use ratatui_core::layout::Rect;
 use ratatui_core::style::Style;
-use ratatui_core::widgets::Widget;
+use rtui_drawing::{Cut, put_style, put_text};
 use std::alloc::AllocError;
 
-// Where a column meets an area.
-fn in_column(column: Rect, area: Rect) -> Rect
-    ensures { result ≡ in_column column area }
-{
-    Rect {
-        x: column.x,
-        width: column.width,
-        ..area
-    }
+// Where a table stands, and in it its rows and its footer.
+#[derive(Clone, Copy)]
+pub(crate) struct Places {
+    pub(crate) whole: Rect,
+    pub(crate) rows: Rect,
+    pub(crate) footer: Rect,
 }
 
-// Renders the cells of a row in their columns.
-fn render_cells(
+// Draws the cells of a row in their columns.
+fn draw_cells(
     cells: &[Cell<'_>],
     columns: &[Rect],
     area: Rect,
     buf: &mut Buffer,
 ) -> Result<(), AllocError>
-    requires columns { AreWithin area columns.now }
-    ensures within { ChangesWithin area buf.old buf.new }
-    ensures ok { OnOk result
-        (RendersTableParts (cell_parts area columns.now cells.now) buf.old buf.new) }
+    ensures { IsDone (cells_drawing columns.now cells.now) area result buf.old buf.new }
 {
     for k in 0..cells.len().min(columns.len()) {
         let column = columns[k];
-        cells[k].render(in_column(column, area), buf)?;
+        cells[k].draw(Cut::Within(column).of(area), buf)?;
     }
     Ok(())
 }
@@ -58,19 +49,16 @@ fn area_if(is_some: bool, area: Rect) -> Option<Rect>
     if is_some { Some(area) } else { None }
 }
 
-// The area of the selected column, if there is one.
-fn column_area(selected: Option<usize>, columns: &[Rect], area: Rect) -> Option<Rect>
-    ensures { result ≡ selected_column_area selected columns.now area }
+// The selected column, if there is one.
+fn selected_column(selected: Option<usize>, columns: &[Rect]) -> Option<Rect>
+    ensures { result ≡ selected_column selected columns.now }
 {
-    match columns.get(selected?) {
-        Some(column) => Some(in_column(*column, area)),
-        None => None,
-    }
+    columns.get(selected?).copied()
 }
 
 impl<'a> Table<'a> {
-    // Renders the symbol in the first columns of a row, if it is selected.
-    fn render_symbol(
+    // Draws the symbol in the first columns of a row, if it is selected.
+    fn draw_symbol(
         &self,
         is_selected: bool,
         columns: u16,
@@ -78,11 +66,8 @@ impl<'a> Table<'a> {
         area: Rect,
         buf: &mut Buffer,
     ) -> Result<(), AllocError>
-        requires fits { columns ≤ area.width }
-        ensures within { ChangesWithin area buf.old buf.new }
-        ensures ok { let symbol = symbol_if is_selected self.now.highlight_symbol in
-            OnOk result
-            (RendersTableParts (symbol_parts symbol columns style area) buf.old buf.new) }
+        ensures { let symbol = symbol_if is_selected self.now.highlight_symbol in
+            IsDone (symbol_drawing symbol columns style) area result buf.old buf.new }
     {
         if !is_selected || columns == 0 {
             return Ok(());
@@ -90,16 +75,14 @@ impl<'a> Table<'a> {
         let Some(text) = &self.highlight_symbol else {
             return Ok(());
         };
-        let part = Rect {
-            width: columns,
-            ..area
-        };
-        buf.set_style(part, style);
-        text.render(part, buf)
+        let part = Cut::First(columns).of(area);
+        put_style(style, part, buf);
+        put_text(text, part, buf)
     }
 
-    // Renders a row: its style, the symbol if it is selected, and its cells.
-    fn render_row(
+    // Draws a row: its style, the symbol if it is selected, and its cells.
+    #[tactic(auto, using(rtui_drawing::proofs::DrawingLemmas::drawing_steps))]
+    fn draw_row(
         &self,
         row: &Row<'a>,
         is_selected: bool,
@@ -108,59 +91,56 @@ impl<'a> Table<'a> {
         area: Rect,
         buf: &mut Buffer,
     ) -> Result<(), AllocError>
-        requires fits { symbol_columns ≤ area.width }
-        requires columns { AreWithin area columns.now }
-        ensures within { ChangesWithin area buf.old buf.new }
-        ensures ok { let symbol = symbol_if is_selected self.now.highlight_symbol in
-            let ps = row_parts symbol symbol_columns columns.now row.now area in
-            OnOk result (RendersTableParts ps buf.old buf.new) }
+        ensures { let symbol = symbol_if is_selected self.now.highlight_symbol in
+            let d = row_drawing symbol symbol_columns columns.now row.now in
+            IsDone d area result buf.old buf.new }
     {
-        buf.set_style(area, row.style);
-        self.render_symbol(is_selected, symbol_columns, row.style, area, buf)?;
-        render_cells(row.cells.as_slice(), columns, area, buf)
+        put_style(row.style, area, buf);
+        self.draw_symbol(is_selected, symbol_columns, row.style, area, buf)?;
+        draw_cells(row.cells.as_slice(), columns, area, buf)
     }
 
-    // Renders the header or the footer, if there is one, in an area that begins with its margin.
-    pub(crate) fn render_outer(
+    // Draws the header or the footer, if there is one, at a place that begins with its margin.
+    #[tactic(auto, using(rtui_drawing::proofs::DrawingLemmas::drawing_steps))]
+    fn draw_outer(
         &self,
         row: &Option<Row<'a>>,
         columns: &[Rect],
+        place: Rect,
         area: Rect,
         buf: &mut Buffer,
     ) -> Result<(), AllocError>
-        requires area { IsTableArea area }
-        requires columns { AreWithin area columns.now }
-        ensures within { ChangesWithin area buf.old buf.new }
-        ensures ok { let ps = outer_parts columns.now row.now area in
-            OnOk result (RendersTableParts ps buf.old buf.new) }
+        requires { IsTableArea place }
+        ensures { IsDone (outer_drawing columns.now row.now place) area result buf.old buf.new }
     {
         match row {
-            Some(row) => self.render_row(row, false, 0, columns, row.cells_area(area), buf),
+            Some(row) => {
+                let part = Cut::Within(row.cells_area(place)).of(area);
+                self.draw_row(row, false, 0, columns, part, buf)
+            }
             None => Ok(()),
         }
     }
 
-    // Renders the rows from the state's first one on, and answers where the selected one stands.
-    fn render_rows(
+    // Draws the rows from the state's first one on, and answers where the selected one stands.
+    fn draw_rows(
         &self,
         state: TableState,
         symbol_columns: u16,
         columns: &[Rect],
+        place: Rect,
         area: Rect,
         buf: &mut Buffer,
     ) -> Result<Option<Rect>, AllocError>
-        requires area { IsTableArea area }
-        requires fits { symbol_columns ≤ area.width }
-        requires columns { AreWithin area columns.now }
-        ensures within { ChangesWithin area buf.old buf.new }
-        ensures ok { let shown = placed_rows self.now state area in
-            let ps = rows_parts self.now state.selected symbol_columns columns.now shown in
-            OnOk result (RendersTableParts ps buf.old buf.new) }
-        ensures selected { let shown = placed_rows self.now state area in
+        requires { IsTableArea place }
+        ensures done { let shown = placed_rows self.now state place in
+            let d = rows_drawing self.now state.selected symbol_columns columns.now shown in
+            IsDone d area result buf.old buf.new }
+        ensures selected { let shown = placed_rows self.now state place in
             IfOk result (λ selected. selected ≡ selected_row_area state.selected shown) }
     {
         let rows = self.rows.as_slice();
-        let mut left = area;
+        let mut left = place;
         let mut selected = None;
         for k in state.offset..rows.len() {
             if left.height == 0 {
@@ -168,52 +148,95 @@ impl<'a> Table<'a> {
             }
             let row = &rows[k];
             let is_selected = state.selected == Some(k);
-            let part = row.cells_area(left);
-            self.render_row(row, is_selected, symbol_columns, columns, part, buf)?;
-            selected = selected.or(area_if(is_selected, part));
+            let stands = row.cells_area(left);
+            let part = Cut::Within(stands).of(area);
+            self.draw_row(row, is_selected, symbol_columns, columns, part, buf)?;
+            selected = selected.or(area_if(is_selected, stands));
             left = below(left, row.height_with_margin());
         }
         Ok(selected)
     }
 
     // Lays the highlights over the selected row, over the selected column, and where they meet.
-    fn highlight(&self, row: Option<Rect>, column: Option<Rect>, buf: &mut Buffer)
-        ensures { RendersTableParts (highlight_parts self.now row column) buf.old buf.new }
+    fn highlight(
+        &self,
+        row: Option<Rect>,
+        column: Option<Rect>,
+        place: Rect,
+        area: Rect,
+        buf: &mut Buffer,
+    )
+        ensures { DrawsAll (highlights self.now row column place) area buf.old buf.new }
     {
+        let rows = Cut::Within(place).of(area);
         match (row, column) {
             (Some(row), Some(column)) => {
-                buf.set_style(row, self.row_highlight_style);
-                buf.set_style(column, self.column_highlight_style);
-                buf.set_style(row.intersection(column), self.cell_highlight_style);
+                let row = Cut::Within(row).of(area);
+                let column = Cut::Within(column);
+                put_style(self.row_highlight_style, row, buf);
+                put_style(self.column_highlight_style, column.of(rows), buf);
+                put_style(self.cell_highlight_style, column.of(row), buf);
             }
-            (Some(row), None) => buf.set_style(row, self.row_highlight_style),
-            (None, Some(column)) => buf.set_style(column, self.column_highlight_style),
+            (Some(row), None) => {
+                put_style(self.row_highlight_style, Cut::Within(row).of(area), buf);
+            }
+            (None, Some(column)) => {
+                put_style(
+                    self.column_highlight_style,
+                    Cut::Within(column).of(rows),
+                    buf,
+                );
+            }
             (None, None) => {}
         }
     }
 
-    // Renders the rows, and the highlights over them; nothing of a table without rows.
-    pub(crate) fn render_body(
+    // Draws the rows, and the highlights over them; nothing of a table without rows.
+    fn draw_body(
         &self,
         state: TableState,
         symbol_columns: u16,
         columns: &[Rect],
+        place: Rect,
         area: Rect,
         buf: &mut Buffer,
     ) -> Result<(), AllocError>
-        requires area { IsTableArea area }
-        requires fits { symbol_columns ≤ area.width }
-        requires columns { AreWithin area columns.now }
-        ensures within { ChangesWithin area buf.old buf.new }
-        ensures ok { let ps = body_parts self.now state symbol_columns columns.now area in
-            OnOk result (RendersTableParts ps buf.old buf.new) }
+        requires { IsTableArea place }
+        ensures { let d = body_drawing self.now state symbol_columns columns.now place in
+            IsDone d area result buf.old buf.new }
     {
         if self.rows.as_slice().is_empty() {
             return Ok(());
         }
-        let row = self.render_rows(state, symbol_columns, columns, area, buf)?;
-        let column = column_area(state.selected_column, columns, area);
-        self.highlight(row, column, buf);
+        let row = self.draw_rows(state, symbol_columns, columns, place, area, buf)?;
+        let column = selected_column(state.selected_column, columns);
+        self.highlight(row, column, place, area, buf);
         Ok(())
+    }
+
+    // Draws the header, the rows and the footer.
+    #[tactic(auto, using(rtui_drawing::proofs::DrawingLemmas::drawing_steps))]
+    pub(crate) fn draw_table(
+        &self,
+        state: TableState,
+        marks: u16,
+        columns: &[Rect],
+        places: Places,
+        buf: &mut Buffer,
+    ) -> Result<(), AllocError>
+        requires symbol { let n = symbol_columns self.now (is_some state.selected) places.whole in
+            marks ≡ n }
+        requires rows { places.rows ≡ rows_area self.now.header self.now.footer places.whole }
+        requires footer { places.footer ≡ footer_area self.now.header self.now.footer places.whole }
+        requires all { IsTableArea places.whole }
+        requires between { IsTableArea places.rows }
+        requires below { IsTableArea places.footer }
+        ensures { let d = table_drawing self.now state columns.now places.whole in
+            IsDone d places.whole result buf.old buf.new }
+    {
+        let area = places.whole;
+        self.draw_outer(&self.header, columns, area, area, buf)?;
+        self.draw_body(state, marks, columns, places.rows, area, buf)?;
+        self.draw_outer(&self.footer, columns, places.footer, area, buf)
     }
 }

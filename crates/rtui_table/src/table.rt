@@ -12,6 +12,7 @@ ghost use Rattle.rtui_table.specs.Tables.{IsNewTable, column_count, same_widths,
 ghost use Rattle.rtui_table.specs.Tables.{AreColumns, IsNextState, ShowsTable, cells_if, within_count};
 ghost use Rattle.rtui_table.specs.declared.row.Row.{Row as RowData};
 
+use crate::part::Places;
 use crate::row::{Row, above, below};
 use crate::state::TableState;
 use crate::view::offset_for;
@@ -34,8 +35,8 @@ use std::alloc::{AllocError, Global};
 #[derive(Debug, PartialEq, Eq, Drop)]
 pub struct Table<'a> {
     pub(crate) rows: Vec<Row<'a>>,
-    header: Option<Row<'a>>,
-    footer: Option<Row<'a>>,
+    pub(crate) header: Option<Row<'a>>,
+    pub(crate) footer: Option<Row<'a>>,
     widths: Vec<Constraint>,
     column_spacing: u16,
     block: Option<Block<'a>>,
@@ -327,11 +328,12 @@ impl<'a> Table<'a> {
         let next = self.next_state(*state, area.height);
         let symbol_columns = self.symbol_columns(next.selected.is_some(), inner);
         let columns = self.columns(buf.allocator(), inner, symbol_columns)?;
-        let columns = columns.as_slice();
-        self.render_outer(&self.header, columns, inner, buf)?;
-        self.render_body(next, symbol_columns, columns, area, buf)?;
-        let footer = below(left, usize::from(area.height));
-        self.render_outer(&self.footer, columns, footer, buf)?;
+        let places = Places {
+            whole: inner,
+            rows: area,
+            footer: below(left, usize::from(area.height)),
+        };
+        self.draw_table(next, symbol_columns, columns.as_slice(), places, buf)?;
         *state = next;
         Ok(())
     }

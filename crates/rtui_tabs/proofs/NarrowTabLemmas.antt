@@ -8,7 +8,7 @@ use Rattle.ratatui_core.specs.Text.{EachGrapheme, EachSpanGrapheme, TakesOneColu
 use Rattle.ratatui_core.specs.{Buffer.BufferData, Buffer.IsPlainFrom}
 use Rattle.rtui_drawing.specs.declared.cut.Cut.TheVariants.{After}
 use Rattle.rtui_drawing.specs.{Drawings.over, Drawings.◌before◌}
-use Rattle.rtui_drawing.specs.{Laws.IsNarrowDrawing}
+use Rattle.rtui_drawing.proofs.Laws.{IsNarrowDrawing}
 use Rattle.rtui_drawing.proofs.{DrawingLemmas.if-narrow, NarrowLemmas.text-narrow, NarrowLemmas.line-narrow}
 use Rattle.rtui_boxes.specs.{Boxes.IsNarrowBox, Framed.inner_if}
 use Rattle.rtui_inside.proofs.InsideLemmas.{inside-plain, inner-columns}

@@ -23,6 +23,16 @@ fn rows(rt: HostRuntime) -> Result<(), Fail> {
 }
 
 #[test]
+fn the_rest(rt: HostRuntime) -> Result<(), Fail> {
+    assert!(rt; Cut::Below(2).of(Rect::new(2, 1, 10, 3)) == Rect::new(2, 3, 10, 1));
+    assert!(rt; Cut::Above(2).of(Rect::new(2, 1, 10, 3)) == Rect::new(2, 1, 10, 1));
+    assert!(rt;
+        Cut::Within(Rect::new(0, 2, 4, 9)).of(Rect::new(2, 1, 10, 3)) == Rect::new(2, 2, 2, 2)
+    );
+    Ok(())
+}
+
+#[test]
 fn the_example(rt: HostRuntime) {
     assert!(rt; Cut::First(4).of(Rect::new(2, 0, 10, 3)) == Rect::new(2, 0, 4, 3));
     assert!(rt; Cut::After(4).of(Rect::new(2, 0, 10, 3)) == Rect::new(6, 0, 6, 3));

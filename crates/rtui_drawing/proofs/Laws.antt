@@ -1,4 +1,4 @@
--- What holds of a drawing, if it holds of each of its things.
+-- Words of the lemmas on drawings: narrow ones, and what is left to draw.
 use Rattle.std.specs.Prelude.{◌≤◌, All, ⊤}
 use Rattle.rtui_geometry.specs.{declared.rect.Rect.Rect, declared.position.Position.Position}
 use Rattle.rtui_cell.specs.{declared.cell.Cell.Cell, Width.text_width}
