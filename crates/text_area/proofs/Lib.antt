@@ -8,3 +8,4 @@ pub mod AreaLemmas
 pub mod LawLemmas
 pub mod FindLemmas
 pub mod LineLaws
+pub mod RowLemmas

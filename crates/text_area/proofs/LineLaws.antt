@@ -26,7 +26,7 @@ row-cases false b i m xs is rest =
     sum_by-cons (λ x. cond (is_feed x) 1 0) b (take m xs) ∙ ap (λ t. cond t 1 0 + feeds (take m xs)) is
     ∙ omega (arith, rest)
 
-row-of_start : (text : List ℕ) (i : ℕ) → i ≤ feeds text → feeds (take (nth_start i text) text) ≡ i
+pub row-of_start : (text : List ℕ) (i : ℕ) → i ≤ feeds text → feeds (take (nth_start i text) text) ≡ i
 row-of_start text zero le = refl
 row-of_start [] (suc i) le = absurd (omega (arith, le))
 row-of_start (b ∷ xs) (suc i) le =

@@ -257,8 +257,8 @@ impl TextArea {
         self.journal.forget(most);
     }
 
-    // Between which places is selected.
-    pub(crate) fn selection(&self) -> (usize, usize)
+    /// Answers between which bytes of the text is selected. Without a selection both are the cursor's.
+    pub fn selection(&self) -> (usize, usize)
         ensures value { result ≡ selection self.now }
         ensures order { result.0 ≤ result.1 }
         ensures start { IsCharBoundary (area_text self.now) result.0 }

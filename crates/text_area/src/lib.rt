@@ -24,6 +24,7 @@ mod keys;
 pub mod laws;
 mod lines;
 mod moves;
+mod rows;
 mod steps;
 mod typed;
 

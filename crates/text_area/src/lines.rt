@@ -68,7 +68,7 @@ fn start_of_line(text: &str, at: usize) -> usize
 
 // Where the line after that begins in which a place stands, or the text's end if there is none.
 #[tactic(auto, using(crate::proofs::LineLemmas::row_rules))]
-fn next_line(text: &str, at: usize) -> Option<usize>
+pub(crate) fn next_line(text: &str, at: usize) -> Option<usize>
     requires { at ≤ length text.now }
     ensures next { IfSome result (λ start. BeginsLine text.now start
         × (feeds (take start text.now) ≡ feeds (take at text.now) + 1) × (at < start)) }
@@ -167,7 +167,7 @@ pub(crate) fn feeds(text: &str) -> usize
 
 // Where a line begins, if there is one of that number.
 #[tactic(auto, using(crate::proofs::LineLemmas::step_rules))]
-fn nth_start(text: &str, line: usize) -> Option<usize>
+pub(crate) fn nth_start(text: &str, line: usize) -> Option<usize>
     ensures some { IfSome result (λ start. start ≡ nth_start line text.now) }
     ensures boundary { IfSome result (λ start. IsCharBoundary text.now start) }
     ensures within { is_some result ≡ true → line ≤ feeds text.now }

@@ -1,0 +1,121 @@
+-- A text area in an area: what is drawn of it.
+use Rattle.std.specs.Prelude.{◌≡◌, ℕ, zero, suc, ◌+◌, ◌-◌, ◌==◌, ◌&&◌, not, min, Bool, true, false, List, [], ◌∷◌, length}
+use Rattle.std.specs.Prelude.{Option, Some, None, nat_le, nat_lt, if◌then◌else◌, unwrap_or, is_some}
+use Rattle.std.specs.Fmt.{decimal}
+use Rattle.unicode_segmentation.specs.Grapheme.{graphemes}
+use Rattle.ratatui_core.specs.{Layout.Rect, Style.Style, Style.new_style, Style.with_modifier, Style.modifier_of}
+use Rattle.ratatui_core.specs.Buffer.{BufferData, text_pieces}
+use Rattle.rtui_drawing.specs.declared.cut.Cut.TheVariants.{First, After, Last, Rows}
+use Rattle.rtui_drawing.specs.Drawings.{Drawing, nothing, over, ◌before◌, draw_if, put_style, put_pieces}
+use Rattle.rtui_inside.specs.Inside.{DrawsStateInside, LeavesInside, IsShortInside}
+use Rattle.text_area.specs.Lines.{feeds, nth_start, nth_line, first_line, last_line}
+use Rattle.text_area.specs.Areas.{AreaData, area_text, area_before, area_after, area_cursor}
+use Rattle.rtui_area.specs.declared.view.AreaView.{AreaView}
+use Rattle.rtui_area.specs.declared.plan.Plan.{Plan}
+use Rattle.rtui_area.specs.declared.widget.TextAreaWidget.{TextAreaWidget}
+use Rattle.rtui_area.specs.Columns.{columns_of_grapheme, past, column_past}
+use Rattle.rtui_area.specs.Windows.{plan_of, next_view, cursor_forgotten}
+
+-- a widget of a text without a box and numbers, in which nothing has a style but what is selected, which is
+-- reversed; a tab leads to a multiple of eight columns
+pub record IsNewWidget (text : AreaData) (w : TextAreaWidget) : Type 0 where
+  pub text_is : w.text.now ≡ text
+  pub no_box : w.block ≡ None
+  pub unstyled : w.style ≡ new_style
+  pub no_row_style : w.cursor_line_style ≡ new_style
+  pub selection : w.selection_style ≡ with_modifier (modifier_of 64) new_style
+  pub no_numbers : w.line_numbers ≡ None
+  pub no_placeholder : w.placeholder.now ≡ []
+  pub tabs : w.tab ≡ 8
+
+-- a byte of the text that is selected
+abbrev pub is_selected : Plan → ℕ → Bool
+is_selected p byte = nat_le p.from byte && nat_lt byte p.to
+
+-- A grapheme that begins in a column of its line, and at a byte of the text, in a row of so many columns. It
+-- stands there whole or not at all, and where it doesn't nothing is put. If it is selected, the style of the
+-- selection lies over all of its columns that are in view.
+abbrev pub grapheme_drawing : TextAreaWidget → Plan → ℕ → ℕ → ℕ → List ℕ → Drawing
+grapheme_drawing w p room column byte g =
+    let x = column - p.left in
+    let n = columns_of_grapheme w.tab column g - (p.left - column) in
+    over (After x) (over (First n) (draw_if (is_selected p byte) (put_style w.selection_style))
+    before draw_if (nat_le p.left column) (put_pieces (text_pieces (room - x) new_style g)))
+
+-- graphemes of a line one after the other, the first of which begins in a column and at a byte, up to the row's
+-- end
+abbrev pub graphemes_drawing : TextAreaWidget → Plan → ℕ → ℕ → ℕ → List (List ℕ) → Drawing
+graphemes_drawing w p room column byte [] = nothing
+graphemes_drawing w p room column byte (g ∷ gs) =
+    draw_if (nat_lt (column - p.left) room) (grapheme_drawing w p room column byte g
+    before graphemes_drawing w p room (past column (columns_of_grapheme w.tab column g)) (past byte (length g)) gs)
+
+-- The line of a number. The cursor's line is read in two parts, before the cursor and after it, as each is edited:
+-- so the cursor stands where a grapheme begins.
+abbrev pub front_text : TextAreaWidget → Plan → ℕ → List ℕ
+front_text w p i = if i == p.row then last_line (area_before w.text.now) else nth_line i (area_text w.text.now)
+
+abbrev pub back_text : TextAreaWidget → Plan → ℕ → List ℕ
+back_text w p i = if i == p.row then first_line (area_after w.text.now) else []
+
+abbrev pub line_drawing : TextAreaWidget → Plan → ℕ → ℕ → Drawing
+line_drawing w p room i =
+    graphemes_drawing w p room 0 (nth_start i (area_text w.text.now)) (graphemes true (front_text w p i))
+    before graphemes_drawing w p room p.column (area_cursor w.text.now) (graphemes true (back_text w p i))
+
+-- the number of a line, from 1 on, at the right of its columns, as far as there are some
+abbrev pub number_drawing : TextAreaWidget → Plan → ℕ → ℕ → Drawing
+number_drawing w p width i =
+    let text = decimal (past i 1) in
+    let n = min (length text) (min (p.numbers - 1) width) in
+    over (First (p.numbers - 1)) (over (Last (length text))
+    (put_pieces (text_pieces n (unwrap_or w.line_numbers new_style) text)))
+
+-- a row with the line of a number: the style of the cursor's line, if it is that, the number, and the line
+abbrev pub row_drawing : TextAreaWidget → Plan → ℕ → ℕ → Drawing
+row_drawing w p width i =
+    draw_if (i == p.row) (put_style w.cursor_line_style)
+    before number_drawing w p width i
+    before over (After p.numbers) (line_drawing w p (width - p.numbers) i)
+
+-- so many rows from one on, as far as there are lines
+abbrev pub rows_drawing : TextAreaWidget → Plan → ℕ → ℕ → ℕ → Drawing
+rows_drawing w p width k zero = nothing
+rows_drawing w p width k (suc n) =
+    draw_if (nat_le (p.top + k) (feeds (area_text w.text.now))) (over (Rows k 1) (row_drawing w p width (p.top + k))
+    before rows_drawing w p width (k + 1) n)
+
+-- a text that is empty
+abbrev pub is_empty : List ℕ → Bool
+is_empty [] = true
+is_empty (b ∷ bs) = false
+
+-- what is shown where there is no text
+abbrev pub placeholder_drawing : TextAreaWidget → Plan → ℕ → Drawing
+placeholder_drawing w p width =
+    over (Rows 0 1) (over (After p.numbers) (draw_if (is_empty (area_text w.text.now))
+    (put_pieces (text_pieces (width - p.numbers) w.placeholder_style w.placeholder.now))))
+
+-- all that a plan shows in an area
+abbrev pub planned_drawing : TextAreaWidget → Plan → Rect → Drawing
+planned_drawing w p r = rows_drawing w p r.width 0 r.height before placeholder_drawing w p r.width
+
+-- what is drawn in an area, if the view was this one before
+abbrev pub area_drawing : TextAreaWidget → AreaView → Rect → Drawing
+area_drawing w v r = planned_drawing w (plan_of w v r) r
+
+-- A text area over the part of an area that a buffer has: its style, its box, and inside, if there are cells, its
+-- lines in view; the view follows the cursor. Nothing outside the area changes. Without cells inside only the
+-- cursor's place is forgotten.
+abbrev pub RendersArea : TextAreaWidget → AreaView → AreaView → Rect → BufferData → BufferData → Type 0
+RendersArea w v = DrawsStateInside w.style w.block (area_drawing w) (next_view w) (cursor_forgotten v)
+
+-- what a refusal leaves: the view stays, and the cursor's place is forgotten; if the box takes no memory, it
+-- stands, and so does all before one grapheme
+pub record LeavesArea (w : TextAreaWidget) (v u : AreaView) (area : Rect) (old new : BufferData) : Type 0 where
+  pub view : u ≡ cursor_forgotten v
+  pub drawn : LeavesInside w.style w.block (area_drawing w (cursor_forgotten v)) area old new
+
+-- a text area takes no memory if its box takes none and each grapheme in view is short
+abbrev pub IsShortArea : TextAreaWidget → AreaView → Rect → BufferData → Type 0
+IsShortArea w v = IsShortInside w.block (area_drawing w (cursor_forgotten v))

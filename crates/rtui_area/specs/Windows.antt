@@ -1,0 +1,59 @@
+-- Which part of a text is shown.
+use Rattle.std.specs.Prelude.{◌≡◌, ℕ, ◌+◌, ◌-◌, min, max, length, Option, Some, None, nat_lt, if◌then◌else◌}
+use Rattle.std.specs.Fmt.{decimal}
+use Rattle.ratatui_core.specs.{Layout.Rect, Buffer.position_of}
+use Rattle.text_area.specs.Lines.{feeds, last_line}
+use Rattle.text_area.specs.Areas.{area_text, area_before, selection}
+use Rattle.rtui_area.specs.declared.view.AreaView.{AreaView}
+use Rattle.rtui_area.specs.declared.plan.Plan.{Plan}
+use Rattle.rtui_area.specs.declared.widget.TextAreaWidget.{TextAreaWidget}
+use Rattle.rtui_area.specs.Columns.{column_behind}
+
+-- of all windows of so many places that have a place in them, the one that begins nearest to where it began
+abbrev pub window_start : ℕ → ℕ → ℕ → ℕ
+window_start first place room = max (min first place) (place - (room - 1))
+
+-- how many columns the numbers of the lines take, with a blank after them, if there are to be any: as many as
+-- the last number has digits; none if that leaves no column for the text
+abbrev pub gutter_columns : TextAreaWidget → ℕ → ℕ
+gutter_columns w width = columns_if w.line_numbers (length (decimal (feeds (area_text w.text.now) + 1)) + 1) width
+  where
+    columns_if : {X : Type 0} → Option X → ℕ → ℕ → ℕ
+    columns_if None n width = 0
+    columns_if (Some style) n width = if nat_lt n width then n else 0
+
+-- the line of the cursor, and its column there
+abbrev pub cursor_row : TextAreaWidget → ℕ
+cursor_row w = feeds (area_before w.text.now)
+
+abbrev pub cursor_column : TextAreaWidget → ℕ
+cursor_column w = column_behind w.tab (last_line (area_before w.text.now))
+
+-- What is shown in an area, if the view was this one before: the view moves only as far as the cursor wants it.
+abbrev pub plan_of : TextAreaWidget → AreaView → Rect → Plan
+plan_of w v r =
+    let n = gutter_columns w r.width in record {
+      top = window_start v.top (cursor_row w) r.height;
+      left = window_start v.left (cursor_column w) (r.width - n);
+      numbers = n;
+      row = cursor_row w;
+      column = cursor_column w;
+      from = (selection w.text.now).0;
+      to = (selection w.text.now).1;
+    }
+
+-- the view of a plan in an area, with the cursor's place on the screen
+abbrev pub view_of : Plan → Rect → AreaView
+view_of p r = record {
+  top = p.top;
+  left = p.left;
+  cursor = Some (position_of (r.x + p.numbers + (p.column - p.left), r.y + (p.row - p.top)));
+}
+
+-- the view after a rendering
+abbrev pub next_view : TextAreaWidget → AreaView → Rect → AreaView
+next_view w v r = view_of (plan_of w v r) r
+
+-- a view whose cursor is not known to stand anywhere
+abbrev pub cursor_forgotten : AreaView → AreaView
+cursor_forgotten v = record v { cursor = None }

@@ -1,0 +1,94 @@
+//! Lines of a text area, one after the other, for who shows them.
+
+ghost use Rattle.std.specs.Prelude.{◌≡◌, ◌≤◌, ◌<◌, ◌+◌, drop, IfSome, IfNone, is_some, true};
+ghost use Rattle.std.specs.Str.{IsCharBoundary};
+ghost use Rattle.text_area.specs.Lines.{feeds, nth_start, first_line, last_line};
+ghost use Rattle.text_area.specs.Areas.{area_text, area_before, area_after};
+
+use crate::area::TextArea;
+use crate::extent::{line_begin, line_end};
+use crate::lines::{next_line, nth_start};
+
+// The line that a text ends with.
+#[tactic(auto, using(crate::proofs::LineLemmas::column_rules))]
+fn last_line(text: &str) -> &str
+    ensures { result.now ≡ last_line text.now }
+{
+    text.split_at(line_begin(text, text.len())).1
+}
+
+// The line that begins at a place.
+#[tactic(auto, using(crate::proofs::LineLemmas::row_rules))]
+fn line_from(text: &str, start: usize) -> &str
+    requires { IsCharBoundary text.now start }
+    ensures { result.now ≡ first_line (drop start text.now) }
+{
+    &text[start..line_end(text, start)]
+}
+
+// Where the line begins after the one of a number, which begins at a place.
+#[tactic(auto, using(crate::proofs::LineLemmas::step_rules))]
+fn start_after(text: &str, number: usize, start: usize) -> Option<usize>
+    requires start { start ≡ nth_start number text.now }
+    requires within { number ≤ feeds text.now }
+    ensures some { IfSome result (λ next. next ≡ nth_start (number + 1) text.now) }
+    ensures boundary { IfSome result (λ next. IsCharBoundary text.now next) }
+    ensures order { IfSome result (λ next. number < next) }
+    ensures within { is_some result ≡ true → number < feeds text.now }
+    ensures none { IfNone result (number ≡ feeds text.now) }
+{
+    next_line(text, start)
+}
+
+impl TextArea {
+    /// Answers the byte of the text at which a line begins, or `None` if no line has this number.
+    /// The first one has the number 0. It reads the text up to there.
+    pub fn line_start(&self, number: usize) -> Option<usize>
+        ensures some { IfSome result (λ start. start ≡ nth_start number (area_text self.now)) }
+        ensures boundary { IfSome result (λ start. IsCharBoundary (area_text self.now) start) }
+        ensures within { is_some result ≡ true → number ≤ feeds (area_text self.now) }
+        ensures none { IfNone result (feeds (area_text self.now) < number) }
+    {
+        nth_start(self.text(), number)
+    }
+
+    /// Answers the text from a byte on up to the end of its line: of a byte at which a line begins
+    /// this is the line, without its line feed. It reads that line alone.
+    ///
+    /// # Conditions
+    ///
+    /// No character is cut at the byte: `line_start` answers such a one.
+    pub fn line_from(&self, start: usize) -> &str
+        requires { IsCharBoundary (area_text self.now) start }
+        ensures { result.now ≡ first_line (drop start (area_text self.now)) }
+    {
+        line_from(self.text(), start)
+    }
+
+    /// Answers the byte at which the line after a line begins, or `None` if that is the last one.
+    /// It reads the line of the number alone.
+    ///
+    /// # Conditions
+    ///
+    /// There is a line of this number, and it begins at this byte: `line_start` answers it.
+    pub fn start_after(&self, number: usize, start: usize) -> Option<usize>
+        requires start { start ≡ nth_start number (area_text self.now) }
+        requires within { number ≤ feeds (area_text self.now) }
+        ensures some { IfSome result (λ next. next ≡ nth_start (number + 1) (area_text self.now)) }
+        ensures boundary { IfSome result (λ next. IsCharBoundary (area_text self.now) next) }
+        ensures order { IfSome result (λ next. number < next) }
+        ensures within { is_some result ≡ true → number < feeds (area_text self.now) }
+        ensures none { IfNone result (number ≡ feeds (area_text self.now)) }
+    {
+        start_after(self.text(), number, start)
+    }
+
+    /// Answers the part of the cursor's line before the cursor, and the part after it. It reads
+    /// that line alone.
+    pub fn cursor_line(&self) -> (&str, &str)
+        ensures before { result.0.now ≡ last_line (area_before self.now) }
+        ensures after { result.1.now ≡ first_line (area_after self.now) }
+    {
+        (last_line(self.before()), line_from(self.after(), 0))
+    }
+}
