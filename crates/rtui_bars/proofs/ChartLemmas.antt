@@ -1,80 +1,73 @@
--- The parts of a bar chart within their areas.
+-- Bars and groups, drawn one after the other.
 use Rattle.std.proofs.Common.{◌≡◌, ℕ, zero, suc, ◌+◌, ◌-◌, ◌*◌, ◌<◌, ◌≤◌, ⊎_elim, min, List, [], ◌∷◌, length, take, sym, ap}
 use Rattle.std.proofs.Common.{◌∙◌, refl, arith, Result}
 use Rattle.std.specs.declared.alloc.AllocError.{AllocError}
 use Rattle.std.proofs.lemmas.{Bool.cases_lt, List.take_all}
-use Rattle.ratatui_core.specs.Layout.{Rect, IsInside}
-use Rattle.ratatui_core.specs.{Style.Style, declared.layout.Direction.Direction}
+use Rattle.ratatui_core.specs.{Layout.Rect, Style.Style, declared.layout.Direction.Direction}
 use Rattle.ratatui_core.specs.declared.layout.Direction.TheVariants.{Horizontal, Vertical}
-use Rattle.ratatui_core.specs.Buffer.{BufferData, pieces_at, text_columns, Paints}
-use Rattle.ratatui_core.specs.Buffer.{position_of}
-use Rattle.ratatui_core.specs.Widgets.{ChangesWithin}
-use Rattle.ratatui_core.proofs.BufferLemmas.{text-keeps}
-use Rattle.rtui_boxes.specs.{Boxes.IsBoxArea, Titles.first_columns}
-use Rattle.rtui_boxes.proofs.{PaintLemmas.paints-within, TitleLemmas.rest-inside}
-use Rattle.rtui_bars.specs.{declared.group.Bar.Bar, declared.chart.BarChart.BarChart}
-use Rattle.rtui_bars.specs.BarAreas.{rows_at, middle_columns, upper_rows, without_upper, cells_along, bar_part, area_behind}
-use Rattle.rtui_bars.specs.BarCharts.{beside_labels, bar_step, after_bars}
-use Rattle.rtui_bars.specs.Inner.{HasRoomAcross, BarsFit}
+use Rattle.ratatui_core.specs.Buffer.{BufferData, text_columns, text_pieces}
+use Rattle.rtui_boxes.specs.{Boxes.IsBoxArea}
+use Rattle.rtui_drawing.specs.{declared.cut.Cut.Cut, Cuts.cut_from}
+use Rattle.rtui_drawing.specs.Drawings.{Drawing, put_pieces, IsDone, IsPartOf}
+use Rattle.rtui_drawing.specs.declared.cut.Cut.TheVariants.{Middle}
+use Rattle.rtui_drawing.proofs.DrawingLemmas.{part-cut, done-in, continues-in, drawing_steps, drawing_choices}
+use Rattle.rtui_drawing.proofs.{Laws.Continues, WriteLemmas.row-of}
+use Rattle.rtui_inside.proofs.InsideLemmas.{box-part}
+use Rattle.rtui_bars.specs.{declared.group.Bar.Bar, declared.group.BarGroup.BarGroup, declared.chart.BarChart.BarChart}
+use Rattle.rtui_bars.specs.BarAreas.{cells_along, bar_cut, behind_cut}
+use Rattle.rtui_bars.specs.BarCharts.{middle_text, bar_step, after_bars, behind_bars, fitting_count, shown_bars}
+use Rattle.rtui_bars.specs.Inner.{cells_across, BarsFit}
 
-pub rows-inside : (y n : ℕ) (r : Rect) → y + n ≤ r.height → IsInside (rows_at y n r) r
-rows-inside y n r le p h = let left = h.left in let right = h.right in let top = h.top in let bottom = h.bottom in
-    record { left = left; right = right; top = omega arith; bottom = omega arith }
+-- a text in the middle of a row
+pub middle-done : {A : Type 0} (n : ℕ) (style : Style) (text : List ℕ) (row part : Rect) {old new : BufferData}
+    (result : Result A AllocError) → part ≡ cut_from (Middle n) row → n ≡ min (text_columns text) 65535
+    → IsDone (put_pieces (text_pieces part.width style text)) part result old new
+    → IsDone (middle_text style text row.width) row result old new
+middle-done n style text row part result at is done =
+    let m = min (text_columns text) 65535 in
+    let there : part ≡ cut_from (Middle m) row = at ∙ ap (λ k. cut_from (Middle k) row) is in
+    done-in (Middle m) (cut_from (Middle m) row) result (rw there at done) refl
 
-pub first-in : (n : ℕ) (r : Rect) → IsInside (first_columns n r) r
-first-in n r p h = let left = h.left in let right = h.right in let top = h.top in let bottom = h.bottom in
-    record { left = left; right = omega arith; top = top; bottom = bottom }
+-- the area that a cut leaves
+pub cut-is : {part : Rect} {c : Cut} {d : Cut} (r : Rect) → part ≡ cut_from c r → c ≡ d → part ≡ cut_from d r
+cut-is r at is = at ∙ ap (λ q. cut_from q r) is
 
--- a text in the middle of a row, or memory is refused
-pub text-within : {A : Type 0} (result : Result A AllocError) (text : List ℕ) (style : Style) (r m : Rect) (old new : BufferData)
-    → m ≡ middle_columns (text_columns text) r → IsBoxArea r → IsInside r old.area
-    → Paints (position_of (m.x, m.y)) (pieces_at old.area m.x m.width style text) result old new
-    → ChangesWithin r old new
-text-within result text style r m old new at box inside paints =
-    let keeps = text-keeps old.area m.x m.width style text in let rows = box.rows in
-    let x : m.x ≡ (middle_columns (text_columns text) r).x = ap (λ q. q.x) at in
-    let y : m.y ≡ r.y = ap (λ q. q.y) at in
-    let w : m.width ≡ (middle_columns (text_columns text) r).width = ap (λ q. q.width) at in
-    paints-within result r m.x m.y (pieces_at old.area m.x m.width style text) old new box inside (omega arith) (omega arith)
-    (omega arith) (omega arith) paints
+-- where a bar stands has cells, and what is behind it has as many along a bar
+pub bar-cells : (d : Direction) (n : ℕ) (r : Rect) → 0 < n → n ≤ cells_along d r → 0 < cells_across d r
+    → (0 < (cut_from (bar_cut d n) r).width) × (0 < (cut_from (bar_cut d n) r).height)
+bar-cells Vertical n r some le across = (omega arith, across)
+bar-cells Horizontal n r some le across = (across, omega arith)
 
-upper-in : (n : ℕ) (r : Rect) → IsInside (upper_rows n r) r
-upper-in n r p h = let left = h.left in let right = h.right in let top = h.top in let bottom = h.bottom in
-    record { left = left; right = right; top = top; bottom = omega arith }
+pub behind-across : (d : Direction) (n : ℕ) (r : Rect) → cells_across d (cut_from (behind_cut d n) r) ≡ cells_across d r
+behind-across Vertical n r = refl
+behind-across Horizontal n r = refl
 
-lower-in : (n : ℕ) (r : Rect) → IsInside (without_upper n r) r
-lower-in n r p h = let left = h.left in let right = h.right in let top = h.top in let bottom = h.bottom in
-    record { left = left; right = right; top = omega arith; bottom = omega arith }
-
--- where a bar stands, and what is behind it
-pub bar-in : (d : Direction) (n : ℕ) (r : Rect) → IsInside (bar_part d n r) r
-bar-in Vertical n r = first-in n r
-bar-in Horizontal n r = upper-in n r
-
-pub bar-box : (d : Direction) (n : ℕ) (r : Rect) → HasRoomAcross d r → 0 < n → n ≤ cells_along d r → IsBoxArea (bar_part d n r)
-bar-box Vertical n r is some le = let a = is.across in let h = is.some in
-    record { columns = omega arith; rows = h; across = omega arith; down = is.down }
-bar-box Horizontal n r is some le = let a = is.down in let w = is.some in
-    record { columns = w; rows = omega arith; across = is.across; down = omega arith }
-
-pub behind-in : (d : Direction) (n : ℕ) (r : Rect) → IsInside (area_behind d n r) r
-behind-in Vertical n r = rest-inside n r
-behind-in Horizontal n r = lower-in n r
-
-pub behind-room : (d : Direction) (n : ℕ) (r : Rect) → HasRoomAcross d r → HasRoomAcross d (area_behind d n r)
-behind-room Vertical n r is = let a = is.across in let h = is.some in
-    record { some = h; across = omega arith; down = is.down }
-behind-room Horizontal n r is = let a = is.down in let w = is.some in
-    record { some = w; across = is.across; down = omega arith }
-
-pub behind-along : (d : Direction) (n : ℕ) (r : Rect) → cells_along d (area_behind d n r) ≡ cells_along d r - n
+pub behind-along : (d : Direction) (n : ℕ) (r : Rect) → cells_along d (cut_from (behind_cut d n) r) ≡ cells_along d r - n
 behind-along Vertical n r = refl
 behind-along Horizontal n r = refl
 
--- a row of the area right of labels
-pub beside-row : (n y : ℕ) (r : Rect) → y < r.height → IsInside (rows_at y 1 (beside_labels n r)) r
-beside-row n y r lt p h = let left = h.left in let right = h.right in let top = h.top in let bottom = h.bottom in
-    record { left = omega arith; right = omega arith; top = omega arith; bottom = omega arith }
+pub across-some : (d : Direction) (r : Rect) → IsBoxArea r → 0 < cells_across d r
+across-some Vertical r box = box.rows
+across-some Horizontal r box = box.columns
+
+-- the same of what is left after bars
+module _ (c : BarChart) where
+  pub after-across : (r : Rect) (bars : List Bar)
+      → cells_across c.direction (after_bars c r bars) ≡ cells_across c.direction r
+  after-across r [] = refl
+  after-across r (bar ∷ bars) =
+      after-across (cut_from (behind_cut c.direction (bar_step c)) r) bars ∙ behind-across c.direction (bar_step c) r
+
+  pub after-part : (own r : Rect) (bars : List Bar) → IsPartOf own r → IsPartOf own (after_bars c r bars)
+  after-part own r [] is = is
+  after-part own r (bar ∷ bars) is =
+      after-part own (cut_from (behind_cut c.direction (bar_step c)) r) bars (part-cut (behind_cut c.direction (bar_step c)) is)
+
+  pub continues-behind : {d all : Drawing} {whole : Rect} {old now : BufferData} (r : Rect) (bars : List Bar)
+      → Continues (behind_bars c bars d) r all whole old now → Continues d (after_bars c r bars) all whole old now
+  continues-behind r [] is = is
+  continues-behind r (bar ∷ bars) is =
+      let behind = behind_cut c.direction (bar_step c) in continues-behind (cut_from behind r) bars (continues-in behind is)
 
 -- as many bars as fit do
 pub bars-fit : (c : BarChart) (n width : ℕ) (bars : List Bar) → n * (c.bar_width + c.bar_gap) ≤ width + c.bar_gap
@@ -85,17 +78,6 @@ bars-fit c (suc n) width (bar ∷ bars) le =
     let all : n * (c.bar_width + c.bar_gap) + (c.bar_width + c.bar_gap) ≤ width + c.bar_gap = omega arith in
     (omega arith, bars-fit c n (width - bar_step c) bars (omega arith))
 
--- a text from the left of a row on, or memory is refused
-pub row-within : {A : Type 0} (result : Result A AllocError) (text : List ℕ) (style : Style) (r : Rect) (old new : BufferData)
-    → IsBoxArea r → IsInside r old.area
-    → Paints (position_of (r.x, r.y)) (pieces_at old.area r.x r.width style text) result old new
-    → ChangesWithin r old new
-row-within result text style r old new box inside paints =
-    let keeps = text-keeps old.area r.x r.width style text in let rows = box.rows in
-    paints-within result r r.x r.y (pieces_at old.area r.x r.width style text) old new box inside (omega arith) (omega arith)
-    (omega arith) (omega arith) paints
-
--- as many elements as there are
 pub take-least : {A : Type 0} (n : ℕ) (xs : List A) → take (min n (length xs)) xs ≡ take n xs
 take-least n xs =
     ⊎_elim
@@ -104,14 +86,11 @@ take-least n xs =
     ap (λ m. take m xs) e ∙ take_all (length xs) xs (omega arith) ∙ sym (take_all n xs ge))
     (cases_lt n (length xs))
 
--- what is left after bars
-pub after-room : (c : BarChart) (r : Rect) (bars : List Bar) → HasRoomAcross c.direction r
-    → HasRoomAcross c.direction (after_bars c r bars)
-after-room c r [] is = is
-after-room c r (bar ∷ bars) is =
-    after-room c (area_behind c.direction (bar_step c) r) bars (behind-room c.direction (bar_step c) r is)
+-- the bars that a group shows
+pub shown-count : (c : BarChart) (group : BarGroup) (r : Rect) {bars : List Bar} {count fits along : ℕ} → bars ≡ group.bars.items
+    → along ≡ cells_along c.direction r → fits ≡ fitting_count c along → count ≡ min fits (length bars)
+    → take count bars ≡ shown_bars c group r
+shown-count c group r items cells fit least = rw (least, fit, cells, items) (take-least _ group.bars.items)
 
-pub after-in : (c : BarChart) (r : Rect) (bars : List Bar) → IsInside (after_bars c r bars) r
-after-in c r [] p h = h
-after-in c r (bar ∷ bars) p h =
-    behind-in c.direction (bar_step c) r p (after-in c (area_behind c.direction (bar_step c) r) bars p h)
+-- what is drawn of a bar, step by step
+pub ruleset bar_steps = (drawing_steps, drawing_choices, part-cut, row-of, box-part, across-some)

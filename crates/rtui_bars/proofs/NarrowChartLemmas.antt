@@ -1,53 +1,44 @@
 -- A bar chart of narrow texts keeps cells plain.
-use Rattle.std.proofs.Common.{ℕ, ◌-◌, ◌<◌, ◌≤◌, Bool, true, false, if◌then◌else◌, nat_lt, ◌==◌, IfSome}
-use Rattle.std.proofs.Common.{◌&&◌, ◌^◌, decimal, not, List, [], ◌∷◌, All, Option, Some, None, arith, lit<, length, min}
+use Rattle.std.proofs.Common.{ℕ, ◌-◌, ◌<◌, ◌≤◌, Bool, true, false, if◌then◌else◌, nat_lt, ◌==◌, IfSome, not, min}
+use Rattle.std.proofs.Common.{◌&&◌, ◌^◌, decimal, List, [], ◌∷◌, All, Option, Some, None, arith, lit<, length}
 use Rattle.std.proofs.lemmas.{List.Elements.All-head, List.Elements.All-tail, List.Elements.All-take}
-use Rattle.ratatui_core.specs.Layout.{Rect, Position, corner, intersected}
+use Rattle.std.proofs.lemmas.{Fmt.decimal_is_IsNumeral, Str.Parse.digit_at}
+use Rattle.ratatui_core.specs.Layout.{Rect, Position, intersected}
 use Rattle.ratatui_core.specs.{Style.Style, Style.new_style, Style.patch, Text.LineData}
+use Rattle.ratatui_core.specs.Text.{ArePrintable, TakesOneColumn, EachLineGrapheme}
 use Rattle.ratatui_core.specs.declared.{layout.Direction.Direction}
 use Rattle.ratatui_core.specs.declared.layout.Direction.TheVariants.{Horizontal, Vertical}
-use Rattle.ratatui_core.specs.Buffer.{BufferData, Cell, text_width, text_columns}
-use Rattle.ratatui_core.specs.Buffer.{IsPlain, IsPlainFrom}
-use Rattle.ratatui_core.proofs.BufferLemmas.{plain-styled, plain-with_symbol, plain-changed, line-stays}
-use Rattle.rtui_boxes.specs.Titles.{title_at, title_width, first_columns, without_first}
-use Rattle.rtui_boxes.specs.{Lines.RendersIfLine, Boxes.IsNarrowBox}
-use Rattle.rtui_boxes.specs.Framed.{inner_if}
-use Rattle.rtui_boxes.proofs.{InnerLemmas.plain-inside, PlainBoxLemmas.plain-laid, PlainBoxLemmas.plain-done}
-use Rattle.rtui_boxes.proofs.PlainBoxLemmas.{plain-text, plain-title}
-use Rattle.rtui_bars.specs.{declared.group.Bar.Bar, declared.group.BarGroup.BarGroup, declared.chart.BarChart.BarChart}
+use Rattle.ratatui_core.specs.Buffer.{BufferData, Cell, text_width, text_columns, IsPlain, IsPlainFrom}
+use Rattle.ratatui_core.proofs.BufferLemmas.{plain-styled, plain-with_symbol}
+use Rattle.rtui_boxes.specs.{Boxes.IsNarrowBox, Framed.inner_if}
+use Rattle.rtui_drawing.specs.{Cuts.cut_from, Drawings.Drawing, Drawings.over}
+use Rattle.rtui_drawing.specs.declared.cut.Cut.TheVariants.{Rows}
+use Rattle.rtui_drawing.proofs.{Laws.IsNarrowDrawing, DrawingLemmas.if-narrow, NarrowLemmas.text-narrow, NarrowLemmas.cut-width}
+use Rattle.rtui_inside.proofs.InsideLemmas.{inside-plain, inner-columns}
 use Rattle.rtui_sparkline.specs.Levels.{left_at, row_from_below}
-use Rattle.rtui_bars.specs.BarAreas.{rows_at, middle_columns, cells_along, bar_part, area_behind}
-use Rattle.rtui_bars.specs.BarCharts.{chart_cell, long_cell, RendersBarLabel, WritesText, WritesOver}
-use Rattle.rtui_bars.specs.BarCharts.{text_of_bar, RendersTallBar, RendersLongBar, RendersBarIn, RendersBars, RendersGroupLabel}
-use Rattle.rtui_bars.specs.BarCharts.{label_indent, RendersLabelOf, RendersGroups, ShowsChart, RendersBarChart}
-use Rattle.rtui_bars.specs.BarCharts.{bar_rows, bar_step, chart_eighths, beside_labels, label_columns, filled_cells}
-use Rattle.rtui_bars.specs.BarCharts.{greatest_of_chart, has_bar_labels, group_label_rows, is_written, has_group_labels}
-use Rattle.rtui_bars.specs.BarCharts.{middle_row, bars_columns, shown_bars, fitting_count, after_bars}
-use Rattle.rtui_bars.specs.BarCharts.{HasNarrowBarTexts, HasNarrowGroupTexts, HasNarrowGroups}
-use Rattle.std.proofs.lemmas.{Fmt.decimal_is_IsNumeral, Str.Parse.digit_at}
-use Rattle.ratatui_core.specs.Text.{ArePrintable, EachGrapheme, TakesOneColumn, EachLineGrapheme}
 use Rattle.rtui_sparkline.proofs.LevelLemmas.{level-any}
+use Rattle.rtui_bars.specs.{declared.group.Bar.Bar, declared.group.BarGroup.BarGroup, declared.chart.BarChart.BarChart}
+use Rattle.rtui_bars.specs.BarAreas.{cells_along, bar_cut, behind_cut, beside_labels}
+use Rattle.rtui_bars.specs.BarCharts.{chart_cell, long_cell, bar_label, middle_text, text_of_bar, bar_in, bar_step}
+use Rattle.rtui_bars.specs.BarCharts.{line_if, value_over, long_filled, label_columns, bar_rows, has_bar_labels}
+use Rattle.rtui_bars.specs.BarCharts.{is_written, chart_eighths}
+use Rattle.rtui_bars.specs.BarCharts.{group_label, label_of, bars_columns, has_group_labels, shown_bars, fitting_count}
+use Rattle.rtui_bars.specs.BarCharts.{bars_from, after_bars, behind_bars, groups_from, chart_drawing, RendersBarChart}
+use Rattle.rtui_bars.specs.BarCharts.{HasNarrowBarTexts, HasNarrowGroupTexts, HasNarrowGroups}
 
-label-stays : (style : Style) (label : Option LineData) (r : Rect) (old new : BufferData)
-    → IfSome label (EachLineGrapheme TakesOneColumn)
-    → IsPlainFrom 0 old → RendersBarLabel style label r old new → IsPlainFrom 0 new
-label-stays style None r old new narrow plain same = rw same plain
-label-stays style (Some line) r old new narrow plain is =
-    plain-title style (title_at line (middle_columns (title_width line) r)) old new narrow plain is
+bar-label-narrow : (style : Style) (label : Option LineData) → IfSome label (EachLineGrapheme TakesOneColumn)
+    → IsNarrowDrawing (bar_label style label)
+bar-label-narrow style None is = tt
+bar-label-narrow style (Some line) is = (tt, is)
 
-long-label-stays : (label : Option LineData) (r : Rect) (old new : BufferData) → IfSome label (EachLineGrapheme TakesOneColumn)
-    → IsPlainFrom 0 old
-    → RendersIfLine label r old new → IsPlainFrom 0 new
-long-label-stays None r old new narrow plain same = rw same plain
-long-label-stays (Some line) r old new narrow plain is = line-stays r old new plain line narrow is
+line-narrow-if : (label : Option LineData) → IfSome label (EachLineGrapheme TakesOneColumn) → IsNarrowDrawing (line_if label)
+line-narrow-if None is = tt
+line-narrow-if (Some line) is = is
 
-group-label-stays : (style : Style) (label : Option LineData) (n : ℕ) (r : Rect) (old new : BufferData)
-    → IfSome label (EachLineGrapheme TakesOneColumn)
-    → IsPlainFrom 0 old → RendersGroupLabel style label n r old new → IsPlainFrom 0 new
-group-label-stays style None n r old new narrow plain same = rw same plain
-group-label-stays style (Some line) n r old new narrow plain is =
-    plain-title style (title_at line (first_columns (title_width line)
-    (without_first (label_indent line.alignment n (title_width line)) r))) old new narrow plain is
+group-label-narrow : (style : Style) (label : Option LineData) (n : ℕ) → IfSome label (EachLineGrapheme TakesOneColumn)
+    → IsNarrowDrawing (group_label style label n)
+group-label-narrow style None n is = tt
+group-label-narrow style (Some line) n is = (tt, is)
 
 module _ (c : BarChart) (narrow : HasNarrowGroups c) where
   tall-cell : (r : Rect) (style : Style) (eighths : ℕ) (p : Position) (cell : Cell) → IsPlain cell
@@ -65,91 +56,89 @@ module _ (c : BarChart) (narrow : HasNarrowGroups c) where
   lying-cell r style n p cell is =
       plain-styled style _ (plain-with_symbol _ cell is (full-or-empty (nat_lt (p.x - r.x) n)))
 
-  tall-stays : (bar : Bar) (r : Rect) (old new : BufferData) → HasNarrowBarTexts bar → IsPlainFrom 0 old
-      → RendersTallBar c bar r old new → IsPlainFrom 0 new
-  tall-stays bar r old new texts plain is =
-      let style = patch c.bar_style bar.style in
-      let bars = rows_at 0 (bar_rows c r.height) r in
-      let eighths = chart_eighths c bar r.height in
-      let filled = plain-changed bars (chart_cell c.bar_set bars style eighths) old is.filled
-      (tall-cell bars style eighths) is.cells plain in
-      let row = rows_at (r.height - 1 - group_label_rows c r.height) 1 r in
-      let labelled = plain-done (has_bar_labels c r.height) (RendersBarLabel c.label_style bar.label row) is.filled is.labelled
-      filled (label-stays c.label_style bar.label row is.filled is.labelled texts.label filled) is.label in
+  bar-narrow : (d : Direction) (bar : Bar) (r : Rect) → HasNarrowBarTexts bar → r.width ≤ 65535
+      → IsNarrowDrawing (bar_in d c bar r)
+  bar-narrow Vertical bar r texts le =
       let text = text_of_bar bar.value bar.text_value in
-      let m = middle_columns (text_columns text) (rows_at (bar_rows c r.height - 1) 1 r) in
-      plain-done (is_written bar.value (text_columns text) r.width eighths) (WritesText (patch c.value_style bar.value_style) text
-      (rows_at (bar_rows c r.height - 1) 1 r)) is.labelled new labelled
-      (plain-text (corner m) m.x m.width (patch c.value_style bar.value_style) text is.labelled new texts.value labelled)
-      is.value
-
-  over-stays : (style : Style) (text : List ℕ) (n : ℕ) (r : Rect) (old new : BufferData) → EachGrapheme TakesOneColumn text
-      → IsPlainFrom 0 old → WritesOver style text n r old new → IsPlainFrom 0 new
-  over-stays style text n r old new texts plain is =
-      plain-laid (first_columns (min n (text_columns text)) r) style is.written new is.over
-      (plain-text (corner r) r.x r.width new_style text old is.written texts plain is.pieces)
-
-  lying-stays : (bar : Bar) (r : Rect) (old new : BufferData) → HasNarrowBarTexts bar → IsPlainFrom 0 old
-      → RendersLongBar c bar r old new → IsPlainFrom 0 new
-  lying-stays bar r old new texts plain is =
-      let bars = beside_labels (label_columns c) r in
-      let n = filled_cells bar.value (greatest_of_chart c) bars.width in
-      let style = patch c.bar_style bar.style in
-      let filled = plain-changed bars (long_cell c.bar_set bars style n) old is.filled (lying-cell bars style n) is.cells plain in
-      let labelled = long-label-stays bar.label (middle_row (first_columns (label_columns c) r)) is.filled is.labelled
-      texts.label filled is.label in
+      let style = patch c.value_style bar.value_style in
+      let eighths = chart_eighths c bar r.height in (
+        tall-cell (cut_from (Rows 0 (bar_rows c r.height)) r) (patch c.bar_style bar.style) eighths,
+        (
+          if-narrow (has_bar_labels c r.height) (bar_label c.label_style bar.label)
+              (bar-label-narrow c.label_style bar.label texts.label),
+          if-narrow (is_written bar.value (text_columns text) r.width eighths)
+              (middle_text style text r.width)
+              (text-narrow (min (min (text_columns text) 65535) r.width) style text (omega arith) texts.value),
+        ),
+      )
+  bar-narrow Horizontal bar r texts le =
       let text = text_of_bar bar.value bar.text_value in
-      let own = patch c.value_style bar.value_style in
-      plain-done (nat_lt 0 bars.width) (WritesOver own text n (middle_row bars)) is.labelled new
-      labelled (over-stays own text n (middle_row bars) is.labelled new texts.value labelled)
-      is.value
+      let bars = cut_from (beside_labels (label_columns c)) r in (
+        lying-cell bars (patch c.bar_style bar.style) (long_filled c bar r),
+        (
+          line-narrow-if bar.label texts.label,
+          if-narrow (nat_lt 0 bars.width)
+              (value_over (patch c.value_style bar.value_style) text (long_filled c bar r) bars.width)
+              (text-narrow bars.width new_style text (cut-width (beside_labels (label_columns c)) r le) texts.value, tt),
+        ),
+      )
 
-  bar-stays : (d : Direction) (bar : Bar) (r : Rect) (old new : BufferData) → HasNarrowBarTexts bar → IsPlainFrom 0 old
-      → RendersBarIn d c bar r old new → IsPlainFrom 0 new
-  bar-stays Vertical bar r old new texts plain is = tall-stays bar r old new texts plain is
-  bar-stays Horizontal bar r old new texts plain is = lying-stays bar r old new texts plain is
+  bars-narrow : (r : Rect) (bars : List Bar) → All HasNarrowBarTexts bars → r.width ≤ 65535
+      → IsNarrowDrawing (bars_from c r bars)
+  bars-narrow r [] texts le = tt
+  bars-narrow r (bar ∷ bars) texts le =
+      let own = bar_cut c.direction c.bar_width in
+      let behind = behind_cut c.direction (bar_step c) in (
+        bar-narrow c.direction bar (cut_from own r) (All-head HasNarrowBarTexts bar bars texts) (cut-width own r le),
+        bars-narrow (cut_from behind r) bars (All-tail HasNarrowBarTexts bar bars texts) (cut-width behind r le),
+      )
 
-  bars-stay : (r : Rect) (bars : List Bar) (old new : BufferData) → All HasNarrowBarTexts bars → IsPlainFrom 0 old
-      → RendersBars c r bars old new → IsPlainFrom 0 new
-  bars-stay r [] old new texts plain same = rw same plain
-  bars-stay r (bar ∷ bars) old new texts plain is =
-      bars-stay (area_behind c.direction (bar_step c) r) bars is.between new (All-tail HasNarrowBarTexts bar bars texts)
-      (bar-stays c.direction bar (bar_part c.direction c.bar_width r) old is.between (All-head HasNarrowBarTexts bar bars texts)
-      plain is.first) is.second
+  label-narrow : (d : Direction) (group : BarGroup) (n : ℕ) (r : Rect) → IfSome group.label (EachLineGrapheme TakesOneColumn)
+      → IsNarrowDrawing (label_of d c group n r)
+  label-narrow Vertical group n r is =
+      let label = group_label c.label_style group.label (bars_columns c n) in
+      if-narrow (has_group_labels c r.height && nat_lt 0 n) (over (Rows (r.height - 1) 1) label)
+      (group-label-narrow c.label_style group.label (bars_columns c n) is)
+  label-narrow Horizontal group n r is =
+      let bars = beside_labels (label_columns c) in
+      let width = (cut_from bars r).width in
+      if-narrow ((nat_lt 0 c.group_gap && nat_lt (bars_columns c n) r.height) && nat_lt 0 n)
+      (over bars (over (Rows (bars_columns c n) 1) (group_label c.label_style group.label width)))
+      (group-label-narrow c.label_style group.label width is)
 
-  label-of-stays : (d : Direction) (group : BarGroup) (n : ℕ) (r : Rect) (old new : BufferData)
-      → IfSome group.label (EachLineGrapheme TakesOneColumn)
-      → IsPlainFrom 0 old → RendersLabelOf d c group n r old new → IsPlainFrom 0 new
-  label-of-stays Vertical group n r old new texts plain is =
-      plain-done (has_group_labels c r.height && nat_lt 0 n) (RendersGroupLabel c.label_style group.label (bars_columns c n)
-      (rows_at (r.height - 1) 1 r)) old new plain
-      (group-label-stays c.label_style group.label (bars_columns c n) (rows_at (r.height - 1) 1 r) old new texts plain) is
-  label-of-stays Horizontal group n r old new texts plain is =
-      let bars = beside_labels (label_columns c) r in
-      plain-done ((nat_lt 0 c.group_gap && nat_lt (bars_columns c n) r.height) && nat_lt 0 n)
-      (RendersGroupLabel c.label_style group.label bars.width (rows_at (bars_columns c n) 1 bars)) old new plain
-      (group-label-stays c.label_style group.label bars.width (rows_at (bars_columns c n) 1 bars) old new texts plain) is
+  behind-narrow : (bars : List Bar) (d : Drawing) → IsNarrowDrawing d → IsNarrowDrawing (behind_bars c bars d)
+  behind-narrow [] d is = is
+  behind-narrow (bar ∷ bars) d is = behind-narrow bars d is
 
-  groups-stay : (r : Rect) (groups : List BarGroup) (old new : BufferData) → All HasNarrowGroupTexts groups → IsPlainFrom 0 old
-      → RendersGroups c r groups old new → IsPlainFrom 0 new
-  groups-stay r [] old new texts plain same = rw same plain
-  groups-stay r (group ∷ groups) old new texts plain is =
-      let one = is.first in
+  after-width : (r : Rect) (bars : List Bar) → r.width ≤ 65535 → (after_bars c r bars).width ≤ 65535
+  after-width r [] le = le
+  after-width r (bar ∷ bars) le =
+      let behind = behind_cut c.direction (bar_step c) in after-width (cut_from behind r) bars (cut-width behind r le)
+
+  groups-narrow : (r : Rect) (groups : List BarGroup) → All HasNarrowGroupTexts groups → r.width ≤ 65535
+      → IsNarrowDrawing (groups_from c r groups)
+  groups-narrow r [] texts le = tt
+  groups-narrow r (group ∷ groups) texts le =
       let own = All-head HasNarrowGroupTexts group groups texts in
       let bars = shown_bars c group r in
-      let barred = bars-stay r bars old one.barred
-      (All-take HasNarrowBarTexts (fitting_count c (cells_along c.direction r)) group.bars.items own.bars) plain one.bars in
-      let labelled = label-of-stays c.direction group (length bars) r one.barred is.between own.label barred one.label in
-      groups-stay (area_behind c.direction c.group_gap (after_bars c r bars)) groups is.between new
-      (All-tail HasNarrowGroupTexts group groups texts) labelled is.second
+      let gap = behind_cut c.direction c.group_gap in
+      let rest = cut_from gap (after_bars c r bars) in (
+        (
+          bars-narrow r bars
+              (All-take HasNarrowBarTexts (fitting_count c (cells_along c.direction r)) group.bars.items own.bars) le,
+          label-narrow c.direction group (length bars) r own.label,
+        ),
+        behind-narrow bars (over gap (groups_from c rest groups))
+            (groups-narrow rest groups (All-tail HasNarrowGroupTexts group groups texts) (cut-width gap (after_bars c r bars) (after-width r bars le))),
+      )
 
 pub chart-plain : (c : BarChart) (area : Rect) (old new : BufferData) → IfSome c.block IsNarrowBox → HasNarrowGroups c
     → IsPlainFrom 0 old → RendersBarChart c area old new → IsPlainFrom 0 new
-chart-plain c area old new box narrow plain is =
+chart-plain c area old new box narrow plain =
     let r = inner_if c.block (intersected area old.area) in
-    plain-inside c.style c.block (λ _ _. ShowsChart c) tt tt area old new box plain (λ framed cells shows.
-    plain-done (not (c.bar_width == 0)) (RendersGroups c r c.groups.items) framed new cells
-    (groups-stay c narrow r c.groups.items framed new narrow.groups cells) shows) is
+    inside-plain c.style c.block area old new box plain (chart_drawing c)
+    (if-narrow (not (c.bar_width == 0)) (groups_from c r c.groups.items)
+    (groups-narrow c narrow r c.groups.items narrow.groups (inner-columns c.block area old.area)))
 
 -- digits are printable
 pub digits-printable : (n : ℕ) → n < 2 ^ 64 → ArePrintable (decimal n)

@@ -1,24 +1,10 @@
 -- Where bars stand: side by side, or one under the other.
-use Rattle.std.specs.Prelude.{ℕ, ◌+◌, ◌-◌, ◌/◌, min}
+use Rattle.std.specs.Prelude.{ℕ, ◌+◌, min}
 use Rattle.ratatui_core.specs.{Layout.Rect}
 use Rattle.ratatui_core.specs.declared.layout.Direction.{Direction}
 use Rattle.ratatui_core.specs.declared.layout.Direction.TheVariants.{Horizontal, Vertical}
-use Rattle.rtui_boxes.specs.Titles.{first_columns, without_first}
-
--- the rows of an area in which something stands
-abbrev pub rows_at : ℕ → ℕ → Rect → Rect
-rows_at y n r = record r { y = r.y + y; height = n }
-
--- in the middle of a row, so many columns of it
-abbrev pub middle_columns : ℕ → Rect → Rect
-middle_columns n r = record r { x = r.x + (r.width - min n r.width) / 2; width = min n r.width }
-
--- the first rows of an area, and an area without them
-abbrev pub upper_rows : ℕ → Rect → Rect
-upper_rows n r = record r { height = min n r.height }
-
-abbrev pub without_upper : ℕ → Rect → Rect
-without_upper n r = record r { y = min (r.y + n) 65535; height = r.height - n }
+use Rattle.rtui_drawing.specs.declared.cut.Cut.{Cut}
+use Rattle.rtui_drawing.specs.declared.cut.Cut.TheVariants.{First, After, Rows, Below}
 
 -- how many cells an area has from bar to bar: vertical bars stand side by side, horizontal ones one under the
 -- other
@@ -26,11 +12,15 @@ abbrev pub cells_along : Direction → Rect → ℕ
 cells_along Vertical r = r.width
 cells_along Horizontal r = r.height
 
--- where a bar stands that is so many cells wide, and the area behind so many cells
-abbrev pub bar_part : Direction → ℕ → Rect → Rect
-bar_part Vertical n r = first_columns n r
-bar_part Horizontal n r = upper_rows n r
+-- where a bar stands that is so many cells wide, and the part behind so many cells
+abbrev pub bar_cut : Direction → ℕ → Cut
+bar_cut Vertical n = First n
+bar_cut Horizontal n = Rows 0 n
 
-abbrev pub area_behind : Direction → ℕ → Rect → Rect
-area_behind Vertical n r = without_first n r
-area_behind Horizontal n r = without_upper n r
+abbrev pub behind_cut : Direction → ℕ → Cut
+behind_cut Vertical n = After n
+behind_cut Horizontal n = Below n
+
+-- the part right of labels of n columns and of a blank column; all of an area, if they have none
+abbrev pub beside_labels : ℕ → Cut
+beside_labels n = After (min (n + min n 1) 65535)

@@ -3,27 +3,26 @@ use Rattle.std.specs.Prelude.{◌≡◌, ℕ, Bool, ◌+◌, ◌-◌, ◌*◌, �
 use Rattle.std.specs.Prelude.{not, min, max, List, [], ◌∷◌, ◌++◌, length, take, decimal, Option, Some, None}
 use Rattle.std.specs.Prelude.{is_some, if◌then◌else◌, unwrap_or, All, ◌≤◌}
 use Rattle.std.specs.{List.list_any, Borrow.Bor}
-use Rattle.ratatui_core.specs.Layout.{Rect, Position, corner}
+use Rattle.ratatui_core.specs.Layout.{Rect, Position}
 use Rattle.ratatui_core.specs.Style.{Style, new_style, patch}
 use Rattle.ratatui_core.specs.Symbols.{bar_texts, bar_levels}
 use Rattle.ratatui_core.specs.Text.{LineData, raw_line, EachGrapheme, TakesOneColumn, EachLineGrapheme}
 use Rattle.ratatui_core.specs.declared.layout.HorizontalAlignment.{HorizontalAlignment}
 use Rattle.ratatui_core.specs.declared.layout.HorizontalAlignment.TheVariants.{Left, Center, Right}
-use Rattle.ratatui_core.specs.Buffer.{BufferData, Cell, styled, with_symbol, text_columns, pieces_at}
-use Rattle.ratatui_core.specs.Buffer.{ChangesEach, PaintsPieces}
+use Rattle.ratatui_core.specs.Buffer.{BufferData, Cell, styled, with_symbol, text_columns, text_pieces, text_width}
 use Rattle.ratatui_core.specs.declared.layout.Direction.{Direction}
 use Rattle.ratatui_core.specs.declared.layout.Direction.TheVariants.{Horizontal, Vertical}
-use Rattle.ratatui_core.specs.{Buffer.IsStyled}
-use Rattle.ratatui_core.specs.Buffer.{text_width}
-use Rattle.rtui_boxes.specs.Lines.{RendersIfLine}
-use Rattle.rtui_boxes.specs.Titles.{InTurn, DoesIf, RendersTitle, title_at, title_width, first_columns}
-use Rattle.rtui_boxes.specs.Titles.{without_first}
-use Rattle.rtui_boxes.specs.Framed.{RendersInFrame}
+use Rattle.ratatui_core.specs.declared.symbols.bar.Set.{Set as BarSet}
+use Rattle.rtui_boxes.specs.Titles.{title_width}
+use Rattle.rtui_drawing.specs.{declared.cut.Cut.Cut, Cuts.cut_from}
+use Rattle.rtui_drawing.specs.declared.cut.Cut.TheVariants.{First, After, Middle, Rows}
+use Rattle.rtui_drawing.specs.Drawings.{Drawing, nothing, over, ◌before◌, draw_if, put_style, put_line, put_pieces}
+use Rattle.rtui_drawing.specs.Drawings.{put_change}
+use Rattle.rtui_inside.specs.Inside.{DrawsInside, LeavesInside}
+use Rattle.rtui_sparkline.specs.Levels.{eighths_of_value, left_at, level_text, row_from_below}
 use Rattle.rtui_bars.specs.{declared.group.Bar.Bar, declared.group.BarGroup.BarGroup}
 use Rattle.rtui_bars.specs.{declared.chart.BarChart.BarChart}
-use Rattle.rtui_sparkline.specs.Levels.{eighths_of_value, left_at, level_text, row_from_below}
-use Rattle.rtui_bars.specs.BarAreas.{rows_at, middle_columns, cells_along, bar_part, area_behind}
-use Rattle.ratatui_core.specs.declared.symbols.bar.Set.{Set as BarSet}
+use Rattle.rtui_bars.specs.BarAreas.{cells_along, bar_cut, behind_cut, beside_labels}
 
 -- a bar of this value, with a label if there is one
 abbrev pub new_bar : ℕ → Option LineData → Bar
@@ -104,11 +103,18 @@ group_label_rows c height = if has_group_labels c height then 1 else 0
 abbrev pub bar_rows : BarChart → ℕ → ℕ
 bar_rows c height = height - bar_label_rows c height - group_label_rows c height
 
+-- cells that are changed so; a symbol may take memory
+abbrev pub filled_by : (Position → Cell → Cell) → Drawing
+filled_by f = put_change f (λ _ _. ⊥)
+
+-- a line in a style, over all of an area
+abbrev pub styled_line : Style → LineData → Drawing
+styled_line style line = put_style style before put_line line
+
 -- the label of a bar in the middle of its columns, if it has one
-abbrev pub RendersBarLabel : Style → Option LineData → Rect → BufferData → BufferData → Type 0
-RendersBarLabel style None r old new = new ≡ old
-RendersBarLabel style (Some line) r old new =
-    RendersTitle style (title_at line (middle_columns (title_width line) r)) old new
+abbrev pub bar_label : Style → Option LineData → Drawing
+bar_label style None = nothing
+bar_label style (Some line) = over (Middle (title_width line)) (styled_line style line)
 
 -- the text of a bar's value
 abbrev pub text_of_bar : ℕ → Option (Bor (List ℕ)) → List ℕ
@@ -120,11 +126,11 @@ abbrev pub is_written : ℕ → ℕ → ℕ → ℕ → Bool
 is_written value columns width eighths =
     not (value == 0) && (nat_lt columns width || ((columns == width) && nat_le 8 eighths))
 
--- a text in the middle of a row
-abbrev pub WritesText : Style → List ℕ → Rect → BufferData → BufferData → Type 0
-WritesText style text r old =
-    let m = middle_columns (text_columns text) r in
-    PaintsPieces (corner m) (pieces_at old.area m.x m.width style text) old
+-- a text in the middle of a row of so many columns
+abbrev pub middle_text : Style → List ℕ → ℕ → Drawing
+middle_text style text width =
+    let n = min (text_columns text) 65535 in
+    over (Middle n) (put_pieces (text_pieces (min n width) style text))
 
 -- how many eighths of a cell a bar of a chart is high
 abbrev pub chart_eighths : BarChart → Bar → ℕ → ℕ
@@ -132,18 +138,26 @@ chart_eighths c bar height = eighths_of_value bar.value (greatest_of_chart c) (b
 
 -- a vertical bar in its columns of an area: its cells, its label under them if there is a row for it, and its
 -- value in their last row
-pub record RendersTallBar (c : BarChart) (bar : Bar) (r : Rect) (old new : BufferData) : Type 0 where
-  pub filled : BufferData
-  pub labelled : BufferData
-  pub cells : let bars = rows_at 0 (bar_rows c r.height) r in
-      let f = chart_cell c.bar_set bars (patch c.bar_style bar.style) (chart_eighths c bar r.height) in
-      ChangesEach bars f old filled
-  pub label : let row = rows_at (r.height - 1 - group_label_rows c r.height) 1 r in
-      DoesIf (has_bar_labels c r.height) (RendersBarLabel c.label_style bar.label row) filled labelled
-  pub value : let text = text_of_bar bar.value bar.text_value in
-      let row = rows_at (bar_rows c r.height - 1) 1 r in
-      let written = is_written bar.value (text_columns text) r.width (chart_eighths c bar r.height) in
-      DoesIf written (WritesText (patch c.value_style bar.value_style) text row) labelled new
+abbrev pub tall_cells : BarChart → Bar → Rect → Drawing
+tall_cells c bar r =
+    let rows = Rows 0 (bar_rows c r.height) in
+    let style = patch c.bar_style bar.style in
+    over rows (filled_by (chart_cell c.bar_set (cut_from rows r) style (chart_eighths c bar r.height)))
+
+abbrev pub tall_label : BarChart → Bar → Rect → Drawing
+tall_label c bar r =
+    over (Rows (r.height - 1 - group_label_rows c r.height) 1)
+    (draw_if (has_bar_labels c r.height) (bar_label c.label_style bar.label))
+
+abbrev pub tall_value : BarChart → Bar → Rect → Drawing
+tall_value c bar r =
+    let text = text_of_bar bar.value bar.text_value in
+    let written = is_written bar.value (text_columns text) r.width (chart_eighths c bar r.height) in
+    over (Rows (bar_rows c r.height - 1) 1)
+    (draw_if written (middle_text (patch c.value_style bar.value_style) text r.width))
+
+abbrev pub tall_bar : BarChart → Bar → Rect → Drawing
+tall_bar c bar r = tall_cells c bar r before tall_label c bar r before tall_value c bar r
 
 -- the columns of the labels at the left of horizontal bars: as many as the widest label has
 abbrev pub bar_label_width : Option LineData → ℕ
@@ -165,10 +179,6 @@ columns_of_labels Vertical groups = 0
 abbrev pub label_columns : BarChart → ℕ
 label_columns c = columns_of_labels c.direction c.groups.items
 
--- the area right of labels of n columns and of a blank column; all of it, if they have none
-abbrev pub beside_labels : ℕ → Rect → Rect
-beside_labels n r = without_first (min (n + min n 1) 65535) r
-
 -- how many cells a horizontal bar fills, if the greatest value fills so many
 abbrev pub filled_cells : ℕ → ℕ → ℕ → ℕ
 filled_cells value greatest width = min (value * width / greatest) width
@@ -178,39 +188,53 @@ abbrev pub long_cell : BarSet → Rect → Style → ℕ → Position → Cell �
 long_cell set r style n p c =
     styled style (with_symbol (if nat_lt (p.x - r.x) n then set.full.now else set.empty.now) c)
 
+-- a line, if there is one
+abbrev pub line_if : Option LineData → Drawing
+line_if None = nothing
+line_if (Some line) = put_line line
+
 -- a text from the left of a row on, in the style of its cells, and a style over its columns among the first n
-pub record WritesOver (style : Style) (text : List ℕ) (n : ℕ) (r : Rect) (old new : BufferData) : Type 0 where
-  pub written : BufferData
-  pub pieces : PaintsPieces (corner r) (pieces_at old.area r.x r.width new_style text) old written
-  pub over : IsStyled (first_columns (min n (text_columns text)) r) style written new
+abbrev pub value_over : Style → List ℕ → ℕ → ℕ → Drawing
+value_over style text n width =
+    put_pieces (text_pieces width new_style text)
+    before over (First (min n (text_columns text))) (put_style style)
 
 -- the middle row of an area; of an even number of rows the lower one of the two in the middle
-abbrev pub middle_row : Rect → Rect
-middle_row r = rows_at (r.height / 2) 1 r
+abbrev pub middle_row : Rect → Cut
+middle_row r = Rows (r.height / 2) 1
+
+-- how many cells a horizontal bar of a chart fills
+abbrev pub long_filled : BarChart → Bar → Rect → ℕ
+long_filled c bar r =
+    filled_cells bar.value (greatest_of_chart c) (cut_from (beside_labels (label_columns c)) r).width
 
 -- a horizontal bar in its rows of an area: its cells right of the labels, its label in the middle row, as it
 -- is styled and aligned itself, and its value in the middle row from the left on, in its own style as far as
 -- the bar goes; no value without columns
-pub record RendersLongBar (c : BarChart) (bar : Bar) (r : Rect) (old new : BufferData) : Type 0 where
-  pub filled : BufferData
-  pub labelled : BufferData
-  pub cells : let bars = beside_labels (label_columns c) r in
-      let n = filled_cells bar.value (greatest_of_chart c) bars.width in
-      ChangesEach bars (long_cell c.bar_set bars (patch c.bar_style bar.style) n) old filled
-  pub label : let row = middle_row (first_columns (label_columns c) r) in
-      RendersIfLine bar.label row filled labelled
-  pub value : let row = middle_row (beside_labels (label_columns c) r) in
-      let n = filled_cells bar.value (greatest_of_chart c) row.width in
-      let text = text_of_bar bar.value bar.text_value in
-      DoesIf (nat_lt 0 row.width) (WritesOver (patch c.value_style bar.value_style) text n row) labelled new
+abbrev pub long_cells : BarChart → Bar → Rect → Drawing
+long_cells c bar r =
+    let bars = beside_labels (label_columns c) in
+    let style = patch c.bar_style bar.style in
+    over bars (filled_by (long_cell c.bar_set (cut_from bars r) style (long_filled c bar r)))
+
+abbrev pub long_label : BarChart → Bar → Rect → Drawing
+long_label c bar r = over (First (label_columns c)) (over (middle_row r) (line_if bar.label))
+
+abbrev pub long_value : BarChart → Bar → Rect → Drawing
+long_value c bar r =
+    let bars = beside_labels (label_columns c) in
+    let width = (cut_from bars r).width in
+    let text = text_of_bar bar.value bar.text_value in
+    let value = value_over (patch c.value_style bar.value_style) text (long_filled c bar r) width in
+    over bars (over (middle_row r) (draw_if (nat_lt 0 width) value))
+
+abbrev pub long_bar : BarChart → Bar → Rect → Drawing
+long_bar c bar r = long_cells c bar r before long_label c bar r before long_value c bar r
 
 -- a bar, as its chart's direction says
-abbrev pub RendersBarIn : Direction → BarChart → Bar → Rect → BufferData → BufferData → Type 0
-RendersBarIn Vertical c bar r old new = RendersTallBar c bar r old new
-RendersBarIn Horizontal c bar r old new = RendersLongBar c bar r old new
-
-abbrev pub RendersBar : BarChart → Bar → Rect → BufferData → BufferData → Type 0
-RendersBar c = RendersBarIn c.direction c
+abbrev pub bar_in : Direction → BarChart → Bar → Rect → Drawing
+bar_in Vertical = tall_bar
+bar_in Horizontal = long_bar
 
 -- how many columns it is from one bar to the next, or rows
 abbrev pub bar_step : BarChart → ℕ
@@ -223,16 +247,22 @@ fitting_count c width = (width + c.bar_gap) / (c.bar_width + c.bar_gap)
 abbrev pub shown_bars : BarChart → BarGroup → Rect → List Bar
 shown_bars c group r = take (fitting_count c (cells_along c.direction r)) group.bars.items
 
--- bars from the left or the top of an area on, and what is left after them
-abbrev pub RendersBars : BarChart → Rect → List Bar → BufferData → BufferData → Type 0
-RendersBars c r [] old new = new ≡ old
-RendersBars c r (bar ∷ bars) old new =
-    let left = area_behind c.direction (bar_step c) r in
-    InTurn (RendersBar c bar (bar_part c.direction c.bar_width r)) (RendersBars c left bars) old new
+-- bars from the left or the top of an area on; what is left after them; and a drawing there
+abbrev pub bars_from : BarChart → Rect → List Bar → Drawing
+bars_from c r [] = nothing
+bars_from c r (bar ∷ bars) =
+    let own = bar_cut c.direction c.bar_width in
+    let behind = behind_cut c.direction (bar_step c) in
+    over own (bar_in c.direction c bar (cut_from own r))
+    before over behind (bars_from c (cut_from behind r) bars)
 
 abbrev pub after_bars : BarChart → Rect → List Bar → Rect
 after_bars c r [] = r
-after_bars c r (bar ∷ bars) = after_bars c (area_behind c.direction (bar_step c) r) bars
+after_bars c r (bar ∷ bars) = after_bars c (cut_from (behind_cut c.direction (bar_step c)) r) bars
+
+abbrev pub behind_bars : BarChart → List Bar → Drawing → Drawing
+behind_bars c [] d = d
+behind_bars c (bar ∷ bars) d = over (behind_cut c.direction (bar_step c)) (behind_bars c bars d)
 
 -- how far from the left a label of n columns stands in so many, aligned as it says
 abbrev pub label_indent : Option HorizontalAlignment → ℕ → ℕ → ℕ
@@ -242,12 +272,11 @@ label_indent (Some Center) width n = (width - n) / 2
 label_indent (Some Right) width n = width - n
 
 -- the label of a group under its bars, aligned in so many columns; it may be longer
-abbrev pub RendersGroupLabel : Style → Option LineData → ℕ → Rect → BufferData → BufferData → Type 0
-RendersGroupLabel style None width r old new = new ≡ old
-RendersGroupLabel style (Some line) width r old new =
+abbrev pub group_label : Style → Option LineData → ℕ → Drawing
+group_label style None width = nothing
+group_label style (Some line) width =
     let n = title_width line in
-    let left = without_first (label_indent line.alignment width n) r in
-    RendersTitle style (title_at line (first_columns n left)) old new
+    over (After (label_indent line.alignment width n)) (over (First n) (styled_line style line))
 
 -- how many columns bars take, without the gap after the last one, or rows; at most 65535
 abbrev pub bars_columns : BarChart → ℕ → ℕ
@@ -255,36 +284,43 @@ bars_columns c n = min (n * (c.bar_width + c.bar_gap) - c.bar_gap) 65535
 
 -- the label of a group of n bars: under vertical ones in the last row, if it is one for labels; and under
 -- horizontal ones in the row after them, if groups are apart and there is one
-abbrev pub RendersLabelOf : Direction → BarChart → BarGroup → ℕ → Rect → BufferData → BufferData → Type 0
-RendersLabelOf Vertical c group n r =
-    let f = RendersGroupLabel c.label_style group.label (bars_columns c n) (rows_at (r.height - 1) 1 r) in
-    DoesIf (has_group_labels c r.height && nat_lt 0 n) f
-RendersLabelOf Horizontal c group n r =
-    let bars = beside_labels (label_columns c) r in
-    let f = RendersGroupLabel c.label_style group.label bars.width (rows_at (bars_columns c n) 1 bars) in
-    DoesIf ((nat_lt 0 c.group_gap && nat_lt (bars_columns c n) r.height) && nat_lt 0 n) f
+abbrev pub label_of : Direction → BarChart → BarGroup → ℕ → Rect → Drawing
+label_of Vertical c group n r =
+    let label = group_label c.label_style group.label (bars_columns c n) in
+    draw_if (has_group_labels c r.height && nat_lt 0 n) (over (Rows (r.height - 1) 1) label)
+label_of Horizontal c group n r =
+    let bars = beside_labels (label_columns c) in
+    let label = group_label c.label_style group.label (cut_from bars r).width in
+    draw_if ((nat_lt 0 c.group_gap && nat_lt (bars_columns c n) r.height) && nat_lt 0 n)
+    (over bars (over (Rows (bars_columns c n) 1) label))
 
 -- a group: as many of its bars as fit, and its label if there is a row for it
-pub record RendersGroup (c : BarChart) (group : BarGroup) (r : Rect) (old new : BufferData) : Type 0 where
-  pub barred : BufferData
-  pub bars : RendersBars c r (shown_bars c group r) old barred
-  pub label : RendersLabelOf c.direction c group (length (shown_bars c group r)) r barred new
+abbrev pub group_drawing : BarChart → BarGroup → Rect → Drawing
+group_drawing c group r =
+    let bars = shown_bars c group r in
+    bars_from c r bars before label_of c.direction c group (length bars) r
 
 -- the groups of a chart from the left or the top of an area on
-abbrev pub RendersGroups : BarChart → Rect → List BarGroup → BufferData → BufferData → Type 0
-RendersGroups c r [] old new = new ≡ old
-RendersGroups c r (group ∷ groups) old new =
-    let left = area_behind c.direction c.group_gap (after_bars c r (shown_bars c group r)) in
-    InTurn (RendersGroup c group r) (RendersGroups c left groups) old new
+abbrev pub groups_from : BarChart → Rect → List BarGroup → Drawing
+groups_from c r [] = nothing
+groups_from c r (group ∷ groups) =
+    let bars = shown_bars c group r in
+    let gap = behind_cut c.direction c.group_gap in
+    group_drawing c group r
+    before behind_bars c bars (over gap (groups_from c (cut_from gap (after_bars c r bars)) groups))
 
--- a chart over an area; bars of no columns aren't shown
-abbrev pub ShowsChart : BarChart → Rect → BufferData → BufferData → Type 0
-ShowsChart c r = DoesIf (not (c.bar_width == 0)) (RendersGroups c r c.groups.items)
+-- what a chart draws in an area; bars of no columns aren't shown
+abbrev pub chart_drawing : BarChart → Rect → Drawing
+chart_drawing c r = draw_if (not (c.bar_width == 0)) (groups_from c r c.groups.items)
 
 -- A bar chart over the part of an area that a buffer has: its style, its box, and inside its groups. Nothing
 -- outside the area changes.
 abbrev pub RendersBarChart : BarChart → Rect → BufferData → BufferData → Type 0
-RendersBarChart c = RendersInFrame c.style c.block (ShowsChart c)
+RendersBarChart c = DrawsInside c.style c.block (chart_drawing c)
+
+-- what a refusal leaves, if the box takes no memory: style and box stand, and all before one thing
+abbrev pub LeavesBarChart : BarChart → Rect → BufferData → BufferData → Type 0
+LeavesBarChart c = LeavesInside c.style c.block (chart_drawing c)
 
 -- the texts of a bar, of a group and of a chart, and the symbols of its bars, take one column for each
 -- grapheme

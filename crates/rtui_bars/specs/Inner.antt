@@ -1,5 +1,5 @@
 -- What the functions of a bar chart promise one another.
-use Rattle.std.specs.Prelude.{ℕ, ◌+◌, ◌-◌, ◌<◌, ◌≤◌, List, [], ◌∷◌, ⊤}
+use Rattle.std.specs.Prelude.{ℕ, ◌-◌, ◌≤◌, List, [], ◌∷◌, ⊤}
 use Rattle.ratatui_core.specs.{Layout.Rect, declared.layout.Direction.Direction}
 use Rattle.rtui_bars.specs.{declared.group.Bar.Bar, declared.chart.BarChart.BarChart}
 use Rattle.rtui_bars.specs.{BarCharts.bar_step, declared.chart.Measures.Measures}
@@ -15,12 +15,6 @@ BarsFit c width (bar ∷ bars) = (c.bar_width ≤ width) × BarsFit c (width - b
 abbrev pub cells_across : Direction → Rect → ℕ
 cells_across Vertical r = r.height
 cells_across Horizontal r = r.width
-
--- an area with cells along a bar, whose edges are at most 65535
-pub record HasRoomAcross (d : Direction) (r : Rect) : Type 0 where
-  pub some : 0 < cells_across d r
-  pub across : r.x + r.width ≤ 65535
-  pub down : r.y + r.height ≤ 65535
 
 -- what a chart finds out before it renders: the value that fills it, and the columns of its labels
 abbrev pub measures_of : BarChart → Measures

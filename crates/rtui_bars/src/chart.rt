@@ -17,7 +17,8 @@ use ratatui_core::style::Style;
 use ratatui_core::symbols::bar;
 use ratatui_core::text::Line;
 use ratatui_core::widgets::Widget;
-use rtui_boxes::{Block, cloned_block, render_frame};
+use rtui_boxes::{Block, cloned_block};
+use rtui_inside::{DrawInside, render_inside};
 use std::alloc::{AllocError, Global};
 
 // What a chart finds out before it renders: the value that fills it, and the columns of the labels
@@ -365,25 +366,41 @@ fn cloned_groups<'a>(
     Ok(cloned)
 }
 
+// The groups inside the box, if bars have columns.
+impl<'a> DrawInside for BarChart<'a> {
+    ghost use Rattle.rtui_bars.specs.BarCharts.{chart_drawing};
+
+    ghost drawing = { chart_drawing };
+
+    #[tactic(auto, using(crate::proofs::ChartLemmas::bar_steps))]
+    fn draw_inside(&self, inner: Rect, buf: &mut Buffer) -> Result<(), AllocError> {
+        if self.bar_width == 0 {
+            return Ok(());
+        }
+        self.draw_groups(self.measures(), inner, buf)
+    }
+}
+
 /// Over the area, as far as the buffer has it: the style, the box, and inside the groups from the
 /// left, as many bars as fit.
 impl<'b, 'a> Widget for &'b BarChart<'a> {
-    ghost use Rattle.rtui_bars.specs.BarCharts.{RendersBarChart};
+    ghost use Rattle.rtui_bars.specs.BarCharts.{RendersBarChart, LeavesBarChart};
 
     ghost renders = { λ chart. RendersBarChart chart.now };
 
+    ghost leaves = { λ chart. LeavesBarChart chart.now };
+
     fn render(self, area: Rect, buf: &mut Buffer) -> Result<(), AllocError> {
-        let Some(inner) = render_frame(self.style, &self.block, area, buf)? else {
-            return Ok(());
-        };
-        self.render_chart(inner, buf)
+        render_inside(self, self.style, &self.block, area, buf)
     }
 }
 
 impl<'a> Widget for BarChart<'a> {
-    ghost use Rattle.rtui_bars.specs.BarCharts.{RendersBarChart};
+    ghost use Rattle.rtui_bars.specs.BarCharts.{RendersBarChart, LeavesBarChart};
 
     ghost renders = { RendersBarChart };
+
+    ghost leaves = { LeavesBarChart };
 
     fn render(self, area: Rect, buf: &mut Buffer) -> Result<(), AllocError> {
         (&self).render(area, buf)

@@ -1,40 +1,32 @@
 //! The parts of a bar chart.
 
-ghost use Rattle.std.specs.Prelude.{◌≡◌, ◌≤◌, ◌<◌, ◌+◌, ◌-◌, ◌*◌, ◌&&◌, nat_lt, length, true, OnOk, IfOk};
+ghost use Rattle.std.specs.Prelude.{◌≡◌, ◌≤◌, ◌<◌, ◌+◌, ◌*◌, length, true, IfOk};
 ghost use Rattle.std.specs.List.{list_any};
-ghost use Rattle.ratatui_core.specs.Widgets.{ChangesWithin};
-ghost use Rattle.ratatui_core.specs.Layout.{IsInside};
-ghost use Rattle.ratatui_core.specs.Buffer.{ChangesEach, text_columns};
+ghost use Rattle.ratatui_core.specs.Buffer.{text_columns};
 ghost use Rattle.ratatui_core.specs.Style.{patch};
 ghost use Rattle.ratatui_core.specs.declared.layout.Direction.TheVariants.{Horizontal, Vertical};
-ghost use Rattle.rtui_boxes.specs.Boxes.{IsBoxArea};
-ghost use Rattle.rtui_boxes.specs.Titles.{first_columns, without_first, title_width, title_at, RendersTitle};
-ghost use Rattle.rtui_bars.specs.BarCharts.{greatest_of_chart, has_label, has_labelled_bar, has_bar_labels};
-ghost use Rattle.rtui_bars.specs.BarCharts.{bar_label_rows, has_group_labels, group_label_rows, bar_rows};
-ghost use Rattle.rtui_bars.specs.BarAreas.{cells_along, rows_at};
-ghost use Rattle.rtui_boxes.specs.Titles.{DoesIf};
-ghost use Rattle.rtui_bars.specs.BarCharts.{WritesText, RendersBarLabel, is_written};
-ghost use Rattle.rtui_bars.specs.Inner.{measures_of};
-ghost use Rattle.rtui_bars.specs.BarCharts.{label_columns, text_of_bar, chart_cell, RendersTallBar};
-ghost use Rattle.rtui_bars.specs.BarCharts.{RendersBar};
-ghost use Rattle.rtui_bars.specs.BarCharts.{RendersBars, after_bars, fitting_count, shown_bars, bars_columns};
-ghost use Rattle.rtui_bars.specs.BarCharts.{label_indent, RendersGroupLabel, RendersLabelOf, RendersGroup};
-ghost use Rattle.rtui_bars.specs.BarCharts.{RendersGroups, ShowsChart};
-ghost use Rattle.rtui_bars.specs.Inner.{HasRoomAcross, BarsFit};
+ghost use Rattle.rtui_boxes.specs.Titles.{title_width};
+ghost use Rattle.rtui_drawing.specs.Drawings.{IsDone, IsRowIn, IsPartOf, draw_if};
+ghost use Rattle.rtui_bars.specs.BarAreas.{cells_along};
+ghost use Rattle.rtui_bars.specs.BarCharts.{greatest_of_chart, label_columns, has_label, has_labelled_bar};
+ghost use Rattle.rtui_bars.specs.BarCharts.{has_bar_labels, bar_label_rows, has_group_labels};
+ghost use Rattle.rtui_bars.specs.BarCharts.{group_label_rows, bar_rows, text_of_bar, is_written, chart_eighths};
+ghost use Rattle.rtui_bars.specs.BarCharts.{styled_line, bar_label, middle_text, tall_cells, tall_label};
+ghost use Rattle.rtui_bars.specs.BarCharts.{tall_value, tall_bar, bar_in, bars_from, after_bars};
+ghost use Rattle.rtui_bars.specs.BarCharts.{fitting_count, shown_bars, bars_columns, label_indent};
+ghost use Rattle.rtui_bars.specs.BarCharts.{group_label, label_of, group_drawing, groups_from};
+ghost use Rattle.rtui_bars.specs.Inner.{measures_of, cells_across, BarsFit};
 
-use crate::area::{
-    area_behind, bar_part, beside_labels, cells_along, first_columns, middle_columns, rows_at,
-    without_first,
-};
+use crate::area::{bar_cut, behind_cut, beside_labels, cells_along};
 use crate::chart::{BarChart, Measures};
 use crate::group::{Bar, BarGroup};
 use itoa::Buffer as Digits;
-use ratatui_core::buffer::{Buffer, Cell, CellChange, change_area};
+use ratatui_core::buffer::{Buffer, Cell, CellChange};
 use ratatui_core::layout::{Direction, HorizontalAlignment, Position, Rect};
 use ratatui_core::style::Style;
 use ratatui_core::symbols::bar;
 use ratatui_core::text::{Line, text_columns};
-use ratatui_core::widgets::Widget;
+use rtui_drawing::{Cut, put_change, put_line, put_style, write};
 use rtui_sparkline::level::{eighths_of, left_at, level_of};
 use std::alloc::{AllocError, Global};
 
@@ -55,7 +47,6 @@ pub(crate) struct Filling<'b, 'a> {
 }
 
 impl<'b, 'a> CellChange for Filling<'b, 'a> {
-    ghost use Rattle.std.specs.Prelude.{⊤};
     ghost use Rattle.rtui_bars.specs.BarCharts.{chart_cell};
 
     ghost made = { λ f. chart_cell f.set.now f.area f.style f.eighths };
@@ -70,18 +61,13 @@ impl<'b, 'a> CellChange for Filling<'b, 'a> {
     }
 }
 
-// Lays a style over an area and renders a line there.
-fn render_title(
-    line: &Line<'_>,
-    style: Style,
-    area: Rect,
-    buf: &mut Buffer,
-) -> Result<(), AllocError>
-    ensures within { ChangesWithin area buf.old buf.new }
-    ensures ok { OnOk result (RendersTitle style (title_at line.now area) buf.old buf.new) }
+// Lays a style over an area and puts a line there.
+#[tactic(auto, using(rtui_drawing::proofs::DrawingLemmas::drawing_steps))]
+fn put_styled(line: &Line<'_>, style: Style, area: Rect, buf: &mut Buffer) -> Result<(), AllocError>
+    ensures { IsDone (styled_line style line.now) area result buf.old buf.new }
 {
-    buf.set_style(area, style);
-    line.render(area, buf)
+    put_style(style, area, buf);
+    put_line(line, area, buf)
 }
 
 // Whether some bar of a group has a label.
@@ -93,13 +79,11 @@ fn has_labelled_bar(group: &BarGroup<'_>) -> bool
 
 // Writes a text in the middle of a row.
 fn write_text(text: &str, style: Style, row: Rect, buf: &mut Buffer) -> Result<(), AllocError>
-    requires some { IsBoxArea row }
-    requires inside { IsInside row buf.old.area }
-    ensures within { ChangesWithin row buf.old buf.new }
-    ensures ok { OnOk result (WritesText style text.now row buf.old buf.new) }
+    requires { IsRowIn buf.old.area row }
+    ensures { IsDone (middle_text style text.now row.width) row result buf.old buf.new }
 {
-    let area = middle_columns(text_columns(text), row);
-    buf.set_stringn(area.x, area.y, text, usize::from(area.width), style)?;
+    let columns = text_columns(text).min(65535) as u16;
+    write(text, style, Cut::Middle(columns).of(row), buf)?;
     Ok(())
 }
 
@@ -178,32 +162,28 @@ impl<'a> BarChart<'a> {
         height - self.bar_label_rows(height) - self.group_label_rows(height)
     }
 
-    // Renders the label of a bar in the middle of a row, if there is a row for it.
-    fn render_bar_label(
+    // Puts the label of a bar in the middle of a row, if it has one.
+    #[tactic(auto, using(rtui_drawing::proofs::DrawingLemmas::drawing_steps))]
+    fn put_bar_label(
         &self,
-        is_shown: bool,
         label: &Option<Line<'a>>,
         row: Rect,
         buf: &mut Buffer,
     ) -> Result<(), AllocError>
-        requires { row.x + row.width ≤ 65535 }
-        ensures within { ChangesWithin row buf.old buf.new }
-        ensures ok { let f = RendersBarLabel self.now.label_style label.now row in
-            OnOk result (DoesIf is_shown f buf.old buf.new) }
+        ensures { let d = bar_label self.now.label_style label.now in
+            IsDone d row result buf.old buf.new }
     {
-        if !is_shown {
-            return Ok(());
-        }
         match label {
             Some(line) => {
-                let area = middle_columns(usize::from(columns_of(line)), row);
-                render_title(line, self.label_style, area, buf)
+                let part = Cut::Middle(columns_of(line)).of(row);
+                put_styled(line, self.label_style, part, buf)
             }
             None => Ok(()),
         }
     }
 
-    // Writes a bar's value in the middle of a row, if there is room for it.
+    // Writes a text on a bar in the middle of a row, if there is room for it.
+    #[tactic(auto, using(rtui_drawing::proofs::DrawingLemmas::drawing_choices))]
     fn write_value(
         &self,
         bar: &Bar<'a>,
@@ -212,12 +192,11 @@ impl<'a> BarChart<'a> {
         row: Rect,
         buf: &mut Buffer,
     ) -> Result<(), AllocError>
-        requires some { IsBoxArea row }
-        requires inside { IsInside row buf.old.area }
-        ensures within { ChangesWithin row buf.old buf.new }
-        ensures ok { let written = is_written bar.now.value (text_columns text.now) row.width eighths in
-            let f = WritesText (patch self.now.value_style bar.now.value_style) text.now row in
-            OnOk result (DoesIf written f buf.old buf.new) }
+        requires { IsRowIn buf.old.area row }
+        ensures { let written = is_written bar.now.value (text_columns text.now) row.width eighths in
+            let style = patch self.now.value_style bar.now.value_style in
+            let d = draw_if written (middle_text style text.now row.width) in
+            IsDone d row result buf.old buf.new }
     {
         if !is_written(bar.value, text_columns(text), row.width, eighths) {
             return Ok(());
@@ -225,21 +204,20 @@ impl<'a> BarChart<'a> {
         write_text(text, self.value_style.patch(bar.value_style), row, buf)
     }
 
-    // Writes the text of a bar's value, if there is room for it.
-    fn render_value(
+    // Writes the value of a bar in the middle of a row, if there is room for it.
+    fn write_text_of(
         &self,
         bar: &Bar<'a>,
         eighths: u128,
         row: Rect,
         buf: &mut Buffer,
     ) -> Result<(), AllocError>
-        requires some { IsBoxArea row }
-        requires inside { IsInside row buf.old.area }
-        ensures within { ChangesWithin row buf.old buf.new }
-        ensures ok { let text = text_of_bar bar.now.value bar.now.text_value in
+        requires { IsRowIn buf.old.area row }
+        ensures { let text = text_of_bar bar.now.value bar.now.text_value in
             let written = is_written bar.now.value (text_columns text) row.width eighths in
-            let f = WritesText (patch self.now.value_style bar.now.value_style) text row in
-            OnOk result (DoesIf written f buf.old buf.new) }
+            let style = patch self.now.value_style bar.now.value_style in
+            let d = draw_if written (middle_text style text row.width) in
+            IsDone d row result buf.old buf.new }
     {
         match bar.text_value {
             Some(text) => self.write_value(bar, text, eighths, row, buf),
@@ -250,30 +228,67 @@ impl<'a> BarChart<'a> {
         }
     }
 
-    // Fills the cells of a bar.
-    fn fill_bar(
+    // Fills the cells of a vertical bar, in the first rows of an area.
+    #[tactic(auto, using(crate::proofs::ChartLemmas::bar_steps))]
+    fn fill_tall_bar(
         &self,
         bar: &Bar<'a>,
+        rows: u16,
         eighths: u128,
         area: Rect,
         buf: &mut Buffer,
     ) -> Result<(), AllocError>
-        ensures within { ChangesWithin area buf.old buf.new }
-        ensures ok { let style = patch self.now.bar_style bar.now.style in
-            let f = chart_cell self.now.bar_set area style eighths in
-            OnOk result (ChangesEach area f buf.old buf.new) }
+        requires rows { rows ≡ bar_rows self.now area.height }
+        requires eighths { eighths ≡ chart_eighths self.now bar.now area.height }
+        ensures { IsDone (tall_cells self.now bar.now area) area result buf.old buf.new }
     {
+        let part = Cut::Rows(0, rows).of(area);
         let filling = Filling {
             set: &self.bar_set,
-            area,
+            area: part,
             style: self.bar_style.patch(bar.style),
             eighths,
         };
-        change_area(buf, area, &filling)
+        put_change(&filling, part, buf)
     }
 
-    // Renders a vertical bar in its columns of an area.
-    fn render_tall_bar(
+    // Puts the label of a vertical bar under it, if there is a row for it.
+    #[tactic(auto, using(crate::proofs::ChartLemmas::bar_steps))]
+    fn put_tall_label(&self, bar: &Bar<'a>, area: Rect, buf: &mut Buffer) -> Result<(), AllocError>
+        requires { 0 < area.height }
+        ensures { IsDone (tall_label self.now bar.now area) area result buf.old buf.new }
+    {
+        if !self.has_bar_labels(area.height) {
+            return Ok(());
+        }
+        let below = area.height - 1 - self.group_label_rows(area.height);
+        self.put_bar_label(&bar.label, Cut::Rows(below, 1).of(area), buf)
+    }
+
+    // Writes the value of a vertical bar in its last row, if there is room for it.
+    #[tactic(auto, using(crate::proofs::ChartLemmas::bar_steps))]
+    fn write_tall_value(
+        &self,
+        bar: &Bar<'a>,
+        rows: u16,
+        eighths: u128,
+        area: Rect,
+        buf: &mut Buffer,
+    ) -> Result<(), AllocError>
+        requires rows { rows ≡ bar_rows self.now area.height }
+        requires some { 0 < rows }
+        requires within { rows ≤ area.height }
+        requires eighths { eighths ≡ chart_eighths self.now bar.now area.height }
+        requires columns { 0 < area.width }
+        requires part { IsPartOf buf.old.area area }
+        ensures { IsDone (tall_value self.now bar.now area) area result buf.old buf.new }
+    {
+        self.write_text_of(bar, eighths, Cut::Rows(rows - 1, 1).of(area), buf)
+    }
+
+    // Draws a vertical bar in its columns of an area.
+    #[tactic(auto, using(rtui_drawing::proofs::DrawingLemmas::drawing_steps))]
+    fn draw_tall_bar(
         &self,
         bar: &Bar<'a>,
         greatest: u64,
@@ -281,22 +296,20 @@ impl<'a> BarChart<'a> {
         buf: &mut Buffer,
     ) -> Result<(), AllocError>
         requires greatest { greatest ≡ greatest_of_chart self.now }
-        requires some { IsBoxArea area }
-        requires inside { IsInside area buf.old.area }
-        ensures within { ChangesWithin area buf.old buf.new }
-        ensures ok { OnOk result (RendersTallBar self.now bar.now area buf.old buf.new) }
+        requires columns { 0 < area.width }
+        requires rows { 0 < area.height }
+        requires part { IsPartOf buf.old.area area }
+        ensures { IsDone (tall_bar self.now bar.now area) area result buf.old buf.new }
     {
         let rows = self.bar_rows(area.height);
         let eighths = eighths_of(bar.value, greatest, rows);
-        self.fill_bar(bar, eighths, rows_at(0, rows, area), buf)?;
-        let has_label = self.has_bar_labels(area.height);
-        let below = area.height - 1 - self.group_label_rows(area.height);
-        self.render_bar_label(has_label, &bar.label, rows_at(below, 1, area), buf)?;
-        self.render_value(bar, eighths, rows_at(rows - 1, 1, area), buf)
+        self.fill_tall_bar(bar, rows, eighths, area, buf)?;
+        self.put_tall_label(bar, area, buf)?;
+        self.write_tall_value(bar, rows, eighths, area, buf)
     }
 
-    // Renders a bar in its part of an area.
-    fn render_bar(
+    // Draws a bar in its part of an area.
+    fn draw_bar(
         &self,
         bar: &Bar<'a>,
         measures: Measures,
@@ -304,19 +317,19 @@ impl<'a> BarChart<'a> {
         buf: &mut Buffer,
     ) -> Result<(), AllocError>
         requires measures { measures ≡ measures_of self.now }
-        requires some { IsBoxArea area }
-        requires inside { IsInside area buf.old.area }
-        ensures within { ChangesWithin area buf.old buf.new }
-        ensures ok { OnOk result (RendersBar self.now bar.now area buf.old buf.new) }
+        requires cells { (0 < area.width) × (0 < area.height) }
+        requires part { IsPartOf buf.old.area area }
+        ensures { let d = bar_in self.now.direction self.now bar.now area in
+            IsDone d area result buf.old buf.new }
     {
         match self.direction {
-            Direction::Vertical => self.render_tall_bar(bar, measures.greatest, area, buf),
-            Direction::Horizontal => self.render_long_bar(bar, measures, area, buf),
+            Direction::Vertical => self.draw_tall_bar(bar, measures.greatest, area, buf),
+            Direction::Horizontal => self.draw_long_bar(bar, measures, area, buf),
         }
     }
 
-    // Renders bars from the left or the top of an area on, and answers what is left after them.
-    fn render_bars(
+    // Draws bars from the left or the top of an area on, and answers what is left after them.
+    fn draw_bars(
         &self,
         bars: &[Bar<'a>],
         measures: Measures,
@@ -325,19 +338,19 @@ impl<'a> BarChart<'a> {
     ) -> Result<Rect, AllocError>
         requires measures { measures ≡ measures_of self.now }
         requires wide { 0 < self.now.bar_width }
-        requires some { HasRoomAcross self.now.direction area }
+        requires across { 0 < cells_across self.now.direction area }
         requires fit { BarsFit self.now (cells_along self.now.direction area) bars.now }
-        requires inside { IsInside area buf.old.area }
-        ensures within { ChangesWithin area buf.old buf.new }
-        ensures ok { OnOk result (RendersBars self.now area bars.now buf.old buf.new) }
+        requires part { IsPartOf buf.old.area area }
+        ensures done { IsDone (bars_from self.now area bars.now) area result buf.old buf.new }
         ensures rest { IfOk result (λ rest. rest ≡ after_bars self.now area bars.now) }
     {
+        let own = bar_cut(self.direction, self.bar_width);
         let step = self.bar_width.saturating_add(self.bar_gap);
+        let behind = behind_cut(self.direction, step);
         let mut left = area;
         for bar in bars {
-            let part = bar_part(self.direction, self.bar_width, left);
-            self.render_bar(bar, measures, part, buf)?;
-            left = area_behind(self.direction, step, left);
+            self.draw_bar(bar, measures, own.of(left), buf)?;
+            left = behind.of(left);
         }
         Ok(left)
     }
@@ -364,31 +377,32 @@ impl<'a> BarChart<'a> {
         (count * (bar + gap)).saturating_sub(gap).min(65535) as u16
     }
 
-    // Renders the label of a group, aligned in so many columns, if it has one.
-    fn render_group_label(
+    // Puts the label of a group, aligned in so many columns, if it has one.
+    #[tactic(auto, using(rtui_drawing::proofs::DrawingLemmas::drawing_steps))]
+    fn put_group_label(
         &self,
         label: &Option<Line<'a>>,
         columns: u16,
         row: Rect,
         buf: &mut Buffer,
     ) -> Result<(), AllocError>
-        ensures within { ChangesWithin row buf.old buf.new }
-        ensures ok { let f = RendersGroupLabel self.now.label_style label.now columns row in
-            OnOk result (f buf.old buf.new) }
+        ensures { let d = group_label self.now.label_style label.now columns in
+            IsDone d row result buf.old buf.new }
     {
         match label {
             Some(line) => {
                 let width = columns_of(line);
                 let indent = label_indent(line.alignment, columns, width);
-                let area = first_columns(width, without_first(indent, row));
-                render_title(line, self.label_style, area, buf)
+                let part = Cut::First(width).of(Cut::After(indent).of(row));
+                put_styled(line, self.label_style, part, buf)
             }
             None => Ok(()),
         }
     }
 
-    // Renders the label of a group of so many vertical bars, if there are any and a row for it.
-    fn render_label_below(
+    // Puts the label of a group of so many vertical bars, if there are any and a row for it.
+    #[tactic(auto, using(crate::proofs::ChartLemmas::bar_steps))]
+    fn put_label_below(
         &self,
         group: &BarGroup<'a>,
         count: usize,
@@ -397,20 +411,19 @@ impl<'a> BarChart<'a> {
     ) -> Result<(), AllocError>
         requires count { count ≤ 131070 }
         requires some { 0 < area.height }
-        requires down { area.y + area.height ≤ 65535 }
-        ensures within { ChangesWithin area buf.old buf.new }
-        ensures ok { let f = RendersLabelOf Vertical self.now group.now count area in
-            OnOk result (f buf.old buf.new) }
+        ensures { let d = label_of Vertical self.now group.now count area in
+            IsDone d area result buf.old buf.new }
     {
         if !(self.has_group_labels(area.height) && 0 < count) {
             return Ok(());
         }
-        let row = rows_at(area.height - 1, 1, area);
-        self.render_group_label(&group.label, self.bars_columns(count), row, buf)
+        let row = Cut::Rows(area.height - 1, 1).of(area);
+        self.put_group_label(&group.label, self.bars_columns(count), row, buf)
     }
 
-    // Renders the label of a group of so many horizontal bars, if there are any and a row for it.
-    fn render_label_after(
+    // Puts the label of a group of so many horizontal bars, if there are any and a row for it.
+    #[tactic(auto, using(crate::proofs::ChartLemmas::bar_steps))]
+    fn put_label_after(
         &self,
         group: &BarGroup<'a>,
         count: usize,
@@ -420,21 +433,19 @@ impl<'a> BarChart<'a> {
     ) -> Result<(), AllocError>
         requires labels { labels ≡ label_columns self.now }
         requires count { count ≤ 131070 }
-        requires down { area.y + area.height ≤ 65535 }
-        ensures within { ChangesWithin area buf.old buf.new }
-        ensures ok { let f = RendersLabelOf Horizontal self.now group.now count area in
-            OnOk result (f buf.old buf.new) }
+        ensures { let d = label_of Horizontal self.now group.now count area in
+            IsDone d area result buf.old buf.new }
     {
         let behind = self.bars_columns(count);
         if !(0 < self.group_gap && behind < area.height && 0 < count) {
             return Ok(());
         }
-        let bars = beside_labels(labels, area);
-        self.render_group_label(&group.label, bars.width, rows_at(behind, 1, bars), buf)
+        let bars = beside_labels(labels).of(area);
+        self.put_group_label(&group.label, bars.width, Cut::Rows(behind, 1).of(bars), buf)
     }
 
-    // Renders the label of a group of so many bars, if there are any and a row for it.
-    fn render_label_of(
+    // Puts the label of a group of so many bars, if there are any and a row for it.
+    fn put_label_of(
         &self,
         group: &BarGroup<'a>,
         count: usize,
@@ -444,20 +455,32 @@ impl<'a> BarChart<'a> {
     ) -> Result<(), AllocError>
         requires labels { labels ≡ label_columns self.now }
         requires count { count ≤ 131070 }
-        requires some { HasRoomAcross self.now.direction area }
-        ensures within { ChangesWithin area buf.old buf.new }
-        ensures ok { let f = RendersLabelOf self.now.direction self.now group.now count area in
-            OnOk result (f buf.old buf.new) }
+        requires across { 0 < cells_across self.now.direction area }
+        ensures { let d = label_of self.now.direction self.now group.now count area in
+            IsDone d area result buf.old buf.new }
     {
         match self.direction {
-            Direction::Vertical => self.render_label_below(group, count, area, buf),
-            Direction::Horizontal => self.render_label_after(group, count, labels, area, buf),
+            Direction::Vertical => self.put_label_below(group, count, area, buf),
+            Direction::Horizontal => self.put_label_after(group, count, labels, area, buf),
         }
     }
 
-    // Renders a group from the left or the top of an area on, and answers what is left after its
-    // bars.
-    fn render_group(
+    // The bars that a group shows: as many as fit.
+    fn shown<'g>(&self, group: &'g BarGroup<'a>, area: Rect) -> &'g [Bar<'a>]
+        requires { 0 < self.now.bar_width }
+        ensures value { result.now ≡ shown_bars self.now group.now area }
+        ensures fit { BarsFit self.now (cells_along self.now.direction area) result.now }
+        ensures few { length result.now ≤ 131070 }
+    {
+        let bars = group.bars.as_slice();
+        let along = cells_along(self.direction, area);
+        let count = self.fitting_count(along).min(bars.len());
+        &bars[..count]
+    }
+
+    // Draws a group from the left or the top of an area on, and answers what is left after its bars.
+    #[tactic(auto, using(crate::proofs::ChartLemmas::bar_steps))]
+    fn draw_group(
         &self,
         group: &BarGroup<'a>,
         measures: Measures,
@@ -466,23 +489,20 @@ impl<'a> BarChart<'a> {
     ) -> Result<Rect, AllocError>
         requires measures { measures ≡ measures_of self.now }
         requires wide { 0 < self.now.bar_width }
-        requires some { HasRoomAcross self.now.direction area }
-        requires inside { IsInside area buf.old.area }
-        ensures within { ChangesWithin area buf.old buf.new }
-        ensures ok { OnOk result (RendersGroup self.now group.now area buf.old buf.new) }
+        requires across { 0 < cells_across self.now.direction area }
+        requires part { IsPartOf buf.old.area area }
+        ensures done { IsDone (group_drawing self.now group.now area) area result buf.old buf.new }
         ensures rest { let bars = shown_bars self.now group.now area in
             IfOk result (λ rest. rest ≡ after_bars self.now area bars) }
     {
-        let bars = group.bars.as_slice();
-        let along = cells_along(self.direction, area);
-        let count = self.fitting_count(along).min(bars.len());
-        let rest = self.render_bars(&bars[..count], measures, area, buf)?;
-        self.render_label_of(group, count, measures.labels, area, buf)?;
+        let bars = self.shown(group, area);
+        let rest = self.draw_bars(bars, measures, area, buf)?;
+        self.put_label_of(group, bars.len(), measures.labels, area, buf)?;
         Ok(rest)
     }
 
-    // Renders the groups from the left or the top of an area on.
-    fn render_groups(
+    // Draws the groups from the left or the top of an area on.
+    pub(crate) fn draw_groups(
         &self,
         measures: Measures,
         area: Rect,
@@ -490,31 +510,18 @@ impl<'a> BarChart<'a> {
     ) -> Result<(), AllocError>
         requires measures { measures ≡ measures_of self.now }
         requires wide { 0 < self.now.bar_width }
-        requires some { HasRoomAcross self.now.direction area }
-        requires inside { IsInside area buf.old.area }
-        ensures within { ChangesWithin area buf.old buf.new }
-        ensures ok { let groups = self.now.groups.items in
-            OnOk result (RendersGroups self.now area groups buf.old buf.new) }
+        requires across { 0 < cells_across self.now.direction area }
+        requires part { IsPartOf buf.old.area area }
+        ensures { let d = groups_from self.now area self.now.groups.items in
+            IsDone d area result buf.old buf.new }
     {
+        let gap = behind_cut(self.direction, self.group_gap);
         let mut left = area;
         for group in self.groups.as_slice() {
-            let rest = self.render_group(group, measures, left, buf)?;
-            left = area_behind(self.direction, self.group_gap, rest);
+            let rest = self.draw_group(group, measures, left, buf)?;
+            left = gap.of(rest);
         }
         Ok(())
-    }
-
-    // Renders the groups inside the box, if bars have columns.
-    pub(crate) fn render_chart(&self, inner: Rect, buf: &mut Buffer) -> Result<(), AllocError>
-        requires some { IsBoxArea inner }
-        requires inside { IsInside inner buf.old.area }
-        ensures within { ChangesWithin inner buf.old buf.new }
-        ensures ok { OnOk result (ShowsChart self.now inner buf.old buf.new) }
-    {
-        if self.bar_width == 0 {
-            return Ok(());
-        }
-        self.render_groups(self.measures(), inner, buf)
     }
 }
 

@@ -1,8 +1,8 @@
 //! Bar charts: bars in groups, each as long as its share of the greatest value.
 //!
-//! It stands on `ratatui_core`, `rtui_boxes` and `rtui_sparkline`, whose `specs/Levels` says how
-//! high a value is in eighths of a cell and by which symbol a cell shows it. `specs/BarAreas` says
-//! where bars stand, and `specs/BarCharts` of which parts a bar chart is made.
+//! It stands on `ratatui_core`, `rtui_boxes`, `rtui_inside` and `rtui_sparkline`, whose
+//! `specs/Levels` says how high a value is in eighths of a cell and by which symbol a cell shows it.
+//! `specs/BarAreas` says where bars stand, and `specs/BarCharts` what a bar chart draws.
 #![tactic(auto)]
 
 mod area;

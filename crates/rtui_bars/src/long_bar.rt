@@ -1,26 +1,22 @@
 //! Horizontal bars.
 
-ghost use Rattle.std.specs.Prelude.{◌≡◌, ◌≤◌, ◌<◌, ◌+◌, nat_lt, OnOk};
-ghost use Rattle.ratatui_core.specs.Widgets.{ChangesWithin};
-ghost use Rattle.ratatui_core.specs.Layout.{IsInside};
-ghost use Rattle.ratatui_core.specs.Buffer.{ChangesEach};
+ghost use Rattle.std.specs.Prelude.{◌≡◌, ◌<◌, nat_lt};
 ghost use Rattle.ratatui_core.specs.Style.{patch};
-ghost use Rattle.rtui_boxes.specs.Boxes.{IsBoxArea};
-ghost use Rattle.rtui_boxes.specs.{Titles.DoesIf, Lines.RendersIfLine};
-ghost use Rattle.rtui_bars.specs.BarCharts.{long_cell, filled_cells, text_of_bar};
+ghost use Rattle.rtui_drawing.specs.Drawings.{IsDone, IsRowIn, IsPartOf, draw_if};
+ghost use Rattle.rtui_bars.specs.BarCharts.{filled_cells, text_of_bar, line_if, value_over, long_filled};
+ghost use Rattle.rtui_bars.specs.BarCharts.{label_columns, long_cells, long_label, long_value, long_bar};
 ghost use Rattle.rtui_bars.specs.Inner.{measures_of};
-ghost use Rattle.rtui_bars.specs.BarCharts.{WritesOver, RendersLongBar};
 
-use crate::area::{beside_labels, first_columns, rows_at};
+use crate::area::beside_labels;
 use crate::chart::{BarChart, Measures};
 use crate::group::Bar;
 use itoa::Buffer as Digits;
-use ratatui_core::buffer::{Buffer, Cell, CellChange, change_area};
+use ratatui_core::buffer::{Buffer, Cell, CellChange};
 use ratatui_core::layout::{Position, Rect};
 use ratatui_core::style::Style;
 use ratatui_core::symbols::bar;
 use ratatui_core::text::{Line, text_columns};
-use ratatui_core::widgets::Widget;
+use rtui_drawing::{Cut, put_change, put_line, put_style, write};
 use std::alloc::{AllocError, Global};
 
 // The cells of a horizontal bar that fills so many of them.
@@ -33,7 +29,6 @@ struct LongFilling<'b, 'a> {
 }
 
 impl<'b, 'a> CellChange for LongFilling<'b, 'a> {
-    ghost use Rattle.std.specs.Prelude.{⊤};
     ghost use Rattle.rtui_bars.specs.BarCharts.{long_cell};
 
     ghost made = { λ f. long_cell f.set.now f.area f.style f.filled };
@@ -68,76 +63,80 @@ fn write_over(
     row: Rect,
     buf: &mut Buffer,
 ) -> Result<(), AllocError>
-    requires some { IsBoxArea row }
-    requires inside { IsInside row buf.old.area }
-    ensures within { ChangesWithin row buf.old buf.new }
-    ensures ok { OnOk result (WritesOver style text.now count row buf.old buf.new) }
+    requires { IsRowIn buf.old.area row }
+    ensures { IsDone (value_over style text.now count row.width) row result buf.old buf.new }
 {
-    buf.set_stringn(row.x, row.y, text, usize::from(row.width), Style::new())?;
+    write(text, Style::new(), row, buf)?;
     let columns = text_columns(text).min(usize::from(count)) as u16;
-    buf.set_style(first_columns(columns, row), style);
+    put_style(style, Cut::First(columns).of(row), buf);
     Ok(())
 }
 
-// Renders the label of a bar in a row, if it has one.
-fn render_long_label(
-    label: &Option<Line<'_>>,
-    row: Rect,
-    buf: &mut Buffer,
-) -> Result<(), AllocError>
-    ensures within { ChangesWithin row buf.old buf.new }
-    ensures ok { OnOk result (RendersIfLine label.now row buf.old buf.new) }
+// Puts a line over an area, if there is one.
+#[tactic(auto, using(rtui_drawing::proofs::DrawingLemmas::drawing_steps))]
+fn put_if(line: &Option<Line<'_>>, area: Rect, buf: &mut Buffer) -> Result<(), AllocError>
+    ensures { IsDone (line_if line.now) area result buf.old buf.new }
 {
-    match label {
-        Some(line) => line.render(row, buf),
+    match line {
+        Some(line) => put_line(line, area, buf),
         None => Ok(()),
     }
 }
 
 impl<'a> BarChart<'a> {
-    // Fills the cells of a bar.
+    // Fills the cells of a bar, right of the labels.
+    #[tactic(auto, using(crate::proofs::ChartLemmas::bar_steps))]
     fn fill_long_bar(
         &self,
         bar: &Bar<'a>,
         filled: u16,
+        labels: u16,
         area: Rect,
         buf: &mut Buffer,
     ) -> Result<(), AllocError>
-        ensures within { ChangesWithin area buf.old buf.new }
-        ensures ok { let style = patch self.now.bar_style bar.now.style in
-            let f = long_cell self.now.bar_set area style filled in
-            OnOk result (ChangesEach area f buf.old buf.new) }
+        requires labels { labels ≡ label_columns self.now }
+        requires filled { filled ≡ long_filled self.now bar.now area }
+        ensures { IsDone (long_cells self.now bar.now area) area result buf.old buf.new }
     {
+        let part = beside_labels(labels).of(area);
         let filling = LongFilling {
             set: &self.bar_set,
-            area,
+            area: part,
             style: self.bar_style.patch(bar.style),
             filled,
         };
-        change_area(buf, area, &filling)
+        put_change(&filling, part, buf)
     }
 
-    // Writes the value of a bar from the left of a row on, if it has columns.
-    fn write_long_value(
+    // Puts the label of a bar in the middle row, if it has one.
+    #[tactic(auto, using(crate::proofs::ChartLemmas::bar_steps))]
+    fn put_long_label(
+        &self,
+        bar: &Bar<'a>,
+        labels: u16,
+        area: Rect,
+        buf: &mut Buffer,
+    ) -> Result<(), AllocError>
+        requires { labels ≡ label_columns self.now }
+        ensures { IsDone (long_label self.now bar.now area) area result buf.old buf.new }
+    {
+        let row = Cut::Rows(area.height / 2, 1).of(Cut::First(labels).of(area));
+        put_if(&bar.label, row, buf)
+    }
+
+    // Writes the value of a bar from the left of a row on.
+    fn write_text_over(
         &self,
         bar: &Bar<'a>,
         filled: u16,
         row: Rect,
         buf: &mut Buffer,
     ) -> Result<(), AllocError>
-        requires rows { 0 < row.height }
-        requires across { row.x + row.width ≤ 65535 }
-        requires down { row.y + row.height ≤ 65535 }
-        requires inside { IsInside row buf.old.area }
-        ensures within { ChangesWithin row buf.old buf.new }
-        ensures ok { let style = patch self.now.value_style bar.now.value_style in
+        requires { IsRowIn buf.old.area row }
+        ensures { let style = patch self.now.value_style bar.now.value_style in
             let text = text_of_bar bar.now.value bar.now.text_value in
-            let f = WritesOver style text filled row in
-            OnOk result (DoesIf (nat_lt 0 row.width) f buf.old buf.new) }
+            IsDone (value_over style text filled row.width) row result buf.old buf.new }
     {
-        if row.width == 0 {
-            return Ok(());
-        }
         let style = self.value_style.patch(bar.value_style);
         match bar.text_value {
             Some(text) => write_over(text, style, filled, row, buf),
@@ -148,8 +147,51 @@ impl<'a> BarChart<'a> {
         }
     }
 
-    // Renders a horizontal bar in its rows of an area, its label and its value in the middle one.
-    pub(crate) fn render_long_bar(
+    // Writes the value of a bar from the left of a row on, if the row has columns.
+    #[tactic(auto, using(crate::proofs::ChartLemmas::bar_steps))]
+    fn write_long_text(
+        &self,
+        bar: &Bar<'a>,
+        filled: u16,
+        row: Rect,
+        buf: &mut Buffer,
+    ) -> Result<(), AllocError>
+        requires rows { 0 < row.height }
+        requires part { IsPartOf buf.old.area row }
+        ensures { let style = patch self.now.value_style bar.now.value_style in
+            let text = text_of_bar bar.now.value bar.now.text_value in
+            let d = draw_if (nat_lt 0 row.width) (value_over style text filled row.width) in
+            IsDone d row result buf.old buf.new }
+    {
+        if row.width == 0 {
+            return Ok(());
+        }
+        self.write_text_over(bar, filled, row, buf)
+    }
+
+    // Writes the value of a bar in the middle row, right of the labels.
+    #[tactic(auto, using(crate::proofs::ChartLemmas::bar_steps))]
+    fn write_long_value(
+        &self,
+        bar: &Bar<'a>,
+        filled: u16,
+        labels: u16,
+        area: Rect,
+        buf: &mut Buffer,
+    ) -> Result<(), AllocError>
+        requires labels { labels ≡ label_columns self.now }
+        requires filled { filled ≡ long_filled self.now bar.now area }
+        requires rows { 0 < area.height }
+        requires part { IsPartOf buf.old.area area }
+        ensures { IsDone (long_value self.now bar.now area) area result buf.old buf.new }
+    {
+        let row = Cut::Rows(area.height / 2, 1).of(beside_labels(labels).of(area));
+        self.write_long_text(bar, filled, row, buf)
+    }
+
+    // Draws a horizontal bar in its rows of an area, its label and its value in the middle one.
+    #[tactic(auto, using(rtui_drawing::proofs::DrawingLemmas::drawing_steps))]
+    pub(crate) fn draw_long_bar(
         &self,
         bar: &Bar<'a>,
         measures: Measures,
@@ -157,17 +199,15 @@ impl<'a> BarChart<'a> {
         buf: &mut Buffer,
     ) -> Result<(), AllocError>
         requires measures { measures ≡ measures_of self.now }
-        requires some { IsBoxArea area }
-        requires inside { IsInside area buf.old.area }
-        ensures within { ChangesWithin area buf.old buf.new }
-        ensures ok { OnOk result (RendersLongBar self.now bar.now area buf.old buf.new) }
+        requires rows { 0 < area.height }
+        requires part { IsPartOf buf.old.area area }
+        ensures { IsDone (long_bar self.now bar.now area) area result buf.old buf.new }
     {
-        let bars = beside_labels(measures.labels, area);
-        let filled = filled_cells(bar.value, measures.greatest, bars.width);
-        self.fill_long_bar(bar, filled, bars, buf)?;
-        let middle = area.height / 2;
-        let row = rows_at(middle, 1, first_columns(measures.labels, area));
-        render_long_label(&bar.label, row, buf)?;
-        self.write_long_value(bar, filled, rows_at(middle, 1, bars), buf)
+        let labels = measures.labels;
+        let width = beside_labels(labels).of(area).width;
+        let filled = filled_cells(bar.value, measures.greatest, width);
+        self.fill_long_bar(bar, filled, labels, area, buf)?;
+        self.put_long_label(bar, labels, area, buf)?;
+        self.write_long_value(bar, filled, labels, area, buf)
     }
 }
