@@ -15,7 +15,7 @@ use Rattle.text_area.specs.Areas.{area_text}
 use Rattle.rtui_area.specs.declared.plan.Plan.{Plan}
 use Rattle.rtui_area.specs.declared.widget.TextAreaWidget.{TextAreaWidget}
 use Rattle.rtui_area.specs.Columns.{columns_of_grapheme, past}
-use Rattle.rtui_area.specs.TextAreas.{is_empty, is_selected, number_drawing, placeholder_drawing, grapheme_drawing, graphemes_drawing, row_drawing, rows_drawing}
+use Rattle.rtui_area.specs.TextAreas.{is_empty, is_selected, number_drawing, placeholder_drawing, grapheme_drawing, graphemes_drawing, numbered_row_drawing, numbered_rows_drawing}
 
 -- parts of a row are rows
 pub row-first : (own row : Rect) (n : ℕ) → IsRowIn own row → IsRowIn own (cut_from (First n) row)
@@ -40,7 +40,7 @@ row-last own row n is = let l = is.left in let r = is.right in let e = is.edge i
 
 -- no row is left after the last line
 pub rows-none : (w : TextAreaWidget) (p : Plan) (width k n : ℕ) → feeds (area_text w.text.now) < p.top + k
-    → rows_drawing w p width k n ≡ nothing
+    → numbered_rows_drawing w p width k n ≡ nothing
 rows-none w p width k zero lt = refl
 rows-none w p width k (suc n) lt =
     let test : nat_le (p.top + k) (feeds (area_text w.text.now)) ≡ false = grind (arith, nat_tests) in rw test refl
@@ -48,8 +48,8 @@ rows-none w p width k (suc n) lt =
 -- the next row
 pub rows-next : (w : TextAreaWidget) (p : Plan) (width height k number : ℕ) → k < height → number ≡ p.top + k
     → number ≤ feeds (area_text w.text.now)
-    → rows_drawing w p width k (height - k) ≡ (over (Rows k 1) (row_drawing w p width number)
-    before rows_drawing w p width (k + 1) (height - (k + 1)))
+    → numbered_rows_drawing w p width k (height - k) ≡ (over (Rows k 1) (numbered_row_drawing w p width number)
+    before numbered_rows_drawing w p width (k + 1) (height - (k + 1)))
 rows-next w p width height k number lt is le =
     let more : height - k ≡ suc (height - (k + 1)) = omega arith in
     let test : nat_le (p.top + k) (feeds (area_text w.text.now)) ≡ true = grind (arith, nat_tests) in
@@ -57,7 +57,7 @@ rows-next w p width height k number lt is le =
 
 -- nothing is left behind the last row
 pub rows-end : (w : TextAreaWidget) (p : Plan) (width height k : ℕ) → height ≤ k
-    → rows_drawing w p width k (height - k) ≡ nothing
+    → numbered_rows_drawing w p width k (height - k) ≡ nothing
 rows-end w p width height k le = let none : height - k ≡ 0 = omega arith in rw none refl
 
 -- the next grapheme

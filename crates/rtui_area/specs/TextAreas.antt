@@ -72,18 +72,18 @@ number_drawing w p width i =
     (put_pieces (text_pieces n (unwrap_or w.line_numbers new_style) text)))
 
 -- a row with the line of a number: the style of the cursor's line, if it is that, the number, and the line
-abbrev pub row_drawing : TextAreaWidget → Plan → ℕ → ℕ → Drawing
-row_drawing w p width i =
+abbrev pub numbered_row_drawing : TextAreaWidget → Plan → ℕ → ℕ → Drawing
+numbered_row_drawing w p width i =
     draw_if (i == p.row) (put_style w.cursor_line_style)
     before number_drawing w p width i
     before over (After p.numbers) (line_drawing w p (width - p.numbers) i)
 
 -- so many rows from one on, as far as there are lines
-abbrev pub rows_drawing : TextAreaWidget → Plan → ℕ → ℕ → ℕ → Drawing
-rows_drawing w p width k zero = nothing
-rows_drawing w p width k (suc n) =
-    draw_if (nat_le (p.top + k) (feeds (area_text w.text.now))) (over (Rows k 1) (row_drawing w p width (p.top + k))
-    before rows_drawing w p width (k + 1) n)
+abbrev pub numbered_rows_drawing : TextAreaWidget → Plan → ℕ → ℕ → ℕ → Drawing
+numbered_rows_drawing w p width k zero = nothing
+numbered_rows_drawing w p width k (suc n) =
+    draw_if (nat_le (p.top + k) (feeds (area_text w.text.now))) (over (Rows k 1) (numbered_row_drawing w p width (p.top + k))
+    before numbered_rows_drawing w p width (k + 1) n)
 
 -- a text that is empty
 abbrev pub is_empty : List ℕ → Bool
@@ -98,7 +98,7 @@ placeholder_drawing w p width =
 
 -- all that a plan shows in an area
 abbrev pub planned_drawing : TextAreaWidget → Plan → Rect → Drawing
-planned_drawing w p r = rows_drawing w p r.width 0 r.height before placeholder_drawing w p r.width
+planned_drawing w p r = numbered_rows_drawing w p r.width 0 r.height before placeholder_drawing w p r.width
 
 -- what is drawn in an area, if the view was this one before
 abbrev pub area_drawing : TextAreaWidget → AreaView → Rect → Drawing

@@ -15,7 +15,7 @@ ghost use Rattle.text_area.specs.Areas.{area_text};
 ghost use Rattle.rtui_area.specs.Columns.{past, columns_of_grapheme};
 ghost use Rattle.rtui_area.specs.TextAreas.{grapheme_drawing, graphemes_drawing, is_selected};
 ghost use Rattle.rtui_area.specs.TextAreas.{front_text, back_text, line_drawing, number_drawing};
-ghost use Rattle.rtui_area.specs.TextAreas.{row_drawing, rows_drawing, placeholder_drawing};
+ghost use Rattle.rtui_area.specs.TextAreas.{numbered_row_drawing, numbered_rows_drawing, placeholder_drawing};
 ghost use Rattle.rtui_area.specs.TextAreas.{planned_drawing};
 
 use crate::columns::{columns_of_grapheme, past};
@@ -237,7 +237,7 @@ impl<'a> TextAreaWidget<'a> {
         requires numbers { plan.now.numbers ≤ row.width }
         requires start { start ≡ nth_start number (area_text self.now.text.now) }
         requires boundary { IsCharBoundary (area_text self.now.text.now) start }
-        ensures done { let d = row_drawing self.now plan.now row.width number in
+        ensures done { let d = numbered_row_drawing self.now plan.now row.width number in
             IsDone d row result buf.old buf.new }
         ensures area { buf.new.area ≡ buf.old.area }
     {
@@ -260,7 +260,7 @@ impl<'a> TextAreaWidget<'a> {
         requires within { plan.now.top ≤ feeds (area_text self.now.text.now) }
         requires first { first ≡ nth_start plan.now.top (area_text self.now.text.now) }
         requires boundary { IsCharBoundary (area_text self.now.text.now) first }
-        ensures done { let d = rows_drawing self.now plan.now inner.width 0 inner.height in
+        ensures done { let d = numbered_rows_drawing self.now plan.now inner.width 0 inner.height in
             IsDone d inner result buf.old buf.new }
         ensures area { buf.new.area ≡ buf.old.area }
     {
@@ -283,7 +283,7 @@ impl<'a> TextAreaWidget<'a> {
         requires some { IsBoxArea inner }
         requires inside { IsInside inner buf.old.area }
         requires numbers { plan.now.numbers < inner.width }
-        ensures done { let d = rows_drawing self.now plan.now inner.width 0 inner.height in
+        ensures done { let d = numbered_rows_drawing self.now plan.now inner.width 0 inner.height in
             IsDone d inner result buf.old buf.new }
         ensures area { buf.new.area ≡ buf.old.area }
     {

@@ -3,7 +3,7 @@ use Rattle.std.specs.Str.{IsCharBoundary}
 use Rattle.text_area.specs.Lines.{feeds, nth_start}
 use Rattle.text_area.specs.Areas.{area_text}
 use Rattle.rtui_drawing.specs.Laws.{Continues}
-use Rattle.rtui_area.specs.TextAreas.{rows_drawing}
+use Rattle.rtui_area.specs.TextAreas.{numbered_rows_drawing}
 use Rattle.rtui_area.proofs.widget.TextAreaWidget.draw_rows_from.Given as goal
 
 -- the rows that are left are to be drawn, and the next line begins here
@@ -14,6 +14,6 @@ invariant-loop-k l = record {
   start : l.start ≡ nth_start l.number (area_text l.fn.self.text.now);
   boundary : IsCharBoundary (area_text l.fn.self.text.now) l.start;
   area : l.buf.area ≡ l.fn.buf.area;
-  rest : Continues (rows_drawing l.fn.self l.fn.plan l.fn.inner.width l.k (l.fn.inner.height - l.k)) l.fn.inner
-      (rows_drawing l.fn.self l.fn.plan l.fn.inner.width 0 l.fn.inner.height) l.fn.inner l.fn.buf l.buf;
+  rest : Continues (numbered_rows_drawing l.fn.self l.fn.plan l.fn.inner.width l.k (l.fn.inner.height - l.k)) l.fn.inner
+      (numbered_rows_drawing l.fn.self l.fn.plan l.fn.inner.width 0 l.fn.inner.height) l.fn.inner l.fn.buf l.buf;
 }
