@@ -1,0 +1,136 @@
+//! Rows: a text in a size, and what it shows.
+
+use crate::shown::{cursor_in, rows_in};
+use ratatui_core::buffer::Buffer;
+use ratatui_core::layout::Rect;
+use ratatui_core::style::Style;
+use ratatui_core::widgets::StatefulWidget;
+use rtui_area::{AreaView, TextAreaWidget};
+use rtui_boxes::Block;
+use std::alloc::{AllocError, Global};
+use text_area::{Extent, Move, TextArea};
+
+// A row as it is written.
+#[derive(Drop)]
+pub struct Row<'a> {
+    width: u16,
+    height: u16,
+    words: &'a str,
+    text: &'a str,
+}
+
+// The character that a letter after a backslash stands for.
+fn named(letter: char) -> char {
+    match letter {
+        'n' => '\n',
+        't' => '\t',
+        'e' => '\u{1b}',
+        's' => ' ',
+        other => other,
+    }
+}
+
+// A text without backslashes.
+fn unescaped(alloc: Global, text: &str) -> Result<String, AllocError> {
+    let mut plain = String::new(alloc);
+    let mut is_named = false;
+    for c in text.chars() {
+        if is_named {
+            plain.push(named(c))?;
+            is_named = false;
+        } else if c == '\\' {
+            is_named = true;
+        } else {
+            plain.push(c)?;
+        }
+    }
+    Ok(plain)
+}
+
+// An area of a text with the cursor at its mark.
+fn area_of(alloc: Global, text: &str) -> Result<TextArea, AllocError> {
+    let (before, after) = match text.split_once('|') {
+        Some(parts) => parts,
+        None => (text, ""),
+    };
+    let whole = unescaped(alloc, after)?;
+    let mut area = TextArea::from_text(alloc, whole)?;
+    let front = unescaped(alloc, before)?;
+    if front.as_str().contains('\u{1b}') {
+        area = TextArea::from_text(alloc, front)?;
+        area.go(Move::Right(Extent::Text));
+    } else {
+        area.insert_str(front.as_str())?;
+    }
+    Ok(area)
+}
+
+// A number, or 0.
+fn number(text: &str) -> u16 {
+    match text.parse::<u16>() {
+        Ok(number) => number,
+        Err(_) => 0,
+    }
+}
+
+// A widget with what a word says.
+fn with_word<'a>(alloc: Global, widget: TextAreaWidget<'a>, word: &'a str) -> TextAreaWidget<'a> {
+    match word.split_once(':') {
+        Some(("tab", columns)) => widget.tab_width(number(columns)),
+        Some(("ask", text)) => widget.placeholder(text, Style::new()),
+        Some(_) => widget,
+        None => match word {
+            "numbers" => widget.line_numbers(Style::new()),
+            "box" => widget.block(Block::bordered(alloc)),
+            _ => widget,
+        },
+    }
+}
+
+// A view with what a word says.
+fn view_with(view: AreaView, word: &str) -> AreaView {
+    match word.split_once(':') {
+        Some(("top", line)) => AreaView {
+            top: usize::from(number(line)),
+            ..view
+        },
+        Some(("left", column)) => AreaView {
+            left: usize::from(number(column)),
+            ..view
+        },
+        _ => view,
+    }
+}
+
+impl<'a> Row<'a> {
+    // Reads a row, but what it wants.
+    pub fn read(line: &'a str) -> Option<Row<'a>> {
+        let (size, rest) = line.split_once('\t')?;
+        let (words, rest) = rest.split_once('\t')?;
+        let (text, _) = rest.split_once('\t')?;
+        let (width, height) = size.split_once('x')?;
+        Some(Row {
+            width: number(width),
+            height: number(height),
+            words,
+            text,
+        })
+    }
+
+    // What the text shows, and where its cursor stands.
+    pub fn shown(&self, alloc: Global) -> Result<String, AllocError> {
+        let area = area_of(alloc, self.text)?;
+        let mut widget = TextAreaWidget::new(&area);
+        let mut view = AreaView::new();
+        for word in self.words.split(' ') {
+            widget = with_word(alloc, widget, word);
+            view = view_with(view, word);
+        }
+        let part = Rect::new(0, 0, self.width, self.height);
+        let mut buffer = Buffer::empty(alloc, part)?;
+        StatefulWidget::render(&widget, part, &mut buffer, &mut view)?;
+        let rows = rows_in(alloc, &buffer)?;
+        let cursor = cursor_in(alloc, view)?;
+        format!(in alloc; "{rows}\t{cursor}")
+    }
+}
