@@ -1,0 +1,111 @@
+//! What is shown of an editor.
+
+use editor::{Editor, Mode, Note};
+use ratatui_core::layout::{Constraint, Layout, Rect, SplitArea, SplitInto};
+use ratatui_core::style::{Style, Stylize};
+use ratatui_core::terminal::Frame;
+use ratatui_core::text::Line;
+use rtui_area::{AreaView, TextAreaWidget};
+use rtui_field::{Input, cursor_position};
+use std::alloc::AllocError;
+
+// What is shown, and where the view of the text is.
+#[derive(Drop)]
+pub struct Screen {
+    view: AreaView,
+}
+
+// What is told in the last row.
+fn told(note: &Note) -> &str {
+    match note {
+        Note::None => "^S save  ^Q leave  ^F find  ^G line",
+        Note::Saved => "saved",
+        Note::NotFound => "not found after the cursor",
+        Note::NoLine => "no number of a line",
+        Note::NoMemory => "no memory",
+        Note::Told(text) => text.as_str(),
+    }
+}
+
+// Draws the field after a word, and shows the cursor there.
+fn draw_prompt(
+    editor: &mut Editor,
+    word: &str,
+    frame: &mut Frame<'_>,
+    foot: Rect,
+) -> Result<(), AllocError> {
+    let layout = Layout::horizontal(editor.alloc, &[Constraint::Length(6), Constraint::Fill(1)])?;
+    let [left, right]: [Rect; 2] = layout.areas(foot);
+    frame.render_widget(Line::raw(editor.alloc, word)?.bold(), left)?;
+    frame.render_stateful_widget(Input::new(), right, &mut editor.field)?;
+    if let Some(position) = cursor_position(&editor.field) {
+        frame.set_cursor_position(position);
+    }
+    Ok(())
+}
+
+// Draws a question.
+fn draw_question(
+    editor: &Editor,
+    question: &str,
+    frame: &mut Frame<'_>,
+    foot: Rect,
+) -> Result<(), AllocError> {
+    frame.render_widget(Line::raw(editor.alloc, question)?.bold(), foot)
+}
+
+// Draws the name, the cursor's line and column, whether the text is changed, and what is told.
+fn draw_status(editor: &Editor, frame: &mut Frame<'_>, foot: Rect) -> Result<(), AllocError> {
+    let (line, column) = editor.area.cursor();
+    let line = line.saturating_add(1);
+    let column = column.saturating_add(1);
+    let changed = if editor.is_changed() { " changed" } else { "" };
+    let told = told(&editor.note);
+    let name = editor.name.as_str();
+    let text = format!(in editor.alloc; " {name} {line}:{column}{changed}  {told}")?;
+    let line = Line::raw_string(editor.alloc, text)?.reversed();
+    frame.render_widget(line, foot)
+}
+
+impl Screen {
+    // A screen that shows a text from its start on.
+    pub fn new() -> Screen {
+        Screen {
+            view: AreaView::new(),
+        }
+    }
+
+    // Draws the text of an editor, and in the last row what there is to tell or to type.
+    pub fn draw(&mut self, editor: &mut Editor, frame: &mut Frame<'_>) -> Result<(), AllocError> {
+        let layout = Layout::vertical(editor.alloc, &[Constraint::Fill(1), Constraint::Length(1)])?;
+        let [body, foot]: [Rect; 2] = layout.areas(frame.area());
+        editor.set_page(usize::from(body.height.saturating_sub(1)));
+        self.draw_text(editor, frame, body)?;
+        match editor.mode {
+            Mode::Finding => draw_prompt(editor, "Find: ", frame, foot),
+            Mode::GoingTo => draw_prompt(editor, "Line: ", frame, foot),
+            Mode::Leaving => draw_question(editor, "Leave without saving? y/n", frame, foot),
+            Mode::Replacing => {
+                draw_question(editor, "The file changed. Replace it? y/n", frame, foot)
+            }
+            Mode::Typing | Mode::Found | Mode::Over => draw_status(editor, frame, foot),
+        }
+    }
+
+    // Draws the text, and shows the cursor there.
+    fn draw_text(
+        &mut self,
+        editor: &Editor,
+        frame: &mut Frame<'_>,
+        body: Rect,
+    ) -> Result<(), AllocError> {
+        let widget = TextAreaWidget::new(&editor.area)
+            .line_numbers(Style::new().dim())
+            .placeholder("Type a text", Style::new().dim());
+        frame.render_stateful_widget(widget, body, &mut self.view)?;
+        if let Some(position) = self.view.cursor {
+            frame.set_cursor_position(position);
+        }
+        Ok(())
+    }
+}

@@ -1,0 +1,114 @@
+//! The program `edit`: the smallest editor of a text.
+//!
+//! `edit FILE` shows the file, or nothing if there is none of that name. Ctrl+S saves, Ctrl+Q leaves,
+//! after a question if something isn't saved; Ctrl+F finds a pattern, and `n` finds it again; Ctrl+G
+//! goes to a line; Alt+U undoes a change, and Alt+E does it again. The other keys are those of a text
+//! area. The terminal has to be in raw mode: `tools/raw edit FILE` sees to that.
+//!
+//! A save writes `FILE.new~` beside the file, and renames it; if the file isn't what was read or saved
+//! last, it asks. What can't be saved is told in the last row, and nothing is lost. Each line break is
+//! saved as a line feed. What isn't a terminal ends with its last byte, and then nothing is saved.
+#![tactic(auto)]
+
+mod draw;
+mod file;
+mod window;
+
+use crate::draw::Screen;
+use crate::file::OnDisk;
+use crate::window::{Window, is_terminal};
+use editor::{Editor, Note, Request};
+use ratatui_ansi::{AnsiBackend, size_told};
+use ratatui_core::terminal::Terminal;
+use ratatui_input::EventReader;
+use std::env;
+use std::io::BufWriter;
+use std::process::ExitCode;
+
+// Saves the text of an editor, and tells it what came of it.
+fn save(rt: &HostRuntime, editor: &mut Editor, disk: &mut OnDisk, is_asked: bool) {
+    match disk.is_same(rt) {
+        Ok(false) if !is_asked => {
+            editor.ask_replace();
+            return;
+        }
+        Ok(_) => {}
+        Err(error) => {
+            if !is_asked {
+                tell(rt, editor, "not read", &error);
+                return;
+            }
+        }
+    }
+    let Ok(text) = editor.copied_text() else {
+        editor.tell(Note::NoMemory);
+        return;
+    };
+    match disk.save(rt, editor) {
+        Ok(()) => editor.take_saved(text),
+        Err(error) => tell(rt, editor, "not saved", &error),
+    }
+}
+
+// Tells an error in the last row.
+fn tell(rt: &HostRuntime, editor: &mut Editor, what: &str, error: &std::io::Error) {
+    let note = match format!(in rt.alloc(); "{what}: {error}") {
+        Ok(text) => Note::Told(text),
+        Err(_) => Note::NoMemory,
+    };
+    editor.tell(note);
+}
+
+// Edits a file until the editor is over or its input ends.
+fn edit(rt: &HostRuntime, path: &str) -> anyhow::Result<()> {
+    let alloc = rt.alloc();
+    let (mut disk, text) = OnDisk::read(rt, path)?;
+    let mut editor = Editor::new(alloc, path, text)?;
+    let writer = BufWriter::new(alloc, rt.stdout())?;
+    let backend = AnsiBackend::new_on_alternate_screen(alloc, writer, size_told(rt))?;
+    let mut terminal = Terminal::new(alloc, backend)?;
+    let mut events = EventReader::new(rt.reader());
+    let mut window = Window::new();
+    let has_ticks = is_terminal(rt);
+    let mut screen = Screen::new();
+    terminal.draw(|frame| screen.draw(&mut editor, frame))?;
+    for _ in 0..u64::MAX {
+        let event = events.read()?;
+        window.follow(event, &mut terminal)?;
+        if let Some(event) = event {
+            match editor.take(&event) {
+                Ok(Request::Nothing) => {}
+                Ok(Request::Save) => save(rt, &mut editor, &mut disk, false),
+                Ok(Request::Replace) => save(rt, &mut editor, &mut disk, true),
+                Err(_) => editor.tell(Note::NoMemory),
+            }
+            terminal.draw(|frame| screen.draw(&mut editor, frame))?;
+        }
+        let is_end = event.is_none() && !has_ticks;
+        if is_end || editor.is_over() {
+            break;
+        }
+    }
+    terminal.into_backend().leave()?;
+    Ok(())
+}
+
+fn start(rt: &HostRuntime) -> anyhow::Result<ExitCode> {
+    let words: Vec<String> = env::args(rt)?.collect(rt.alloc())?;
+    if words.len() != 2 {
+        eprintln!(rt; "usage: edit FILE")?;
+        return Ok(ExitCode::from(2));
+    }
+    edit(rt, words[1].as_str())?;
+    Ok(ExitCode::SUCCESS)
+}
+
+fn main(rt: HostRuntime) -> ExitCode {
+    match start(&rt) {
+        Ok(status) => status,
+        Err(error) => {
+            let _ = eprintln!(rt; "edit: {error}");
+            ExitCode::FAILURE
+        }
+    }
+}
