@@ -27,9 +27,11 @@ use text_area::TextArea;
 /// control character as one blank. Lines are not wrapped.
 ///
 /// ```
-/// let widget = TextAreaWidget::new(&area).line_numbers(Style::new().dim());
-/// frame.render_stateful_widget(widget, rect, &mut view)?;
-/// if let Some(position) = view.cursor {
+/// let widget = TextAreaWidget::new(&editor.area)
+///     .line_numbers(Style::new().dim())
+///     .placeholder("Type a text", Style::new().dim());
+/// frame.render_stateful_widget(widget, body, &mut self.view)?;
+/// if let Some(position) = self.view.cursor {
 ///     frame.set_cursor_position(position);
 /// }
 /// ```
