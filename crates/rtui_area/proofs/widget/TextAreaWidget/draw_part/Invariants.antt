@@ -1,6 +1,6 @@
 use Rattle.std.proofs.Common.{◌≡◌, true, length}
 use Rattle.unicode_segmentation.specs.{Grapheme.graphemes, Iter.graphemes_left}
-use Rattle.rtui_drawing.specs.Laws.{Continues}
+use Rattle.rtui_drawing.proofs.Laws.{Continues}
 use Rattle.rtui_area.specs.TextAreas.{graphemes_drawing}
 use Rattle.rtui_area.proofs.widget.TextAreaWidget.draw_part.Given as goal
 

@@ -2,7 +2,7 @@ use Rattle.std.proofs.Common.{◌≡◌, ◌+◌, ◌-◌, ◌≤◌}
 use Rattle.std.specs.Str.{IsCharBoundary}
 use Rattle.text_area.specs.Lines.{feeds, nth_start}
 use Rattle.text_area.specs.Areas.{area_text}
-use Rattle.rtui_drawing.specs.Laws.{Continues}
+use Rattle.rtui_drawing.proofs.Laws.{Continues}
 use Rattle.rtui_area.specs.TextAreas.{numbered_rows_drawing}
 use Rattle.rtui_area.proofs.widget.TextAreaWidget.draw_rows_from.Given as goal
 
