@@ -27,14 +27,15 @@ use std::process::ExitCode;
 
 // Saves the text of an editor, and tells it what came of it.
 fn save(rt: &HostRuntime, editor: &mut Editor, disk: &mut OnDisk, is_asked: bool) {
-    match disk.is_same(rt) {
-        Ok(false) if !is_asked => {
-            editor.ask_replace();
-            return;
-        }
-        Ok(_) => {}
-        Err(error) => {
-            if !is_asked {
+    if !is_asked {
+        match disk.is_same(rt) {
+            Ok(is_same) => {
+                if !is_same {
+                    editor.ask_replace();
+                    return;
+                }
+            }
+            Err(error) => {
                 tell(rt, editor, "not read", &error);
                 return;
             }
