@@ -59,7 +59,9 @@ class Play:
         self.size(*size)
 
     def become(self, words, source, folder):
-        """Becomes the program, in the child. It begins once the terminal has its size."""
+        """Becomes the program, in the child. It begins once the terminal has its size, and takes signals also where this was begun without them."""
+        for number in (signal.SIGINT, signal.SIGQUIT, signal.SIGTSTP):
+            signal.signal(number, signal.SIG_DFL)
         try:
             os.chdir(folder)
             for _ in range(100):
