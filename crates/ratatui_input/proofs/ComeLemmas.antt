@@ -493,7 +493,7 @@ unfolding after_opened
 opened-follows {opener = opener} b o =
     if-follows (27 ∷ opener ∷ b ∷ []) (may_be_in_string b) _ _ (λ e. text_comes b [] o (text-asked b e, tt)) (λ n. tt)
 
-string-some : (opener t : ℕ) (ts : List ℕ) → 27 ∷ opener ∷ t ∷ ts ≢ []
+pub string-some : (opener t : ℕ) (ts : List ℕ) → 27 ∷ opener ∷ t ∷ ts ≢ []
 string-some opener t ts e = cc
 
 text-follows : {opener : ℕ} (t : ℕ) (ts : List ℕ) (b : ℕ) → IsOpener opener → AreText (t ∷ ts)

@@ -24,6 +24,7 @@ use Rattle.ratatui_input.proofs.StandLemmas.{not_known, opener_stands}
 use Rattle.ratatui_input.proofs.ComeLemmas.{HasCome, Follows, nothing, follows, first-follows, first-joined, IsCut, escape_comes}
 use Rattle.ratatui_input.proofs.ComeLemmas.{cut-stands, single_comes, bracket_comes, function_comes, numbers_come, click_comes}
 use Rattle.ratatui_input.proofs.ComeLemmas.{button_comes, column_comes, opened_comes, text_comes, text_escape_comes, character_comes}
+use Rattle.ratatui_input.proofs.ComeLemmas.{string-some}
 use Rattle.std.specs.Prelude.{◌==◌}
 use Rattle.ratatui_input.specs.Grammar.{IsOpener, AreText}
 
@@ -152,9 +153,6 @@ begins-anew (Some e) p s come b bs small eq c leads ih =
 escape-leads : Leads Ground (27 ∷ []) Escape
 unfolding stepped first
 escape-leads = leads-one Ground Escape 27 refl
-
-string-some : (opener t : ℕ) (ts : List ℕ) → 27 ∷ opener ∷ t ∷ ts ≢ []
-string-some opener t ts e = cc
 
 over-then : (p : Bool) (opener t : ℕ) (ts : List ℕ) (n : Next) (b : ℕ) (bs : List ℕ) → IsOpener opener → AreText (t ∷ ts)
     → IsReadInPieces (read p Unknown).1 (27 ∷ b ∷ bs) (let t = fresh n (read p Unknown).1 in let u = decoded t.1 bs in

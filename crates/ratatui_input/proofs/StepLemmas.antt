@@ -185,14 +185,6 @@ bracket-two (b ∷ ds) es n m w small v less =
     ∙ w.number) small))
     (second-read Keys n es m v less)
 
--- the same after a colon and further codes, which are read over
-pub second-after : (parts f : ℕ) (es : List ℕ) (n : ℕ) → WritesNumber es n → n < 2 ^ 32
-    → Leads (Numbers (seq Keys 0 parts f 0 0 0)) (59 ∷ es) (at_second Keys f n)
-unfolding stepped in_sequence pushed
-second-after parts f es n w small =
-    leads-cons (Numbers (seq Keys 0 parts f 0 0 0)) (at_second Keys f 0) (at_second Keys f n) 59 es refl
-    (number-read (at_second Keys f) (second-digit Keys f) es n w small)
-
 -- a first number, and a colon
 pub bracket-colon : (ds : List ℕ) (n : ℕ) → WritesNumber ds n → n < 2 ^ 32
     → Leads Bracket (ds ++ (58 ∷ [])) (Numbers (seq Keys 0 1 n 0 0 0))
