@@ -1,9 +1,11 @@
 -- A text area in an area: what is drawn of it.
-use Rattle.std.specs.Prelude.{◌≡◌, ℕ, zero, suc, ◌+◌, ◌-◌, ◌==◌, ◌&&◌, not, min, Bool, true, false, List, [], ◌∷◌, length}
+use Rattle.std.specs.Prelude.{◌≡◌, ℕ, zero, suc, ◌+◌, ◌-◌, ◌==◌, ◌&&◌, not, min, Bool, true, false}
+use Rattle.std.specs.Prelude.{List, [], ◌∷◌, length}
 use Rattle.std.specs.Prelude.{Option, Some, None, nat_le, nat_lt, if◌then◌else◌, unwrap_or, is_some}
 use Rattle.std.specs.Fmt.{decimal}
 use Rattle.unicode_segmentation.specs.Grapheme.{graphemes}
-use Rattle.ratatui_core.specs.{Layout.Rect, Style.Style, Style.new_style, Style.with_modifier, Style.modifier_of}
+use Rattle.ratatui_core.specs.{Layout.Rect, Style.Style, Style.new_style}
+use Rattle.ratatui_core.specs.{Style.with_modifier, Style.modifier_of}
 use Rattle.ratatui_core.specs.Buffer.{BufferData, text_pieces}
 use Rattle.rtui_drawing.specs.declared.cut.Cut.TheVariants.{First, After, Last, Rows}
 use Rattle.rtui_drawing.specs.Drawings.{Drawing, nothing, over, ◌before◌, draw_if, put_style, put_pieces}
@@ -42,16 +44,16 @@ grapheme_drawing w p room column byte g =
     over (After x) (over (First n) (draw_if (is_selected p byte) (put_style w.selection_style))
     before draw_if (nat_le p.left column) (put_pieces (text_pieces (room - x) new_style g)))
 
--- graphemes of a line one after the other, the first of which begins in a column and at a byte, up to the row's
--- end
+-- graphemes of a line one after the other, the first of which begins in a column and at a byte, up to the
+-- row's end
 abbrev pub graphemes_drawing : TextAreaWidget → Plan → ℕ → ℕ → ℕ → List (List ℕ) → Drawing
 graphemes_drawing w p room column byte [] = nothing
 graphemes_drawing w p room column byte (g ∷ gs) =
     draw_if (nat_lt (column - p.left) room) (grapheme_drawing w p room column byte g
     before graphemes_drawing w p room (past column (columns_of_grapheme w.tab column g)) (past byte (length g)) gs)
 
--- The line of a number. The cursor's line is read in two parts, before the cursor and after it, as each is edited:
--- so the cursor stands where a grapheme begins.
+-- The line of a number. The cursor's line is read in two parts, before the cursor and after it, as each is
+-- edited: so the cursor stands where a grapheme begins.
 abbrev pub front_text : TextAreaWidget → Plan → ℕ → List ℕ
 front_text w p i = if i == p.row then last_line (area_before w.text.now) else nth_line i (area_text w.text.now)
 
@@ -104,8 +106,8 @@ planned_drawing w p r = numbered_rows_drawing w p r.width 0 r.height before plac
 abbrev pub area_drawing : TextAreaWidget → AreaView → Rect → Drawing
 area_drawing w v r = planned_drawing w (plan_of w v r) r
 
--- A text area over the part of an area that a buffer has: its style, its box, and inside, if there are cells, its
--- lines in view; the view follows the cursor. Nothing outside the area changes. Without cells inside only the
+-- A text area over the part of an area that a buffer has: its style, its box, and inside, if there are cells,
+-- its lines in view; the view follows the cursor. Nothing outside the area changes. Without cells inside only the
 -- cursor's place is forgotten.
 abbrev pub RendersArea : TextAreaWidget → AreaView → AreaView → Rect → BufferData → BufferData → Type 0
 RendersArea w v = DrawsStateInside w.style w.block (area_drawing w) (next_view w) (cursor_forgotten v)
