@@ -1,5 +1,6 @@
 -- What events make of an editor.
-use Rattle.std.specs.Prelude.{◌≡◌, ◌⊎◌, ◌≢◌, ℕ, Bool, true, false, List, Option, Some, None, string_bytes, Result, OnOk, OnErr, IfOk, ⊤}
+use Rattle.std.specs.Prelude.{◌≡◌, ◌⊎◌, ◌≢◌, ℕ, Bool, true, false, List, Option, Some, None}
+use Rattle.std.specs.Prelude.{string_bytes, Result, OnOk, OnErr, IfOk, ⊤}
 use Rattle.std.specs.declared.alloc.AllocError.{AllocError}
 use Rattle.ratatui_events.specs.declared.event.Event.{Event}
 use Rattle.text_area.specs.Areas.{AreaData, area_text}
@@ -7,7 +8,8 @@ use Rattle.text_area.specs.AreaKeys.{area_edit_of, area_edited_if}
 use Rattle.editor.specs.declared.keys.Command.{Command}
 use Rattle.editor.specs.declared.keys.Command.TheVariants as command
 use Rattle.editor.specs.declared.editor.Mode.{Mode}
-use Rattle.editor.specs.declared.editor.Mode.TheVariants.{Typing, Found, Finding, GoingTo, Leaving, Replacing, Over}
+use Rattle.editor.specs.declared.editor.Mode.TheVariants.{Typing, Found, Finding, GoingTo}
+use Rattle.editor.specs.declared.editor.Mode.TheVariants.{Leaving, Replacing, Over}
 use Rattle.editor.specs.declared.editor.Request.{Request}
 use Rattle.editor.specs.declared.editor.Request.TheVariants.{Nothing, Save, Replace}
 use Rattle.editor.specs.declared.editor.Editor.{Editor}
@@ -50,7 +52,8 @@ IsForText Typing = ⊤
 IsForText Found = ⊤
 IsForText _ = ⊥
 
--- What any event keeps: the text as it was read or saved last, and, unless events are taken for the text, the text.
+-- What any event keeps: the text as it was read or saved last, and, unless events are taken for the text,
+-- the text.
 -- The editor ends only if it had ended, if it was asked and the answer was yes, or if its text is saved.
 pub record Keeps (event : Event) (old new : Editor) : Type 0 where
   pub saved : string_bytes new.saved ≡ string_bytes old.saved
