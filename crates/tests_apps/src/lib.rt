@@ -1,12 +1,17 @@
 //! Tests of what stands on `ratatui_core`, which no row of text can say: areas divided by each
-//! call, widgets on a buffer, the examples of `guide` on a screen in memory, logs that are read and
-//! written by what fails, and what programs tell.
+//! call, drawings, widgets on a buffer, the examples of `guide` on a screen in memory, one of them
+//! under another name, which is proved as it stands, logs that are read and written by what fails,
+//! and what programs tell.
 #![tactic(auto)]
 
 #[cfg(test)]
 mod areas;
 #[cfg(test)]
 mod boxes;
+#[cfg(test)]
+mod calls;
+#[cfg(test)]
+mod cuts;
 #[cfg(test)]
 mod examples;
 #[cfg(test)]
@@ -15,3 +20,8 @@ mod gauges;
 mod logs;
 #[cfg(test)]
 mod printing;
+mod tag;
+#[cfg(test)]
+mod widgets;
+
+pub use tag::Tag;

@@ -23,7 +23,7 @@ pub struct Tag<'a> {
 
 // The colour, and the line over it.
 impl<'a> DrawInside for Tag<'a> {
-    ghost use Rattle.tests_drawing.specs.Tags.{tag_drawing};
+    ghost use Rattle.tests_apps.specs.Tags.{tag_drawing};
 
     ghost drawing = { tag_drawing };
 
@@ -36,7 +36,7 @@ impl<'a> DrawInside for Tag<'a> {
 
 /// Over the area, as far as the buffer has it: the box, and inside the colour with the line on it.
 impl<'b, 'a> Widget for &'b Tag<'a> {
-    ghost use Rattle.tests_drawing.specs.Tags.{RendersTag, LeavesTag, IsShortTag};
+    ghost use Rattle.tests_apps.specs.Tags.{RendersTag, LeavesTag, IsShortTag};
 
     ghost renders = { λ tag. RendersTag tag.now };
 

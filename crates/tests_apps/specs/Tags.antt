@@ -2,7 +2,7 @@
 use Rattle.ratatui_core.specs.{Layout.Rect, Style.new_style, Buffer.BufferData}
 use Rattle.rtui_drawing.specs.Drawings.{Drawing, ◌before◌, put_style, put_line}
 use Rattle.rtui_inside.specs.Inside.{DrawsInside, LeavesInside, IsShortInside}
-use Rattle.tests_drawing.specs.declared.tag.Tag.{Tag}
+use Rattle.tests_apps.specs.declared.tag.Tag.{Tag}
 
 -- its colour, and its line over it
 abbrev pub tag_drawing : Tag → Rect → Drawing

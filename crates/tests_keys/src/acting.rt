@@ -1,4 +1,4 @@
-//! A counter run over bytes that come in pieces.
+//! A counter that acts, run over bytes that come in pieces.
 
 use acts_app::{Counter, OnScreen, run_and_leave, run_inline_and_leave};
 use ratatui_acts::{Fault, Nothing, Seat, run};
