@@ -5,6 +5,7 @@
 #![tactic(auto)]
 
 use acts_app::{Counter, run_and_leave};
+use programs::{Stream, is_terminal};
 use ratatui_acts::{Nothing, Seat};
 use ratatui_ansi::{AnsiBackend, size_told};
 use std::io::BufWriter;
@@ -22,7 +23,7 @@ fn main(rt: HostRuntime) -> anyhow::Result<()> {
         alloc,
         &mut rt.reader(),
         &mut Nothing,
-        true,
+        is_terminal(&rt, Stream::Input),
         backend,
         &mut seat,
     )?

@@ -12,9 +12,10 @@
 mod shown;
 
 use crate::shown::Shown;
+use programs::{Stream, VERSION, is_terminal};
+use std::env;
 use std::io::{self, BufWriter, Read, Write};
 use std::process::ExitCode;
-use std::{env, fs};
 
 static HELP: &str =
     "keys: prints each event of a terminal as it comes, with its bytes. Ctrl+D ends it.
@@ -46,17 +47,6 @@ fn ask<W: Write>(words: &[String], out: &mut W, is_on: bool) -> io::Result<()> {
     out.flush()
 }
 
-// Whether standard input is a terminal, where a read may find nothing yet.
-fn is_terminal(rt: &HostRuntime) -> bool {
-    match fs::read_link(rt, "/proc/self/fd/0") {
-        Ok(path) => {
-            let path = path.as_path();
-            path.starts_with("/dev/pts") || path.starts_with("/dev/tty")
-        }
-        Err(_) => false,
-    }
-}
-
 // Shows what a reader gives, until Ctrl+D comes or so many reads, one after the other, find nothing.
 fn show_all<R: Read, W: Write>(reader: &mut R, out: &mut W, patience: u32) -> io::Result<()> {
     let mut shown = Shown::new();
@@ -82,7 +72,11 @@ fn show_all<R: Read, W: Write>(reader: &mut R, out: &mut W, patience: u32) -> io
 fn play(rt: &HostRuntime, words: &[String]) -> io::Result<()> {
     let mut out = BufWriter::new(rt.alloc(), io::writer(rt))?;
     ask(words, &mut out, true)?;
-    let patience = if is_terminal(rt) { PATIENCE } else { 1 };
+    let patience = if is_terminal(rt, Stream::Input) {
+        PATIENCE
+    } else {
+        1
+    };
     let result = show_all(&mut rt.reader(), &mut out, patience);
     ask(words, &mut out, false)?;
     result
@@ -93,6 +87,10 @@ fn start(rt: &HostRuntime) -> io::Result<ExitCode> {
     let words: Vec<String> = env::args(rt)?.skip(1).collect(rt.alloc())?;
     if words.iter().any(|word| word.as_str() == "--help") {
         print!(rt; "{HELP}")?;
+        return Ok(ExitCode::SUCCESS);
+    }
+    if words.iter().any(|word| word.as_str() == "--version") {
+        println!(rt; "keys {VERSION}")?;
         return Ok(ExitCode::SUCCESS);
     }
     for word in words.iter() {

@@ -11,6 +11,7 @@ mod window;
 
 use crate::menu::Menu;
 use crate::window::Window;
+use programs::{Stream, is_terminal};
 use ratatui_ansi::{AnsiBackend, size_told};
 use ratatui_core::terminal::Terminal;
 use ratatui_input::EventReader;
@@ -23,6 +24,7 @@ fn main(rt: HostRuntime) -> anyhow::Result<()> {
     let mut terminal = Terminal::new(alloc, backend)?;
     let mut events = EventReader::new(rt.reader());
     let mut window = Window::new();
+    let has_ticks = is_terminal(&rt, Stream::Input);
     let mut menu = Menu::new(alloc)?;
     terminal.draw(|frame| menu.draw(frame))?;
     for _ in 0..u64::MAX {
@@ -32,7 +34,8 @@ fn main(rt: HostRuntime) -> anyhow::Result<()> {
             menu.take(event)?;
             terminal.draw(|frame| menu.draw(frame))?;
         }
-        if menu.is_over() {
+        let is_end = event.is_none() && !has_ticks;
+        if is_end || menu.is_over() {
             break;
         }
     }

@@ -8,6 +8,7 @@ mod watch;
 
 use crate::watch::Stopwatch;
 use acts_app::run_and_leave;
+use programs::{Stream, is_terminal};
 use ratatui_acts::{Clocked, Nothing, Seat};
 use ratatui_ansi::{AnsiBackend, size_told};
 use std::io::BufWriter;
@@ -18,6 +19,15 @@ fn main(rt: HostRuntime) -> anyhow::Result<()> {
     let backend = AnsiBackend::new_on_alternate_screen(alloc, writer, size_told(&rt))?;
     let mut ears = Clocked::new(rt.reader(), &rt)?;
     let mut seat = Seat::new(alloc, Stopwatch::new());
-    run_and_leave(alloc, &mut ears, &mut Nothing, true, backend, &mut seat)?.ended?;
+    let has_ticks = is_terminal(&rt, Stream::Input);
+    run_and_leave(
+        alloc,
+        &mut ears,
+        &mut Nothing,
+        has_ticks,
+        backend,
+        &mut seat,
+    )?
+    .ended?;
     Ok(())
 }
