@@ -1,6 +1,7 @@
 //! The size of the terminal: from the program's words, or else from the environment.
 
 use clap::{Arg, ArgMatches, Command, value_parser};
+use programs::VERSION;
 use rtui_geometry::Size;
 use std::alloc::{AllocError, Global};
 use std::env;
@@ -15,6 +16,7 @@ pub fn command<'a>(alloc: Global) -> Result<Command<'a>, AllocError> {
         .value_parser(value_parser!(u16).range(1..=65535));
     Command::new(alloc, "follow")
         .bin_name("follow")?
+        .version(VERSION)
         .about("Shows standard input line by line above a status line, as it comes")
         .arg(columns)?
         .arg(rows)

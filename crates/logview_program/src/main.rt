@@ -2,10 +2,12 @@
 //!
 //! Its first line is the screen's size, `W H`. A log that can't be read or shown gives one line on
 //! standard error, status 1 and no output; so does output that can't be written. `--help` says
-//! so; other words, and words that can't be read, are an error, with status 2.
+//! so, and `--version` which it is; other words, and words that can't be read, are an error, with
+//! status 2.
 #![tactic(auto)]
 
 use logview::{LogFault, print_log, tell};
+use programs::VERSION;
 use std::env;
 use std::io::{self, BufWriter};
 use std::process::ExitCode;
@@ -21,19 +23,23 @@ fn first_word(rt: &HostRuntime) -> io::Result<Option<String>> {
     Ok(env::args(rt)?.nth(1))
 }
 
-// What a word gives: a page on the program, or an error.
+// What a word gives: a page on the program, its version, or an error.
 fn answer(rt: &HostRuntime, word: &str) -> ExitCode {
-    if word == "--help" {
-        return match print!(rt; "{HELP}") {
-            Ok(()) => ExitCode::SUCCESS,
-            Err(_) => {
-                let _ = eprintln!(rt; "output: write failed");
-                ExitCode::FAILURE
-            }
-        };
+    let printed = match word {
+        "--help" => print!(rt; "{HELP}"),
+        "--version" => println!(rt; "logview {VERSION}"),
+        _ => {
+            let _ = eprintln!(rt; "logview: it takes no words; --help says what it reads");
+            return ExitCode::from(2);
+        }
+    };
+    match printed {
+        Ok(()) => ExitCode::SUCCESS,
+        Err(_) => {
+            let _ = eprintln!(rt; "output: write failed");
+            ExitCode::FAILURE
+        }
     }
-    let _ = eprintln!(rt; "logview: it takes no words; --help says what it reads");
-    ExitCode::from(2)
 }
 
 fn main(rt: HostRuntime) -> ExitCode {

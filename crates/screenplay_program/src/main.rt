@@ -2,10 +2,11 @@
 //! shows.
 //!
 //! A script that can't be read or played gives one line on standard error, status 1 and no output;
-//! so does output that can't be written. `--help` says so; other words, and words that can't be
-//! read, are an error, with status 2.
+//! so does output that can't be written. `--help` says so, and `--version` which it is; other words,
+//! and words that can't be read, are an error, with status 2.
 #![tactic(auto)]
 
+use programs::VERSION;
 use screenplay::print_script;
 use std::process::ExitCode;
 use std::{env, io};
@@ -22,19 +23,23 @@ fn first_word(rt: &HostRuntime) -> io::Result<Option<String>> {
     Ok(env::args(rt)?.nth(1))
 }
 
-// What a word gives: a page on the program, or an error.
+// What a word gives: a page on the program, its version, or an error.
 fn answer(rt: &HostRuntime, word: &str) -> ExitCode {
-    if word == "--help" {
-        return match print!(rt; "{HELP}") {
-            Ok(()) => ExitCode::SUCCESS,
-            Err(_) => {
-                let _ = eprintln!(rt; "output: write failed");
-                ExitCode::FAILURE
-            }
-        };
+    let printed = match word {
+        "--help" => print!(rt; "{HELP}"),
+        "--version" => println!(rt; "screenplay {VERSION}"),
+        _ => {
+            let _ = eprintln!(rt; "screenplay: it takes no words; --help says what it reads");
+            return ExitCode::from(2);
+        }
+    };
+    match printed {
+        Ok(()) => ExitCode::SUCCESS,
+        Err(_) => {
+            let _ = eprintln!(rt; "output: write failed");
+            ExitCode::FAILURE
+        }
     }
-    let _ = eprintln!(rt; "screenplay: it takes no words; --help says what it reads");
-    ExitCode::from(2)
 }
 
 fn main(rt: HostRuntime) -> ExitCode {
