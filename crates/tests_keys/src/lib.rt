@@ -1,13 +1,22 @@
 //! Tests of what reads keys: readers that give bytes in pieces and fail between them, counters run
-//! over such pieces, reads that a clock times, names that are removed, and a page of the pager.
+//! over such pieces, reads that a clock times, names that are removed, a page of the pager, and what
+//! keys make of text fields and areas.
 #![tactic(auto)]
 
 #[cfg(test)]
 mod acting;
 #[cfg(test)]
+mod area;
+#[cfg(test)]
 mod clocks;
 #[cfg(test)]
 mod counters;
+#[cfg(test)]
+mod fields;
+#[cfg(test)]
+mod inputs;
+#[cfg(test)]
+mod keys;
 #[cfg(test)]
 mod pages;
 #[cfg(test)]

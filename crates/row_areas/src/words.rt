@@ -1,37 +1,9 @@
 //! Words: what is done to an area.
 
+use crate::escapes::unescaped;
 use ratatui_events::{Event, KeyEvent};
 use std::alloc::{AllocError, Global};
 use text_area::TextArea;
-
-// The character that stands after a backslash for another one.
-fn named(c: char) -> char {
-    match c {
-        'n' => '\n',
-        'r' => '\r',
-        't' => '\t',
-        'e' => '\u{1b}',
-        's' => ' ',
-        other => other,
-    }
-}
-
-// A text without backslashes.
-pub(crate) fn unescaped(alloc: Global, text: &str) -> Result<String, AllocError> {
-    let mut plain = String::new(alloc);
-    let mut is_named = false;
-    for c in text.chars() {
-        if is_named {
-            plain.push(named(c))?;
-            is_named = false;
-        } else if c == '\\' {
-            is_named = true;
-        } else {
-            plain.push(c)?;
-        }
-    }
-    Ok(plain)
-}
 
 // Gives a key to an area; answers whether it was taken or left, as is wanted.
 fn press(area: &mut TextArea, name: &str, wanted: bool) -> Result<bool, AllocError> {

@@ -1,6 +1,7 @@
-//! Rows: a text, words, and the text that they make of it.
+//! Rows of keys: a text, words, and the text that they make of it.
 
-use crate::words::{act, unescaped};
+use crate::escapes::unescaped;
+use crate::words::act;
 use std::alloc::{AllocError, Global};
 use text_area::{Extent, Move, TextArea};
 

@@ -1,5 +1,6 @@
-//! Rows: a text in a size, and what it shows.
+//! Rows of views: a text in a size, and what it shows.
 
+use crate::escapes::unescaped;
 use crate::shown::{cursor_in, rows_in};
 use ratatui_core::buffer::Buffer;
 use ratatui_core::layout::Rect;
@@ -12,39 +13,12 @@ use text_area::{Extent, Move, TextArea};
 
 // A row as it is written.
 #[derive(Drop)]
-pub struct Row<'a> {
+pub struct View<'a> {
     width: u16,
     height: u16,
     words: &'a str,
     text: &'a str,
-}
-
-// The character that a letter after a backslash stands for.
-fn named(letter: char) -> char {
-    match letter {
-        'n' => '\n',
-        't' => '\t',
-        'e' => '\u{1b}',
-        's' => ' ',
-        other => other,
-    }
-}
-
-// A text without backslashes.
-fn unescaped(alloc: Global, text: &str) -> Result<String, AllocError> {
-    let mut plain = String::new(alloc);
-    let mut is_named = false;
-    for c in text.chars() {
-        if is_named {
-            plain.push(named(c))?;
-            is_named = false;
-        } else if c == '\\' {
-            is_named = true;
-        } else {
-            plain.push(c)?;
-        }
-    }
-    Ok(plain)
+    wanted: &'a str,
 }
 
 // An area of a text with the cursor at its mark.
@@ -102,19 +76,25 @@ fn view_with(view: AreaView, word: &str) -> AreaView {
     }
 }
 
-impl<'a> Row<'a> {
-    // Reads a row, but what it wants.
-    pub fn read(line: &'a str) -> Option<Row<'a>> {
+impl<'a> View<'a> {
+    // Reads a row.
+    pub fn read(line: &'a str) -> Option<View<'a>> {
         let (size, rest) = line.split_once('\t')?;
         let (words, rest) = rest.split_once('\t')?;
-        let (text, _) = rest.split_once('\t')?;
+        let (text, wanted) = rest.split_once('\t')?;
         let (width, height) = size.split_once('x')?;
-        Some(Row {
+        Some(View {
             width: number(width),
             height: number(height),
             words,
             text,
+            wanted,
         })
+    }
+
+    // Whether this is what the row wants.
+    pub fn wants(&self, shown: &str) -> bool {
+        self.wanted == shown
     }
 
     // What the text shows, and where its cursor stands.
