@@ -11,16 +11,12 @@ use Rattle.text_field.proofs.FieldLemmas.{take-behind}
 use Rattle.text_area.specs.Extents.{is_feed, line_right}
 use Rattle.text_area.specs.Lines.{feeds, nth_line, first_line}
 use Rattle.text_area.specs.Drafts.{draft_text, part_replaced}
-use Rattle.text_area.specs.Journals.{JournalData, StepData, IsStepOf, Undoes, journal_of, undo_step, undone, redone, undone_text, changed, changes_nothing, step_for, stepped_text}
+use Rattle.text_area.specs.Journals.{JournalData, StepData, IsStepOf, Undoes, journal_of, undo_step, undone, redone, undone_text, changed, changes_nothing, step_for, stepped_text, past_after, goes_on, longer}
 use Rattle.text_area.specs.Areas.{AreaData, area_of, area_text, area_cursor, put_over, selection, selected, typing_over, killing, yanking}
 use Rattle.text_area.specs.Typing.{written_text}
 use Rattle.text_area.proofs.DraftLemmas.{text-at, made}
-use Rattle.text_area.proofs.JournalLemmas.{undone-twice}
+use Rattle.text_area.proofs.JournalLemmas.{undone-twice, both-true, stepped-longer}
 use borrow.Author.Tests.{eqb-true}
-
-both-true : (s t : Bool) → (s && t) ≡ true → (s ≡ true) × (t ≡ true)
-both-true true t is = (refl, is)
-both-true false t is = cc
 
 -- a part that gives way leaves what stands around it
 pub part-same : (text : List ℕ) (from to : ℕ) (piece : List ℕ) → changes_nothing from to piece ≡ true
@@ -42,20 +38,17 @@ pub text-changed : (a : AreaData) (part : ℕ × ℕ) (piece : List ℕ)
     → area_text (put_over part piece a) ≡ replace_range (area_text a) part.0 part.1 piece
 text-changed a part piece =
     text-cases (changes_nothing part.0 part.1 piece) part.0 part.1 piece a.journal
-    (journal_of (part_replaced part.0 part.1 piece a.journal.text)
-    (take a.journal.most (step_for part.0 part.1 (length piece) a.journal.text ∷ a.journal.past)) []
+    (journal_of (part_replaced part.0 part.1 piece a.journal.text) (past_after part.0 part.1 piece a.journal) []
     a.journal.most) refl refl
 
 -- an area after a change that is one
 pub put-changed : (a : AreaData) (part : ℕ × ℕ) (piece : List ℕ) → changes_nothing part.0 part.1 piece ≡ false
     → put_over part piece a ≡ area_of (journal_of (part_replaced part.0 part.1 piece a.journal.text)
-    (take a.journal.most (step_for part.0 part.1 (length piece) a.journal.text ∷ a.journal.past)) []
-    a.journal.most)
+    (past_after part.0 part.1 piece a.journal) [] a.journal.most)
     None None a.killed a.page
 put-changed a part piece fails =
     ap (λ b. area_of (if b then a.journal else journal_of (part_replaced part.0 part.1 piece a.journal.text)
-    (take a.journal.most (step_for part.0 part.1 (length piece) a.journal.text ∷ a.journal.past)) []
-    a.journal.most)
+    (past_after part.0 part.1 piece a.journal) [] a.journal.most)
     None None a.killed a.page) fails
 
 pub cursor-changed : (a : AreaData) (part : ℕ × ℕ) (piece : List ℕ) → changes_nothing part.0 part.1 piece
@@ -76,18 +69,34 @@ first-step : (most : ℕ) (s : StepData) (past : List StepData) (t : CursorText)
 first-step zero s past t some = absurd (omega (arith, some))
 first-step (suc most) s past t some = refl
 
+-- a change that doesn't go on with what was put last is undone by itself
 pub undone-change : (a : AreaData) (part : ℕ × ℕ) (piece : List ℕ) → changes_nothing part.0 part.1 piece
     ≡ false
-    → 0 < a.journal.most → part.0 ≤ part.1 → part.1 ≤ length (area_text a)
+    → goes_on part.0 part.1 piece a.journal.past a.journal.future ≡ false → 0 < a.journal.most → part.0 ≤ part.1 → part.1 ≤ length (area_text a)
     → (undone (put_over part piece a).journal).text ≡ a.journal.text
-undone-change a part piece fails some order within =
+undone-change a part piece fails alone some order within =
     let t : CursorText = a.journal.text in
     let s : StepData = step_for part.0 part.1 (length piece) t in
     ap (λ (b : AreaData). (undone b.journal).text) (put-changed a part piece fails)
+    ∙ ap (λ b. stepped_text (if b then longer (part.0 + length piece) a.journal.past
+    else take a.journal.most (s ∷ a.journal.past)) (part_replaced part.0 part.1 piece t)) alone
     ∙ first-step a.journal.most s a.journal.past (part_replaced part.0 part.1 piece t) some
     ∙ ap (λ w. cursor_text_at w (length t.before))
     (undone-twice (draft_text t) piece part.0 part.1 (part.0 + length piece) order within refl)
     ∙ text-again t
+
+-- one that goes on with it is undone together with it
+pub undone-both : (a : AreaData) (part : ℕ × ℕ) (piece : List ℕ) → changes_nothing part.0 part.1 piece
+    ≡ false
+    → goes_on part.0 part.1 piece a.journal.past a.journal.future ≡ true
+    → Undoes a.journal.past (area_text a)
+    → (undone (put_over part piece a).journal).text ≡ (undone a.journal).text
+undone-both a part piece fails on undoes =
+    ap (λ (b : AreaData). (undone b.journal).text) (put-changed a part piece fails)
+    ∙ ap (λ b. stepped_text (if b then longer (part.0 + length piece) a.journal.past
+    else take a.journal.most (step_for part.0 part.1 (length piece) a.journal.text ∷ a.journal.past))
+    (part_replaced part.0 part.1 piece a.journal.text)) on
+    ∙ stepped-longer part.0 part.1 piece a.journal.past a.journal.future a.journal.text on undoes
 
 pub future-changed : (a : AreaData) (part : ℕ × ℕ) (piece : List ℕ) → changes_nothing part.0 part.1 piece
     ≡ false

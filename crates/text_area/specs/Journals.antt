@@ -1,6 +1,6 @@
 -- A text with a cursor, and how its changes are undone.
-use Rattle.std.specs.Prelude.{ℕ, ◌+◌, ◌≤◌, ◌==◌, ◌&&◌, Bool, if◌then◌else◌, List, [], ◌∷◌, length, take, drop}
-use Rattle.std.specs.Prelude.{slice_range}
+use Rattle.std.specs.Prelude.{ℕ, ◌+◌, ◌≤◌, ◌==◌, ltb, ◌&&◌, Bool, true, false, not, if◌then◌else◌}
+use Rattle.std.specs.Prelude.{List, [], ◌∷◌, length, take, drop, slice_range}
 use Rattle.std.specs.List.{replace_range}
 use Rattle.std.specs.Str.{IsUtf8, IsCharBoundary}
 use Rattle.text_field.specs.History.{CursorText, cursor_text_at}
@@ -58,11 +58,37 @@ moved_cursor at j = record j { text = cursor_at at j.text }
 abbrev pub changes_nothing : ℕ → ℕ → List ℕ → Bool
 changes_nothing from to piece = (from == to) && (length piece == 0)
 
+-- a text begins with a line feed
+abbrev pub begins_line : List ℕ → Bool
+begins_line [] = false
+begins_line (byte ∷ rest) = byte == 10
+
+-- a piece is put right after what a change has put
+abbrev pub is_after : ℕ → ℕ → StepData → Bool
+is_after from to s = (from == to) && ((s.to == from) && ltb s.at from)
+
+-- a piece goes on with what was put last: nothing was undone since, and it begins no line
+abbrev pub goes_on : ℕ → ℕ → List ℕ → List StepData → List StepData → Bool
+goes_on from to piece [] future = false
+goes_on from to piece (s ∷ past) (f ∷ future) = false
+goes_on from to piece (s ∷ past) [] = is_after from to s && not (begins_line piece)
+
+-- all up to a place is undone together with the last change
+abbrev pub longer : ℕ → List StepData → List StepData
+longer to [] = []
+longer to (s ∷ past) = undo_step s.at to s.was s.cursor ∷ past
+
+-- how changes are undone after one more: what goes on with what was put last is undone together with it
+abbrev pub past_after : ℕ → ℕ → List ℕ → JournalData → List StepData
+past_after from to piece j =
+    if goes_on from to piece j.past j.future then longer (from + length piece) j.past
+    else take j.most (step_for from to (length piece) j.text ∷ j.past)
+
 -- a part of the text gives way to a piece: that can be undone, and nothing can be done again
 abbrev pub changed : ℕ → ℕ → List ℕ → JournalData → JournalData
 changed from to piece j =
-    if changes_nothing from to piece then j else journal_of (part_replaced from to piece j.text)
-    (take j.most (step_for from to (length piece) j.text ∷ j.past)) [] j.most
+    if changes_nothing from to piece then j
+    else journal_of (part_replaced from to piece j.text) (past_after from to piece j) [] j.most
 
 -- nothing can be undone or done again, and so many steps are kept from now on
 abbrev pub forgetting : ℕ → JournalData → JournalData

@@ -509,8 +509,9 @@ impl TextArea {
         self.journal.can_redo()
     }
 
-    /// Undoes the last change: the text and the cursor are what they were before it, and nothing is
-    /// selected. It answers whether there was one.
+    /// Undoes the last change, and all that went on with it, as the next letters of a line do: the
+    /// text and the cursor are what they were before it, and nothing is selected. It answers whether
+    /// there was one.
     ///
     /// # Errors
     ///

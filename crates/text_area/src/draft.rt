@@ -1,7 +1,7 @@
 //! A text with a cursor in it, and the one change that is made to it.
 
 ghost use Rattle.std.specs.Prelude.{◌≡◌, ◌≤◌, [], OnOk, OnErr, length, string_bytes};
-ghost use Rattle.std.specs.Str.{IsCharBoundary};
+ghost use Rattle.std.specs.Str.{IsUtf8, IsCharBoundary};
 ghost use Rattle.text_field.specs.History.{CursorText, cursor_text_at};
 ghost use Rattle.text_area.specs.Drafts.{draft_text, cursor_at, part_replaced};
 
@@ -82,6 +82,7 @@ impl Draft {
         requires order { from ≤ to }
         requires start { IsCharBoundary (draft_text self.old) from }
         requires end { IsCharBoundary (draft_text self.old) to }
+        ensures utf8 { IsUtf8 (draft_text self.old) }
         ensures ok { OnOk result (self.new ≡ part_replaced from to piece.now self.old) }
         ensures err { OnErr result (self.new ≡ self.old) }
     {

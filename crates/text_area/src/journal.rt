@@ -8,6 +8,7 @@ ghost use Rattle.text_area.specs.Drafts.{draft_text, part_replaced};
 ghost use Rattle.text_area.specs.Journals.{StepData, IsStepOf, Undoes, JournalData, journal_of};
 ghost use Rattle.text_area.specs.Journals.{step_for};
 ghost use Rattle.text_area.specs.Journals.{changed, moved_cursor, forgetting, stepped_text};
+ghost use Rattle.text_area.specs.Journals.{begins_line, goes_on};
 ghost use Rattle.text_area.specs.Journals.{stepped_onto, undone, redone};
 
 use crate::draft::Draft;
@@ -44,6 +45,16 @@ fn record(
         return Err(error);
     }
     Ok(())
+}
+
+// Whether a text begins with a line feed.
+fn begins_line(text: &str) -> bool
+    ensures { result ≡ begins_line text.now }
+{
+    match text.as_bytes().first() {
+        Some(byte) => *byte == b'\n',
+        None => false,
+    }
 }
 
 // How a step will be undone.
@@ -176,6 +187,18 @@ impl Journal {
         self.most = most;
     }
 
+    // Whether a piece goes on with what was put last.
+    fn goes_on(&self, from: usize, to: usize, piece: &str) -> bool
+        ensures { result ≡ goes_on from to piece.now self.now.past self.now.future }
+    {
+        match self.past.first() {
+            Some(last) => {
+                self.future.is_empty() && last.is_before(from, to) && !begins_line(piece)
+            }
+            None => false,
+        }
+    }
+
     // Puts a piece in place of a part of the text, and the cursor after it.
     pub(crate) fn change(&mut self, from: usize, to: usize, piece: &str) -> Result<(), AllocError>
         requires order { from ≤ to }
@@ -185,6 +208,11 @@ impl Journal {
         ensures err { OnErr result (self.new ≡ self.old) }
     {
         if from == to && piece.is_empty() {
+            return Ok(());
+        }
+        if self.goes_on(from, to, piece) {
+            self.draft.replace(from, to, piece)?;
+            self.past.lengthen(self.draft.at());
             return Ok(());
         }
         record(&mut self.draft, &mut self.past, from, to, piece)?;

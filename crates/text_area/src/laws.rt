@@ -2,14 +2,14 @@
 
 ghost use Rattle.std.specs.Prelude.{◌≡◌, ◌≤◌, ◌<◌, ◌+◌, ◌-◌, ◌++◌, ℕ, List, [], ◌∷◌, length};
 ghost use Rattle.std.specs.Prelude.{get_or};
-ghost use Rattle.std.specs.Prelude.{false};
+ghost use Rattle.std.specs.Prelude.{false, true};
 ghost use Rattle.std.specs.List.{replace_range, slice_split, join_with_byte};
 ghost use Rattle.std.specs.Str.{IsUtf8};
 ghost use Rattle.text_area.specs.Extents.{is_feed};
 ghost use Rattle.text_area.specs.Lines.{feeds, nth_line, nth_place};
 ghost use Rattle.text_area.specs.Drafts.{draft_text};
 ghost use Rattle.text_area.specs.Journals.{JournalData, StepData, Undoes, undone, redone};
-ghost use Rattle.text_area.specs.Journals.{changes_nothing};
+ghost use Rattle.text_area.specs.Journals.{changes_nothing, goes_on};
 ghost use Rattle.text_area.specs.Areas.{AreaData, area_text, area_before, area_cursor, aim_of};
 ghost use Rattle.text_area.specs.Areas.{put_over, gone, undoing};
 ghost use Rattle.text_area.specs.Areas.{selected, typing_over, killing, yanking};
@@ -35,12 +35,19 @@ pub fn moving_keeps_the_text()
 {}
 
 /// Undoing a change gives the text and the cursor of before it, in an area that keeps any steps;
-/// and after a change nothing can be redone.
+/// and after a change nothing can be redone. What goes on with what was put last, as the next
+/// letter of a line does, is undone together with it.
 pub fn undoing_gives_what_was()
     ensures text { (a : AreaData) (part : ℕ × ℕ) (piece : List ℕ)
-        → changes_nothing part.0 part.1 piece ≡ false → 0 < a.journal.most → part.0 ≤ part.1
-        → part.1 ≤ length (area_text a)
+        → changes_nothing part.0 part.1 piece ≡ false
+        → goes_on part.0 part.1 piece a.journal.past a.journal.future ≡ false
+        → 0 < a.journal.most → part.0 ≤ part.1 → part.1 ≤ length (area_text a)
         → (undoing (put_over part piece a)).journal.text ≡ a.journal.text }
+    ensures together { (a : AreaData) (part : ℕ × ℕ) (piece : List ℕ)
+        → changes_nothing part.0 part.1 piece ≡ false
+        → goes_on part.0 part.1 piece a.journal.past a.journal.future ≡ true
+        → Undoes a.journal.past (area_text a)
+        → (undoing (put_over part piece a)).journal.text ≡ (undoing a).journal.text }
     ensures future { (a : AreaData) (part : ℕ × ℕ) (piece : List ℕ)
         → changes_nothing part.0 part.1 piece ≡ false
         → (put_over part piece a).journal.future ≡ [] }

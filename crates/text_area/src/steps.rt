@@ -2,7 +2,7 @@
 
 ghost use Rattle.std.specs.Prelude.{◌≡◌, ◌≤◌, ◌+◌, [], ◌∷◌, length, take, drop, OnOk, OnErr, IfOk};
 ghost use Rattle.std.specs.Prelude.{IfSome, IfNone, string_bytes, IsTrue, ◌↔◌};
-ghost use Rattle.text_area.specs.Journals.{StepData, undo_step};
+ghost use Rattle.text_area.specs.Journals.{StepData, undo_step, is_after, longer};
 
 use std::alloc::{AllocError, Global};
 use std::marker::Model;
@@ -61,6 +61,13 @@ impl Step {
     {
         self.cursor
     }
+
+    // Whether these two places are the end of what the change has put, if it has put anything.
+    pub(crate) fn is_before(&self, from: usize, to: usize) -> bool
+        ensures { result ≡ is_after from to self.now }
+    {
+        from == to && self.to == from && self.at < from
+    }
 }
 
 // Steps, the last one first.
@@ -116,6 +123,15 @@ impl Steps {
         ensures { self.new ≡ drop 1 self.old }
     {
         let _ = self.items.pop();
+    }
+
+    // Lets the first one undo all up to a place.
+    pub(crate) fn lengthen(&mut self, to: usize)
+        ensures { self.new ≡ longer to self.old }
+    {
+        if let Some(last) = self.items.len().checked_sub(1) {
+            self.items[last].to = to;
+        }
     }
 
     // Takes all away.
