@@ -18,7 +18,7 @@ pub struct Screen {
 // What is told in the last row.
 fn told(note: &Note) -> &str {
     match note {
-        Note::None => "^S save  ^Q leave  ^F find  ^G line",
+        Note::None => "^S save  ^Q leave  ^F find  M-R replace  ^G line",
         Note::Saved => "saved",
         Note::NotFound => "not found after the cursor",
         Note::NoLine => "no number of a line",
@@ -34,7 +34,8 @@ fn draw_prompt(
     frame: &mut Frame<'_>,
     foot: Rect,
 ) -> Result<(), AllocError> {
-    let layout = Layout::horizontal(editor.alloc, &[Constraint::Length(6), Constraint::Fill(1)])?;
+    let columns = Constraint::Length(word.len() as u16);
+    let layout = Layout::horizontal(editor.alloc, &[columns, Constraint::Fill(1)])?;
     let [left, right]: [Rect; 2] = layout.areas(foot);
     frame.render_widget(Line::raw(editor.alloc, word)?.bold(), left)?;
     frame.render_stateful_widget(Input::new(), right, &mut editor.field)?;
@@ -83,6 +84,9 @@ impl Screen {
         self.draw_text(editor, frame, body)?;
         match editor.mode {
             Mode::Finding => draw_prompt(editor, "Find: ", frame, foot),
+            Mode::Seeking => draw_prompt(editor, "Replace: ", frame, foot),
+            Mode::Giving => draw_prompt(editor, "By: ", frame, foot),
+            Mode::Offering => draw_question(editor, "Replace it? y/n, a: all", frame, foot),
             Mode::GoingTo => draw_prompt(editor, "Line: ", frame, foot),
             Mode::Leaving => draw_question(editor, "Leave without saving? y/n", frame, foot),
             Mode::Replacing => {

@@ -11,7 +11,9 @@ use Rattle.ratatui_events.specs.declared.key.KeyModifiers.{KeyModifiers}
 use Rattle.ratatui_events.specs.Key.{modifier_bits}
 use Rattle.text_field.specs.Keys.{letter}
 use Rattle.editor.specs.declared.keys.Command.{Command}
-use Rattle.editor.specs.declared.keys.Command.TheVariants.{Save, Leave, Find, GoTo, Undo, Redo}
+use Rattle.editor.specs.declared.keys.Command.TheVariants.{Save, Leave, Find, GoTo, Undo, Redo, Replace}
+use Rattle.editor.specs.declared.keys.Offer.{Offer}
+use Rattle.editor.specs.declared.keys.Offer.TheVariants.{Yes, No, All, Stop}
 
 -- what a letter asks for beside Control
 abbrev pub asked_beside_control : ℕ → Option Command
@@ -25,7 +27,8 @@ asked_beside_control c =
 abbrev pub asked_beside_alt : ℕ → Option Command
 asked_beside_alt c =
     if c == letter (codes "u") then Some Undo else
-    if c == letter (codes "e") then Some Redo else None
+    if c == letter (codes "e") then Some Redo else
+    if c == letter (codes "r") then Some Replace else None
 
 -- the same of a key, beside which Control (4) or Alt (2) is held alone
 abbrev pub asked_by_letter : KeyModifiers → ℕ → Option Command
@@ -68,3 +71,21 @@ answer_in (Some code) = Some (is_yes code)
 
 abbrev pub answer_of : Event → Option Bool
 answer_of event = answer_in (pressed_code event)
+
+-- what a key says to an offer to replace what was found: y yes, n no, a this one and all after it
+abbrev pub offer_by_letter : ℕ → Offer
+offer_by_letter c =
+    if c == letter (codes "y") then Yes else
+    if c == letter (codes "n") then No else
+    if c == letter (codes "a") then All else Stop
+
+abbrev pub offer_by : KeyCode → Offer
+offer_by (Char c) = offer_by_letter c
+offer_by _ = Stop
+
+abbrev pub offer_in : Option KeyCode → Option Offer
+offer_in None = None
+offer_in (Some code) = Some (offer_by code)
+
+abbrev pub offer_of : Event → Option Offer
+offer_of event = offer_in (pressed_code event)

@@ -2,16 +2,17 @@
 
 ghost use Rattle.std.specs.Prelude.{◌≡◌, ◌≢◌, ◌↔◌, ⊤, IsTrue, IfOk, OnOk, OnErr, None, Some, string_bytes};
 ghost use Rattle.std.specs.Io.KnownBytes.{Appends};
-ghost use Rattle.text_area.specs.Areas.{loaded_area, area_text};
+ghost use Rattle.text_area.specs.Areas.{loaded_area, area_text, typing_over};
 ghost use Rattle.text_area.specs.AreaKeys.{area_edit_of, area_edited_if};
-ghost use Rattle.editor.specs.declared.editor.Mode.TheVariants.{Typing, Found, Replacing, Over};
+ghost use Rattle.editor.specs.declared.editor.Mode.TheVariants.{Typing, Found, Offering, Replacing, Over};
 ghost use Rattle.editor.specs.declared.editor.Note.TheVariants.{Saved};
-ghost use Rattle.editor.specs.Commands.{asked_of, answer_of};
+ghost use Rattle.editor.specs.Commands.{asked_of, answer_of, offer_of};
+ghost use Rattle.editor.specs.Offers.{ReplacesAll, IsAnswered};
 ghost use Rattle.editor.specs.Editing.{Keeps, IsSaved, IsForText, request_of, edited_text};
 ghost use Rattle.editor.specs.Editing.{command_request, answer_request, left_by};
 ghost use Rattle.editor.specs.declared.editor.Request.TheVariants.{Nothing};
 
-use crate::keys::{Command, answer_of, command_of, pressed};
+use crate::keys::{Command, Offer, answer_of, command_of, offer_of, pressed};
 use ratatui_events::{Event, KeyCode};
 use std::alloc::{AllocError, Global};
 use std::io::{self, Write};
@@ -27,6 +28,12 @@ pub enum Mode {
     Found,
     /// For a pattern that is to be found.
     Finding,
+    /// For a pattern that is to be replaced.
+    Seeking,
+    /// For what is to stand in its place.
+    Giving,
+    /// For an answer: is what was found, and is selected, to be replaced?
+    Offering,
     /// For the number of a line.
     GoingTo,
     /// For an answer: is the editor to end though the text isn't saved?
@@ -79,6 +86,8 @@ pub struct Editor {
     pub field: TextField,
     /// What is to be found.
     pub pattern: String,
+    /// What is to stand in its place.
+    pub piece: String,
     /// What events are taken for.
     pub mode: Mode,
     /// What is told.
@@ -116,6 +125,7 @@ impl Editor {
             name,
             field: TextField::new(alloc).with_limit(200),
             pattern: String::new(alloc),
+            piece: String::new(alloc),
             mode: Mode::Typing,
             note: Note::None,
         })
@@ -211,7 +221,8 @@ impl Editor {
         match self.mode {
             Mode::Typing => self.take_typed(event),
             Mode::Found => self.take_found(event),
-            Mode::Finding => self.take_pattern(event),
+            Mode::Finding | Mode::Seeking | Mode::Giving => self.take_words(event),
+            Mode::Offering => self.take_offer(event),
             Mode::GoingTo => self.take_number(event),
             Mode::Leaving => {
                 self.take_leave(event);
@@ -270,6 +281,7 @@ impl Editor {
             Command::Save => return Ok(Request::Save),
             Command::Leave => self.leave(),
             Command::Find => self.mode = Mode::Finding,
+            Command::Replace => self.mode = Mode::Seeking,
             Command::GoTo => {
                 self.field.clear();
                 self.mode = Mode::GoingTo;
@@ -331,8 +343,115 @@ impl Editor {
         Ok(())
     }
 
-    // Takes an event for a pattern.
-    fn take_pattern(&mut self, event: &Event) -> Result<Request, AllocError>
+    // Keeps the pattern that was typed, and asks what is to stand in its place.
+    fn seek(&mut self) -> Result<(), AllocError>
+        ensures area { self.new.area ≡ self.old.area }
+        ensures mode { OnOk result (self.new.mode ≢ Over) }
+        ensures saved { string_bytes self.new.saved ≡ string_bytes self.old.saved }
+    {
+        self.pattern = String::from_str(self.alloc, self.field.text())?;
+        self.field.clear();
+        self.mode = Mode::Giving;
+        Ok(())
+    }
+
+    // Selects the pattern where it occurs next, and asks whether it is to be replaced. No pattern
+    // occurs nowhere.
+    fn offer(&mut self)
+        ensures text { edited_text self.new ≡ edited_text self.old }
+        ensures mode { self.new.mode ≢ Over }
+        ensures saved { string_bytes self.new.saved ≡ string_bytes self.old.saved }
+    {
+        if !self.pattern.is_empty() && self.area.select_next(self.pattern.as_str()) {
+            self.mode = Mode::Offering;
+            self.note = Note::None;
+        } else {
+            self.mode = Mode::Typing;
+            self.note = Note::NotFound;
+        }
+    }
+
+    // Keeps what was typed as what is to stand in the pattern's place, and offers the first place.
+    fn give(&mut self) -> Result<(), AllocError>
+        ensures text { edited_text self.new ≡ edited_text self.old }
+        ensures mode { OnOk result (self.new.mode ≢ Over) }
+        ensures err { OnErr result (self.new.area ≡ self.old.area) }
+        ensures saved { string_bytes self.new.saved ≡ string_bytes self.old.saved }
+    {
+        self.piece = String::from_str(self.alloc, self.field.text())?;
+        self.field.clear();
+        self.offer();
+        Ok(())
+    }
+
+    // Replaces what is selected, and offers the next place.
+    fn replace_one(&mut self) -> Result<(), AllocError>
+        ensures text { OnOk result (edited_text self.new
+            ≡ area_text (typing_over (string_bytes self.old.piece) self.old.area)) }
+        ensures mode { OnOk result (self.new.mode ≢ Over) }
+        ensures err { OnErr result (self.new.area ≡ self.old.area) }
+        ensures saved { string_bytes self.new.saved ≡ string_bytes self.old.saved }
+    {
+        self.area.insert_str(self.piece.as_str())?;
+        self.offer();
+        Ok(())
+    }
+
+    // Replaces what is selected, and all that occurs after it. If memory is refused, it tells so.
+    fn replace_all(&mut self)
+        ensures area { ReplacesAll (string_bytes self.old.pattern) (string_bytes self.old.piece)
+            self.old.area self.new.area }
+        ensures mode { self.new.mode ≡ Typing }
+        ensures saved { string_bytes self.new.saved ≡ string_bytes self.old.saved }
+    {
+        self.mode = Mode::Typing;
+        for _ in 0..u64::MAX {
+            if self.area.insert_str(self.piece.as_str()).is_err() {
+                self.note = Note::NoMemory;
+                return;
+            }
+            if !self.area.select_next(self.pattern.as_str()) {
+                return;
+            }
+        }
+    }
+
+    // Takes the answer whether what is selected is to be replaced.
+    fn take_offer(&mut self, event: &Event) -> Result<Request, AllocError>
+        requires { self.old.mode ≡ Offering }
+        ensures request { IfOk result (λ request. request ≡ Nothing) }
+        ensures answered { OnOk result (IsAnswered (offer_of event.now)
+            (string_bytes self.old.pattern) (string_bytes self.old.piece) self.old.area self.new.area) }
+        ensures mode { OnOk result (self.new.mode ≢ Over) }
+        ensures err { OnErr result (self.new.area ≡ self.old.area) }
+        ensures saved { string_bytes self.new.saved ≡ string_bytes self.old.saved }
+    {
+        match offer_of(event) {
+            None => {}
+            Some(Offer::Yes) => self.replace_one()?,
+            Some(Offer::No) => self.offer(),
+            Some(Offer::All) => self.replace_all(),
+            Some(Offer::Stop) => self.mode = Mode::Typing,
+        }
+        Ok(Request::Nothing)
+    }
+
+    // Takes the words that were typed for what they are typed for.
+    fn enter(&mut self) -> Result<(), AllocError>
+        ensures text { edited_text self.new ≡ edited_text self.old }
+        ensures mode { OnOk result (self.new.mode ≢ Over) }
+        ensures err { OnErr result (self.new.area ≡ self.old.area) }
+        ensures saved { string_bytes self.new.saved ≡ string_bytes self.old.saved }
+    {
+        match self.mode {
+            Mode::Seeking => self.seek(),
+            Mode::Giving => self.give(),
+            _ => self.find(),
+        }
+    }
+
+    // Takes an event for words: a pattern, or what is to stand in its place.
+    fn take_words(&mut self, event: &Event) -> Result<Request, AllocError>
         requires { self.old.mode ≢ Over }
         ensures request { IfOk result (λ request. request ≡ Nothing) }
         ensures text { edited_text self.new ≡ edited_text self.old }
@@ -342,7 +461,7 @@ impl Editor {
     {
         match pressed(event) {
             Some(KeyCode::Esc) => self.mode = Mode::Typing,
-            Some(KeyCode::Enter) => self.find()?,
+            Some(KeyCode::Enter) => self.enter()?,
             _ => {
                 let _is_taken = self.field.handle(event)?;
             }

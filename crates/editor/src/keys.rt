@@ -3,6 +3,7 @@
 ghost use Rattle.std.specs.Prelude.{◌≡◌};
 ghost use Rattle.editor.specs.Commands.{asked_beside_control, asked_beside_alt, asked_by_letter, asked_by_code};
 ghost use Rattle.editor.specs.Commands.{asked_of, pressed_code, is_yes, answer_of};
+ghost use Rattle.editor.specs.Commands.{offer_by, offer_of};
 
 use ratatui_events::{Event, KeyCode, KeyEvent, KeyEventKind, KeyModifiers};
 
@@ -21,6 +22,21 @@ pub enum Command {
     Undo,
     /// Alt+E: what was undone last is to be done again.
     Redo,
+    /// Alt+R: a pattern is to be replaced.
+    Replace,
+}
+
+/// What an event says to the question whether what was found is to be replaced.
+#[derive(Debug, Clone, Copy, PartialEq, Eq)]
+pub enum Offer {
+    /// The letter `y`: yes, and then the next one is asked about.
+    Yes,
+    /// The letter `n`: no, but the next one is asked about.
+    No,
+    /// The letter `a`: this one and all after it.
+    All,
+    /// Any other key: no, and no other one.
+    Stop,
 }
 
 // The command of a letter beside Control.
@@ -43,6 +59,7 @@ fn alt_command(letter: char) -> Option<Command>
     match letter {
         'u' => Some(Command::Undo),
         'e' => Some(Command::Redo),
+        'r' => Some(Command::Replace),
         _ => None,
     }
 }
@@ -111,6 +128,29 @@ pub fn answer_of(event: &Event) -> Option<bool>
 {
     match pressed(event) {
         Some(code) => Some(is_yes(code)),
+        None => None,
+    }
+}
+
+// What a key says to an offer.
+fn offer_by(code: KeyCode) -> Offer
+    ensures { result ≡ offer_by code }
+{
+    match code {
+        KeyCode::Char('y') => Offer::Yes,
+        KeyCode::Char('n') => Offer::No,
+        KeyCode::Char('a') => Offer::All,
+        _ => Offer::Stop,
+    }
+}
+
+/// Answers what an event says to the question whether what was found is to be replaced, if it is a
+/// key that is pressed.
+pub fn offer_of(event: &Event) -> Option<Offer>
+    ensures { result ≡ offer_of event.now }
+{
+    match pressed(event) {
+        Some(code) => Some(offer_by(code)),
         None => None,
     }
 }
