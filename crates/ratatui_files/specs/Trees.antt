@@ -56,9 +56,13 @@ info_of e name = record {
   mode = Some (node_mode e.node);
 }
 
+-- what is told of a thing if it stands in a folder
+abbrev pub info_in : List ℕ → Entry → Option Info
+info_in folder e = option_map (info_of e) (name_in folder e.path)
+
 -- what stands in a folder
 abbrev pub entries_in : List ℕ → List Entry → List Info
-entries_in folder t = filter_map (λ e. option_map (info_of e) (name_in folder e.path)) t
+entries_in folder t = filter_map (info_in folder) t
 
 -- there is a folder for a thing of that path
 abbrev pub has_folder : List ℕ → List Entry → Bool

@@ -4,14 +4,14 @@ ghost use Rattle.std.specs.Prelude.{◌≡◌, ◌≤◌, IfOk, OnOk, OnErr, tak
 ghost use Rattle.std.specs.Prelude.{vec_len};
 ghost use Rattle.std.specs.Vec.{vec_capacity};
 ghost use Rattle.ratatui_files.specs.Paths.{moved_path};
-ghost use Rattle.ratatui_files.specs.Trees.{entries_in, without, with_node, renamed, info_of};
+ghost use Rattle.ratatui_files.specs.Trees.{entries_in, without, with_node, renamed, info_of, info_in};
 ghost use Rattle.ratatui_files.specs.Inner.{with_paths};
 
 use crate::answer::{Entries, Info, Kind};
 use crate::node::{Entry, Node};
 use crate::path::{moved_path, name_in};
 use crate::text::{Bytes, Text};
-use crate::tree::bytes_of;
+use crate::tree::{bytes_of, is_at};
 use std::alloc::{AllocError, Global};
 use std::time::Duration;
 
@@ -32,21 +32,41 @@ fn info_of(alloc: Global, entry: &Entry, name: &str) -> Result<Info, AllocError>
     })
 }
 
+// What is told of a thing if it stands in a folder.
+fn info_in(alloc: Global, folder: &str, entry: &Entry) -> Result<Option<Info>, AllocError>
+    ensures { IfOk result (λ info. info ≡ info_in folder.now entry.now) }
+{
+    match name_in(folder, entry.path.as_str()) {
+        Some(name) => Ok(Some(info_of(alloc, entry, name)?)),
+        None => Ok(None),
+    }
+}
+
 // What stands in a folder.
-pub(crate) fn entries_in(alloc: Global, folder: &str, entries: &[Entry]) -> Result<Entries, AllocError>
+pub(crate) fn entries_in(
+    alloc: Global,
+    folder: &str,
+    entries: &[Entry],
+) -> Result<Entries, AllocError>
     ensures { IfOk result (λ infos. infos ≡ entries_in folder.now entries.now) }
 {
     let mut infos = Vec::new(alloc);
     for entry in entries {
-        if let Some(name) = name_in(folder, entry.path.as_str()) {
-            infos.push(info_of(alloc, entry, name)?)?;
-        }
+        let Some(info) = info_in(alloc, folder, entry)? else {
+            continue;
+        };
+        infos.push(info)?;
     }
     Ok(Entries::new(infos))
 }
 
 // Some of these bytes, from one on.
-pub(crate) fn part(alloc: Global, bytes: &[u8], start: u64, most: usize) -> Result<Bytes, AllocError>
+pub(crate) fn part(
+    alloc: Global,
+    bytes: &[u8],
+    start: u64,
+    most: usize,
+) -> Result<Bytes, AllocError>
     ensures { IfOk result (λ part. part ≡ take most (drop start bytes.now)) }
 {
     let start = start.min(bytes.len() as u64) as usize;
@@ -60,7 +80,7 @@ pub(crate) fn remove(path: &str, entries: &mut Vec<Entry>)
     ensures capacity { vec_capacity entries.new ≡ vec_capacity entries.old }
     ensures len { vec_len entries.new ≤ vec_len entries.old }
 {
-    entries.retain(|entry| entry.path.as_str() != path);
+    entries.retain(|entry| !is_at(path, entry));
 }
 
 // Puts something at a path, in place of what stands there.
@@ -104,11 +124,14 @@ fn moved_paths(
 
 // Gives these paths to the entries, in order.
 fn give_paths(paths: Vec<Text>, entries: &mut [Entry])
-    requires { length paths.items ≡ length entries.old }
     ensures { entries.new ≡ with_paths entries.old paths.items }
 {
-    for (i, path) in paths.into_iter().enumerate() {
-        entries[i].path = path;
+    let mut paths = paths.into_iter();
+    for entry in entries.iter_mut() {
+        let Some(path) = paths.next() else {
+            return;
+        };
+        entry.path = path;
     }
 }
 

@@ -85,7 +85,13 @@ impl InMemory {
             ≡ record self.old { entries = with_node path.now node self.old.time self.old.entries }) }
         ensures refused { OnErr result (self.new ≡ self.old) }
     {
-        put(self.alloc, path.as_str(), node, self.time, &mut self.entries)
+        put(
+            self.alloc,
+            path.as_str(),
+            node,
+            self.time,
+            &mut self.entries,
+        )
     }
 
     // Puts a copy of what the file at a path holds at another one.

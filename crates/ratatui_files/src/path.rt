@@ -37,7 +37,7 @@ impl Path {
         ensures { MatchOption result (is_path (string_bytes text) ≡ false)
             (λ path. path ≡ string_bytes text) }
     {
-        if is_path(text.as_str()) {
+        if is_path(text.as_bytes()) {
             Some(Path { text })
         } else {
             None
@@ -59,6 +59,13 @@ impl Path {
         ensures is { IsTrue (is_path self.now) }
     {
         self.text.as_str()
+    }
+
+    /// Whether it lies in this folder, or in a folder of it.
+    pub fn is_inside(&self, folder: &Path) -> bool
+        ensures { result ≡ is_inside folder.now self.now }
+    {
+        is_inside(folder.as_str(), self.as_str())
     }
 
     /// The path of a name in this folder, or none if that can't be a name.
@@ -104,17 +111,20 @@ pub fn is_name(name: &[u8]) -> bool
 }
 
 /// Whether a text is a path.
-pub fn is_path(text: &str) -> bool
+pub fn is_path(text: &[u8]) -> bool
     ensures { result ≡ is_path text.now }
 {
-    text.is_empty() || text.as_bytes().split(|b| *b == b'/').all(is_name)
+    text.is_empty() || text.split(|b| *b == b'/').all(is_name)
 }
 
 // What follows a beginning of a text.
 fn after_start<'a>(start: &str, text: &'a str) -> Option<&'a str>
     ensures { option_copied result ≡ after_start start.now text.now }
 {
-    text.strip_prefix(start)
+    match text.strip_prefix(start) {
+        Some(rest) => Some(rest),
+        None => None,
+    }
 }
 
 // The path of a thing from a folder that it is in, or in a folder of which.
@@ -154,7 +164,12 @@ pub(crate) fn is_named_in(folder: &str, path: &str) -> bool
 }
 
 // Where a thing is once another one, or a folder that it is in, is moved_path.
-pub(crate) fn moved_path(alloc: Global, from: &str, to: &str, path: &str) -> Result<Text, AllocError>
+pub(crate) fn moved_path(
+    alloc: Global,
+    from: &str,
+    to: &str,
+    path: &str,
+) -> Result<Text, AllocError>
     ensures { IfOk result (λ text. text ≡ moved_path from.now to.now path.now) }
 {
     if path == from {

@@ -36,11 +36,18 @@ pub(crate) fn bytes_of(node: &Node) -> &[u8]
     }
 }
 
+// Whether this stands at a path.
+pub(crate) fn is_at(path: &str, entry: &Entry) -> bool
+    ensures { result ≡ stands_at path.now entry.now }
+{
+    entry.path.as_str() == path
+}
+
 // What is found at a path other than that of the folder that all is in.
 fn entry_at<'a>(path: &str, entries: &'a [Entry]) -> Option<&'a Entry>
     ensures { option_copied result ≡ find (stands_at path.now) entries.now }
 {
-    entries.iter().find(|entry| entry.path.as_str() == path)
+    entries.iter().find(|entry| is_at(path, entry))
 }
 
 // What stands at a path.
@@ -82,18 +89,15 @@ fn has_folder(path: &str, entries: &[Entry]) -> bool
     ensures { result ≡ has_folder path.now entries.now }
 {
     is_named_in("", path)
-        || entries
-            .iter()
-            .any(|entry| !is_file(&entry.node) && is_named_in(entry.path.as_str(), path))
+        || entries.iter().any(|entry| !is_file(&entry.node)
+            && is_named_in(entry.path.as_str(), path))
 }
 
 // Whether a file stands where a folder would have to, for a thing to be at this path.
 fn is_in_file(path: &str, entries: &[Entry]) -> bool
     ensures { result ≡ is_in_file path.now entries.now }
 {
-    entries
-        .iter()
-        .any(|entry| is_file(&entry.node) && is_inside(entry.path.as_str(), path))
+    entries.iter().any(|entry| is_file(&entry.node) && is_inside(entry.path.as_str(), path))
 }
 
 // Whether nothing stands in a folder.
