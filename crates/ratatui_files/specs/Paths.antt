@@ -8,18 +8,24 @@ use Rattle.std.specs.Str.{bytes_eq}
 abbrev pub is_slash : ℕ → Bool
 is_slash b = b == 47
 
-abbrev pub is_break : ℕ → Bool
-is_break b = b == 0 || is_slash b
+-- what stands in no name
+abbrev pub is_unnamed : ℕ → Bool
+is_unnamed b = b == 0 || is_slash b
 
 -- what can be a name in a folder: some text, neither `.` nor `..`, without NUL and without a slash
 abbrev pub is_name : List ℕ → Bool
 is_name name =
     not (bytes_eq name []) && not (bytes_eq name (codes ".")) && not (bytes_eq name (codes ".."))
-    && not (list_any is_break name)
+    && not (list_any is_unnamed name)
 
 -- nothing, or names with slashes between them
 abbrev pub is_path : List ℕ → Bool
 is_path path = bytes_eq path [] || list_all is_name (slice_split is_slash path)
+
+-- the path of a name in a folder
+abbrev pub path_in : List ℕ → List ℕ → List ℕ
+path_in [] name = name
+path_in (c ∷ folder) name = (c ∷ folder) ++ codes "/" ++ name
 
 -- what follows such a beginning of a text
 abbrev pub after_start : List ℕ → List ℕ → Option (List ℕ)

@@ -7,6 +7,7 @@ use crate::text::{Bytes, Text};
 use std::io::ErrorKind;
 use std::marker::Model;
 use std::time::Duration;
+use thiserror::Error;
 
 /// What something is.
 #[derive(Debug, Clone, Copy, PartialEq, Eq)]
@@ -75,33 +76,46 @@ impl Entries {
 }
 
 /// Why a command wasn't done.
-#[derive(Debug, Clone, Copy, PartialEq, Eq)]
+#[derive(Debug, Clone, Copy, PartialEq, Eq, Error)]
 pub enum Failure {
     /// There is nothing of that path.
+    #[error("not found")]
     NotFound,
     /// It isn't allowed.
+    #[error("not allowed")]
     NotAllowed,
     /// There is something of that path already.
+    #[error("it exists already")]
     Exists,
     /// There is no room for it.
+    #[error("no room is left")]
     Full,
     /// The folder isn't empty.
+    #[error("the folder isn't empty")]
     NotEmpty,
     /// It isn't a folder.
+    #[error("not a folder")]
     NotAFolder,
     /// It is a folder, where a file is wanted.
+    #[error("a folder")]
     IsAFolder,
     /// It is neither a file nor a folder.
+    #[error("not a file")]
     NotAFile,
     /// It would lie in itself.
+    #[error("it would lie in itself")]
     IntoItself,
     /// It lies on another device, or would.
+    #[error("on another device")]
     OtherDevice,
     /// A name is too long, or can't be one there.
+    #[error("not a name")]
     BadName,
     /// Memory was refused.
+    #[error("no memory")]
     Memory,
     /// It is none of these.
+    #[error("the system refused")]
     Other,
 }
 

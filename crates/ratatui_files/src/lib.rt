@@ -9,7 +9,10 @@
 mod answer;
 mod change;
 mod command;
+mod failing;
+mod files;
 mod in_memory;
+pub mod laws;
 mod node;
 mod on_disk;
 mod path;
@@ -19,6 +22,8 @@ mod tree;
 
 pub use answer::{Answer, Entries, Failure, Info, Kind};
 pub use command::Command;
+pub use failing::Failing;
+pub use files::{Files, HoldsCommand};
 pub use in_memory::InMemory;
 pub use node::{Entry, Node};
 pub use on_disk::OnDisk;

@@ -114,7 +114,9 @@ impl<'a, R: Files + Alloc<A = Global> + Clock + Clone + Drop> OnDisk<'a, R> {
         };
         let mut place = String::from_str(self.rt.alloc(), folder)?;
         if !path.as_str().is_empty() {
-            place.push('/')?;
+            if !folder.ends_with('/') {
+                place.push('/')?;
+            }
             place.push_str(path.as_str())?;
         }
         Ok(place)

@@ -1,12 +1,12 @@
 //! Paths in a tree of files.
 
-ghost use Rattle.std.specs.Prelude.{◌≡◌, [], false, IsTrue, MatchOption, IfOk, is_some};
-ghost use Rattle.std.specs.Prelude.{string_bytes};
+ghost use Rattle.std.specs.Prelude.{◌≡◌, [], false, IsTrue, MatchOption, IfOk, is_some, if◌then◌else◌};
+ghost use Rattle.std.specs.Prelude.{string_bytes, Some, None};
 ghost use Rattle.std.specs.Str.{bytes_eq};
 ghost use Rattle.std.specs.List.{list_any};
 ghost use Rattle.std.specs.Option.{option_copied};
-ghost use Rattle.ratatui_files.specs.Paths.{is_slash, is_break, is_name, is_path, path_from, is_inside};
-ghost use Rattle.ratatui_files.specs.Paths.{name_in, only_name, after_start, moved_path};
+ghost use Rattle.ratatui_files.specs.Paths.{is_slash, is_unnamed, is_name, is_path, path_from, is_inside};
+ghost use Rattle.ratatui_files.specs.Paths.{name_in, only_name, after_start, moved_path, path_in};
 
 use crate::text::Text;
 use std::alloc::{AllocError, Global};
@@ -53,6 +53,19 @@ impl Path {
         }
     }
 
+    /// A copy of it.
+    ///
+    /// # Errors
+    ///
+    /// `AllocError` if memory is refused.
+    pub fn copy(&self, alloc: Global) -> Result<Path, AllocError>
+        ensures { IfOk result (λ copy. copy ≡ self.now) }
+    {
+        Ok(Path {
+            text: String::from_str(alloc, self.text.as_str())?,
+        })
+    }
+
     /// Lends it as a `str`.
     pub fn as_str(&self) -> &str
         ensures value { result.now ≡ self.now }
@@ -73,22 +86,21 @@ impl Path {
     /// # Errors
     ///
     /// `AllocError` if memory is refused.
-    pub fn entry(&self, alloc: Global, name: &str) -> Result<Option<Path>, AllocError> {
+    pub fn entry(&self, alloc: Global, name: &str) -> Result<Option<Path>, AllocError>
+        ensures { IfOk result (λ path.
+            path ≡ (if is_name name.now then Some (path_in self.now name.now) else None)) }
+    {
         if !is_name(name.as_bytes()) {
             return Ok(None);
         }
-        let mut text = String::from_str(alloc, self.text.as_str())?;
-        if !text.is_empty() {
-            text.push('/')?;
-        }
-        text.push_str(name)?;
-        Ok(Path::new(text))
+        let text = path_in(alloc, self.text.as_str(), name)?;
+        Ok(Some(Path { text }))
     }
 }
 
 // Whether there is a NUL or a slash in a text.
-fn has_break(text: &[u8]) -> bool
-    ensures { result ≡ list_any is_break text.now }
+fn has_unnamed(text: &[u8]) -> bool
+    ensures { result ≡ list_any is_unnamed text.now }
 {
     text.iter().any(|b| *b == 0 || *b == b'/')
 }
@@ -107,7 +119,7 @@ pub fn is_name(name: &[u8]) -> bool
     name != b"".as_slice()
         && name != b".".as_slice()
         && name != b"..".as_slice()
-        && !has_break(name)
+        && !has_unnamed(name)
 }
 
 /// Whether a text is a path.
@@ -115,6 +127,19 @@ pub fn is_path(text: &[u8]) -> bool
     ensures { result ≡ is_path text.now }
 {
     text.is_empty() || text.split(|b| *b == b'/').all(is_name)
+}
+
+// The path of a name in a folder.
+fn path_in(alloc: Global, folder: &str, name: &str) -> Result<String, AllocError>
+    ensures { IfOk result (λ text. string_bytes text ≡ path_in folder.now name.now) }
+{
+    if folder.is_empty() {
+        return String::from_str(alloc, name);
+    }
+    let mut text = String::from_str(alloc, folder)?;
+    text.push_str("/")?;
+    text.push_str(name)?;
+    Ok(text)
 }
 
 // What follows a beginning of a text.
