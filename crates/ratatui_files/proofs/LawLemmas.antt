@@ -1,5 +1,6 @@
 -- What commands keep, and what they make.
-use Rattle.std.proofs.Common.{◌≡◌, ◌≢◌, ℕ, Bool, true, false, not, cond, ◌&&◌, ◌||◌, List, [], ◌∷◌, ◌++◌, length, take, drop, map}
+use Rattle.std.proofs.Common.{◌≡◌, ◌≢◌, ℕ, Bool, true, false, not, cond, ◌&&◌, ◌||◌, List, [], ◌∷◌, ◌++◌, length, take}
+use Rattle.std.proofs.Common.{drop, map}
 use Rattle.std.proofs.Common.{Option, None, Some, refl, ap, sym, ◌∙◌, subst, append_assoc}
 use Rattle.std.specs.Prelude.{codes, find, filter, option_map, is_some, nat_eq, if◌then◌else◌}
 use Rattle.std.specs.Option.{option_map_or, option_and_then}
@@ -16,8 +17,10 @@ use Rattle.ratatui_files.specs.declared.answer.Failure.{Failure}
 use Rattle.ratatui_files.specs.declared.command.Command.{Command}
 use Rattle.ratatui_files.specs.declared.command.Command.TheVariants as command
 use Rattle.ratatui_files.specs.Paths.{after_start, path_from, is_inside, moved_path}
-use Rattle.ratatui_files.specs.Trees.{Tree, stands_at, node_at, bytes_at, bytes_of, without, with_node, with_path, renamed}
-use Rattle.ratatui_files.specs.Changes.{refusal, done, done_answer, answer_to, tree_after, lack, wants_file, wants_room, lacks_folder, refuses_file, refuses_write}
+use Rattle.ratatui_files.specs.Trees.{Tree, stands_at, node_at, bytes_at, bytes_of, without, with_node, with_path}
+use Rattle.ratatui_files.specs.Trees.{renamed}
+use Rattle.ratatui_files.specs.Changes.{refusal, done, done_answer, answer_to, tree_after, lack, wants_file, wants_room}
+use Rattle.ratatui_files.specs.Changes.{lacks_folder, refuses_file, refuses_write}
 use Rattle.ratatui_files.specs.Kept.{is_within, NamesOther}
 use Rattle.ratatui_files.proofs.PathLemmas.{begins}
 
@@ -40,33 +43,33 @@ find-gone : (path : List ℕ) (t : List Entry) → find (stands_at path) (withou
 find-gone path [] = refl
 find-gone path (e ∷ t) = by (find-gone path t) (stands_at path e) refl
   where
-  by : find (stands_at path) (without path t) ≡ None → (b : Bool) → stands_at path e ≡ b → find (stands_at path) (cond (not b) (e ∷ without path t) (without path t)) ≡ None
-  by rest true is = rest
-  by rest false is = ap (λ c. cond c (Some e) (find (stands_at path) (without path t))) is ∙ rest
+    by : find (stands_at path) (without path t) ≡ None → (b : Bool) → stands_at path e ≡ b → find (stands_at path) (cond (not b) (e ∷ without path t) (without path t)) ≡ None
+    by rest true is = rest
+    by rest false is = ap (λ c. cond c (Some e) (find (stands_at path) (without path t))) is ∙ rest
 
 -- what is found elsewhere stays
 find-elsewhere : (q path : List ℕ) (t : List Entry) → q ≢ path → find (stands_at q) (without path t) ≡ find (stands_at q) t
 find-elsewhere q path [] h = refl
 find-elsewhere q path (e ∷ t) h = by (find-elsewhere q path t h) (stands_at path e) refl
   where
-  by : find (stands_at q) (without path t) ≡ find (stands_at q) t → (b : Bool) → stands_at path e ≡ b
-      → find (stands_at q) (cond (not b) (e ∷ without path t) (without path t)) ≡ cond (stands_at q e) (Some e) (find (stands_at q) t)
-  by rest true is =
-      let here : e.path ≡ path = same-text e.path path is in
-      let not_q : stands_at q e ≡ false =
-      other-text e.path q (stands_at q e) refl (λ same. h (sym same ∙ here)) in
-      rest ∙ sym (ap (λ c. cond c (Some e) (find (stands_at q) t)) not_q)
-  by rest false is = ap (λ o. cond (stands_at q e) (Some e) o) rest
+    by : find (stands_at q) (without path t) ≡ find (stands_at q) t → (b : Bool) → stands_at path e ≡ b
+        → find (stands_at q) (cond (not b) (e ∷ without path t) (without path t)) ≡ cond (stands_at q e) (Some e) (find (stands_at q) t)
+    by rest true is =
+        let here : e.path ≡ path = same-text e.path path is in
+        let not_q : stands_at q e ≡ false =
+        other-text e.path q (stands_at q e) refl (λ same. h (sym same ∙ here)) in
+        rest ∙ sym (ap (λ c. cond c (Some e) (find (stands_at q) t)) not_q)
+    by rest false is = ap (λ o. cond (stands_at q e) (Some e) o) rest
 
 -- what is found in a list with one more thing
 find-pushed : (test : Entry → Bool) (e : Entry) (t : List Entry) → find test t ≡ None → test e ≡ true → find test (t ++ e ∷ []) ≡ Some e
 find-pushed test e [] none is = ap (λ c. cond c (Some e) None) is
 find-pushed test e (x ∷ t) none is = by (λ h. find-pushed test e t h is) (test x) refl
   where
-  by : (find test t ≡ None → find test (t ++ e ∷ []) ≡ Some e) → (b : Bool) → test x ≡ b → cond b (Some x) (find test (t ++ e ∷ [])) ≡ Some e
-  by rest true said =
-      let no : Some x ≡ None = sym (ap (λ c. cond c (Some x) (find test t)) said) ∙ none in cc
-  by rest false said = rest (sym (ap (λ c. cond c (Some x) (find test t)) said) ∙ none)
+    by : (find test t ≡ None → find test (t ++ e ∷ []) ≡ Some e) → (b : Bool) → test x ≡ b → cond b (Some x) (find test (t ++ e ∷ [])) ≡ Some e
+    by rest true said =
+        let no : Some x ≡ None = sym (ap (λ c. cond c (Some x) (find test t)) said) ∙ none in cc
+    by rest false said = rest (sym (ap (λ c. cond c (Some x) (find test t)) said) ∙ none)
 
 find-not_pushed : (test : Entry → Bool) (e : Entry) (t : List Entry) → test e ≡ false → find test (t ++ e ∷ []) ≡ find test t
 find-not_pushed test e [] is = ap (λ c. cond c (Some e) None) is
@@ -106,15 +109,15 @@ inside-moved (c ∷ to) rest =
     ∙ ap (λ left. is_some (after_start (codes "/") left)) (drop-joined (c ∷ to) (codes "/" ++ rest))
     ∙ ap (λ b. is_some (if b then Some rest else None)) (begins (codes "/" ++ rest) (codes "/") rest refl)
   where
-  drop-joined : (xs ys : List ℕ) → drop (length xs) (xs ++ ys) ≡ ys
-  drop-joined [] ys = refl
-  drop-joined (x ∷ xs) ys = drop-joined xs ys
+    drop-joined : (xs ys : List ℕ) → drop (length xs) (xs ++ ys) ≡ ys
+    drop-joined [] ys = refl
+    drop-joined (x ∷ xs) ys = drop-joined xs ys
 
 or-parts : (a b : Bool) → (a || b) ≡ false → (a ≡ false) × (b ≡ false)
 or-parts true b e = absurd (true-false e)
   where
-  true-false : true ≡ false → ⊥
-  true-false e = cc
+    true-false : true ≡ false → ⊥
+    true-false e = cc
 or-parts false b e = (refl, e)
 
 -- a thing comes to a path that is in neither of the two no more and no less than it was there
@@ -122,28 +125,31 @@ moved-elsewhere : (from to q path : List ℕ) → is_within from q ≡ false →
     → bytes_eq (moved_path from to path) q ≡ bytes_eq path q
 moved-elsewhere from to q path not_from not_to = by (bytes_eq path from) refl
   where
-  not_at : (p : List ℕ) → is_within p q ≡ false → bytes_eq p q ≡ false
-  not_at p e = other-text p q (bytes_eq p q) refl (λ same.
-      let own : bytes_eq q p ≡ true = subst (λ (x : List ℕ). bytes_eq q x ≡ true) (sym same) (own-text q) in
-      let no : bytes_eq q p ≡ false = (or-parts (bytes_eq q p) (is_inside p q) e).0 in
-      let clash : true ≡ false = sym own ∙ no in cc)
-  not_in : (p x : List ℕ) → is_within p q ≡ false → is_inside p x ≡ true → bytes_eq x q ≡ false
-  not_in p x e inside = other-text x q (bytes_eq x q) refl (λ same.
-      let yes : is_inside p q ≡ true = subst (λ (y : List ℕ). is_inside p y ≡ true) same inside in
-      let no : is_inside p q ≡ false = (or-parts (bytes_eq q p) (is_inside p q) e).1 in
-      let clash : true ≡ false = sym yes ∙ no in cc)
-  inner : (o : Option (List ℕ)) → path_from from path ≡ o
-      → bytes_eq (option_map_or (λ rest. to ++ codes "/" ++ rest) o path) q ≡ bytes_eq path q
-  inner None is = refl
-  inner (Some rest) is =
-      not_in to (to ++ codes "/" ++ rest) not_to (inside-moved to rest)
-      ∙ sym (not_in from path not_from (ap is_some is))
-  by : (b : Bool) → bytes_eq path from ≡ b
-      → bytes_eq (if b then to else option_map_or (λ rest. to ++ codes "/" ++ rest) (path_from from path) path) q ≡ bytes_eq path q
-  by true is =
-      not_at to not_to
-      ∙ sym (subst (λ (x : List ℕ). bytes_eq x q ≡ false) (sym (same-text path from is)) (not_at from not_from))
-  by false is = inner (path_from from path) refl
+    not_at : (p : List ℕ) → is_within p q ≡ false → bytes_eq p q ≡ false
+    not_at p e = other-text p q (bytes_eq p q) refl (λ same.
+        let own : bytes_eq q p ≡ true = subst (λ (x : List ℕ). bytes_eq q x ≡ true) (sym same) (own-text q) in
+        let no : bytes_eq q p ≡ false = (or-parts (bytes_eq q p) (is_inside p q) e).0 in
+        let clash : true ≡ false = sym own ∙ no in cc)
+
+    not_in : (p x : List ℕ) → is_within p q ≡ false → is_inside p x ≡ true → bytes_eq x q ≡ false
+    not_in p x e inside = other-text x q (bytes_eq x q) refl (λ same.
+        let yes : is_inside p q ≡ true = subst (λ (y : List ℕ). is_inside p y ≡ true) same inside in
+        let no : is_inside p q ≡ false = (or-parts (bytes_eq q p) (is_inside p q) e).1 in
+        let clash : true ≡ false = sym yes ∙ no in cc)
+
+    inner : (o : Option (List ℕ)) → path_from from path ≡ o
+        → bytes_eq (option_map_or (λ rest. to ++ codes "/" ++ rest) o path) q ≡ bytes_eq path q
+    inner None is = refl
+    inner (Some rest) is =
+        not_in to (to ++ codes "/" ++ rest) not_to (inside-moved to rest)
+        ∙ sym (not_in from path not_from (ap is_some is))
+
+    by : (b : Bool) → bytes_eq path from ≡ b
+        → bytes_eq (if b then to else option_map_or (λ rest. to ++ codes "/" ++ rest) (path_from from path) path) q ≡ bytes_eq path q
+    by true is =
+        not_at to not_to
+        ∙ sym (subst (λ (x : List ℕ). bytes_eq x q ≡ false) (sym (same-text path from is)) (not_at from not_from))
+    by false is = inner (path_from from path) refl
 
 node-renamed : (from to q : List ℕ) (t : List Entry) → is_within from q ≡ false → is_within to q ≡ false
     → option_map (λ (e : Entry). e.node) (find (stands_at q) (renamed from to t)) ≡ option_map (λ (e : Entry). e.node) (find (stands_at q) t)
@@ -153,11 +159,11 @@ node-renamed from to q (e ∷ t) not_from not_to =
     (moved-elsewhere from to q e.path not_from not_to)
     ∙ by (node-renamed from to q t not_from not_to) (stands_at q e)
   where
-  by : option_map (λ (x : Entry). x.node) (find (stands_at q) (renamed from to t)) ≡ option_map (λ (x : Entry). x.node) (find (stands_at q) t)
-      → (b : Bool) → option_map (λ (x : Entry). x.node) (cond b (Some (with_path e (moved_path from to e.path))) (find (stands_at q) (renamed from to t)))
-      ≡ option_map (λ (x : Entry). x.node) (cond b (Some e) (find (stands_at q) t))
-  by rest true = refl
-  by rest false = rest
+    by : option_map (λ (x : Entry). x.node) (find (stands_at q) (renamed from to t)) ≡ option_map (λ (x : Entry). x.node) (find (stands_at q) t)
+        → (b : Bool) → option_map (λ (x : Entry). x.node) (cond b (Some (with_path e (moved_path from to e.path))) (find (stands_at q) (renamed from to t)))
+        ≡ option_map (λ (x : Entry). x.node) (cond b (Some e) (find (stands_at q) t))
+    by rest true = refl
+    by rest false = rest
 
 renamed-elsewhere : (from to q : List ℕ) (t : List Entry) → is_within from q ≡ false → is_within to q ≡ false
     → node_at q (renamed from to t) ≡ node_at q t
@@ -180,10 +186,10 @@ done-elsewhere q command.Now t h = refl
 pub stays : (q : List ℕ) (c : Command) (t : Tree) → NamesOther q c → node_at q (tree_after c t).entries ≡ node_at q t.entries
 stays q c t h = by (refusal c t.entries)
   where
-  by : (o : Option Failure)
-      → node_at q (option_map_or (λ _. t) o (record { entries = done c t; time = t.time })).entries ≡ node_at q t.entries
-  by None = done-elsewhere q c t h
-  by (Some failure) = refl
+    by : (o : Option Failure)
+        → node_at q (option_map_or (λ _. t) o (record { entries = done c t; time = t.time })).entries ≡ node_at q t.entries
+    by None = done-elsewhere q c t h
+    by (Some failure) = refl
 
 -- what isn't refused doesn't fail
 done-fine : (c : Command) (t : Tree) (failure : Failure) → done_answer c t ≡ answer.Failed failure → ⊥
@@ -200,18 +206,18 @@ done-fine command.Now t failure e = cc
 pub failed-same : (c : Command) (t : Tree) (failure : Failure) → answer_to c t ≡ answer.Failed failure → tree_after c t ≡ t
 failed-same c t failure = by (refusal c t.entries)
   where
-  by : (o : Option Failure) → option_map_or answer.Failed o (done_answer c t) ≡ answer.Failed failure
-      → option_map_or (λ _. t) o (record { entries = done c t; time = t.time }) ≡ t
-  by None e = absurd (done-fine c t failure e)
-  by (Some why) e = refl
+    by : (o : Option Failure) → option_map_or answer.Failed o (done_answer c t) ≡ answer.Failed failure
+        → option_map_or (λ _. t) o (record { entries = done c t; time = t.time }) ≡ t
+    by None e = absurd (done-fine c t failure e)
+    by (Some why) e = refl
 
 -- what was answered `Done` wasn't refused
 not-refused : (c : Command) (t : Tree) → answer_to c t ≡ answer.Done → refusal c t.entries ≡ None
 not-refused c t = by (refusal c t.entries)
   where
-  by : (o : Option Failure) → option_map_or answer.Failed o (done_answer c t) ≡ answer.Done → o ≡ None
-  by None e = refl
-  by (Some failure) e = cc
+    by : (o : Option Failure) → option_map_or answer.Failed o (done_answer c t) ≡ answer.Done → o ≡ None
+    by None e = refl
+    by (Some failure) e = cc
 
 after-done : (c : Command) (t : Tree) → answer_to c t ≡ answer.Done → tree_after c t ≡ record { entries = done c t; time = t.time }
 after-done c t e = ap (λ o. let x : Tree = option_map_or (λ _. t) o (record { entries = done c t; time = t.time }) in x) (not-refused c t e)

@@ -1,8 +1,10 @@
 -- Texts that begin with others.
-use Rattle.std.proofs.Common.{◌≡◌, ◌<◌, ◌≤◌, ℕ, zero, suc, Bool, true, false, ◌&&◌, ◌||◌, length, drop, List, [], ◌∷◌, ◌++◌, Option, None, Some}
+use Rattle.std.proofs.Common.{◌≡◌, ◌<◌, ◌≤◌, ℕ, zero, suc, Bool, true, false, ◌&&◌, ◌||◌, length, drop, List, [], ◌∷◌}
+use Rattle.std.proofs.Common.{◌++◌, Option, None, Some}
 use Rattle.std.proofs.Common.{refl, ap, sym, ◌∙◌, append_assoc, arith, not, cond, ◌+◌}
 use Rattle.std.specs.Prelude.{codes, nat_eq, ◌==◌, if◌then◌else◌}
-use Rattle.std.specs.List.{starts_with, list_all, list_any, slice_split, onto_first, count_by, AllWithin, HoldsAt, slice_index_or}
+use Rattle.std.specs.List.{starts_with, list_all, list_any, slice_split, onto_first, count_by, AllWithin, HoldsAt}
+use Rattle.std.specs.List.{slice_index_or}
 use Rattle.std.specs.Bool.{MatchBool}
 use Rattle.std.specs.Str.{bytes_eq}
 use Rattle.std.specs.Str.Pattern.{LacksTextAt}
@@ -95,12 +97,12 @@ split-joined [] name = refl
 split-joined (x ∷ folder) name = ap (λ ps. cond (is_slash x) ([] ∷ ps) (onto_first x ps)) (split-joined folder name)
     ∙ by-first (is_slash x)
   where
-  by-first : (b : Bool) → cond b ([] ∷ (slice_split is_slash folder ++ slice_split is_slash name))
-      (onto_first x (slice_split is_slash folder ++ slice_split is_slash name))
-      ≡ cond b ([] ∷ slice_split is_slash folder) (onto_first x (slice_split is_slash folder)) ++ slice_split is_slash name
-  by-first true = refl
-  by-first false = onto_first-append x (slice_split is_slash folder) (slice_split is_slash name)
-      (let some : length (slice_split is_slash folder) ≡ count_by is_slash folder + 1 = length-slice_split is_slash folder in omega (arith, some))
+    by-first : (b : Bool) → cond b ([] ∷ (slice_split is_slash folder ++ slice_split is_slash name))
+        (onto_first x (slice_split is_slash folder ++ slice_split is_slash name))
+        ≡ cond b ([] ∷ slice_split is_slash folder) (onto_first x (slice_split is_slash folder)) ++ slice_split is_slash name
+    by-first true = refl
+    by-first false = onto_first-append x (slice_split is_slash folder) (slice_split is_slash name)
+        (let some : length (slice_split is_slash folder) ≡ count_by is_slash folder + 1 = length-slice_split is_slash folder in omega (arith, some))
 
 -- a name has no slash
 and-right : (a b : Bool) → (a && b) ≡ true → b ≡ true

@@ -1,8 +1,10 @@
 -- Loops over what stands in a tree.
-use Rattle.std.proofs.Common.{◌≡◌, ◌<◌, ◌+◌, ℕ, zero, suc, List, [], ◌∷◌, ◌++◌, length, take, drop, map, Option, None, Some}
+use Rattle.std.proofs.Common.{◌≡◌, ◌<◌, ◌+◌, ℕ, zero, suc, List, [], ◌∷◌, ◌++◌, length, take, drop, map, Option, None}
+use Rattle.std.proofs.Common.{Some}
 use Rattle.std.proofs.Common.{refl, ap, sym, ◌∙◌, arith, get_or, set, Bool, true, false, cond, add-one}
 use Rattle.std.specs.List.Retain.{IsFiltered, ReturnsInTurn}
-use Rattle.std.specs.List.{filter, filter_map, cons_option, items_where_true, list_any, HoldsAt, AllWithin, slice_index_or}
+use Rattle.std.specs.List.{filter, filter_map, cons_option, items_where_true, list_any, HoldsAt, AllWithin}
+use Rattle.std.specs.List.{slice_index_or}
 use Rattle.std.specs.Prelude.{◌||◌, ◌≤◌}
 use Rattle.std.specs.Bool.{MatchBool}
 use Rattle.std.proofs.Math.Seq.{take-append_seam}

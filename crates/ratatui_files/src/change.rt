@@ -4,7 +4,8 @@ ghost use Rattle.std.specs.Prelude.{◌≡◌, ◌≤◌, IfOk, OnOk, OnErr, tak
 ghost use Rattle.std.specs.Prelude.{vec_len};
 ghost use Rattle.std.specs.Vec.{vec_capacity};
 ghost use Rattle.ratatui_files.specs.Paths.{moved_path};
-ghost use Rattle.ratatui_files.specs.Trees.{entries_in, without, with_node, renamed, info_of, info_in};
+ghost use Rattle.ratatui_files.specs.Trees.{entries_in, without, with_node, renamed, info_of};
+ghost use Rattle.ratatui_files.specs.Trees.{info_in};
 ghost use Rattle.ratatui_files.specs.Inner.{with_paths};
 
 use crate::answer::{Entries, Info, Kind};

@@ -20,7 +20,11 @@ impl<P: Performs> Failing<P> {
     /// What does so many commands, then fails at one, and does all that follow.
     pub fn new(performs: P, before: u64, failure: Failure) -> Failing<P>
         ensures { result ≡ record {
-            performs = performs; before = before; failure = failure; has_failed = false } }
+          performs = performs;
+          before = before;
+          failure = failure;
+          has_failed = false;
+        } }
     {
         Failing {
             performs,

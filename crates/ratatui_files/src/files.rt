@@ -52,8 +52,7 @@ impl<P: Performs> Files<P> {
 }
 
 impl<C: HoldsCommand, A: Acts<Command = C, Answer = Answer>, G: Glass<A>, P: Performs> Outside<A, G>
-    for Files<P>
-{
+    for Files<P> {
     ghost answers = { λ before c a after. P.does before.performs (C.held c) a after.performs };
 
     fn perform(&mut self, _glass: &G, _state: &A, command: &C) -> io::Result<Answer> {

@@ -81,8 +81,9 @@ impl InMemory {
 
     // Puts a file or a folder at a path.
     fn put(&mut self, path: &Path, node: Node) -> Result<(), AllocError>
-        ensures ok { OnOk result (self.new
-            ≡ record self.old { entries = with_node path.now node self.old.time self.old.entries }) }
+        ensures ok { OnOk result (self.new ≡ record self.old {
+          entries = with_node path.now node self.old.time self.old.entries;
+        }) }
         ensures refused { OnErr result (self.new ≡ self.old) }
     {
         put(

@@ -1,9 +1,9 @@
 //! Files as commands with answers: on a disk, or in memory.
 //!
-//! An application asks for something to be done to files by a [`Command`], and is told an [`Answer`].
-//! What does commands is a [`Performs`]: [`OnDisk`] does them to the system's files, and [`InMemory`]
-//! to a tree of files in memory, of which it is proved what each command makes. [`Files`] is the
-//! outside of an application that acts.
+//! An application asks for something to be done to files by a [`Command`], and is told an
+//! [`Answer`]. What does commands is a [`Performs`]: [`OnDisk`] does them to the system's files, and
+//! [`InMemory`] to a tree of files in memory, of which it is proved what each command makes.
+//! [`Files`] is the outside of an application that acts.
 #![tactic(auto)]
 
 mod answer;

@@ -101,7 +101,9 @@ pub struct OnDisk<'a, R> {
 
 impl<'a, R: Files + Alloc<A = Global> + Clock + Clone + Drop> OnDisk<'a, R> {
     /// The files in the folder at this path of the system's.
-    pub fn new(rt: &'a R, folder: &'a str) -> OnDisk<'a, R> {
+    pub fn new(rt: &'a R, folder: &'a str) -> OnDisk<'a, R>
+        ensures { result.folder.now ≡ folder.now }
+    {
         OnDisk { rt, folder }
     }
 

@@ -1,11 +1,13 @@
 //! Paths in a tree of files.
 
-ghost use Rattle.std.specs.Prelude.{◌≡◌, [], false, IsTrue, MatchOption, IfOk, is_some, if◌then◌else◌};
+ghost use Rattle.std.specs.Prelude.{◌≡◌, [], false, IsTrue, MatchOption, IfOk, is_some};
+ghost use Rattle.std.specs.Prelude.{if◌then◌else◌};
 ghost use Rattle.std.specs.Prelude.{string_bytes, Some, None};
 ghost use Rattle.std.specs.Str.{bytes_eq};
 ghost use Rattle.std.specs.List.{list_any};
 ghost use Rattle.std.specs.Option.{option_copied};
-ghost use Rattle.ratatui_files.specs.Paths.{is_slash, is_unnamed, is_name, is_path, path_from, is_inside};
+ghost use Rattle.ratatui_files.specs.Paths.{is_slash, is_unnamed, is_name, is_path, path_from};
+ghost use Rattle.ratatui_files.specs.Paths.{is_inside};
 ghost use Rattle.ratatui_files.specs.Paths.{name_in, only_name, after_start, moved_path, path_in};
 
 use crate::text::Text;

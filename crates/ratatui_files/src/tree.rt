@@ -193,7 +193,8 @@ fn refuses_rename(from: &str, to: &str, entries: &[Entry]) -> Option<Failure>
 }
 
 fn refuses_copy(from: &str, to: &str, entries: &[Entry]) -> Option<Failure>
-    ensures { result ≡ or_else (refuses_file from.now entries.now) (refuses_new to.now entries.now) }
+    ensures { result
+        ≡ or_else (refuses_file from.now entries.now) (refuses_new to.now entries.now) }
 {
     match refuses_file(from, entries) {
         Some(failure) => Some(failure),
