@@ -2,7 +2,7 @@
 
 use crate::commands::command_of;
 use crate::told::told;
-use ratatui_files::{Answer, Command, Failure, InMemory, OnDisk, Performs};
+use ratatui_files::{Answer, Command, Failing, Failure, InMemory, OnDisk, Performs};
 use std::alloc::{AllocError, Global};
 use std::time::Duration;
 use std::{fs, io};
@@ -12,7 +12,8 @@ use std::{fs, io};
 pub struct Both<'a> {
     rt: &'a HostRuntime,
     folder: &'a str,
-    memory: InMemory,
+    memory: Failing<InMemory>,
+    groups: u64,
     group: String,
     group_held: usize,
     /// What is to be told.
@@ -23,19 +24,19 @@ pub struct Both<'a> {
     pub differ: usize,
 }
 
-// An empty tree.
-fn empty(alloc: Global) -> InMemory {
-    InMemory::new(alloc, Duration::ZERO)
+// An empty tree, of which so many commands are done before one fails.
+fn empty(alloc: Global, before: u64) -> Failing<InMemory> {
+    Failing::new(InMemory::new(alloc, Duration::ZERO), before, Failure::Full)
 }
 
-// What does a command answers to it, as text; it is given again if memory was refused.
+// What does a command answers to it, as text; it is given again if there was no room or no memory.
 fn answer_of<P: Performs>(
     alloc: Global,
     files: &mut P,
     command: &Command,
 ) -> Result<String, AllocError> {
     let answer = match files.perform(command) {
-        Answer::Failed(Failure::Memory) => files.perform(command),
+        Answer::Failed(Failure::Memory | Failure::Full) => files.perform(command),
         answer => answer,
     };
     told(alloc, &answer)
@@ -48,7 +49,8 @@ impl<'a> Both<'a> {
         Ok(Both {
             rt,
             folder,
-            memory: empty(alloc),
+            memory: empty(alloc, 0),
+            groups: 0,
             group: String::new(alloc),
             group_held: 0,
             report: String::new(alloc),
@@ -73,7 +75,8 @@ impl<'a> Both<'a> {
     fn begin_group(&mut self, name: &str) -> io::Result<()> {
         self.end_group()?;
         self.group = String::from_str(self.rt.alloc(), name)?;
-        self.memory = empty(self.rt.alloc());
+        self.groups = self.groups.saturating_add(1);
+        self.memory = empty(self.rt.alloc(), self.groups);
         let _ = fs::remove_dir_all(self.rt, self.folder);
         fs::create_dir(self.rt, self.folder)
     }

@@ -4,9 +4,9 @@
 //! `row_files FILE FOLDER` reads rows, as `write notes/a hello = done`: a command, ` = `, and its
 //! answer. A line `# NAME` begins a group, for which FOLDER is made anew, and the tree is empty. The
 //! path `.` is the folder itself. Entries of a folder are told in order, a folder with a slash after
-//! its name, a file with its size. A command that was refused memory is given again. It prints how
-//! many rows of each group hold, each row that doesn't with what was answered, and then ends with
-//! status 1.
+//! its name, a file with its size. In memory one command of each group fails, and is given again;
+//! so is each that was refused memory. It prints how many rows of each group hold, each row that
+//! doesn't with what was answered, and then ends with status 1.
 #![tactic(auto)]
 
 mod both;
