@@ -1,40 +1,77 @@
 //! The file that is edited.
 
 use editor::Editor;
-use std::fs;
-use std::io::{self, ErrorKind};
+use ratatui_files::{Answer, Bytes, Command, Failure, Path, Performs};
+use std::alloc::{AllocError, Global};
+use thiserror::Error;
+
+// Why a file wasn't read or saved.
+#[derive(Debug, Drop, Error)]
+pub enum FileError {
+    // A command wasn't done.
+    #[error("{0}")]
+    Failed(Failure),
+    // What the file holds isn't UTF-8.
+    #[error("it isn't UTF-8")]
+    NotText,
+}
+
+impl From<AllocError> for FileError {
+    fn from(_: AllocError) -> FileError {
+        FileError::Failed(Failure::Memory)
+    }
+}
 
 // The path of a file, and what it held when it was read or saved last: nothing if there was none.
 #[derive(Drop)]
-pub struct OnDisk {
-    path: String,
+pub struct EditedFile<P> {
+    alloc: Global,
+    files: P,
+    path: Path,
     text: Option<String>,
 }
 
 // Reads a file, if there is one of that path.
-fn read(rt: &HostRuntime, path: &str) -> io::Result<Option<String>> {
-    match fs::read_to_string(rt, path) {
-        Ok(text) => Ok(Some(text)),
-        Err(error) if error.kind() == ErrorKind::NotFound => Ok(None),
-        Err(error) => Err(error),
+fn read<P: Performs>(
+    alloc: Global,
+    files: &mut P,
+    path: &Path,
+) -> Result<Option<String>, FileError> {
+    match files.perform(&Command::Read(path.copy(alloc)?, 0, usize::MAX)) {
+        Answer::Read(bytes) => match String::from_utf8(bytes.into_vec()) {
+            Ok(text) => Ok(Some(text)),
+            Err(_) => Err(FileError::NotText),
+        },
+        Answer::Failed(Failure::NotFound) => Ok(None),
+        Answer::Failed(failure) => Err(FileError::Failed(failure)),
+        _ => Err(FileError::Failed(Failure::Other)),
     }
 }
 
-impl OnDisk {
+impl<P: Performs + Drop> EditedFile<P> {
     // Reads a file, and answers its text: none if there is no file.
-    pub fn read(rt: &HostRuntime, path: &str) -> io::Result<(OnDisk, String)> {
-        let text = read(rt, path)?;
+    pub fn read(
+        alloc: Global,
+        mut files: P,
+        path: Path,
+    ) -> Result<(EditedFile<P>, String), FileError> {
+        let text = read(alloc, &mut files, &path)?;
         let copy = match &text {
-            Some(text) => String::from_str(rt.alloc(), text.as_str())?,
-            None => String::new(rt.alloc()),
+            Some(text) => String::from_str(alloc, text.as_str())?,
+            None => String::new(alloc),
         };
-        let path = String::from_str(rt.alloc(), path)?;
-        Ok((OnDisk { path, text }, copy))
+        let file = EditedFile {
+            alloc,
+            files,
+            path,
+            text,
+        };
+        Ok((file, copy))
     }
 
     // Whether the file holds what it held when it was read or saved last.
-    pub fn is_same(&self, rt: &HostRuntime) -> io::Result<bool> {
-        let now = read(rt, self.path.as_str())?;
+    pub fn is_same(&mut self) -> Result<bool, FileError> {
+        let now = read(self.alloc, &mut self.files, &self.path)?;
         Ok(match (&now, &self.text) {
             (None, None) => true,
             (Some(now), Some(text)) => now.as_str() == text.as_str(),
@@ -42,30 +79,18 @@ impl OnDisk {
         })
     }
 
-    // Writes the text of an editor beside the file, and puts that in the file's place. If that fails
+    // Saves the text of an editor, and keeps a copy of what the file holds from then on. If that fails
     // the file is as it was.
-    fn write(&self, rt: &HostRuntime, editor: &Editor) -> io::Result<()> {
-        let place = match fs::canonicalize(rt, self.path.as_str()) {
-            Ok(path) => String::from_str(rt.alloc(), path.as_path().as_str())?,
-            Err(_) => String::from_str(rt.alloc(), self.path.as_str())?,
-        };
-        let place = place.as_str();
-        let beside = format!(in rt.alloc(); "{place}.new~")?;
-        let beside = beside.as_str();
-        let mut file = fs::create(rt, beside)?;
-        if let Ok(metadata) = fs::metadata(rt, place) {
-            fs::set_permissions(rt, beside, metadata.permissions())?;
-        }
-        editor.write_to(&mut file)?;
-        file.sync_all()?;
-        fs::rename(rt, beside, place)
-    }
-
-    // Saves the text of an editor, and keeps a copy of what the file holds from then on.
-    pub fn save(&mut self, rt: &HostRuntime, editor: &Editor) -> io::Result<()> {
+    pub fn save(&mut self, editor: &Editor) -> Result<(), FileError> {
         let text = editor.copied_text()?;
-        self.write(rt, editor)?;
-        self.text = Some(text);
-        Ok(())
+        let bytes = Bytes::copy(self.alloc, text.as_str().as_bytes())?;
+        match self.files.perform(&Command::Write(self.path.copy(self.alloc)?, bytes)) {
+            Answer::Done => {
+                self.text = Some(text);
+                Ok(())
+            }
+            Answer::Failed(failure) => Err(FileError::Failed(failure)),
+            _ => Err(FileError::Failed(Failure::Other)),
+        }
     }
 }

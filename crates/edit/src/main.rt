@@ -5,7 +5,7 @@
 //! goes to a line; Alt+U undoes a change, and Alt+E does it again. The other keys are those of a text
 //! area. The terminal has to be in raw mode: `tools/raw edit FILE` sees to that.
 //!
-//! A save writes `FILE.new~` beside the file, and renames it; if the file isn't what was read or saved
+//! A save writes a new file beside the file, and renames it; if the file isn't what was read or saved
 //! last, it asks. What can't be saved is told in the last row, and nothing is lost. Each line break is
 //! saved as a line feed. What isn't a terminal ends with its last byte, and then nothing is saved.
 #![tactic(auto)]
@@ -15,20 +15,26 @@ mod file;
 mod window;
 
 use crate::draw::Screen;
-use crate::file::OnDisk;
+use crate::file::{EditedFile, FileError};
 use crate::window::{Window, is_terminal};
 use editor::{Editor, Note, Request};
 use ratatui_ansi::{AnsiBackend, size_told};
 use ratatui_core::terminal::Terminal;
+use ratatui_files::{Failure, OnDisk, Path, Performs};
 use ratatui_input::EventReader;
 use std::env;
 use std::io::BufWriter;
 use std::process::ExitCode;
 
 // Saves the text of an editor, and tells it what came of it.
-fn save(rt: &HostRuntime, editor: &mut Editor, disk: &mut OnDisk, is_asked: bool) {
+fn save<P: Performs + Drop>(
+    rt: &HostRuntime,
+    editor: &mut Editor,
+    file: &mut EditedFile<P>,
+    is_asked: bool,
+) {
     if !is_asked {
-        match disk.is_same(rt) {
+        match file.is_same() {
             Ok(is_same) => {
                 if !is_same {
                     editor.ask_replace();
@@ -45,14 +51,14 @@ fn save(rt: &HostRuntime, editor: &mut Editor, disk: &mut OnDisk, is_asked: bool
         editor.tell(Note::NoMemory);
         return;
     };
-    match disk.save(rt, editor) {
+    match file.save(editor) {
         Ok(()) => editor.take_saved(text),
         Err(error) => tell(rt, editor, "not saved", &error),
     }
 }
 
 // Tells an error in the last row.
-fn tell(rt: &HostRuntime, editor: &mut Editor, what: &str, error: &std::io::Error) {
+fn tell(rt: &HostRuntime, editor: &mut Editor, what: &str, error: &FileError) {
     let note = match format!(in rt.alloc(); "{what}: {error}") {
         Ok(text) => Note::Told(text),
         Err(_) => Note::NoMemory,
@@ -60,10 +66,23 @@ fn tell(rt: &HostRuntime, editor: &mut Editor, what: &str, error: &std::io::Erro
     editor.tell(note);
 }
 
+// The folder of a file's path, and its name.
+fn folder_and_name(path: &str) -> (&str, &str) {
+    match path.rsplit_once('/') {
+        Some(("", name)) => ("/", name),
+        Some(folder_and_name) => folder_and_name,
+        None => (".", path),
+    }
+}
+
 // Edits a file until the editor is over or its input ends.
 fn edit(rt: &HostRuntime, path: &str) -> anyhow::Result<()> {
     let alloc = rt.alloc();
-    let (mut disk, text) = OnDisk::read(rt, path)?;
+    let (folder, name) = folder_and_name(path);
+    let Some(place) = Path::root(alloc).entry(alloc, name)? else {
+        return Err(Failure::BadName.into());
+    };
+    let (mut file, text) = EditedFile::read(alloc, OnDisk::new(rt, folder), place)?;
     let mut editor = Editor::new(alloc, path, text)?;
     let writer = BufWriter::new(alloc, rt.stdout())?;
     let backend = AnsiBackend::new_on_alternate_screen(alloc, writer, size_told(rt))?;
@@ -79,8 +98,8 @@ fn edit(rt: &HostRuntime, path: &str) -> anyhow::Result<()> {
         if let Some(event) = event {
             match editor.take(&event) {
                 Ok(Request::Nothing) => {}
-                Ok(Request::Save) => save(rt, &mut editor, &mut disk, false),
-                Ok(Request::Replace) => save(rt, &mut editor, &mut disk, true),
+                Ok(Request::Save) => save(rt, &mut editor, &mut file, false),
+                Ok(Request::Replace) => save(rt, &mut editor, &mut file, true),
                 Err(_) => editor.tell(Note::NoMemory),
             }
             terminal.draw(|frame| screen.draw(&mut editor, frame))?;

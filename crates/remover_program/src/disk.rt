@@ -1,4 +1,4 @@
-//! A folder of the system's files.
+//! A folder of files.
 
 ghost use Rattle.acts_app.specs.Glass.{StandsOnGlass, no_cursor};
 ghost use Rattle.acts_app.specs.Lines.{PaintsFirstLine};
@@ -6,27 +6,22 @@ ghost use Rattle.remover.specs.Removing.{question};
 
 use acts_app::OnGlass;
 use ratatui_acts::Outside;
+use ratatui_files::{Answer, Command, Path, Performs};
 use remover::{Name, Remover};
 use std::alloc::Global;
-use std::fs;
 use std::io::{self, Write};
 
-/// A folder of the system's files.
+/// A folder of files, of which some are removed.
 #[derive(Drop)]
-pub struct Disk<'a> {
-    rt: &'a HostRuntime,
+pub struct Disk<P> {
     alloc: Global,
-    folder: &'a str,
+    files: P,
 }
 
-impl<'a> Disk<'a> {
-    /// The folder at this path.
-    pub fn new(rt: &'a HostRuntime, folder: &'a str) -> Disk<'a> {
-        Disk {
-            rt,
-            alloc: rt.alloc(),
-            folder,
-        }
+impl<P: Performs + Drop> Disk<P> {
+    /// The folder in which this does commands.
+    pub fn new(alloc: Global, files: P) -> Disk<P> {
+        Disk { alloc, files }
     }
 
     // Removes a file of this name. Nobody can ask for that but where each terminal that has read
@@ -34,15 +29,15 @@ impl<'a> Disk<'a> {
     fn remove<W: Write + Drop>(&mut self, _glass: &OnGlass<W>, name: &Name) -> io::Result<bool>
         requires { StandsOnGlass (PaintsFirstLine (question name.now)) no_cursor _glass.now.terminal }
     {
-        let mut path = String::from_str(self.alloc, self.folder)?;
-        path.push('/')?;
-        path.push_str(name.as_str())?;
-        Ok(fs::remove_file(self.rt, path.as_str()).is_ok())
+        let Some(path) = Path::root(self.alloc).entry(self.alloc, name.as_str())? else {
+            return Ok(false);
+        };
+        Ok(matches!(self.files.perform(&Command::Remove(path)), Answer::Done))
     }
 }
 
-impl<'a, W: Write + Drop> Outside<Remover, OnGlass<W>> for Disk<'a> {
-    // nothing is known of what a file system answers
+impl<P: Performs + Drop, W: Write + Drop> Outside<Remover, OnGlass<W>> for Disk<P> {
+    // what is known of a removal is what the files' outside says
     ghost answers = { λ _ _ _ _. Unit {0} };
 
     fn perform(

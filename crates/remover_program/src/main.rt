@@ -12,10 +12,12 @@ use crate::disk::Disk;
 use acts_app::run_and_leave;
 use ratatui_acts::Seat;
 use ratatui_ansi::{AnsiBackend, size_told};
+use ratatui_files::{Answer, Command, Info, Kind, OnDisk, Path, Performs};
 use remover::{Name, Names, Remover};
+use std::alloc::Global;
+use std::env;
 use std::io::BufWriter;
 use std::process::ExitCode;
-use std::{env, fs};
 
 static HELP: &str =
     "remover FOLDER: shows the files of a folder, of which one is removed after a question.
@@ -24,14 +26,19 @@ any other key doesn't; q ends.
 ";
 
 // The names of a folder's files, in order; folders and links aren't among them.
-fn files_of(rt: &HostRuntime, folder: &str) -> anyhow::Result<Names> {
-    let alloc = rt.alloc();
+fn files_of<P: Performs>(alloc: Global, files: &mut P) -> anyhow::Result<Names> {
     let mut texts = Vec::new(alloc);
-    for entry in fs::read_dir(rt, folder)? {
-        let entry = entry?;
-        if entry.file_type()?.is_file() {
-            texts.push(String::from_str(alloc, entry.file_name())?)?;
+    match files.perform(&Command::List(Path::root(alloc))) {
+        Answer::Listed(entries, _) => {
+            for info in entries.into_vec() {
+                let Info { name, kind, .. } = info;
+                if kind == Kind::File {
+                    texts.push(name.into_string())?;
+                }
+            }
         }
+        Answer::Failed(failure) => return Err(failure.into()),
+        _ => {}
     }
     texts.sort()?;
     let mut names = Vec::new(alloc);
@@ -44,11 +51,12 @@ fn files_of(rt: &HostRuntime, folder: &str) -> anyhow::Result<Names> {
 // Shows the names, until `q`.
 fn show(rt: &HostRuntime, folder: &str) -> anyhow::Result<()> {
     let alloc = rt.alloc();
-    let names = files_of(rt, folder)?;
+    let mut files = OnDisk::new(rt, folder);
+    let names = files_of(alloc, &mut files)?;
     let writer = BufWriter::new(alloc, rt.stdout())?;
     let backend = AnsiBackend::new_on_alternate_screen(alloc, writer, size_told(rt))?;
     let mut seat = Seat::new(alloc, Remover::new(alloc, names));
-    let mut disk = Disk::new(rt, folder);
+    let mut disk = Disk::new(alloc, files);
     run_and_leave(alloc, &mut rt.reader(), &mut disk, true, backend, &mut seat)?.ended?;
     Ok(())
 }

@@ -1,0 +1,3 @@
+pub mod PathLemmas
+pub mod TreeLemmas
+pub mod LawLemmas
