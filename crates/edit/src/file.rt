@@ -84,7 +84,10 @@ impl<P: Performs + Drop> EditedFile<P> {
     pub fn save(&mut self, editor: &Editor) -> Result<(), FileError> {
         let text = editor.copied_text()?;
         let bytes = Bytes::copy(self.alloc, text.as_str().as_bytes())?;
-        match self.files.perform(&Command::Write(self.path.copy(self.alloc)?, bytes)) {
+        match self
+            .files
+            .perform(&Command::Write(self.path.copy(self.alloc)?, bytes))
+        {
             Answer::Done => {
                 self.text = Some(text);
                 Ok(())

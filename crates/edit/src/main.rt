@@ -1,9 +1,10 @@
 //! The program `edit`: the smallest editor of a text.
 //!
 //! `edit FILE` shows the file, or nothing if there is none of that name. Ctrl+S saves, Ctrl+Q leaves,
-//! after a question if something isn't saved; Ctrl+F finds a pattern, and `n` finds it again; Ctrl+G
-//! goes to a line; Alt+U undoes a change, and Alt+E does it again. The other keys are those of a text
-//! area. The terminal has to be in raw mode: `tools/raw edit FILE` sees to that.
+//! after a question if something isn't saved; Ctrl+F finds a pattern, and `n` finds it again; Alt+R
+//! replaces one from the cursor on, by `y` and `n` or all by `a`; Ctrl+G goes to a line; Alt+U undoes a
+//! change, and Alt+E does it again. The other keys are those of a text area. The terminal has to be in
+//! raw mode: `tools/raw edit FILE` sees to that.
 //!
 //! A save writes a new file beside the file, and renames it; if the file isn't what was read or saved
 //! last, it asks. What can't be saved is told in the last row, and nothing is lost. Each line break is
@@ -16,8 +17,9 @@ mod window;
 
 use crate::draw::Screen;
 use crate::file::{EditedFile, FileError};
-use crate::window::{Window, is_terminal};
+use crate::window::Window;
 use editor::{Editor, Note, Request};
+use programs::{Stream, VERSION, is_terminal};
 use ratatui_ansi::{AnsiBackend, size_told};
 use ratatui_core::terminal::Terminal;
 use ratatui_files::{Failure, OnDisk, Path, Performs};
@@ -25,6 +27,11 @@ use ratatui_input::EventReader;
 use std::env;
 use std::io::BufWriter;
 use std::process::ExitCode;
+
+static HELP: &str = "edit FILE: edits a text.
+Ctrl+S saves, Ctrl+Q leaves, Ctrl+F finds and n finds again, Alt+R replaces, Ctrl+G goes to a line,
+Alt+U undoes, Alt+E does again; the other keys are those of a text area.
+";
 
 // Saves the text of an editor, and tells it what came of it.
 fn save<P: Performs + Drop>(
@@ -89,7 +96,7 @@ fn edit(rt: &HostRuntime, path: &str) -> anyhow::Result<()> {
     let mut terminal = Terminal::new(alloc, backend)?;
     let mut events = EventReader::new(rt.reader());
     let mut window = Window::new();
-    let has_ticks = is_terminal(rt);
+    let has_ticks = is_terminal(rt, Stream::Input);
     let mut screen = Screen::new();
     terminal.draw(|frame| screen.draw(&mut editor, frame))?;
     for _ in 0..u64::MAX {
@@ -116,10 +123,14 @@ fn edit(rt: &HostRuntime, path: &str) -> anyhow::Result<()> {
 fn start(rt: &HostRuntime) -> anyhow::Result<ExitCode> {
     let words: Vec<String> = env::args(rt)?.collect(rt.alloc())?;
     if words.len() != 2 {
-        eprintln!(rt; "usage: edit FILE")?;
+        eprintln!(rt; "edit: a file is to be named; --help says more")?;
         return Ok(ExitCode::from(2));
     }
-    edit(rt, words[1].as_str())?;
+    match words[1].as_str() {
+        "--help" => print!(rt; "{HELP}")?,
+        "--version" => println!(rt; "edit {VERSION}")?,
+        path => edit(rt, path)?,
+    }
     Ok(ExitCode::SUCCESS)
 }
 

@@ -1,4 +1,4 @@
-//! The size of the window, followed by a loop by hand; and whether there is one.
+//! The size of the window, followed by a loop by hand.
 
 use ratatui_ansi::{AnsiBackend, AnsiError};
 use ratatui_core::backend::Backend;
@@ -6,22 +6,10 @@ use ratatui_core::layout::Size;
 use ratatui_core::terminal::{Terminal, TerminalError};
 use ratatui_events::Event;
 use ratatui_reads::size_in;
-use std::fs;
 use std::io::Write;
 
 // How many ticks come between two questions for the size: half a second of them.
 const TICKS: u8 = 5;
-
-// Whether standard input is a terminal: then a read that finds nothing isn't its end.
-pub fn is_terminal(rt: &HostRuntime) -> bool {
-    match fs::read_link(rt, "/proc/self/fd/0") {
-        Ok(path) => {
-            let path = path.as_path();
-            path.starts_with("/dev/pts") || path.starts_with("/dev/tty")
-        }
-        Err(_) => false,
-    }
-}
 
 // How many ticks came since the terminal was asked for its size.
 #[derive(Debug, Drop)]

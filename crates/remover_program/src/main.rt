@@ -10,6 +10,7 @@ mod disk;
 
 use crate::disk::Disk;
 use acts_app::run_and_leave;
+use programs::{Stream, VERSION, is_terminal};
 use ratatui_acts::Seat;
 use ratatui_ansi::{AnsiBackend, size_told};
 use ratatui_files::{Answer, Command, Info, Kind, OnDisk, Path, Performs};
@@ -57,7 +58,16 @@ fn show(rt: &HostRuntime, folder: &str) -> anyhow::Result<()> {
     let backend = AnsiBackend::new_on_alternate_screen(alloc, writer, size_told(rt))?;
     let mut seat = Seat::new(alloc, Remover::new(alloc, names));
     let mut disk = Disk::new(alloc, files);
-    run_and_leave(alloc, &mut rt.reader(), &mut disk, true, backend, &mut seat)?.ended?;
+    let has_ticks = is_terminal(rt, Stream::Input);
+    run_and_leave(
+        alloc,
+        &mut rt.reader(),
+        &mut disk,
+        has_ticks,
+        backend,
+        &mut seat,
+    )?
+    .ended?;
     Ok(())
 }
 
@@ -66,11 +76,11 @@ fn start(rt: &HostRuntime) -> anyhow::Result<ExitCode> {
         eprintln!(rt; "remover: a folder is to be named; --help says more")?;
         return Ok(ExitCode::from(2));
     };
-    if word.as_str() == "--help" {
-        print!(rt; "{HELP}")?;
-        return Ok(ExitCode::SUCCESS);
+    match word.as_str() {
+        "--help" => print!(rt; "{HELP}")?,
+        "--version" => println!(rt; "remover {VERSION}")?,
+        folder => show(rt, folder)?,
     }
-    show(rt, word.as_str())?;
     Ok(ExitCode::SUCCESS)
 }
 
