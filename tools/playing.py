@@ -37,7 +37,9 @@ NAMED = {
 
 
 def bytes_of(key):
-    """What a terminal sends for a key: a name, Ctrl+X, or what is typed as it is."""
+    """What a terminal sends for a key: a name, Ctrl+X, Alt+X, or what is typed as it is."""
+    if key.startswith("Alt+") and len(key) == 5:
+        return b"\x1b" + key[4].encode()
     if key.startswith("Ctrl+") and len(key) == 6:
         return bytes([ord(key[5].upper()) & 0x1F])
     return NAMED.get(key, key.encode())
