@@ -1,5 +1,5 @@
 //! Tests of what reads keys: readers that give bytes in pieces and fail between them, a counter run
-//! over such pieces, and a page of the pager.
+//! over such pieces and at a line that is watched, and a page of the pager.
 #![tactic(auto)]
 
 #[cfg(test)]
@@ -8,3 +8,5 @@ mod counters;
 mod pages;
 #[cfg(test)]
 mod readers;
+#[cfg(test)]
+mod watched;
