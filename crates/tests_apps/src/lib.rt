@@ -1,6 +1,6 @@
 //! Tests of what stands on `ratatui_core`, which no row of text can say: areas divided by each
-//! call, widgets on a buffer, the examples of `guide` on a screen in memory, logs that are read and
-//! written by what fails, and what programs tell.
+//! call, widgets on a buffer, small and large ones, the examples of `guide` on a screen in memory,
+//! logs that are read and written by what fails, and what programs tell.
 #![tactic(auto)]
 
 #[cfg(test)]
@@ -11,6 +11,8 @@ mod boxes;
 mod examples;
 #[cfg(test)]
 mod gauges;
+#[cfg(test)]
+mod large;
 #[cfg(test)]
 mod logs;
 #[cfg(test)]
