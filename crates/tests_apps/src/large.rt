@@ -1,11 +1,13 @@
-//! Widgets of many parts.
+//! Widgets of many parts, and of none.
 use ratatui_core::buffer::Buffer;
 use ratatui_core::layout::{Constraint, Rect};
 use ratatui_core::style::Color;
 use ratatui_core::symbols::Marker;
 use ratatui_core::widgets::{StatefulWidget, Widget};
 use ratatui_widgets::canvas::{Canvas, Drawing, Points};
-use ratatui_widgets::{Cell, Row, Sparkline, SparklineBar, Table, TableState};
+use ratatui_widgets::{
+    BarChart, Cell, Chart, List, Row, Sparkline, SparklineBar, Table, TableState, Tabs,
+};
 use std::alloc::{AllocError, Global};
 
 // A table of one row of so many cells, each of a column.
@@ -68,5 +70,29 @@ fn a_sparkline_of_many_bars_is_cloned(rt: HostRuntime) -> Result<(), AllocError>
     }
     let sparkline = Sparkline::new(bars);
     assert!(rt; sparkline.clone(alloc)? == sparkline);
+    Ok(())
+}
+
+#[test]
+fn lists_and_tables_of_nothing_are_cloned(rt: HostRuntime) -> Result<(), AllocError> {
+    let alloc = rt.alloc();
+    let list = List::new(Vec::new(alloc));
+    assert!(rt; list.clone(alloc)? == list);
+    let table = Table::new(Vec::new(alloc), Vec::new(alloc));
+    assert!(rt; table.clone(alloc)? == table);
+    let tabs = Tabs::new(Vec::new(alloc));
+    assert!(rt; tabs.clone(alloc)? == tabs);
+    Ok(())
+}
+
+#[test]
+fn charts_of_nothing_are_cloned(rt: HostRuntime) -> Result<(), AllocError> {
+    let alloc = rt.alloc();
+    let sparkline = Sparkline::new(Vec::new(alloc));
+    assert!(rt; sparkline.clone(alloc)? == sparkline);
+    let bars = BarChart::default_in(alloc);
+    assert!(rt; bars.clone(alloc)? == bars);
+    let chart = Chart::new(Vec::new(alloc));
+    assert!(rt; chart.clone(alloc)? == chart);
     Ok(())
 }

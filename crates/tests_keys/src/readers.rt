@@ -121,7 +121,7 @@ impl Read for Dripping {
         *first = match self.reads {
             0 => 0x1b,
             1 => b']',
-            reads if reads - 2 < self.letters => b'x',
+            reads if reads < self.letters.saturating_add(2) => b'x',
             _ => 0x07,
         };
         self.reads = self.reads.saturating_add(1);

@@ -1,4 +1,5 @@
 //! Runs of which the source looks at what the terminal was sent.
+ghost use Rattle.std.specs.Io.{ReadsAtMost};
 
 use ratatui_ansi::{AnsiBackend, AnsiError};
 use ratatui_app::{AppError, Counter, run, run_and_leave, run_on_glass};
@@ -73,10 +74,13 @@ impl Write for Screen<'_> {
 }
 
 // Gives as many of these bytes as there is room for.
-fn give(bytes: &[u8], buf: &mut [u8]) -> usize {
+fn give(bytes: &[u8], buf: &mut [u8]) -> io::Result<usize>
+    ensures { ReadsAtMost result buf.new }
+{
     let count = bytes.len().min(buf.len());
-    buf[..count].copy_from_slice(&bytes[..count]);
-    count
+    let (now, _) = bytes.split_at(count);
+    buf[..count].copy_from_slice(now);
+    Ok(count)
 }
 
 // A keyboard at a line. It gives these reads, notes before each how often all was sent on, and after
@@ -110,7 +114,7 @@ impl Read for Keyboard<'_> {
             return Err(ErrorKind::TimedOut.into());
         };
         self.reads = &reads[1..];
-        Ok(give(bytes, buf))
+        give(bytes, buf)
     }
 }
 
@@ -162,7 +166,7 @@ struct Ticking {
 impl Read for Ticking {
     fn read(&mut self, buf: &mut [u8]) -> io::Result<usize> {
         if self.ticks == 0 {
-            return Ok(give(b"q", buf));
+            return give(b"q", buf);
         }
         self.ticks -= 1;
         Ok(0)
