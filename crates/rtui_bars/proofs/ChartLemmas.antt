@@ -5,7 +5,8 @@ use Rattle.std.specs.declared.alloc.AllocError.{AllocError}
 use Rattle.std.proofs.lemmas.{Bool.cases_lt, List.take_all}
 use Rattle.ratatui_core.specs.{Layout.Rect, Style.Style, declared.layout.Direction.Direction}
 use Rattle.ratatui_core.specs.declared.layout.Direction.TheVariants.{Horizontal, Vertical}
-use Rattle.ratatui_core.specs.Buffer.{BufferData, text_columns, text_pieces}
+use Rattle.ratatui_core.specs.Buffer.{BufferData, text_columns, text_pieces, IsShort}
+use Rattle.ratatui_core.specs.declared.symbols.bar.Set.{Set as BarSet}
 use Rattle.rtui_boxes.specs.{Boxes.IsBoxArea}
 use Rattle.rtui_drawing.specs.{declared.cut.Cut.Cut, Cuts.cut_from}
 use Rattle.rtui_drawing.specs.Drawings.{Drawing, put_pieces, IsDone, IsPartOf}
@@ -13,10 +14,12 @@ use Rattle.rtui_drawing.specs.declared.cut.Cut.TheVariants.{Middle}
 use Rattle.rtui_drawing.proofs.DrawingLemmas.{part-cut, done-in, continues-in, drawing_steps, drawing_choices}
 use Rattle.rtui_drawing.proofs.{Laws.Continues, WriteLemmas.row-of}
 use Rattle.rtui_inside.proofs.InsideLemmas.{box-part}
+use Rattle.rtui_sparkline.specs.Levels.{level_text}
+use Rattle.rtui_sparkline.proofs.LevelLemmas.{level-any}
 use Rattle.rtui_bars.specs.{declared.group.Bar.Bar, declared.group.BarGroup.BarGroup, declared.chart.BarChart.BarChart}
 use Rattle.rtui_bars.specs.BarAreas.{cells_along, bar_cut, behind_cut}
 use Rattle.rtui_bars.specs.BarCharts.{middle_text, bar_step, after_bars, behind_bars, fitting_count, shown_bars}
-use Rattle.rtui_bars.specs.Inner.{cells_across, BarsFit}
+use Rattle.rtui_bars.specs.{BarCharts.HasShortBars, Inner.cells_across, Inner.BarsFit}
 
 -- a text in the middle of a row
 pub middle-done : {A : Type 0} (n : ℕ) (style : Style) (text : List ℕ) (row part : Rect) {old new : BufferData}
@@ -94,3 +97,16 @@ shown-count c group r items cells fit least = rw (least, fit, cells, items) (tak
 
 -- what is drawn of a bar, step by step
 pub ruleset bar_steps = (drawing_steps, drawing_choices, part-cut, row-of, box-part, across-some)
+
+-- the symbols of bars that take no memory, one by one
+pub short-level : (set : BarSet) (n : ℕ) → HasShortBars set → IsShort (level_text set n)
+short-level set n short = level-any IsShort set n short
+
+pub short-full : (set : BarSet) → HasShortBars set → IsShort set.full.now
+short-full set short = level-any IsShort set 8 short
+
+pub short-empty : (set : BarSet) → HasShortBars set → IsShort set.empty.now
+short-empty set short = level-any IsShort set 0 short
+
+-- that a bar's cells take no memory
+pub ruleset short_bars = (short-level, short-full, short-empty)

@@ -10,6 +10,7 @@ use Rattle.ratatui_core.specs.Text.{LineData, raw_line, EachGrapheme, TakesOneCo
 use Rattle.ratatui_core.specs.declared.layout.HorizontalAlignment.{HorizontalAlignment}
 use Rattle.ratatui_core.specs.declared.layout.HorizontalAlignment.TheVariants.{Left, Center, Right}
 use Rattle.ratatui_core.specs.Buffer.{BufferData, Cell, styled, with_symbol, text_columns, text_pieces, text_width}
+use Rattle.ratatui_core.specs.Buffer.{IsShort}
 use Rattle.ratatui_core.specs.declared.layout.Direction.{Direction}
 use Rattle.ratatui_core.specs.declared.layout.Direction.TheVariants.{Horizontal, Vertical}
 use Rattle.ratatui_core.specs.declared.symbols.bar.Set.{Set as BarSet}
@@ -18,7 +19,7 @@ use Rattle.rtui_drawing.specs.{declared.cut.Cut.Cut, Cuts.cut_from}
 use Rattle.rtui_drawing.specs.declared.cut.Cut.TheVariants.{First, After, Middle, Rows}
 use Rattle.rtui_drawing.specs.Drawings.{Drawing, nothing, over, ◌before◌, draw_if, put_style, put_line, put_pieces}
 use Rattle.rtui_drawing.specs.Drawings.{put_change}
-use Rattle.rtui_inside.specs.Inside.{DrawsInside, LeavesInside}
+use Rattle.rtui_inside.specs.Inside.{DrawsInside, LeavesInside, IsShortInside}
 use Rattle.rtui_sparkline.specs.Levels.{eighths_of_value, left_at, level_text, row_from_below}
 use Rattle.rtui_bars.specs.{declared.group.Bar.Bar, declared.group.BarGroup.BarGroup}
 use Rattle.rtui_bars.specs.{declared.chart.BarChart.BarChart}
@@ -103,9 +104,13 @@ group_label_rows c height = if has_group_labels c height then 1 else 0
 abbrev pub bar_rows : BarChart → ℕ → ℕ
 bar_rows c height = height - bar_label_rows c height - group_label_rows c height
 
--- cells that are changed so; a symbol may take memory
-abbrev pub filled_by : (Position → Cell → Cell) → Drawing
-filled_by f = put_change f (λ _ _. ⊥)
+-- no symbol of bars takes memory
+abbrev pub HasShortBars : BarSet → Type 0
+HasShortBars set = All IsShort (bar_texts set)
+
+-- cells of bars that are changed so
+abbrev pub filled_by : BarSet → (Position → Cell → Cell) → Drawing
+filled_by set f = put_change f (λ _ _. HasShortBars set)
 
 -- a line in a style, over all of an area
 abbrev pub styled_line : Style → LineData → Drawing
@@ -142,7 +147,8 @@ abbrev pub tall_cells : BarChart → Bar → Rect → Drawing
 tall_cells c bar r =
     let rows = Rows 0 (bar_rows c r.height) in
     let style = patch c.bar_style bar.style in
-    over rows (filled_by (chart_cell c.bar_set (cut_from rows r) style (chart_eighths c bar r.height)))
+    let eighths = chart_eighths c bar r.height in
+    over rows (filled_by c.bar_set (chart_cell c.bar_set (cut_from rows r) style eighths))
 
 abbrev pub tall_label : BarChart → Bar → Rect → Drawing
 tall_label c bar r =
@@ -215,7 +221,8 @@ abbrev pub long_cells : BarChart → Bar → Rect → Drawing
 long_cells c bar r =
     let bars = beside_labels (label_columns c) in
     let style = patch c.bar_style bar.style in
-    over bars (filled_by (long_cell c.bar_set (cut_from bars r) style (long_filled c bar r)))
+    let filled = long_filled c bar r in
+    over bars (filled_by c.bar_set (long_cell c.bar_set (cut_from bars r) style filled))
 
 abbrev pub long_label : BarChart → Bar → Rect → Drawing
 long_label c bar r = over (First (label_columns c)) (over (middle_row r) (line_if bar.label))
@@ -321,6 +328,10 @@ RendersBarChart c = DrawsInside c.style c.block (chart_drawing c)
 -- what a refusal leaves, if the box takes no memory: style and box stand, and all before one thing
 abbrev pub LeavesBarChart : BarChart → Rect → BufferData → BufferData → Type 0
 LeavesBarChart c = LeavesInside c.style c.block (chart_drawing c)
+
+-- neither the box nor what is drawn inside takes memory
+abbrev pub IsShortBarChart : BarChart → Rect → BufferData → Type 0
+IsShortBarChart c = IsShortInside c.block (chart_drawing c)
 
 -- the texts of a bar, of a group and of a chart, and the symbols of its bars, take one column for each
 -- grapheme

@@ -384,11 +384,13 @@ impl<'a> DrawInside for BarChart<'a> {
 /// Over the area, as far as the buffer has it: the style, the box, and inside the groups from the
 /// left, as many bars as fit.
 impl<'b, 'a> Widget for &'b BarChart<'a> {
-    ghost use Rattle.rtui_bars.specs.BarCharts.{RendersBarChart, LeavesBarChart};
+    ghost use Rattle.rtui_bars.specs.BarCharts.{RendersBarChart, LeavesBarChart, IsShortBarChart};
 
     ghost renders = { λ chart. RendersBarChart chart.now };
 
     ghost leaves = { λ chart. LeavesBarChart chart.now };
+
+    ghost is_short = { λ chart. IsShortBarChart chart.now };
 
     fn render(self, area: Rect, buf: &mut Buffer) -> Result<(), AllocError> {
         render_inside(self, self.style, &self.block, area, buf)
@@ -396,11 +398,13 @@ impl<'b, 'a> Widget for &'b BarChart<'a> {
 }
 
 impl<'a> Widget for BarChart<'a> {
-    ghost use Rattle.rtui_bars.specs.BarCharts.{RendersBarChart, LeavesBarChart};
+    ghost use Rattle.rtui_bars.specs.BarCharts.{RendersBarChart, LeavesBarChart, IsShortBarChart};
 
     ghost renders = { RendersBarChart };
 
     ghost leaves = { LeavesBarChart };
+
+    ghost is_short = { IsShortBarChart };
 
     fn render(self, area: Rect, buf: &mut Buffer) -> Result<(), AllocError> {
         (&self).render(area, buf)

@@ -2,11 +2,12 @@
 
 ghost use Rattle.std.specs.Prelude.{◌≡◌, ◌≤◌, ◌<◌, ◌+◌, ◌*◌, length, true, IfOk};
 ghost use Rattle.std.specs.List.{list_any};
-ghost use Rattle.ratatui_core.specs.Buffer.{text_columns};
+ghost use Rattle.ratatui_core.specs.Buffer.{text_columns, IsShort};
 ghost use Rattle.ratatui_core.specs.Style.{patch};
 ghost use Rattle.ratatui_core.specs.declared.layout.Direction.TheVariants.{Horizontal, Vertical};
 ghost use Rattle.rtui_boxes.specs.Titles.{title_width};
 ghost use Rattle.rtui_drawing.specs.Drawings.{IsDone, IsRowIn, IsPartOf, draw_if};
+ghost use Rattle.rtui_sparkline.specs.Levels.{left_at, level_text, row_from_below};
 ghost use Rattle.rtui_bars.specs.BarAreas.{cells_along};
 ghost use Rattle.rtui_bars.specs.BarCharts.{greatest_of_chart, label_columns, has_label, has_labelled_bar};
 ghost use Rattle.rtui_bars.specs.BarCharts.{has_bar_labels, bar_label_rows, has_group_labels};
@@ -15,6 +16,7 @@ ghost use Rattle.rtui_bars.specs.BarCharts.{styled_line, bar_label, middle_text,
 ghost use Rattle.rtui_bars.specs.BarCharts.{tall_value, tall_bar, bar_in, bars_from, after_bars};
 ghost use Rattle.rtui_bars.specs.BarCharts.{fitting_count, shown_bars, bars_columns, label_indent};
 ghost use Rattle.rtui_bars.specs.BarCharts.{group_label, label_of, group_drawing, groups_from};
+ghost use Rattle.rtui_bars.specs.BarCharts.{HasShortBars};
 ghost use Rattle.rtui_bars.specs.Inner.{measures_of, cells_across, BarsFit};
 
 use crate::area::{bar_cut, behind_cut, beside_labels, cells_along};
@@ -46,18 +48,28 @@ pub(crate) struct Filling<'b, 'a> {
     eighths: u128,
 }
 
+impl<'b, 'a> Filling<'b, 'a> {
+    // The symbol of a row.
+    fn symbol(&self, y: u16) -> &'a str
+        ensures value { let row = row_from_below self.now.area y in
+            result.now ≡ level_text self.now.set.now (left_at self.now.eighths row) }
+        ensures short { HasShortBars self.now.set.now → IsShort result.now }
+    {
+        let from_top = y.saturating_sub(self.area.y);
+        let row = self.area.height.saturating_sub(from_top).saturating_sub(1);
+        level_of(self.set, left_at(self.eighths, row))
+    }
+}
+
 impl<'b, 'a> CellChange for Filling<'b, 'a> {
-    ghost use Rattle.rtui_bars.specs.BarCharts.{chart_cell};
+    ghost use Rattle.rtui_bars.specs.BarCharts.{chart_cell, HasShortBars};
 
     ghost made = { λ f. chart_cell f.set.now f.area f.style f.eighths };
 
-    ghost is_light = { λ _ _ _. ⊥ };
+    ghost is_light = { λ f _ _. HasShortBars f.set.now };
 
     fn change(&self, alloc: Global, position: Position, cell: &mut Cell) -> Result<(), AllocError> {
-        let from_top = position.y.saturating_sub(self.area.y);
-        let row = self.area.height.saturating_sub(from_top).saturating_sub(1);
-        let symbol = level_of(self.set, left_at(self.eighths, row));
-        cell.put(alloc, symbol, self.style)
+        cell.put(alloc, self.symbol(position.y), self.style)
     }
 }
 

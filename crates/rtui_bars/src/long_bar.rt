@@ -29,12 +29,13 @@ struct LongFilling<'b, 'a> {
 }
 
 impl<'b, 'a> CellChange for LongFilling<'b, 'a> {
-    ghost use Rattle.rtui_bars.specs.BarCharts.{long_cell};
+    ghost use Rattle.rtui_bars.specs.BarCharts.{long_cell, HasShortBars};
 
     ghost made = { λ f. long_cell f.set.now f.area f.style f.filled };
 
-    ghost is_light = { λ _ _ _. ⊥ };
+    ghost is_light = { λ f _ _. HasShortBars f.set.now };
 
+    #[tactic(auto, using(crate::proofs::ChartLemmas::short_bars))]
     fn change(&self, alloc: Global, position: Position, cell: &mut Cell) -> Result<(), AllocError> {
         let is_full = position.x.saturating_sub(self.area.x) < self.filled;
         let symbol = if is_full {

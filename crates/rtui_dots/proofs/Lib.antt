@@ -1,3 +1,4 @@
 pub mod GridLemmas
 pub mod LineLemmas
 pub mod CircleLemmas
+pub mod CosineLemmas

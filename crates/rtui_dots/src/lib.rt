@@ -3,13 +3,14 @@
 //!
 //! It stands on `rtui_style` and `rtui_symbols`. `specs/Grids` says where a point stands in a grid
 //! of dots and what a dot makes of its cell, `specs/Lines` which dots a line has, `specs/Circles`
-//! those of a circle, `specs/Shapes` those of the other shapes, and `specs/Layers` how shapes make
-//! layers. The crate above shows a grid's cells in a buffer.
+//! those of a circle, `specs/Cosines` what cosines are, `specs/Shapes` the dots of the other shapes,
+//! and `specs/Layers` how shapes make layers. The crate above shows a grid's cells in a buffer.
 #![tactic(auto)]
 
 mod bars;
 mod circle;
 mod drawing;
+pub mod laws;
 mod line;
 mod painter;
 mod path;

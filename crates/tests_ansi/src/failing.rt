@@ -176,6 +176,24 @@ fn leaving_after_failed_writes(rt: HostRuntime) -> Result<(), Fail> {
     Ok(())
 }
 
+// Whether what leaves a terminal after a failed write begins with the end of an update.
+fn ends_an_update(alloc: Global, cell: &Cell) -> Option<bool> {
+    let mut backend = over_tearing(alloc, 2).ok()?;
+    let _drawn = call(&mut backend, 0, cell);
+    let sent = backend.leave().ok()?.sent;
+    Some(
+        sent.as_slice()
+            .ends_with(b"\x1b[?2026l\x1b[0m\x1b[r\x1b[?25h\x1b[2;1H\r\n"),
+    )
+}
+
+#[test]
+fn leaving_after_a_failed_write_ends_an_update(rt: HostRuntime) -> Result<(), Fail> {
+    let cell = Cell::new(rt.alloc(), "a")?;
+    assert!(rt; ends_an_update(rt.alloc(), &cell) == Some(true));
+    Ok(())
+}
+
 // What is sent last if a draw within a synchronized update fails to write.
 #[test]
 fn a_failed_draw_ends_its_update(rt: HostRuntime) -> Result<(), Fail> {

@@ -6,7 +6,7 @@ use crate::backends::{Kept, sent};
 use crate::plays::LEFT;
 use crate::reader::Reader;
 use ratatui_ansi::AnsiBackend;
-use ratatui_core::backend::{Backend, TestBackend};
+use ratatui_core::backend::{Backend, Resizable, TestBackend};
 use ratatui_core::buffer::Buffer;
 use ratatui_core::layout::{Rect, Size};
 use ratatui_core::style::Style;
@@ -178,5 +178,26 @@ fn no_window_without_columns_or_rows(rt: HostRuntime) -> Result<(), Fail> {
         );
     }
     assert!(rt; terminal.backend().writer().len() == before && draws(&mut terminal, "a"));
+    Ok(())
+}
+
+// Whether a size that is told is taken, if the answer says so.
+fn takes(terminal: &mut Terminal<Kept>, width: u16, height: u16) -> Option<bool> {
+    let backend = terminal.backend_mut();
+    let is_taken = backend.take_size(Size { width, height }).ok()?;
+    let size = backend.size().ok()?;
+    (is_taken == (size == Size { width, height })).then_some(is_taken)
+}
+
+// A size is refused only if it has no columns or no rows.
+#[test]
+fn sizes_that_are_told_are_taken(rt: HostRuntime) -> Result<(), Fail> {
+    let mut terminal = over_kept(rt.alloc(), Viewport::Fullscreen)?;
+    for (width, height) in SIZES {
+        assert!(rt; takes(&mut terminal, width, height) == Some(true));
+    }
+    for (width, height) in [(0, 3), (3, 0)] {
+        assert!(rt; takes(&mut terminal, width, height) == Some(false));
+    }
     Ok(())
 }

@@ -1,7 +1,7 @@
 //! Tests of what stands on `ratatui_core`, which no row of text can say: areas divided by each
-//! call, drawings, widgets on a buffer, the examples of `guide` on a screen in memory, one of them
-//! under another name, which is proved as it stands, logs that are read and written by what fails,
-//! and what programs tell.
+//! call, drawings, widgets on a buffer, small and large ones, the examples of `guide` on a screen in
+//! memory, one of them under another name, which is proved as it stands, logs that are read and
+//! written by what fails, and what programs tell.
 #![tactic(auto)]
 
 #[cfg(test)]
@@ -16,6 +16,8 @@ mod cuts;
 mod examples;
 #[cfg(test)]
 mod gauges;
+#[cfg(test)]
+mod large;
 #[cfg(test)]
 mod logs;
 #[cfg(test)]

@@ -1,6 +1,6 @@
 //! Tests of what reads keys: readers that give bytes in pieces and fail between them, counters run
-//! over such pieces, reads that a clock times, names that are removed, a page of the pager, and what
-//! keys make of text fields and areas.
+//! over such pieces and at a line that is watched, reads that a clock times, names that are removed,
+//! a page of the pager, and what keys make of text fields and areas.
 #![tactic(auto)]
 
 #[cfg(test)]
@@ -25,3 +25,5 @@ mod readers;
 mod removers;
 #[cfg(test)]
 mod sizes;
+#[cfg(test)]
+mod watched;

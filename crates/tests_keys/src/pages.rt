@@ -72,3 +72,50 @@ fn answers_are_no_keys(rt: HostRuntime) -> Result<(), Fail> {
     );
     Ok(())
 }
+
+// A text of so many lines.
+fn text_of(alloc: Global, line: &str, count: usize) -> Result<String, AllocError> {
+    let mut text = String::new(alloc);
+    for _ in 0..count {
+        text.push_str(line)?;
+    }
+    Ok(text)
+}
+
+#[test]
+fn a_text_may_have_many_lines(rt: HostRuntime) -> Result<(), Fail> {
+    let text = text_of(rt.alloc(), "\n", 70000)?;
+    assert!(rt; Document::new(rt.alloc(), text.as_str()).is_ok());
+    Ok(())
+}
+
+// Whether a screen of 300 columns shows a row of this letter.
+fn fills_a_row(alloc: Global, text: &str, letter: &str) -> bool {
+    let Ok(document) = Document::new(alloc, text) else {
+        return false;
+    };
+    let Ok(name) = String::from_str(alloc, "t") else {
+        return false;
+    };
+    let Ok(backend) = TestBackend::new(alloc, 300, 2) else {
+        return false;
+    };
+    let Ok(mut terminal) = Terminal::new(alloc, backend) else {
+        return false;
+    };
+    let nothing = OwnText::new(String::new(alloc));
+    let mut pager = Pager::new(document, OwnText::new(name), nothing, Size::new(300, 2));
+    let mut reader = b"".as_slice();
+    if run(&mut reader, false, &mut terminal, &mut pager).is_err() {
+        return false;
+    }
+    let cells = terminal.backend().buffer().content();
+    cells.iter().take(300).all(|cell| cell.symbol() == letter)
+}
+
+#[test]
+fn a_screen_may_be_wide(rt: HostRuntime) -> Result<(), Fail> {
+    let text = text_of(rt.alloc(), "x", 300)?;
+    assert!(rt; fills_a_row(rt.alloc(), text.as_str(), "x"));
+    Ok(())
+}

@@ -72,11 +72,19 @@ fn is_next<R: Read>(events: &mut EventReader<R>, code: KeyCode) -> bool {
     }
 }
 
+// Whether the next read fails with an error of this kind.
+fn fails_with<R: Read>(events: &mut EventReader<R>, kind: ErrorKind) -> bool {
+    match events.read() {
+        Err(error) => error.kind() == kind,
+        Ok(_) => false,
+    }
+}
+
 #[test]
 fn a_reader_that_fails_loses_nothing(rt: HostRuntime) {
     let mut events = EventReader::new(Interrupted { reads: 0 });
     assert!(rt; is_next(&mut events, KeyCode::Char('a')));
-    assert!(rt; events.read().is_err());
+    assert!(rt; fails_with(&mut events, ErrorKind::Interrupted));
     assert!(rt; is_next(&mut events, KeyCode::Up));
     assert!(rt; matches!(events.read(), Ok(None)));
 }
@@ -96,4 +104,64 @@ fn an_answer_in_pieces_is_one_event(rt: HostRuntime) {
     assert!(rt; matches!(events.read(), Ok(Some(Event::Unknown))));
     assert!(rt; is_next(&mut events, KeyCode::Char('j')));
     assert!(rt; matches!(events.read(), Ok(None)));
+}
+
+// Gives what a terminal answers byte by byte: ESC and `]`, so many letters, and BEL.
+#[derive(Drop)]
+struct Dripping {
+    reads: usize,
+    letters: usize,
+}
+
+impl Read for Dripping {
+    fn read(&mut self, buf: &mut [u8]) -> io::Result<usize> {
+        let Some(first) = buf.first_mut() else {
+            return Ok(0);
+        };
+        *first = match self.reads {
+            0 => 0x1b,
+            1 => b']',
+            reads if reads < self.letters.saturating_add(2) => b'x',
+            _ => 0x07,
+        };
+        self.reads = self.reads.saturating_add(1);
+        Ok(1)
+    }
+}
+
+#[test]
+fn an_answer_may_come_byte_by_byte(rt: HostRuntime) {
+    let mut events = EventReader::new(Dripping {
+        reads: 0,
+        letters: 2000,
+    });
+    assert!(rt; matches!(events.read(), Ok(Some(Event::Unknown))));
+}
+
+// Gives the letter `a` as often as there is room, up to so many, once; and then fails.
+#[derive(Drop)]
+struct Pasting {
+    letters: usize,
+}
+
+impl Read for Pasting {
+    fn read(&mut self, buf: &mut [u8]) -> io::Result<usize> {
+        if self.letters == 0 {
+            return Err(ErrorKind::TimedOut.into());
+        }
+        let count = self.letters.min(buf.len());
+        buf[..count].fill(b'a');
+        self.letters = 0;
+        Ok(count)
+    }
+}
+
+// What has come is read at once, as far as there is room for 1024 bytes.
+#[test]
+fn a_thousand_keys_are_one_read(rt: HostRuntime) {
+    let mut events = EventReader::new(Pasting { letters: 1024 });
+    for _ in 0..1024 {
+        assert!(rt; is_next(&mut events, KeyCode::Char('a')));
+    }
+    assert!(rt; fails_with(&mut events, ErrorKind::TimedOut));
 }
