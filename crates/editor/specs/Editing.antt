@@ -1,7 +1,7 @@
 -- What events make of an editor.
 use Rattle.std.specs.Prelude.{◌≡◌, ◌⊎◌, ◌≢◌, ℕ, Bool, true, false, List, Option, Some, None}
 use Rattle.std.specs.Prelude.{string_bytes, Result, OnOk, OnErr, IfOk, ⊤}
-use Rattle.editor.specs.Offers.{IsAnswered}
+use Rattle.editor.specs.Offers.{AnswersOffer}
 use Rattle.std.specs.declared.alloc.AllocError.{AllocError}
 use Rattle.ratatui_events.specs.declared.event.Event.{Event}
 use Rattle.text_area.specs.Areas.{AreaData, area_text}
@@ -65,6 +65,6 @@ pub record Keeps (event : Event) (old new : Editor) : Type 0 where
   pub saved : string_bytes new.saved ≡ string_bytes old.saved
   pub text : (IsForText old.mode → ⊥) → (IsForOffer old.mode → ⊥) → edited_text new ≡ edited_text old
   pub answered : IsForOffer old.mode
-      → IsAnswered (offer_of event) (string_bytes old.pattern) (string_bytes old.piece) old.area new.area
+      → AnswersOffer (offer_of event) (string_bytes old.pattern) (string_bytes old.piece) old.area new.area
   pub over : new.mode ≡ Over
       → (old.mode ≡ Over) ⊎ (((old.mode ≡ Leaving) × (answer_of event ≡ Some true)) ⊎ IsSaved new)

@@ -29,7 +29,7 @@ ReplacesAll pattern piece old new =
     × (ReplacesLast pattern piece last new ⊎ (new ≡ last))
 
 -- what an answer makes of the text
-abbrev pub IsAnswered : Option Offer → List ℕ → List ℕ → AreaData → AreaData → Type 0
-IsAnswered (Some Yes) pattern piece old new = area_text new ≡ area_text (typing_over piece old)
-IsAnswered (Some All) pattern piece old new = ReplacesAll pattern piece old new
-IsAnswered _ pattern piece old new = area_text new ≡ area_text old
+abbrev pub AnswersOffer : Option Offer → List ℕ → List ℕ → AreaData → AreaData → Type 0
+AnswersOffer (Some Yes) pattern piece old new = area_text new ≡ area_text (typing_over piece old)
+AnswersOffer (Some All) pattern piece old new = ReplacesAll pattern piece old new
+AnswersOffer _ pattern piece old new = area_text new ≡ area_text old

@@ -7,7 +7,7 @@ ghost use Rattle.text_area.specs.AreaKeys.{area_edit_of, area_edited_if};
 ghost use Rattle.editor.specs.declared.editor.Mode.TheVariants.{Typing, Found, Offering, Replacing, Over};
 ghost use Rattle.editor.specs.declared.editor.Note.TheVariants.{Saved};
 ghost use Rattle.editor.specs.Commands.{asked_of, answer_of, offer_of};
-ghost use Rattle.editor.specs.Offers.{ReplacesAll, IsAnswered};
+ghost use Rattle.editor.specs.Offers.{ReplacesAll, AnswersOffer};
 ghost use Rattle.editor.specs.Editing.{Keeps, IsSaved, IsForText, request_of, edited_text};
 ghost use Rattle.editor.specs.Editing.{command_request, answer_request, left_by};
 ghost use Rattle.editor.specs.declared.editor.Request.TheVariants.{Nothing};
@@ -420,7 +420,7 @@ impl Editor {
     fn take_offer(&mut self, event: &Event) -> Result<Request, AllocError>
         requires { self.old.mode ≡ Offering }
         ensures request { IfOk result (λ request. request ≡ Nothing) }
-        ensures answered { OnOk result (IsAnswered (offer_of event.now)
+        ensures answered { OnOk result (AnswersOffer (offer_of event.now)
             (string_bytes self.old.pattern) (string_bytes self.old.piece) self.old.area self.new.area) }
         ensures mode { OnOk result (self.new.mode ≢ Over) }
         ensures err { OnErr result (self.new.area ≡ self.old.area) }

@@ -25,12 +25,16 @@ returns-then-not-select_next-clause-area c =
     search rules in
     let same : c.select_next.new.self ≡ c.insert_str.new.self = search rules in
     let missing : IsNowhereFrom pattern (area_text c.insert_str.new.self) (selection c.insert_str.new.self).1 =
-    search rules in
-    (c.loop.invariant.0.0, c.loop.self.area, c.loop.invariant.0.1, inl record {
-      area = subst (λ (a : AreaData). a ≡ typing_over (string_bytes c.args.self.now.piece) c.loop.self.area)
-          (sym same) typed;
-      none = subst (λ (a : AreaData). IsNowhereFrom pattern (area_text a) (selection a).1) (sym same) missing;
-    })
+    search rules in (
+      c.loop.invariant.0.0,
+      c.loop.self.area,
+      c.loop.invariant.0.1,
+      inl record {
+        area = subst (λ (a : AreaData). a ≡ typing_over (string_bytes c.args.self.now.piece) c.loop.self.area)
+            (sym same) typed;
+        none = subst (λ (a : AreaData). IsNowhereFrom pattern (area_text a) (selection a).1) (sym same) missing;
+      },
+    )
 
 pub returns-then-not-select_next-clause-mode : goal.returns-then-not-select_next-clause-mode
 returns-then-not-select_next-clause-mode c = c.loop.invariant.4
@@ -48,10 +52,12 @@ loop-preserved c =
     × (new ≡ part_selected at (at + length pattern) old) = search rules in
     let one : ReplacesOne pattern (string_bytes c.args.self.now.piece) c.loop.self.area new =
     subst (λ (a : AreaData). (at : ℕ) × IsFirstFrom pattern (area_text a) (selection a).1 at
-        × (new ≡ part_selected at (at + length pattern) a)) typed found in
-    (
+    × (new ≡ part_selected at (at + length pattern) a)) typed found in (
       (suc c.loop.invariant.0.0, (c.loop.self.area, c.loop.invariant.0.1, one)),
-      c.loop.invariant.1, c.loop.invariant.2, c.loop.invariant.3, c.loop.invariant.4,
+      c.loop.invariant.1,
+      c.loop.invariant.2,
+      c.loop.invariant.3,
+      c.loop.invariant.4,
     )
 
 pub returns-clause-area : goal.returns-clause-area
