@@ -2,6 +2,8 @@
 use Rattle.std.proofs.Common.{◌≡◌, ℕ, ◌+◌, ◌-◌, ◌≤◌, List, [], ◌∷◌, length, refl, ap, ◌∙◌, arith, add-one}
 use Rattle.pager.specs.declared.place.Place.{Place}
 use Rattle.pager.specs.Symbols.{shown_columns, symbols_from}
+use Rattle.pager.specs.Search.{numbered_line}
+use Rattle.pager.specs.Pages.{bytes_before}
 use Rattle.pager.specs.Places.{Breaking, last_start, next_place, previous_place, places_after, places_before}
 
 -- without anything that is sought no byte is marked
@@ -52,3 +54,14 @@ pub before-next : (t : Breaking) (n : ℕ) (q r s : Place) → r ≡ places_befo
     → s ≡ places_before t (n + 1) q
 unfolding places_before
 before-next t n q r s before is = rw add-one (is ∙ ap (previous_place t) before)
+
+-- ---- bytes
+
+pub bytes-none : (lines : List (List ℕ)) → bytes_before lines 0 ≡ 0
+unfolding bytes_before
+bytes-none lines = refl
+
+pub bytes-next : (lines : List (List ℕ)) (k : ℕ)
+    → bytes_before lines (k + 1) ≡ bytes_before lines k + length (numbered_line lines k) + 1
+unfolding bytes_before
+bytes-next lines k = rw add-one refl

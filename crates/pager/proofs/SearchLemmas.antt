@@ -1,31 +1,36 @@
 -- Where a text stands in another, and which line has it.
-use Rattle.std.proofs.Common.{◌≡◌, ℕ, suc, ◌+◌, ◌<◌, ◌≤◌, ◌&&◌, ⊎_elim, ◌==◌, nat_lt, Bool, true, false, Decides}
+use Rattle.std.proofs.Common.{◌≡◌, ℕ, suc, ◌+◌, ◌<◌, ◌≤◌, ◌&&◌, ⊎_elim, ◌==◌, nat_lt, if◌then◌else◌, Bool, true, false, Decides}
 use Rattle.std.proofs.Common.{List, [], ◌∷◌, ◌++◌, drop, length, Some, None, unwrap_or, slice_get, refl, sym, ap}
 use Rattle.std.proofs.Common.{◌∙◌, arith}
 use Rattle.std.specs.Str.Iter.{HasSubslice}
-use Rattle.std.specs.List.{position_from}
+use Rattle.std.specs.List.{position_from, starts_with}
 use Rattle.std.proofs.lemmas.Bool.{cases_Bool, or_right}
 use Rattle.std.proofs.lemmas.{Bool.Decides.Decides-eqb}
 use Rattle.std.proofs.lemmas.{Option.unwrap_or-slice_get, Slice.Eq.starts_is, List.drop_more, List.drop_all}
-use Rattle.pager.specs.Search.{begins_with, occurs, has_match, numbered_line, last_match}
+use Rattle.pager.specs.Search.{has_capital, begins_with, occurs, has_match, numbered_line, last_match}
 
-begins : (pattern text : List ℕ) → (begins_with pattern text ≡ true → text ≡ pattern ++ drop (length pattern) text)
-begins pattern text = (starts_is {E = ◌==◌} (λ a b. Decides-eqb a b) text pattern (begins_with pattern text) refl).0
+-- ---- where the case of letters counts
 
-begins-of : (pattern text rest : List ℕ) → text ≡ pattern ++ rest → begins_with pattern text ≡ true
-begins-of pattern text = (starts_is {E = ◌==◌} (λ a b. Decides-eqb a b) text pattern (begins_with pattern text) refl).1
+begins : (pattern text : List ℕ) → has_capital pattern ≡ true → begins_with pattern text ≡ true
+    → text ≡ pattern ++ drop (length pattern) text
+begins pattern text capital is = (starts_is {E = ◌==◌} (λ a b. Decides-eqb a b) text pattern (starts_with ◌==◌ text pattern) refl).0
+    (rw capital at is)
 
-here : (pattern text : List ℕ) → begins_with pattern text ≡ true → HasSubslice text pattern
-here pattern text is = ([], drop (length pattern) text, begins pattern text is)
+begins-of : (pattern text rest : List ℕ) → has_capital pattern ≡ true → text ≡ pattern ++ rest → begins_with pattern text ≡ true
+begins-of pattern text rest capital is =
+    rw capital ((starts_is {E = ◌==◌} (λ a b. Decides-eqb a b) text pattern (starts_with ◌==◌ text pattern) refl).1 rest is)
 
-stands : (pattern text : List ℕ) → occurs pattern text ≡ true → HasSubslice text pattern
+here : (pattern text : List ℕ) → has_capital pattern ≡ true → begins_with pattern text ≡ true → HasSubslice text pattern
+here pattern text capital is = ([], drop (length pattern) text, begins pattern text capital is)
+
+stands : (pattern text : List ℕ) → has_capital pattern ≡ true → occurs pattern text ≡ true → HasSubslice text pattern
 unfolding occurs
-stands pattern [] is = here pattern [] is
-stands pattern (b ∷ bs) is = ⊎_elim
-    (λ (first : begins_with pattern (b ∷ bs) ≡ true). here pattern (b ∷ bs) first)
+stands pattern [] capital is = here pattern [] capital is
+stands pattern (b ∷ bs) capital is = ⊎_elim
+    (λ (first : begins_with pattern (b ∷ bs) ≡ true). here pattern (b ∷ bs) capital first)
     (λ (later : begins_with pattern (b ∷ bs) ≡ false).
     let rest : occurs pattern bs ≡ true = rw later at is in
-    let found = stands pattern bs rest in
+    let found = stands pattern bs capital rest in
     (b ∷ found.0, found.1, ap (λ xs. b ∷ xs) found.2))
     (cases_Bool (begins_with pattern (b ∷ bs)))
 
@@ -38,13 +43,44 @@ later-occurs : (pattern : List ℕ) (b : ℕ) (bs : List ℕ) → occurs pattern
 unfolding occurs
 later-occurs pattern b bs is = or_right (begins_with pattern (b ∷ bs)) (occurs pattern bs) is
 
-stands-after : (pattern before text rest : List ℕ) → text ≡ before ++ (pattern ++ rest) → occurs pattern text ≡ true
-stands-after pattern [] text rest is = first-occurs pattern text (begins-of pattern text rest is)
-stands-after pattern (a ∷ before) [] rest is = let no : ⊥ = cc in absurd no
-stands-after pattern (a ∷ before) (b ∷ bs) rest is = later-occurs pattern b bs (stands-after pattern before bs rest (cc))
+stands-after : (pattern before text rest : List ℕ) → has_capital pattern ≡ true → text ≡ before ++ (pattern ++ rest)
+    → occurs pattern text ≡ true
+stands-after pattern [] text rest capital is = first-occurs pattern text (begins-of pattern text rest capital is)
+stands-after pattern (a ∷ before) [] rest capital is = let no : ⊥ = cc in absurd no
+stands-after pattern (a ∷ before) (b ∷ bs) rest capital is =
+    later-occurs pattern b bs (stands-after pattern before bs rest capital (cc))
 
-pub occurs-decides : (pattern text : List ℕ) → Decides (occurs pattern text) (HasSubslice text pattern)
-occurs-decides pattern text = (stands pattern text, λ found. stands-after pattern found.0 text found.1 found.2)
+pub occurs-decides : (pattern text : List ℕ) → has_capital pattern ≡ true → Decides (occurs pattern text) (HasSubslice text pattern)
+occurs-decides pattern text capital =
+    (stands pattern text capital, λ found. stands-after pattern found.0 text found.1 capital found.2)
+
+-- ---- at a place of a text and after it
+
+pub occurs-here : (pattern text : List ℕ) (k : ℕ) → begins_with pattern (drop k text) ≡ true → occurs pattern (drop k text) ≡ true
+occurs-here pattern text k is = first-occurs pattern (drop k text) is
+
+later-is : (pattern : List ℕ) (b : ℕ) (bs : List ℕ) → begins_with pattern (b ∷ bs) ≡ false
+    → occurs pattern (b ∷ bs) ≡ occurs pattern bs
+unfolding occurs
+later-is pattern b bs is = rw is refl
+
+pub occurs-later : (pattern text : List ℕ) (k : ℕ) → k < length text → begins_with pattern (drop k text) ≡ false
+    → occurs pattern (drop k text) ≡ occurs pattern (drop (k + 1) text)
+occurs-later pattern text k lt is =
+    let more = drop_more text k 0 lt in
+    ap (occurs pattern) more ∙ later-is pattern _ (drop (k + 1) text) (ap (begins_with pattern) (sym more) ∙ is)
+
+if-false : (b : Bool) → (if b then false else false) ≡ false
+if-false true = refl
+if-false false = refl
+
+empty-not : (pattern : List ℕ) → 0 < length pattern → begins_with pattern [] ≡ false
+empty-not [] some = absurd (omega arith)
+empty-not (b ∷ bs) some = if-false (has_capital (b ∷ bs))
+
+pub occurs-none : (pattern text : List ℕ) (k : ℕ) → 0 < length pattern → length text ≤ k → occurs pattern (drop k text) ≡ false
+unfolding occurs
+occurs-none pattern text k some le = ap (occurs pattern) (drop_all k text le) ∙ empty-not pattern some
 
 -- ---- lines
 

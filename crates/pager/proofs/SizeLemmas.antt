@@ -9,18 +9,18 @@ use Rattle.ratatui_reads.specs.Moments.{Stage, Moment, AreMoments}
 use Rattle.ratatui_app.specs.Showing.{Device, TakesOrKeepsSize, rules_of}
 use Rattle.pager.specs.declared.pager.Pager.{Pager}
 use Rattle.pager.specs.declared.pager.Mode.{Mode}
-use Rattle.pager.specs.declared.pager.Mode.TheVariants.{Reading, Asking, Helping}
+use Rattle.pager.specs.declared.pager.Mode.TheVariants.{Reading, Asking, Marking, Returning, Helping}
 use Rattle.pager.specs.declared.answer.Answer.{Answer}
 use Rattle.pager.specs.declared.answer.Answer.TheVariants.{Add, Erase, Search, Cancel, Ignore}
 use Rattle.pager.specs.declared.command.Command.{Command}
 use Rattle.pager.specs.declared.command.Command.TheVariants.{Nothing, Digit, Down, Up, PageDown, PageUp, HalfDown, HalfUp}
 use Rattle.pager.specs.declared.command.Command.TheVariants.{WheelDown, WheelUp}
 use Rattle.pager.specs.declared.command.Command.TheVariants.{ToStart, ToEnd, ToLeft, ToRight, Ask, Next, Previous, Numbers, Wrap}
-use Rattle.pager.specs.declared.command.Command.TheVariants.{Help, Quit}
+use Rattle.pager.specs.declared.command.Command.TheVariants.{Help, Quit, ToPart, Details, Mark, ToMark}
 use Rattle.pager.specs.Search.{next_match, last_match}
 use Rattle.pager.specs.Moves.{found_at, sought_before, sought_from, before_found, after_found, sought_on, obeyed, with_pattern}
-use Rattle.pager.specs.Moves.{answered, acted, updated_by, updated}
-use Rattle.pager.specs.Keys.{event_command, event_answer, is_press}
+use Rattle.pager.specs.Moves.{answered, acted, updated_by, updated, marked, marked_line, returned}
+use Rattle.pager.specs.Keys.{event_command, event_answer, event_mark, is_press}
 use Rattle.pager.specs.Paging.{paging, page_size, FillsScreen, FillsAlong, TakesAlong}
 
 found-same : (found : Option ℕ) (p : Pager) → page_size (found_at found p) ≡ page_size p
@@ -53,6 +53,10 @@ obeyed-same Numbers p = refl
 obeyed-same Wrap p = refl
 obeyed-same Help p = refl
 obeyed-same Quit p = refl
+obeyed-same ToPart p = refl
+obeyed-same Details p = refl
+obeyed-same Mark p = refl
+obeyed-same ToMark p = refl
 
 first-same : (is_back : Bool) (p : Pager)
     → page_size (if is_back then sought_before p.top p else sought_from p.top p) ≡ page_size p
@@ -77,6 +81,16 @@ answered-same Search p = first-same (with_pattern p).is_back (with_pattern p)
 answered-same Cancel p = refl
 answered-same Ignore p = refl
 
+marked-same : (b : Bool) (mark : Option ℕ) (p : Pager) → page_size (if b then marked mark p else p) ≡ page_size p
+marked-same true (Some mark) p = refl
+marked-same true None p = refl
+marked-same false mark p = refl
+
+returned-same : (b : Bool) (line : Option ℕ) (p : Pager) → page_size (if b then returned line p else p) ≡ page_size p
+returned-same true (Some line) p = refl
+returned-same true None p = refl
+returned-same false line p = refl
+
 helped-same : (b : Bool) (p : Pager) → page_size (if b then record p { mode = Reading } else p) ≡ page_size p
 helped-same true p = refl
 helped-same false p = refl
@@ -84,6 +98,8 @@ helped-same false p = refl
 acted-same : (mode : Mode) (event : Event) (p : Pager) → page_size (acted mode event p) ≡ page_size p
 acted-same Reading event p = obeyed-same (event_command event) p
 acted-same Asking event p = answered-same (event_answer event) p
+acted-same Marking event p = marked-same (is_press event) (event_mark event) p
+acted-same Returning event p = returned-same (is_press event) (marked_line (event_mark event) p) p
 acted-same Helping event p = helped-same (is_press event) p
 
 -- the size that was told, or else another one

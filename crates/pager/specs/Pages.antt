@@ -1,7 +1,7 @@
 -- What a pager paints: lines in rows, and the status in the last one.
 use Rattle.std.specs.Prelude.{◌≡◌, ℕ, zero, suc, ◌+◌, ◌-◌, ◌*◌, ◌/◌, ◌==◌}
 use Rattle.std.specs.Prelude.{min, if◌then◌else◌, List, [], ◌∷◌, ◌++◌, length, Option, Some, None, option_map}
-use Rattle.std.specs.Prelude.{unwrap_or, slice_get, codes, encode_utf8}
+use Rattle.std.specs.Prelude.{unwrap_or, slice_get, codes, encode_utf8, ◌^◌}
 use Rattle.std.specs.{Fmt.decimal, List.flat_map}
 use Rattle.ratatui_core.specs.{Layout.Rect, Layout.EdgesFit, Style.Style, Style.new_style}
 use Rattle.ratatui_core.specs.Buffer.{BufferData, PaintsPieces, IsPlainFrom, IsSettledBuffer, columns}
@@ -16,7 +16,10 @@ use Rattle.pager.specs.declared.view.View.{View}
 use Rattle.pager.specs.declared.help.TheConstants.{HELP}
 use Rattle.pager.specs.declared.pager.Pager.{Pager}
 use Rattle.pager.specs.declared.pager.Mode.{Mode}
-use Rattle.pager.specs.declared.pager.Mode.TheVariants.{Reading, Asking, Helping}
+use Rattle.pager.specs.declared.pager.Mode.TheVariants.{Reading, Asking, Marking, Returning, Helping}
+use Rattle.pager.specs.declared.pager.Note.{Note}
+use Rattle.pager.specs.declared.pager.Note.TheVariants.{Range, Bytes, Missing}
+use Rattle.pager.specs.Search.{numbered_line}
 
 -- ---- lines
 
@@ -87,8 +90,7 @@ PaintsTextRow p q r y = PaintsLineAt (slice_get p.document q.line) p q r y
 -- row k of a page: a place of the text, or a row of the list of the keys
 abbrev pub PaintsRowIn : Mode → Pager → Rect → ℕ → Place → BufferData → BufferData → Type 0
 PaintsRowIn Helping p r k q = PaintsLine r.x (r.y + k) (view_from 0 r.width) [] (help_text k)
-PaintsRowIn Reading p r k q = PaintsTextRow p q r (r.y + k)
-PaintsRowIn Asking p r k q = PaintsTextRow p q r (r.y + k)
+PaintsRowIn _ p r k q = PaintsTextRow p q r (r.y + k)
 
 -- row k of a page shows the place that is so many rows behind the first one
 abbrev pub PaintsPageRow : Pager → Rect → ℕ → BufferData → BufferData → Type 0
@@ -119,17 +121,43 @@ place_text p =
     ++ codes "/" ++ decimal (length p.document)
     ++ codes " " ++ decimal (per_cent p) ++ codes "%"
 
--- the two parts of a status: what the text is called, and the place; or what isn't found; or what is
--- typed of a
--- search; or how to leave the list of the keys
+-- how many bytes the first lines of a text take, with one for the end of each
+unfoldable pub bytes_before : List (List ℕ) → ℕ → ℕ
+bytes_before lines zero = 0
+bytes_before lines (suc k) = bytes_before lines k + length (numbered_line lines k) + 1
+
+abbrev pub byte_count : Pager → ℕ → ℕ
+byte_count p k = min (bytes_before p.document k) (2 ^ 64 - 1)
+
+-- the place, and how many bytes of the text end with the page, as ` 1-23/100 23% bytes 1024/4096`
+abbrev pub details_text : Pager → List ℕ
+details_text p =
+    place_text p ++ codes " bytes " ++ decimal (byte_count p (last_shown p)) ++ codes "/"
+    ++ decimal (byte_count p (length p.document))
+
+-- what the status tells while the text is read: what the text is called, and the place; or what isn't found
+abbrev pub note_name : Note → Pager → List ℕ
+note_name Missing p = codes "not found: "
+note_name _ p = p.name
+
+abbrev pub note_text : Note → Pager → List ℕ
+note_text Range p = place_text p
+note_text Bytes p = details_text p
+note_text Missing p = p.pattern
+
+-- the two parts of a status: such a note; or what is typed of a search; or which key is awaited
 abbrev pub first_part : Mode → Pager → List ℕ
-first_part Reading p = if p.is_missing then codes "not found: " else p.name
+first_part Reading p = note_name p.note p
 first_part Asking p = if p.is_back then codes "?" else codes "/"
+first_part Marking p = codes "mark"
+first_part Returning p = codes "go to mark"
 first_part Helping p = codes "keys"
 
 abbrev pub second_part : Mode → Pager → List ℕ
-second_part Reading p = if p.is_missing then p.pattern else place_text p
+second_part Reading p = note_text p.note p
 second_part Asking p = flat_map encode_utf8 p.typed
+second_part Marking p = codes ": a letter"
+second_part Returning p = codes ": a letter, or ' for where the last jump began"
 second_part Helping p = codes ": any key goes back"
 
 -- the status in a row, one part after the other

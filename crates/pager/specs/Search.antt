@@ -1,11 +1,18 @@
 -- Which lines have what is sought.
 use Rattle.std.specs.Prelude.{ℕ, zero, suc, Bool, ◌&&◌, ◌||◌, ◌==◌, nat_lt, if◌then◌else◌, List, []}
-use Rattle.std.specs.Prelude.{◌∷◌, length, drop, slice_index_or, Option, Some, None}
-use Rattle.std.specs.List.{starts_with, position_from}
+use Rattle.std.specs.Prelude.{◌∷◌, length, take, drop, slice_index_or, chars, Option, Some, None}
+use Rattle.std.specs.{Char.is_ascii_uppercase, List.list_any, List.starts_with, List.position_from}
+use Rattle.std.specs.Str.{str_eq_ignore_ascii_case}
 
--- a text begins with another
+-- one of the letters A to Z stands in a text
+abbrev pub has_capital : List ℕ → Bool
+has_capital text = list_any is_ascii_uppercase (chars text)
+
+-- a text begins with another; a capital counts as a small letter, unless a capital is sought
 abbrev pub begins_with : List ℕ → List ℕ → Bool
-begins_with pattern text = starts_with ◌==◌ text pattern
+begins_with pattern text =
+    if has_capital pattern then starts_with ◌==◌ text pattern
+    else str_eq_ignore_ascii_case pattern (take (length pattern) text)
 
 -- a text stands somewhere in another
 unfoldable pub occurs : List ℕ → List ℕ → Bool

@@ -1,8 +1,9 @@
 //! A text by its lines.
 
-ghost use Rattle.std.specs.Prelude.{◌≡◌, length, map, slice_get, option_map, IfOk};
+ghost use Rattle.std.specs.Prelude.{◌≡◌, ◌≤◌, ◌-◌, ◌^◌, length, map, min, slice_get, option_map, IfOk};
 ghost use Rattle.std.specs.Str.Lines.{lines};
 ghost use Rattle.pager.specs.Search.{numbered_line};
+ghost use Rattle.pager.specs.Pages.{bytes_before};
 
 use std::alloc::{AllocError, Global};
 use std::marker::Model;
@@ -87,6 +88,18 @@ impl<'a> Document<'a> {
             Some(line) => line,
             None => "",
         }
+    }
+
+    /// How many bytes the first lines take, with one for the end of each; at most `u64::MAX`.
+    pub fn bytes_before(&self, count: u64) -> u64
+        ensures { result ≡ min (bytes_before self.now count) (2 ^ 64 - 1) }
+    {
+        let mut bytes = 0u64;
+        for number in 0..count {
+            let length = self.line_or_empty(number).len() as u64;
+            bytes = bytes.saturating_add(length).saturating_add(1);
+        }
+        bytes
     }
 }
 

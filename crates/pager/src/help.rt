@@ -4,14 +4,18 @@ ghost use Rattle.std.specs.Prelude.{◌≡◌, [], slice_get, option_map, unwrap
 ghost use Rattle.pager.specs.Pages.{help_text};
 
 /// The list of the keys, row by row.
-pub static HELP: [&str; 17] = [
+pub static HELP: [&str; 20] = [
     "j k  Down Up  Enter   a row further, back: or as many as the number typed before",
     "Space b  f b  PgDn PgUp   a page further, back",
     "d u                   half a page further, back",
     "g G  Home End         to the first line, to the last: or to that of the number",
+    "% p                   so many hundredths of the text from its beginning",
     "Left Right            half a screen to the left, to the right",
     "/ ?                   search further, back: Enter begins, Esc gives up",
     "n N                   the next match, the one before",
+    "m '                   and a letter: marks the first row's line, goes back there",
+    "                      '' goes back to where the last jump began",
+    "=                     how many bytes of the text end with the page",
     "l                     numbers of lines, or none",
     "w                     long lines broken, or cut",
     "h                     this list",
@@ -19,9 +23,8 @@ pub static HELP: [&str; 17] = [
     "",
     "The wheel of the mouse goes three rows further or back.",
     "",
-    "A search takes what is typed as it is. What it finds is shown reversed.",
+    "A search takes A to Z as small letters, unless one of them is typed.",
     "Tabs go to every eighth column. What can't be shown is a replacement character.",
-    "",
 ];
 
 // Row k of a list, and after it an empty one.

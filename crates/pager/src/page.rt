@@ -173,8 +173,9 @@ impl<'a> Pager<'a> {
     {
         match self.mode {
             Mode::Helping => paint_plain(help_text(k), part.y + k, part, buf),
-            Mode::Reading => self.paint_text_row(place, part.y + k, part, buf),
-            Mode::Asking => self.paint_text_row(place, part.y + k, part, buf),
+            Mode::Reading | Mode::Asking | Mode::Marking | Mode::Returning => {
+                self.paint_text_row(place, part.y + k, part, buf)
+            }
         }
     }
 

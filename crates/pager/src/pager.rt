@@ -4,7 +4,7 @@ ghost use Rattle.std.specs.Prelude.{◌≡◌, OnOk, OnErr};
 ghost use Rattle.pager.specs.Moves.{started, with_one_less, answered, acted, updated};
 ghost use Rattle.pager.specs.Inner.{at_told_size};
 
-use crate::answer::{Answer, answer_of, is_press};
+use crate::answer::{Answer, answer_of, is_press, mark_of};
 use crate::command::command_of;
 use crate::document::Document;
 use crate::own_text::OwnText;
@@ -21,9 +21,27 @@ pub enum Mode {
     Reading,
     /// For what is sought.
     Asking,
+    /// For the letter of a mark that is set.
+    Marking,
+    /// For the letter of a mark to go to.
+    Returning,
     /// The list of the keys is shown; any key ends that.
     Helping,
 }
+
+/// What the status tells while a text is read.
+#[derive(Debug, Clone, Copy, PartialEq, Eq)]
+pub enum Note {
+    /// Which lines are shown.
+    Range,
+    /// Which lines are shown, and how many bytes of the text end with them.
+    Bytes,
+    /// That the last search found no line.
+    Missing,
+}
+
+/// How many marks there are: one for the apostrophe, and one for each letter.
+pub(crate) const MARKS: usize = 53;
 
 /// A text in pages: the lines of a text, and the place in them.
 #[derive(Drop)]
@@ -54,8 +72,10 @@ pub struct Pager<'a> {
     /// What is sought, and the line in which it was found last, unless the place was left since.
     pub(crate) pattern: OwnText,
     pub(crate) found: Option<u32>,
-    /// Whether the last search found no line.
-    pub(crate) is_missing: bool,
+    /// The line that each mark keeps.
+    pub(crate) marks: [Option<u32>; MARKS],
+    /// What the status tells.
+    pub(crate) note: Note,
     /// Whether the reader is done.
     pub(crate) is_over: bool,
 }
@@ -82,7 +102,8 @@ impl<'a> Pager<'a> {
             typed: Typing::new(),
             pattern,
             found: None,
-            is_missing: false,
+            marks: [None; MARKS],
+            note: Note::Range,
             is_over: false,
         }
     }
@@ -124,6 +145,25 @@ impl<'a> Pager<'a> {
         Ok(())
     }
 
+    // Marks the first line of the page, if an event names a mark.
+    fn take_mark(&mut self, event: Event)
+        ensures { self.new ≡ acted Mode.Marking event self.old }
+    {
+        if is_press(event) {
+            self.set_mark(mark_of(event));
+        }
+    }
+
+    // Goes to a mark, if an event names one.
+    fn take_return(&mut self, event: Event)
+        ensures { self.new ≡ acted Mode.Returning event self.old }
+    {
+        if is_press(event) {
+            let line = self.marked_line(mark_of(event));
+            self.return_to(line);
+        }
+    }
+
     // Leaves the help, if an event does.
     fn end_help(&mut self, event: Event)
         ensures { self.new ≡ acted Mode.Helping event self.old }
@@ -144,6 +184,14 @@ impl<'a> Pager<'a> {
                 Ok(())
             }
             Mode::Asking => self.answer(answer_of(event)),
+            Mode::Marking => {
+                self.take_mark(event);
+                Ok(())
+            }
+            Mode::Returning => {
+                self.take_return(event);
+                Ok(())
+            }
             Mode::Helping => {
                 self.end_help(event);
                 Ok(())

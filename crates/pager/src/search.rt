@@ -1,18 +1,40 @@
 //! Lines that have what is sought.
 
-ghost use Rattle.std.specs.Prelude.{◌≡◌, OnOk, OnErr};
-ghost use Rattle.pager.specs.Search.{occurs, has_match, numbered_line, next_match, last_match};
+ghost use Rattle.std.specs.Prelude.{◌≡◌, ◌<◌, false, length, OnOk, OnErr};
+ghost use Rattle.pager.specs.Search.{has_capital, occurs, has_match, numbered_line, next_match, last_match};
 ghost use Rattle.pager.specs.Moves.{found_at, sought_from, sought_before, after_found, before_found};
 ghost use Rattle.pager.specs.Moves.{sought_on, with_pattern, sought_first};
 
-use crate::pager::{Mode, Pager};
+use crate::pager::{Mode, Note, Pager};
+use crate::symbols::{begins_in_any_case, has_capital};
 use std::alloc::AllocError;
 
-// Whether a text stands somewhere in a line.
-fn occurs(pattern: &str, line: &str) -> bool
+// Whether a text without a capital stands somewhere in a line, whose capitals count as small
+// letters.
+fn occurs_in_any_case(pattern: &[u8], line: &[u8]) -> bool
+    requires some { 0 < length pattern.now }
+    requires small { has_capital pattern.now ≡ false }
     ensures { result ≡ occurs pattern.now line.now }
 {
-    line.contains(pattern)
+    for at in 0..line.len() {
+        if begins_in_any_case(pattern, &line[at..]) {
+            return true;
+        }
+    }
+    false
+}
+
+// Whether a text stands somewhere in a line; a capital counts as a small letter, unless one is
+// sought.
+fn occurs(pattern: &str, line: &str) -> bool
+    requires { 0 < length pattern.now }
+    ensures { result ≡ occurs pattern.now line.now }
+{
+    if has_capital(pattern) {
+        line.contains(pattern)
+    } else {
+        occurs_in_any_case(pattern.as_bytes(), line.as_bytes())
+    }
 }
 
 impl<'a> Pager<'a> {
@@ -59,11 +81,11 @@ impl<'a> Pager<'a> {
     {
         match found {
             Some(line) => {
-                self.go_to(u64::from(line));
+                self.jump_to(u64::from(line));
                 self.found = Some(line);
-                self.is_missing = false;
+                self.note = Note::Range;
             }
-            None => self.is_missing = true,
+            None => self.note = Note::Missing,
         }
     }
 
