@@ -1,15 +1,16 @@
 -- Where a text stands in another, and which line has it.
-use Rattle.std.proofs.Common.{◌≡◌, ℕ, suc, ◌+◌, ◌<◌, ◌≤◌, ◌&&◌, ⊎_elim, ◌==◌, nat_lt, if◌then◌else◌, Bool, true, false, Decides}
+use Rattle.std.proofs.Common.{◌≡◌, ℕ, zero, suc, subst, ◌+◌, ◌<◌, ◌≤◌, ◌&&◌, ⊎_elim, ◌==◌, nat_lt, if◌then◌else◌, Bool, true, false, Decides}
 use Rattle.std.proofs.Common.{List, [], ◌∷◌, ◌++◌, map, take, drop, length, Some, None, unwrap_or, slice_get, refl, sym, ap}
 use Rattle.std.proofs.Common.{◌∙◌, arith}
 use Rattle.std.specs.Str.Iter.{HasSubslice}
 use Rattle.std.specs.List.{position_from, starts_with}
 use Rattle.std.specs.{Char.to_ascii_lowercase, Str.str_eq_ignore_ascii_case}
-use Rattle.std.proofs.lemmas.Bool.{cases_Bool, or_right}
+use Rattle.std.proofs.lemmas.Bool.{cases_Bool, cases_lt, or_right}
 use Rattle.std.proofs.lemmas.{Bool.Decides.Decides-eqb}
 use Rattle.std.proofs.lemmas.{Option.unwrap_or-slice_get, Slice.Eq.starts_is, Slice.Eq.bytes_eq-Decides, List.drop_more, List.drop_all}
 use Rattle.std.proofs.lemmas.List.{length-map, length-take}
-use Rattle.pager.specs.Search.{has_capital, begins_with, occurs, has_match, numbered_line, last_match}
+use Rattle.pager.specs.Search.{has_capital, begins_with, occurs, has_match, numbered_line, next_match, last_match}
+use Rattle.pager.specs.Search.{IsFirstMatch, IsLastMatch}
 
 -- ---- where the case of letters counts
 
@@ -145,3 +146,63 @@ last-earlier pattern lines k n same is = ap (last_match pattern lines) (same ∙
 pub last-none : (pattern : List ℕ) (lines : List (List ℕ)) (k : ℕ) → k ≡ 0 → last_match pattern lines k ≡ None
 unfolding last_match
 last-none pattern lines k none = ap (last_match pattern lines) none
+
+-- ---- no match is passed over
+
+first-from : (n : ℕ) (pattern : List ℕ) (lines : List (List ℕ)) (from k : ℕ) → length lines ≤ from + n
+    → next_match pattern lines from ≡ Some k → IsFirstMatch pattern lines from k
+first-from zero pattern lines from k le found =
+    let none = next-none pattern lines from (omega arith) in
+    let no : ⊥ = cc in absurd no
+first-from (suc n) pattern lines from k le found = ⊎_elim
+    (λ (lt : from < length lines). ⊎_elim
+    (λ (is : has_match pattern (numbered_line lines from) ≡ true).
+    let here = next-here pattern lines from lt is in
+    let same : from ≡ k = cc in
+    subst (λ m. IsFirstMatch pattern lines from m) same
+    (record { reached = omega arith; has = is; none = λ j le lt. absurd (omega arith) }))
+    (λ (not : has_match pattern (numbered_line lines from) ≡ false).
+    let later = next-later pattern lines from lt not in
+    let more = first-from n pattern lines (from + 1) k (omega arith) (sym later ∙ found) in
+    record {
+      reached = omega (arith, more.reached);
+      has = more.has;
+      none = λ j le below. ⊎_elim
+          (λ (after : from < j). more.none j (omega arith) below)
+          (λ (at : j ≤ from). let e : from ≡ j = omega arith in
+          subst (λ i. has_match pattern (numbered_line lines i) ≡ false) e not)
+          (cases_lt from j);
+    })
+    (cases_Bool (has_match pattern (numbered_line lines from))))
+    (λ (ge : length lines ≤ from).
+    let none = next-none pattern lines from ge in
+    let no : ⊥ = cc in absurd no)
+    (cases_lt from (length lines))
+
+pub first-match : (pattern : List ℕ) (lines : List (List ℕ)) (from k : ℕ) → next_match pattern lines from ≡ Some k
+    → IsFirstMatch pattern lines from k
+first-match pattern lines from k found = first-from (length lines) pattern lines from k (omega arith) found
+
+pub final-match : (pattern : List ℕ) (lines : List (List ℕ)) (before k : ℕ) → last_match pattern lines before ≡ Some k
+    → IsLastMatch pattern lines before k
+unfolding last_match
+final-match pattern lines zero k found = let no : ⊥ = cc in absurd no
+final-match pattern lines (suc b) k found = ⊎_elim
+    (λ (is : has_match pattern (numbered_line lines b) ≡ true).
+    let here : last_match pattern lines (suc b) ≡ Some b = rw is refl in
+    let same : b ≡ k = cc in
+    subst (λ m. IsLastMatch pattern lines (suc b) m) same
+    (record { reached = omega arith; has = is; none = λ j lt below. absurd (omega arith) }))
+    (λ (not : has_match pattern (numbered_line lines b) ≡ false).
+    let earlier : last_match pattern lines (suc b) ≡ last_match pattern lines b = rw not refl in
+    let more = final-match pattern lines b k (sym earlier ∙ found) in
+    record {
+      reached = omega (arith, more.reached);
+      has = more.has;
+      none = λ j lt below. ⊎_elim
+          (λ (before : j < b). more.none j lt before)
+          (λ (at : b ≤ j). let e : b ≡ j = omega arith in
+          subst (λ i. has_match pattern (numbered_line lines i) ≡ false) e not)
+          (cases_lt j b);
+    })
+    (cases_Bool (has_match pattern (numbered_line lines b)))

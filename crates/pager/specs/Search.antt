@@ -1,5 +1,5 @@
 -- Which lines have what is sought.
-use Rattle.std.specs.Prelude.{ℕ, zero, suc, Bool, ◌&&◌, ◌||◌, ◌==◌, nat_lt, if◌then◌else◌, List, []}
+use Rattle.std.specs.Prelude.{◌≡◌, ◌<◌, ◌≤◌, ℕ, zero, suc, Bool, true, false, ◌&&◌, ◌||◌, ◌==◌, nat_lt, if◌then◌else◌, List, []}
 use Rattle.std.specs.Prelude.{◌∷◌, length, take, drop, slice_index_or, chars, Option, Some, None}
 use Rattle.std.specs.{Char.is_ascii_uppercase, List.list_any, List.starts_with, List.position_from}
 use Rattle.std.specs.Str.{str_eq_ignore_ascii_case}
@@ -36,3 +36,15 @@ unfoldable pub last_match : List ℕ → List (List ℕ) → ℕ → Option ℕ
 last_match pattern lines zero = None
 last_match pattern lines (suc k) =
     if has_match pattern (numbered_line lines k) then Some k else last_match pattern lines k
+
+-- line k has what is sought, and from a line on none before it has
+pub record IsFirstMatch (pattern : List ℕ) (lines : List (List ℕ)) (from k : ℕ) : Type 0 where
+  pub reached : from ≤ k
+  pub has : has_match pattern (numbered_line lines k) ≡ true
+  pub none : (j : ℕ) → from ≤ j → j < k → has_match pattern (numbered_line lines j) ≡ false
+
+-- line k has what is sought, and before a line none after it has
+pub record IsLastMatch (pattern : List ℕ) (lines : List (List ℕ)) (before k : ℕ) : Type 0 where
+  pub reached : k < before
+  pub has : has_match pattern (numbered_line lines k) ≡ true
+  pub none : (j : ℕ) → k < j → j < before → has_match pattern (numbered_line lines j) ≡ false
