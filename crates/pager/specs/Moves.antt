@@ -26,6 +26,7 @@ use Rattle.pager.specs.Places.{text_place, page_rows, at_place, place_after, pla
 abbrev pub started : List (List ℕ) → List ℕ → List ℕ → Size → Pager
 started lines name pattern size = record {
   document = lines;
+  styles = [];
   name = name;
   columns = size.width;
   rows = size.height;

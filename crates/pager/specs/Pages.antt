@@ -1,7 +1,7 @@
 -- What a pager paints: lines in rows, and the status in the last one.
 use Rattle.std.specs.Prelude.{◌≡◌, ℕ, zero, suc, ◌+◌, ◌-◌, ◌*◌, ◌/◌, ◌==◌}
 use Rattle.std.specs.Prelude.{min, if◌then◌else◌, List, [], ◌∷◌, ◌++◌, length, Option, Some, None, option_map}
-use Rattle.std.specs.Prelude.{unwrap_or, slice_get, codes, encode_utf8, ◌^◌}
+use Rattle.std.specs.Prelude.{unwrap_or, slice_get, slice_index_or, codes, encode_utf8, ◌^◌}
 use Rattle.std.specs.{Fmt.decimal, List.flat_map}
 use Rattle.ratatui_core.specs.{Layout.Rect, Layout.EdgesFit, Style.Style, Style.new_style}
 use Rattle.ratatui_core.specs.Buffer.{BufferData, PaintsPieces, IsPlainFrom, IsSettledBuffer, columns}
@@ -13,6 +13,7 @@ use Rattle.pager.specs.Places.{breaking, number_columns, stride, page_rows, page
 use Rattle.pager.specs.Places.{place_after}
 use Rattle.pager.specs.declared.place.Place.{Place}
 use Rattle.pager.specs.declared.view.View.{View}
+use Rattle.pager.specs.declared.styles.Run.{Run}
 use Rattle.pager.specs.declared.help.TheConstants.{HELP}
 use Rattle.pager.specs.declared.pager.Pager.{Pager}
 use Rattle.pager.specs.declared.pager.Mode.{Mode}
@@ -36,10 +37,10 @@ unfoldable pub PaintsSymbols : ℕ → ℕ → View → List LineSymbol → Buff
 PaintsSymbols x y v [] old new = new ≡ old
 PaintsSymbols x y v (s ∷ ss) old new = InTurn (PaintsSymbol x y v s) (PaintsSymbols x y v ss) old new
 
--- what shows of a line, painted in a row from x on, with what is sought marked
-abbrev pub PaintsLine : ℕ → ℕ → View → List ℕ → List ℕ → BufferData → BufferData → Type 0
-PaintsLine x y v pattern line old new =
-    PaintsSymbols x y v (symbols_in_view v (line_symbols pattern line)) old new
+-- what shows of a line in its runs of styles, painted in a row from x on, with what is sought marked
+abbrev pub PaintsLine : ℕ → ℕ → View → List ℕ → List Run → List ℕ → BufferData → BufferData → Type 0
+PaintsLine x y v pattern runs line old new =
+    PaintsSymbols x y v (symbols_in_view v (line_symbols pattern runs line)) old new
 
 -- ---- rows of a page
 
@@ -70,14 +71,18 @@ PaintsNumberIf (suc k) (suc n) x y old new = PaintsNumber (suc n) x y old new
 abbrev pub number_at : Place → ℕ
 number_at q = if q.row == 0 then q.line + 1 else 0
 
+-- the runs of a line by its number; a line without any is in no style
+abbrev pub line_runs : List (List Run) → ℕ → List Run
+line_runs styles k = slice_index_or styles k []
+
 -- a row of the text: a row of a line, with the line's number in the first one; after the end of the text
 -- a tilde
 abbrev pub PaintsLineAt : Option (List ℕ) → Pager → Place → Rect → ℕ → BufferData → BufferData → Type 0
 PaintsLineAt (Some line) p q r y =
     let beside = number_columns p r.width in
     InTurn (PaintsNumberIf beside (number_at q) r.x y)
-    (PaintsLine (r.x + beside) y (view_at p q.row (r.width - beside)) p.pattern line)
-PaintsLineAt None p q r y = PaintsLine r.x y (view_from 0 r.width) [] (codes "~")
+    (PaintsLine (r.x + beside) y (view_at p q.row (r.width - beside)) p.pattern (line_runs p.styles q.line) line)
+PaintsLineAt None p q r y = PaintsLine r.x y (view_from 0 r.width) [] [] (codes "~")
 
 -- a row of the list of the keys
 abbrev pub help_text : ℕ → List ℕ
@@ -89,7 +94,7 @@ PaintsTextRow p q r y = PaintsLineAt (slice_get p.document q.line) p q r y
 
 -- row k of a page: a place of the text, or a row of the list of the keys
 abbrev pub PaintsRowIn : Mode → Pager → Rect → ℕ → Place → BufferData → BufferData → Type 0
-PaintsRowIn Helping p r k q = PaintsLine r.x (r.y + k) (view_from 0 r.width) [] (help_text k)
+PaintsRowIn Helping p r k q = PaintsLine r.x (r.y + k) (view_from 0 r.width) [] [] (help_text k)
 PaintsRowIn _ p r k q = PaintsTextRow p q r (r.y + k)
 
 -- row k of a page shows the place that is so many rows behind the first one

@@ -71,11 +71,11 @@ fn paint_plain(line: &str, y: u16, part: Rect, buf: &mut Buffer) -> Result<(), A
     requires bottom { y < part.y + part.height }
     ensures within { ChangesWithin part buf.old buf.new }
     ensures ok { OnOk result
-        (PaintsLine part.x y (view_from 0 part.width) [] line.now buf.old buf.new) }
+        (PaintsLine part.x y (view_from 0 part.width) [] [] line.now buf.old buf.new) }
     ensures ready { IsReadyFrom y buf.old → OnOk result (IsReadyFrom (y + 1) buf.new) }
 {
     let view = View::new(0, part.width);
-    paint_line(line, "", view, part.x, y, part, buf)
+    paint_line(line, &[], "", view, part.x, y, part, buf)
 }
 
 impl<'a> Pager<'a> {
@@ -121,6 +121,7 @@ impl<'a> Pager<'a> {
         let view = self.view_at(place.row, part.width - beside);
         paint_line(
             line,
+            self.styles.line(place.line),
             self.pattern.as_str(),
             view,
             part.x + beside,

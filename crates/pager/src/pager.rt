@@ -8,6 +8,7 @@ use crate::answer::{Answer, answer_of, is_press, mark_of};
 use crate::command::command_of;
 use crate::document::Document;
 use crate::own_text::OwnText;
+use crate::styles::Styles;
 use crate::typing::Typing;
 use ratatui_core::layout::Size;
 use ratatui_events::Event;
@@ -48,6 +49,8 @@ pub(crate) const MARKS: usize = 53;
 pub struct Pager<'a> {
     /// The lines of the text.
     pub(crate) document: Document<'a>,
+    /// Their styles.
+    pub(crate) styles: Styles,
     /// What the text is called.
     pub(crate) name: OwnText,
     /// The columns and rows of the terminal.
@@ -86,8 +89,10 @@ impl<'a> Pager<'a> {
     pub fn new(document: Document<'a>, name: OwnText, pattern: OwnText, size: Size) -> Pager<'a>
         ensures { result ≡ started document.entry name pattern size }
     {
+        let styles = Styles::new(document.allocator());
         Pager {
             document,
+            styles,
             name,
             columns: size.width,
             rows: size.height,
@@ -106,6 +111,13 @@ impl<'a> Pager<'a> {
             note: Note::Range,
             is_over: false,
         }
+    }
+
+    /// The pager, with the styles of its lines.
+    pub fn styled(self, styles: Styles) -> Pager<'a>
+        ensures { result ≡ record self.entry { styles = styles.entry } }
+    {
+        Pager { styles, ..self }
     }
 
     // Takes the size that an event tells, if there is one.
