@@ -1,7 +1,7 @@
 -- What a pager paints: lines in rows, and the status in the last one.
 use Rattle.std.specs.Prelude.{◌≡◌, ℕ, zero, suc, ◌+◌, ◌-◌, ◌*◌, ◌/◌, ◌==◌}
 use Rattle.std.specs.Prelude.{min, if◌then◌else◌, List, [], ◌∷◌, ◌++◌, length, Option, Some, None, option_map}
-use Rattle.std.specs.Prelude.{unwrap_or, slice_get, slice_index_or, codes, encode_utf8, ◌^◌}
+use Rattle.std.specs.Prelude.{unwrap_or, slice_get, slice_index_or, is_some, codes, encode_utf8, ◌^◌}
 use Rattle.std.specs.{Fmt.decimal, List.flat_map}
 use Rattle.ratatui_core.specs.{Layout.Rect, Layout.EdgesFit, Style.Style, Style.new_style}
 use Rattle.ratatui_core.specs.Buffer.{BufferData, PaintsPieces, IsPlainFrom, IsSettledBuffer, columns}
@@ -17,7 +17,7 @@ use Rattle.pager.specs.declared.styles.Run.{Run}
 use Rattle.pager.specs.declared.help.TheConstants.{HELP}
 use Rattle.pager.specs.declared.pager.Pager.{Pager}
 use Rattle.pager.specs.declared.pager.Mode.{Mode}
-use Rattle.pager.specs.declared.pager.Mode.TheVariants.{Reading, Asking, Marking, Returning, Helping}
+use Rattle.pager.specs.declared.pager.Mode.TheVariants.{Reading, Asking, Filtering, Marking, Returning, Helping}
 use Rattle.pager.specs.declared.pager.Note.{Note}
 use Rattle.pager.specs.declared.pager.Note.TheVariants.{Range, Bytes, Missing}
 use Rattle.pager.specs.Search.{numbered_line}
@@ -67,9 +67,13 @@ PaintsNumberIf zero n x y old new = new ≡ old
 PaintsNumberIf (suc k) zero x y old new = new ≡ old
 PaintsNumberIf (suc k) (suc n) x y old new = PaintsNumber (suc n) x y old new
 
+-- the number of a line that is shown among all lines, from 0 on
+abbrev pub line_number : Pager → ℕ → ℕ
+line_number p k = if is_some p.whole then slice_index_or p.numbers k k else k
+
 -- the number of a line from 1 on in its first row, and none in its other ones
-abbrev pub number_at : Place → ℕ
-number_at q = if q.row == 0 then q.line + 1 else 0
+abbrev pub number_at : Pager → Place → ℕ
+number_at p q = if q.row == 0 then line_number p q.line + 1 else 0
 
 -- the runs of a line by its number; a line without any is in no style
 abbrev pub line_runs : List (List Run) → ℕ → List Run
@@ -80,8 +84,8 @@ line_runs styles k = slice_index_or styles k []
 abbrev pub PaintsLineAt : Option (List ℕ) → Pager → Place → Rect → ℕ → BufferData → BufferData → Type 0
 PaintsLineAt (Some line) p q r y =
     let beside = number_columns p r.width in
-    InTurn (PaintsNumberIf beside (number_at q) r.x y)
-    (PaintsLine (r.x + beside) y (view_at p q.row (r.width - beside)) p.pattern (line_runs p.styles q.line) line)
+    InTurn (PaintsNumberIf beside (number_at p q) r.x y)
+    (PaintsLine (r.x + beside) y (view_at p q.row (r.width - beside)) p.pattern (line_runs p.styles (line_number p q.line)) line)
 PaintsLineAt None p q r y = PaintsLine r.x y (view_from 0 r.width) [] [] (codes "~")
 
 -- a row of the list of the keys
@@ -154,6 +158,7 @@ note_text Missing p = p.pattern
 abbrev pub first_part : Mode → Pager → List ℕ
 first_part Reading p = note_name p.note p
 first_part Asking p = if p.is_back then codes "?" else codes "/"
+first_part Filtering p = codes "&"
 first_part Marking p = codes "mark"
 first_part Returning p = codes "go to mark"
 first_part Helping p = codes "keys"
@@ -161,6 +166,7 @@ first_part Helping p = codes "keys"
 abbrev pub second_part : Mode → Pager → List ℕ
 second_part Reading p = note_text p.note p
 second_part Asking p = flat_map encode_utf8 p.typed
+second_part Filtering p = flat_map encode_utf8 p.typed
 second_part Marking p = codes ": a letter"
 second_part Returning p = codes ": a letter, or ' for where the last jump began"
 second_part Helping p = codes ": any key goes back"

@@ -1,6 +1,6 @@
 -- Which lines have what is sought.
 use Rattle.std.specs.Prelude.{ℕ, zero, suc, Bool, ◌&&◌, ◌||◌, ◌==◌, nat_lt, if◌then◌else◌, List, []}
-use Rattle.std.specs.Prelude.{◌∷◌, length, take, drop, slice_index_or, chars, Option, Some, None}
+use Rattle.std.specs.Prelude.{◌∷◌, ◌++◌, map, length, take, drop, slice_index_or, chars, Option, Some, None}
 use Rattle.std.specs.{Char.is_ascii_uppercase, List.list_any, List.starts_with, List.position_from}
 use Rattle.std.specs.Str.{str_eq_ignore_ascii_case}
 
@@ -36,3 +36,14 @@ unfoldable pub last_match : List ℕ → List (List ℕ) → ℕ → Option ℕ
 last_match pattern lines zero = None
 last_match pattern lines (suc k) =
     if has_match pattern (numbered_line lines k) then Some k else last_match pattern lines k
+
+-- the numbers of those of the first lines that have what is sought
+unfoldable pub matching : List ℕ → List (List ℕ) → ℕ → List ℕ
+matching pattern lines zero = []
+matching pattern lines (suc k) =
+    if has_match pattern (numbered_line lines k) then matching pattern lines k ++ k ∷ []
+    else matching pattern lines k
+
+-- the lines of these numbers
+abbrev pub picked : List (List ℕ) → List ℕ → List (List ℕ)
+picked lines numbers = map (numbered_line lines) numbers

@@ -8,6 +8,7 @@
 mod answer;
 mod command;
 mod document;
+mod filter;
 mod help;
 pub mod laws;
 mod marks;
@@ -29,7 +30,7 @@ mod view;
 
 pub use answer::Answer;
 pub use command::Command;
-pub use document::{Document, TextError};
+pub use document::{Document, Numbers, TextError};
 pub use help::HELP;
 pub use own_text::OwnText;
 pub use pager::{Mode, Note, Pager};

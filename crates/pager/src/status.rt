@@ -103,6 +103,7 @@ impl<'a> Pager<'a> {
             Mode::Reading => self.note_name(),
             Mode::Asking if self.is_back => "?",
             Mode::Asking => "/",
+            Mode::Filtering => "&",
             Mode::Marking => "mark",
             Mode::Returning => "go to mark",
             Mode::Helping => "keys",
@@ -183,7 +184,7 @@ impl<'a> Pager<'a> {
     {
         match self.mode {
             Mode::Reading => self.paint_note(room, x, y, part, buf),
-            Mode::Asking => self.paint_typed(room, x, y, part, buf),
+            Mode::Asking | Mode::Filtering => self.paint_typed(room, x, y, part, buf),
             Mode::Marking => paint_text(": a letter", room, reversed(), x, y, part, buf),
             Mode::Returning => {
                 let awaited = ": a letter, or ' for where the last jump began";
