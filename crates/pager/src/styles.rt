@@ -55,7 +55,8 @@ impl Styles {
         ensures ok { OnOk result (self.new ≡ self.old ++ runs.items ∷ []) }
         ensures err { OnErr result (self.new ≡ self.old) }
     {
-        self.lines.push(Runs { runs })
+        self.lines.push(Runs { runs })?;
+        Ok(())
     }
 
     /// The runs of a line by its number, from 0 on.
