@@ -1,12 +1,14 @@
 -- Where a text stands in another, and which line has it.
 use Rattle.std.proofs.Common.{◌≡◌, ℕ, suc, ◌+◌, ◌<◌, ◌≤◌, ◌&&◌, ⊎_elim, ◌==◌, nat_lt, if◌then◌else◌, Bool, true, false, Decides}
-use Rattle.std.proofs.Common.{List, [], ◌∷◌, ◌++◌, drop, length, Some, None, unwrap_or, slice_get, refl, sym, ap}
+use Rattle.std.proofs.Common.{List, [], ◌∷◌, ◌++◌, map, take, drop, length, Some, None, unwrap_or, slice_get, refl, sym, ap}
 use Rattle.std.proofs.Common.{◌∙◌, arith}
 use Rattle.std.specs.Str.Iter.{HasSubslice}
 use Rattle.std.specs.List.{position_from, starts_with}
+use Rattle.std.specs.{Char.to_ascii_lowercase, Str.str_eq_ignore_ascii_case}
 use Rattle.std.proofs.lemmas.Bool.{cases_Bool, or_right}
 use Rattle.std.proofs.lemmas.{Bool.Decides.Decides-eqb}
-use Rattle.std.proofs.lemmas.{Option.unwrap_or-slice_get, Slice.Eq.starts_is, List.drop_more, List.drop_all}
+use Rattle.std.proofs.lemmas.{Option.unwrap_or-slice_get, Slice.Eq.starts_is, Slice.Eq.bytes_eq-Decides, List.drop_more, List.drop_all}
+use Rattle.std.proofs.lemmas.List.{length-map, length-take}
 use Rattle.pager.specs.Search.{has_capital, begins_with, occurs, has_match, numbered_line, last_match}
 
 -- ---- where the case of letters counts
@@ -69,6 +71,24 @@ pub occurs-later : (pattern text : List ℕ) (k : ℕ) → k < length text → b
 occurs-later pattern text k lt is =
     let more = drop_more text k 0 lt in
     ap (occurs pattern) more ∙ later-is pattern _ (drop (k + 1) text) (ap (begins_with pattern) (sym more) ∙ is)
+
+-- ---- where the case of letters doesn't count
+
+pub same-case : (a b : List ℕ) → Decides (str_eq_ignore_ascii_case a b) (map to_ascii_lowercase a ≡ map to_ascii_lowercase b)
+same-case a b = bytes_eq-Decides (map to_ascii_lowercase a) (map to_ascii_lowercase b)
+
+-- a text that is too short doesn't begin with another
+pub case-short : (pattern text : List ℕ) → length text < length pattern
+    → str_eq_ignore_ascii_case pattern (take (length pattern) text) ≡ false
+case-short pattern text lt = ⊎_elim
+    (λ (same : str_eq_ignore_ascii_case pattern (take (length pattern) text) ≡ true).
+    let e = ap length ((same-case pattern (take (length pattern) text)).0 same) in
+    let m = length-map pattern to_ascii_lowercase in
+    let n = length-map (take (length pattern) text) to_ascii_lowercase in
+    let t = length-take (length pattern) text in
+    absurd (omega arith))
+    (λ (other : str_eq_ignore_ascii_case pattern (take (length pattern) text) ≡ false). other)
+    (cases_Bool (str_eq_ignore_ascii_case pattern (take (length pattern) text)))
 
 if-false : (b : Bool) → (if b then false else false) ≡ false
 if-false true = refl
