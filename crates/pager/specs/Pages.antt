@@ -123,12 +123,16 @@ last_shown p = min ((place_after (page_rows p - 1) p).line + 1) (length p.docume
 abbrev pub per_cent : Pager → ℕ
 per_cent p = if length p.document == 0 then 100 else last_shown p * 100 / length p.document
 
--- the place, as ` 1-23/100 23%`
+-- whether some lines are hidden
+abbrev pub filter_text : Pager → List ℕ
+filter_text p = if is_some p.whole then codes " filtered" else []
+
+-- the place, as ` 1-23/100 23%`, and ` filtered` where some lines are hidden
 abbrev pub place_text : Pager → List ℕ
 place_text p =
     codes " " ++ decimal (first_shown p) ++ codes "-" ++ decimal (last_shown p)
     ++ codes "/" ++ decimal (length p.document)
-    ++ codes " " ++ decimal (per_cent p) ++ codes "%"
+    ++ codes " " ++ decimal (per_cent p) ++ codes "%" ++ filter_text p
 
 -- how many bytes the first lines of a text take, with one for the end of each
 unfoldable pub bytes_before : List (List ℕ) → ℕ → ℕ
