@@ -8,19 +8,20 @@ use Rattle.ratatui_events.specs.declared.event.Event.{Event}
 use Rattle.ratatui_reads.specs.Reads.{size_in}
 use Rattle.pager.specs.declared.pager.Pager.{Pager}
 use Rattle.pager.specs.declared.pager.Mode.{Mode}
-use Rattle.pager.specs.declared.pager.Mode.TheVariants.{Reading, Asking, Marking, Returning, Helping}
+use Rattle.pager.specs.declared.pager.Mode.TheVariants.{Reading, Asking, Filtering, Marking, Returning, Helping}
 use Rattle.pager.specs.declared.answer.Answer.{Answer}
 use Rattle.pager.specs.declared.answer.Answer.TheVariants.{Add, Erase, Search, Cancel, Ignore}
 use Rattle.pager.specs.declared.command.Command.{Command}
 use Rattle.pager.specs.declared.command.Command.TheVariants.{Nothing, Digit, Down, Up, PageDown, PageUp, HalfDown, HalfUp}
 use Rattle.pager.specs.declared.command.Command.TheVariants.{WheelDown, WheelUp}
 use Rattle.pager.specs.declared.command.Command.TheVariants.{ToStart, ToEnd, ToLeft, ToRight, Ask, Next, Previous, Numbers, Wrap}
-use Rattle.pager.specs.declared.command.Command.TheVariants.{Help, Quit, ToPart, Details, Mark, ToMark}
-use Rattle.pager.specs.Search.{next_match, last_match}
+use Rattle.pager.specs.declared.command.Command.TheVariants.{Help, Quit, ToPart, Details, Mark, ToMark, Filter}
+use Rattle.pager.specs.Search.{next_match, last_match, matching}
 use Rattle.pager.specs.declared.place.Place.{Place}
 use Rattle.pager.specs.Places.{IsInText, text_place, last_page, is_before, at_place}
 use Rattle.pager.specs.Moves.{started, found_at, sought_before, sought_from, before_found, after_found, sought_on, after_move}
 use Rattle.pager.specs.Moves.{obeyed, with_pattern, answered, acted, updated_by, updated, kept, marked, marked_line, returned}
+use Rattle.pager.specs.Moves.{sought_first, all_lines, relined, with_lines, taken_in}
 use Rattle.pager.specs.Keys.{event_command, event_answer, event_mark, is_press}
 
 -- of two places at most one stands before the other one
@@ -75,6 +76,7 @@ moved-in Next p is = is
 moved-in Previous p is = is
 moved-in Details p is = is
 moved-in Mark p is = is
+moved-in Filter p is = is
 moved-in ToMark p is = is
 moved-in Nothing p is = is
 
@@ -103,6 +105,7 @@ obeyed-in Help p is = is
 obeyed-in Quit p is = is
 obeyed-in Details p is = is
 obeyed-in Mark p is = is
+obeyed-in Filter p is = is
 obeyed-in ToMark p is = is
 
 sought_first-if : (is_back : Bool) (p : Pager) → IsInText p
@@ -114,16 +117,33 @@ pattern-if : (b : Bool) (pattern : List ℕ) (p : Pager) → IsInText p → IsIn
 pattern-if true pattern p is = is
 pattern-if false pattern p is = is
 
+sought-in : (p : Pager) → IsInText p → IsInText (sought_first (with_pattern p))
+sought-in p is = sought_first-if (with_pattern p).is_back (with_pattern p) (pattern-if (nat_lt 0 (length p.typed))
+    (flat_map encode_utf8 p.typed) p is)
+
 erased-if : (b : Bool) (typed : List ℕ) (p : Pager) → IsInText p
     → IsInText (if b then record p { typed = typed } else record p { mode = Reading })
 erased-if true typed p is = is
 erased-if false typed p is = is
 
+filtered-if : (b : Bool) (numbers : List ℕ) (p : Pager) → IsInText p
+    → IsInText (if b then with_lines numbers p else relined None [] (all_lines p) p)
+filtered-if true numbers p is = placed-in (text_place 0 0) _
+filtered-if false numbers p is = placed-in (text_place 0 0) _
+
+taken-in : (mode : Mode) (p : Pager) → IsInText p → IsInText (taken_in mode p)
+taken-in Filtering p is = filtered-if (nat_lt 0 (length p.typed))
+    (matching (flat_map encode_utf8 p.typed) (all_lines p) (length (all_lines p))) p is
+taken-in Reading p is = sought-in p is
+taken-in Asking p is = sought-in p is
+taken-in Marking p is = sought-in p is
+taken-in Returning p is = sought-in p is
+taken-in Helping p is = sought-in p is
+
 answered-in : (answer : Answer) (p : Pager) → IsInText p → IsInText (answered answer p)
 answered-in (Add c) p is = is
 answered-in Erase p is = erased-if (nat_lt 0 (length p.typed)) (take (length p.typed - 1) p.typed) p is
-answered-in Search p is = sought_first-if (with_pattern p).is_back (with_pattern p) (pattern-if (nat_lt 0 (length p.typed))
-    (flat_map encode_utf8 p.typed) p is)
+answered-in Search p is = taken-in p.mode p is
 answered-in Cancel p is = is
 answered-in Ignore p is = is
 
@@ -150,6 +170,7 @@ helped-if false p is = is
 acted-in : (mode : Mode) (event : Event) (p : Pager) → IsInText p → IsInText (acted mode event p)
 acted-in Reading event p is = obeyed-in (event_command event) p is
 acted-in Asking event p is = answered-in (event_answer event) p is
+acted-in Filtering event p is = answered-in (event_answer event) p is
 acted-in Marking event p is = marked-if (is_press event) (event_mark event) p is
 acted-in Returning event p is = returned-if (is_press event) (marked_line (event_mark event) p) p is
 acted-in Helping event p is = helped-if (is_press event) p is

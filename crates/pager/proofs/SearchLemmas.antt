@@ -1,7 +1,7 @@
 -- Where a text stands in another, and which line has it.
 use Rattle.std.proofs.Common.{◌≡◌, ℕ, zero, suc, subst, ◌+◌, ◌<◌, ◌≤◌, ◌&&◌, ⊎_elim, ◌==◌, nat_lt, if◌then◌else◌, Bool, true, false, Decides}
 use Rattle.std.proofs.Common.{List, [], ◌∷◌, ◌++◌, map, take, drop, length, Some, None, unwrap_or, slice_get, refl, sym, ap}
-use Rattle.std.proofs.Common.{◌∙◌, arith}
+use Rattle.std.proofs.Common.{◌∙◌, arith, add-one, length-append}
 use Rattle.std.specs.Str.Iter.{HasSubslice}
 use Rattle.std.specs.List.{position_from, starts_with}
 use Rattle.std.specs.{Char.to_ascii_lowercase, Str.str_eq_ignore_ascii_case}
@@ -10,7 +10,7 @@ use Rattle.std.proofs.lemmas.{Bool.Decides.Decides-eqb}
 use Rattle.std.proofs.lemmas.{Option.unwrap_or-slice_get, Slice.Eq.starts_is, Slice.Eq.bytes_eq-Decides, List.drop_more, List.drop_all}
 use Rattle.std.proofs.lemmas.List.{length-map, length-take}
 use Rattle.pager.specs.Search.{has_capital, begins_with, occurs, has_match, numbered_line, next_match, last_match}
-use Rattle.pager.specs.Search.{IsFirstMatch, IsLastMatch}
+use Rattle.pager.specs.Search.{IsFirstMatch, IsLastMatch, matching}
 
 -- ---- where the case of letters counts
 
@@ -206,3 +206,29 @@ final-match pattern lines (suc b) k found = ⊎_elim
           (cases_lt j b);
     })
     (cases_Bool (has_match pattern (numbered_line lines b)))
+
+-- ---- the lines that have what is sought
+
+pub matching-none : (pattern : List ℕ) (lines : List (List ℕ)) → matching pattern lines 0 ≡ []
+unfolding matching
+matching-none pattern lines = refl
+
+pub matching-here : (pattern : List ℕ) (lines : List (List ℕ)) (k : ℕ) → has_match pattern (numbered_line lines k) ≡ true
+    → matching pattern lines (k + 1) ≡ matching pattern lines k ++ k ∷ []
+unfolding matching
+matching-here pattern lines k is = rw add-one (rw is refl)
+
+pub matching-not : (pattern : List ℕ) (lines : List (List ℕ)) (k : ℕ) → has_match pattern (numbered_line lines k) ≡ false
+    → matching pattern lines (k + 1) ≡ matching pattern lines k
+unfolding matching
+matching-not pattern lines k is = rw add-one (rw is refl)
+
+length-if : (b : Bool) (ks : List ℕ) (k : ℕ) → length ks ≤ k → length (if b then ks ++ k ∷ [] else ks) ≤ suc k
+length-if true ks k le = omega (arith, length-append ks (k ∷ []))
+length-if false ks k le = omega arith
+
+pub length-matching : (pattern : List ℕ) (lines : List (List ℕ)) (n : ℕ) → length (matching pattern lines n) ≤ n
+unfolding matching
+length-matching pattern lines zero = omega arith
+length-matching pattern lines (suc k) =
+    length-if (has_match pattern (numbered_line lines k)) (matching pattern lines k) k (length-matching pattern lines k)

@@ -16,7 +16,7 @@ use Rattle.pager.specs.declared.command.Command.TheVariants.{Nothing, Digit, Dow
 use Rattle.pager.specs.declared.command.Command.TheVariants.{HalfDown, HalfUp, WheelDown, WheelUp}
 use Rattle.pager.specs.declared.command.Command.TheVariants.{ToStart, ToEnd, ToLeft, ToRight, Ask, Next}
 use Rattle.pager.specs.declared.command.Command.TheVariants.{Previous, Numbers, Wrap, Help, Quit, ToPart}
-use Rattle.pager.specs.declared.command.Command.TheVariants.{Details, Mark, ToMark}
+use Rattle.pager.specs.declared.command.Command.TheVariants.{Details, Mark, ToMark, Filter}
 use Rattle.pager.specs.declared.answer.Answer.{Answer}
 use Rattle.pager.specs.declared.answer.Answer.TheVariants.{Add, Erase, Search, Cancel, Ignore}
 
@@ -34,7 +34,8 @@ move_command c =
     else if (c == 112) || (c == 37) then ToPart
     else Nothing
 
--- a character: q, a slash, a question mark, n, N, l, w, h, the equals sign, m, an apostrophe, a digit, or a move
+-- a character: q, a slash, a question mark, n, N, the ampersand, l, w, h, the equals sign, m, an apostrophe,
+-- a digit, or a move
 abbrev pub character_command : ℕ → Command
 character_command c =
     if c == 113 then Quit
@@ -42,6 +43,7 @@ character_command c =
     else if c == 63 then Ask true
     else if c == 110 then Next
     else if c == 78 then Previous
+    else if c == 38 then Filter
     else if c == 108 then Numbers
     else if c == 119 then Wrap
     else if c == 104 then Help

@@ -8,7 +8,7 @@ use Rattle.ratatui_events.specs.declared.event.Event.{Event}
 use Rattle.ratatui_reads.specs.Reads.{size_in}
 use Rattle.pager.specs.declared.pager.Pager.{Pager}
 use Rattle.pager.specs.declared.pager.Mode.{Mode}
-use Rattle.pager.specs.declared.pager.Mode.TheVariants.{Reading, Asking, Marking, Returning, Helping}
+use Rattle.pager.specs.declared.pager.Mode.TheVariants.{Reading, Asking, Filtering, Marking, Returning, Helping}
 use Rattle.pager.specs.declared.pager.Note.TheVariants.{Range, Bytes, Missing}
 use Rattle.pager.specs.declared.answer.Answer.{Answer}
 use Rattle.pager.specs.declared.answer.Answer.TheVariants.{Add, Erase, Search, Cancel, Ignore}
@@ -17,15 +17,18 @@ use Rattle.pager.specs.declared.command.Command.TheVariants.{Digit, Down, Up, Pa
 use Rattle.pager.specs.declared.command.Command.TheVariants.{HalfDown, HalfUp, WheelDown, WheelUp}
 use Rattle.pager.specs.declared.command.Command.TheVariants.{ToStart, ToEnd, ToLeft, ToRight, Ask, Next}
 use Rattle.pager.specs.declared.command.Command.TheVariants.{Previous, Numbers, Wrap, Help, Quit, ToPart}
-use Rattle.pager.specs.declared.command.Command.TheVariants.{Details, Mark, ToMark}
+use Rattle.pager.specs.declared.command.Command.TheVariants.{Details, Mark, ToMark, Filter}
 use Rattle.pager.specs.Keys.{event_command, event_answer, event_mark, is_press}
-use Rattle.pager.specs.Search.{next_match, last_match}
+use Rattle.pager.specs.Search.{next_match, last_match, matching, picked}
 use Rattle.pager.specs.Places.{text_place, page_rows, at_place, place_after, place_before}
 
 -- at the first line
 abbrev pub started : List (List ℕ) → List ℕ → List ℕ → Size → Pager
 started lines name pattern size = record {
   document = lines;
+  styles = [];
+  whole = None;
+  numbers = [];
   name = name;
   columns = size.width;
   rows = size.height;
@@ -134,12 +137,17 @@ sought_on is_back p =
 abbrev pub asked : Bool → Pager → Pager
 asked is_back p = record p { mode = Asking; is_back = is_back; typed = [] }
 
+-- a filter is typed
+abbrev pub filter_asked : Pager → Pager
+filter_asked p = record p { mode = Filtering; typed = [] }
+
 -- what a command makes of a pager: each but a digit takes the number, and each move ends a search
 abbrev pub obeyed : Command → Pager → Pager
 obeyed (Digit d) p = typed_digit d p
 obeyed (Ask is_back) p = record (asked is_back p) { number = 0; note = Range }
 obeyed Next p = record (sought_on p.is_back p) { number = 0 }
 obeyed Previous p = record (sought_on (not p.is_back) p) { number = 0 }
+obeyed Filter p = record (filter_asked p) { number = 0; note = Range }
 obeyed Details p = record p { number = 0; note = Bytes }
 obeyed Mark p = record p { number = 0; note = Range; mode = Marking }
 obeyed ToMark p = record p { number = 0; note = Range; mode = Returning }
@@ -163,11 +171,42 @@ with_pattern p = if nat_lt 0 (length p.typed) then record p { pattern = flat_map
 abbrev pub sought_first : Pager → Pager
 sought_first p = if p.is_back then sought_before p.top p else sought_from p.top p
 
--- what an answer makes of a pager of which a search is asked
+-- all lines, also while some of them are hidden
+abbrev pub all_lines : Pager → List (List ℕ)
+all_lines p = unwrap_or p.whole p.document
+
+-- these lines, from the first one on, without marks
+abbrev pub relined : Option (List (List ℕ)) → List ℕ → List (List ℕ) → Pager → Pager
+relined whole numbers lines p = at_line 0 (record p {
+  document = lines;
+  whole = whole;
+  numbers = numbers;
+  left = 0;
+  found = None;
+  marks = replicate 53 None;
+})
+
+-- only the lines of these numbers
+abbrev pub with_lines : List ℕ → Pager → Pager
+with_lines numbers p = relined (Some (all_lines p)) numbers (picked (all_lines p) numbers) p
+
+-- only the lines that have what was typed; all of them if that is nothing
+abbrev pub filtered : Pager → Pager
+filtered p =
+    if nat_lt 0 (length p.typed) then
+    with_lines (matching (flat_map encode_utf8 p.typed) (all_lines p) (length (all_lines p))) p
+    else relined None [] (all_lines p) p
+
+-- what was typed is taken: for a filter, or for a search
+abbrev pub taken_in : Mode → Pager → Pager
+taken_in Filtering p = filtered p
+taken_in _ p = sought_first (with_pattern p)
+
+-- what an answer makes of a pager of which a search or a filter is asked
 abbrev pub answered : Answer → Pager → Pager
 answered (Add c) p = record p { typed = with_character c p.typed }
 answered Erase p = with_one_less p
-answered Search p = record (sought_first (with_pattern p)) { mode = Reading }
+answered Search p = record (taken_in p.mode p) { mode = Reading }
 answered Cancel p = record p { mode = Reading }
 answered Ignore p = p
 
@@ -194,6 +233,7 @@ at_size size p = at_line p.top (record p { columns = size.0; rows = size.1 })
 abbrev pub acted : Mode → Event → Pager → Pager
 acted Reading event p = obeyed (event_command event) p
 acted Asking event p = answered (event_answer event) p
+acted Filtering event p = answered (event_answer event) p
 acted Marking event p = if is_press event then marked (event_mark event) p else p
 acted Returning event p = if is_press event then returned (marked_line (event_mark event) p) p else p
 acted Helping event p = if is_press event then record p { mode = Reading } else p

@@ -41,6 +41,8 @@ pub enum Command {
     Next,
     /// The next match in the other direction.
     Previous,
+    /// Only the lines that have what is typed.
+    Filter,
     /// The numbers of the lines, or no longer.
     Numbers,
     /// Long lines broken, or no longer.
@@ -92,6 +94,7 @@ fn character_command(code: char) -> Command
         '?' => Command::Ask(true),
         'n' => Command::Next,
         'N' => Command::Previous,
+        '&' => Command::Filter,
         'l' => Command::Numbers,
         'w' => Command::Wrap,
         'h' => Command::Help,

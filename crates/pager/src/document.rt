@@ -1,10 +1,12 @@
 //! A text by its lines.
 
-ghost use Rattle.std.specs.Prelude.{◌≡◌, ◌≤◌, ◌-◌, ◌^◌, length, map, min, slice_get, option_map, IfOk};
+ghost use Rattle.std.specs.Prelude.{◌≡◌, ◌≤◌, ◌-◌, ◌^◌, [], length, map, min, slice_get, slice_index_or};
+ghost use Rattle.std.specs.Prelude.{option_map, IfOk};
 ghost use Rattle.std.specs.Str.Lines.{lines};
-ghost use Rattle.pager.specs.Search.{numbered_line};
+ghost use Rattle.pager.specs.Search.{numbered_line, matching, picked};
 ghost use Rattle.pager.specs.Pages.{bytes_before};
 
+use crate::search::has_match;
 use std::alloc::{AllocError, Global};
 use std::marker::Model;
 use thiserror::Error;
@@ -13,6 +15,12 @@ use thiserror::Error;
 #[derive(Drop)]
 pub struct Document<'a> {
     lines: Vec<&'a str>,
+}
+
+/// The numbers of lines, from 0 on.
+#[derive(Drop)]
+pub struct Numbers {
+    numbers: Vec<u32>,
 }
 
 /// Why a text has no `Document`.
@@ -42,6 +50,35 @@ impl<'a> Model for Document<'a> {
     ghost invariant = { λ d. length d.lines.items < 2 ^ 32 };
 }
 
+impl Model for Numbers {
+    ghost use Rattle.std.specs.Prelude.{ℕ, List};
+
+    ghost Value = { List ℕ };
+
+    ghost view = { λ numbers. numbers.numbers.items };
+}
+
+impl Numbers {
+    /// No number.
+    pub fn new(alloc: Global) -> Numbers
+        ensures { result ≡ [] }
+    {
+        Numbers {
+            numbers: Vec::new(alloc),
+        }
+    }
+
+    /// A number, and after the last one another one.
+    pub fn get_or(&self, place: u64, other: u64) -> u64
+        ensures { result ≡ slice_index_or self.now place other }
+    {
+        match self.numbers.get(place as usize) {
+            Some(number) => u64::from(*number),
+            None => other,
+        }
+    }
+}
+
 impl<'a> Document<'a> {
     /// The lines of a text, as `str::lines` gives them.
     ///
@@ -68,6 +105,40 @@ impl<'a> Document<'a> {
         ensures { result ≡ length self.now }
     {
         self.lines.len() as u32
+    }
+
+    /// The numbers of the lines that have a text in them, as a search takes it.
+    ///
+    /// # Errors
+    ///
+    /// `AllocError` if memory is refused.
+    pub fn matching(&self, pattern: &str) -> Result<Numbers, AllocError>
+        ensures { IfOk result (λ numbers.
+            numbers ≡ matching pattern.now self.now (length self.now)) }
+    {
+        let mut numbers = Vec::new(self.allocator());
+        for number in 0..self.len() {
+            if has_match(pattern, self.line_or_empty(u64::from(number))) {
+                numbers.push(number)?;
+            }
+        }
+        Ok(Numbers { numbers })
+    }
+
+    /// The lines of these numbers.
+    ///
+    /// # Errors
+    ///
+    /// `AllocError` if memory is refused.
+    pub fn picked(&self, numbers: &Numbers) -> Result<Document<'a>, AllocError>
+        requires { length numbers.now ≤ length self.now }
+        ensures { IfOk result (λ d. d ≡ picked self.now numbers.now) }
+    {
+        let mut lines = Vec::new(self.allocator());
+        for number in &numbers.numbers {
+            lines.push(self.line_or_empty(u64::from(*number)))?;
+        }
+        Ok(Document { lines })
     }
 
     /// A line by its number, from 0 on.

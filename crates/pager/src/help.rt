@@ -4,7 +4,7 @@ ghost use Rattle.std.specs.Prelude.{◌≡◌, [], slice_get, option_map, unwrap
 ghost use Rattle.pager.specs.Pages.{help_text};
 
 /// The list of the keys, row by row.
-pub static HELP: [&str; 20] = [
+pub static HELP: [&str; 21] = [
     "j k  Down Up  Enter   a row further, back: or as many as the number typed before",
     "Space b  f b  PgDn PgUp   a page further, back",
     "d u                   half a page further, back",
@@ -13,6 +13,7 @@ pub static HELP: [&str; 20] = [
     "Left Right            half a screen to the left, to the right",
     "/ ?                   search further, back: Enter begins, Esc gives up",
     "n N                   the next match, the one before",
+    "&                     only the lines that have what is typed; nothing: all",
     "m '                   and a letter: marks the first row's line, goes back there",
     "                      '' goes back to where the last jump began",
     "=                     how many bytes of the text end with the page",

@@ -2,7 +2,7 @@
 
 ghost use Rattle.std.specs.Prelude.{◌≡◌, ◌-◌};
 ghost use Rattle.pager.specs.Moves.{half_page, or_number, at_line, further, back, half_width, typed_digit};
-ghost use Rattle.pager.specs.Moves.{jumped_to, line_at, after_move, asked, obeyed};
+ghost use Rattle.pager.specs.Moves.{jumped_to, line_at, after_move, asked, filter_asked, obeyed};
 
 use crate::command::Command;
 use crate::pager::{Mode, Note, Pager};
@@ -153,6 +153,14 @@ impl<'a> Pager<'a> {
         self.typed = Typing::new();
     }
 
+    // Lets a filter be typed.
+    fn ask_filter(&mut self)
+        ensures { self.new ≡ filter_asked self.old }
+    {
+        self.mode = Mode::Filtering;
+        self.typed = Typing::new();
+    }
+
     // Takes the next key for a mark.
     fn await_letter(&mut self, mode: Mode)
         ensures { self.new ≡ record self.old { mode = mode; note = Note.Range } }
@@ -170,6 +178,10 @@ impl<'a> Pager<'a> {
             Command::Digit(digit) => return self.type_digit(digit),
             Command::Ask(is_back) => {
                 self.ask(is_back);
+                self.note = Note::Range;
+            }
+            Command::Filter => {
+                self.ask_filter();
                 self.note = Note::Range;
             }
             Command::Next => self.seek_on(is_back),

@@ -1,13 +1,14 @@
 //! The state of a pager.
 
 ghost use Rattle.std.specs.Prelude.{◌≡◌, OnOk, OnErr};
-ghost use Rattle.pager.specs.Moves.{started, with_one_less, answered, acted, updated};
+ghost use Rattle.pager.specs.Moves.{started, with_one_less, taken_in, answered, acted, updated};
 ghost use Rattle.pager.specs.Inner.{at_told_size};
 
 use crate::answer::{Answer, answer_of, is_press, mark_of};
 use crate::command::command_of;
-use crate::document::Document;
+use crate::document::{Document, Numbers};
 use crate::own_text::OwnText;
+use crate::styles::Styles;
 use crate::typing::Typing;
 use ratatui_core::layout::Size;
 use ratatui_events::Event;
@@ -21,6 +22,8 @@ pub enum Mode {
     Reading,
     /// For what is sought.
     Asking,
+    /// For what the lines that are shown must have.
+    Filtering,
     /// For the letter of a mark that is set.
     Marking,
     /// For the letter of a mark to go to.
@@ -48,6 +51,11 @@ pub(crate) const MARKS: usize = 53;
 pub struct Pager<'a> {
     /// The lines of the text.
     pub(crate) document: Document<'a>,
+    /// The styles of all lines.
+    pub(crate) styles: Styles,
+    /// All lines while only some of them are shown, and the numbers of those that are.
+    pub(crate) whole: Option<Document<'a>>,
+    pub(crate) numbers: Numbers,
     /// What the text is called.
     pub(crate) name: OwnText,
     /// The columns and rows of the terminal.
@@ -86,8 +94,12 @@ impl<'a> Pager<'a> {
     pub fn new(document: Document<'a>, name: OwnText, pattern: OwnText, size: Size) -> Pager<'a>
         ensures { result ≡ started document.entry name pattern size }
     {
+        let alloc = document.allocator();
         Pager {
             document,
+            styles: Styles::new(alloc),
+            whole: None,
+            numbers: Numbers::new(alloc),
             name,
             columns: size.width,
             rows: size.height,
@@ -106,6 +118,13 @@ impl<'a> Pager<'a> {
             note: Note::Range,
             is_over: false,
         }
+    }
+
+    /// The pager, with the styles of its lines.
+    pub fn styled(self, styles: Styles) -> Pager<'a>
+        ensures { result ≡ record self.entry { styles = styles.entry } }
+    {
+        Pager { styles, ..self }
     }
 
     // Takes the size that an event tells, if there is one.
@@ -130,7 +149,21 @@ impl<'a> Pager<'a> {
         }
     }
 
-    // Does what is asked while a search is typed.
+    // Takes what was typed, for a filter or for a search.
+    fn take_typed(&mut self) -> Result<(), AllocError>
+        ensures ok { OnOk result
+            (self.new ≡ record (taken_in self.old.mode self.old) { mode = Mode.Reading }) }
+        ensures err { OnErr result (self.new ≡ self.old) }
+    {
+        match self.mode {
+            Mode::Filtering => self.filter()?,
+            _ => self.search()?,
+        }
+        self.mode = Mode::Reading;
+        Ok(())
+    }
+
+    // Does what is asked while a search or a filter is typed.
     fn answer(&mut self, answer: Answer) -> Result<(), AllocError>
         ensures ok { OnOk result (self.new ≡ answered answer self.old) }
         ensures err { OnErr result (self.new ≡ self.old) }
@@ -138,7 +171,7 @@ impl<'a> Pager<'a> {
         match answer {
             Answer::Add(character) => self.typed.push(character),
             Answer::Erase => self.erase(),
-            Answer::Search => return self.search(),
+            Answer::Search => return self.take_typed(),
             Answer::Cancel => self.mode = Mode::Reading,
             Answer::Ignore => {}
         }
@@ -183,7 +216,7 @@ impl<'a> Pager<'a> {
                 self.obey(command_of(event));
                 Ok(())
             }
-            Mode::Asking => self.answer(answer_of(event)),
+            Mode::Asking | Mode::Filtering => self.answer(answer_of(event)),
             Mode::Marking => {
                 self.take_mark(event);
                 Ok(())
@@ -209,8 +242,8 @@ impl<'a> Updates for Pager<'a> {
     ///
     /// # Errors
     ///
-    /// `AllocError` if memory is refused; nothing has changed then. Only the beginning of a search
-    /// takes some.
+    /// `AllocError` if memory is refused; nothing has changed then. Only the beginning of a search and
+    /// a filter take some.
     fn update(&mut self, event: Event) -> Result<(), AllocError>
         ensures ok { OnOk result (self.new ≡ updated self.old event) }
         ensures err { OnErr result (self.new ≡ self.old) }

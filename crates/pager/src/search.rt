@@ -5,7 +5,7 @@ ghost use Rattle.pager.specs.Search.{has_capital, occurs, has_match, numbered_li
 ghost use Rattle.pager.specs.Moves.{found_at, sought_from, sought_before, after_found, before_found};
 ghost use Rattle.pager.specs.Moves.{sought_on, with_pattern, sought_first};
 
-use crate::pager::{Mode, Note, Pager};
+use crate::pager::{Note, Pager};
 use crate::symbols::{begins_in_any_case, has_capital};
 use std::alloc::AllocError;
 
@@ -37,16 +37,19 @@ fn occurs(pattern: &str, line: &str) -> bool
     }
 }
 
+// Whether a line has what is sought.
+pub(crate) fn has_match(pattern: &str, line: &str) -> bool
+    ensures { result ≡ has_match pattern.now line.now }
+{
+    !pattern.is_empty() && occurs(pattern, line)
+}
+
 impl<'a> Pager<'a> {
     // Whether a line has what is sought.
     fn has_match(&self, line: u32) -> bool
         ensures { result ≡ has_match self.now.pattern (numbered_line self.now.document line) }
     {
-        let pattern = self.pattern.as_str();
-        match self.document.line(line as usize) {
-            Some(text) => !pattern.is_empty() && occurs(pattern, text),
-            None => false,
-        }
+        has_match(self.pattern.as_str(), self.document.line_or_empty(u64::from(line)))
     }
 
     // The first line from one on that has what is sought.
@@ -152,12 +155,10 @@ impl<'a> Pager<'a> {
 
     // Begins the search of what was typed.
     pub(crate) fn search(&mut self) -> Result<(), AllocError>
-        ensures ok { OnOk result
-            (self.new ≡ record (sought_first (with_pattern self.old)) { mode = Mode.Reading }) }
+        ensures ok { OnOk result (self.new ≡ sought_first (with_pattern self.old)) }
         ensures err { OnErr result (self.new ≡ self.old) }
     {
         self.take_pattern()?;
-        self.mode = Mode::Reading;
         if self.is_back {
             let before = self.top;
             self.seek_before(before);

@@ -1,12 +1,13 @@
 //! The status in the last row of a page.
 
-ghost use Rattle.std.specs.Prelude.{◌≡◌, ◌+◌, ◌-◌, ◌<◌, ◌≤◌, OnOk, IfOk};
+ghost use Rattle.std.specs.Prelude.{◌≡◌, length, ◌+◌, ◌-◌, ◌<◌, ◌≤◌, OnOk, IfOk};
 ghost use Rattle.ratatui_core.specs.Layout.{IsInside};
 ghost use Rattle.ratatui_core.specs.Buffer.{IsReadyAt, IsReadyFrom, IsSettledBuffer};
 ghost use Rattle.ratatui_core.specs.Widgets.{ChangesWithin};
 ghost use Rattle.rtui_boxes.specs.Boxes.{IsBoxArea};
 ghost use Rattle.pager.specs.Symbols.{reversed};
-ghost use Rattle.pager.specs.Pages.{first_shown, last_shown, per_cent, place_text, byte_count, details_text};
+ghost use Rattle.pager.specs.Pages.{first_shown, last_shown, per_cent, filter_text, place_text, byte_count};
+ghost use Rattle.pager.specs.Pages.{details_text};
 ghost use Rattle.pager.specs.Pages.{note_name, note_text, first_part, second_part, PaintsText, PaintsStatus};
 
 use crate::pager::{Mode, Note, Pager};
@@ -46,6 +47,14 @@ impl<'a> Pager<'a> {
         }
     }
 
+    // Whether some lines are hidden.
+    fn filter_text(&self) -> &'static str
+        ensures text { result.now ≡ filter_text self.now }
+        ensures short { length result.now ≤ 9 }
+    {
+        if self.whole.is_some() { " filtered" } else { "" }
+    }
+
     // The place, as it is shown.
     fn place_text(&self) -> ArrayString<100>
         ensures { result.bytes ≡ place_text self.now }
@@ -61,6 +70,7 @@ impl<'a> Pager<'a> {
         text.push_str(" ");
         text.push_str(digits.format(self.per_cent()));
         text.push_str("%");
+        text.push_str(self.filter_text());
         text
     }
 
@@ -103,6 +113,7 @@ impl<'a> Pager<'a> {
             Mode::Reading => self.note_name(),
             Mode::Asking if self.is_back => "?",
             Mode::Asking => "/",
+            Mode::Filtering => "&",
             Mode::Marking => "mark",
             Mode::Returning => "go to mark",
             Mode::Helping => "keys",
@@ -183,7 +194,7 @@ impl<'a> Pager<'a> {
     {
         match self.mode {
             Mode::Reading => self.paint_note(room, x, y, part, buf),
-            Mode::Asking => self.paint_typed(room, x, y, part, buf),
+            Mode::Asking | Mode::Filtering => self.paint_typed(room, x, y, part, buf),
             Mode::Marking => paint_text(": a letter", room, reversed(), x, y, part, buf),
             Mode::Returning => {
                 let awaited = ": a letter, or ' for where the last jump began";

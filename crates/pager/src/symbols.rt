@@ -5,9 +5,9 @@ ghost use Rattle.std.specs.Str.{str_eq_ignore_ascii_case};
 ghost use Rattle.ratatui_core.specs.Text.{has_control};
 ghost use Rattle.pager.specs.Search.{has_capital, begins_with};
 ghost use Rattle.pager.specs.Symbols.{is_tab, is_replaced, shown_symbol, shown_columns, reversed};
-ghost use Rattle.pager.specs.Symbols.{marked_bytes};
-ghost use Rattle.pager.specs.Symbols.{mark_style};
+ghost use Rattle.pager.specs.Symbols.{marked_bytes, mark_style, runs_after, first_style};
 
+use crate::styles::Run;
 use ansi_model::is_printed;
 use ratatui_core::buffer::CellWidth;
 use ratatui_core::style::{Modifier, Style};
@@ -102,8 +102,32 @@ pub(crate) fn marked_bytes(pattern: &str, marked: usize, rest: &str) -> usize
 }
 
 // The style of a grapheme of which so many bytes are marked.
-pub(crate) fn mark_style(marked: usize) -> Style
-    ensures { result ≡ mark_style marked }
+pub(crate) fn mark_style(marked: usize, style: Style) -> Style
+    ensures { result ≡ mark_style marked style }
 {
-    if marked > 0 { reversed() } else { Style::new() }
+    if marked > 0 { reversed() } else { style }
+}
+
+// The runs of a line that end after a byte of it.
+pub(crate) fn runs_after(byte: usize, runs: &[Run]) -> &[Run]
+    ensures { result.now ≡ runs_after byte runs.now }
+{
+    let mut runs = runs;
+    while let Some((run, rest)) = runs.split_first() {
+        if run.end > byte {
+            return runs;
+        }
+        runs = rest;
+    }
+    runs
+}
+
+// The style of the first run.
+pub(crate) fn first_style(runs: &[Run]) -> Style
+    ensures { result ≡ first_style runs.now }
+{
+    match runs.first() {
+        Some(run) => run.style,
+        None => Style::new(),
+    }
 }
