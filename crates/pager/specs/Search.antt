@@ -1,11 +1,6 @@
 -- Which lines have what is sought.
-<<<<<<< HEAD
 use Rattle.std.specs.Prelude.{◌≡◌, ◌<◌, ◌≤◌, ℕ, zero, suc, Bool, true, false, ◌&&◌, ◌||◌, ◌==◌, nat_lt, if◌then◌else◌, List, []}
-use Rattle.std.specs.Prelude.{◌∷◌, length, take, drop, slice_index_or, chars, Option, Some, None}
-=======
-use Rattle.std.specs.Prelude.{ℕ, zero, suc, Bool, ◌&&◌, ◌||◌, ◌==◌, nat_lt, if◌then◌else◌, List, []}
 use Rattle.std.specs.Prelude.{◌∷◌, ◌++◌, map, length, take, drop, slice_index_or, chars, Option, Some, None}
->>>>>>> wip3
 use Rattle.std.specs.{Char.is_ascii_uppercase, List.list_any, List.starts_with, List.position_from}
 use Rattle.std.specs.Str.{str_eq_ignore_ascii_case}
 
@@ -42,7 +37,6 @@ last_match pattern lines zero = None
 last_match pattern lines (suc k) =
     if has_match pattern (numbered_line lines k) then Some k else last_match pattern lines k
 
-<<<<<<< HEAD
 -- line k has what is sought, and from a line on none before it has
 pub record IsFirstMatch (pattern : List ℕ) (lines : List (List ℕ)) (from k : ℕ) : Type 0 where
   pub reached : from ≤ k
@@ -54,7 +48,7 @@ pub record IsLastMatch (pattern : List ℕ) (lines : List (List ℕ)) (before k 
   pub reached : k < before
   pub has : has_match pattern (numbered_line lines k) ≡ true
   pub none : (j : ℕ) → k < j → j < before → has_match pattern (numbered_line lines j) ≡ false
-=======
+
 -- the numbers of those of the first lines that have what is sought
 unfoldable pub matching : List ℕ → List (List ℕ) → ℕ → List ℕ
 matching pattern lines zero = []
@@ -65,4 +59,3 @@ matching pattern lines (suc k) =
 -- the lines of these numbers
 abbrev pub picked : List (List ℕ) → List ℕ → List (List ℕ)
 picked lines numbers = map (numbered_line lines) numbers
->>>>>>> wip3
