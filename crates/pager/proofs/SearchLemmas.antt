@@ -1,6 +1,6 @@
 -- Where a text stands in another, and which line has it.
 use Rattle.std.proofs.Common.{◌≡◌, ℕ, zero, suc, subst, ◌+◌, ◌<◌, ◌≤◌, ◌&&◌, ⊎_elim, ◌==◌, nat_lt, if◌then◌else◌, Bool, true, false, Decides}
-use Rattle.std.proofs.Common.{List, [], ◌∷◌, ◌++◌, map, take, drop, length, Some, None, unwrap_or, slice_get, refl, sym, ap}
+use Rattle.std.proofs.Common.{List, [], ◌∷◌, ◌++◌, map, take, drop, length, Some, None, unwrap_or, slice_get, slice_index_or, refl, sym, ap}
 use Rattle.std.proofs.Common.{◌∙◌, arith, add-one, length-append}
 use Rattle.std.specs.Str.Iter.{HasSubslice}
 use Rattle.std.specs.List.{position_from, starts_with}
@@ -105,6 +105,9 @@ occurs-none pattern text k some le = ap (occurs pattern) (drop_all k text le) �
 
 -- ---- lines
 
+pub none-there : {X : Type 0} (xs : List X) (k : ℕ) (d : X) → slice_get xs k ≡ None → slice_index_or xs k d ≡ d
+none-there xs k d none = sym (unwrap_or-slice_get xs k d) ∙ ap (λ o. unwrap_or o d) none
+
 pub none-at : (lines : List (List ℕ)) (k : ℕ) → slice_get lines k ≡ None → numbered_line lines k ≡ []
 none-at lines k none = sym (unwrap_or-slice_get lines k []) ∙ ap (λ o. unwrap_or o []) none
 
@@ -116,7 +119,8 @@ and-false false = refl
 pub none-matches : (pattern line : List ℕ) → line ≡ [] → has_match pattern line ≡ false
 unfolding occurs
 none-matches [] line none = refl
-none-matches (b ∷ bs) line none = rw none (and-false (nat_lt 0 (length (b ∷ bs))))
+none-matches (b ∷ bs) line none =
+    rw none (ap (λ x. nat_lt 0 (length (b ∷ bs)) && x) (empty-not (b ∷ bs) (omega arith)) ∙ and-false (nat_lt 0 (length (b ∷ bs))))
 
 pub next-here : (pattern : List ℕ) (lines : List (List ℕ)) (k : ℕ) → k < length lines
     → has_match pattern (numbered_line lines k) ≡ true → position_from (has_match pattern) k (drop k lines) ≡ Some k

@@ -40,10 +40,7 @@ impl<'a> Pager<'a> {
     pub(crate) fn marked_line(&self, mark: Option<usize>) -> Option<u32>
         ensures { result ≡ marked_line mark self.now }
     {
-        match self.marks.get(mark?) {
-            Some(line) => *line,
-            None => None,
-        }
+        *self.marks.get(mark?)?
     }
 
     // Goes to a line that was marked, if one was.

@@ -10,7 +10,9 @@ ghost use Rattle.pager.specs.Pages.{PaintsText, PaintsLine};
 ghost use Rattle.pager.specs.Inner.{PaintsIfInView};
 
 use crate::styles::Run;
-use crate::symbols::{first_style, mark_style, marked_bytes, runs_after, shown_columns, shown_text};
+use crate::symbols::{
+    first_style, mark_style, marked_bytes, runs_after, shown_columns, shown_text,
+};
 use crate::view::View;
 use ratatui_core::buffer::Buffer;
 use ratatui_core::layout::Rect;

@@ -49,7 +49,10 @@ impl<'a> Pager<'a> {
     fn has_match(&self, line: u32) -> bool
         ensures { result ≡ has_match self.now.pattern (numbered_line self.now.document line) }
     {
-        has_match(self.pattern.as_str(), self.document.line_or_empty(u64::from(line)))
+        has_match(
+            self.pattern.as_str(),
+            self.document.line_or_empty(u64::from(line)),
+        )
     }
 
     // The first line from one on that has what is sought.

@@ -52,7 +52,11 @@ impl<'a> Pager<'a> {
         ensures text { result.now ≡ filter_text self.now }
         ensures short { length result.now ≤ 9 }
     {
-        if self.whole.is_some() { " filtered" } else { "" }
+        if self.whole.is_some() {
+            " filtered"
+        } else {
+            ""
+        }
     }
 
     // The place, as it is shown.

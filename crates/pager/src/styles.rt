@@ -1,6 +1,6 @@
 //! The styles of a text, line by line.
 
-ghost use Rattle.std.specs.Prelude.{◌≡◌, [], ◌∷◌, ◌++◌, OnOk, OnErr};
+ghost use Rattle.std.specs.Prelude.{◌≡◌, [], ◌∷◌, ◌++◌, option_map, slice_get, OnOk, OnErr};
 ghost use Rattle.pager.specs.Pages.{line_runs};
 
 use ratatui_core::style::Style;
@@ -59,12 +59,22 @@ impl Styles {
         Ok(())
     }
 
+    // The runs of a line by its number, if it has any.
+    fn get(&self, number: usize) -> Option<&[Run]>
+        ensures { option_map (λ runs. runs.now) result ≡ slice_get self.now number }
+    {
+        match self.lines.get(number) {
+            Some(line) => Some(line.runs.as_slice()),
+            None => None,
+        }
+    }
+
     /// The runs of a line by its number, from 0 on.
     pub fn line(&self, number: u64) -> &[Run]
         ensures { result.now ≡ line_runs self.now number }
     {
-        match self.lines.get(number as usize) {
-            Some(line) => line.runs.as_slice(),
+        match self.get(number as usize) {
+            Some(runs) => runs,
             None => &[],
         }
     }

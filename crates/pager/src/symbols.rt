@@ -79,7 +79,10 @@ pub(crate) fn has_capital(text: &str) -> bool
 pub(crate) fn begins_in_any_case(pattern: &[u8], text: &[u8]) -> bool
     ensures { result ≡ str_eq_ignore_ascii_case pattern.now (take (length pattern.now) text.now) }
 {
-    text.len() >= pattern.len() && pattern.eq_ignore_ascii_case(&text[..pattern.len()])
+    if text.len() < pattern.len() {
+        return false;
+    }
+    pattern.eq_ignore_ascii_case(&text[..pattern.len()])
 }
 
 // Whether a text begins with another; a capital counts as a small letter, unless one is sought.

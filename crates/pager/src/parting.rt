@@ -1,5 +1,8 @@
 //! A text parted into what it says, and how that is styled.
 
+ghost use Rattle.std.specs.Prelude.{◌↔◌, IfOk, IsNone};
+ghost use Rattle.pager.specs.Parted.{IsAsItStands};
+
 use crate::sgr::{sequence_at, styled_by};
 use crate::styles::{Run, Styles};
 use ratatui_core::style::{Modifier, Style};
@@ -51,7 +54,10 @@ impl Parting {
         if self.style != style {
             let end = self.text.len().saturating_sub(self.from);
             if end > 0 {
-                let run = Run { end, style: self.style };
+                let run = Run {
+                    end,
+                    style: self.style,
+                };
                 self.runs.push(run)?;
             }
             self.style = style;
@@ -133,8 +139,12 @@ impl Parting {
 /// # Errors
 ///
 /// `AllocError` if memory is refused.
-pub fn parted(alloc: Global, text: &str) -> Result<Option<(String, Styles)>, AllocError> {
-    if !text.contains('\x1b') && !text.contains('\x08') {
+pub fn parted(alloc: Global, text: &str) -> Result<Option<(String, Styles)>, AllocError>
+    ensures { IfOk result (λ both. IsNone both ↔ IsAsItStands text.now) }
+{
+    let has_escape = text.contains('\x1b');
+    let has_backspace = text.contains('\x08');
+    if !has_escape && !has_backspace {
         return Ok(None);
     }
     let mut parting = Parting::new(alloc);
