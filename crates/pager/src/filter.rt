@@ -31,7 +31,7 @@ impl<'a> Pager<'a> {
 
     // Shows only these lines, of these numbers.
     fn pick(&mut self, numbers: Numbers, lines: Document<'a>)
-        ensures { self.new ≡ relined (Some (all_lines self.old)) numbers.entry lines.entry self.old }
+        ensures { self.new ≡ relined (Some (all_lines self.old)) numbers lines.entry self.old }
     {
         let shown = mem::replace(&mut self.document, lines);
         if self.whole.is_none() {

@@ -122,7 +122,7 @@ impl<'a> Pager<'a> {
 
     /// The pager, with the styles of its lines.
     pub fn styled(self, styles: Styles) -> Pager<'a>
-        ensures { result ≡ record self.entry { styles = styles.entry } }
+        ensures { result ≡ record self.entry { styles = styles } }
     {
         Pager { styles, ..self }
     }
