@@ -3,3 +3,4 @@ pub mod SearchLemmas
 pub mod PlaceLemmas
 pub mod RowLemmas
 pub mod SizeLemmas
+pub mod FilterLemmas

@@ -1,6 +1,7 @@
 -- Which texts say something else than what stands in them.
-use Rattle.std.specs.Prelude.{ℕ, ◌<◌, ◌≢◌, List, length, slice_index}
+use Rattle.std.specs.Prelude.{ℕ, Bool, ◌==◌, ◌||◌, List, chars}
+use Rattle.std.specs.List.{list_any}
 
--- neither an escape nor a backspace stands in a text
-abbrev pub IsAsItStands : List ℕ → Type 0
-IsAsItStands text = (k : ℕ) → k < length text → (slice_index text k ≢ 27) × (slice_index text k ≢ 8)
+-- an escape or a backspace stands in a text
+abbrev pub has_signs : List ℕ → Bool
+has_signs text = list_any (λ c. (c == 27) || (c == 8)) (chars text)

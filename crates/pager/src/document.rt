@@ -1,7 +1,7 @@
 //! A text by its lines.
 
 ghost use Rattle.std.specs.Prelude.{◌≡◌, ◌≤◌, ◌-◌, ◌^◌, [], length, map, min, slice_get, slice_index_or};
-ghost use Rattle.std.specs.Prelude.{option_map, IfOk};
+ghost use Rattle.std.specs.Prelude.{◌<◌, ◌∷◌, ◌++◌, if◌then◌else◌, option_map, IfOk, OnOk};
 ghost use Rattle.std.specs.Str.Lines.{lines};
 ghost use Rattle.pager.specs.Search.{numbered_line, matching, picked};
 ghost use Rattle.pager.specs.Pages.{bytes_before};
@@ -70,7 +70,8 @@ impl Numbers {
 
     /// A number, and after the last one another one.
     pub fn get_or(&self, place: u64, other: u64) -> u64
-        ensures { result ≡ slice_index_or self.now place other }
+        ensures number { result ≡ slice_index_or self.now place other }
+        ensures small { other < 9223372036854775808 → result < 9223372036854775808 }
     {
         match self.numbers.get(place as usize) {
             Some(number) => u64::from(*number),
@@ -118,9 +119,8 @@ impl<'a> Document<'a> {
     {
         let mut numbers = Vec::new(self.allocator());
         for number in 0..self.len() {
-            if has_match(pattern, self.line_or_empty(u64::from(number))) {
-                numbers.push(number)?;
-            }
+            let is_match = has_match(pattern, self.line_or_empty(u64::from(number)));
+            push_if(is_match, number, &mut numbers)?;
         }
         Ok(Numbers { numbers })
     }
@@ -172,6 +172,17 @@ impl<'a> Document<'a> {
         }
         bytes
     }
+}
+
+// Another number, if a line has a match.
+fn push_if(is_match: bool, number: u32, numbers: &mut Vec<u32>) -> Result<(), AllocError>
+    ensures { OnOk result (numbers.new.items
+        ≡ (if is_match then numbers.old.items ++ number ∷ [] else numbers.old.items)) }
+{
+    if is_match {
+        numbers.push(number)?;
+    }
+    Ok(())
 }
 
 // The lines of a text, in a list.

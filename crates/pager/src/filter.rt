@@ -46,7 +46,7 @@ impl<'a> Pager<'a> {
         ensures { self.new ≡ relined None [] (all_lines self.old) self.old }
     {
         if let Some(whole) = self.whole.take() {
-            self.document = whole;
+            let _ = mem::replace(&mut self.document, whole);
         }
         self.numbers = Numbers::new(self.document.allocator());
         self.begin_again();

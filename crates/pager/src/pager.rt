@@ -151,16 +151,13 @@ impl<'a> Pager<'a> {
 
     // Takes what was typed, for a filter or for a search.
     fn take_typed(&mut self) -> Result<(), AllocError>
-        ensures ok { OnOk result
-            (self.new ≡ record (taken_in self.old.mode self.old) { mode = Mode.Reading }) }
+        ensures ok { OnOk result (self.new ≡ taken_in self.old.mode self.old) }
         ensures err { OnErr result (self.new ≡ self.old) }
     {
         match self.mode {
-            Mode::Filtering => self.filter()?,
-            _ => self.search()?,
+            Mode::Filtering => self.filter(),
+            _ => self.search(),
         }
-        self.mode = Mode::Reading;
-        Ok(())
     }
 
     // Does what is asked while a search or a filter is typed.
@@ -171,7 +168,10 @@ impl<'a> Pager<'a> {
         match answer {
             Answer::Add(character) => self.typed.push(character),
             Answer::Erase => self.erase(),
-            Answer::Search => return self.take_typed(),
+            Answer::Search => {
+                self.take_typed()?;
+                self.mode = Mode::Reading;
+            }
             Answer::Cancel => self.mode = Mode::Reading,
             Answer::Ignore => {}
         }

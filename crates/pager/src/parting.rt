@@ -1,7 +1,7 @@
 //! A text parted into what it says, and how that is styled.
 
-ghost use Rattle.std.specs.Prelude.{◌↔◌, IfOk, IsNone};
-ghost use Rattle.pager.specs.Parted.{IsAsItStands};
+ghost use Rattle.std.specs.Prelude.{◌≡◌, is_some, IfOk};
+ghost use Rattle.pager.specs.Parted.{has_signs};
 
 use crate::sgr::{sequence_at, styled_by};
 use crate::styles::{Run, Styles};
@@ -130,6 +130,13 @@ impl Parting {
     }
 }
 
+// Whether an escape or a backspace stands in a text.
+fn has_signs(text: &str) -> bool
+    ensures { result ≡ has_signs text.now }
+{
+    text.chars().any(|c| c == '\x1b' || c == '\x08')
+}
+
 /// What a text says and the runs of styles of its lines, if it has an escape or a backspace.
 ///
 /// A sequence of SGR, as `ESC [ 1 ; 31 m`, styles what follows it in its line. A character struck over
@@ -140,11 +147,9 @@ impl Parting {
 ///
 /// `AllocError` if memory is refused.
 pub fn parted(alloc: Global, text: &str) -> Result<Option<(String, Styles)>, AllocError>
-    ensures { IfOk result (λ both. IsNone both ↔ IsAsItStands text.now) }
+    ensures { IfOk result (λ both. is_some both ≡ has_signs text.now) }
 {
-    let has_escape = text.contains('\x1b');
-    let has_backspace = text.contains('\x08');
-    if !has_escape && !has_backspace {
+    if !has_signs(text) {
         return Ok(None);
     }
     let mut parting = Parting::new(alloc);

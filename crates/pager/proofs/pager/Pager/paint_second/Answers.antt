@@ -1,7 +1,7 @@
 use Rattle.pager.proofs.pager.Pager.paint_second.Goals as goal
 
 pub returns-in-Marking-clause-ok : goal.returns-in-Marking-clause-ok
-returns-in-Marking-clause-ok c = rw c.in-Marking.is (rw c.reversed-in-Marking.ensures at c.paint_text-in-Marking.ensures.ok)
+returns-in-Marking-clause-ok c = rw c.in-Marking.is (rw c.reversed.ensures at c.paint_text.ensures.ok)
 
 pub returns-in-Returning-clause-ok : goal.returns-in-Returning-clause-ok
 returns-in-Returning-clause-ok c =
