@@ -114,8 +114,9 @@ impl<'a> Document<'a> {
     ///
     /// `AllocError` if memory is refused.
     pub fn matching(&self, pattern: &str) -> Result<Numbers, AllocError>
-        ensures { IfOk result (λ numbers.
+        ensures numbers { IfOk result (λ numbers.
             numbers ≡ matching pattern.now self.now (length self.now)) }
+        ensures count { IfOk result (λ numbers. length numbers ≤ length self.now) }
     {
         let mut numbers = Vec::new(self.allocator());
         for number in 0..self.len() {

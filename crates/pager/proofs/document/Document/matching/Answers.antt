@@ -1,6 +1,6 @@
-use Rattle.std.proofs.Common.{rules, ◌∷◌, ◌++◌, [], ap, sym, ◌∙◌, if◌then◌else◌}
+use Rattle.std.proofs.Common.{rules, ◌∷◌, ◌++◌, [], ap, sym, ◌∙◌, arith, length, if◌then◌else◌}
 use Rattle.pager.specs.Search.{has_match, numbered_line}
-use Rattle.pager.proofs.{SearchLemmas.matching-none, FilterLemmas.matching-next}
+use Rattle.pager.proofs.{SearchLemmas.matching-none, SearchLemmas.length-matching, FilterLemmas.matching-next}
 use Rattle.pager.proofs.document.Document.matching.Goals as goal
 
 pub loop-number-init : goal.loop-number-init
@@ -15,3 +15,7 @@ loop-number-preserved c =
     ∙ ap (λ b. if b then c.loop-number.numbers.items ++ k ∷ [] else c.loop-number.numbers.items) is
     ∙ ap (λ ks. if has_match pattern (numbered_line lines k) then ks ++ k ∷ [] else ks) c.loop-number.invariant
     ∙ sym (matching-next pattern lines k)
+
+pub returns-clause-count : goal.returns-clause-count
+returns-clause-count c =
+    omega (arith, ap length c.loop-number.invariant, length-matching c.args.pattern.now c.args.self.now c.loop-number.number)
