@@ -4,3 +4,4 @@ pub mod PlaceLemmas
 pub mod RowLemmas
 pub mod SizeLemmas
 pub mod FilterLemmas
+pub mod StyleLemmas

@@ -16,7 +16,8 @@ use Rattle.pager.specs.declared.command.Command.TheVariants.{Nothing, Digit, Dow
 use Rattle.pager.specs.declared.command.Command.TheVariants.{WheelDown, WheelUp}
 use Rattle.pager.specs.declared.command.Command.TheVariants.{ToStart, ToEnd, ToLeft, ToRight, Ask, Next, Previous, Numbers, Wrap}
 use Rattle.pager.specs.declared.command.Command.TheVariants.{Help, Quit, ToPart, Details, Mark, ToMark, Filter}
-use Rattle.pager.specs.Search.{next_match, last_match, matching}
+use Rattle.std.specs.Prelude.{replicate}
+use Rattle.pager.specs.Search.{next_match, last_match, matching, picked}
 use Rattle.pager.specs.declared.place.Place.{Place}
 use Rattle.pager.specs.Places.{IsInText, text_place, last_page, is_before, at_place}
 use Rattle.pager.specs.Moves.{started, found_at, sought_before, sought_from, before_found, after_found, sought_on, after_move}
@@ -126,10 +127,22 @@ erased-if : (b : Bool) (typed : List ℕ) (p : Pager) → IsInText p
 erased-if true typed p is = is
 erased-if false typed p is = is
 
+-- other lines, before the page of the first one is shown
+abbrev fresh : Option (List (List ℕ)) → List ℕ → List (List ℕ) → Pager → Pager
+fresh whole numbers lines p = record p {
+  document = lines;
+  whole = whole;
+  numbers = numbers;
+  left = 0;
+  found = None;
+  marks = replicate 53 None;
+}
+
 filtered-if : (b : Bool) (numbers : List ℕ) (p : Pager) → IsInText p
     → IsInText (if b then with_lines numbers p else relined None [] (all_lines p) p)
-filtered-if true numbers p is = placed-in (text_place 0 0) _
-filtered-if false numbers p is = placed-in (text_place 0 0) _
+filtered-if true numbers p is =
+    placed-in (text_place 0 0) (fresh (Some (all_lines p)) numbers (picked (all_lines p) numbers) p)
+filtered-if false numbers p is = placed-in (text_place 0 0) (fresh None [] (all_lines p) p)
 
 taken-in : (mode : Mode) (p : Pager) → IsInText p → IsInText (taken_in mode p)
 taken-in Filtering p is = filtered-if (nat_lt 0 (length p.typed))

@@ -116,7 +116,7 @@ impl<'a> Document<'a> {
     pub fn matching(&self, pattern: &str) -> Result<Numbers, AllocError>
         ensures numbers { IfOk result (λ numbers.
             numbers ≡ matching pattern.now self.now (length self.now)) }
-        ensures count { IfOk result (λ numbers. length numbers ≤ length self.now) }
+        ensures count { IfOk result (λ numbers. length numbers < 2 ^ 32) }
     {
         let mut numbers = Vec::new(self.allocator());
         for number in 0..self.len() {
@@ -132,7 +132,7 @@ impl<'a> Document<'a> {
     ///
     /// `AllocError` if memory is refused.
     pub fn picked(&self, numbers: &Numbers) -> Result<Document<'a>, AllocError>
-        requires { length numbers.now ≤ length self.now }
+        requires { length numbers.now < 2 ^ 32 }
         ensures { IfOk result (λ d. d ≡ picked self.now numbers.now) }
     {
         let mut lines = Vec::new(self.allocator());

@@ -4,7 +4,7 @@ ghost use Rattle.std.specs.Prelude.{◌≡◌, [], slice_get, option_map, unwrap
 ghost use Rattle.pager.specs.Pages.{help_text};
 
 /// The list of the keys, row by row.
-pub static HELP: [&str; 21] = [
+pub static HELP: [&str; 17] = [
     "j k  Down Up  Enter   a row further, back: or as many as the number typed before",
     "Space b  f b  PgDn PgUp   a page further, back",
     "d u                   half a page further, back",
@@ -14,16 +14,12 @@ pub static HELP: [&str; 21] = [
     "/ ?                   search further, back: Enter begins, Esc gives up",
     "n N                   the next match, the one before",
     "&                     only the lines that have what is typed; nothing: all",
-    "m '                   and a letter: marks the first row's line, goes back there",
-    "                      '' goes back to where the last jump began",
+    "m ' and a letter      marks the first row's line, goes back; '' to the last jump",
     "=                     how many bytes of the text end with the page",
-    "l                     numbers of lines, or none",
-    "w                     long lines broken, or cut",
+    "l w                   numbers of lines, or none; long lines broken, or cut",
     "h                     this list",
     "q  Ctrl+C             the end",
-    "",
     "The wheel of the mouse goes three rows further or back.",
-    "",
     "A search takes A to Z as small letters, unless one of them is typed.",
     "Tabs go to every eighth column. What can't be shown is a replacement character.",
 ];

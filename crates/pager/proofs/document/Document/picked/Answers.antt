@@ -7,4 +7,4 @@ pub invariant_of-result : goal.invariant_of-result
 invariant_of-result c =
     let same = ap length c.loop-number.invariant in
     let counts = simp (length-map, length-take) at same in
-    omega (arith, counts, c.requires)
+    omega (arith, counts, c.requires, ap length c.deref-number-items.ensures.value)
