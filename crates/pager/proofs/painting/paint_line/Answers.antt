@@ -55,3 +55,7 @@ returns-clause-ok c =
     (reach (length c.args.line.now) c.loop-column.column c.loop-column.marked c.loop-column.runs.now)
     (graphemes_left c.loop-column.graphemes) c.args.line.now c.args.buf.now c.loop-column.buf
     (omega arith) c.loop-column.invariant.paints
+
+pub returns-in_err-column-clause-within : goal.returns-in_err-column-clause-within
+returns-in_err-column-clause-within c = within-then c.args.part c.args.buf.now c.loop-column.buf c.paint_grapheme.new.buf
+    c.loop-column.invariant.within c.paint_grapheme.ensures.within
