@@ -21,7 +21,7 @@ use Rattle.pager.specs.Search.{next_match, last_match, matching, picked}
 use Rattle.pager.specs.declared.place.Place.{Place}
 use Rattle.pager.specs.Places.{IsInText, text_place, last_page, is_before, at_place}
 use Rattle.pager.specs.Moves.{started, found_at, sought_before, sought_from, before_found, after_found, sought_on, after_move}
-use Rattle.pager.specs.Moves.{obeyed, with_pattern, answered, acted, updated_by, updated, kept, marked, marked_line, returned}
+use Rattle.pager.specs.Moves.{obeyed, with_pattern, answered, acted, updated_by, updated, with_mark, letter_marked, marked_line, gone_back}
 use Rattle.pager.specs.Moves.{sought_first, all_lines, relined, with_lines, taken_in}
 use Rattle.pager.specs.Keys.{event_command, event_answer, event_mark, is_press}
 
@@ -46,7 +46,7 @@ pub first : (lines : List (List ℕ)) (name pattern : List ℕ) (size : Size) �
 first lines name pattern size = let l = last_page (started lines name pattern size) in none-before l.line l.row
 
 found-in : (found : Option ℕ) (p : Pager) → IsInText p → IsInText (found_at found p)
-found-in (Some k) p is = placed-in (text_place k 0) (kept 0 p)
+found-in (Some k) p is = placed-in (text_place k 0) (with_mark 0 p)
 found-in None p is = is
 
 sought_on-in : (is_back : Bool) (p : Pager) → IsInText p → IsInText (sought_on is_back p)
@@ -62,9 +62,9 @@ moved-in HalfDown p is = placed-in _ p
 moved-in HalfUp p is = placed-in _ p
 moved-in WheelDown p is = placed-in _ p
 moved-in WheelUp p is = placed-in _ p
-moved-in ToStart p is = placed-in _ (kept 0 p)
-moved-in ToEnd p is = placed-in _ (kept 0 p)
-moved-in ToPart p is = placed-in _ (kept 0 p)
+moved-in ToStart p is = placed-in _ (with_mark 0 p)
+moved-in ToEnd p is = placed-in _ (with_mark 0 p)
+moved-in ToPart p is = placed-in _ (with_mark 0 p)
 moved-in ToLeft p is = is
 moved-in ToRight p is = is
 moved-in Numbers p is = placed-in (text_place p.top 0) (record p { has_numbers = not p.has_numbers })
@@ -160,19 +160,19 @@ answered-in Search p is = taken-in p.mode p is
 answered-in Cancel p is = is
 answered-in Ignore p is = is
 
-marked-in : (mark : Option ℕ) (p : Pager) → IsInText p → IsInText (marked mark p)
+marked-in : (mark : Option ℕ) (p : Pager) → IsInText p → IsInText (letter_marked mark p)
 marked-in (Some mark) p is = is
 marked-in None p is = is
 
-returned-in : (line : Option ℕ) (p : Pager) → IsInText p → IsInText (returned line p)
-returned-in (Some line) p is = placed-in (text_place line 0) (kept 0 p)
+returned-in : (line : Option ℕ) (p : Pager) → IsInText p → IsInText (gone_back line p)
+returned-in (Some line) p is = placed-in (text_place line 0) (with_mark 0 p)
 returned-in None p is = is
 
-marked-if : (b : Bool) (mark : Option ℕ) (p : Pager) → IsInText p → IsInText (if b then marked mark p else p)
+marked-if : (b : Bool) (mark : Option ℕ) (p : Pager) → IsInText p → IsInText (if b then letter_marked mark p else p)
 marked-if true mark p is = marked-in mark p is
 marked-if false mark p is = is
 
-returned-if : (b : Bool) (line : Option ℕ) (p : Pager) → IsInText p → IsInText (if b then returned line p else p)
+returned-if : (b : Bool) (line : Option ℕ) (p : Pager) → IsInText p → IsInText (if b then gone_back line p else p)
 returned-if true line p is = returned-in line p is
 returned-if false line p is = is
 

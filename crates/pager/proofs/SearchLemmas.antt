@@ -217,16 +217,6 @@ pub matching-none : (pattern : List ℕ) (lines : List (List ℕ)) → matching 
 unfolding matching
 matching-none pattern lines = refl
 
-pub matching-here : (pattern : List ℕ) (lines : List (List ℕ)) (k : ℕ) → has_match pattern (numbered_line lines k) ≡ true
-    → matching pattern lines (k + 1) ≡ matching pattern lines k ++ k ∷ []
-unfolding matching
-matching-here pattern lines k is = rw add-one (rw is refl)
-
-pub matching-not : (pattern : List ℕ) (lines : List (List ℕ)) (k : ℕ) → has_match pattern (numbered_line lines k) ≡ false
-    → matching pattern lines (k + 1) ≡ matching pattern lines k
-unfolding matching
-matching-not pattern lines k is = rw add-one (rw is refl)
-
 length-if : (b : Bool) (ks : List ℕ) (k : ℕ) → length ks ≤ k → length (if b then ks ++ k ∷ [] else ks) ≤ suc k
 length-if true ks k le = omega (arith, length-append ks (k ∷ []))
 length-if false ks k le = omega arith

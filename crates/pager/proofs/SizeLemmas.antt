@@ -19,7 +19,7 @@ use Rattle.pager.specs.declared.command.Command.TheVariants.{ToStart, ToEnd, ToL
 use Rattle.pager.specs.declared.command.Command.TheVariants.{Help, Quit, ToPart, Details, Mark, ToMark, Filter}
 use Rattle.pager.specs.Search.{next_match, last_match, matching}
 use Rattle.pager.specs.Moves.{found_at, sought_before, sought_from, before_found, after_found, sought_on, obeyed, with_pattern}
-use Rattle.pager.specs.Moves.{answered, acted, updated_by, updated, marked, marked_line, returned}
+use Rattle.pager.specs.Moves.{answered, acted, updated_by, updated, letter_marked, marked_line, gone_back}
 use Rattle.pager.specs.Moves.{sought_first, all_lines, relined, with_lines, taken_in}
 use Rattle.pager.specs.Keys.{event_command, event_answer, event_mark, is_press}
 use Rattle.pager.specs.Paging.{paging, page_size, FillsScreen, FillsAlong, TakesAlong}
@@ -100,12 +100,12 @@ answered-same Search p = taken-same p.mode p
 answered-same Cancel p = refl
 answered-same Ignore p = refl
 
-marked-same : (b : Bool) (mark : Option ℕ) (p : Pager) → page_size (if b then marked mark p else p) ≡ page_size p
+marked-same : (b : Bool) (mark : Option ℕ) (p : Pager) → page_size (if b then letter_marked mark p else p) ≡ page_size p
 marked-same true (Some mark) p = refl
 marked-same true None p = refl
 marked-same false mark p = refl
 
-returned-same : (b : Bool) (line : Option ℕ) (p : Pager) → page_size (if b then returned line p else p) ≡ page_size p
+returned-same : (b : Bool) (line : Option ℕ) (p : Pager) → page_size (if b then gone_back line p else p) ≡ page_size p
 returned-same true (Some line) p = refl
 returned-same true None p = refl
 returned-same false line p = refl

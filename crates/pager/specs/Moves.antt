@@ -56,16 +56,16 @@ abbrev pub at_line : ℕ → Pager → Pager
 at_line n p = at_place (text_place n 0) p
 
 -- the line at which the page begins is kept as a mark
-abbrev pub kept : ℕ → Pager → Pager
-kept mark p = record p { marks = slice_set p.marks mark (Some p.top) }
+abbrev pub with_mark : ℕ → Pager → Pager
+with_mark mark p = record p { marks = slice_set p.marks mark (Some p.top) }
 
 -- at a line far away, and the apostrophe marks where that jump began
 abbrev pub jumped_to : ℕ → Pager → Pager
-jumped_to n p = at_line n (kept 0 p)
+jumped_to n p = at_line n (with_mark 0 p)
 
 -- the line before which a number of hundredths of the text lies
-abbrev pub line_at : ℕ → Pager → ℕ
-line_at per_cent p = length p.document * min per_cent 100 / 100
+abbrev pub part_line : ℕ → Pager → ℕ
+part_line per_cent p = length p.document * min per_cent 100 / 100
 
 -- the number that was typed, or else another one
 abbrev pub or_number : ℕ → Pager → ℕ
@@ -94,7 +94,7 @@ after_move WheelDown p = further 3 p
 after_move WheelUp p = back 3 p
 after_move ToStart p = jumped_to (or_number 1 p - 1) p
 after_move ToEnd p = jumped_to (or_number (length p.document) p - 1) p
-after_move ToPart p = jumped_to (line_at p.number p) p
+after_move ToPart p = jumped_to (part_line p.number p) p
 after_move ToLeft p = record p { left = p.left - or_number (half_width p) p }
 after_move ToRight p = record p { left = min (p.left + or_number (half_width p) p) (2 ^ 32 - 1) }
 after_move Numbers p = at_line p.top (record p { has_numbers = not p.has_numbers })
@@ -211,9 +211,9 @@ answered Cancel p = record p { mode = Reading }
 answered Ignore p = p
 
 -- the page's first line has a mark from now on
-abbrev pub marked : Option ℕ → Pager → Pager
-marked (Some mark) p = record (kept mark p) { mode = Reading }
-marked None p = record p { mode = Reading }
+abbrev pub letter_marked : Option ℕ → Pager → Pager
+letter_marked (Some mark) p = record (with_mark mark p) { mode = Reading }
+letter_marked None p = record p { mode = Reading }
 
 -- the line that a mark keeps
 abbrev pub marked_line : Option ℕ → Pager → Option ℕ
@@ -221,9 +221,9 @@ marked_line (Some mark) p = unwrap_or (slice_get p.marks mark) None
 marked_line None p = None
 
 -- at a line that was marked, if one was
-abbrev pub returned : Option ℕ → Pager → Pager
-returned (Some line) p = record (jumped_to line p) { found = None; mode = Reading }
-returned None p = record p { mode = Reading }
+abbrev pub gone_back : Option ℕ → Pager → Pager
+gone_back (Some line) p = record (jumped_to line p) { found = None; mode = Reading }
+gone_back None p = record p { mode = Reading }
 
 -- on a terminal of another size
 abbrev pub at_size : ℕ × ℕ → Pager → Pager
@@ -234,8 +234,8 @@ abbrev pub acted : Mode → Event → Pager → Pager
 acted Reading event p = obeyed (event_command event) p
 acted Asking event p = answered (event_answer event) p
 acted Filtering event p = answered (event_answer event) p
-acted Marking event p = if is_press event then marked (event_mark event) p else p
-acted Returning event p = if is_press event then returned (marked_line (event_mark event) p) p else p
+acted Marking event p = if is_press event then letter_marked (event_mark event) p else p
+acted Returning event p = if is_press event then gone_back (marked_line (event_mark event) p) p else p
 acted Helping event p = if is_press event then record p { mode = Reading } else p
 
 abbrev pub updated_by : Option (ℕ × ℕ) → Event → Pager → Pager

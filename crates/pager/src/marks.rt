@@ -1,7 +1,7 @@
 //! Lines that are marked by letters, and jumps.
 
 ghost use Rattle.std.specs.Prelude.{◌≡◌, ◌<◌, IfSome};
-ghost use Rattle.pager.specs.Moves.{kept, jumped_to, marked, marked_line, returned};
+ghost use Rattle.pager.specs.Moves.{with_mark, jumped_to, letter_marked, marked_line, gone_back};
 
 use crate::pager::{MARKS, Mode, Pager};
 
@@ -12,7 +12,7 @@ impl<'a> Pager<'a> {
     // Keeps the first line of the page as a mark.
     fn keep(&mut self, mark: usize)
         requires { mark < 53 }
-        ensures { self.new ≡ kept mark self.old }
+        ensures { self.new ≡ with_mark mark self.old }
     {
         self.marks[mark] = Some(self.top);
     }
@@ -28,7 +28,7 @@ impl<'a> Pager<'a> {
     // Marks the first line of the page, if a mark is named.
     pub(crate) fn set_mark(&mut self, mark: Option<usize>)
         requires { IfSome mark (λ mark. mark < 53) }
-        ensures { self.new ≡ marked mark self.old }
+        ensures { self.new ≡ letter_marked mark self.old }
     {
         if let Some(mark) = mark {
             self.keep(mark);
@@ -45,7 +45,7 @@ impl<'a> Pager<'a> {
 
     // Goes to a line that was marked, if one was.
     pub(crate) fn return_to(&mut self, line: Option<u32>)
-        ensures { self.new ≡ returned line self.old }
+        ensures { self.new ≡ gone_back line self.old }
     {
         if let Some(line) = line {
             self.jump_to(u64::from(line));

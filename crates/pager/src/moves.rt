@@ -2,7 +2,7 @@
 
 ghost use Rattle.std.specs.Prelude.{◌≡◌, ◌-◌};
 ghost use Rattle.pager.specs.Moves.{half_page, or_number, at_line, further, back, half_width, typed_digit};
-ghost use Rattle.pager.specs.Moves.{jumped_to, line_at, after_move, asked, filter_asked, obeyed};
+ghost use Rattle.pager.specs.Moves.{jumped_to, part_line, after_move, asked, filter_asked, obeyed};
 
 use crate::command::Command;
 use crate::pager::{Mode, Note, Pager};
@@ -59,7 +59,7 @@ impl<'a> Pager<'a> {
 
     // Goes as many hundredths of the text from its beginning as the number says.
     fn go_to_part(&mut self)
-        ensures { self.new ≡ jumped_to (line_at self.old.number self.old) self.old }
+        ensures { self.new ≡ jumped_to (part_line self.old.number self.old) self.old }
     {
         let count = u64::from(self.document.len());
         self.jump_to(count * u64::from(self.number.min(100)) / 100);

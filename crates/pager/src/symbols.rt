@@ -1,6 +1,6 @@
 //! The symbols of a line: what is shown for each of its graphemes, and in how many columns.
 
-ghost use Rattle.std.specs.Prelude.{◌≡◌, nat_lt, length, take};
+ghost use Rattle.std.specs.Prelude.{◌≡◌, length, take};
 ghost use Rattle.std.specs.Str.{str_eq_ignore_ascii_case};
 ghost use Rattle.ratatui_core.specs.Text.{has_control};
 ghost use Rattle.pager.specs.Search.{has_capital, begins_with};
@@ -111,23 +111,18 @@ pub(crate) fn mark_style(marked: usize, style: Style) -> Style
     if marked > 0 { reversed() } else { style }
 }
 
-// Whether a run ends after a byte of its line.
-fn ends_after(run: Run, byte: usize) -> bool
-    ensures { result ≡ nat_lt byte run.end }
-{
-    byte < run.end
-}
-
 // The runs of a line that end after a byte of it.
 pub(crate) fn runs_after(byte: usize, runs: &[Run]) -> &[Run]
     ensures { result.now ≡ runs_after byte runs.now }
 {
-    for at in 0..runs.len() {
-        if ends_after(runs[at], byte) {
-            return &runs[at..];
+    let mut left = runs;
+    while let Some((run, rest)) = left.split_first() {
+        if byte < run.end {
+            return left;
         }
+        left = rest;
     }
-    &[]
+    left
 }
 
 // The style of the first run.

@@ -1,19 +1,20 @@
-use Rattle.std.proofs.Common.{sym, ◌∙◌, ◌-◌, arith, drop, length, length-drop}
-use Rattle.std.proofs.lemmas.List.{take_all}
+use Rattle.std.proofs.Common.{rules, ◌≡◌, ◌∷◌, length, sym, ◌∙◌}
 use Rattle.pager.proofs.StyleLemmas.{runs-here, runs-later, runs-none}
 use Rattle.pager.proofs.symbols.runs_after.Goals as goal
 
-pub returns-then-ends_after : goal.returns-then-ends_after
-returns-then-ends_after c =
-    let runs = c.args.runs.now in let at = c.loop-at.at in
-    take_all (length runs - at) (drop at runs) (omega (arith, length-drop at runs))
-    ∙ sym (c.loop-at.invariant ∙ runs-here c.args.byte runs at c.index-runs-at.result (omega arith) c.index-runs-at.is
-    (sym c.ends_after.ensures ∙ c.if-ends_after.true))
+pub returns-then-byte-run : goal.returns-then-byte-run
+returns-then-byte-run c =
+    let run = c.in-Some.run'.now in let rest = c.in-Some.rest.now in
+    let all : c.loop-run.left.now ≡ run ∷ rest = search rules in
+    sym (c.loop-run.invariant ∙ runs-here c.args.byte c.loop-run.left.now rest run all c.if-byte-run.true)
 
-pub loop-at-preserved : goal.loop-at-preserved
-loop-at-preserved c =
-    c.loop-at.invariant ∙ runs-later c.args.byte c.args.runs.now c.loop-at.at c.index-runs-at.result (omega arith)
-    c.index-runs-at.is (sym c.ends_after.ensures ∙ c.if-ends_after.false)
+pub loop-run-preserved : goal.loop-run-preserved
+loop-run-preserved c =
+    let run = c.in-Some.run'.now in let rest = c.in-Some.rest.now in
+    let all : c.loop-run.left.now ≡ run ∷ rest = search rules in
+    c.loop-run.invariant ∙ runs-later c.args.byte c.loop-run.left.now rest run all c.if-byte-run.false
 
 pub returns : goal.returns
-returns c = sym (c.loop-at.invariant ∙ runs-none c.args.byte c.args.runs.now c.loop-at.at (omega arith))
+returns c =
+    let end : length c.loop-run.left.now ≡ 0 = search rules in
+    sym (c.loop-run.invariant ∙ runs-none c.args.byte c.loop-run.left.now end)
