@@ -1,5 +1,5 @@
 -- How many rows a line takes, and the rows of a text one after the other.
-use Rattle.std.proofs.Common.{◌≡◌, ℕ, ◌+◌, ◌-◌, ◌≤◌, List, [], ◌∷◌, length, refl, ap, ◌∙◌, arith, add-one}
+use Rattle.std.proofs.Common.{◌≡◌, ℕ, ◌+◌, ◌≤◌, List, [], ◌∷◌, length, refl, ap, ◌∙◌, arith, add-one}
 use Rattle.pager.specs.declared.place.Place.{Place}
 use Rattle.pager.specs.Symbols.{Reach, shown_columns, reach_after, symbols_from}
 use Rattle.pager.specs.Search.{numbered_line}

@@ -1,7 +1,7 @@
 -- Where a text stands in another, and which line has it.
 use Rattle.std.proofs.Common.{◌≡◌, ℕ, zero, suc, subst, ◌+◌, ◌<◌, ◌≤◌, ◌&&◌, ⊎_elim, ◌==◌, nat_lt, if◌then◌else◌, Bool, true, false, Decides}
 use Rattle.std.proofs.Common.{List, [], ◌∷◌, ◌++◌, map, take, drop, length, Some, None, unwrap_or, slice_get, slice_index_or, refl, sym, ap}
-use Rattle.std.proofs.Common.{◌∙◌, arith, add-one, length-append}
+use Rattle.std.proofs.Common.{◌∙◌, arith, length-append}
 use Rattle.std.specs.Str.Iter.{HasSubslice}
 use Rattle.std.specs.List.{position_from, starts_with}
 use Rattle.std.specs.{Char.to_ascii_lowercase, Str.str_eq_ignore_ascii_case}

@@ -46,8 +46,7 @@ line_symbol style column g =
     record { text = shown_symbol g; style = style; column = column; columns = shown_columns column g }
 
 -- how many bytes are marked: all of what is sought where that stands at the front, and else what is left
--- of an
--- earlier mark
+-- of an earlier mark
 abbrev pub marked_bytes : List ℕ → ℕ → List ℕ → ℕ
 marked_bytes pattern marked rest =
     if nat_lt 0 (length pattern) && begins_with pattern rest then length pattern else marked

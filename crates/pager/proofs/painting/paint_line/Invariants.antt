@@ -1,7 +1,6 @@
 use Rattle.std.proofs.Common.{◌+◌, ◌-◌, min, length}
 use Rattle.unicode_segmentation.specs.Iter.{graphemes_left}
 use Rattle.ratatui_core.specs.{Widgets.ChangesWithin, Buffer.IsReadyAt}
-use Rattle.pager.specs.Symbols.{Reach}
 use Rattle.pager.proofs.PaintLemmas.{FinishesLine, reach}
 use Rattle.pager.proofs.painting.paint_line.Given as goal
 

@@ -1,7 +1,7 @@
 use Rattle.std.proofs.Common.{take, length}
 use Rattle.std.specs.Str.{str_eq_ignore_ascii_case}
 use Rattle.std.proofs.lemmas.Bool.Decides.{same_from_decides}
-use Rattle.pager.proofs.SearchLemmas.{same-case, case-short}
+use Rattle.pager.proofs.SearchLemmas.{same-case}
 use Rattle.pager.proofs.symbols.begins_in_any_case.Goals as goal
 
 pub returns : goal.returns

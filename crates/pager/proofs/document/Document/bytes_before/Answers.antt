@@ -1,4 +1,4 @@
-use Rattle.std.proofs.Common.{arith, ap, sym}
+use Rattle.std.proofs.Common.{arith, sym}
 use Rattle.pager.proofs.RowLemmas.{bytes-none, bytes-next}
 use Rattle.pager.proofs.document.Document.bytes_before.Goals as goal
 
