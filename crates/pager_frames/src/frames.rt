@@ -24,15 +24,20 @@ pub struct Stage<'a> {
 }
 
 impl<'a> Stage<'a> {
+    // The styles in which the text is said.
+    fn styles(&self) -> Option<Styles> {
+        match parted(self.alloc, self.raw).ok()? {
+            Some((_text, styles)) => Some(styles),
+            None => Some(Styles::new(self.alloc)),
+        }
+    }
+
     /// A pager of the text.
     pub fn pager(&self) -> Option<Pager<'a>> {
+        let styles = self.styles()?;
         let document = Document::new(self.alloc, self.text).ok()?;
         let name = OwnText::new(String::from_str(self.alloc, "text").ok()?);
         let pattern = OwnText::new(String::new(self.alloc));
-        let styles = match parted(self.alloc, self.raw).ok()? {
-            Some((_, styles)) => styles,
-            None => Styles::new(self.alloc),
-        };
         Some(Pager::new(document, name, pattern, self.size).styled(styles))
     }
 
