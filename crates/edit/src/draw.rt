@@ -1,6 +1,7 @@
 //! What is shown of an editor.
 
 use editor::{Editor, Mode, Note};
+use ratatui_core::buffer::CellWidth;
 use ratatui_core::layout::{Constraint, Layout, Rect, SplitArea, SplitInto};
 use ratatui_core::style::{Style, Stylize};
 use ratatui_core::terminal::Frame;
@@ -34,7 +35,7 @@ fn draw_prompt(
     frame: &mut Frame<'_>,
     foot: Rect,
 ) -> Result<(), AllocError> {
-    let columns = Constraint::Length(word.len() as u16);
+    let columns = Constraint::Length(word.cell_width());
     let layout = Layout::horizontal(editor.alloc, &[columns, Constraint::Fill(1)])?;
     let [left, right]: [Rect; 2] = layout.areas(foot);
     frame.render_widget(Line::raw(editor.alloc, word)?.bold(), left)?;
