@@ -3,5 +3,3 @@ pub mod SearchLemmas
 pub mod PlaceLemmas
 pub mod RowLemmas
 pub mod SizeLemmas
-pub mod FilterLemmas
-pub mod StyleLemmas
