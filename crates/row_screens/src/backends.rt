@@ -62,10 +62,11 @@ pub fn put_backend(backend: &TestBackend, answer: &mut Answer) -> Result<(), Row
     Ok(put_rows_above(backend, &mut answer.text)?)
 }
 
-// Adds what a call was refused for, if it was.
+// Adds what a call was refused for, if it was for anything but memory.
 fn told(outcome: Result<(), TestError>, answer: &mut Answer) -> Result<(), RowError> {
     match outcome {
         Ok(()) => Ok(()),
+        Err(TestError::Memory) => Err(RowError::Lost),
         Err(error) => answer.refused(&error),
     }
 }
@@ -189,6 +190,7 @@ fn put_window_size(
             answer.add(size.columns_rows)?;
             answer.add(size.pixels)
         }
+        Err(TestError::Memory) => Err(RowError::Lost),
         Err(error) => answer.refused(&error),
     }
 }
