@@ -1,0 +1,5 @@
+pub mod DayLemmas
+pub mod PlaceLemmas
+pub mod EventLemmas
+pub mod WeekLemmas
+pub mod NarrowLemmas
