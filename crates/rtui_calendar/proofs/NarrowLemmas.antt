@@ -17,7 +17,7 @@ use Rattle.rtui_boxes.specs.{Boxes.IsNarrowBox, Framed.inner_if}
 use Rattle.rtui_drawing.specs.{Cuts.cut_from, declared.cut.Cut.TheVariants.First, declared.cut.Cut.TheVariants.Rows}
 use Rattle.rtui_drawing.proofs.Laws.{IsNarrowDrawing}
 use Rattle.rtui_inside.proofs.InsideLemmas.{inside-plain}
-use Rattle.rtui_calendar.specs.Days.{weeks_of, number_at}
+use Rattle.rtui_calendar.specs.Days.{weeks_of, day_number}
 use Rattle.rtui_calendar.specs.Calendars.{written, written_if, month_names, month_name, month_text, weekdays_text, heading_if}
 use Rattle.rtui_calendar.specs.Calendars.{weekdays_if, last_digit, digit_before, background_of, style_at, day_cell, week_cell, weeks}
 use Rattle.rtui_calendar.specs.Calendars.{rows_above_weeks, calendar_drawing, RendersMonthly}
@@ -85,7 +85,7 @@ module _ (own : ℤ → Style) (days : Style) (beside : Option Style) (d : Date)
   week-plain r p c is =
       let x = p.x - r.x in
       let place = 7 * (p.y - r.y) + x / 3 in
-      let n = number_at d place in
+      let n = day_number d place in
       let look = style_at own days beside d place in
       plain-if (x == 0) _ _ (written-plain 32 new_style c (lit< tt) is)
       (plain-if (x % 3 == 0) _ _ (written-plain 32 (background_of days) c (lit< tt) is)

@@ -13,23 +13,23 @@ use Rattle.jiff_core.proofs.DateLemmas.{epoch_day_injective, epoch_day_range, da
 use Rattle.jiff_core.proofs.DateLemmas.{days_from_civil-next_month, days_from_civil-next_year, days_from_civil-min}
 use Rattle.jiff_core.proofs.DateLemmas.{days_from_civil-max}
 use Rattle.rtui_calendar.proofs.DayLemmas.{day-there}
-use Rattle.rtui_calendar.specs.Days.{first_of, column_of_first, weeks_of, day_at, is_day, is_own, length_before, number_at, HasOwnDay}
+use Rattle.rtui_calendar.specs.Days.{first_day, column_of_first, weeks_of, day_at, is_day, is_in_month, length_before, day_number, HasOwnDay}
 
 -- a day in a place, and the Sunday with which the weeks begin
 pub column-weekday : (shown day : Date) (place : ℕ) → epoch_day day ≡ day_at shown place → (weekday_of day + 1) % 7 ≡ place % 7
 column-weekday shown day place is =
     let f = column_of_first shown in
-    let w = weekday_number (first_of shown) in
-    let lt = weekday_number_bound (first_of shown) in
-    let sunday : ℤ = first_of shown -ℤ pos f in
-    let one = weekday_number-add sunday (first_of shown) f (omega (arith, signed_arith)) in
+    let w = weekday_number (first_day shown) in
+    let lt = weekday_number_bound (first_day shown) in
+    let sunday : ℤ = first_day shown -ℤ pos f in
+    let one = weekday_number-add sunday (first_day shown) f (omega (arith, signed_arith)) in
     let two = weekday_number-add sunday (epoch_day day) place is in
     omega arith
 
 -- what is told of a day in a place
 abbrev pub IsToldAt : Date → Date → ℕ → Type 0
-IsToldAt shown day place = (number_at shown place ≡ day.day)
-    × ((is_own shown place ≡ true) ↔ ((day.year ≡ shown.year) × (day.month ≡ shown.month)))
+IsToldAt shown day place = (day_number shown place ≡ day.day)
+    × ((is_in_month shown place ≡ true) ↔ ((day.year ≡ shown.year) × (day.month ≡ shown.month)))
 
 -- a day of the month
 own-told : (shown day : Date) (place : ℕ) → column_of_first shown ≤ place → place < column_of_first shown + month_length shown
@@ -53,10 +53,10 @@ own-told shown day place from to is =
     rw (a, b) (sym parts.2, (λ _. (parts.0, parts.1), λ _. refl))
 
 -- days beside the month are none of it
-before-off : (shown : Date) (place : ℕ) → place < column_of_first shown → is_own shown place ≡ false
+before-off : (shown : Date) (place : ℕ) → place < column_of_first shown → is_in_month shown place ≡ false
 before-off shown place to = let a : nat_lt place (column_of_first shown) ≡ true = grind (arith, nat_tests) in rw a refl
 
-after-off : (shown : Date) (place : ℕ) → column_of_first shown + month_length shown ≤ place → is_own shown place ≡ false
+after-off : (shown : Date) (place : ℕ) → column_of_first shown + month_length shown ≤ place → is_in_month shown place ≡ false
 after-off shown place from =
     let a : nat_lt place (column_of_first shown) ≡ false = grind (arith, nat_tests) in
     let b : nat_lt place (column_of_first shown + month_length shown) ≡ false = grind (arith, nat_tests) in
@@ -64,8 +64,8 @@ after-off shown place from =
 
 -- a day of another month, by its parts
 module _ (shown day : Date) (place : ℕ) where
-  beside-told : (there : Date) → epoch_day day ≡ epoch_day there → there.month ≢ shown.month → number_at shown place ≡ there.day
-      → is_own shown place ≡ false → IsToldAt shown day place
+  beside-told : (there : Date) → epoch_day day ≡ epoch_day there → there.month ≢ shown.month → day_number shown place ≡ there.day
+      → is_in_month shown place ≡ false → IsToldAt shown day place
   beside-told there same apart number off =
       let parts = epoch_day_injective day there same in (
         number ∙ sym parts.2,
@@ -78,7 +78,7 @@ module _ (shown day : Date) (place : ℕ) where
   -- one of the month after
   module _ (from : column_of_first shown + month_length shown ≤ place) (to : place < 7 * weeks_of shown)
       (is : epoch_day day ≡ day_at shown place) where
-    after-number : number_at shown place ≡ place + 1 - (column_of_first shown + month_length shown)
+    after-number : day_number shown place ≡ place + 1 - (column_of_first shown + month_length shown)
     after-number =
         let a : nat_lt place (column_of_first shown) ≡ false = grind (arith, nat_tests) in
         let b : nat_lt place (column_of_first shown + month_length shown) ≡ false = grind (arith, nat_tests) in
@@ -114,7 +114,7 @@ module _ (shown day : Date) (place : ℕ) where
         let f = column_of_first shown in
         let long : month_length shown ≡ 31 = rw last refl in
         let n = place + 1 - (f + month_length shown) in
-        let end : first_of shown ≡ days_from_civil shown.year 12 1 = rw last refl in
+        let end : first_day shown ≡ days_from_civil shown.year 12 1 = rw last refl in
         let whole = days_from_civil-day shown.year 12 1 31 (omega arith) (omega arith) in
         by_lt_z shown.year (pos 9999)
         (λ lt. let next : ℤ = shown.year +ℤ pos 1 in
@@ -145,7 +145,7 @@ module _ (shown day : Date) (place : ℕ) where
 
   -- one of the month before
   module _ (to : place < column_of_first shown) (is : epoch_day day ≡ day_at shown place) where
-    before-number : number_at shown place ≡ length_before shown + place + 1 - column_of_first shown
+    before-number : day_number shown place ≡ length_before shown + place + 1 - column_of_first shown
     before-number = let a : nat_lt place (column_of_first shown) ≡ true = grind (arith, nat_tests) in rw a refl
 
     before-in-year : 1 < shown.month → IsToldAt shown day place
@@ -158,7 +158,7 @@ module _ (shown day : Date) (place : ℕ) where
         let n = days_in_month shown.year m + place + 1 - f in
         let high = shown.month_in.1 in
         let bounds = days_in_month_bounds shown.year m in
-        let few = weekday_number_bound (first_of shown) in
+        let few = weekday_number_bound (first_day shown) in
         let there : Date = record {
           year = shown.year;
           month = m;
@@ -167,7 +167,7 @@ module _ (shown day : Date) (place : ℕ) where
           month_in = (omega arith, omega arith);
           day_in = (omega arith, omega arith);
         } in
-        let first : days_from_civil shown.year (m + 1) 1 ≡ first_of shown = rw back refl in
+        let first : days_from_civil shown.year (m + 1) 1 ≡ first_day shown = rw back refl in
         let same : epoch_day day ≡ epoch_day there = omega (
           arith,
           signed_arith,
@@ -182,10 +182,10 @@ module _ (shown day : Date) (place : ℕ) where
     before-january : shown.month ≡ 1 → IsToldAt shown day place
     before-january one =
         let f = column_of_first shown in
-        let few = weekday_number_bound (first_of shown) in
+        let few = weekday_number_bound (first_day shown) in
         let long : length_before shown ≡ 31 = rw one refl in
         let n = 31 + place + 1 - f in
-        let first : first_of shown ≡ days_from_civil shown.year 1 1 = rw one refl in
+        let first : first_day shown ≡ days_from_civil shown.year 1 1 = rw one refl in
         by_lt_z (neg_ℤ (pos 9999)) shown.year
         (λ lt. let last : ℤ = shown.year -ℤ pos 1 in
         let high = shown.year_in.1 in
@@ -248,7 +248,7 @@ own-day shown place from to =
     subst IsEpochDay (sym same) (epoch_day_range there)
 
 -- so one that it doesn't have is none of the month
-pub missing-off : (shown : Date) (place : ℕ) → false ≡ is_day (day_at shown place) → is_own shown place ≡ false
+pub missing-off : (shown : Date) (place : ℕ) → false ≡ is_day (day_at shown place) → is_in_month shown place ≡ false
 missing-off shown place missing =
     let f = column_of_first shown in
     ⊎_elim

@@ -13,7 +13,7 @@ use Rattle.rtui_drawing.specs.declared.cut.Cut.TheVariants.{First, Middle, Rows}
 use Rattle.rtui_drawing.specs.Drawings.{Drawing, nothing, over, ◌before◌, put_style, put_change}
 use Rattle.rtui_inside.specs.Inside.{DrawsInside, LeavesInside}
 use Rattle.rtui_calendar.specs.declared.monthly.Monthly.{Monthly}
-use Rattle.rtui_calendar.specs.Days.{weeks_of, day_at, is_day, is_own, number_at}
+use Rattle.rtui_calendar.specs.Days.{weeks_of, day_at, is_day, is_in_month, day_number}
 
 -- a cell with a character in a style
 abbrev pub written : ℕ → Style → Cell → Cell
@@ -83,12 +83,12 @@ module _ (own : ℤ → Style) (days : Style) (beside : Option Style) (d : Date)
   abbrev pub style_at : ℕ → Option Style
   style_at place =
       let day = day_at d place in
-      if is_own d place then Some (patch days (own day)) else style_beside own days beside day
+      if is_in_month d place then Some (patch days (own day)) else style_beside own days beside day
 
   -- a cell: each day has three columns, a blank and the two of its number; the first blank of a week has no style
   abbrev pub week_cell : Rect → Position → Cell → Cell
   week_cell r p c =
-      let x = p.x - r.x in let place = 7 * (p.y - r.y) + x / 3 in let n = number_at d place in
+      let x = p.x - r.x in let place = 7 * (p.y - r.y) + x / 3 in let n = day_number d place in
       if x == 0 then written 32 new_style c
       else if x % 3 == 0 then written 32 (background_of days) c
       else if x % 3 == 1 then day_cell days (style_at place) (digit_before n) c
@@ -99,8 +99,8 @@ module _ (own : ℤ → Style) (days : Style) (beside : Option Style) (d : Date)
   weeks r = over (First 21) (put_change (week_cell (cut_from (First 21) r)) (λ _ _. ⊤))
 
 -- how many columns a box takes of the widest area, left and right of what is inside
-abbrev pub columns_around : Option Block → ℕ
-columns_around block = 65535 - (inner_if block (record { x = 0; y = 0; width = 65535; height = 1 })).width
+abbrev pub columns_of_box : Option Block → ℕ
+columns_of_box block = 65535 - (inner_if block (record { x = 0; y = 0; width = 65535; height = 1 })).width
 
 -- the month if it is shown, and the weekdays
 abbrev pub heading_if : Option Style → Date → Rect → Drawing
@@ -130,11 +130,11 @@ module _ {E : Type 0} where
       (cut_from days r))
 
   -- how many columns and rows it takes with its box, as far as an area may have them
-  abbrev pub columns_taken : Monthly E → ℕ
-  columns_taken m = min (21 + columns_around m.block) 65535
+  abbrev pub columns_of_month : Monthly E → ℕ
+  columns_of_month m = min (21 + columns_of_box m.block) 65535
 
-  abbrev pub rows_taken : Monthly E → ℕ
-  rows_taken m = min (weeks_of m.display_date + rows_above_weeks m + rows_around_if m.block) 65535
+  abbrev pub rows_of_month : Monthly E → ℕ
+  rows_of_month m = min (weeks_of m.display_date + rows_above_weeks m + rows_around_if m.block) 65535
 
   -- A calendar over the part of an area that a buffer has: its box, and inside the month. Nothing outside the
   -- area changes.

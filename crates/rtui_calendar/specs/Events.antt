@@ -7,8 +7,8 @@ use Rattle.jiff_core.specs.{declared.civil.date.Date.Date, Date.epoch_day}
 use Rattle.rtui_calendar.specs.declared.events.CalendarEventStore.{CalendarEventStore}
 
 -- the dates of a store with their styles
-abbrev pub events_of : CalendarEventStore → List (Date × Style)
-events_of s = s.events.entries
+abbrev pub dates_of : CalendarEventStore → List (Date × Style)
+dates_of s = s.events.entries
 
 -- a date is the day of this number
 abbrev pub is_on : ℤ → Date → Bool
@@ -16,7 +16,7 @@ is_on day d = is_eq (int_cmp day (epoch_day d))
 
 -- the style of a day: that of its event, if it has one
 abbrev pub style_on : CalendarEventStore → ℤ → Style
-style_on s day = unwrap_or (lookup (is_on day) (events_of s)) new_style
+style_on s day = unwrap_or (lookup (is_on day) (dates_of s)) new_style
 
 -- the date has this style now, and each other day the one that it had
 abbrev pub IsAdded : Date → Style → CalendarEventStore → CalendarEventStore → Type 0

@@ -3,7 +3,7 @@
 ghost use Rattle.std.specs.Prelude.{◌≡◌, [], ℤ, OnOk, OnErr};
 ghost use Rattle.ratatui_core.specs.Style.{Style};
 ghost use Rattle.jiff_core.specs.Date.{epoch_day};
-ghost use Rattle.rtui_calendar.specs.Events.{events_of, IsAdded};
+ghost use Rattle.rtui_calendar.specs.Events.{dates_of, IsAdded};
 
 use jiff::civil::Date;
 use ratatui_core::style::Style;
@@ -34,7 +34,7 @@ pub struct CalendarEventStore {
 impl CalendarEventStore {
     /// Makes a store without events. Takes no memory.
     pub fn new(alloc: Global) -> CalendarEventStore
-        ensures { events_of result ≡ [] }
+        ensures { dates_of result ≡ [] }
     {
         CalendarEventStore {
             events: BTreeMap::new(alloc),
@@ -49,7 +49,7 @@ impl CalendarEventStore {
     #[tactic(auto, using(crate::proofs::EventLemmas::style_added))]
     pub fn add(&mut self, date: Date, style: Style) -> Result<(), AllocError>
         ensures added { OnOk result (IsAdded date style self.old self.new) }
-        ensures err { OnErr result (events_of self.new ≡ events_of self.old) }
+        ensures err { OnErr result (dates_of self.new ≡ dates_of self.old) }
     {
         self.events.insert(date, style)?;
         Ok(())

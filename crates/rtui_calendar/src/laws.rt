@@ -7,7 +7,7 @@ ghost use Rattle.ratatui_core.specs.Layout.{Rect};
 ghost use Rattle.ratatui_core.specs.Buffer.{BufferData, IsPlainFrom};
 ghost use Rattle.rtui_boxes.specs.Boxes.{IsNarrowBox};
 ghost use Rattle.rtui_calendar.specs.declared.monthly.Monthly.{Monthly};
-ghost use Rattle.rtui_calendar.specs.Days.{weeks_of, day_at, is_own, number_at, HasOwnDay};
+ghost use Rattle.rtui_calendar.specs.Days.{weeks_of, day_at, is_in_month, day_number, HasOwnDay};
 ghost use Rattle.rtui_calendar.specs.Calendars.{RendersMonthly};
 
 use crate::events::DateStyler;
@@ -27,10 +27,10 @@ pub fn weeks_have_days_of_the_month()
 /// month are those of its year and month.
 pub fn numbers_are_those_of_days()
     ensures number { (shown day : Date) (place : ℕ) → place < 7 * weeks_of shown
-        → epoch_day day ≡ day_at shown place → number_at shown place ≡ day.day }
+        → epoch_day day ≡ day_at shown place → day_number shown place ≡ day.day }
     ensures own { (shown day : Date) (place : ℕ) → place < 7 * weeks_of shown
         → epoch_day day ≡ day_at shown place
-        → (IsTrue (is_own shown place) ↔ ((day.year ≡ shown.year) × (day.month ≡ shown.month))) }
+        → (IsTrue (is_in_month shown place) ↔ ((day.year ≡ shown.year) × (day.month ≡ shown.month))) }
 {}
 
 /// Says that a calendar keeps cells plain, if it has no box or a narrow one; so a screen can show

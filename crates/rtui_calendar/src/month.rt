@@ -2,8 +2,8 @@
 
 ghost use Rattle.std.specs.Prelude.{◌≡◌, ◌+◌, ◌-◌, ◌%◌, ◌≤◌, IsOk, IfOk, IfSome, is_some};
 ghost use Rattle.jiff_core.specs.Date.{epoch_day, month_length};
-ghost use Rattle.rtui_calendar.specs.Days.{first_of, column_of_first, weeks_of, day_at, is_day};
-ghost use Rattle.rtui_calendar.specs.Days.{is_own, length_before, number_at};
+ghost use Rattle.rtui_calendar.specs.Days.{first_day, column_of_first, weeks_of, day_at, is_day};
+ghost use Rattle.rtui_calendar.specs.Days.{is_in_month, length_before, day_number};
 
 use jiff::civil::Date;
 use jiff_core::civil;
@@ -17,7 +17,7 @@ pub(crate) struct Month {
     column: u8,
     days: u8,
     before: u8,
-    ghost first_is: { epoch_day first ≡ first_of date },
+    ghost first_is: { epoch_day first ≡ first_day date },
     ghost column_is: { column ≡ column_of_first date },
     ghost days_is: { days ≡ month_length date },
     ghost before_is: { before ≡ length_before date },
@@ -48,8 +48,8 @@ impl Month {
     }
 
     /// Whether the day in a place is one of the month.
-    pub(crate) fn is_own(self, place: u32) -> bool
-        ensures { result ≡ is_own self.date place }
+    pub(crate) fn is_in_month(self, place: u32) -> bool
+        ensures { result ≡ is_in_month self.date place }
     {
         let column = u32::from(self.column);
         column <= place && place < column + u32::from(self.days)
@@ -58,7 +58,7 @@ impl Month {
     /// Which day of its month stands in a place.
     pub(crate) fn number(self, place: u32) -> u32
         requires { place ≤ 1_000_000 }
-        ensures { result ≡ number_at self.date place }
+        ensures { result ≡ day_number self.date place }
     {
         let column = u32::from(self.column);
         let end = column + u32::from(self.days);

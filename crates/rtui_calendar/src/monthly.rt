@@ -4,7 +4,7 @@ ghost use Rattle.std.specs.Prelude.{◌≡◌, Some, None};
 ghost use Rattle.ratatui_core.specs.Style.{new_style};
 ghost use Rattle.rtui_boxes.specs.Framed.{rows_around_if};
 ghost use Rattle.rtui_drawing.specs.Drawings.{IsDone};
-ghost use Rattle.rtui_calendar.specs.Calendars.{columns_around, columns_taken, rows_taken, weeks};
+ghost use Rattle.rtui_calendar.specs.Calendars.{columns_of_box, columns_of_month, rows_of_month, weeks};
 ghost use Rattle.rtui_calendar.specs.Calendars.{heading, heading_if, weekdays_if};
 ghost use Rattle.rtui_calendar.specs.Calendars.{rows_above_weekdays, rows_above_weeks};
 
@@ -110,14 +110,14 @@ impl<'a, DS: DateStyler> Monthly<'a, DS> {
 
     /// Tells how many columns the calendar takes with its box; at most 65535.
     pub fn width(&self) -> u16
-        ensures { result ≡ columns_taken self.now }
+        ensures { result ≡ columns_of_month self.now }
     {
-        self.columns_around().saturating_add(21)
+        self.columns_of_box().saturating_add(21)
     }
 
     /// Tells how many rows the calendar takes with its headers and its box; at most 65535.
     pub fn height(&self) -> u16
-        ensures { result ≡ rows_taken self.now }
+        ensures { result ≡ rows_of_month self.now }
     {
         let rows = Month::of(self.display_date).weeks() + self.rows_above_weeks();
         let around = match &self.block {
@@ -128,8 +128,8 @@ impl<'a, DS: DateStyler> Monthly<'a, DS> {
     }
 
     // How many columns a box takes of the widest area.
-    fn columns_around(&self) -> u16
-        ensures { result ≡ columns_around self.now.block }
+    fn columns_of_box(&self) -> u16
+        ensures { result ≡ columns_of_box self.now.block }
     {
         let widest = Rect {
             x: 0,

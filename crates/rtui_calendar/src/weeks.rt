@@ -28,8 +28,8 @@ impl<'b, DS: DateStyler> Weeks<'b, DS> {
         ensures { let w = self.now in
             result ≡ style_at (DS.style_of w.events.now) w.days w.beside w.month.date place }
     {
-        let is_own = self.month.is_own(place);
-        let under = if is_own {
+        let is_in_month = self.month.is_in_month(place);
+        let under = if is_in_month {
             self.days
         } else {
             self.days.patch(self.beside?)
