@@ -1,12 +1,14 @@
 //! A picture of each widget, as docs/WIDGETS.md shows them: its name, and the rows of a small screen.
 #![tactic(auto)]
 
+mod apart;
 mod bars;
 mod boxes;
 mod charts;
 mod lists;
 mod meters;
 
+use jiff::civil::Date;
 use ratatui_core::backend::TestBackend;
 use ratatui_core::terminal::{Frame, Terminal};
 use std::alloc::{AllocError, Global};
@@ -27,6 +29,9 @@ enum Picture {
     HorizontalBars,
     Canvas,
     Chart,
+    Monthly,
+    Popup,
+    Throbber,
 }
 
 impl Picture {
@@ -45,6 +50,9 @@ impl Picture {
             Picture::HorizontalBars => "BarChart::horizontal",
             Picture::Canvas => "Canvas",
             Picture::Chart => "Chart",
+            Picture::Monthly => "Monthly",
+            Picture::Popup => "Popup",
+            Picture::Throbber => "Throbber",
         }
     }
 
@@ -64,12 +72,18 @@ impl Picture {
             Picture::HorizontalBars => bars::horizontal_bars(alloc, frame),
             Picture::Canvas => charts::canvas(frame),
             Picture::Chart => charts::chart(alloc, frame),
+            Picture::Monthly => match Date::new(2026, 11, 29) {
+                Ok(date) => apart::calendar(alloc, frame, date),
+                Err(_) => Ok(()),
+            },
+            Picture::Popup => apart::popup(alloc, frame),
+            Picture::Throbber => apart::throbber(frame),
         }
     }
 }
 
 // Each widget, with the columns and rows of its picture.
-static PICTURES: [(Picture, u16, u16); 13] = [
+static PICTURES: [(Picture, u16, u16); 16] = [
     (Picture::Block, 24, 4),
     (Picture::Paragraph, 24, 4),
     (Picture::List, 24, 3),
@@ -83,6 +97,9 @@ static PICTURES: [(Picture, u16, u16); 13] = [
     (Picture::HorizontalBars, 24, 3),
     (Picture::Canvas, 24, 6),
     (Picture::Chart, 24, 8),
+    (Picture::Monthly, 24, 7),
+    (Picture::Popup, 24, 5),
+    (Picture::Throbber, 24, 1),
 ];
 
 // Draws a widget on a screen of its own, and prints its name and that screen.

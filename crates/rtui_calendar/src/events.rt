@@ -15,7 +15,7 @@ pub trait DateStyler {
     // the style of each day, by its number from 1970-01-01 on
     ghost style_of: { Self → ℤ → Style };
 
-    /// Tells the style of a day.
+    /// Returns the style of a day.
     fn get_style(&self, date: Date) -> Style
         ensures { result ≡ style_of self.now (epoch_day date) };
 }
@@ -24,7 +24,7 @@ pub trait DateStyler {
 ///
 /// ```
 /// let mut events = CalendarEventStore::new(alloc);
-/// events.add(Date::new(2026, 11, 29)?, Style::new().red())?;
+/// events.add(date, Style::new().red())?;
 /// ```
 #[derive(Debug, Drop)]
 pub struct CalendarEventStore {

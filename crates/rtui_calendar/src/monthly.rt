@@ -26,10 +26,10 @@ use std::alloc::AllocError;
 /// style over that of the days.
 ///
 /// ```
-/// Monthly::new(Date::new(2026, 11, 1)?, events)
+/// let monthly = Monthly::new(date, events)
 ///     .show_month_header(Style::new().bold())
-///     .show_weekdays_header(Style::new())
-///     .render(area, buf)?;
+///     .show_weekdays_header(Style::new());
+/// frame.render_widget(monthly, area)
 /// ```
 #[derive(Debug, Drop)]
 pub struct Monthly<'a, DS: DateStyler> {
@@ -108,14 +108,14 @@ impl<'a, DS: DateStyler> Monthly<'a, DS> {
         self
     }
 
-    /// Tells how many columns the calendar takes with its box; at most 65535.
+    /// Returns how many columns the calendar takes with its box; at most 65535.
     pub fn width(&self) -> u16
         ensures { result ≡ columns_of_month self.now }
     {
         self.columns_of_box().saturating_add(21)
     }
 
-    /// Tells how many rows the calendar takes with its headers and its box; at most 65535.
+    /// Returns how many rows the calendar takes with its headers and its box; at most 65535.
     pub fn height(&self) -> u16
         ensures { result ≡ rows_of_month self.now }
     {
