@@ -1,12 +1,11 @@
 //! Laws of text areas that are rendered.
 
-ghost use Rattle.std.specs.Prelude.{◌≡◌, ◌+◌, ◌<◌, ◌≤◌, ◌-◌, ℕ, Some};
-ghost use Rattle.ratatui_core.specs.Layout.{Rect};
-ghost use Rattle.ratatui_core.specs.Buffer.{position_of};
-ghost use Rattle.rtui_boxes.specs.Boxes.{IsBoxArea};
+ghost use Rattle.std.specs.Prelude.{◌≡◌, ◌+◌, ◌<◌, ◌≤◌, ◌-◌, ℕ, List};
 ghost use Rattle.rtui_area.specs.declared.view.AreaView.{AreaView};
 ghost use Rattle.rtui_area.specs.declared.widget.TextAreaWidget.{TextAreaWidget};
-ghost use Rattle.rtui_area.specs.Windows.{window_start, next_view, cursor_row, cursor_column};
+ghost use Rattle.rtui_area.specs.Columns.{column_past};
+ghost use Rattle.rtui_area.specs.Wraps.{row_count, line_rows, in_rows};
+ghost use Rattle.rtui_area.specs.Windows.{window_start, cursor_row, rows_before, wrapped_place};
 
 /// The view stays where it is as long as the cursor stands in it.
 pub fn the_view_stays_if_it_can()
@@ -26,4 +25,20 @@ pub fn the_view_moves_no_further_than_it_must()
         → window_start first place room ≡ place }
     ensures right { (first place room : ℕ) → first < window_start first place room
         → window_start first place room + (room - 1) ≡ place }
+{}
+
+/// The rows of a wrapped line, put together, are the line: no grapheme is lost, and none stands in
+/// two rows. The line is to have fewer columns than the greatest number, as each text has.
+pub fn the_rows_of_a_line_are_the_line()
+    ensures { (tab stride : ℕ) (gs : List (List ℕ)) → 0 < stride
+        → column_past tab 0 gs < 18446744073709551615
+        → in_rows tab stride 0 0 gs (row_count stride (column_past tab 0 gs)) ≡ gs }
+{}
+
+/// The view of wrapped lines stays where it is as long as the cursor stands in it.
+pub fn the_wrapped_view_stays_if_it_can()
+    ensures { (w : TextAreaWidget) (v : AreaView) (stride height : ℕ)
+        → v.top ≤ cursor_row w → cursor_row w < v.top + height → v.row < line_rows w stride v.top
+        → v.row ≤ rows_before w stride v.top → rows_before w stride v.top < v.row + height
+        → wrapped_place w v stride height ≡ (v.top, v.row) }
 {}
