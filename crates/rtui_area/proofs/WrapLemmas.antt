@@ -1,5 +1,5 @@
 -- Rows of wrapped lines, counted and drawn.
-use Rattle.std.proofs.Common.{◌≡◌, ℕ, zero, suc, ◌+◌, ◌-◌, ◌/◌, ◌%◌, ◌×◌, ◌<◌, ◌≤◌, nat_le, nat_lt, true, false, List, [], ◌∷◌, length, refl, arith}
+use Rattle.std.proofs.Common.{◌≡◌, ℕ, zero, suc, ◌+◌, ◌-◌, ◌/◌, ◌%◌, ◌<◌, ◌≤◌, nat_le, nat_lt, true, false, List, [], ◌∷◌, length, refl, arith}
 use Rattle.std.proofs.Common.{Result, Bool, cond, ◌==◌, min}
 use Rattle.std.proofs.lemmas.{Bool.Decides.nat_tests, List.Sums.sum_by-append, Nat.mod_below}
 use Rattle.std.proofs.Math.Nat.{mod-le}
@@ -7,7 +7,7 @@ use Rattle.std.specs.declared.alloc.AllocError.{AllocError}
 use Rattle.ratatui_core.specs.{Layout.Rect, Buffer.BufferData}
 use Rattle.rtui_drawing.specs.Cuts.{cut_from}
 use Rattle.rtui_drawing.specs.declared.cut.Cut.TheVariants.{After, Rows}
-use Rattle.rtui_drawing.specs.Drawings.{Drawing, nothing, over, ◌before◌, draw_if, put_style, DrawsAll, IsDone}
+use Rattle.rtui_drawing.specs.Drawings.{nothing, over, ◌before◌, draw_if, put_style, DrawsAll, IsDone}
 use Rattle.rtui_drawing.proofs.DrawingLemmas.{done-in}
 use Rattle.text_area.specs.Extents.{is_feed}
 use Rattle.text_area.specs.Lines.{feeds}
@@ -25,7 +25,9 @@ use Rattle.rtui_area.specs.TextAreas.{wrapped_grapheme_drawing, wrapped_grapheme
 -- the cursor's line is one of the text
 pub cursor-within : (w : TextAreaWidget) → cursor_row w ≤ feeds (area_text w.text.now)
 cursor-within w =
-    let all = sum_by-append (λ b. cond (is_feed b) 1 0) (area_before w.text.now) (area_after w.text.now) in omega (arith, all)
+    let all : feeds (area_text w.text.now) ≡ feeds (area_before w.text.now) + feeds (area_after w.text.now) =
+    sum_by-append (λ b. cond (is_feed b) 1 0) (area_before w.text.now) (area_after w.text.now) in
+    omega (arith, all)
 
 -- the beginning of a column's row
 pub turned-within : (stride column : ℕ) → 0 < stride → column - (column - column % stride) < stride

@@ -1,10 +1,10 @@
 -- A text area in an area: what is drawn of it.
-use Rattle.std.specs.Prelude.{◌≡◌, ℕ, zero, suc, ◌+◌, ◌-◌, ◌/◌, ◌%◌, ◌==◌, ◌&&◌, not, min, Bool, true, false}
+use Rattle.std.specs.Prelude.{◌≡◌, ℕ, zero, suc, ◌+◌, ◌-◌, ◌/◌, ◌%◌, ◌==◌, ◌&&◌, min, Bool, true, false}
 use Rattle.std.specs.Prelude.{List, [], ◌∷◌, length}
-use Rattle.std.specs.Prelude.{Option, Some, None, nat_le, nat_lt, if◌then◌else◌, unwrap_or, is_some}
+use Rattle.std.specs.Prelude.{None, nat_le, nat_lt, if◌then◌else◌, unwrap_or}
 use Rattle.std.specs.Fmt.{decimal}
 use Rattle.unicode_segmentation.specs.Grapheme.{graphemes}
-use Rattle.ratatui_core.specs.{Layout.Rect, Style.Style, Style.new_style}
+use Rattle.ratatui_core.specs.{Layout.Rect, Style.new_style}
 use Rattle.ratatui_core.specs.{Style.with_modifier, Style.modifier_of}
 use Rattle.ratatui_core.specs.Buffer.{BufferData, text_pieces}
 use Rattle.rtui_drawing.specs.declared.cut.Cut.TheVariants.{First, After, Last, Rows}

@@ -1,5 +1,5 @@
 -- Which part of a text is shown.
-use Rattle.std.specs.Prelude.{◌≡◌, ℕ, ◌+◌, ◌-◌, ◌×◌, ◌/◌, ◌%◌, min, max, length, Option, Some, None, nat_lt, if◌then◌else◌}
+use Rattle.std.specs.Prelude.{ℕ, ◌+◌, ◌-◌, ◌/◌, ◌%◌, min, max, length, Option, Some, None, nat_lt, if◌then◌else◌}
 use Rattle.std.specs.Fmt.{decimal}
 use Rattle.ratatui_core.specs.{Layout.Rect, Buffer.position_of}
 use Rattle.text_area.specs.Lines.{feeds, last_line}

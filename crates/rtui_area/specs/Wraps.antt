@@ -1,6 +1,6 @@
 -- In which rows of a line its columns stand, where lines are wrapped: column c in row c / stride of the line, and there in
 -- column c % stride. So each grapheme stands in one row, and none is lost.
-use Rattle.std.specs.Prelude.{ℕ, zero, suc, ◌+◌, ◌-◌, ◌/◌, ◌==◌, ◌×◌, ◌++◌, max, nat_lt, if◌then◌else◌}
+use Rattle.std.specs.Prelude.{ℕ, zero, suc, ◌+◌, ◌-◌, ◌/◌, ◌==◌, ◌++◌, max, nat_lt, if◌then◌else◌}
 use Rattle.std.specs.Prelude.{List, [], ◌∷◌}
 use Rattle.text_area.specs.{Lines.nth_line, Areas.area_text}
 use Rattle.rtui_area.specs.declared.view.AreaView.{AreaView}

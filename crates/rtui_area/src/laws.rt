@@ -1,11 +1,14 @@
 //! Laws of text areas that are rendered.
 
 ghost use Rattle.std.specs.Prelude.{◌≡◌, ◌+◌, ◌<◌, ◌≤◌, ◌-◌, ℕ, List};
+ghost use Rattle.ratatui_core.specs.Layout.{Rect};
 ghost use Rattle.rtui_area.specs.declared.view.AreaView.{AreaView};
 ghost use Rattle.rtui_area.specs.declared.widget.TextAreaWidget.{TextAreaWidget};
 ghost use Rattle.rtui_area.specs.Columns.{column_past};
-ghost use Rattle.rtui_area.specs.Wraps.{row_count, line_rows, in_rows};
-ghost use Rattle.rtui_area.specs.Windows.{window_start, cursor_row, rows_before, wrapped_place};
+ghost use Rattle.rtui_area.specs.Wraps.{row_count, line_rows, row_past, in_rows};
+ghost use Rattle.rtui_area.specs.Windows.{window_start, cursor_row, base_line, rows_before};
+ghost use Rattle.rtui_area.specs.Windows.{wrapped_place, wrapped_plan};
+ghost use Rattle.rtui_area.specs.TextAreas.{row_of};
 
 /// The view stays where it is as long as the cursor stands in it.
 pub fn the_view_stays_if_it_can()
@@ -41,4 +44,13 @@ pub fn the_wrapped_view_stays_if_it_can()
         → v.top ≤ cursor_row w → cursor_row w < v.top + height → v.row < line_rows w stride v.top
         → v.row ≤ rows_before w stride v.top → rows_before w stride v.top < v.row + height
         → wrapped_place w v stride height ≡ (v.top, v.row) }
+{}
+
+/// The cursor stands in the row of the view in which the column of its line is shown: that row is
+/// counted from the view's first line on, as the rows of all lines that are drawn. There are to be
+/// fewer rows than the greatest number, as in each text.
+pub fn the_cursor_stands_in_its_row()
+    ensures { (w : TextAreaWidget) (v : AreaView) (r : Rect) → let p = wrapped_plan w v r in
+        rows_before w p.stride (base_line w v r.height) < 18446744073709551615
+        → row_of p (row_past w p.stride 0 p.top (p.row - p.top)) p.column - p.above ≡ p.y }
 {}

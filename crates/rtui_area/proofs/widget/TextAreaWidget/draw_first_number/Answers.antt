@@ -4,8 +4,8 @@ use Rattle.rtui_inside.proofs.InsideLemmas.{row-inside}
 use Rattle.rtui_area.proofs.WrapLemmas.{number-shown, number-hidden}
 use Rattle.rtui_area.proofs.widget.TextAreaWidget.draw_first_number.Goals as goal
 
-pub returns-then-clause-done : goal.returns-then-clause-done
-returns-then-clause-done c =
+pub returns-then-begin-plan-clause-done : goal.returns-then-begin-plan-clause-done
+returns-then-begin-plan-clause-done c =
     let none = number-hidden c.args.self.now c.args.plan.now c.args.inner.width c.args.begin c.args.number (omega arith) in
     rw none (done-all refl)
 

@@ -1,4 +1,4 @@
-use Rattle.std.proofs.Common.{arith, refl}
+use Rattle.std.proofs.Common.{refl}
 use Rattle.rtui_drawing.proofs.DrawingLemmas.{done-all}
 use Rattle.rtui_area.proofs.WrapLemmas.{lines-none}
 use Rattle.rtui_area.proofs.widget.TextAreaWidget.draw_wrapped.Goals as goal

@@ -1,5 +1,6 @@
 use Rattle.std.proofs.Common.{◌≡◌, ◌+◌, ◌-◌, ◌∙◌, refl, arith}
 use Rattle.rtui_drawing.proofs.DrawingLemmas.{continues-all, continues-next, continues-stop, continues-end}
+use Rattle.rtui_area.specs.TextAreas.{row_behind}
 use Rattle.rtui_area.proofs.WrapLemmas.{lines-next, lines-none, lines-below, lines-end}
 use Rattle.rtui_area.proofs.widget.TextAreaWidget.draw_wrapped_from.Goals as goal
 
@@ -14,12 +15,15 @@ loop-k-init c =
       rest = rw whole continues-all;
     }
 
-pub returns-then-clause-done : goal.returns-then-clause-done
-returns-then-clause-done c =
+pub returns-then-saturating_sub-from-clause-done : goal.returns-then-saturating_sub-from-clause-done
+returns-then-saturating_sub-from-clause-done c =
     let i = c.loop-k.invariant in
     let none = lines-below c.args.self.now c.args.plan.now c.args.inner c.loop-k.begin c.loop-k.number
     (c.args.inner.height - c.loop-k.k) i.within (omega arith) in
     continues-end (rw none at i.rest)
+
+pub draw_wrapped_line-requires-clause-inside : goal.draw_wrapped_line-requires-clause-inside
+draw_wrapped_line-requires-clause-inside c = rw c.loop-k.invariant.area c.requires.inside
 
 pub draw_wrapped_line-requires-clause-start : goal.draw_wrapped_line-requires-clause-start
 draw_wrapped_line-requires-clause-start c = c.loop-k.invariant.start
@@ -45,7 +49,8 @@ returns-in_default-clause-done c =
     (omega arith) i.within (omega arith) in
     let drawn = continues-next (rw next at i.rest) c.in_ok-draw_wrapped_line.ensures.done in
     let last = rw c.in_default.is at c.start_after.ensures.none in
-    let none = lines-none c.args.self.now c.args.plan.now c.args.inner _ (c.loop-k.number + 1)
+    let none = lines-none c.args.self.now c.args.plan.now c.args.inner
+    (row_behind c.args.self.now c.args.plan.now c.loop-k.begin c.loop-k.number) (c.loop-k.number + 1)
     (c.args.inner.height - (c.loop-k.k + 1)) (omega (arith, last)) in
     continues-end (rw none at drawn)
 

@@ -5,8 +5,8 @@ use Rattle.rtui_inside.proofs.InsideLemmas.{row-inside}
 use Rattle.rtui_area.proofs.WrapLemmas.{wrapped-drawn, wrapped-hidden}
 use Rattle.rtui_area.proofs.widget.TextAreaWidget.draw_wrapped_grapheme.Goals as goal
 
-pub returns-then-clause-done : goal.returns-then-clause-done
-returns-then-clause-done c =
+pub returns-then-row-plan-clause-done : goal.returns-then-row-plan-clause-done
+returns-then-row-plan-clause-done c =
     let none = wrapped-hidden c.args.self.now c.args.plan.now c.args.inner.width c.args.begin c.args.at.column c.args.at.byte
     c.row_of-row.result c.args.grapheme.now c.row_of-row.ensures (omega arith) in
     rw none (done-all refl)

@@ -7,8 +7,8 @@ use Rattle.rtui_area.proofs.widget.TextAreaWidget.draw_wrapped_part.Goals as goa
 pub walk-init : goal.walk-init
 walk-init c = record { area = refl; rest = rw c.graphemes-left.ensures.left continues-all }
 
-pub returns-then-clause-done : goal.returns-then-clause-done
-returns-then-clause-done c =
+pub returns-then-saturating_sub-from-clause-done : goal.returns-then-saturating_sub-from-clause-done
+returns-then-saturating_sub-from-clause-done c =
     let none = wrapped-end c.args.self.now c.args.plan.now c.args.inner c.args.begin c.walk.at.column c.walk.at.byte
     (graphemes_left c.walk.left) (omega (arith, c.row_of-row.ensures)) in
     continues-end (rw none at c.walk.invariant.rest)

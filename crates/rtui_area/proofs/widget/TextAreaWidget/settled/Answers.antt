@@ -1,4 +1,4 @@
-use Rattle.std.proofs.Common.{◌≡◌, ◌∙◌, refl, sym, arith}
+use Rattle.std.proofs.Common.{◌≡◌, ◌∙◌, refl, sym, ap, arith}
 use Rattle.rtui_area.proofs.WrapLemmas.{settled-here, settled-next, settled-end}
 use Rattle.rtui_area.proofs.widget.TextAreaWidget.settled.Goals as goal
 
@@ -40,5 +40,5 @@ loop-i-preserved c =
 pub returns : goal.returns
 returns c =
     let is : c.loop-i.i ≡ c.args.end = omega arith in
-    rw is (rw (settled-end c.args.self.now c.args.stride c.loop-i.row c.loop-i.i c.args.end (omega arith))
-    at c.loop-i.invariant.rest)
+    let end = settled-end c.args.self.now c.args.stride c.loop-i.row c.loop-i.i c.args.end (omega arith) in
+    ap (λ i. (i, c.loop-i.row)) (sym is) ∙ (rw end at c.loop-i.invariant.rest)
