@@ -1,13 +1,12 @@
 -- The row of the cursor, counted from two lines on.
-use Rattle.std.proofs.Common.{◌≡◌, ℕ, zero, suc, ◌+◌, ◌-◌, ◌/◌, ◌<◌, ◌≤◌, nat_lt, true, false, refl, arith, ⊎_elim, sym, ◌∙◌}
+use Rattle.std.proofs.Common.{◌≡◌, ℕ, zero, suc, ◌+◌, ◌-◌, ◌<◌, ◌≤◌, nat_lt, true, false, refl, arith, ⊎_elim, sym, ◌∙◌}
 use Rattle.std.proofs.lemmas.{Bool.cases_lt, Bool.Decides.nat_tests}
 use Rattle.ratatui_core.specs.Layout.{Rect}
 use Rattle.rtui_area.specs.declared.view.AreaView.{AreaView}
 use Rattle.rtui_area.specs.declared.widget.TextAreaWidget.{TextAreaWidget}
 use Rattle.rtui_area.specs.Columns.{past}
 use Rattle.rtui_area.specs.Wraps.{line_rows, row_past, settled}
-use Rattle.rtui_area.specs.Windows.{cursor_row, cursor_column, base_line, rows_before, first_row, wrapped_plan}
-use Rattle.rtui_area.specs.TextAreas.{row_of}
+use Rattle.rtui_area.specs.Windows.{cursor_row, cursor_part, base_line, rows_before, first_row, wrapped_plan}
 
 -- rows are counted from a row on as from 0 on
 past-counted : (w : TextAreaWidget) (stride a i n : ℕ) → a ≤ 18446744073709551615 → row_past w stride a i n ≡ past a (row_past w stride 0 i n)
@@ -45,13 +44,13 @@ settled-rest w stride q (suc n) i row end is le lt =
     rw test (gone ∙ rest))
     (cases_lt row (line_rows w stride i))
 
--- the cursor stands in the row in which its column is shown
+-- the cursor stands in its row of its line
 pub cursor-shown : (w : TextAreaWidget) (v : AreaView) (r : Rect) → let p = wrapped_plan w v r in
     rows_before w p.stride (base_line w v r.height) < 18446744073709551615
-    → row_of p (row_past w p.stride 0 p.top (p.row - p.top)) p.column - p.above ≡ p.y
+    → past (row_past w p.stride 0 p.top (p.row - p.top)) (cursor_part w p.stride) - p.above ≡ p.y
 cursor-shown w v r lt =
     let p = wrapped_plan w v r in
     let i = base_line w v r.height in
     let n = cursor_row w - i in
-    sym (settled-rest w p.stride (cursor_column w / p.stride) n i (first_row w v p.stride i r.height) (cursor_row w)
+    sym (settled-rest w p.stride (cursor_part w p.stride) n i (first_row w v p.stride i r.height) (cursor_row w)
     (omega arith) (omega arith) lt)

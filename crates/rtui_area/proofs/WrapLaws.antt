@@ -1,6 +1,7 @@
 -- The rows of a wrapped line, put together.
-use Rattle.std.proofs.Common.{◌≡◌, ℕ, zero, suc, ◌+◌, ◌/◌, ◌<◌, ◌≤◌, ◌==◌, true, false, List, [], ◌∷◌, refl, arith, ap, ⊎_elim}
+use Rattle.std.proofs.Common.{◌≡◌, ℕ, zero, suc, ◌+◌, ◌-◌, ◌/◌, ◌<◌, ◌≤◌, ◌==◌, true, false, List, [], ◌∷◌, refl, arith, ap, ⊎_elim, All}
 use Rattle.std.proofs.lemmas.{Bool.cases_lt, Bool.Decides.nat_tests, Nat.le-div}
+use Rattle.std.proofs.lemmas.List.Elements.{All-head, All-tail}
 use Rattle.std.proofs.Math.Nat.{div-mul-le_self, div-le_self}
 use Rattle.rtui_area.specs.Columns.{columns_of_grapheme, past, column_past}
 use Rattle.rtui_area.specs.Wraps.{row_count, in_row, in_rows}
@@ -45,10 +46,10 @@ rows-none tab stride k column (suc n) = rows-none tab stride (k + 1) column n
 -- the rows from one on that isn't below the first grapheme's, if there are enough, by what holds of the other graphemes
 rows-first : (tab stride column : ℕ) (g : List ℕ) (gs : List (List ℕ)) → 0 < stride → column ≤ 18446744073709551615
     → ((m j : ℕ) → j ≤ past column (columns_of_grapheme tab column g) / stride
-    → column_past tab column (g ∷ gs) / stride < j + m
+    → (column_past tab column (g ∷ gs) - 1) / stride < j + m
     → in_rows tab stride j (past column (columns_of_grapheme tab column g)) gs m ≡ gs)
-    → column / stride ≤ column_past tab column (g ∷ gs) / stride → (n k : ℕ) → k ≤ column / stride
-    → column_past tab column (g ∷ gs) / stride < k + n → in_rows tab stride k column (g ∷ gs) n ≡ g ∷ gs
+    → column / stride ≤ (column_past tab column (g ∷ gs) - 1) / stride → (n k : ℕ) → k ≤ column / stride
+    → (column_past tab column (g ∷ gs) - 1) / stride < k + n → in_rows tab stride k column (g ∷ gs) n ≡ g ∷ gs
 rows-first tab stride column g gs some most all order zero k le lt = absurd (omega (arith, le, lt, order))
 rows-first tab stride column g gs some most all order (suc n) k le lt =
     let row = past-row stride column (columns_of_grapheme tab column g) some most in
@@ -61,25 +62,35 @@ rows-first tab stride column g gs some most all order (suc n) k le lt =
     rw (here, below) (ap (λ rest. g ∷ rest) (all (suc n) k (omega (arith, le, row)) lt)))
     (cases_lt k (column / stride))
 
--- and so they are all graphemes
-last-later : (tab stride column : ℕ) (gs : List (List ℕ)) → 0 < stride → column ≤ 18446744073709551615
-    → column / stride ≤ column_past tab column gs / stride
-last-later tab stride column [] some most = omega arith
-last-later tab stride column (g ∷ gs) some most =
+-- a line ends behind its graphemes
+end-later : (tab column : ℕ) (gs : List (List ℕ)) → column ≤ 18446744073709551615 → column ≤ column_past tab column gs
+end-later tab column [] most = omega arith
+end-later tab column (g ∷ gs) most =
     let n = columns_of_grapheme tab column g in
-    omega (arith, past-row stride column n some most, last-later tab stride (past column n) gs some (past-most column n))
+    omega (arith, past-later column n most, end-later tab (past column n) gs (past-most column n))
 
-rows-all : (tab stride column : ℕ) (gs : List (List ℕ)) → 0 < stride → column ≤ 18446744073709551615 → (n k : ℕ)
-    → k ≤ column / stride → column_past tab column gs / stride < k + n → in_rows tab stride k column gs n ≡ gs
-rows-all tab stride column [] some most n k le lt = rows-none tab stride k column n
-rows-all tab stride column (g ∷ gs) some most n k le lt =
+first-before : (tab column : ℕ) (g : List ℕ) (gs : List (List ℕ)) → 0 < columns_of_grapheme tab column g
+    → column_past tab column (g ∷ gs) < 18446744073709551615 → column ≤ column_past tab column (g ∷ gs) - 1
+first-before tab column g gs some lt =
+    let n = columns_of_grapheme tab column g in
+    omega (arith, some, lt, end-later tab (past column n) gs (past-most column n))
+
+-- and so they are all graphemes
+rows-all : (tab stride column : ℕ) (gs : List (List ℕ)) → 0 < stride → column ≤ 18446744073709551615
+    → All (λ g. (at : ℕ) → 0 < columns_of_grapheme tab at g) gs → column_past tab column gs < 18446744073709551615
+    → (n k : ℕ) → k ≤ column / stride → (column_past tab column gs - 1) / stride < k + n
+    → in_rows tab stride k column gs n ≡ gs
+rows-all tab stride column [] some most each fewer n k le lt = rows-none tab stride k column n
+rows-all tab stride column (g ∷ gs) some most each fewer n k le lt =
+    let before = first-before tab column g gs (All-head (λ h. (at : ℕ) → 0 < columns_of_grapheme tab at h) g gs each column) fewer in
     rows-first tab stride column g gs some most
     (λ m j. rows-all tab stride (past column (columns_of_grapheme tab column g)) gs some
-    (past-most column (columns_of_grapheme tab column g)) m j)
-    (last-later tab stride column (g ∷ gs) some most) n k le lt
+    (past-most column (columns_of_grapheme tab column g)) (All-tail (λ h. (at : ℕ) → 0 < columns_of_grapheme tab at h) g gs each) fewer m j)
+    (div-later stride column (column_past tab column (g ∷ gs) - 1) some before) n k le lt
 
-pub rows-whole : (tab stride : ℕ) (gs : List (List ℕ)) → 0 < stride → column_past tab 0 gs < 18446744073709551615
+pub rows-whole : (tab stride : ℕ) (gs : List (List ℕ)) → 0 < stride
+    → All (λ g. (column : ℕ) → 0 < columns_of_grapheme tab column g) gs → column_past tab 0 gs < 18446744073709551615
     → in_rows tab stride 0 0 gs (row_count stride (column_past tab 0 gs)) ≡ gs
-rows-whole tab stride gs some most =
-    rows-all tab stride 0 gs some (omega arith) (row_count stride (column_past tab 0 gs)) 0 (omega arith)
-    (omega (arith, most, div-le_self (column_past tab 0 gs) stride))
+rows-whole tab stride gs some each most =
+    rows-all tab stride 0 gs some (omega arith) each most (row_count stride (column_past tab 0 gs)) 0 (omega arith)
+    (omega (arith, most, div-le_self (column_past tab 0 gs - 1) stride))

@@ -1,5 +1,5 @@
 -- Rows of wrapped lines, counted and drawn.
-use Rattle.std.proofs.Common.{◌≡◌, ℕ, zero, suc, ◌+◌, ◌-◌, ◌/◌, ◌%◌, ◌<◌, ◌≤◌, nat_le, nat_lt, true, false, List, [], ◌∷◌, length, refl, arith}
+use Rattle.std.proofs.Common.{◌≡◌, ℕ, zero, suc, ◌+◌, ◌-◌, ◌%◌, ◌<◌, ◌≤◌, nat_le, nat_lt, true, false, List, [], ◌∷◌, length, refl, arith}
 use Rattle.std.proofs.Common.{Result, Bool, cond, ◌==◌, min}
 use Rattle.std.proofs.lemmas.{Bool.Decides.nat_tests, List.Sums.sum_by-append, Nat.mod_below}
 use Rattle.std.proofs.Math.Nat.{mod-le}
@@ -17,7 +17,7 @@ use Rattle.rtui_area.specs.declared.view.AreaView.{AreaView}
 use Rattle.rtui_area.specs.declared.widget.TextAreaWidget.{TextAreaWidget}
 use Rattle.rtui_area.specs.Columns.{columns_of_grapheme, past}
 use Rattle.rtui_area.specs.Wraps.{line_rows, row_past, settled, former_row}
-use Rattle.rtui_area.specs.Windows.{window_start, cursor_row, cursor_column, base_line, rows_before, first_row, wrapped_place}
+use Rattle.rtui_area.specs.Windows.{window_start, cursor_row, cursor_part, base_line, rows_before, first_row, wrapped_place}
 use Rattle.rtui_area.specs.TextAreas.{grapheme_drawing, number_drawing, row_of, turned, row_behind}
 use Rattle.rtui_area.specs.TextAreas.{row_style_drawing, first_number_drawing}
 use Rattle.rtui_area.specs.TextAreas.{wrapped_grapheme_drawing, wrapped_graphemes_drawing, wrapped_line_drawing, wrapped_lines_drawing}
@@ -168,20 +168,19 @@ wrapped-stays w v stride height top bottom row above below =
     rw (line, first) (settled-stays w stride v.row v.top (cursor_row w - v.top) row)
 
 -- the view as it is computed
-pub place-is : (w : TextAreaWidget) (v : AreaView) (stride height row column line rows cursor former first : ℕ) (place : ℕ × ℕ)
-    → row ≡ cursor_row w → column ≡ cursor_column w → line ≡ window_start v.top row height
-    → rows ≡ row_past w stride 0 line (row - line) → cursor ≡ past rows (column / stride)
+pub place-is : (w : TextAreaWidget) (v : AreaView) (stride height row part line rows cursor former first : ℕ) (place : ℕ × ℕ)
+    → row ≡ cursor_row w → part ≡ cursor_part w stride → line ≡ window_start v.top row height
+    → rows ≡ row_past w stride 0 line (row - line) → cursor ≡ past rows part
     → former ≡ former_row v line cursor → first ≡ window_start former cursor height
     → place ≡ settled w stride first line (row - line) → place ≡ wrapped_place w v stride height
-place-is w v stride height row column line rows cursor former first place row_is column_is line_is rows_is cursor_is former_is
+place-is w v stride height row part line rows cursor former first place row_is part_is line_is rows_is cursor_is former_is
     first_is place_is =
-    rw (first_is, former_is, cursor_is, rows_is, line_is, row_is, column_is) at place_is
+    rw (first_is, former_is, cursor_is, rows_is, line_is, row_is, part_is) at place_is
 
-pub y-is : (w : TextAreaWidget) (v : AreaView) (stride height row column line rows cursor former first y : ℕ)
-    → row ≡ cursor_row w → column ≡ cursor_column w → line ≡ window_start v.top row height
-    → rows ≡ row_past w stride 0 line (row - line) → cursor ≡ past rows (column / stride)
+pub y-is : (w : TextAreaWidget) (v : AreaView) (stride height row part line rows cursor former first y : ℕ)
+    → row ≡ cursor_row w → part ≡ cursor_part w stride → line ≡ window_start v.top row height
+    → rows ≡ row_past w stride 0 line (row - line) → cursor ≡ past rows part
     → former ≡ former_row v line cursor → first ≡ window_start former cursor height → y ≡ cursor - first
     → y ≡ rows_before w stride (base_line w v height) - first_row w v stride (base_line w v height) height
-y-is w v stride height row column line rows cursor former first y row_is column_is line_is rows_is cursor_is former_is first_is
-    y_is =
-    rw (first_is, former_is, cursor_is, rows_is, line_is, row_is, column_is) at y_is
+y-is w v stride height row part line rows cursor former first y row_is part_is line_is rows_is cursor_is former_is first_is y_is =
+    rw (first_is, former_is, cursor_is, rows_is, line_is, row_is, part_is) at y_is

@@ -1,13 +1,14 @@
 -- Which part of a text is shown.
-use Rattle.std.specs.Prelude.{ℕ, ◌+◌, ◌-◌, ◌/◌, ◌%◌, min, max, length, Option, Some, None, nat_lt, if◌then◌else◌}
+use Rattle.std.specs.Prelude.{ℕ, ◌+◌, ◌-◌, ◌/◌, ◌%◌, min, max, length, Option, Some, None, nat_lt, true, if◌then◌else◌}
 use Rattle.std.specs.Fmt.{decimal}
 use Rattle.ratatui_core.specs.{Layout.Rect, Buffer.position_of}
-use Rattle.text_area.specs.Lines.{feeds, last_line}
-use Rattle.text_area.specs.Areas.{area_text, area_before, selection}
+use Rattle.unicode_segmentation.specs.Grapheme.{graphemes}
+use Rattle.text_area.specs.Lines.{feeds, first_line, last_line}
+use Rattle.text_area.specs.Areas.{area_text, area_before, area_after, selection}
 use Rattle.rtui_area.specs.declared.view.AreaView.{AreaView}
 use Rattle.rtui_area.specs.declared.plan.Plan.{Plan}
 use Rattle.rtui_area.specs.declared.widget.TextAreaWidget.{TextAreaWidget}
-use Rattle.rtui_area.specs.Columns.{column_behind, past}
+use Rattle.rtui_area.specs.Columns.{column_past, column_behind, past}
 use Rattle.rtui_area.specs.Wraps.{stride_of, row_past, settled, former_row}
 
 -- of all windows of so many places that have a place in them, the one that begins nearest to where it began
@@ -30,6 +31,10 @@ cursor_row w = feeds (area_before w.text.now)
 abbrev pub cursor_column : TextAreaWidget → ℕ
 cursor_column w = column_behind w.tab (last_line (area_before w.text.now))
 
+-- the column after its line, which is read in two parts, before the cursor and after it
+abbrev pub cursor_end : TextAreaWidget → ℕ
+cursor_end w = column_past w.tab (cursor_column w) (graphemes true (first_line (area_after w.text.now)))
+
 -- What is shown in an area, if the view was this one before: the view moves only as far as the cursor wants it.
 -- A line in each row:
 abbrev pub plain_plan : TextAreaWidget → AreaView → Rect → Plan
@@ -50,14 +55,19 @@ plain_plan w v r =
       to = (selection w.text.now).1;
     }
 
--- And lines that go on in the next rows. Rows are counted from the first one of a line on, which is the one with which a
--- view of lines that aren't wrapped would begin: so it isn't below the cursor's line, nor far above it.
+-- And lines that go on in the next rows; behind a full row the cursor stands in the last column. Rows are counted from the
+-- first one of a line on, which is the one with which a view of lines that aren't wrapped would begin: so it isn't below the
+-- cursor's line, nor far above it.
 abbrev pub base_line : TextAreaWidget → AreaView → ℕ → ℕ
 base_line w v height = window_start v.top (cursor_row w) height
 
+-- the cursor's row in its line: the one of its column, or the last one if it stands behind that
+abbrev pub cursor_part : TextAreaWidget → ℕ → ℕ
+cursor_part w stride = min (cursor_column w / stride) ((cursor_end w - 1) / stride)
+
 -- how many rows from there on are before the cursor's
 abbrev pub rows_before : TextAreaWidget → ℕ → ℕ → ℕ
-rows_before w stride i = past (row_past w stride 0 i (cursor_row w - i)) (cursor_column w / stride)
+rows_before w stride i = past (row_past w stride 0 i (cursor_row w - i)) (cursor_part w stride)
 
 -- and before the view
 abbrev pub first_row : TextAreaWidget → AreaView → ℕ → ℕ → ℕ → ℕ
@@ -81,7 +91,7 @@ wrapped_plan w v r =
       numbers = n;
       row = cursor_row w;
       column = cursor_column w;
-      x = cursor_column w % stride;
+      x = if nat_lt (cursor_part w stride) (cursor_column w / stride) then r.width - n - 1 else cursor_column w % stride;
       y = rows_before w stride i - first_row w v stride i r.height;
       from = (selection w.text.now).0;
       to = (selection w.text.now).1;

@@ -8,13 +8,13 @@ use Rattle.rtui_area.specs.declared.widget.TextAreaWidget.{TextAreaWidget}
 use Rattle.rtui_area.specs.Columns.{past, columns_of_grapheme, column_behind}
 
 -- the stride: how many columns of a line stand in each of its rows, if there is room for so many: all but the last one, in
--- which a wide grapheme ends that begins in the one before
+-- which a wide grapheme ends that begins in the one before, or the cursor stands behind a full row
 abbrev pub stride_of : ℕ → ℕ
 stride_of room = max (room - 1) 1
 
--- how many rows a line takes that ends before a column: that column has a row too, since a cursor may stand there
+-- how many rows a line takes that ends before a column: as many as have a column of it, and at least one
 abbrev pub row_count : ℕ → ℕ → ℕ
-row_count stride end = past (end / stride) 1
+row_count stride end = past ((end - 1) / stride) 1
 
 abbrev pub line_rows : TextAreaWidget → ℕ → ℕ → ℕ
 line_rows w stride i = row_count stride (column_behind w.tab (nth_line i (area_text w.text.now)))

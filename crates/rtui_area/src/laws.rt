@@ -1,14 +1,13 @@
 //! Laws of text areas that are rendered.
 
-ghost use Rattle.std.specs.Prelude.{◌≡◌, ◌+◌, ◌<◌, ◌≤◌, ◌-◌, ℕ, List};
+ghost use Rattle.std.specs.Prelude.{◌≡◌, ◌+◌, ◌<◌, ◌≤◌, ◌-◌, ℕ, List, All};
 ghost use Rattle.ratatui_core.specs.Layout.{Rect};
 ghost use Rattle.rtui_area.specs.declared.view.AreaView.{AreaView};
 ghost use Rattle.rtui_area.specs.declared.widget.TextAreaWidget.{TextAreaWidget};
-ghost use Rattle.rtui_area.specs.Columns.{column_past};
+ghost use Rattle.rtui_area.specs.Columns.{past, columns_of_grapheme, column_past};
 ghost use Rattle.rtui_area.specs.Wraps.{row_count, line_rows, row_past, in_rows};
 ghost use Rattle.rtui_area.specs.Windows.{window_start, cursor_row, base_line, rows_before};
-ghost use Rattle.rtui_area.specs.Windows.{wrapped_place, wrapped_plan};
-ghost use Rattle.rtui_area.specs.TextAreas.{row_of};
+ghost use Rattle.rtui_area.specs.Windows.{cursor_part, wrapped_place, wrapped_plan};
 
 /// The view stays where it is as long as the cursor stands in it.
 pub fn the_view_stays_if_it_can()
@@ -31,9 +30,11 @@ pub fn the_view_moves_no_further_than_it_must()
 {}
 
 /// The rows of a wrapped line, put together, are the line: no grapheme is lost, and none stands in
-/// two rows. The line is to have fewer columns than the greatest number, as each text has.
+/// two rows. Each is to take a column or more, and the line fewer than the greatest number, as each
+/// text does.
 pub fn the_rows_of_a_line_are_the_line()
     ensures { (tab stride : ℕ) (gs : List (List ℕ)) → 0 < stride
+        → All (λ g. (column : ℕ) → 0 < columns_of_grapheme tab column g) gs
         → column_past tab 0 gs < 18446744073709551615
         → in_rows tab stride 0 0 gs (row_count stride (column_past tab 0 gs)) ≡ gs }
 {}
@@ -46,11 +47,12 @@ pub fn the_wrapped_view_stays_if_it_can()
         → wrapped_place w v stride height ≡ (v.top, v.row) }
 {}
 
-/// The cursor stands in the row of the view in which the column of its line is shown: that row is
-/// counted from the view's first line on, as the rows of all lines that are drawn. There are to be
-/// fewer rows than the greatest number, as in each text.
+/// The cursor stands in its row of its line: that row is counted from the view's first line on, as
+/// the rows of all lines that are drawn. There are to be fewer rows than the greatest number, as in
+/// each text.
 pub fn the_cursor_stands_in_its_row()
     ensures { (w : TextAreaWidget) (v : AreaView) (r : Rect) → let p = wrapped_plan w v r in
         rows_before w p.stride (base_line w v r.height) < 18446744073709551615
-        → row_of p (row_past w p.stride 0 p.top (p.row - p.top)) p.column - p.above ≡ p.y }
+        → past (row_past w p.stride 0 p.top (p.row - p.top)) (cursor_part w p.stride) - p.above
+        ≡ p.y }
 {}

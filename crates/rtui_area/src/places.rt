@@ -1,12 +1,13 @@
 //! Rows of lines that are wrapped, and where a view begins among them.
 
-ghost use Rattle.std.specs.Prelude.{◌≡◌, ◌≤◌, ◌<◌, ◌+◌, ◌-◌};
+ghost use Rattle.std.specs.Prelude.{◌≡◌, ◌≤◌, ◌<◌, ◌+◌, ◌-◌, ◌/◌, ◌%◌, min, nat_lt};
+ghost use Rattle.std.specs.Prelude.{if◌then◌else◌};
 ghost use Rattle.std.specs.Str.{IsCharBoundary};
 ghost use Rattle.text_area.specs.Lines.{feeds, nth_start};
 ghost use Rattle.text_area.specs.Areas.{area_text};
 ghost use Rattle.rtui_area.specs.Wraps.{stride_of, row_count, line_rows, row_past, settled};
 ghost use Rattle.rtui_area.specs.Wraps.{former_row};
-ghost use Rattle.rtui_area.specs.Windows.{cursor_row, cursor_column, base_line, rows_before};
+ghost use Rattle.rtui_area.specs.Windows.{cursor_row, cursor_part, base_line, rows_before};
 ghost use Rattle.rtui_area.specs.Windows.{first_row, wrapped_place};
 
 use crate::columns::{column_behind, past, window_start};
@@ -28,7 +29,32 @@ pub(crate) fn row_count(stride: u16, end: usize) -> usize
     requires { 0 < stride }
     ensures { result ≡ row_count stride end }
 {
-    past(end / usize::from(stride), 1)
+    past(end.saturating_sub(1) / usize::from(stride), 1)
+}
+
+// In which row of its line a cursor stands that is in a column of a line that ends before another.
+pub(crate) fn part_of(stride: u16, column: usize, end: usize) -> usize
+    requires { 0 < stride }
+    ensures { result ≡ min (column / stride) ((end - 1) / stride) }
+{
+    let stride = usize::from(stride);
+    (column / stride).min(end.saturating_sub(1) / stride)
+}
+
+// In which of so many columns a cursor stands, if it is in a column and in a row of its line.
+pub(crate) fn column_in_part(stride: u16, column: usize, part: usize, room: u16) -> u16
+    requires some { 0 < stride }
+    requires fits { stride ≤ room }
+    ensures value { result
+        ≡ if nat_lt part (column / stride) then room - 1 else column % stride }
+    ensures within { result < room }
+{
+    let stride = usize::from(stride);
+    if part < column / stride {
+        room - 1
+    } else {
+        (column % stride) as u16
+    }
 }
 
 // In which row a view began, counted from the first one of a line on, where the cursor has a row.
@@ -111,19 +137,19 @@ impl<'a> TextAreaWidget<'a> {
     }
 
     // The view's first line and how many of its rows are above the view, and in which of the view's
-    // rows the cursor stands, which is in a line and a column.
+    // rows the cursor stands, which is in a line and a row of it.
     pub(crate) fn wrapped_view(
         &self,
         view: AreaView,
         stride: u16,
         row: usize,
-        column: usize,
+        part: usize,
         height: u16,
     ) -> (usize, usize, u16)
         requires some { 0 < stride }
         requires height { 0 < height }
         requires row { row ≡ cursor_row self.now }
-        requires column { column ≡ cursor_column self.now }
+        requires part { part ≡ cursor_part self.now stride }
         ensures top { result.0 ≡ (wrapped_place self.now view stride height).0 }
         ensures above { result.1 ≡ (wrapped_place self.now view stride height).1 }
         ensures y { let i = base_line self.now view height in
@@ -135,7 +161,7 @@ impl<'a> TextAreaWidget<'a> {
             return (0, 0, 0);
         };
         let rows = self.row_past(stride, line, start, row);
-        let cursor = past(rows, column / usize::from(stride));
+        let cursor = past(rows, part);
         let first = window_start(former_row(view, line, cursor), cursor, height);
         let (top, above) = self.settled(stride, first, line, start, row);
         (top, above, (cursor - first) as u16)

@@ -7,9 +7,9 @@ ghost use Rattle.rtui_area.specs.Windows.{gutter_columns, plain_plan, wrapped_pl
 ghost use Rattle.rtui_area.specs.Windows.{view_of};
 ghost use Rattle.rtui_area.specs.TextAreas.{IsNewWidget};
 
-use crate::columns::{column_behind, window_start};
+use crate::columns::{column_behind, column_past, window_start};
 use crate::numbers::digit_count;
-use crate::places::stride_of;
+use crate::places::{column_in_part, part_of, stride_of};
 use crate::plan::Plan;
 use crate::view::AreaView;
 use ratatui_core::buffer::Buffer;
@@ -134,10 +134,10 @@ impl<'a> TextAreaWidget<'a> {
     /// Says whether lines that are longer than the area is wide go on in the next rows.
     ///
     /// A row shows the graphemes that begin in its columns, all but the last one of the area: there a
-    /// wide grapheme ends that begins in the one before. A line that fills its rows has one more, in
-    /// which the cursor can stand behind it. The style of the cursor's line covers all its rows, and
-    /// a line's number stands in the first one. The view doesn't move as long as the cursor's row is
-    /// in it; its first column stays as it is.
+    /// wide grapheme ends that begins in the one before, or the cursor stands behind a line that
+    /// fills the row. The style of the cursor's line covers all its rows, and a line's number stands
+    /// in the first one. The view doesn't move as long as the cursor's row is in it; its first column
+    /// stays as it is.
     pub fn wrap(mut self, wraps: bool) -> TextAreaWidget<'a>
         ensures { result ≡ record self.entry { wraps = wraps } }
     {
@@ -200,7 +200,9 @@ impl<'a> TextAreaWidget<'a> {
         let stride = stride_of(area.width - numbers);
         let row = self.text.cursor().0;
         let column = column_behind(self.tab, self.text.cursor_line().0);
-        let (top, above, y) = self.wrapped_view(view, stride, row, column, area.height);
+        let end = column_past(self.tab, column, self.text.cursor_line().1);
+        let part = part_of(stride, column, end);
+        let (top, above, y) = self.wrapped_view(view, stride, row, part, area.height);
         let (from, to) = self.text.selection();
         Plan {
             top,
@@ -210,7 +212,7 @@ impl<'a> TextAreaWidget<'a> {
             numbers,
             row,
             column,
-            x: (column % usize::from(stride)) as u16,
+            x: column_in_part(stride, column, part, area.width - numbers),
             y,
             from,
             to,
