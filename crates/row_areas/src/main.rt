@@ -10,8 +10,10 @@
 //!
 //! A row of a view has a size, words, a text, what it shows, and the column and the row of the
 //! cursor. What is shown are rows with `/` between each two, in which a dot is a blank; a cursor that
-//! stands nowhere is `-`. A word is one of `numbers`, `box`, `tab:COLUMNS`, `top:LINE`, `left:COLUMN`
-//! and `ask:TEXT`; `-` is none.
+//! stands nowhere is `-`. A word is one of `numbers`, `box`, `wrap`, `tab:COLUMNS`, `top:LINE`,
+//! `row:NUMBER`, `left:COLUMN` and `ask:TEXT`; `-` is none. `select:NUMBER` selects so many
+//! graphemes before the cursor, which stands before them then, `line` underlines the cursor's line,
+//! and `styles` shows the cells' styles in place of their symbols: `#` is reversed, `_` underlined.
 //!
 //! A line `# NAME` begins a group. It prints each row that doesn't hold, what is shown in its place,
 //! and how many hold, and ends with status 1 if any doesn't. For a number in place of a file it makes

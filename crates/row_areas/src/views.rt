@@ -1,10 +1,10 @@
 //! Rows of views: a text in a size, and what it shows.
 
 use crate::escapes::unescaped;
-use crate::shown::{cursor_in, rows_in};
+use crate::shown::{cursor_in, marks_in, rows_in};
 use ratatui_core::buffer::Buffer;
 use ratatui_core::layout::Rect;
-use ratatui_core::style::Style;
+use ratatui_core::style::{Style, Stylize};
 use ratatui_core::widgets::StatefulWidget;
 use rtui_area::{AreaView, TextAreaWidget};
 use rtui_boxes::Block;
@@ -56,8 +56,25 @@ fn with_word<'a>(alloc: Global, widget: TextAreaWidget<'a>, word: &'a str) -> Te
         None => match word {
             "numbers" => widget.line_numbers(Style::new()),
             "box" => widget.block(Block::bordered(alloc)),
+            "wrap" => widget.wrap(true),
+            "line" => widget.cursor_line_style(Style::new().underlined()),
             _ => widget,
         },
+    }
+}
+
+// Selects so many graphemes before the cursor, which stands before them then.
+fn select_before(area: &mut TextArea, count: u16) {
+    area.select();
+    for _ in 0..count {
+        area.go(Move::Left(Extent::Grapheme));
+    }
+}
+
+// Selects in an area what a word says, if it says so.
+fn select_if(area: &mut TextArea, word: &str) {
+    if let Some(("select", count)) = word.split_once(':') {
+        select_before(area, number(count));
     }
 }
 
@@ -66,6 +83,10 @@ fn view_with(view: AreaView, word: &str) -> AreaView {
     match word.split_once(':') {
         Some(("top", line)) => AreaView {
             top: usize::from(number(line)),
+            ..view
+        },
+        Some(("row", row)) => AreaView {
+            row: usize::from(number(row)),
             ..view
         },
         Some(("left", column)) => AreaView {
@@ -97,9 +118,21 @@ impl<'a> View<'a> {
         self.wanted == shown
     }
 
+    // The symbols of a buffer, or its styles if these are to be shown.
+    fn picture(&self, alloc: Global, buffer: &Buffer) -> Result<String, AllocError> {
+        if self.words.contains("styles") {
+            marks_in(alloc, buffer)
+        } else {
+            rows_in(alloc, buffer)
+        }
+    }
+
     // What the text shows, and where its cursor stands.
     pub fn shown(&self, alloc: Global) -> Result<String, AllocError> {
-        let area = area_of(alloc, self.text)?;
+        let mut area = area_of(alloc, self.text)?;
+        for word in self.words.split(' ') {
+            select_if(&mut area, word);
+        }
         let mut widget = TextAreaWidget::new(&area);
         let mut view = AreaView::new();
         for word in self.words.split(' ') {
@@ -109,7 +142,7 @@ impl<'a> View<'a> {
         let part = Rect::new(0, 0, self.width, self.height);
         let mut buffer = Buffer::empty(alloc, part)?;
         StatefulWidget::render(&widget, part, &mut buffer, &mut view)?;
-        let rows = rows_in(alloc, &buffer)?;
+        let rows = self.picture(alloc, &buffer)?;
         let cursor = cursor_in(alloc, view)?;
         format!(in alloc; "{rows}\t{cursor}")
     }

@@ -7,7 +7,7 @@ use Rattle.std.specs.declared.alloc.AllocError.{AllocError}
 use Rattle.ratatui_core.specs.{Layout.Rect, Style.Style, Style.new_style, Buffer.BufferData, Buffer.text_pieces}
 use Rattle.rtui_drawing.specs.Cuts.{cut_from}
 use Rattle.rtui_drawing.specs.declared.cut.Cut.TheVariants.{First, After, Last, Rows}
-use Rattle.rtui_drawing.specs.Drawings.{Drawing, nothing, over, ◌before◌, draw_if, put_style, put_pieces, DrawsAll, IsDone, IsRowIn}
+use Rattle.rtui_drawing.specs.Drawings.{nothing, over, ◌before◌, draw_if, put_style, put_pieces, DrawsAll, IsDone, IsRowIn}
 use Rattle.rtui_drawing.proofs.DrawingLemmas.{draws-then, done-in}
 use Rattle.rtui_drawing.proofs.WriteLemmas.{row-after}
 use Rattle.text_area.specs.Lines.{feeds}

@@ -1,3 +1,4 @@
 pub mod Columns
+pub mod Wraps
 pub mod Windows
 pub mod TextAreas

@@ -1,10 +1,10 @@
 -- A text area in an area: what is drawn of it.
-use Rattle.std.specs.Prelude.{◌≡◌, ℕ, zero, suc, ◌+◌, ◌-◌, ◌==◌, ◌&&◌, not, min, Bool, true, false}
+use Rattle.std.specs.Prelude.{◌≡◌, ℕ, zero, suc, ◌+◌, ◌-◌, ◌/◌, ◌%◌, ◌==◌, ◌&&◌, min, Bool, true, false}
 use Rattle.std.specs.Prelude.{List, [], ◌∷◌, length}
-use Rattle.std.specs.Prelude.{Option, Some, None, nat_le, nat_lt, if◌then◌else◌, unwrap_or, is_some}
+use Rattle.std.specs.Prelude.{None, nat_le, nat_lt, if◌then◌else◌, unwrap_or}
 use Rattle.std.specs.Fmt.{decimal}
 use Rattle.unicode_segmentation.specs.Grapheme.{graphemes}
-use Rattle.ratatui_core.specs.{Layout.Rect, Style.Style, Style.new_style}
+use Rattle.ratatui_core.specs.{Layout.Rect, Style.new_style}
 use Rattle.ratatui_core.specs.{Style.with_modifier, Style.modifier_of}
 use Rattle.ratatui_core.specs.Buffer.{BufferData, text_pieces}
 use Rattle.rtui_drawing.specs.declared.cut.Cut.TheVariants.{First, After, Last, Rows}
@@ -15,7 +15,8 @@ use Rattle.text_area.specs.Areas.{AreaData, area_text, area_before, area_after, 
 use Rattle.rtui_area.specs.declared.view.AreaView.{AreaView}
 use Rattle.rtui_area.specs.declared.plan.Plan.{Plan}
 use Rattle.rtui_area.specs.declared.widget.TextAreaWidget.{TextAreaWidget}
-use Rattle.rtui_area.specs.Columns.{columns_of_grapheme, past, column_past}
+use Rattle.rtui_area.specs.Columns.{columns_of_grapheme, past, column_past, column_behind}
+use Rattle.rtui_area.specs.Wraps.{row_count}
 use Rattle.rtui_area.specs.Windows.{plan_of, next_view, cursor_forgotten}
 
 -- a widget of a text without a box and numbers, in which nothing has a style but what is selected, which is
@@ -29,6 +30,7 @@ pub record IsNewWidget (text : AreaData) (w : TextAreaWidget) : Type 0 where
   pub no_numbers : w.line_numbers ≡ None
   pub no_placeholder : w.placeholder.now ≡ []
   pub tabs : w.tab ≡ 8
+  pub no_wrap : w.wraps ≡ false
 
 -- a byte of the text that is selected
 abbrev pub is_selected : Plan → ℕ → Bool
@@ -87,6 +89,73 @@ numbered_rows_drawing w p width k (suc n) =
     draw_if (nat_le (p.top + k) (feeds (area_text w.text.now))) (over (Rows k 1) (numbered_row_drawing w p width (p.top + k))
     before numbered_rows_drawing w p width (k + 1) n)
 
+-- The same where lines are wrapped. Rows are counted from the first one of the view's first line on, and some of them are
+-- above the view.
+-- a column of a line that begins in a row: its row
+abbrev pub row_of : Plan → ℕ → ℕ → ℕ
+row_of p begin column = past begin (column / p.stride)
+
+-- the part of a line that stands in one row with a column
+abbrev pub turned : Plan → ℕ → Plan
+turned p column = record p { left = column - column % p.stride }
+
+-- a grapheme, in the row in which it begins; above the view there is none
+abbrev pub wrapped_grapheme_drawing : TextAreaWidget → Plan → ℕ → ℕ → ℕ → ℕ → List ℕ → Drawing
+wrapped_grapheme_drawing w p width begin column byte g =
+    let row = row_of p begin column in
+    draw_if (nat_le p.above row) (over (Rows (row - p.above) 1) (over (After p.numbers)
+    (grapheme_drawing w (turned p column) (width - p.numbers) column byte g)))
+
+-- graphemes of a line one after the other, up to the last row in view
+abbrev pub wrapped_graphemes_drawing : TextAreaWidget → Plan → Rect → ℕ → ℕ → ℕ → List (List ℕ) → Drawing
+wrapped_graphemes_drawing w p r begin column byte [] = nothing
+wrapped_graphemes_drawing w p r begin column byte (g ∷ gs) =
+    draw_if (nat_lt (row_of p begin column - p.above) r.height) (wrapped_grapheme_drawing w p r.width begin column byte g
+    before wrapped_graphemes_drawing w p r begin (past column (columns_of_grapheme w.tab column g)) (past byte (length g)) gs)
+
+-- the column after the line of a number
+abbrev pub end_column : TextAreaWidget → Plan → ℕ → ℕ
+end_column w p i =
+    if i == p.row then column_past w.tab p.column (graphemes true (first_line (area_after w.text.now)))
+    else column_behind w.tab (nth_line i (area_text w.text.now))
+
+-- the row after that line, which begins in a row
+abbrev pub row_behind : TextAreaWidget → Plan → ℕ → ℕ → ℕ
+row_behind w p begin i = past begin (row_count p.stride (end_column w p i))
+
+-- the style of the cursor's line, over all of its rows that are in view
+abbrev pub row_style_drawing : TextAreaWidget → Plan → Rect → ℕ → ℕ → Drawing
+row_style_drawing w p r begin i =
+    let y = begin - p.above in
+    over (Rows y (min (row_behind w p begin i - p.above - y) r.height))
+    (draw_if (i == p.row) (put_style w.cursor_line_style))
+
+-- the number of a line that begins in a row, in that row, unless it is above the view
+abbrev pub first_number_drawing : TextAreaWidget → Plan → ℕ → ℕ → ℕ → Drawing
+first_number_drawing w p width begin i =
+    draw_if (nat_le p.above begin) (over (Rows (begin - p.above) 1) (number_drawing w p width i))
+
+-- the graphemes of the line
+abbrev pub wrapped_text_drawing : TextAreaWidget → Plan → Rect → ℕ → ℕ → Drawing
+wrapped_text_drawing w p r begin i =
+    wrapped_graphemes_drawing w p r begin 0 (nth_start i (area_text w.text.now)) (graphemes true (front_text w p i))
+    before wrapped_graphemes_drawing w p r begin p.column (area_cursor w.text.now) (graphemes true (back_text w p i))
+
+-- a line that begins in a row: its style, its number, and its graphemes
+abbrev pub wrapped_line_drawing : TextAreaWidget → Plan → Rect → ℕ → ℕ → Drawing
+wrapped_line_drawing w p r begin i =
+    row_style_drawing w p r begin i
+    before first_number_drawing w p r.width begin i
+    before wrapped_text_drawing w p r begin i
+
+-- so many lines from one on, which begins in a row, as far as there are lines and rows
+abbrev pub wrapped_lines_drawing : TextAreaWidget → Plan → Rect → ℕ → ℕ → ℕ → Drawing
+wrapped_lines_drawing w p r begin i zero = nothing
+wrapped_lines_drawing w p r begin i (suc n) =
+    draw_if (nat_le i (feeds (area_text w.text.now)) && nat_lt (begin - p.above) r.height)
+    (wrapped_line_drawing w p r begin i
+    before wrapped_lines_drawing w p r (row_behind w p begin i) (i + 1) n)
+
 -- a text that is empty
 abbrev pub is_empty : List ℕ → Bool
 is_empty [] = true
@@ -98,9 +167,14 @@ placeholder_drawing w p width =
     over (Rows 0 1) (over (After p.numbers) (draw_if (is_empty (area_text w.text.now))
     (put_pieces (text_pieces (width - p.numbers) w.placeholder_style w.placeholder.now))))
 
+-- the lines in view, wrapped or not
+abbrev pub lines_drawing : Bool → TextAreaWidget → Plan → Rect → Drawing
+lines_drawing true w p r = wrapped_lines_drawing w p r 0 p.top r.height
+lines_drawing false w p r = numbered_rows_drawing w p r.width 0 r.height
+
 -- all that a plan shows in an area
 abbrev pub planned_drawing : TextAreaWidget → Plan → Rect → Drawing
-planned_drawing w p r = numbered_rows_drawing w p r.width 0 r.height before placeholder_drawing w p r.width
+planned_drawing w p r = lines_drawing w.wraps w p r before placeholder_drawing w p r.width
 
 -- what is drawn in an area, if the view was this one before
 abbrev pub area_drawing : TextAreaWidget → AreaView → Rect → Drawing

@@ -1,7 +1,9 @@
 //! In which columns of a line its graphemes stand.
 
-ghost use Rattle.std.specs.Prelude.{◌≡◌, ◌≤◌, ◌<◌, ◌+◌, ◌-◌};
-ghost use Rattle.rtui_area.specs.Columns.{is_tab_grapheme, tab_columns, columns_of_grapheme, past, column_behind};
+ghost use Rattle.std.specs.Prelude.{◌≡◌, ◌≤◌, ◌<◌, ◌+◌, ◌-◌, true};
+ghost use Rattle.unicode_segmentation.specs.Grapheme.{graphemes};
+ghost use Rattle.rtui_area.specs.Columns.{is_tab_grapheme, tab_columns, columns_of_grapheme, past};
+ghost use Rattle.rtui_area.specs.Columns.{column_past, column_behind};
 ghost use Rattle.rtui_area.specs.Windows.{window_start};
 
 use ratatui_core::buffer::CellWidth;
@@ -44,17 +46,24 @@ pub(crate) fn past(at: usize, count: usize) -> usize
     at.saturating_add(count)
 }
 
-// The column after a text that begins a line.
-pub(crate) fn column_behind(tab: u16, text: &str) -> usize
-    ensures { result ≡ column_behind tab text.now }
+// The column after a part of a line that begins in a column.
+pub(crate) fn column_past(tab: u16, from: usize, text: &str) -> usize
+    ensures { result ≡ column_past tab from (graphemes true text.now) }
 {
     let mut left = text.graphemes(true);
-    let mut column = 0;
+    let mut column = from;
     'walk: while let Some(grapheme) = left.next() {
         let columns = columns_of_grapheme(tab, column, grapheme);
         column = past(column, usize::from(columns));
     }
     column
+}
+
+// The column after a text that begins a line.
+pub(crate) fn column_behind(tab: u16, text: &str) -> usize
+    ensures { result ≡ column_behind tab text.now }
+{
+    column_past(tab, 0, text)
 }
 
 // Where a window of so many places begins that has a place in it, as near as can be to where it

@@ -16,7 +16,7 @@ ghost use Rattle.rtui_area.specs.Columns.{past, columns_of_grapheme};
 ghost use Rattle.rtui_area.specs.TextAreas.{grapheme_drawing, graphemes_drawing, is_selected};
 ghost use Rattle.rtui_area.specs.TextAreas.{front_text, back_text, line_drawing, number_drawing};
 ghost use Rattle.rtui_area.specs.TextAreas.{numbered_row_drawing, numbered_rows_drawing, placeholder_drawing};
-ghost use Rattle.rtui_area.specs.TextAreas.{planned_drawing};
+ghost use Rattle.rtui_area.specs.TextAreas.{lines_drawing, planned_drawing};
 
 use crate::columns::{columns_of_grapheme, past};
 use crate::numbers::write_number;
@@ -32,13 +32,13 @@ use unicode_segmentation::UnicodeSegmentation;
 // Where a grapheme stands: in a column of its line, at a byte of the text.
 #[derive(Clone, Copy)]
 pub(crate) struct Place {
-    column: usize,
-    byte: usize,
+    pub(crate) column: usize,
+    pub(crate) byte: usize,
 }
 
 // Lays a style over an area, if it is to be.
 #[tactic(auto, using(crate::proofs::RowLemmas::row_parts))]
-fn put_style_if(is_there: bool, style: Style, area: Rect, buf: &mut Buffer)
+pub(crate) fn put_style_if(is_there: bool, style: Style, area: Rect, buf: &mut Buffer)
     ensures drawn { DrawsAll (draw_if is_there (put_style style)) area buf.old buf.new }
     ensures area { buf.new.area ≡ buf.old.area }
 {
@@ -85,7 +85,7 @@ impl<'a> TextAreaWidget<'a> {
     // Draws a grapheme in a row that has its column, or columns right of it; answers how many columns
     // it took.
     #[tactic(auto, using(rtui_drawing::proofs::DrawingLemmas::drawing_steps, crate::proofs::RowLemmas::row_parts))]
-    fn draw_grapheme(
+    pub(crate) fn draw_grapheme(
         &self,
         plan: &Plan,
         at: Place,
@@ -109,7 +109,7 @@ impl<'a> TextAreaWidget<'a> {
     }
 
     // The place after a grapheme that stands at a place.
-    fn next_place(&self, at: Place, grapheme: &str) -> Place
+    pub(crate) fn next_place(&self, at: Place, grapheme: &str) -> Place
         ensures column { result.column
             ≡ past at.column (columns_of_grapheme self.now.tab at.column grapheme.now) }
         ensures byte { result.byte ≡ past at.byte (length grapheme.now) }
@@ -150,7 +150,7 @@ impl<'a> TextAreaWidget<'a> {
     }
 
     // The line of a number as far as the cursor, if it is the cursor's, and else the whole line.
-    fn front_text(&self, plan: &Plan, number: usize, start: usize) -> &str
+    pub(crate) fn front_text(&self, plan: &Plan, number: usize, start: usize) -> &str
         requires start { start ≡ nth_start number (area_text self.now.text.now) }
         requires boundary { IsCharBoundary (area_text self.now.text.now) start }
         ensures { result.now ≡ front_text self.now plan.now number }
@@ -163,7 +163,7 @@ impl<'a> TextAreaWidget<'a> {
     }
 
     // What stands after the cursor in the line of a number, if it is the cursor's.
-    fn back_text(&self, plan: &Plan, number: usize) -> &str
+    pub(crate) fn back_text(&self, plan: &Plan, number: usize) -> &str
         ensures { result.now ≡ back_text self.now plan.now number }
     {
         if number == plan.row {
@@ -204,7 +204,7 @@ impl<'a> TextAreaWidget<'a> {
 
     // Draws the number of a line, as far as there are columns for numbers; answers how many it took.
     #[tactic(auto, using(rtui_drawing::proofs::DrawingLemmas::drawing_steps, crate::proofs::RowLemmas::row_parts))]
-    fn draw_number(
+    pub(crate) fn draw_number(
         &self,
         plan: &Plan,
         number: usize,
@@ -319,6 +319,23 @@ impl<'a> TextAreaWidget<'a> {
         )
     }
 
+    // Draws the lines in view, wrapped or not.
+    fn draw_lines(&self, plan: &Plan, inner: Rect, buf: &mut Buffer) -> Result<(), AllocError>
+        requires some { IsBoxArea inner }
+        requires inside { IsInside inner buf.old.area }
+        requires stride { 0 < plan.now.stride }
+        requires numbers { plan.now.numbers + plan.now.stride ≤ inner.width }
+        ensures done { let d = lines_drawing self.now.wraps self.now plan.now inner in
+            IsDone d inner result buf.old buf.new }
+        ensures area { buf.new.area ≡ buf.old.area }
+    {
+        if self.wraps {
+            self.draw_wrapped(plan, inner, buf)
+        } else {
+            self.draw_rows(plan, inner, buf)
+        }
+    }
+
     // Draws all that a plan shows.
     #[tactic(auto, using(rtui_drawing::proofs::DrawingLemmas::drawing_steps))]
     pub(crate) fn draw_plan(
@@ -329,10 +346,11 @@ impl<'a> TextAreaWidget<'a> {
     ) -> Result<(), AllocError>
         requires some { IsBoxArea inner }
         requires inside { IsInside inner buf.old.area }
-        requires numbers { plan.now.numbers < inner.width }
+        requires stride { 0 < plan.now.stride }
+        requires numbers { plan.now.numbers + plan.now.stride ≤ inner.width }
         ensures { IsDone (planned_drawing self.now plan.now inner) inner result buf.old buf.new }
     {
-        self.draw_rows(plan, inner, buf)?;
+        self.draw_lines(plan, inner, buf)?;
         self.draw_placeholder(plan, inner, buf)?;
         Ok(())
     }

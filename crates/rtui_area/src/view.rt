@@ -10,7 +10,9 @@ use ratatui_core::layout::Position;
 pub struct AreaView {
     /// The number of the first line that is shown, from 0 on.
     pub top: usize,
-    /// The first column of each line that is shown, from 0 on.
+    /// How many rows of that line are above the view, if lines are wrapped.
+    pub row: usize,
+    /// The first column of each line that is shown, from 0 on, if lines aren't wrapped.
     pub left: usize,
     /// The column and the row of the buffer in which the cursor stood, for
     /// `Frame::set_cursor_position`, or `None` if there was no place for it.
@@ -20,10 +22,11 @@ pub struct AreaView {
 impl AreaView {
     /// Makes a view of a text's start.
     pub fn new() -> AreaView
-        ensures { result ≡ record { top = 0; left = 0; cursor = None } }
+        ensures { result ≡ record { top = 0; row = 0; left = 0; cursor = None } }
     {
         AreaView {
             top: 0,
+            row: 0,
             left: 0,
             cursor: None,
         }

@@ -3,11 +3,13 @@
 ghost use Rattle.std.specs.Prelude.{◌≡◌, ◌≤◌, ◌<◌, ◌+◌, ◌-◌, Some, None};
 ghost use Rattle.ratatui_core.specs.Style.{new_style};
 ghost use Rattle.rtui_boxes.specs.Boxes.{IsBoxArea};
-ghost use Rattle.rtui_area.specs.Windows.{gutter_columns, plan_of, view_of};
+ghost use Rattle.rtui_area.specs.Windows.{gutter_columns, plain_plan, wrapped_plan, plan_of};
+ghost use Rattle.rtui_area.specs.Windows.{view_of};
 ghost use Rattle.rtui_area.specs.TextAreas.{IsNewWidget};
 
-use crate::columns::{column_behind, window_start};
+use crate::columns::{column_behind, column_past, window_start};
 use crate::numbers::digit_count;
+use crate::places::{column_in_part, part_of, stride_of};
 use crate::plan::Plan;
 use crate::view::AreaView;
 use ratatui_core::buffer::Buffer;
@@ -24,7 +26,8 @@ use text_area::TextArea;
 ///
 /// From one rendering to the next the view moves only as far as the cursor wants it. A wide grapheme
 /// at an edge of the view is not cut: a blank stands there. A tab is shown as blanks, and any other
-/// control character as one blank. Lines are not wrapped.
+/// control character as one blank. Lines that are longer than the area is wide end at its right
+/// edge, unless they are wrapped ([`wrap`](TextAreaWidget::wrap)).
 ///
 /// ```
 /// let widget = TextAreaWidget::new(&editor.area)
@@ -46,6 +49,7 @@ pub struct TextAreaWidget<'a> {
     pub(crate) placeholder: &'a str,
     pub(crate) placeholder_style: Style,
     pub(crate) tab: u16,
+    pub(crate) wraps: bool,
 }
 
 impl<'a> TextAreaWidget<'a> {
@@ -64,6 +68,7 @@ impl<'a> TextAreaWidget<'a> {
             placeholder: "",
             placeholder_style: Style::new(),
             tab: 8,
+            wraps: false,
         }
     }
 
@@ -126,6 +131,20 @@ impl<'a> TextAreaWidget<'a> {
         self
     }
 
+    /// Says whether lines that are longer than the area is wide go on in the next rows.
+    ///
+    /// A row shows the graphemes that begin in its columns, all but the last one of the area: there a
+    /// wide grapheme ends that begins in the one before, or the cursor stands behind a line that
+    /// fills the row. The style of the cursor's line covers all its rows, and a line's number stands
+    /// in the first one. The view doesn't move as long as the cursor's row is in it; its first column
+    /// stays as it is.
+    pub fn wrap(mut self, wraps: bool) -> TextAreaWidget<'a>
+        ensures { result ≡ record self.entry { wraps = wraps } }
+    {
+        self.wraps = wraps;
+        self
+    }
+
     // How many columns the numbers take of so many.
     fn gutter_columns(&self, width: u16) -> u16
         ensures value { result ≡ gutter_columns self.now width }
@@ -138,28 +157,81 @@ impl<'a> TextAreaWidget<'a> {
         if columns < width { columns } else { 0 }
     }
 
-    // What is shown in an area, if the view was this one before.
-    fn plan(&self, view: AreaView, area: Rect) -> Plan
+    // What is shown in an area with a line in each row, if the view was this one before.
+    fn plain_plan(&self, view: AreaView, area: Rect) -> Plan
         requires { IsBoxArea area }
-        ensures value { result ≡ plan_of self.now view area }
-        ensures numbers { result.numbers < area.width }
-        ensures top { result.top ≤ result.row }
-        ensures bottom { result.row - result.top < area.height }
-        ensures left { result.left ≤ result.column }
-        ensures right { result.column - result.left < area.width - result.numbers }
+        ensures value { result ≡ plain_plan self.now view area }
+        ensures stride { 0 < result.stride }
+        ensures numbers { result.numbers + result.stride ≤ area.width }
+        ensures x { result.x < area.width - result.numbers }
+        ensures y { result.y < area.height }
     {
         let numbers = self.gutter_columns(area.width);
         let row = self.text.cursor().0;
         let column = column_behind(self.tab, self.text.cursor_line().0);
+        let top = window_start(view.top, row, area.height);
+        let left = window_start(view.left, column, area.width - numbers);
         let (from, to) = self.text.selection();
         Plan {
-            top: window_start(view.top, row, area.height),
-            left: window_start(view.left, column, area.width - numbers),
+            top,
+            above: view.row,
+            left,
+            stride: area.width - numbers,
             numbers,
             row,
             column,
+            x: (column - left) as u16,
+            y: (row - top) as u16,
             from,
             to,
+        }
+    }
+
+    // What is shown in an area whose lines are wrapped, if the view was this one before.
+    fn wrapped_plan(&self, view: AreaView, area: Rect) -> Plan
+        requires { IsBoxArea area }
+        ensures value { result ≡ wrapped_plan self.now view area }
+        ensures stride { 0 < result.stride }
+        ensures numbers { result.numbers + result.stride ≤ area.width }
+        ensures x { result.x < area.width - result.numbers }
+        ensures y { result.y < area.height }
+    {
+        let numbers = self.gutter_columns(area.width);
+        let stride = stride_of(area.width - numbers);
+        let row = self.text.cursor().0;
+        let column = column_behind(self.tab, self.text.cursor_line().0);
+        let end = column_past(self.tab, column, self.text.cursor_line().1);
+        let part = part_of(stride, column, end);
+        let (top, above, y) = self.wrapped_view(view, stride, row, part, area.height);
+        let (from, to) = self.text.selection();
+        Plan {
+            top,
+            above,
+            left: view.left,
+            stride,
+            numbers,
+            row,
+            column,
+            x: column_in_part(stride, column, part, area.width - numbers),
+            y,
+            from,
+            to,
+        }
+    }
+
+    // What is shown in an area, if the view was this one before.
+    fn plan(&self, view: AreaView, area: Rect) -> Plan
+        requires { IsBoxArea area }
+        ensures value { result ≡ plan_of self.now view area }
+        ensures stride { 0 < result.stride }
+        ensures numbers { result.numbers + result.stride ≤ area.width }
+        ensures x { result.x < area.width - result.numbers }
+        ensures y { result.y < area.height }
+    {
+        if self.wraps {
+            self.wrapped_plan(view, area)
+        } else {
+            self.plain_plan(view, area)
         }
     }
 }
@@ -167,17 +239,15 @@ impl<'a> TextAreaWidget<'a> {
 // The view of a plan in an area.
 fn view_of(plan: &Plan, area: Rect) -> AreaView
     requires some { IsBoxArea area }
-    requires numbers { plan.now.numbers < area.width }
-    requires top { plan.now.top ≤ plan.now.row }
-    requires bottom { plan.now.row - plan.now.top < area.height }
-    requires left { plan.now.left ≤ plan.now.column }
-    requires right { plan.now.column - plan.now.left < area.width - plan.now.numbers }
+    requires x { plan.now.x < area.width - plan.now.numbers }
+    requires y { plan.now.y < area.height }
     ensures { result ≡ view_of plan.now area }
 {
-    let x = area.x + plan.numbers + (plan.column - plan.left) as u16;
-    let y = area.y + (plan.row - plan.top) as u16;
+    let x = area.x + plan.numbers + plan.x;
+    let y = area.y + plan.y;
     AreaView {
         top: plan.top,
+        row: plan.above,
         left: plan.left,
         cursor: Some(Position { x, y }),
     }
