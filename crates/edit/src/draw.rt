@@ -106,6 +106,7 @@ impl Screen {
     ) -> Result<(), AllocError> {
         let widget = TextAreaWidget::new(&editor.area)
             .line_numbers(Style::new().dim())
+            .wrap(true)
             .placeholder("Type a text", Style::new().dim());
         frame.render_stateful_widget(widget, body, &mut self.view)?;
         if let Some(position) = self.view.cursor {

@@ -4,7 +4,7 @@ use Rattle.std.proofs.lemmas.{Bool.cases_lt, Bool.Decides.nat_tests, Nat.le-div}
 use Rattle.std.proofs.lemmas.List.Elements.{All-head, All-tail}
 use Rattle.std.proofs.Math.Nat.{div-mul-le_self, div-le_self}
 use Rattle.rtui_area.specs.Columns.{columns_of_grapheme, past, column_past}
-use Rattle.rtui_area.specs.Wraps.{row_count, in_row, in_rows}
+use Rattle.rtui_area.specs.Wraps.{rows_of_columns, in_row, in_rows}
 
 -- a later column has no earlier row
 div-later : (stride a b : ℕ) → 0 < stride → a ≤ b → a / stride ≤ b / stride
@@ -90,7 +90,7 @@ rows-all tab stride column (g ∷ gs) some most each fewer n k le lt =
 
 pub rows-whole : (tab stride : ℕ) (gs : List (List ℕ)) → 0 < stride
     → All (λ g. (column : ℕ) → 0 < columns_of_grapheme tab column g) gs → column_past tab 0 gs < 18446744073709551615
-    → in_rows tab stride 0 0 gs (row_count stride (column_past tab 0 gs)) ≡ gs
+    → in_rows tab stride 0 0 gs (rows_of_columns stride (column_past tab 0 gs)) ≡ gs
 rows-whole tab stride gs some each most =
-    rows-all tab stride 0 gs some (omega arith) each most (row_count stride (column_past tab 0 gs)) 0 (omega arith)
+    rows-all tab stride 0 gs some (omega arith) each most (rows_of_columns stride (column_past tab 0 gs)) 0 (omega arith)
     (omega (arith, most, div-le_self (column_past tab 0 gs - 1) stride))

@@ -16,9 +16,9 @@ use Rattle.rtui_area.specs.declared.plan.Plan.{Plan}
 use Rattle.rtui_area.specs.declared.view.AreaView.{AreaView}
 use Rattle.rtui_area.specs.declared.widget.TextAreaWidget.{TextAreaWidget}
 use Rattle.rtui_area.specs.Columns.{columns_of_grapheme, past}
-use Rattle.rtui_area.specs.Wraps.{line_rows, row_past, settled, former_row}
-use Rattle.rtui_area.specs.Windows.{window_start, cursor_row, cursor_part, base_line, rows_before, first_row, wrapped_place}
-use Rattle.rtui_area.specs.TextAreas.{grapheme_drawing, number_drawing, row_of, turned, row_behind}
+use Rattle.rtui_area.specs.Wraps.{wrapped_line_rows, row_past, wrapped_place_at, former_row}
+use Rattle.rtui_area.specs.Windows.{window_start, cursor_row, cursor_part, base_line, rows_above_cursor, first_shown_row, wrapped_place}
+use Rattle.rtui_area.specs.TextAreas.{grapheme_drawing, number_drawing, wrapped_row, turned, row_behind}
 use Rattle.rtui_area.specs.TextAreas.{row_style_drawing, first_number_drawing}
 use Rattle.rtui_area.specs.TextAreas.{wrapped_grapheme_drawing, wrapped_graphemes_drawing, wrapped_line_drawing, wrapped_lines_drawing}
 
@@ -36,32 +36,32 @@ turned-within stride column some =
 
 -- the next line is counted, and none is left
 pub row-next : (w : TextAreaWidget) (stride row i end : ℕ) → i < end
-    → row_past w stride row i (end - i) ≡ row_past w stride (past row (line_rows w stride i)) (i + 1) (end - (i + 1))
+    → row_past w stride row i (end - i) ≡ row_past w stride (past row (wrapped_line_rows w stride i)) (i + 1) (end - (i + 1))
 row-next w stride row i end lt = let more : end - i ≡ suc (end - (i + 1)) = omega arith in rw more refl
 
 pub row-end : (w : TextAreaWidget) (stride row i end : ℕ) → end ≤ i → row_past w stride row i (end - i) ≡ row
 row-end w stride row i end le = let none : end - i ≡ 0 = omega arith in rw none refl
 
 -- a row stands in a line, or in a later one
-pub settled-here : (w : TextAreaWidget) (stride row i end : ℕ) → i < end → row < line_rows w stride i
-    → settled w stride row i (end - i) ≡ (i, row)
-settled-here w stride row i end lt here =
+pub wrapped_place_at-here : (w : TextAreaWidget) (stride row i end : ℕ) → i < end → row < wrapped_line_rows w stride i
+    → wrapped_place_at w stride row i (end - i) ≡ (i, row)
+wrapped_place_at-here w stride row i end lt here =
     let more : end - i ≡ suc (end - (i + 1)) = omega arith in
-    let test : nat_lt row (line_rows w stride i) ≡ true = grind (arith, nat_tests) in rw (more, test) refl
+    let test : nat_lt row (wrapped_line_rows w stride i) ≡ true = grind (arith, nat_tests) in rw (more, test) refl
 
-pub settled-next : (w : TextAreaWidget) (stride row i end : ℕ) → i < end → line_rows w stride i ≤ row
-    → settled w stride row i (end - i) ≡ settled w stride (row - line_rows w stride i) (i + 1) (end - (i + 1))
-settled-next w stride row i end lt later =
+pub wrapped_place_at-next : (w : TextAreaWidget) (stride row i end : ℕ) → i < end → wrapped_line_rows w stride i ≤ row
+    → wrapped_place_at w stride row i (end - i) ≡ wrapped_place_at w stride (row - wrapped_line_rows w stride i) (i + 1) (end - (i + 1))
+wrapped_place_at-next w stride row i end lt later =
     let more : end - i ≡ suc (end - (i + 1)) = omega arith in
-    let test : nat_lt row (line_rows w stride i) ≡ false = grind (arith, nat_tests) in rw (more, test) refl
+    let test : nat_lt row (wrapped_line_rows w stride i) ≡ false = grind (arith, nat_tests) in rw (more, test) refl
 
-pub settled-end : (w : TextAreaWidget) (stride row i end : ℕ) → end ≤ i → settled w stride row i (end - i) ≡ (i, row)
-settled-end w stride row i end le = let none : end - i ≡ 0 = omega arith in rw none refl
+pub wrapped_place_at-end : (w : TextAreaWidget) (stride row i end : ℕ) → end ≤ i → wrapped_place_at w stride row i (end - i) ≡ (i, row)
+wrapped_place_at-end w stride row i end le = let none : end - i ≡ 0 = omega arith in rw none refl
 
 -- a grapheme in its row
 pub wrapped-drawn : {A : Type 0} (w : TextAreaWidget) (p q : Plan) (r line part : Rect) (begin column byte row : ℕ) (g : List ℕ)
     (result : Result A AllocError) (old new : BufferData)
-    → row ≡ row_of p begin column → p.above ≤ row → line ≡ cut_from (Rows (row - p.above) 1) r
+    → row ≡ wrapped_row p begin column → p.above ≤ row → line ≡ cut_from (Rows (row - p.above) 1) r
     → part ≡ cut_from (After p.numbers) line → q ≡ turned p column
     → IsDone (grapheme_drawing w q part.width column byte g) part result old new
     → IsDone (wrapped_grapheme_drawing w p r.width begin column byte g) r result old new
@@ -76,24 +76,24 @@ wrapped-drawn w p q r line part begin column byte row g result old new row_is le
 
 -- above the view there is none
 pub wrapped-hidden : (w : TextAreaWidget) (p : Plan) (width begin column byte row : ℕ) (g : List ℕ)
-    → row ≡ row_of p begin column → row < p.above → wrapped_grapheme_drawing w p width begin column byte g ≡ nothing
+    → row ≡ wrapped_row p begin column → row < p.above → wrapped_grapheme_drawing w p width begin column byte g ≡ nothing
 wrapped-hidden w p width begin column byte row g row_is lt =
-    let test : nat_le p.above (row_of p begin column) ≡ false = grind (arith, nat_tests) in rw test refl
+    let test : nat_le p.above (wrapped_row p begin column) ≡ false = grind (arith, nat_tests) in rw test refl
 
 -- the next grapheme
 pub wrapped-next : (w : TextAreaWidget) (p : Plan) (r : Rect) (begin column byte : ℕ) (g : List ℕ) (gs left : List (List ℕ))
-    → left ≡ g ∷ gs → row_of p begin column - p.above < r.height
+    → left ≡ g ∷ gs → wrapped_row p begin column - p.above < r.height
     → wrapped_graphemes_drawing w p r begin column byte left ≡ (wrapped_grapheme_drawing w p r.width begin column byte g
     before wrapped_graphemes_drawing w p r begin (past column (columns_of_grapheme w.tab column g)) (past byte (length g)) gs)
 wrapped-next w p r begin column byte g gs left is lt =
-    let test : nat_lt (row_of p begin column - p.above) r.height ≡ true = grind (arith, nat_tests) in rw (is, test) refl
+    let test : nat_lt (wrapped_row p begin column - p.above) r.height ≡ true = grind (arith, nat_tests) in rw (is, test) refl
 
 -- nothing is left behind the last row
 pub wrapped-end : (w : TextAreaWidget) (p : Plan) (r : Rect) (begin column byte : ℕ) (gs : List (List ℕ))
-    → r.height ≤ row_of p begin column - p.above → wrapped_graphemes_drawing w p r begin column byte gs ≡ nothing
+    → r.height ≤ wrapped_row p begin column - p.above → wrapped_graphemes_drawing w p r begin column byte gs ≡ nothing
 wrapped-end w p r begin column byte [] le = refl
 wrapped-end w p r begin column byte (g ∷ gs) le =
-    let test : nat_lt (row_of p begin column - p.above) r.height ≡ false = grind (arith, nat_tests) in rw test refl
+    let test : nat_lt (wrapped_row p begin column - p.above) r.height ≡ false = grind (arith, nat_tests) in rw test refl
 
 -- the style of a line's rows
 pub style-drawn : (w : TextAreaWidget) (p : Plan) (r part : Rect) (begin i y rows : ℕ) (is_lit : Bool) (old new : BufferData)
@@ -151,28 +151,28 @@ lines-end w p r begin i k le = let none : r.height - k ≡ 0 = omega arith in rw
 window-stays : (first place room : ℕ) → first ≤ place → place < first + room → window_start first place room ≡ first
 window-stays first place room le lt = omega (arith, le, lt)
 
-settled-stays : (w : TextAreaWidget) (stride row i n : ℕ) → row < line_rows w stride i → settled w stride row i n ≡ (i, row)
-settled-stays w stride row i zero lt = refl
-settled-stays w stride row i (suc n) lt =
-    let test : nat_lt row (line_rows w stride i) ≡ true = grind (arith, nat_tests) in rw test refl
+wrapped_place_at-stays : (w : TextAreaWidget) (stride row i n : ℕ) → row < wrapped_line_rows w stride i → wrapped_place_at w stride row i n ≡ (i, row)
+wrapped_place_at-stays w stride row i zero lt = refl
+wrapped_place_at-stays w stride row i (suc n) lt =
+    let test : nat_lt row (wrapped_line_rows w stride i) ≡ true = grind (arith, nat_tests) in rw test refl
 
 pub wrapped-stays : (w : TextAreaWidget) (v : AreaView) (stride height : ℕ) → v.top ≤ cursor_row w
-    → cursor_row w < v.top + height → v.row < line_rows w stride v.top → v.row ≤ rows_before w stride v.top
-    → rows_before w stride v.top < v.row + height → wrapped_place w v stride height ≡ (v.top, v.row)
+    → cursor_row w < v.top + height → v.row < wrapped_line_rows w stride v.top → v.row ≤ rows_above_cursor w stride v.top
+    → rows_above_cursor w stride v.top < v.row + height → wrapped_place w v stride height ≡ (v.top, v.row)
 wrapped-stays w v stride height top bottom row above below =
     let line : base_line w v height ≡ v.top = window-stays v.top (cursor_row w) height top bottom in
     let same : (v.top == v.top) ≡ true = grind (arith, nat_tests) in
-    let former : former_row v v.top (rows_before w stride v.top) ≡ v.row = rw same refl in
-    let first : first_row w v stride v.top height ≡ v.row =
-    rw former (window-stays v.row (rows_before w stride v.top) height above below) in
-    rw (line, first) (settled-stays w stride v.row v.top (cursor_row w - v.top) row)
+    let former : former_row v v.top (rows_above_cursor w stride v.top) ≡ v.row = rw same refl in
+    let first : first_shown_row w v stride v.top height ≡ v.row =
+    rw former (window-stays v.row (rows_above_cursor w stride v.top) height above below) in
+    rw (line, first) (wrapped_place_at-stays w stride v.row v.top (cursor_row w - v.top) row)
 
 -- the view as it is computed
 pub place-is : (w : TextAreaWidget) (v : AreaView) (stride height row part line rows cursor former first : ℕ) (place : ℕ × ℕ)
     → row ≡ cursor_row w → part ≡ cursor_part w stride → line ≡ window_start v.top row height
     → rows ≡ row_past w stride 0 line (row - line) → cursor ≡ past rows part
     → former ≡ former_row v line cursor → first ≡ window_start former cursor height
-    → place ≡ settled w stride first line (row - line) → place ≡ wrapped_place w v stride height
+    → place ≡ wrapped_place_at w stride first line (row - line) → place ≡ wrapped_place w v stride height
 place-is w v stride height row part line rows cursor former first place row_is part_is line_is rows_is cursor_is former_is
     first_is place_is =
     rw (first_is, former_is, cursor_is, rows_is, line_is, row_is, part_is) at place_is
@@ -181,6 +181,6 @@ pub y-is : (w : TextAreaWidget) (v : AreaView) (stride height row part line rows
     → row ≡ cursor_row w → part ≡ cursor_part w stride → line ≡ window_start v.top row height
     → rows ≡ row_past w stride 0 line (row - line) → cursor ≡ past rows part
     → former ≡ former_row v line cursor → first ≡ window_start former cursor height → y ≡ cursor - first
-    → y ≡ rows_before w stride (base_line w v height) - first_row w v stride (base_line w v height) height
+    → y ≡ rows_above_cursor w stride (base_line w v height) - first_shown_row w v stride (base_line w v height) height
 y-is w v stride height row part line rows cursor former first y row_is part_is line_is rows_is cursor_is former_is first_is y_is =
     rw (first_is, former_is, cursor_is, rows_is, line_is, row_is, part_is) at y_is

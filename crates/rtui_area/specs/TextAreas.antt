@@ -16,7 +16,7 @@ use Rattle.rtui_area.specs.declared.view.AreaView.{AreaView}
 use Rattle.rtui_area.specs.declared.plan.Plan.{Plan}
 use Rattle.rtui_area.specs.declared.widget.TextAreaWidget.{TextAreaWidget}
 use Rattle.rtui_area.specs.Columns.{columns_of_grapheme, past, column_past, column_behind}
-use Rattle.rtui_area.specs.Wraps.{row_count}
+use Rattle.rtui_area.specs.Wraps.{rows_of_columns}
 use Rattle.rtui_area.specs.Windows.{plan_of, next_view, cursor_forgotten}
 
 -- a widget of a text without a box and numbers, in which nothing has a style but what is selected, which is
@@ -92,8 +92,8 @@ numbered_rows_drawing w p width k (suc n) =
 -- The same where lines are wrapped. Rows are counted from the first one of the view's first line on, and some of them are
 -- above the view.
 -- a column of a line that begins in a row: its row
-abbrev pub row_of : Plan → ℕ → ℕ → ℕ
-row_of p begin column = past begin (column / p.stride)
+abbrev pub wrapped_row : Plan → ℕ → ℕ → ℕ
+wrapped_row p begin column = past begin (column / p.stride)
 
 -- the part of a line that stands in one row with a column
 abbrev pub turned : Plan → ℕ → Plan
@@ -102,7 +102,7 @@ turned p column = record p { left = column - column % p.stride }
 -- a grapheme, in the row in which it begins; above the view there is none
 abbrev pub wrapped_grapheme_drawing : TextAreaWidget → Plan → ℕ → ℕ → ℕ → ℕ → List ℕ → Drawing
 wrapped_grapheme_drawing w p width begin column byte g =
-    let row = row_of p begin column in
+    let row = wrapped_row p begin column in
     draw_if (nat_le p.above row) (over (Rows (row - p.above) 1) (over (After p.numbers)
     (grapheme_drawing w (turned p column) (width - p.numbers) column byte g)))
 
@@ -110,7 +110,7 @@ wrapped_grapheme_drawing w p width begin column byte g =
 abbrev pub wrapped_graphemes_drawing : TextAreaWidget → Plan → Rect → ℕ → ℕ → ℕ → List (List ℕ) → Drawing
 wrapped_graphemes_drawing w p r begin column byte [] = nothing
 wrapped_graphemes_drawing w p r begin column byte (g ∷ gs) =
-    draw_if (nat_lt (row_of p begin column - p.above) r.height) (wrapped_grapheme_drawing w p r.width begin column byte g
+    draw_if (nat_lt (wrapped_row p begin column - p.above) r.height) (wrapped_grapheme_drawing w p r.width begin column byte g
     before wrapped_graphemes_drawing w p r begin (past column (columns_of_grapheme w.tab column g)) (past byte (length g)) gs)
 
 -- the column after the line of a number
@@ -121,7 +121,7 @@ end_column w p i =
 
 -- the row after that line, which begins in a row
 abbrev pub row_behind : TextAreaWidget → Plan → ℕ → ℕ → ℕ
-row_behind w p begin i = past begin (row_count p.stride (end_column w p i))
+row_behind w p begin i = past begin (rows_of_columns p.stride (end_column w p i))
 
 -- the style of the cursor's line, over all of its rows that are in view
 abbrev pub row_style_drawing : TextAreaWidget → Plan → Rect → ℕ → ℕ → Drawing

@@ -9,7 +9,7 @@ use Rattle.rtui_area.specs.declared.view.AreaView.{AreaView}
 use Rattle.rtui_area.specs.declared.plan.Plan.{Plan}
 use Rattle.rtui_area.specs.declared.widget.TextAreaWidget.{TextAreaWidget}
 use Rattle.rtui_area.specs.Columns.{column_past, column_behind, past}
-use Rattle.rtui_area.specs.Wraps.{stride_of, row_past, settled, former_row}
+use Rattle.rtui_area.specs.Wraps.{stride_of, row_past, wrapped_place_at, former_row}
 
 -- of all windows of so many places that have a place in them, the one that begins nearest to where it began
 abbrev pub window_start : ℕ → ℕ → ℕ → ℕ
@@ -66,18 +66,18 @@ abbrev pub cursor_part : TextAreaWidget → ℕ → ℕ
 cursor_part w stride = min (cursor_column w / stride) ((cursor_end w - 1) / stride)
 
 -- how many rows from there on are before the cursor's
-abbrev pub rows_before : TextAreaWidget → ℕ → ℕ → ℕ
-rows_before w stride i = past (row_past w stride 0 i (cursor_row w - i)) (cursor_part w stride)
+abbrev pub rows_above_cursor : TextAreaWidget → ℕ → ℕ → ℕ
+rows_above_cursor w stride i = past (row_past w stride 0 i (cursor_row w - i)) (cursor_part w stride)
 
 -- and before the view
-abbrev pub first_row : TextAreaWidget → AreaView → ℕ → ℕ → ℕ → ℕ
-first_row w v stride i height =
-    window_start (former_row v i (rows_before w stride i)) (rows_before w stride i) height
+abbrev pub first_shown_row : TextAreaWidget → AreaView → ℕ → ℕ → ℕ → ℕ
+first_shown_row w v stride i height =
+    window_start (former_row v i (rows_above_cursor w stride i)) (rows_above_cursor w stride i) height
 
 -- the line and the row of it with which the view begins
 abbrev pub wrapped_place : TextAreaWidget → AreaView → ℕ → ℕ → ℕ × ℕ
 wrapped_place w v stride height =
-    let i = base_line w v height in settled w stride (first_row w v stride i height) i (cursor_row w - i)
+    let i = base_line w v height in wrapped_place_at w stride (first_shown_row w v stride i height) i (cursor_row w - i)
 
 abbrev pub wrapped_plan : TextAreaWidget → AreaView → Rect → Plan
 wrapped_plan w v r =
@@ -92,7 +92,7 @@ wrapped_plan w v r =
       row = cursor_row w;
       column = cursor_column w;
       x = if nat_lt (cursor_part w stride) (cursor_column w / stride) then r.width - n - 1 else cursor_column w % stride;
-      y = rows_before w stride i - first_row w v stride i r.height;
+      y = rows_above_cursor w stride i - first_shown_row w v stride i r.height;
       from = (selection w.text.now).0;
       to = (selection w.text.now).1;
     }

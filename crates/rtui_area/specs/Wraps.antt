@@ -13,23 +13,23 @@ abbrev pub stride_of : ℕ → ℕ
 stride_of room = max (room - 1) 1
 
 -- how many rows a line takes that ends before a column: as many as have a column of it, and at least one
-abbrev pub row_count : ℕ → ℕ → ℕ
-row_count stride end = past ((end - 1) / stride) 1
+abbrev pub rows_of_columns : ℕ → ℕ → ℕ
+rows_of_columns stride end = past ((end - 1) / stride) 1
 
-abbrev pub line_rows : TextAreaWidget → ℕ → ℕ → ℕ
-line_rows w stride i = row_count stride (column_behind w.tab (nth_line i (area_text w.text.now)))
+abbrev pub wrapped_line_rows : TextAreaWidget → ℕ → ℕ → ℕ
+wrapped_line_rows w stride i = rows_of_columns stride (column_behind w.tab (nth_line i (area_text w.text.now)))
 
 -- the row after n lines from one on, the first of which begins in a row
 abbrev pub row_past : TextAreaWidget → ℕ → ℕ → ℕ → ℕ → ℕ
 row_past w stride row i zero = row
-row_past w stride row i (suc n) = row_past w stride (past row (line_rows w stride i)) (i + 1) n
+row_past w stride row i (suc n) = row_past w stride (past row (wrapped_line_rows w stride i)) (i + 1) n
 
 -- in which line a row stands that is counted from the first one of a line on, and in which row of that line; it is sought
 -- in n lines and the one after them
-abbrev pub settled : TextAreaWidget → ℕ → ℕ → ℕ → ℕ → ℕ × ℕ
-settled w stride row i zero = (i, row)
-settled w stride row i (suc n) =
-    if nat_lt row (line_rows w stride i) then (i, row) else settled w stride (row - line_rows w stride i) (i + 1) n
+abbrev pub wrapped_place_at : TextAreaWidget → ℕ → ℕ → ℕ → ℕ → ℕ × ℕ
+wrapped_place_at w stride row i zero = (i, row)
+wrapped_place_at w stride row i (suc n) =
+    if nat_lt row (wrapped_line_rows w stride i) then (i, row) else wrapped_place_at w stride (row - wrapped_line_rows w stride i) (i + 1) n
 
 -- in which row a view began, counted from the first one of a line on: in the cursor's or below it, if it began below that
 -- line, and above all others, if it began above it

@@ -5,8 +5,8 @@ ghost use Rattle.ratatui_core.specs.Layout.{Rect};
 ghost use Rattle.rtui_area.specs.declared.view.AreaView.{AreaView};
 ghost use Rattle.rtui_area.specs.declared.widget.TextAreaWidget.{TextAreaWidget};
 ghost use Rattle.rtui_area.specs.Columns.{past, columns_of_grapheme, column_past};
-ghost use Rattle.rtui_area.specs.Wraps.{row_count, line_rows, row_past, in_rows};
-ghost use Rattle.rtui_area.specs.Windows.{window_start, cursor_row, base_line, rows_before};
+ghost use Rattle.rtui_area.specs.Wraps.{rows_of_columns, wrapped_line_rows, row_past, in_rows};
+ghost use Rattle.rtui_area.specs.Windows.{window_start, cursor_row, base_line, rows_above_cursor};
 ghost use Rattle.rtui_area.specs.Windows.{cursor_part, wrapped_place, wrapped_plan};
 
 /// The view stays where it is as long as the cursor stands in it.
@@ -36,14 +36,14 @@ pub fn the_rows_of_a_line_are_the_line()
     ensures { (tab stride : ℕ) (gs : List (List ℕ)) → 0 < stride
         → All (λ g. (column : ℕ) → 0 < columns_of_grapheme tab column g) gs
         → column_past tab 0 gs < 18446744073709551615
-        → in_rows tab stride 0 0 gs (row_count stride (column_past tab 0 gs)) ≡ gs }
+        → in_rows tab stride 0 0 gs (rows_of_columns stride (column_past tab 0 gs)) ≡ gs }
 {}
 
 /// The view of wrapped lines stays where it is as long as the cursor stands in it.
 pub fn the_wrapped_view_stays_if_it_can()
     ensures { (w : TextAreaWidget) (v : AreaView) (stride height : ℕ)
-        → v.top ≤ cursor_row w → cursor_row w < v.top + height → v.row < line_rows w stride v.top
-        → v.row ≤ rows_before w stride v.top → rows_before w stride v.top < v.row + height
+        → v.top ≤ cursor_row w → cursor_row w < v.top + height → v.row < wrapped_line_rows w stride v.top
+        → v.row ≤ rows_above_cursor w stride v.top → rows_above_cursor w stride v.top < v.row + height
         → wrapped_place w v stride height ≡ (v.top, v.row) }
 {}
 
@@ -52,7 +52,7 @@ pub fn the_wrapped_view_stays_if_it_can()
 /// each text.
 pub fn the_cursor_stands_in_its_row()
     ensures { (w : TextAreaWidget) (v : AreaView) (r : Rect) → let p = wrapped_plan w v r in
-        rows_before w p.stride (base_line w v r.height) < 18446744073709551615
+        rows_above_cursor w p.stride (base_line w v r.height) < 18446744073709551615
         → past (row_past w p.stride 0 p.top (p.row - p.top)) (cursor_part w p.stride) - p.above
         ≡ p.y }
 {}

@@ -5,10 +5,10 @@ ghost use Rattle.std.specs.Prelude.{if◌then◌else◌};
 ghost use Rattle.std.specs.Str.{IsCharBoundary};
 ghost use Rattle.text_area.specs.Lines.{feeds, nth_start};
 ghost use Rattle.text_area.specs.Areas.{area_text};
-ghost use Rattle.rtui_area.specs.Wraps.{stride_of, row_count, line_rows, row_past, settled};
+ghost use Rattle.rtui_area.specs.Wraps.{stride_of, rows_of_columns, wrapped_line_rows, row_past, wrapped_place_at};
 ghost use Rattle.rtui_area.specs.Wraps.{former_row};
-ghost use Rattle.rtui_area.specs.Windows.{cursor_row, cursor_part, base_line, rows_before};
-ghost use Rattle.rtui_area.specs.Windows.{first_row, wrapped_place};
+ghost use Rattle.rtui_area.specs.Windows.{cursor_row, cursor_part, base_line, rows_above_cursor};
+ghost use Rattle.rtui_area.specs.Windows.{first_shown_row, wrapped_place};
 
 use crate::columns::{column_behind, past, window_start};
 use crate::view::AreaView;
@@ -25,9 +25,9 @@ pub(crate) fn stride_of(room: u16) -> u16
 }
 
 // How many rows a line takes that ends before a column.
-pub(crate) fn row_count(stride: u16, end: usize) -> usize
+pub(crate) fn rows_of_columns(stride: u16, end: usize) -> usize
     requires { 0 < stride }
-    ensures { result ≡ row_count stride end }
+    ensures { result ≡ rows_of_columns stride end }
 {
     past(end.saturating_sub(1) / usize::from(stride), 1)
 }
@@ -72,13 +72,13 @@ fn former_row(view: AreaView, line: usize, cursor: usize) -> usize
 
 impl<'a> TextAreaWidget<'a> {
     // How many rows the line of a number takes, which begins at a byte.
-    fn line_rows(&self, stride: u16, number: usize, start: usize) -> usize
+    fn wrapped_line_rows(&self, stride: u16, number: usize, start: usize) -> usize
         requires some { 0 < stride }
         requires start { start ≡ nth_start number (area_text self.now.text.now) }
         requires boundary { IsCharBoundary (area_text self.now.text.now) start }
-        ensures { result ≡ line_rows self.now stride number }
+        ensures { result ≡ wrapped_line_rows self.now stride number }
     {
-        row_count(stride, column_behind(self.tab, self.text.line_from(start)))
+        rows_of_columns(stride, column_behind(self.tab, self.text.line_from(start)))
     }
 
     // The row in which a line begins, counted from the first one of the line on that begins at a
@@ -94,7 +94,7 @@ impl<'a> TextAreaWidget<'a> {
         let mut row = 0;
         let mut start = first;
         for i in number..end {
-            row = past(row, self.line_rows(stride, i, start));
+            row = past(row, self.wrapped_line_rows(stride, i, start));
             let Some(next) = self.text.start_after(i, start) else {
                 return row;
             };
@@ -105,7 +105,7 @@ impl<'a> TextAreaWidget<'a> {
 
     // In which line a row stands, and in which row of that line. It is counted from the first one
     // of the line on that begins at a byte, and stands in that line or in one up to another line.
-    fn settled(
+    fn wrapped_place_at(
         &self,
         stride: u16,
         from: usize,
@@ -118,12 +118,12 @@ impl<'a> TextAreaWidget<'a> {
         requires within { end ≤ feeds (area_text self.now.text.now) }
         requires first { first ≡ nth_start number (area_text self.now.text.now) }
         requires boundary { IsCharBoundary (area_text self.now.text.now) first }
-        ensures { result ≡ settled self.now stride from number (end - number) }
+        ensures { result ≡ wrapped_place_at self.now stride from number (end - number) }
     {
         let mut row = from;
         let mut start = first;
         for i in number..end {
-            let rows = self.line_rows(stride, i, start);
+            let rows = self.wrapped_line_rows(stride, i, start);
             if row < rows {
                 return (i, row);
             }
@@ -153,7 +153,7 @@ impl<'a> TextAreaWidget<'a> {
         ensures top { result.0 ≡ (wrapped_place self.now view stride height).0 }
         ensures above { result.1 ≡ (wrapped_place self.now view stride height).1 }
         ensures y { let i = base_line self.now view height in
-            result.2 ≡ rows_before self.now stride i - first_row self.now view stride i height }
+            result.2 ≡ rows_above_cursor self.now stride i - first_shown_row self.now view stride i height }
         ensures within { result.2 < height }
     {
         let line = window_start(view.top, row, height);
@@ -163,7 +163,7 @@ impl<'a> TextAreaWidget<'a> {
         let rows = self.row_past(stride, line, start, row);
         let cursor = past(rows, part);
         let first = window_start(former_row(view, line, cursor), cursor, height);
-        let (top, above) = self.settled(stride, first, line, start, row);
+        let (top, above) = self.wrapped_place_at(stride, first, line, start, row);
         (top, above, (cursor - first) as u16)
     }
 }

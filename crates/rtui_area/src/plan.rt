@@ -1,7 +1,7 @@
 //! What is shown in an area.
 
 ghost use Rattle.std.specs.Prelude.{◌≡◌, ◌<◌, ◌≤◌, ◌-◌};
-ghost use Rattle.rtui_area.specs.TextAreas.{is_selected, row_of, turned};
+ghost use Rattle.rtui_area.specs.TextAreas.{is_selected, wrapped_row, turned};
 
 use crate::columns::past;
 
@@ -33,9 +33,9 @@ impl Plan {
     }
 
     // The row in which a column stands of a line that begins in a row.
-    pub(crate) fn row_of(&self, begin: usize, column: usize) -> usize
+    pub(crate) fn wrapped_row(&self, begin: usize, column: usize) -> usize
         requires { 0 < self.now.stride }
-        ensures { result ≡ row_of self.now begin column }
+        ensures { result ≡ wrapped_row self.now begin column }
     {
         past(begin, column / usize::from(self.stride))
     }

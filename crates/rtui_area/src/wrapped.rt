@@ -8,14 +8,14 @@ ghost use Rattle.rtui_boxes.specs.Boxes.{IsBoxArea};
 ghost use Rattle.rtui_drawing.specs.Drawings.{DrawsAll, IsDone};
 ghost use Rattle.text_area.specs.Lines.{feeds, nth_start};
 ghost use Rattle.text_area.specs.Areas.{area_text};
-ghost use Rattle.rtui_area.specs.TextAreas.{row_of, end_column, row_behind};
+ghost use Rattle.rtui_area.specs.TextAreas.{wrapped_row, end_column, row_behind};
 ghost use Rattle.rtui_area.specs.TextAreas.{row_style_drawing, first_number_drawing};
 ghost use Rattle.rtui_area.specs.TextAreas.{wrapped_grapheme_drawing, wrapped_graphemes_drawing};
 ghost use Rattle.rtui_area.specs.TextAreas.{wrapped_text_drawing};
 ghost use Rattle.rtui_area.specs.TextAreas.{wrapped_line_drawing, wrapped_lines_drawing};
 
 use crate::columns::{column_behind, column_past, past};
-use crate::places::row_count;
+use crate::places::rows_of_columns;
 use crate::plan::Plan;
 use crate::rows::{Place, put_style_if};
 use crate::widget::TextAreaWidget;
@@ -41,12 +41,12 @@ impl<'a> TextAreaWidget<'a> {
         requires inside { IsInside inner buf.old.area }
         requires stride { 0 < plan.now.stride }
         requires numbers { plan.now.numbers + plan.now.stride ≤ inner.width }
-        requires there { row_of plan.now begin at.column - plan.now.above < inner.height }
+        requires there { wrapped_row plan.now begin at.column - plan.now.above < inner.height }
         ensures done { let d = wrapped_grapheme_drawing self.now plan.now inner.width begin
             at.column at.byte grapheme.now in IsDone d inner result buf.old buf.new }
         ensures area { buf.new.area ≡ buf.old.area }
     {
-        let row = plan.row_of(begin, at.column);
+        let row = plan.wrapped_row(begin, at.column);
         if row < plan.above {
             return Ok(0);
         }
@@ -77,7 +77,7 @@ impl<'a> TextAreaWidget<'a> {
         let mut left = text.graphemes(true);
         let mut at = from;
         'walk: while let Some(grapheme) = left.next() {
-            let row = plan.row_of(begin, at.column);
+            let row = plan.wrapped_row(begin, at.column);
             if row.saturating_sub(plan.above) >= usize::from(inner.height) {
                 return Ok(());
             }
@@ -108,7 +108,7 @@ impl<'a> TextAreaWidget<'a> {
         ensures { result ≡ row_behind self.now plan.now begin number }
     {
         let end = self.end_column(plan, number, start);
-        past(begin, row_count(plan.stride, end))
+        past(begin, rows_of_columns(plan.stride, end))
     }
 
     // Lays the style of the cursor's line over a line's rows in view, if it is that. The line begins

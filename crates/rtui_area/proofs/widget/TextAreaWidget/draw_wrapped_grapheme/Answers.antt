@@ -8,14 +8,14 @@ use Rattle.rtui_area.proofs.widget.TextAreaWidget.draw_wrapped_grapheme.Goals as
 pub returns-then-row-plan-clause-done : goal.returns-then-row-plan-clause-done
 returns-then-row-plan-clause-done c =
     let none = wrapped-hidden c.args.self.now c.args.plan.now c.args.inner.width c.args.begin c.args.at.column c.args.at.byte
-    c.row_of-row.result c.args.grapheme.now c.row_of-row.ensures (omega arith) in
+    c.wrapped_row-row.result c.args.grapheme.now c.wrapped_row-row.ensures (omega arith) in
     rw none (done-all refl)
 
 pub draw_grapheme-requires-clause-row : goal.draw_grapheme-requires-clause-row
 draw_grapheme-requires-clause-row c =
     let own = c.args.buf.now.area in
     let line = row-inside own c.args.inner c.of-line.result _ c.requires.some c.requires.inside
-    (omega (arith, c.row_of-row.ensures, c.requires.there)) c.of-line.ensures in
+    (omega (arith, c.wrapped_row-row.ensures, c.requires.there)) c.of-line.ensures in
     rw c.of-part.ensures (row-after own c.of-line.result c.args.plan.now.numbers
     (rw c.of-line.ensures (omega (arith, c.requires.numbers))) line)
 
@@ -26,6 +26,6 @@ draw_grapheme-requires-clause-there c =
 pub returns-clause-done : goal.returns-clause-done
 returns-clause-done c =
     wrapped-drawn c.args.self.now c.args.plan.now c.turned-turned.result c.args.inner c.of-line.result c.of-part.result
-    c.args.begin c.args.at.column c.args.at.byte c.row_of-row.result c.args.grapheme.now c.draw_grapheme.result
-    c.args.buf.now c.draw_grapheme.new.buf c.row_of-row.ensures (omega arith) c.of-line.ensures c.of-part.ensures
+    c.args.begin c.args.at.column c.args.at.byte c.wrapped_row-row.result c.args.grapheme.now c.draw_grapheme.result
+    c.args.buf.now c.draw_grapheme.new.buf c.wrapped_row-row.ensures (omega arith) c.of-line.ensures c.of-part.ensures
     c.turned-turned.ensures.value c.draw_grapheme.ensures.done

@@ -5,11 +5,11 @@ use Rattle.rtui_area.proofs.widget.TextAreaWidget.row_past.Goals as goal
 pub loop-i-init : goal.loop-i-init
 loop-i-init c = record { start = c.requires.first; boundary = c.requires.boundary; rest = refl }
 
-pub line_rows-requires-clause-start : goal.line_rows-requires-clause-start
-line_rows-requires-clause-start c = c.loop-i.invariant.start
+pub wrapped_line_rows-requires-clause-start : goal.wrapped_line_rows-requires-clause-start
+wrapped_line_rows-requires-clause-start c = c.loop-i.invariant.start
 
-pub line_rows-requires-clause-boundary : goal.line_rows-requires-clause-boundary
-line_rows-requires-clause-boundary c = c.loop-i.invariant.boundary
+pub wrapped_line_rows-requires-clause-boundary : goal.wrapped_line_rows-requires-clause-boundary
+wrapped_line_rows-requires-clause-boundary c = c.loop-i.invariant.boundary
 
 pub start_after-requires-clause-start : goal.start_after-requires-clause-start
 start_after-requires-clause-start c = c.loop-i.invariant.start
@@ -27,7 +27,7 @@ loop-i-preserved c =
     record {
       start = rw c.in-Some.is at c.start_after.ensures.some;
       boundary = rw c.in-Some.is at c.start_after.ensures.boundary;
-      rest = rw (c.past-row.ensures, c.line_rows.ensures) (rw next at c.loop-i.invariant.rest);
+      rest = rw (c.past-row.ensures, c.wrapped_line_rows.ensures) (rw next at c.loop-i.invariant.rest);
     }
 
 pub returns : goal.returns

@@ -11,15 +11,15 @@ pub returns-clause-top : goal.returns-clause-top
 returns-clause-top c =
     ap (λ p. p.0) (place-is c.args.self.now c.args.view c.args.stride c.args.height c.args.row c.args.part
     c.window_start-line.result c.row_past-rows.result c.past-cursor.result c.former_row.result c.window_start-first.result
-    c.settled-top.result c.requires.row c.requires.part c.window_start-line.ensures.value c.row_past-rows.ensures
-    c.past-cursor.ensures c.former_row.ensures c.window_start-first.ensures.value c.settled-top.ensures)
+    c.wrapped_place_at-top.result c.requires.row c.requires.part c.window_start-line.ensures.value c.row_past-rows.ensures
+    c.past-cursor.ensures c.former_row.ensures c.window_start-first.ensures.value c.wrapped_place_at-top.ensures)
 
 pub returns-clause-above : goal.returns-clause-above
 returns-clause-above c =
     ap (λ p. p.1) (place-is c.args.self.now c.args.view c.args.stride c.args.height c.args.row c.args.part
     c.window_start-line.result c.row_past-rows.result c.past-cursor.result c.former_row.result c.window_start-first.result
-    c.settled-top.result c.requires.row c.requires.part c.window_start-line.ensures.value c.row_past-rows.ensures
-    c.past-cursor.ensures c.former_row.ensures c.window_start-first.ensures.value c.settled-top.ensures)
+    c.wrapped_place_at-top.result c.requires.row c.requires.part c.window_start-line.ensures.value c.row_past-rows.ensures
+    c.past-cursor.ensures c.former_row.ensures c.window_start-first.ensures.value c.wrapped_place_at-top.ensures)
 
 pub returns-clause-y : goal.returns-clause-y
 returns-clause-y c =
