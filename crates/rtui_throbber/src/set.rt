@@ -1,7 +1,7 @@
 //! The sets of symbols.
 
 /// The symbols of a throbber: one that is full, one that is empty, and those that stand in turn.
-/// Each symbol takes one column.
+/// The symbols of the named sets take one column each.
 #[derive(Debug, Clone, Copy, PartialEq, Eq)]
 pub struct Set {
     pub full: &'static str,
