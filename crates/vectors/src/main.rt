@@ -3,7 +3,8 @@
 //!
 //! `vectors FILE..` reads files of rows. It prints for each file how many rows hold, or each row
 //! that doesn't with both answers, and then ends with status 1. `data/README.md` says what a row
-//! is. For a number in place of a file it makes so many requests for memory of its own, and says
+//! is; those of `keys.rows`, `split.rows`, `split_cases.rows` and `files.rows` are read by the crates
+//! `row_keys`, `row_splits` and `row_files`, which say what they are. For a number in place of a file it makes so many requests for memory of its own, and says
 //! which of them is refused, if one is: so `tools/refusals` chooses the request that is refused.
 #![tactic(auto)]
 
@@ -15,19 +16,14 @@ use std::alloc::Global;
 use std::process::ExitCode;
 use std::{env, fs, io};
 
-// Checks the rows of a file, and prints what came of them; how many don't hold. A file that can't be
-// read counts as one.
-fn check_file(rt: &HostRuntime, alloc: Global, name: &str) -> io::Result<usize> {
-    let text = match fs::read_to_string(rt, name) {
-        Ok(text) => text,
-        Err(fault) => {
-            eprintln!(rt; "vectors: {name}: {fault}")?;
-            return Ok(1);
-        }
-    };
+/// Where `files.rows` are done to the system's files.
+const FOLDER: &str = "files.folder";
+
+// Checks rows of calls, and prints what came of them; how many don't hold.
+fn check_calls(rt: &HostRuntime, alloc: Global, name: &str, text: &str) -> io::Result<usize> {
     let subject = name.strip_suffix(".rows").unwrap_or(name);
     let mut tally = Tally::new(alloc);
-    for line in text.as_str().lines() {
+    for line in text.lines() {
         rows::check(alloc, subject, line, &mut tally)?;
     }
     let report = tally.report.as_str();
@@ -39,6 +35,25 @@ fn check_file(rt: &HostRuntime, alloc: Global, name: &str) -> io::Result<usize> 
         println!(rt; "{subject}: {held} rows hold, {failed} don't")?;
     }
     Ok(failed)
+}
+
+// Checks the rows of a file, and prints what came of them; how many don't hold. A file that can't be
+// read counts as one.
+fn check_file(rt: &HostRuntime, name: &str) -> io::Result<usize> {
+    let text = match fs::read_to_string(rt, name) {
+        Ok(text) => text,
+        Err(fault) => {
+            eprintln!(rt; "vectors: {name}: {fault}")?;
+            return Ok(1);
+        }
+    };
+    let text = text.as_str();
+    match name {
+        "keys.rows" => row_keys::check(rt, text),
+        "split.rows" | "split_cases.rows" => row_splits::check(rt, name, text),
+        "files.rows" => row_files::check(rt, text, FOLDER),
+        _ => check_calls(rt, rt.alloc(), name, text),
+    }
 }
 
 // Makes so many requests; the number of the one that is refused.
@@ -55,7 +70,7 @@ fn check_files(rt: &HostRuntime) -> io::Result<usize> {
                 println!(rt; "request {number} refused")?;
             }
         } else {
-            failed = failed.saturating_add(check_file(rt, rt.alloc(), word.as_str())?);
+            failed = failed.saturating_add(check_file(rt, word.as_str())?);
         }
     }
     Ok(failed)

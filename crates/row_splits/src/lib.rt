@@ -1,10 +1,9 @@
-//! The program `row_splits`: divides the areas of rows of text, and compares the parts with those
-//! that the rows name.
+//! Rows of areas that are divided, and the parts that they are to give.
 //!
 //! A row is a direction, how many columns or rows the area has, a flex, a space or an overlap, then
 //! the constraints, and ` = ` with the parts, each by where it begins and its size: `Horizontal 10
 //! Start Space 1: Length 3, Fill 1 = 0+3 4+6`. Where several answers hold, they stand with ` | `
-//! between two. The program prints how many rows hold, and each that doesn't with its answer.
+//! between two.
 #![tactic(auto)]
 
 mod row;
@@ -14,8 +13,7 @@ use rtui_geometry::Rect;
 use rtui_layout::{Direction, Layout};
 use rtui_split::Split;
 use std::alloc::Global;
-use std::process::ExitCode;
-use std::{env, fs, io};
+use std::io;
 
 // The parts of a row's area, as they stand in a row.
 fn answer(alloc: Global, row: Row) -> io::Result<String> {
@@ -56,11 +54,11 @@ fn check_line(rt: &HostRuntime, line: &str) -> io::Result<bool> {
     Ok(false)
 }
 
-// How many rows of a file don't hold.
-fn check_file(rt: &HostRuntime, name: &str) -> io::Result<usize> {
-    let text = fs::read_to_string(rt, name)?;
+/// Prints how many rows of a text that has a name hold, and each that doesn't with its answer;
+/// returns how many don't.
+pub fn check(rt: &HostRuntime, name: &str, text: &str) -> io::Result<usize> {
     let (mut held, mut failed) = (0usize, 0usize);
-    for line in text.as_str().lines() {
+    for line in text.lines() {
         if line.is_empty() || line.starts_with("#") {
             continue;
         }
@@ -72,16 +70,4 @@ fn check_file(rt: &HostRuntime, name: &str) -> io::Result<usize> {
     }
     println!(rt; "{name}: {held} rows hold, {failed} don't")?;
     Ok(failed)
-}
-
-fn main(rt: HostRuntime) -> io::Result<ExitCode> {
-    let mut failed = 0usize;
-    for name in env::args(&rt)?.skip(1) {
-        failed = failed.saturating_add(check_file(&rt, name.as_str())?);
-    }
-    Ok(if failed == 0 {
-        ExitCode::SUCCESS
-    } else {
-        ExitCode::FAILURE
-    })
 }
