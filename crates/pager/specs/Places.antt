@@ -39,7 +39,7 @@ breaking p = record { lines = p.document; wraps = p.wraps; stride = stride p }
 
 -- how many rows a line takes
 abbrev pub rows_of_line : Breaking → List ℕ → ℕ
-rows_of_line t line = if t.wraps then min (last_start 0 (line_symbols [] line)) (2 ^ 32 - 1) / t.stride + 1
+rows_of_line t line = if t.wraps then min (last_start 0 (line_symbols [] [] line)) (2 ^ 32 - 1) / t.stride + 1
     else 1
 
 -- the next row of a text, which goes on behind its end

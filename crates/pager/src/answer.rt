@@ -1,8 +1,8 @@
-//! What an event asks for while a search is typed, and which event leaves the help.
+//! What an event asks for while a search is typed, which mark it names, and which one leaves the help.
 
-ghost use Rattle.std.specs.Prelude.{◌≡◌};
+ghost use Rattle.std.specs.Prelude.{◌≡◌, ◌<◌, IfSome};
 ghost use Rattle.pager.specs.Keys.{code_answer, control_answer, kind_answer, event_answer, is_press_kind};
-ghost use Rattle.pager.specs.Keys.{is_press};
+ghost use Rattle.pager.specs.Keys.{is_press, mark_index, code_mark, event_mark};
 
 use crate::command::has_control_key;
 use ratatui_events::{Event, KeyCode, KeyEvent, KeyEventKind};
@@ -89,5 +89,40 @@ pub fn is_press(event: Event) -> bool
     match event {
         Event::Key(key) => is_press_kind(key.kind),
         _ => false,
+    }
+}
+
+// Where a character's mark is kept.
+fn mark_index(code: char) -> Option<usize>
+    ensures index { result ≡ mark_index code }
+    ensures bound { IfSome result (λ mark. mark < 53) }
+{
+    match code {
+        '\'' => Some(0),
+        'a'..='z' => Some((code as u32 - 96) as usize),
+        'A'..='Z' => Some((code as u32 - 38) as usize),
+        _ => None,
+    }
+}
+
+// The mark that a key names.
+fn code_mark(code: KeyCode) -> Option<usize>
+    ensures index { result ≡ code_mark code }
+    ensures bound { IfSome result (λ mark. mark < 53) }
+{
+    match code {
+        KeyCode::Char(character) => mark_index(character),
+        _ => None,
+    }
+}
+
+/// The mark that an event names.
+pub fn mark_of(event: Event) -> Option<usize>
+    ensures index { result ≡ event_mark event }
+    ensures bound { IfSome result (λ mark. mark < 53) }
+{
+    match event {
+        Event::Key(key) if !has_control_key(key) => code_mark(key.code),
+        _ => None,
     }
 }

@@ -1,6 +1,6 @@
 //! Laws of the pager.
 
-ghost use Rattle.std.specs.Prelude.{◌≡◌, ℕ, List, Option};
+ghost use Rattle.std.specs.Prelude.{◌≡◌, ◌<◌, ℕ, List, Option, Some, length};
 ghost use Rattle.ratatui_core.specs.Layout.{Size};
 ghost use Rattle.ratatui_core.specs.Terminal.{TerminalData};
 ghost use Rattle.ratatui_ansi.specs.Backend.{BackendState};
@@ -10,6 +10,7 @@ ghost use Rattle.ratatui_reads.specs.Sources.{Coming};
 ghost use Rattle.ratatui_app.specs.Showing.{RunsTo};
 ghost use Rattle.ratatui_app.specs.Glass.{sender, RunsOnGlass, RunsAlongGlass, IsOnGlass};
 ghost use Rattle.pager.specs.Moves.{started, updated};
+ghost use Rattle.pager.specs.Search.{next_match, last_match, IsFirstMatch, IsLastMatch};
 ghost use Rattle.pager.specs.Places.{IsInText};
 ghost use Rattle.pager.specs.Paging.{paging, page_size, IsPaged, FillsScreen, FillsAlong, TakesAlong};
 ghost use Rattle.pager.specs.declared.pager.Pager.{Pager};
@@ -26,6 +27,15 @@ pub fn the_place_lies_in_the_text()
     ensures first { (lines : List (List ℕ)) (name pattern : List ℕ) (size : Size)
         → IsInText (started lines name pattern size) }
     ensures next { (p : Pager) (event : Event) → IsInText p → IsInText (updated p event) }
+{}
+
+/// A search passes no match over: it finds the first line from one on that has what is sought, or the
+/// last one before a line.
+pub fn a_search_passes_no_match_over()
+    ensures further { (pattern : List ℕ) (lines : List (List ℕ)) (from k : ℕ)
+        → next_match pattern lines from ≡ Some k → IsFirstMatch pattern lines from k }
+    ensures back { (pattern : List ℕ) (lines : List (List ℕ)) (before k : ℕ)
+        → last_match pattern lines before ≡ Some k → IsLastMatch pattern lines before k }
 {}
 
 /// If no call had failed before a run, then where it stands now each terminal that has read what

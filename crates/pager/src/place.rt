@@ -20,7 +20,7 @@ pub struct Place {
 
 // The column in which the last symbol of a line begins, at most `u32::MAX`.
 fn last_start(line: &str) -> u32
-    ensures { result ≡ min (last_start 0 (line_symbols [] line.now)) (2 ^ 32 - 1) }
+    ensures { result ≡ min (last_start 0 (line_symbols [] [] line.now)) (2 ^ 32 - 1) }
 {
     let mut last = 0u32;
     let mut column = 0u64;

@@ -2,8 +2,9 @@
 //!
 //! `pager_frames FILE COLUMNS ROWS` shows a file on a screen in memory. Each line of standard input
 //! is the bytes of a read: words, each all its characters or the name of a byte (`ESC`, `SP`, `CR`,
-//! `TAB`, `DEL`), and `TICK` a read that finds nothing. After each it prints the screen, with `^`
-//! below what is shown reversed. Then it plays the second half again, in which each kind of key is:
+//! `TAB`, `DEL`), and `TICK` a read that finds nothing. After each it prints the screen, with a sign
+//! below what is styled: `^` reversed, `b` bold, `u` underlined, `B` both, `g` a background, `c` another
+//! colour. Then it plays the second half again, in which each kind of key is:
 //! cut at random places, and compares the last screen; and with each read and each call of the
 //! screen failing in turn, and counts the faults that were told. With wrong words, or if a screen is
 //! another one, the status is 1.
@@ -21,6 +22,7 @@ use crate::frames::{Stage, print_frames};
 use crate::recording::Recording;
 use crate::refused::print_refused;
 use crate::trials::print_trials;
+use pager::parted;
 use ratatui_core::layout::Size;
 use std::process::ExitCode;
 use std::{env, fs, io};
@@ -37,12 +39,18 @@ fn play(rt: &HostRuntime, words: &[String]) -> anyhow::Result<bool> {
     let (Some(file), Some(size)) = (words.get(1), size_of(words)) else {
         return Ok(false);
     };
-    let text = fs::read_to_string(rt, file.as_str())?;
+    let raw = fs::read_to_string(rt, file.as_str())?;
+    let said = parted(rt.alloc(), raw.as_str())?;
+    let text = match &said {
+        Some((text, _)) => text.as_str(),
+        None => raw.as_str(),
+    };
     let script = io::read_to_string(rt.alloc(), rt.reader())?;
     let recording = Recording::read(rt.alloc(), script.as_str(), 0)?;
     let stage = Stage {
         alloc: rt.alloc(),
-        text: text.as_str(),
+        raw: raw.as_str(),
+        text,
         size,
     };
     if let Some(number) = words.get(4) {

@@ -20,7 +20,7 @@ mod words;
 use crate::begin::{taken, typed};
 use crate::error::PagerError;
 use crate::size::{Given, INPUT, OUTPUT, is_terminal, size_for};
-use crate::text::text_of;
+use crate::text::parted_text;
 use crate::words::{command, given_by, name_of};
 use pager::{Document, OwnText, Pager, show};
 use std::io::{self, BufWriter, Read, Write};
@@ -38,13 +38,13 @@ fn page<R: Read>(
     given: Given,
 ) -> Result<(), PagerError> {
     let alloc = rt.alloc();
-    let text = text_of(alloc, bytes).map_err(|_| PagerError::Memory)?;
+    let (text, styles) = parted_text(alloc, bytes).map_err(|_| PagerError::Memory)?;
     let document = Document::new(alloc, text.as_str()).map_err(PagerError::Text)?;
     let name = OwnText::new(String::from_str(alloc, name).map_err(|_| PagerError::Memory)?);
     let pattern = OwnText::new(String::new(alloc));
     let mut writer = BufWriter::new(alloc, io::writer(rt)).map_err(PagerError::Write)?;
     let size = size_for(rt, given, keys, has_ticks, &mut writer)?;
-    let mut pager = Pager::new(document, name, pattern, size);
+    let mut pager = Pager::new(document, name, pattern, size).styled(styles);
     let mut typed = first.as_bytes().chain(keys);
     show(alloc, size, &mut typed, has_ticks, &mut writer, &mut pager).map_err(PagerError::Run)
 }
