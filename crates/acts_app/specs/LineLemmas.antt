@@ -7,13 +7,13 @@ use Rattle.ratatui_core.proofs.WidgetLemmas.{has-first-row, text-settled}
 use Rattle.acts_app.specs.Lines.{PaintsFirstLine}
 
 -- by whether the area has rows
-by-height : (height : ℕ) (text : List ℕ) (blank painted : BufferData) → painted.area.height ≡ height
+line-by_height : (height : ℕ) (text : List ℕ) (blank painted : BufferData) → painted.area.height ≡ height
     → IsEmptied painted.area blank
     → PaintsFirstLine text painted.area blank painted → IsSettledBuffer painted
-by-height zero text blank painted is empty paints =
+line-by_height zero text blank painted is empty paints =
     let same : painted ≡ blank = paints.kept (λ some first. omega (arith, is, some)) in
     subst (λ (s : BufferData). IsSettledBuffer s) (sym same) (IsSettledBuffer-empty painted.area blank empty)
-by-height (suc k) text blank painted is empty paints =
+line-by_height (suc k) text blank painted is empty paints =
     let here : blank.area ≡ painted.area = empty.area in
     let left : blank.area.x ≡ painted.area.x = ap (λ (r : Rect). r.x) here in
     let first = has-first-row painted.area blank (omega (arith, is)) empty in
@@ -23,4 +23,4 @@ by-height (suc k) text blank painted is empty paints =
 pub line-settled : (text : List ℕ) (blank painted : BufferData) → EdgesFit painted.area
     → IsEmptied painted.area blank → PaintsFirstLine text painted.area blank painted → IsSettledBuffer painted
 line-settled text blank painted edges empty paints =
-    by-height painted.area.height text blank painted refl empty paints
+    line-by_height painted.area.height text blank painted refl empty paints

@@ -31,7 +31,7 @@ one-of_more bs rest c d text e more = some-more c d (chars rest) more ∙ ap one
 
 -- ---- a text that begins with a name
 
-begins : (text name rest : List ℕ) → text ≡ name ++ rest → starts_with nat_eq text name ≡ true
+pub begins : (text name rest : List ℕ) → text ≡ name ++ rest → starts_with nat_eq text name ≡ true
 begins text name rest e = (starts_is Decides-eqb text name (starts_with nat_eq text name) refl).1 rest e
 
 pub strips-some : (text name rest : List ℕ) (bits bit k : ℕ) → k ≡ length name → text ≡ name ++ drop k text → rest ≡ drop k text
@@ -41,7 +41,7 @@ strips-some text name rest bits bit k n e r =
     ∙ sym (ap (λ (b : Bool). let x : ℕ × List ℕ = if b then (bit_or bits bit, drop (length name) text) else (bits, text) in
     x) (begins text name (drop k text) e))
 
-differs : (text name : List ℕ) (b : Bool) → starts_with nat_eq text name ≡ b → LacksTextAt name text 0 → b ≡ false
+pub differs : (text name : List ℕ) (b : Bool) → starts_with nat_eq text name ≡ b → LacksTextAt name text 0 → b ≡ false
 differs text name true e h = absurd (h (drop (length name) text)
     ((starts_is Decides-eqb text name (starts_with nat_eq text name) refl).0 e))
 differs text name false e h = refl

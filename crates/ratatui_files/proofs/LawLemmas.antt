@@ -1,10 +1,10 @@
 -- What commands keep, and what they make.
-use Rattle.std.proofs.Common.{◌≡◌, ◌≢◌, ℕ, Bool, true, false, not, cond, ◌&&◌, ◌||◌, List, [], ◌∷◌, ◌++◌, length, take}
-use Rattle.std.proofs.Common.{drop, map}
+use Rattle.std.proofs.Common.{◌≡◌, ◌≢◌, ℕ, Bool, true, false, not, cond, ◌||◌, List, [], ◌∷◌, ◌++◌, length}
+use Rattle.std.proofs.Common.{take}
+use Rattle.std.proofs.Common.{drop}
 use Rattle.std.proofs.Common.{Option, None, Some, refl, ap, sym, ◌∙◌, subst, append_assoc}
-use Rattle.std.specs.Prelude.{codes, find, filter, option_map, is_some, nat_eq, if◌then◌else◌}
+use Rattle.std.specs.Prelude.{codes, find, option_map, is_some, if◌then◌else◌}
 use Rattle.std.specs.Option.{option_map_or, option_and_then}
-use Rattle.std.specs.List.{starts_with}
 use Rattle.std.specs.Str.{bytes_eq}
 use Rattle.std.specs.declared.time.Duration.{Duration}
 use Rattle.std.proofs.lemmas.Slice.Eq.{bytes_eq-Decides}
@@ -17,12 +17,12 @@ use Rattle.ratatui_files.specs.declared.answer.Failure.{Failure}
 use Rattle.ratatui_files.specs.declared.command.Command.{Command}
 use Rattle.ratatui_files.specs.declared.command.Command.TheVariants as command
 use Rattle.ratatui_files.specs.Paths.{after_start, path_from, is_inside, moved_path}
-use Rattle.ratatui_files.specs.Trees.{Tree, stands_at, node_at, bytes_at, bytes_of, without, with_node, with_path}
+use Rattle.ratatui_files.specs.Trees.{Tree, stands_at, node_at, bytes_at, bytes_of, without, with_node}
+use Rattle.ratatui_files.specs.Trees.{with_path}
 use Rattle.ratatui_files.specs.Trees.{renamed}
-use Rattle.ratatui_files.specs.Changes.{refusal, done, done_answer, answer_to, tree_after, lack, wants_file, wants_room}
-use Rattle.ratatui_files.specs.Changes.{lacks_folder, refuses_file, refuses_write}
+use Rattle.ratatui_files.specs.Changes.{refusal, done, done_answer, answer_to, tree_after, lack, wants_file}
 use Rattle.ratatui_files.specs.Kept.{is_within, NamesOther}
-use Rattle.ratatui_files.proofs.PathLemmas.{begins}
+use Rattle.ratatui_events.proofs.TextLemmas.{begins}
 
 -- ---- equal texts
 
@@ -43,7 +43,8 @@ find-gone : (path : List ℕ) (t : List Entry) → find (stands_at path) (withou
 find-gone path [] = refl
 find-gone path (e ∷ t) = by (find-gone path t) (stands_at path e) refl
   where
-    by : find (stands_at path) (without path t) ≡ None → (b : Bool) → stands_at path e ≡ b → find (stands_at path) (cond (not b) (e ∷ without path t) (without path t)) ≡ None
+    by : find (stands_at path) (without path t) ≡ None → (b : Bool) → stands_at path e ≡ b
+        → find (stands_at path) (cond (not b) (e ∷ without path t) (without path t)) ≡ None
     by rest true is = rest
     by rest false is = ap (λ c. cond c (Some e) (find (stands_at path) (without path t))) is ∙ rest
 
@@ -53,7 +54,8 @@ find-elsewhere q path [] h = refl
 find-elsewhere q path (e ∷ t) h = by (find-elsewhere q path t h) (stands_at path e) refl
   where
     by : find (stands_at q) (without path t) ≡ find (stands_at q) t → (b : Bool) → stands_at path e ≡ b
-        → find (stands_at q) (cond (not b) (e ∷ without path t) (without path t)) ≡ cond (stands_at q e) (Some e) (find (stands_at q) t)
+        → find (stands_at q) (cond (not b) (e ∷ without path t) (without path t))
+        ≡ cond (stands_at q e) (Some e) (find (stands_at q) t)
     by rest true is =
         let here : e.path ≡ path = same-text e.path path is in
         let not_q : stands_at q e ≡ false =
@@ -62,11 +64,13 @@ find-elsewhere q path (e ∷ t) h = by (find-elsewhere q path t h) (stands_at pa
     by rest false is = ap (λ o. cond (stands_at q e) (Some e) o) rest
 
 -- what is found in a list with one more thing
-find-pushed : (test : Entry → Bool) (e : Entry) (t : List Entry) → find test t ≡ None → test e ≡ true → find test (t ++ e ∷ []) ≡ Some e
+find-pushed : (test : Entry → Bool) (e : Entry) (t : List Entry) → find test t ≡ None → test e ≡ true
+    → find test (t ++ e ∷ []) ≡ Some e
 find-pushed test e [] none is = ap (λ c. cond c (Some e) None) is
 find-pushed test e (x ∷ t) none is = by (λ h. find-pushed test e t h is) (test x) refl
   where
-    by : (find test t ≡ None → find test (t ++ e ∷ []) ≡ Some e) → (b : Bool) → test x ≡ b → cond b (Some x) (find test (t ++ e ∷ [])) ≡ Some e
+    by : (find test t ≡ None → find test (t ++ e ∷ []) ≡ Some e) → (b : Bool) → test x ≡ b
+        → cond b (Some x) (find test (t ++ e ∷ [])) ≡ Some e
     by rest true said =
         let no : Some x ≡ None = sym (ap (λ c. cond c (Some x) (find test t)) said) ∙ none in cc
     by rest false said = rest (sym (ap (λ c. cond c (Some x) (find test t)) said) ∙ none)
@@ -80,7 +84,8 @@ find-not_pushed test e (x ∷ t) is = ap (λ o. cond (test x) (Some x) o) (find-
 put-here : (b : ℕ) (path : List ℕ) (node : Node) (time : Duration) (t : List Entry)
     → node_at (b ∷ path) (with_node (b ∷ path) node time t) ≡ Some node
 put-here b path node time t =
-    ap (option_map (λ (e : Entry). e.node)) (find-pushed (stands_at (b ∷ path)) (record { path = b ∷ path; node = node; modified = time })
+    ap (option_map (λ (e : Entry). e.node))
+    (find-pushed (stands_at (b ∷ path)) (record { path = b ∷ path; node = node; modified = time })
     (without (b ∷ path) t) (find-gone (b ∷ path) t) (own-text (b ∷ path)))
 
 put-elsewhere : (q path : List ℕ) (node : Node) (time : Duration) (t : List Entry) → q ≢ path
@@ -145,22 +150,27 @@ moved-elsewhere from to q path not_from not_to = by (bytes_eq path from) refl
         ∙ sym (not_in from path not_from (ap is_some is))
 
     by : (b : Bool) → bytes_eq path from ≡ b
-        → bytes_eq (if b then to else option_map_or (λ rest. to ++ codes "/" ++ rest) (path_from from path) path) q ≡ bytes_eq path q
+        → bytes_eq (if b then to else option_map_or (λ rest. to ++ codes "/" ++ rest) (path_from from path) path) q
+        ≡ bytes_eq path q
     by true is =
         not_at to not_to
         ∙ sym (subst (λ (x : List ℕ). bytes_eq x q ≡ false) (sym (same-text path from is)) (not_at from not_from))
     by false is = inner (path_from from path) refl
 
 node-renamed : (from to q : List ℕ) (t : List Entry) → is_within from q ≡ false → is_within to q ≡ false
-    → option_map (λ (e : Entry). e.node) (find (stands_at q) (renamed from to t)) ≡ option_map (λ (e : Entry). e.node) (find (stands_at q) t)
+    → option_map (λ (e : Entry). e.node) (find (stands_at q) (renamed from to t))
+    ≡ option_map (λ (e : Entry). e.node) (find (stands_at q) t)
 node-renamed from to q [] not_from not_to = refl
 node-renamed from to q (e ∷ t) not_from not_to =
-    ap (λ b. option_map (λ (x : Entry). x.node) (cond b (Some (with_path e (moved_path from to e.path))) (find (stands_at q) (renamed from to t))))
+    ap (λ b. option_map (λ (x : Entry). x.node)
+    (cond b (Some (with_path e (moved_path from to e.path))) (find (stands_at q) (renamed from to t))))
     (moved-elsewhere from to q e.path not_from not_to)
     ∙ by (node-renamed from to q t not_from not_to) (stands_at q e)
   where
-    by : option_map (λ (x : Entry). x.node) (find (stands_at q) (renamed from to t)) ≡ option_map (λ (x : Entry). x.node) (find (stands_at q) t)
-        → (b : Bool) → option_map (λ (x : Entry). x.node) (cond b (Some (with_path e (moved_path from to e.path))) (find (stands_at q) (renamed from to t)))
+    by : option_map (λ (x : Entry). x.node) (find (stands_at q) (renamed from to t))
+        ≡ option_map (λ (x : Entry). x.node) (find (stands_at q) t)
+        → (b : Bool) → option_map (λ (x : Entry). x.node)
+        (cond b (Some (with_path e (moved_path from to e.path))) (find (stands_at q) (renamed from to t)))
         ≡ option_map (λ (x : Entry). x.node) (cond b (Some e) (find (stands_at q) t))
     by rest true = refl
     by rest false = rest
@@ -219,8 +229,11 @@ not-refused c t = by (refusal c t.entries)
     by None e = refl
     by (Some failure) e = cc
 
-after-done : (c : Command) (t : Tree) → answer_to c t ≡ answer.Done → tree_after c t ≡ record { entries = done c t; time = t.time }
-after-done c t e = ap (λ o. let x : Tree = option_map_or (λ _. t) o (record { entries = done c t; time = t.time }) in x) (not-refused c t e)
+after-done : (c : Command) (t : Tree) → answer_to c t ≡ answer.Done
+    → tree_after c t ≡ record { entries = done c t; time = t.time }
+after-done c t e =
+    ap (λ o. let x : Tree = option_map_or (λ _. t) o (record { entries = done c t; time = t.time }) in x)
+    (not-refused c t e)
 
 pub removed-gone : (path : List ℕ) (t : Tree) → answer_to (command.Remove path) t ≡ answer.Done
     → node_at path (tree_after (command.Remove path) t).entries ≡ None

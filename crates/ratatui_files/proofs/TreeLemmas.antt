@@ -1,13 +1,15 @@
 -- Loops over what stands in a tree.
-use Rattle.std.proofs.Common.{◌≡◌, ◌<◌, ◌+◌, ℕ, zero, suc, List, [], ◌∷◌, ◌++◌, length, take, drop, map, Option, None}
+use Rattle.std.proofs.Common.{◌≡◌, ◌<◌, ◌+◌, ℕ, zero, suc, List, [], ◌∷◌, ◌++◌, length, take, drop, map}
+use Rattle.std.proofs.Common.{Option, None}
 use Rattle.std.proofs.Common.{Some}
-use Rattle.std.proofs.Common.{refl, ap, sym, ◌∙◌, arith, get_or, set, Bool, true, false, cond, add-one}
+use Rattle.std.proofs.Common.{refl, ap, sym, ◌∙◌, arith, get_or, Bool, true, false, cond}
 use Rattle.std.specs.List.Retain.{IsFiltered, ReturnsInTurn}
 use Rattle.std.specs.List.{filter, filter_map, cons_option, items_where_true, list_any, HoldsAt, AllWithin}
 use Rattle.std.specs.List.{slice_index_or}
-use Rattle.std.specs.Prelude.{◌||◌, ◌≤◌}
+use Rattle.std.specs.Prelude.{◌||◌}
 use Rattle.std.specs.Bool.{MatchBool}
 use Rattle.std.proofs.Math.Seq.{take-append_seam}
+use Rattle.std.proofs.lemmas.Bool.{or_right}
 use Rattle.std.proofs.lemmas.List.{take_more, append-nil}
 use Rattle.std.proofs.lemmas.List.Elements.{filter_map-append}
 use Rattle.ratatui_files.specs.declared.node.Entry.{Entry}
@@ -27,7 +29,8 @@ module _ {X Y : Type 0} (f : X → Option Y) where
   pub filter_map_more-none : (xs : List X) (i : ℕ) (x : X) → i < length xs → x ≡ get_or xs i x → f x ≡ None
       → filter_map f (take (i + 1) xs) ≡ filter_map f (take i xs)
   filter_map_more-none xs i x l e none =
-      filter_map_more xs i x l e ∙ ap (λ o. filter_map f (take i xs) ++ cons_option o []) none ∙ append-nil (filter_map f (take i xs))
+      filter_map_more xs i x l e ∙ ap (λ o. filter_map f (take i xs) ++ cons_option o []) none
+      ∙ append-nil (filter_map f (take i xs))
 
   pub filter_map_more-some : (xs : List X) (i : ℕ) (x : X) (y : Y) → i < length xs → x ≡ get_or xs i x → f x ≡ Some y
       → filter_map f (take (i + 1) xs) ≡ filter_map f (take i xs) ++ y ∷ []
@@ -58,7 +61,8 @@ module _ {X P : Type 0} (R : P → X → Bool → P → Type 0) (I : P → Type 
   filtered-while p xs ys i h = h.4 ∙ kept-in_turn p h.1 h.0 xs i h.2 h.3
 
 -- with the paths that all have after a move, a tree is renamed
-renamed-by_paths : (from to : List ℕ) (t : List Entry) → with_paths t (map (λ e. moved_path from to e.path) t) ≡ renamed from to t
+renamed-by_paths : (from to : List ℕ) (t : List Entry)
+    → with_paths t (map (λ e. moved_path from to e.path) t) ≡ renamed from to t
 renamed-by_paths from to [] = refl
 renamed-by_paths from to (e ∷ t) = ap (λ rest. with_path e (moved_path from to e.path) ∷ rest) (renamed-by_paths from to t)
 
@@ -67,11 +71,8 @@ module _ {X : Type 0} (p : X → Bool) where
   one-passes : (xs : List X) (k : ℕ) → k < length xs → HoldsAt (λ x. p x ≡ true) xs k → list_any p xs ≡ true
   one-passes [] k l h = absurd (omega arith)
   one-passes (x ∷ xs) zero l h = ap (λ b. b || list_any p xs) (h x)
-  one-passes (x ∷ xs) (suc k) l h = ap (λ b. p x || b) (one-passes xs k (omega arith) h) ∙ or-true (p x)
-    where
-      or-true : (b : Bool) → (b || true) ≡ true
-      or-true true = refl
-      or-true false = refl
+  one-passes (x ∷ xs) (suc k) l h = ap (λ b. p x || b) (one-passes xs k (omega arith) h) 
+      ∙ or_right (p x) true refl
 
   none-passes : (xs : List X) → ((k : ℕ) (d : X) → k < length xs → p (slice_index_or xs k d) ≡ false) → list_any p xs ≡ false
   none-passes [] h = refl
@@ -79,7 +80,8 @@ module _ {X : Type 0} (p : X → Bool) where
       ap (λ b. b || list_any p xs) (h 0 x (omega arith)) ∙ none-passes xs (λ k d l. h (suc k) d (omega arith))
 
   pub any-tested : (xs : List X) (r : Bool)
-      → MatchBool r ((k : ℕ) × (k < length xs) × HoldsAt (λ x. p x ≡ true) xs k) (AllWithin (λ x. p x ≡ false) xs 0 (length xs))
+      → MatchBool r ((k : ℕ) × (k < length xs) × HoldsAt (λ x. p x ≡ true) xs k)
+      (AllWithin (λ x. p x ≡ false) xs 0 (length xs))
       → r ≡ list_any p xs
   any-tested xs true h = sym (one-passes xs h.0 h.1 h.2)
   any-tested xs false h = sym (none-passes xs (λ k d l. h k d (omega arith) l))

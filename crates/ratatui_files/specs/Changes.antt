@@ -9,12 +9,14 @@ use Rattle.ratatui_files.specs.declared.node.Node.TheVariants.{Folder, File}
 use Rattle.ratatui_files.specs.declared.answer.Answer.{Answer}
 use Rattle.ratatui_files.specs.declared.answer.Answer.TheVariants as answer
 use Rattle.ratatui_files.specs.declared.answer.Failure.{Failure}
-use Rattle.ratatui_files.specs.declared.answer.Failure.TheVariants.{NotFound, NotAllowed, Exists, NotEmpty, NotAFolder}
+use Rattle.ratatui_files.specs.declared.answer.Failure.TheVariants.{NotFound, NotAllowed, Exists, NotEmpty}
+use Rattle.ratatui_files.specs.declared.answer.Failure.TheVariants.{NotAFolder}
 use Rattle.ratatui_files.specs.declared.answer.Failure.TheVariants.{IsAFolder, IntoItself}
 use Rattle.ratatui_files.specs.declared.command.Command.{Command}
 use Rattle.ratatui_files.specs.declared.command.Command.TheVariants as command
 use Rattle.ratatui_files.specs.Paths.{is_inside}
-use Rattle.ratatui_files.specs.Trees.{Tree, node_at, bytes_at, entries_in, has_folder, is_in_file, is_bare, without}
+use Rattle.ratatui_files.specs.Trees.{Tree, node_at, bytes_at, entries_in, has_folder, is_in_file, is_bare}
+use Rattle.ratatui_files.specs.Trees.{without}
 use Rattle.ratatui_files.specs.Trees.{with_node, renamed}
 
 -- ---- why a command is refused

@@ -2,8 +2,10 @@
 use Rattle.std.specs.declared.io.ErrorKind.{ErrorKind}
 use Rattle.std.specs.declared.io.ErrorKind.TheVariants as kind
 use Rattle.ratatui_files.specs.declared.answer.Failure.{Failure}
-use Rattle.ratatui_files.specs.declared.answer.Failure.TheVariants.{NotFound, NotAllowed, Exists, Full, NotEmpty}
-use Rattle.ratatui_files.specs.declared.answer.Failure.TheVariants.{NotAFolder, IsAFolder, OtherDevice, BadName, Memory}
+use Rattle.ratatui_files.specs.declared.answer.Failure.TheVariants.{NotFound, NotAllowed, Exists, Full}
+use Rattle.ratatui_files.specs.declared.answer.Failure.TheVariants.{NotEmpty}
+use Rattle.ratatui_files.specs.declared.answer.Failure.TheVariants.{NotAFolder, IsAFolder, OtherDevice}
+use Rattle.ratatui_files.specs.declared.answer.Failure.TheVariants.{BadName, Memory}
 use Rattle.ratatui_files.specs.declared.answer.Failure.TheVariants.{Other}
 
 abbrev pub failure_of : ErrorKind → Failure

@@ -1,18 +1,10 @@
 -- What is changed or rendered within an area, or refused.
 use Rattle.std.proofs.Common.{Result, Ok, Err, OnOk, OnErr}
 use Rattle.std.specs.declared.alloc.AllocError.{AllocError}
-use Rattle.ratatui_core.specs.{Layout.Rect, Layout.Position, Layout.IsInside, Style.Style, Text.LineData}
-use Rattle.ratatui_core.specs.Buffer.{BufferData, Cell, ChangesEach, IsStyled}
+use Rattle.ratatui_core.specs.{Layout.Rect, Style.Style, Text.LineData}
+use Rattle.ratatui_core.specs.Buffer.{BufferData, IsStyled}
 use Rattle.ratatui_core.specs.{Widgets.ChangesWithin, Widgets.RendersLine}
-use Rattle.ratatui_core.proofs.{BufferLemmas.Changes-within, BufferLemmas.within-wider}
 use Rattle.ratatui_core.proofs.{WidgetLemmas.within-then, WidgetLemmas.within-styled}
-
--- a change of a part
-pub changed-in : {A : Type 0} (result : Result A AllocError) (part r : Rect) (f : Position → Cell → Cell) (old new : BufferData)
-    → IsInside part r → OnOk result (ChangesEach part f old new) → OnErr result (ChangesWithin part old new)
-    → ChangesWithin r old new
-changed-in (Ok x) part r f old new inside ok err = Changes-within part r f old new inside ok
-changed-in (Err e) part r f old new inside ok err = within-wider part r old new inside err
 
 -- a style, and a line over it
 pub titled-in : {A : Type 0} (result : Result A AllocError) (r : Rect) (style : Style) (line : LineData)

@@ -1,5 +1,6 @@
 -- Areas as their texts and cursors.
-use Rattle.std.proofs.Common.{ℕ, zero, suc, min, max, ◌≡◌, List, length, take, drop, sym, ap, ◌∙◌, arith, subst, Option, IfSome}
+use Rattle.std.proofs.Common.{ℕ, zero, suc, min, max, ◌≡◌, List, length, take, drop, sym, ap, ◌∙◌, arith}
+use Rattle.std.proofs.Common.{subst, Option, IfSome}
 use Rattle.std.proofs.lemmas.{List.take_at, List.drop_at}
 use Rattle.std.specs.Str.{IsCharBoundary}
 use Rattle.text_field.specs.History.{CursorText}

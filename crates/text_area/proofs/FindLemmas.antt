@@ -1,7 +1,9 @@
 -- Where a pattern occurs in a text, from where it occurs in a part of it.
-use Rattle.std.proofs.Common.{ℕ, ◌≡◌, ◌+◌, ◌-◌, ◌≤◌, List, ◌++◌, length, take, drop, refl, sym, ap, ap₂, subst, ◌∙◌, arith}
+use Rattle.std.proofs.Common.{ℕ, ◌≡◌, ◌+◌, ◌-◌, ◌≤◌, List, ◌++◌, length, take, drop, refl, sym, ap, ap₂}
+use Rattle.std.proofs.Common.{subst, ◌∙◌, arith}
 use Rattle.std.proofs.Common.{append_assoc}
-use Rattle.std.proofs.lemmas.{List.drop-drop, List.take-append-drop, List.drop-append-le, List.length-take-le, List.length-drop, List.drop-take, List.take_at, List.drop_at}
+use Rattle.std.proofs.lemmas.{List.drop-drop, List.take-append-drop, List.drop-append-le, List.length-take-le}
+use Rattle.std.proofs.lemmas.{List.length-drop, List.drop-take, List.take_at, List.drop_at}
 use Rattle.std.proofs.lemmas.{Str.IsCharBoundary-from_rest}
 use Rattle.std.specs.Str.{IsUtf8, IsCharBoundary}
 use Rattle.std.specs.Str.Pattern.{HasTextAt, LacksTextAt, FindsText, RFindsText, MatchBeginsAt}
@@ -97,5 +99,3 @@ last-none pattern text part to le is lacks = λ k fits.
     lacks-before pattern text to k le fits
     (subst (λ w. LacksTextAt pattern w k) is (lacks k
     (omega (arith, ap length is, length-take-le to text le, fits))))
-
-pub ruleset find_rules = (first-is, first-none, last-is, last-none)

@@ -1,20 +1,20 @@
 -- Changes of a text, and how they are undone.
-use Rattle.std.proofs.Common.{ℕ, zero, suc, ◌≡◌, ◌+◌, ◌-◌, ◌≤◌, ◌==◌, ◌&&◌, ltb, not, Bool, true, false, if◌then◌else◌, List, [], ◌∷◌, ◌++◌, length, take, drop, slice_range}
+use Rattle.std.proofs.Common.{ℕ, zero, suc, ◌≡◌, ◌+◌, ◌-◌, ◌≤◌, ◌==◌, ◌&&◌, ltb, not, true, false}
+use Rattle.std.proofs.Common.{if◌then◌else◌, List, [], ◌∷◌, ◌++◌, length, take, drop, slice_range}
 use Rattle.std.proofs.Common.{refl, sym, ap, ap₂, subst, ◌∙◌, arith, append_assoc, length-append}
-use Rattle.std.proofs.lemmas.{List.take_at, List.drop_at, List.length-take-le, List.length-take, List.take-append-drop, List.take-append-le}
-use Rattle.std.proofs.lemmas.{Str.IsCharBoundary-at_seam, Str.IsUtf8-append, Str.IsUtf8-drop, Str.IsUtf8-take, Str.IsUtf8-between, Str.IsCharBoundary-from_take}
+use Rattle.std.proofs.lemmas.{List.take_at, List.drop_at, List.length-take-le, List.length-take}
+use Rattle.std.proofs.lemmas.{List.take-append-drop, List.take-append-le}
+use Rattle.std.proofs.lemmas.{Str.IsCharBoundary-at_seam, Str.IsUtf8-append, Str.IsUtf8-drop, Str.IsUtf8-take}
+use Rattle.std.proofs.lemmas.{Str.IsUtf8-between, Str.IsCharBoundary-from_take}
 use Rattle.std.specs.{List.replace_range, Str.IsUtf8, Str.IsCharBoundary}
 use Rattle.text_field.specs.History.{CursorText, cursor_text_at}
 use Rattle.text_field.proofs.FieldLemmas.{take-behind}
 use Rattle.text_area.specs.Drafts.{draft_text, cursor_at, part_replaced}
-use Rattle.text_area.specs.Journals.{StepData, IsStepOf, Undoes, undone_text, step_for, undo_step, longer, goes_on, is_after, begins_line, JournalData, journal_of, changes_nothing, past_after, changed, stepped_text}
+use Rattle.text_area.specs.Journals.{StepData, IsStepOf, Undoes, undone_text, step_for, undo_step, longer}
+use Rattle.text_area.specs.Journals.{goes_on, is_after, begins_line, JournalData, journal_of, changes_nothing}
+use Rattle.text_area.specs.Journals.{past_after, changed, stepped_text}
 use Rattle.text_area.proofs.DraftLemmas.{text-at, boundary-piece}
 use borrow.Author.Tests.{eqb-true}
-
--- both of two tests hold
-pub both-true : (s t : Bool) → (s && t) ≡ true → (s ≡ true) × (t ≡ true)
-both-true true t is = (refl, is)
-both-true false t is = cc
 
 -- a part of a text that has given way is put back
 pub undone-twice : (text piece : List ℕ) (a b m : ℕ) → a ≤ b → b ≤ length text → m ≡ a + length piece

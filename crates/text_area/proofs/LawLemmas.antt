@@ -1,9 +1,12 @@
 -- What the laws of text areas say.
-use Rattle.std.proofs.Common.{ℕ, zero, suc, ◌≡◌, ◌+◌, ◌-◌, ◌<◌, ◌≤◌, ◌==◌, ◌&&◌, Bool, true, false, not, cond, if◌then◌else◌, List, [], ◌∷◌, ◌++◌}
-use Rattle.std.proofs.Common.{length, take, drop, get_or, slice_range, refl, sym, ap, ap₂, subst, ◌∙◌, arith, append_assoc, length-append}
+use Rattle.std.proofs.Common.{ℕ, zero, suc, ◌≡◌, ◌+◌, ◌-◌, ◌<◌, ◌≤◌, ◌==◌, ◌&&◌, Bool, true, false, not, cond}
+use Rattle.std.proofs.Common.{if◌then◌else◌, List, [], ◌∷◌, ◌++◌}
+use Rattle.std.proofs.Common.{length, take, drop, get_or, slice_range, refl, sym, ap, ap₂, subst, ◌∙◌, arith}
+use Rattle.std.proofs.Common.{append_assoc, length-append}
 use Rattle.std.proofs.Common.{None}
-use Rattle.std.proofs.lemmas.{List.take_at, List.drop_at, List.length-take-le, List.length-drop, List.take-append-drop, List.append-nil}
-use Rattle.std.proofs.lemmas.{List.Sums.sum_by-cons, List.nil_from_length, Bool.ne_eqb}
+use Rattle.std.proofs.lemmas.{List.take_at, List.drop_at, List.length-take-le, List.length-drop}
+use Rattle.std.proofs.lemmas.{List.take-append-drop, List.append-nil}
+use Rattle.std.proofs.lemmas.{List.Sums.sum_by-cons, List.nil_from_length, Bool.ne_eqb, Bool.and_parts}
 use Rattle.std.specs.{List.replace_range, List.slice_split, List.onto_first}
 use Rattle.text_field.specs.History.{CursorText, cursor_text_at}
 use Rattle.text_field.specs.Field.{kept_of}
@@ -11,18 +14,21 @@ use Rattle.text_field.proofs.FieldLemmas.{take-behind}
 use Rattle.text_area.specs.Extents.{is_feed, line_right}
 use Rattle.text_area.specs.Lines.{feeds, nth_line, first_line}
 use Rattle.text_area.specs.Drafts.{draft_text, part_replaced}
-use Rattle.text_area.specs.Journals.{JournalData, StepData, IsStepOf, Undoes, journal_of, undo_step, undone, redone, undone_text, changed, changes_nothing, step_for, stepped_text, past_after, goes_on, longer}
-use Rattle.text_area.specs.Areas.{AreaData, area_of, area_text, area_cursor, put_over, selection, selected, typing_over, killing, yanking}
+use Rattle.text_area.specs.Journals.{JournalData, StepData, IsStepOf, Undoes, journal_of, undo_step, undone}
+use Rattle.text_area.specs.Journals.{redone, undone_text, changed, changes_nothing, step_for, stepped_text}
+use Rattle.text_area.specs.Journals.{past_after, goes_on, longer}
+use Rattle.text_area.specs.Areas.{AreaData, area_of, area_text, area_cursor, put_over, selection, selected}
+use Rattle.text_area.specs.Areas.{typing_over, killing, yanking}
 use Rattle.text_area.specs.Typing.{written_text}
 use Rattle.text_area.proofs.DraftLemmas.{text-at, made}
-use Rattle.text_area.proofs.JournalLemmas.{undone-twice, both-true, stepped-longer}
+use Rattle.text_area.proofs.JournalLemmas.{undone-twice, stepped-longer}
 use borrow.Author.Tests.{eqb-true}
 
 -- a part that gives way leaves what stands around it
 pub part-same : (text : List ℕ) (from to : ℕ) (piece : List ℕ) → changes_nothing from to piece ≡ true
     → text ≡ replace_range text from to piece
 part-same text from to piece is =
-    let both = both-true (from == to) (length piece == 0) is in
+    let both = and_parts (from == to) (length piece == 0) is in
     let same : from ≡ to = eqb-true from to both.0 in
     let none : piece ≡ [] = nil_from_length piece (eqb-true (length piece) 0 both.1) in
     sym (ap₂ (λ p n. (take from text ++ p) ++ drop n text) none (sym same)
@@ -72,7 +78,8 @@ first-step (suc most) s past t some = refl
 -- a change that doesn't go on with what was put last is undone by itself
 pub undone-change : (a : AreaData) (part : ℕ × ℕ) (piece : List ℕ) → changes_nothing part.0 part.1 piece
     ≡ false
-    → goes_on part.0 part.1 piece a.journal.past a.journal.future ≡ false → 0 < a.journal.most → part.0 ≤ part.1 → part.1 ≤ length (area_text a)
+    → goes_on part.0 part.1 piece a.journal.past a.journal.future ≡ false → 0 < a.journal.most
+    → part.0 ≤ part.1 → part.1 ≤ length (area_text a)
     → (undone (put_over part piece a).journal).text ≡ a.journal.text
 undone-change a part piece fails alone some order within =
     let t : CursorText = a.journal.text in

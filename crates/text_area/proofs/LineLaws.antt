@@ -1,7 +1,9 @@
 -- Up and down: a place in a line, and the line of that place.
-use Rattle.std.proofs.Common.{ℕ, zero, suc, ◌≡◌, ◌+◌, ◌-◌, ◌<◌, ◌≤◌, min, Bool, true, false, cond, if◌then◌else◌, List, [], ◌∷◌}
+use Rattle.std.proofs.Common.{ℕ, zero, suc, ◌≡◌, ◌+◌, ◌-◌, ◌<◌, ◌≤◌, min, Bool, true, false, cond}
+use Rattle.std.proofs.Common.{if◌then◌else◌, List, [], ◌∷◌}
 use Rattle.std.proofs.Common.{take, drop, refl, sym, ap, ◌∙◌, arith}
-use Rattle.std.proofs.lemmas.{List.take-take, List.length-take, List.Sums.sum_by-cons, List.Sums.sum_by-append}
+use Rattle.std.proofs.lemmas.{List.take-take, List.length-take, List.Sums.sum_by-cons}
+use Rattle.std.proofs.lemmas.{List.Sums.sum_by-append}
 use Rattle.std.specs.{List.concat, Str.IsUtf8}
 use Rattle.unicode_segmentation.specs.Grapheme.{graphemes}
 use Rattle.text_field.specs.History.{CursorText, cursor_text_at}

@@ -1,9 +1,15 @@
 -- Lines of a text, and columns in them.
-use Rattle.std.proofs.Common.{ℕ, zero, suc, get_or, add-one, ◌≡◌, ◌≢◌, ◌+◌, ◌-◌, ◌<◌, ◌≤◌, Bool, true, false, not, cond, List, [], ◌∷◌, ◌++◌}
-use Rattle.std.proofs.Common.{length, take, drop, reverse, refl, sym, ap, subst, ◌∙◌, arith, length-append, if◌then◌else◌}
-use Rattle.std.proofs.lemmas.{List.take-take, List.take_all, List.drop-drop, List.take-append-drop, List.reverse-append, List.length-take-le, List.drop_all}
-use Rattle.std.proofs.lemmas.{List.Sums.sum_by-cons, List.Sums.sum_by-append, List.Sums.sum_by-take-drop, List.Sums.sum_by-take-le, List.Sums.count_by_more_yes, List.Sums.count_by_more_no, List.Sums.count_by-le-length, Bool.ne_eqb}
-use Rattle.std.proofs.lemmas.{List.Folds.concat-append, Str.IsCharBoundary-at_seam, Str.IsCharBoundary-after_ascii}
+use Rattle.std.proofs.Common.{ℕ, zero, suc, get_or, add-one, ◌≡◌, ◌≢◌, ◌+◌, ◌-◌, ◌<◌, ◌≤◌, Bool, true, false}
+use Rattle.std.proofs.Common.{not, cond, List, [], ◌∷◌, ◌++◌}
+use Rattle.std.proofs.Common.{length, take, drop, reverse, refl, sym, ap, subst, ◌∙◌, arith, length-append}
+use Rattle.std.proofs.Common.{if◌then◌else◌}
+use Rattle.std.proofs.lemmas.{List.take-take, List.take_all, List.drop-drop, List.take-append-drop}
+use Rattle.std.proofs.lemmas.{List.reverse-append, List.length-take-le, List.drop_all}
+use Rattle.std.proofs.lemmas.{List.Sums.sum_by-cons, List.Sums.sum_by-append, List.Sums.sum_by-take-drop}
+use Rattle.std.proofs.lemmas.{List.Sums.sum_by-take-le, List.Sums.count_by_more_yes}
+use Rattle.std.proofs.lemmas.{List.Sums.count_by_more_no, List.Sums.count_by-le-length, Bool.ne_eqb}
+use Rattle.std.proofs.lemmas.{List.Folds.concat-append, Str.IsCharBoundary-at_seam}
+use Rattle.std.proofs.lemmas.{Str.IsCharBoundary-after_ascii}
 use Rattle.std.specs.{List.concat, Str.IsUtf8, Str.IsCharBoundary}
 use Rattle.unicode_segmentation.specs.Grapheme.{graphemes}
 use Rattle.unicode_segmentation.proofs.SegmentsLemmas.{concat-segments}

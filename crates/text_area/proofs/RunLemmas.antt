@@ -1,6 +1,8 @@
 -- Runs of bytes in a text, and where they end.
-use Rattle.std.proofs.Common.{ℕ, zero, suc, get_or, add-one, ◌≡◌, ◌+◌, ◌-◌, ◌<◌, ◌≤◌, false, List, length, take, drop, sym, ap, subst, ◌∙◌, arith}
-use Rattle.std.proofs.lemmas.{List.take-take, List.drop-drop, List.length-take-le, Str.IsCharBoundary-after_ascii, Str.IsCharBoundary-start}
+use Rattle.std.proofs.Common.{ℕ, zero, suc, get_or, add-one, ◌≡◌, ◌+◌, ◌-◌, ◌<◌, ◌≤◌, false, List, length}
+use Rattle.std.proofs.Common.{take, drop, sym, ap, subst, ◌∙◌, arith}
+use Rattle.std.proofs.lemmas.{List.take-take, List.drop-drop, List.length-take-le}
+use Rattle.std.proofs.lemmas.{Str.IsCharBoundary-after_ascii, Str.IsCharBoundary-start}
 use Rattle.std.specs.{List.prefix_len, List.suffix_len, Str.IsUtf8, Str.IsCharBoundary}
 use Rattle.text_area.specs.Extents.{in_run, extent_left, extent_right}
 use Rattle.text_area.specs.declared.extent.Extent.TheVariants.{Word}

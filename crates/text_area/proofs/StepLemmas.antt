@@ -1,7 +1,10 @@
 -- Steps, the last one first.
-use Rattle.std.proofs.Common.{ℕ, ◌≡◌, ◌+◌, ◌-◌, ◌<◌, ◌≤◌, List, [], ◌∷◌, ◌++◌, length, take, drop, reverse, get_or, set}
+use Rattle.std.proofs.Common.{ℕ, ◌≡◌, ◌+◌, ◌-◌, ◌<◌, ◌≤◌, List, [], ◌∷◌, ◌++◌, length, take, drop, reverse}
+use Rattle.std.proofs.Common.{get_or, set}
 use Rattle.std.proofs.Common.{refl, sym, ap, ◌∙◌, arith}
-use Rattle.std.proofs.lemmas.{List.reverse-append, List.length-reverse, List.take-append-drop, List.take_at, List.take_all, List.drop_at, List.length-drop, List.take_more, List.take_more_set, List.length-set}
+use Rattle.std.proofs.lemmas.{List.reverse-append, List.length-reverse, List.take-append-drop, List.take_at}
+use Rattle.std.proofs.lemmas.{List.take_all, List.drop_at, List.length-drop, List.take_more}
+use Rattle.std.proofs.lemmas.{List.take_more_set, List.length-set}
 use Rattle.std.specs.List.{remove}
 use Rattle.text_area.specs.Journals.{StepData, undo_step, longer}
 

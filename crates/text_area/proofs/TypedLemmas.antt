@@ -1,7 +1,9 @@
 -- What a text area takes of a text.
-use Rattle.std.proofs.Common.{ℕ, ◌≡◌, ◌+◌, ◌<◌, ◌≤◌, ◌==◌, ◌&&◌, Bool, true, false, not, cond, List, [], ◌∷◌, ◌++◌, length, drop, filter}
+use Rattle.std.proofs.Common.{ℕ, ◌≡◌, ◌+◌, ◌<◌, ◌≤◌, ◌==◌, ◌&&◌, Bool, true, false, not, cond, List, [], ◌∷◌}
+use Rattle.std.proofs.Common.{◌++◌, length, drop, filter}
 use Rattle.std.proofs.Common.{chars, encode_utf8_all, get_or, refl, sym, ap, ◌∙◌, arith, append_assoc}
-use Rattle.std.proofs.lemmas.{List.drop_more, List.drop_all, List.append-nil, Str.encodes-chars, Str.encodes-append, Bool.and_parts}
+use Rattle.std.proofs.lemmas.{List.drop_more, List.drop_all, List.append-nil, Str.encodes-chars}
+use Rattle.std.proofs.lemmas.{Str.encodes-append, Bool.and_parts, Bool.not-true}
 use Rattle.std.specs.{List.list_all, Str.IsUtf8}
 use Rattle.text_field.proofs.TypedLemmas.{filter-passing}
 use Rattle.text_area.specs.Typing.{unified_char, unified, loaded_text, may_be_typed, written_text}
@@ -12,10 +14,6 @@ same-cases : (t : Bool) (c : ℕ) (cs : List ℕ) → (c == 13) ≡ t → t ≡ 
 same-cases true c cs is fails rest = cc
 same-cases false c cs is fails rest =
     ap (λ r. cond r (10 ∷ []) (c ∷ []) ++ unified r cs) is ∙ ap (λ ds. c ∷ ds) rest
-
-not-true : (t : Bool) → not t ≡ true → t ≡ false
-not-true true is = cc
-not-true false is = refl
 
 pub unified-same : (cs : List ℕ) → list_all (λ c. not (c == 13)) cs ≡ true → unified false cs ≡ cs
 unified-same [] all = refl

@@ -1,5 +1,6 @@
 -- Which events edit a text area, and what an edit does.
-use Rattle.std.specs.Prelude.{ℕ, Bool, true, false, ◌==◌, if◌then◌else◌, List, [], ◌∷◌, Option, Some, None, codes}
+use Rattle.std.specs.Prelude.{ℕ, Bool, true, false, ◌==◌, if◌then◌else◌, List, [], ◌∷◌, Option, Some, None}
+use Rattle.std.specs.Prelude.{codes}
 use Rattle.std.specs.Prelude.{encode_utf8, option_map}
 use Rattle.std.specs.Option.{option_or}
 use Rattle.ratatui_events.specs.declared.event.Event.{Event}
@@ -16,8 +17,10 @@ use Rattle.text_area.specs.declared.extent.Extent.TheVariants.{Grapheme, Word, L
 use Rattle.text_area.specs.declared.moves.Move.{Move}
 use Rattle.text_area.specs.declared.moves.Move.TheVariants.{Left, Right, Up, Down, PageUp, PageDown}
 use Rattle.text_area.specs.declared.keys.AreaEdit.{AreaEdit}
-use Rattle.text_area.specs.declared.keys.AreaEdit.TheVariants.{Insert, Yank, Go, Select, Delete, Kill, Cut, Copy, Undo, Redo}
-use Rattle.text_area.specs.Areas.{AreaData, typing_over, yanking, gone, unselected, selection_begun, deleting, reached, killing}
+use Rattle.text_area.specs.declared.keys.AreaEdit.TheVariants.{Insert, Yank, Go, Select, Delete, Kill, Cut}
+use Rattle.text_area.specs.declared.keys.AreaEdit.TheVariants.{Copy, Undo, Redo}
+use Rattle.text_area.specs.Areas.{AreaData, typing_over, yanking, gone, unselected, selection_begun, deleting}
+use Rattle.text_area.specs.Areas.{reached, killing}
 use Rattle.text_area.specs.Areas.{selection, keeping_part, undoing, redoing}
 
 -- what a letter does beside Control

@@ -8,7 +8,8 @@ use Rattle.text_area.specs.Extents.{extent_left, extent_right}
 use Rattle.text_area.specs.Lines.{column_after, place_above, place_below}
 use Rattle.text_area.specs.Drafts.{draft_text}
 use Rattle.text_area.specs.Typing.{loaded_text, written_text}
-use Rattle.text_area.specs.Journals.{JournalData, journal_of, moved_cursor, changed, undone, redone, forgetting}
+use Rattle.text_area.specs.Journals.{JournalData, journal_of, moved_cursor, changed, undone, redone}
+use Rattle.text_area.specs.Journals.{forgetting}
 use Rattle.text_area.specs.declared.moves.Move.{Move}
 use Rattle.text_area.specs.declared.moves.Move.TheVariants.{Left, Right, Up, Down, PageUp, PageDown}
 

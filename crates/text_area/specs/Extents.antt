@@ -1,5 +1,6 @@
 -- How far a cursor goes in a text of lines, in bytes.
-use Rattle.std.specs.Prelude.{ℕ, ◌+◌, ◌-◌, ◌==◌, ◌||◌, Bool, true, not, if◌then◌else◌, List, length, take, drop}
+use Rattle.std.specs.Prelude.{ℕ, ◌+◌, ◌-◌, ◌==◌, ◌||◌, Bool, true, not, if◌then◌else◌, List, length, take}
+use Rattle.std.specs.Prelude.{drop}
 use Rattle.std.specs.List.{prefix_len, suffix_len}
 use Rattle.unicode_segmentation.specs.Grapheme.{graphemes}
 use Rattle.text_field.specs.Reach.{first_text, last_text}

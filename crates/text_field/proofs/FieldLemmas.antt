@@ -94,7 +94,3 @@ killed-right text new at to n j k l f p is front back kept =
     deleted-right text new at to n j l f p is front back
     ∙ ap (λ m. cut_right n (field_at text at m l f p))
     (kept ∙ ap (λ part. kept_of part k) (sym (part-right text at to n is)))
-
--- the whole text of a field
-pub text-whole : (text : List ℕ) (at : ℕ) → take at text ++ drop at text ≡ text
-text-whole text at = take-append-drop at text

@@ -33,10 +33,6 @@ pub boundary-last : (text g : List ℕ) (rest : List (List ℕ)) → IsUtf8 text
 boundary-last text g rest utf8 piece is =
     IsCharBoundary-at_seam text (concat rest) g (text-last text g rest utf8 is) piece
 
--- a text without graphemes
-pub text-none : (text : List ℕ) → IsUtf8 text → graphemes true text ≡ [] → text ≡ []
-text-none text utf8 is = sym (concat-segments _ _ utf8) ∙ ap concat is
-
 -- a text whose first grapheme is g
 pub text-first : (text g : List ℕ) (rest : List (List ℕ)) → IsUtf8 text → graphemes true text ≡ g ∷ rest
     → text ≡ g ++ concat rest
