@@ -29,8 +29,8 @@ pub trait Application: Acts {
         ensures ok { OnOk result (paints self.now area buf.old buf.new) }
         ensures err { OnErr result (ChangesWithin area buf.old buf.new) };
 
-    /// Where the cursor stands, in columns and rows of the screen, when the state is painted over
-    /// an area; none if it is hidden.
+    /// Returns where the cursor stands, in columns and rows of the screen, when the state is
+    /// painted over an area; none if it is hidden.
     fn cursor(&self, area: Rect) -> Option<Position>
         ensures { result ≡ cursor self.now area };
 

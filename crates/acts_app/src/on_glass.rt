@@ -113,14 +113,14 @@ impl<W: Write + Drop> OnGlass<W> {
         }
     }
 
-    /// The terminal.
+    /// Returns the terminal.
     pub fn terminal(&self) -> &Terminal<AnsiBackend<W>>
         ensures { result.now ≡ self.now.terminal }
     {
         &self.terminal
     }
 
-    /// The terminal again.
+    /// Returns the terminal again.
     pub fn into_terminal(self) -> Terminal<AnsiBackend<W>>
         ensures { result ≡ self.terminal }
     {

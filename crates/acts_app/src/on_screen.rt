@@ -59,14 +59,14 @@ impl<B: Resizable + Drop> OnScreen<B> {
         OnScreen { terminal }
     }
 
-    /// The terminal.
+    /// Returns the terminal.
     pub fn terminal(&self) -> &Terminal<B>
         ensures { result.now ≡ self.now.terminal }
     {
         &self.terminal
     }
 
-    /// The terminal again.
+    /// Returns the terminal again.
     pub fn into_terminal(self) -> Terminal<B>
         ensures { result ≡ self.terminal }
     {

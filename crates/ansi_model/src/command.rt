@@ -117,7 +117,7 @@ impl SetCursorStyle {
 }
 
 impl Command {
-    /// The bytes that ask it, at most 32.
+    /// Returns the bytes that ask it, at most 32.
     pub fn bytes(self) -> &'static str
         ensures bytes { result.now ≡ command_bytes self }
         ensures short { length result.now ≤ 32 }
@@ -158,7 +158,7 @@ pub fn push_command(out: &mut String, command: Command) -> Result<(), AllocError
     out.push_str(command.bytes())
 }
 
-/// From now on keys are told by these flags of kitty's keyboard protocol, until
+/// Has keys told by these flags of kitty's keyboard protocol from now on, until
 /// `PopKeyboardEnhancementFlags` takes them off the terminal's stack. The screen stays.
 ///
 /// # Errors
@@ -178,7 +178,7 @@ pub fn push_keyboard_flags(
     out.push_str("u")
 }
 
-/// What takes as many sets of flags off the terminal's stack. It takes no memory.
+/// Returns what takes as many sets of flags off the terminal's stack. It takes no memory.
 pub fn keyboard_pops(count: u16) -> ArrayString<9>
     ensures { result.bytes ≡ keyboard_pop_bytes count }
 {
@@ -218,9 +218,9 @@ fn keeping(is_first: bool) -> &'static str
     }
 }
 
-/// OSC 2: gives the terminal's window a title: the text without its control characters and those
-/// that turn the direction. If it is the first one, the title that the window has is kept before, for
-/// `BringTitleBack`. The screen stays.
+/// Gives the terminal's window a title by OSC 2: the text without its control characters and those
+/// that turn the direction. If it is the first one, the title that the window has is kept before,
+/// for `BringTitleBack`. The screen stays.
 ///
 /// # Errors
 ///

@@ -15,7 +15,7 @@ use rtui_grid::{fill, shift_down, shift_up};
 use std::alloc::{AllocError, Global};
 use std::ops::Range;
 
-/// The flags of a blank screen.
+/// Makes the flags of a blank screen.
 pub fn blank_flags(alloc: Global, size: Size) -> Result<Vec<bool>, AllocError>
     ensures { IfOk result (λ flags. AreContinuations size.width size.height flags.items
         (λ a b. blank_column)) }
@@ -114,7 +114,7 @@ pub fn clear_part_flags(flags: &mut [bool], size: Size, part: ClearType, x: u16,
     fill(flags, from, to);
 }
 
-/// Whether the column in this place is a continuation column.
+/// Returns whether the column in this place is a continuation column.
 ///
 /// # Conditions
 ///
@@ -128,8 +128,8 @@ pub fn is_continuation(flags: &[bool], size: Size, x: u16, y: u16) -> bool
     flags[usize::from(y) * usize::from(size.width) + usize::from(x)]
 }
 
-/// The first column from `from` on whose flag isn't set, or the row's end. The row begins at
-/// `start`.
+/// Returns the first column from `from` on whose flag isn't set, or the row's end. The row begins
+/// at `start`.
 pub fn tail_end(flags: &[bool], start: usize, from: u16, width: u16) -> u16
     requires row { start + width ≤ length flags.now }
     requires fits { from ≤ width }
@@ -146,7 +146,7 @@ pub fn tail_end(flags: &[bool], start: usize, from: u16, width: u16) -> u16
     width
 }
 
-/// The last column of the symbol that has a column in this place.
+/// Returns the last column of the symbol that has a column in this place.
 ///
 /// # Conditions
 ///

@@ -20,7 +20,7 @@ pub enum Glyph {
 }
 
 impl Glyph {
-    /// In how many columns it is printed.
+    /// Returns in how many columns it is printed.
     pub fn columns(self) -> u16
         ensures { result ≡ glyph_columns self }
     {
@@ -81,8 +81,8 @@ fn glyph_of_text(text: &str) -> Option<Glyph>
     Some(Glyph::Whole(columns))
 }
 
-/// How terminals print a text as one symbol: one plain character, or a symbol that isn't plain
-/// throughout. None if they don't.
+/// Returns how terminals print a text as one symbol: one plain character, or a symbol that isn't
+/// plain throughout. None if they don't.
 pub fn glyph_of(text: &str) -> Option<Glyph>
     ensures { MatchOption result (is_printed text.now ≡ false) (IsGlyphOf text.now) }
 {
@@ -92,7 +92,7 @@ pub fn glyph_of(text: &str) -> Option<Glyph>
     }
 }
 
-/// Whether terminals print a text as one symbol.
+/// Returns whether terminals print a text as one symbol.
 pub fn is_printed(text: &str) -> bool
     ensures { result ≡ is_printed text.now }
 {

@@ -185,16 +185,16 @@ pub fn save_screen(out: &mut String, height: u16) -> Result<(), AllocError>
     scroll_off(out, height)
 }
 
-/// What puts a terminal's main screen aside, however another program left it, and shows a blank
-/// alternate one. It takes no memory.
+/// Returns what puts a terminal's main screen aside, however another program left it, and shows a
+/// blank alternate one. It takes no memory.
 pub fn opening_alternate() -> &'static str
     ensures { (w h : ℕ) (old : List ℕ) → OpensAlternate w h old (old ++ result.now) }
 {
     "\u{1b}\\\u{1b}[0m\u{1b}[?1049h"
 }
 
-/// What brings a terminal's main screen back, as it was put aside, in its own colours, without
-/// margins, and with its cursor shown. It takes no memory.
+/// Returns what brings a terminal's main screen back, as it was put aside, in its own colours,
+/// without margins, and with its cursor shown. It takes no memory.
 pub fn closing_alternate() -> &'static str
     ensures back { (old : List ℕ) → ClosesAlternate old (old ++ result.now) }
     ensures short { length result.now ≤ 32 }
@@ -202,9 +202,9 @@ pub fn closing_alternate() -> &'static str
     "\u{1b}[r\u{1b}[?25h\u{1b}[?1049l\u{1b}[0m"
 }
 
-/// What leaves a terminal, of which a program had the first rows, in its own colours, without
-/// margins, and with its cursor shown at the beginning of the row after these. Where there is no row
-/// below them the screen scrolls by one. It takes no memory.
+/// Returns what leaves a terminal, of which a program had the first rows, in its own colours,
+/// without margins, and with its cursor shown at the beginning of the row after these. Where there
+/// is no row below them the screen scrolls by one. It takes no memory.
 pub fn leaving(height: u16) -> ArrayString<25>
     ensures { (old : List ℕ) → Performs old (old ++ result.bytes) (left_below height) }
 {

@@ -38,7 +38,7 @@ pub fn push_number(out: &mut String, n: u32) -> Result<(), AllocError>
     push_digit(out, n % 10)
 }
 
-/// CUP (cursor position): moves the cursor to a column and a row.
+/// Moves the cursor to a column and a row: CUP (cursor position).
 ///
 /// # Errors
 ///
@@ -54,7 +54,7 @@ pub fn move_to(out: &mut String, x: u16, y: u16) -> Result<(), AllocError>
     out.push('H')
 }
 
-/// ED and EL (erase in display, erase in line): empties a part of the screen.
+/// Empties a part of the screen: ED and EL (erase in display, erase in line).
 ///
 /// # Errors
 ///
@@ -85,7 +85,7 @@ pub fn erase_all(out: &mut String, width: u16, height: u16) -> Result<(), AllocE
     erase(out, ClearType::BeforeCursor)
 }
 
-/// DECTCEM (text cursor enable mode): shows the cursor.
+/// Shows the cursor: DECTCEM (text cursor enable mode).
 ///
 /// # Errors
 ///
@@ -97,7 +97,7 @@ pub fn show_cursor(out: &mut String) -> Result<(), AllocError>
     out.push_str("\u{1b}[?25h")
 }
 
-/// DECTCEM (text cursor enable mode): hides the cursor.
+/// Hides the cursor: DECTCEM (text cursor enable mode).
 ///
 /// # Errors
 ///
@@ -109,22 +109,23 @@ pub fn hide_cursor(out: &mut String) -> Result<(), AllocError>
     out.push_str("\u{1b}[?25l")
 }
 
-/// What begins a synchronized update: what is printed from then on isn't shown before its end.
+/// Returns what begins a synchronized update: what is printed from then on isn't shown before its
+/// end.
 pub fn update_begin() -> &'static str
     ensures { (old : List ℕ) → Performs old (old ++ result.now) (holding true) }
 {
     "\u{1b}[?2026h"
 }
 
-/// What ends a synchronized update. It takes no memory.
+/// Returns what ends a synchronized update. It takes no memory.
 pub fn update_end() -> &'static str
     ensures { (old : List ℕ) → Performs old (old ++ result.now) (holding false) }
 {
     "\u{1b}[?2026l"
 }
 
-/// CR and LF (carriage return, line feed): to the first column, and `n` rows down; what goes past
-/// the end of the scroll region scrolls.
+/// Moves the cursor to the first column, and `n` rows down: CR and LF (carriage return, line feed).
+/// What goes past the end of the scroll region scrolls.
 ///
 /// # Errors
 ///
@@ -140,8 +141,8 @@ pub fn line_feeds(out: &mut String, n: u16) -> Result<(), AllocError>
     Ok(())
 }
 
-/// DECSTBM (set top and bottom margins): the rows from `top` up to `bottom` are the scroll region,
-/// and the cursor goes to the corner.
+/// Makes the rows from `top` up to `bottom` the scroll region, and moves the cursor to the corner:
+/// DECSTBM (set top and bottom margins).
 ///
 /// # Conditions
 ///
@@ -158,8 +159,8 @@ pub fn set_region(out: &mut String, top: u16, bottom: u16) -> Result<(), AllocEr
     write!(out, "\u{1b}[{};{}r", u32::from(top) + 1, bottom)
 }
 
-/// DECSTBM without margins: the whole screen is the scroll region, and the cursor goes to the
-/// corner.
+/// Makes the whole screen the scroll region, and moves the cursor to the corner: DECSTBM without
+/// margins.
 ///
 /// # Errors
 ///
@@ -170,8 +171,8 @@ pub fn reset_region(out: &mut String) -> Result<(), AllocError>
     out.push_str("\u{1b}[r")
 }
 
-/// DL (delete line): `n` rows from the cursor's on go, and those below them in the scroll region
-/// move up.
+/// Deletes `n` rows from the cursor's on, and moves those below them in the scroll region up: DL
+/// (delete line).
 ///
 /// # Conditions
 ///
@@ -188,8 +189,8 @@ pub fn delete_lines(out: &mut String, n: u16) -> Result<(), AllocError>
     write!(out, "\u{1b}[{}M", n)
 }
 
-/// IL (insert line): `n` blank rows come in at the cursor's row, and those from there on in the
-/// scroll region move down.
+/// Inserts `n` blank rows at the cursor's row, and moves those from there on in the scroll region
+/// down: IL (insert line).
 ///
 /// # Conditions
 ///

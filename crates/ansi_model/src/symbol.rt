@@ -13,8 +13,8 @@ use std::alloc::AllocError;
 use unicode_segmentation::UnicodeSegmentation;
 use unicode_width::UnicodeWidthChar;
 
-/// Whether a character is shown, or joins one that is: no control character, and none that turns
-/// the direction.
+/// Returns whether a character is shown, or joins one that is: no control character, and none that
+/// turns the direction.
 pub fn is_shown(c: char) -> bool
     ensures { result ≡ is_shown c }
 {
@@ -36,16 +36,16 @@ fn are_shown(text: &str) -> bool
     text.chars().all(|c| is_shown(c))
 }
 
-/// Whether a character takes one column and never joins its neighbours: printable ASCII, Latin
-/// letters, lines and blocks.
+/// Returns whether a character takes one column and never joins its neighbours: printable ASCII,
+/// Latin letters, lines and blocks.
 pub fn is_plain(c: char) -> bool
     ensures { result ≡ is_plain_char c }
 {
     matches!(c, ' '..='~' | '\u{c0}'..='\u{17f}' | '\u{2500}'..='\u{259f}')
 }
 
-/// How many columns a character takes alone: none if it is a control character or joins what is
-/// before it.
+/// Returns how many columns a character takes alone: none if it is a control character or joins
+/// what is before it.
 pub fn columns_of_char(c: char) -> u16
     ensures { result ≡ columns_of_char c }
 {
@@ -62,7 +62,7 @@ fn has_columns(c: char) -> bool
     is_plain(c) || columns_of_char(c) > 0
 }
 
-/// The character of a text that has only one.
+/// Returns the character of a text that has only one.
 pub fn only_char(text: &str) -> Option<char>
     ensures { result ≡ only_of (chars text.now) }
 {
@@ -75,7 +75,7 @@ pub fn only_char(text: &str) -> Option<char>
     None
 }
 
-/// The character of a text that has only one, which is printable ASCII.
+/// Returns the character of a text that has only one, which is printable ASCII.
 pub fn only_printable(text: &str) -> Option<char>
     ensures { IfSome result (λ c. (text.now ≡ c ∷ []) × (32 ≤ c) × (c ≤ 126)) }
 {
@@ -123,9 +123,9 @@ fn is_shown_as_one(text: &str) -> bool
     are_shown(text) && is_single(text)
 }
 
-/// Whether terminals show a text as one symbol: it has no control characters, none that turn the
-/// direction, begins with a character that has columns of its own, and only the first of its
-/// graphemes has columns.
+/// Returns whether terminals show a text as one symbol: it has no control characters, none that
+/// turn the direction, begins with a character that has columns of its own, and only the first of
+/// its graphemes has columns.
 pub fn is_symbol(text: &str) -> bool
     ensures { result ≡ is_symbol text.now }
 {

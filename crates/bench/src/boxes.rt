@@ -16,7 +16,7 @@ pub struct Border {
 }
 
 impl Border {
-    /// Boxes of 20 columns and 6 rows, each of which shares a side with the next one.
+    /// Makes boxes of 20 columns and 6 rows, each of which shares a side with the next one.
     pub fn joined(strategy: MergeStrategy) -> Border {
         Border {
             width: 20,
@@ -27,7 +27,7 @@ impl Border {
         }
     }
 
-    /// Boxes of ten columns and six rows, side by side.
+    /// Makes boxes of ten columns and six rows, side by side.
     pub fn apart() -> Border {
         Border {
             width: 10,

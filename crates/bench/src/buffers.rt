@@ -46,7 +46,7 @@ impl Work {
         Ok(Work::SetLine(Line::raw_string(alloc, text)?))
     }
 
-    /// A line of the words so many times.
+    /// Makes a line of the words so many times.
     pub fn aligned(
         alloc: Global,
         times: u8,
@@ -55,7 +55,7 @@ impl Work {
         Ok(Work::Line(line_of(alloc, times, Style::new(), 0)?.alignment(alignment)))
     }
 
-    /// A buffer of this size that is laid over.
+    /// Makes a buffer of this size that is laid over.
     pub fn merge(alloc: Global, width: u16, height: u16) -> Result<Work, AllocError> {
         let mut upper = Buffer::empty(alloc, Rect::new(0, 0, width, height))?;
         fill(alloc, &mut upper, 'm')?;
@@ -184,7 +184,7 @@ pub fn clones(alloc: Global, size: Size) -> Done {
     Ok(Some((all, sum(&buffer))))
 }
 
-/// The widths of all cells, one by one.
+/// Adds up the widths of all cells, one by one.
 pub fn widths(alloc: Global, size: Size, picture: Picture) -> Done {
     let mut buffer = painted(alloc, size.width, size.height, picture)?;
     let mut all: u64 = 0;
@@ -209,7 +209,7 @@ fn updates(previous: &Buffer, newer: &Buffer) -> u64 {
     count
 }
 
-/// The diffs of two equal buffers.
+/// Makes the diffs of two equal buffers.
 pub fn diffs(alloc: Global, size: Size, picture: Picture) -> Done {
     let mut previous = painted(alloc, size.width, size.height, picture)?;
     let mut newer = previous.clone(alloc)?;

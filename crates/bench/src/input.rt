@@ -81,7 +81,7 @@ fn row(alloc: Global, count: usize) -> Result<Layout, AllocError> {
     Layout::horizontal(alloc, constraints.as_slice())
 }
 
-/// The workload of this name, if it is one.
+/// Runs the workload of this name, if it is one.
 pub fn run(alloc: Global, name: &str, size: Size) -> Done {
     match name {
         "keys_text" => decodes(alloc, size, "the quick brown fox jumps over "),

@@ -41,7 +41,7 @@ pub struct Paint {
     odd: String,
 }
 
-/// The letter of a round.
+/// Returns the letter of a round.
 pub fn letter(round: u64) -> char {
     char::from(b'a' + (round % 26) as u8)
 }
@@ -168,7 +168,7 @@ impl Paint {
     }
 }
 
-/// A buffer of this size with the first picture.
+/// Makes a buffer of this size with the first picture.
 pub fn painted(
     alloc: Global,
     width: u16,

@@ -125,7 +125,8 @@ fn last_sum(alloc: Global, size: Size, act: Act) -> Result<u64, AllocError> {
     Ok(sum(&last))
 }
 
-/// Does rounds on a screen in memory: how many cells were written to it, and a sum over it.
+/// Does rounds on a screen in memory, and answers how many cells were written to it, and a sum over
+/// it.
 pub fn on_screen(alloc: Global, size: Size, act: Act) -> Done {
     let backend = TestBackend::new(alloc, size.width, size.height)?;
     let mut terminal = terminal_of(alloc, backend, act.viewport)?;
@@ -134,8 +135,8 @@ pub fn on_screen(alloc: Global, size: Size, act: Act) -> Done {
     Ok(Some((backend.cells_written(), sum(backend.buffer()))))
 }
 
-/// A terminal that sends bytes to memory, with a viewport of so many rows or the whole screen; what
-/// it sends first was flushed.
+/// Makes a terminal that sends bytes to memory, with a viewport of so many rows or the whole
+/// screen; what it sends first was flushed.
 pub fn sending(
     alloc: Global,
     size: Size,
@@ -152,8 +153,8 @@ pub fn sending(
     Ok(terminal)
 }
 
-/// Does rounds of an application that sends bytes: how many it flushed in them, and a sum over the
-/// last picture.
+/// Does rounds of an application that sends bytes, and answers how many it flushed in them, and a
+/// sum over the last picture.
 pub fn on_bytes(alloc: Global, size: Size, act: Act) -> Done {
     let mut terminal = sending(alloc, size, act.viewport)?;
     let before = terminal.backend().writer().flushed();

@@ -28,7 +28,7 @@ static WORDS: [&str; 6] = [
     "!",
 ];
 
-/// 250 printable characters.
+/// Makes a text of 250 printable characters.
 pub fn ascii(alloc: Global) -> Result<String, AllocError> {
     let mut text = String::new(alloc);
     for i in 0..250u32 {
@@ -37,7 +37,7 @@ pub fn ascii(alloc: Global) -> Result<String, AllocError> {
     Ok(text)
 }
 
-/// 130 wide characters, from this one on.
+/// Makes a text of 130 wide characters, from this one on.
 pub fn wide(alloc: Global, from: u64) -> Result<String, AllocError> {
     let all = "日本語の文字列を長い行に並べる".repeat(alloc, 11)?;
     let mut cut = String::new(alloc);
@@ -48,13 +48,14 @@ pub fn wide(alloc: Global, from: u64) -> Result<String, AllocError> {
     Ok(cut)
 }
 
-/// A green span of graphemes of all kinds.
+/// Makes a green span of graphemes of all kinds.
 pub fn marks(alloc: Global) -> Result<Span<'static>, AllocError> {
     let span = MARKS.repeat(alloc, 8)?.to_span(alloc)?;
     Ok(span.style(Style::new().fg(Color::Green)))
 }
 
-/// The words so many times, one after the other, in this style and in colours from this one on.
+/// Makes a line of the words so many times, one after the other, in this style and in colours from
+/// this one on.
 pub fn line_of(
     alloc: Global,
     times: u8,
@@ -71,7 +72,7 @@ pub fn line_of(
     Ok(Line::from(spans))
 }
 
-/// An empty line, and so many bold lines of the words.
+/// Makes a text of an empty line, and so many bold lines of the words.
 pub fn text_of(alloc: Global, count: u16) -> Result<Text<'static>, AllocError> {
     let style = Style::new().add_modifier(Modifier::BOLD);
     let mut lines = Vec::new(alloc);
@@ -97,7 +98,7 @@ fn mixed(sum: u64, byte: u8) -> u64 {
     (sum ^ u64::from(byte)).wrapping_mul(0x100000001B3)
 }
 
-/// A sum over the symbols and modifiers of a buffer.
+/// Returns a sum over the symbols and modifiers of a buffer.
 pub fn sum(buffer: &Buffer) -> u64 {
     let mut sum = 0xCBF29CE484222325;
     for cell in buffer.content() {

@@ -79,7 +79,7 @@ fn lists(alloc: Global, size: Size, count: u32) -> Done {
     Ok(Some((size.count, sum(&buffer))))
 }
 
-/// The workload of this name.
+/// Runs the workload of this name, if it is one.
 pub fn run(alloc: Global, name: &str, size: Size) -> Done {
     match name {
         "block" => blocks(alloc, size),

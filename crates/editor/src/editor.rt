@@ -131,14 +131,14 @@ impl Editor {
         })
     }
 
-    /// Answers whether the text isn't the one that was read or saved last.
+    /// Returns whether the text isn't the one that was read or saved last.
     pub fn is_changed(&self) -> bool
         ensures { IsTrue result ↔ (edited_text self.now ≢ string_bytes self.now.saved) }
     {
         self.area.text() != self.saved.as_str()
     }
 
-    /// Answers whether it has ended.
+    /// Returns whether it has ended.
     pub fn is_over(&self) -> bool
         ensures { IsTrue result ↔ (self.now.mode ≡ Over) }
     {
@@ -174,7 +174,7 @@ impl Editor {
         writer.write_all(self.area.text().as_bytes())
     }
 
-    /// Answers a copy of the text.
+    /// Returns a copy of the text.
     ///
     /// # Errors
     ///
@@ -185,7 +185,7 @@ impl Editor {
         String::from_str(self.alloc, self.area.text())
     }
 
-    /// Says how many lines a page has.
+    /// Sets how many lines a page has.
     pub fn set_page(&mut self, lines: usize)
         ensures saved { string_bytes self.new.saved ≡ string_bytes self.old.saved }
         ensures text { edited_text self.new ≡ edited_text self.old }

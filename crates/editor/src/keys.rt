@@ -85,7 +85,7 @@ fn code_command(key: KeyEvent) -> Option<Command>
     }
 }
 
-/// Answers the command of an event, if it is one: a letter beside Control or Alt alone, pressed.
+/// Returns the command of an event, if it is one: a letter beside Control or Alt alone, pressed.
 pub fn command_of(event: &Event) -> Option<Command>
     ensures { result ≡ asked_of event.now }
 {
@@ -121,7 +121,7 @@ fn is_yes(code: KeyCode) -> bool
     }
 }
 
-/// Answers what an event says to a question, if it is a key that is pressed: the letter `y` is yes,
+/// Returns what an event says to a question, if it is a key that is pressed: the letter `y` is yes,
 /// and any other key is no.
 pub fn answer_of(event: &Event) -> Option<bool>
     ensures { result ≡ answer_of event.now }
@@ -144,7 +144,7 @@ fn offer_by(code: KeyCode) -> Offer
     }
 }
 
-/// Answers what an event says to the question whether what was found is to be replaced, if it is a
+/// Returns what an event says to the question whether what was found is to be replaced, if it is a
 /// key that is pressed.
 pub fn offer_of(event: &Event) -> Option<Offer>
     ensures { result ≡ offer_of event.now }

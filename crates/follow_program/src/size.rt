@@ -6,7 +6,7 @@ use rtui_geometry::Size;
 use std::alloc::{AllocError, Global};
 use std::env;
 
-/// What the program takes: the columns and rows of the terminal.
+/// Returns what the program takes: the columns and rows of the terminal.
 pub fn command<'a>(alloc: Global) -> Result<Command<'a>, AllocError> {
     let columns = Arg::new(alloc, "COLUMNS")
         .help("How wide the terminal is; else the variable COLUMNS says it")
@@ -29,7 +29,8 @@ fn number_in(rt: &HostRuntime, variable: &str) -> Option<u16> {
     (number > 0).then_some(number)
 }
 
-/// The size of the terminal, if it is known: each number is the word's, or else the variable's.
+/// Returns the size of the terminal, if it is known: each number is the word's, or else the
+/// variable's.
 pub fn size_of(rt: &HostRuntime, matches: &ArgMatches<'_>) -> Option<Size> {
     let width = match matches.get_one::<u16>("COLUMNS") {
         Some(columns) => columns,

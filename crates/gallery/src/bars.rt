@@ -4,7 +4,7 @@ use ratatui_core::text::Line;
 use ratatui_widgets::{Bar, BarChart, Sparkline, SparklineBar};
 use std::alloc::{AllocError, Global};
 
-/// Numbers, a column each.
+/// Draws numbers, a column each.
 pub fn sparkline(alloc: Global, frame: &mut Frame<'_>) -> Result<(), AllocError> {
     let area = frame.area();
     let mut bars = Vec::new(alloc);
@@ -14,7 +14,7 @@ pub fn sparkline(alloc: Global, frame: &mut Frame<'_>) -> Result<(), AllocError>
     frame.render_widget(Sparkline::new(bars), area)
 }
 
-/// Bars with labels and values.
+/// Draws bars with labels and values.
 pub fn bar_chart(alloc: Global, frame: &mut Frame<'_>) -> Result<(), AllocError> {
     let area = frame.area();
     let mut bars = Vec::new(alloc);
@@ -25,7 +25,7 @@ pub fn bar_chart(alloc: Global, frame: &mut Frame<'_>) -> Result<(), AllocError>
     frame.render_widget(chart, area)
 }
 
-/// Bars that grow to the right.
+/// Draws bars that grow to the right.
 pub fn horizontal_bars(alloc: Global, frame: &mut Frame<'_>) -> Result<(), AllocError> {
     let area = frame.area();
     let mut bars = Vec::new(alloc);

@@ -4,7 +4,7 @@ use ratatui_core::terminal::Frame;
 use ratatui_widgets::{Block, BorderType, Padding, Paragraph, Wrap};
 use std::alloc::{AllocError, Global};
 
-/// A box with a title.
+/// Draws a box with a title.
 pub fn block(alloc: Global, frame: &mut Frame<'_>) -> Result<(), AllocError> {
     let area = frame.area();
     let block = Block::bordered(alloc)
@@ -14,7 +14,7 @@ pub fn block(alloc: Global, frame: &mut Frame<'_>) -> Result<(), AllocError> {
     frame.render_widget(block, area)
 }
 
-/// A text, wrapped at words, in a box.
+/// Draws a text, wrapped at words, in a box.
 pub fn paragraph(alloc: Global, frame: &mut Frame<'_>) -> Result<(), AllocError> {
     let area = frame.area();
     let block = Block::bordered(alloc).padding(Padding::horizontal(1));

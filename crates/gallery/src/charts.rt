@@ -7,7 +7,7 @@ use ratatui_widgets::canvas::{Canvas, Circle, Drawing, Line as Segment};
 use ratatui_widgets::{Axis, Chart, Dataset, GraphType};
 use std::alloc::{AllocError, Global};
 
-/// A circle and a line, in dots of braille.
+/// Draws a circle and a line, in dots of braille.
 pub fn canvas(frame: &mut Frame<'_>) -> Result<(), AllocError> {
     let area = frame.area();
     let (x, y, radius, color) = (24, 12, 10, Color::Green);
@@ -40,7 +40,7 @@ fn axis(alloc: Global) -> Result<Axis<'static>, AllocError> {
     Ok(Axis::new().bounds([0, 10]).labels(labels))
 }
 
-/// Points, each joined to the next one, between two axes with labels.
+/// Draws points, each joined to the next one, between two axes with labels.
 pub fn chart(alloc: Global, frame: &mut Frame<'_>) -> Result<(), AllocError> {
     let area = frame.area();
     let data = Dataset::new()

@@ -7,7 +7,7 @@ use ratatui_widgets::table::{Cell, Row};
 use ratatui_widgets::{List, ListItem, ListState, Table, Tabs};
 use std::alloc::{AllocError, Global};
 
-/// A list, of which the second item is selected.
+/// Draws a list, of which the second item is selected.
 pub fn list(alloc: Global, frame: &mut Frame<'_>) -> Result<(), AllocError> {
     let area = frame.area();
     let mut items = Vec::new(alloc);
@@ -25,7 +25,7 @@ fn row(alloc: Global, name: &'static str, size: &'static str) -> Result<Row<'sta
     Ok(Row::new(cells))
 }
 
-/// A table with a header.
+/// Draws a table with a header.
 pub fn table(alloc: Global, frame: &mut Frame<'_>) -> Result<(), AllocError> {
     let area = frame.area();
     let rows = vec![in alloc;
@@ -38,7 +38,7 @@ pub fn table(alloc: Global, frame: &mut Frame<'_>) -> Result<(), AllocError> {
     frame.render_widget(table, area)
 }
 
-/// Tabs, of which the second one is selected.
+/// Draws tabs, of which the second one is selected.
 pub fn tabs(alloc: Global, frame: &mut Frame<'_>) -> Result<(), AllocError> {
     let area = frame.area();
     let mut titles = Vec::new(alloc);

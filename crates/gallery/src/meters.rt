@@ -5,14 +5,14 @@ use ratatui_core::text::Line;
 use ratatui_widgets::{Gauge, LineGauge, Scrollbar, ScrollbarOrientation, ScrollbarState};
 use std::alloc::{AllocError, Global};
 
-/// A share of a whole, in eighths of a column.
+/// Draws a share of a whole, in eighths of a column.
 pub fn gauge(frame: &mut Frame<'_>) -> Result<(), AllocError> {
     let area = frame.area();
     let gauge = Gauge::new().ratio(1, 3).use_unicode(true).green();
     frame.render_widget(gauge, area)
 }
 
-/// A share of a whole, in one row.
+/// Draws a share of a whole, in one row.
 pub fn line_gauge(alloc: Global, frame: &mut Frame<'_>) -> Result<(), AllocError> {
     let area = frame.area();
     let gauge = LineGauge::new()
@@ -21,7 +21,7 @@ pub fn line_gauge(alloc: Global, frame: &mut Frame<'_>) -> Result<(), AllocError
     frame.render_widget(gauge, area)
 }
 
-/// Where the third of six parts is.
+/// Draws where the third of six parts is.
 pub fn scrollbar(frame: &mut Frame<'_>) -> Result<(), AllocError> {
     let area = frame.area();
     let mut state = ScrollbarState::new(6).position(2);

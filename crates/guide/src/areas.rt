@@ -7,7 +7,7 @@ use ratatui_core::layout::laws::who_takes_the_rest_leaves_nothing;
 use ratatui_core::layout::{Constraint, Layout, Rect, SplitInto};
 use std::alloc::{AllocError, Global};
 
-/// The first row of an area, and the rows below it.
+/// Returns the first row of an area, and the rows below it.
 ///
 /// # Errors
 ///

@@ -25,7 +25,7 @@ pub fn draw_hello<B: Backend>(
     terminal.draw(|frame| frame.render_widget(Span::raw("Hello"), frame.area()))
 }
 
-/// The same through a function of one's own that takes the closure: draws a text, and answers
+/// Does the same through a function of one's own that takes the closure: draws a text, and answers
 /// whether the frame is settled.
 ///
 /// # Errors

@@ -30,7 +30,7 @@ pub fn label(buffer: &mut Buffer, position: Position, text: &str) -> Result<(), 
     buffer.set_string(position.x, position.y, text, Style::new())
 }
 
-/// What shown pieces are, column by column.
+/// Says what shown pieces are, column by column.
 pub fn pieces_stand()
     ensures { (area : Rect) (p : Position) (ps : List Piece) (g : Grid) → HasPosition area p
         → columns ps ≤ area.x + area.width - p.x → ShowsLabel area p ps g → StandsAt area p ps g }

@@ -51,7 +51,7 @@ fn is_end(event: Event) -> bool {
 }
 
 impl Shown {
-    /// Nothing has come.
+    /// Begins where nothing has come.
     pub fn new() -> Shown {
         Shown {
             decoder: Decoder::new(),
@@ -82,7 +82,7 @@ impl Shown {
     }
 
     /// Writes the events of the bytes of a read; where nothing came, what had come is taken as
-    /// whole. Whether one of them ends the program.
+    /// whole. Returns whether one of them ends the program.
     pub fn take<W: Write>(&mut self, bytes: &[u8], out: &mut W) -> io::Result<bool> {
         if bytes.is_empty() {
             let event = self.decoder.settle();

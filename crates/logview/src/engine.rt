@@ -90,7 +90,7 @@ fn view_of_text(alloc: Global, text: &str) -> Result<LogView<TestBackend>, LogFa
     Ok(view)
 }
 
-/// The view of the log that these bytes are: a line `W H` of columns and rows, both from 1 to
+/// Makes the view of the log that these bytes are: a line `W H` of columns and rows, both from 1 to
 /// 65535, and then any lines.
 ///
 /// # Errors

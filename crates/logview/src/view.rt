@@ -85,7 +85,7 @@ pub struct LogView<B: Backend> {
 }
 
 impl<B: Backend + Drop> LogView<B> {
-    /// A view without lines: its status line stands in the cursor's row, or in the last one.
+    /// Makes a view without lines: its status line stands in the cursor's row, or in the last one.
     ///
     /// # Errors
     ///
@@ -174,21 +174,21 @@ impl<B: Backend> LogView<B> {
         self.draw_status()
     }
 
-    /// How many lines were pushed; it stays at the greatest number.
+    /// Returns how many lines were pushed; it stays at the greatest number.
     pub fn count(&self) -> u64
         ensures { result ≡ self.now.count }
     {
         self.count
     }
 
-    /// The terminal that shows them.
+    /// Returns the terminal that shows them.
     pub fn terminal(&self) -> &Terminal<B>
         ensures { result.now ≡ self.now.terminal }
     {
         &self.terminal
     }
 
-    /// The terminal, when the view is done with: as the last call left it.
+    /// Gives the terminal back, when the view is done with: as the last call left it.
     pub fn into_terminal(self) -> Terminal<B>
         ensures { result ≡ self.terminal }
     {

@@ -24,8 +24,8 @@ fn link_of(stream: Stream) -> &'static str {
     }
 }
 
-/// Whether a stream is a terminal. On one a read that finds nothing is a tick; elsewhere it is the
-/// end of what is read. What the system doesn't tell is no terminal.
+/// Returns whether a stream is a terminal. On one a read that finds nothing is a tick; elsewhere it
+/// is the end of what is read. What the system doesn't tell is no terminal.
 ///
 /// ```
 /// let has_ticks = is_terminal(&rt, Stream::Input);

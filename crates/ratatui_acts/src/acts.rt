@@ -33,11 +33,11 @@ pub trait Acts {
         ensures same { IfOk result (λ changed. changed ≡ false → self.new ≡ self.old) }
         ensures refused { OnErr result (self.new ≡ self.old) };
 
-    /// What it asks for.
+    /// Returns what it asks for.
     fn asked(&self) -> Option<&Self::Command>
         ensures { option_map (λ command. command.now) result ≡ asked self.now };
 
-    /// Whether it takes no more messages.
+    /// Returns whether it takes no more messages.
     fn is_over(&self) -> bool
         ensures { result ≡ is_over self.now };
 }

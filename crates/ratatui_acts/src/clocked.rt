@@ -22,7 +22,7 @@ pub struct Clocked<'a, S, C> {
 }
 
 impl<'a, S: Source + Drop, C: Clock> Clocked<'a, S, C> {
-    /// A source whose time begins now.
+    /// Makes a source whose time begins now.
     ///
     /// # Errors
     ///

@@ -26,7 +26,7 @@ impl Model for Queue {
 }
 
 impl Queue {
-    /// No events.
+    /// Makes a queue without events.
     pub fn new(alloc: Global) -> Queue
         ensures { result ≡ [] }
     {
@@ -35,7 +35,7 @@ impl Queue {
         }
     }
 
-    /// How many there are.
+    /// Returns how many there are.
     pub fn len(&self) -> usize
         ensures { result ≡ length self.now }
     {

@@ -39,7 +39,7 @@ struct Effect {
 }
 
 impl<A: Acts> Seat<A> {
-    /// A state that was told nothing.
+    /// Takes a state that was told nothing.
     pub fn new(alloc: Global, state: A) -> Seat<A>
         ensures { seated result ≡ record { decoder = fresh_decoder; left = []; state = state } }
     {
@@ -50,21 +50,21 @@ impl<A: Acts> Seat<A> {
         }
     }
 
-    /// The state.
+    /// Returns the state.
     pub fn state(&self) -> &A
         ensures { result.now ≡ (seated self.now).state }
     {
         &self.state
     }
 
-    /// The state again; what was read and not told is lost.
+    /// Returns the state again; what was read and not told is lost.
     pub fn into_state(self) -> A
         ensures { result ≡ self.state }
     {
         self.state
     }
 
-    /// Whether the state asks for something.
+    /// Returns whether the state asks for something.
     pub fn asks(&self) -> bool
         ensures { result ≡ is_some (A.asked self.now.state) }
     {

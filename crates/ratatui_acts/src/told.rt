@@ -20,7 +20,7 @@ pub struct Told {
 }
 
 impl Told {
-    /// All may have changed, and nothing else is known: so the first frame is shown.
+    /// Says that all may have changed, and that nothing else is known: so the first frame is shown.
     pub fn first() -> Told
         ensures { result ≡ first_told }
     {

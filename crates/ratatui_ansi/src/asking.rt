@@ -16,8 +16,8 @@ use ansi_model::{Command, KeyboardEnhancementFlags, SetCursorStyle};
 use std::io::Write;
 
 impl<W: Write + Drop> AnsiBackend<W> {
-    /// From now on the terminal tells presses, moves and the wheel of the mouse on its input, or no
-    /// longer. The screen stays.
+    /// Sets whether from now on the terminal tells presses, moves and the wheel of the mouse on its
+    /// input. The screen stays.
     ///
     /// # Errors
     ///
@@ -40,7 +40,7 @@ impl<W: Write + Drop> AnsiBackend<W> {
         self.set(Call::Command(command), self.settings.after(command))
     }
 
-    /// From now on the terminal encloses what is pasted in marks on its input, or no longer. The
+    /// Sets whether from now on the terminal encloses what is pasted in marks on its input. The
     /// screen stays.
     ///
     /// # Errors
@@ -64,8 +64,8 @@ impl<W: Write + Drop> AnsiBackend<W> {
         self.set(Call::Command(command), self.settings.after(command))
     }
 
-    /// From now on the terminal tells on its input that its window has the focus or lost it, or no
-    /// longer. The screen stays.
+    /// Sets whether from now on the terminal tells on its input that its window has the focus or
+    /// lost it. The screen stays.
     ///
     /// # Errors
     ///
@@ -120,7 +120,7 @@ impl<W: Write + Drop> AnsiBackend<W> {
         self.send(Call::AskSize)
     }
 
-    /// From now on the terminal shows its cursor in this shape. The screen stays.
+    /// Sets the shape in which the terminal shows its cursor from now on. The screen stays.
     ///
     /// # Errors
     ///
@@ -138,8 +138,8 @@ impl<W: Write + Drop> AnsiBackend<W> {
         self.set(Call::Command(command), self.settings.after(command))
     }
 
-    /// From now on the terminal tells each change of its window's size on its input, if it knows
-    /// mode 2048, or no longer. The screen stays.
+    /// Sets whether from now on the terminal tells each change of its window's size on its input,
+    /// if it knows mode 2048. The screen stays.
     ///
     /// # Errors
     ///
@@ -162,8 +162,9 @@ impl<W: Write + Drop> AnsiBackend<W> {
         self.set(Call::Command(command), self.settings.after(command))
     }
 
-    /// From now on a terminal that knows kitty's keyboard protocol tells keys by these flags, until
-    /// `pop_keyboard_enhancement_flags`; each `push` wants a `pop` of its own. The screen stays.
+    /// Has a terminal that knows kitty's keyboard protocol tell keys by these flags from now on,
+    /// until `pop_keyboard_enhancement_flags`; each `push` wants a `pop` of its own. The screen
+    /// stays.
     ///
     /// ```
     /// backend.push_keyboard_enhancement_flags(KeyboardEnhancementFlags::REPORT_EVENT_TYPES)?;
@@ -185,8 +186,8 @@ impl<W: Write + Drop> AnsiBackend<W> {
         self.set(Call::PushKeyboardFlags(flags), self.settings.with_flags())
     }
 
-    /// From now on the terminal tells keys as before the last `push_keyboard_enhancement_flags`. The
-    /// screen stays.
+    /// Has the terminal tell keys from now on as before the last `push_keyboard_enhancement_flags`.
+    /// The screen stays.
     ///
     /// # Errors
     ///

@@ -149,10 +149,10 @@ impl<W: Write + Drop> AnsiBackend<W> {
         }
     }
 
-    /// A backend of a screen of this size in columns and rows, over a terminal that is made blank:
-    /// what stood on it is scrolled into its history, and then what makes it blank is written. On a
-    /// terminal that is higher these are its first rows; what stood in those below stays, one row
-    /// lower, but for the last row.
+    /// Makes a backend of a screen of this size in columns and rows, over a terminal that is made
+    /// blank: what stood on it is scrolled into its history, and then what makes it blank is
+    /// written. On a terminal that is higher these are its first rows; what stood in those below
+    /// stays, one row lower, but for the last row.
     ///
     /// ```
     /// let writer = BufWriter::new(alloc, rt.stdout())?;
@@ -191,8 +191,9 @@ impl<W: Write + Drop> AnsiBackend<W> {
         AnsiBackend::begin(alloc, writer, size, tracker, first.as_str(), false)
     }
 
-    /// The same on the terminal's alternate screen: its main screen is put aside as it is, and
-    /// `leave` brings it back. Rows that scroll off an alternate screen can't be scrolled back to.
+    /// Makes the same on the terminal's alternate screen: its main screen is put aside as it is,
+    /// and `leave` brings it back. Rows that scroll off an alternate screen can't be scrolled back
+    /// to.
     ///
     /// # Errors
     ///
@@ -221,11 +222,11 @@ impl<W: Write + Drop> AnsiBackend<W> {
         AnsiBackend::begin(alloc, writer, size, tracker, opening_alternate(), true)
     }
 
-    /// The writer. If its bytes are known, and no write failed since the backend began or began
-    /// again, it holds what it held then, and after that what was sent since: each terminal of this
-    /// size that reads this shows the backend's screen, however it was left before, and the model
-    /// is sure of it. If no call failed, no write did. The bytes are known of each writer of a kind
-    /// of which they always are.
+    /// Returns the writer. If its bytes are known, and no write failed since the backend began or
+    /// began again, it holds what it held then, and after that what was sent since: each terminal
+    /// of this size that reads this shows the backend's screen, however it was left before, and the
+    /// model is sure of it. If no call failed, no write did. The bytes are known of each writer of
+    /// a kind of which they always are.
     pub fn writer(&self) -> &W
         ensures writer { result.now ≡ self.now.writer }
         ensures tied { self.now.is_broken ≡ false
@@ -238,9 +239,9 @@ impl<W: Write + Drop> AnsiBackend<W> {
         &self.sender.writer
     }
 
-    /// The writer, to be written by hand between two calls. What its terminal shows isn't known from
-    /// then on: so this counts as a failed call, and each call is refused until `restart` or `resize`
-    /// begins again after what was written.
+    /// Returns the writer, to be written by hand between two calls. What its terminal shows isn't
+    /// known from then on: so this counts as a failed call, and each call is refused until
+    /// `restart` or `resize` begins again after what was written.
     pub fn writer_mut(&mut self) -> &mut W
         ensures* writes_back { let row = the_row W.row W.Write in
             sem 𝓛 (Lends row W.row self.entry result (with_writer self.entry.now)) }
@@ -250,7 +251,7 @@ impl<W: Write + Drop> AnsiBackend<W> {
         &mut self.sender.writer
     }
 
-    /// The writer, as `writer` lends it.
+    /// Returns the writer, as `writer` lends it.
     pub fn into_writer(self) -> W
         ensures writer { result ≡ self.writer }
         ensures tied { self.is_broken ≡ false
@@ -307,26 +308,26 @@ impl<W: Write + Drop> AnsiBackend<W> {
         Ok(sender.writer)
     }
 
-    /// From now on the backend sends colours of the underline, or refuses them, as it does at
-    /// first: some terminals misread them.
+    /// Sets whether from now on the backend sends colours of the underline, or refuses them, as it
+    /// does at first: some terminals misread them.
     pub fn set_underline_colors(&mut self, has_underline_colors: bool)
         ensures { self.new ≡ record self.old { has_underline_colors = has_underline_colors } }
     {
         self.tracker.has_underline_colors = has_underline_colors;
     }
 
-    /// From now on a draw sends a move between each symbol but ASCII and the next one, or none, as
-    /// at first: some terminals are set to take ambiguous characters, such as lines and letters with
-    /// accents, as wide, and would shift what comes after them.
+    /// Sets whether from now on a draw sends a move between each symbol but ASCII and the next one,
+    /// or none, as at first: some terminals are set to take ambiguous characters, such as lines and
+    /// letters with accents, as wide, and would shift what comes after them.
     pub fn set_ambiguous_is_wide(&mut self, ambiguous_is_wide: bool)
         ensures { self.new ≡ record self.old { ambiguous_is_wide = ambiguous_is_wide } }
     {
         self.tracker.ambiguous_is_wide = ambiguous_is_wide;
     }
 
-    /// From now on each draw is sent within a synchronized update, which the terminal shows at once,
-    /// or none is, as at first. After a failed write the update's end is sent, as far as the writer
-    /// takes it.
+    /// Sets whether from now on each draw is sent within a synchronized update, which the terminal
+    /// shows at once, or none is, as at first. After a failed write the update's end is sent, as
+    /// far as the writer takes it.
     pub fn set_synchronized(&mut self, is_synchronized: bool)
         ensures { self.new ≡ record self.old { is_synchronized = is_synchronized } }
     {
@@ -386,10 +387,10 @@ impl<W: Write + Drop> AnsiBackend<W> {
         Ok(())
     }
 
-    /// The window has this size. If it is another one than the backend's, the backend begins again
-    /// on a terminal of this size, which is made blank, so that the next draw of a terminal over it
-    /// finds another size. A size that the backend has already changes nothing, unless a write failed
-    /// before: then it begins again, too.
+    /// Takes it that the window has this size. If it is another one than the backend's, the backend
+    /// begins again on a terminal of this size, which is made blank, so that the next draw of a
+    /// terminal over it finds another size. A size that the backend has already changes nothing,
+    /// unless a write failed before: then it begins again, too.
     ///
     /// # Errors
     ///

@@ -24,7 +24,7 @@ pub(crate) struct Sender<W: Write> {
 }
 
 impl<W: Write> Sender<W> {
-    /// Nothing was sent to this writer.
+    /// Takes a writer to which nothing was sent.
     pub(crate) fn new(writer: W) -> Sender<W>
         ensures writer { result.writer ≡ writer }
         ensures before { result.sent.before ≡ W.contents writer }
@@ -132,7 +132,7 @@ impl<W: Write> Sender<W> {
         let _ended = self.writer.write_all(update_end().as_bytes());
     }
 
-    /// The same, if a write failed before.
+    /// Ends a synchronized update, if a write failed before, as far as the writer takes that.
     pub(crate) fn mend(&mut self)
         ensures writer { self.new ≡ record self.old { writer = self.new.writer } }
         ensures works { self.old.is_broken ≡ false → self.new ≡ self.old }
@@ -199,7 +199,7 @@ impl<W: Write> Sender<W> {
         Ok(())
     }
 
-    /// Nothing is known of the terminal from now on, as after a failed write.
+    /// Takes it from now on that nothing is known of the terminal, as after a failed write.
     pub(crate) fn leave_off(&mut self)
         ensures { self.new ≡ record self.old {
           failures = min (self.old.failures + 1) (2 ^ 64 - 1);
@@ -218,7 +218,7 @@ impl<W: Write> Sender<W> {
         self.is_broken = false;
     }
 
-    /// From now on nothing was sent to the writer.
+    /// Takes it from now on that nothing was sent to the writer.
     pub(crate) fn renew(&mut self)
         ensures writer { self.new.writer ≡ self.old.writer }
         ensures before { self.new.sent.before ≡ W.contents self.old.writer }

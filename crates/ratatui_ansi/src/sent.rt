@@ -20,7 +20,7 @@ impl Model for Sent {
 }
 
 impl Sent {
-    /// Nothing was sent to this writer.
+    /// Begins with nothing sent to this writer.
     pub(crate) fn new<W: Write>(_writer: &W) -> Sent
         ensures before { result.before ≡ W.contents _writer.now }
         ensures bytes { result.bytes ≡ [] }
@@ -30,7 +30,7 @@ impl Sent {
         }
     }
 
-    /// Bytes are sent.
+    /// Notes that bytes are sent.
     pub(crate) fn note(&mut self, _bytes: &[u8])
         ensures { self.new ≡ record self.old { bytes = self.old.bytes ++ _bytes.now } }
     {}

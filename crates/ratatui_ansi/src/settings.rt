@@ -58,7 +58,7 @@ fn take_back(text: &mut Farewell, is_set: bool, command: Command)
 }
 
 impl Settings {
-    /// Nothing was set.
+    /// Makes the settings where nothing was set.
     pub(crate) const fn none() -> Settings
         ensures { result ≡ no_settings }
     {
@@ -73,7 +73,7 @@ impl Settings {
         }
     }
 
-    /// These, after a command.
+    /// Returns these, after a command.
     pub(crate) fn after(self, command: Command) -> Settings
         ensures { result ≡ after_command command self }
     {
@@ -96,7 +96,7 @@ impl Settings {
         after
     }
 
-    /// These, after a set of keyboard flags was put on the terminal's stack.
+    /// Returns these, after a set of keyboard flags was put on the terminal's stack.
     pub(crate) fn with_flags(self) -> Settings
         ensures { result ≡ with_flags self }
     {
@@ -105,7 +105,7 @@ impl Settings {
         after
     }
 
-    /// These, after the window was given a title.
+    /// Returns these, after the window was given a title.
     pub(crate) fn with_title(self) -> Settings
         ensures { result ≡ with_title self }
     {
@@ -114,7 +114,7 @@ impl Settings {
         after
     }
 
-    /// What is set here or there.
+    /// Returns what is set here or there.
     pub(crate) fn either(self, other: Settings) -> Settings
         ensures { result ≡ either self other }
     {
@@ -141,7 +141,7 @@ impl Settings {
         }
     }
 
-    /// What takes these back: nothing of what the terminal shows changes.
+    /// Returns what takes these back: nothing of what the terminal shows changes.
     pub(crate) fn undo(self) -> Farewell
         ensures bytes { result.bytes ≡ undo_bytes self }
         ensures short { length result.bytes ≤ 224 }

@@ -15,8 +15,8 @@ fn number_in<R: Env + Alloc>(rt: &R, variable: &str) -> Option<u16>
     if number > 0 { Some(number) } else { None }
 }
 
-/// The terminal's size as the variables COLUMNS and LINES tell it: `tools/raw` and `tools/play` set
-/// them. What they don't tell is 80 columns or 24 rows.
+/// Returns the terminal's size as the variables COLUMNS and LINES tell it: `tools/raw` and
+/// `tools/play` set them. What they don't tell is 80 columns or 24 rows.
 ///
 /// ```
 /// let backend = AnsiBackend::new(alloc, writer, size_told(&rt))?;

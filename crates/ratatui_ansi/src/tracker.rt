@@ -68,7 +68,7 @@ pub(crate) struct Tracker {
 }
 
 impl Tracker {
-    /// That of a blank terminal of this size, and what makes one blank.
+    /// Makes the tracker of a blank terminal of this size, and what makes one blank.
     pub(crate) fn new(alloc: Global, size: Size) -> Result<Tracker, AnsiError>
         ensures ok { IfOk result (BeginsBlank size) }
         ensures colors { IfOk result (λ k. k.has_underline_colors ≡ false) }

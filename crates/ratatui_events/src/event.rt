@@ -31,7 +31,7 @@ pub enum Event {
 }
 
 impl Event {
-    /// Whether a key was pressed.
+    /// Returns whether a key was pressed.
     pub fn is_key_press(&self) -> bool
         ensures { IsTrue result ↔ IsKeyOfKind self.now Press }
     {
@@ -41,7 +41,7 @@ impl Event {
         }
     }
 
-    /// Whether a key is held.
+    /// Returns whether a key is held.
     pub fn is_key_repeat(&self) -> bool
         ensures { IsTrue result ↔ IsKeyOfKind self.now Repeat }
     {
@@ -51,7 +51,7 @@ impl Event {
         }
     }
 
-    /// Whether a key was let go.
+    /// Returns whether a key was let go.
     pub fn is_key_release(&self) -> bool
         ensures { IsTrue result ↔ IsKeyOfKind self.now Release }
     {
@@ -61,7 +61,7 @@ impl Event {
         }
     }
 
-    /// The key, if this is one.
+    /// Returns the key, if this is one.
     pub fn as_key_event(&self) -> Option<KeyEvent>
         ensures { result ≡ key_of self.now }
     {
@@ -71,7 +71,7 @@ impl Event {
         }
     }
 
-    /// The key, if this is one that was pressed.
+    /// Returns the key, if this is one that was pressed.
     pub fn as_key_press_event(&self) -> Option<KeyEvent>
         ensures { result ≡ pressed_key_of self.now }
     {
@@ -84,7 +84,7 @@ impl Event {
         }
     }
 
-    /// What the mouse did, if this is an event of the mouse.
+    /// Returns what the mouse did, if this is an event of the mouse.
     pub fn as_mouse_event(&self) -> Option<MouseEvent>
         ensures { result ≡ mouse_of self.now }
     {

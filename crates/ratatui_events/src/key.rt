@@ -29,21 +29,21 @@ impl KeyModifiers {
     /// The empty set, which `empty()` answers too.
     pub const NONE: KeyModifiers = KeyModifiers(0);
 
-    /// The set with these bits.
+    /// Makes the set with these bits.
     pub const fn of(bits: u8) -> KeyModifiers
         ensures { result ≡ held bits }
     {
         KeyModifiers(bits)
     }
 
-    /// The bits of the set.
+    /// Returns the bits of the set.
     pub const fn to_bits(self) -> u8
         ensures { result ≡ modifier_bits self }
     {
         self.0
     }
 
-    /// Whether all keys of another set are held.
+    /// Returns whether all keys of another set are held.
     ///
     /// ```
     /// let is_end = key.modifiers.contains(KeyModifiers::CONTROL) && key.code == KeyCode::Char('c');
@@ -94,7 +94,7 @@ impl KeyEventState {
     /// No lock was on, and the key isn't one of the keypad.
     pub const NONE: KeyEventState = KeyEventState(0);
 
-    /// The state with these bits.
+    /// Makes the state with these bits.
     pub const fn of(bits: u8) -> KeyEventState
         ensures { result ≡ locks bits }
     {
@@ -205,7 +205,7 @@ pub enum KeyCode {
 }
 
 impl KeyCode {
-    /// Whether this is the function key of this number.
+    /// Returns whether this is the function key of this number.
     pub fn is_function_key(self, number: u8) -> bool
         ensures { IsTrue result ↔ (self ≡ F number) }
     {
@@ -215,7 +215,7 @@ impl KeyCode {
         }
     }
 
-    /// Whether this is the key of this character.
+    /// Returns whether this is the key of this character.
     pub fn is_char(self, character: char) -> bool
         ensures { IsTrue result ↔ (self ≡ Char character) }
     {
@@ -225,7 +225,7 @@ impl KeyCode {
         }
     }
 
-    /// The character of the key, if it has one.
+    /// Returns the character of the key, if it has one.
     pub fn as_char(self) -> Option<char>
         ensures { result ≡ key_character self }
     {
@@ -253,7 +253,7 @@ pub struct KeyEvent {
 impl KeyEvent {
     ghost use Rattle.ratatui_events.specs.Key.{pressed, key_of_kind};
 
-    /// A key that is pressed.
+    /// Makes a key that is pressed.
     pub const fn new(code: KeyCode, modifiers: KeyModifiers) -> KeyEvent
         ensures { result ≡ pressed code modifiers }
     {
@@ -265,7 +265,7 @@ impl KeyEvent {
         }
     }
 
-    /// A key that is pressed, held or let go.
+    /// Makes a key that is pressed, held or let go.
     pub const fn new_with_kind(
         code: KeyCode,
         modifiers: KeyModifiers,
@@ -281,7 +281,7 @@ impl KeyEvent {
         }
     }
 
-    /// A key that is pressed, held or let go, with what the locks were.
+    /// Makes a key that is pressed, held or let go, with what the locks were.
     pub const fn new_with_kind_and_state(
         code: KeyCode,
         modifiers: KeyModifiers,
@@ -298,21 +298,21 @@ impl KeyEvent {
         }
     }
 
-    /// Whether the key was pressed.
+    /// Returns whether the key was pressed.
     pub fn is_press(&self) -> bool
         ensures { IsTrue result ↔ (self.now.kind ≡ Press) }
     {
         matches!(self.kind, KeyEventKind::Press)
     }
 
-    /// Whether the key is held.
+    /// Returns whether the key is held.
     pub fn is_repeat(&self) -> bool
         ensures { IsTrue result ↔ (self.now.kind ≡ Repeat) }
     {
         matches!(self.kind, KeyEventKind::Repeat)
     }
 
-    /// Whether the key was let go.
+    /// Returns whether the key was let go.
     pub fn is_release(&self) -> bool
         ensures { IsTrue result ↔ (self.now.kind ≡ Release) }
     {

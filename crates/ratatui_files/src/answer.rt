@@ -53,7 +53,7 @@ impl Model for Entries {
 }
 
 impl Entries {
-    /// These entries.
+    /// Takes these entries.
     pub fn new(entries: Vec<Info>) -> Entries
         ensures { result ≡ entries.items }
     {
@@ -120,7 +120,7 @@ pub enum Failure {
 }
 
 impl Failure {
-    /// What a kind of error of the system is called here.
+    /// Returns what a kind of error of the system is called here.
     pub fn of(kind: ErrorKind) -> Failure
         ensures { result ≡ failure_of kind }
     {

@@ -17,7 +17,7 @@ pub struct Failing<P> {
 }
 
 impl<P: Performs> Failing<P> {
-    /// What does so many commands, then fails at one, and does all that follow.
+    /// Makes what does so many commands, then fails at one, and does all that follow.
     pub fn new(performs: P, before: u64, failure: Failure) -> Failing<P>
         ensures { result ≡ record {
           performs = performs;

@@ -36,7 +36,7 @@ pub struct Files<P> {
 }
 
 impl<P: Performs> Files<P> {
-    /// The outside that does commands by this.
+    /// Makes the outside that does commands by this.
     pub fn new(performs: P) -> Files<P>
         ensures { result.performs ≡ performs }
     {

@@ -35,7 +35,7 @@ impl Model for InMemory {
 }
 
 impl InMemory {
-    /// An empty tree, where the time since 1970 is this.
+    /// Makes an empty tree, where the time since 1970 is this.
     pub fn new(alloc: Global, time: Duration) -> InMemory
         ensures { result ≡ record { entries = []; time = time } }
     {
@@ -53,7 +53,7 @@ impl InMemory {
         self.time = time;
     }
 
-    /// What stands in it.
+    /// Returns what stands in it.
     pub fn entries(&self) -> &[Entry]
         ensures { result.now ≡ self.now.entries }
     {

@@ -100,7 +100,7 @@ pub struct OnDisk<'a, R> {
 }
 
 impl<'a, R: Files + Alloc<A = Global> + Clock + Clone + Drop> OnDisk<'a, R> {
-    /// The files in the folder at this path of the system's.
+    /// Takes the files in the folder at this path of the system's.
     pub fn new(rt: &'a R, folder: &'a str) -> OnDisk<'a, R>
         ensures { result.folder.now ≡ folder.now }
     {

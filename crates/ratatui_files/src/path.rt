@@ -34,7 +34,7 @@ impl Model for Path {
 }
 
 impl Path {
-    /// The path that a text is, if it is one.
+    /// Makes the path that a text is, if it is one.
     pub fn new(text: String) -> Option<Path>
         ensures { MatchOption result (is_path (string_bytes text) ≡ false)
             (λ path. path ≡ string_bytes text) }
@@ -46,7 +46,7 @@ impl Path {
         }
     }
 
-    /// The folder that all is in.
+    /// Returns the folder that all is in.
     pub fn root(alloc: Global) -> Path
         ensures { result ≡ [] }
     {
@@ -55,7 +55,7 @@ impl Path {
         }
     }
 
-    /// A copy of it.
+    /// Copies it.
     ///
     /// # Errors
     ///
@@ -76,14 +76,14 @@ impl Path {
         self.text.as_str()
     }
 
-    /// Whether it lies in this folder, or in a folder of it.
+    /// Returns whether it lies in this folder, or in a folder of it.
     pub fn is_inside(&self, folder: &Path) -> bool
         ensures { result ≡ is_inside folder.now self.now }
     {
         is_inside(folder.as_str(), self.as_str())
     }
 
-    /// The path of a name in this folder, or none if that can't be a name.
+    /// Returns the path of a name in this folder, or none if that can't be a name.
     ///
     /// # Errors
     ///
@@ -114,7 +114,7 @@ fn has_slash(text: &[u8]) -> bool
     text.iter().any(|b| *b == b'/')
 }
 
-/// Whether a text can be a name in a folder.
+/// Returns whether a text can be a name in a folder.
 pub fn is_name(name: &[u8]) -> bool
     ensures { result ≡ is_name name.now }
 {
@@ -124,7 +124,7 @@ pub fn is_name(name: &[u8]) -> bool
         && !has_unnamed(name)
 }
 
-/// Whether a text is a path.
+/// Returns whether a text is a path.
 pub fn is_path(text: &[u8]) -> bool
     ensures { result ≡ is_path text.now }
 {

@@ -20,14 +20,14 @@ impl Model for Text {
 }
 
 impl Text {
-    /// This text.
+    /// Takes this text.
     pub fn new(text: String) -> Text
         ensures { result ≡ string_bytes text }
     {
         Text { text }
     }
 
-    /// A copy of a text.
+    /// Copies a text.
     ///
     /// # Errors
     ///
@@ -70,14 +70,14 @@ impl Model for Bytes {
 }
 
 impl Bytes {
-    /// These bytes.
+    /// Takes these bytes.
     pub fn new(bytes: Vec<u8>) -> Bytes
         ensures { result ≡ bytes.items }
     {
         Bytes { bytes }
     }
 
-    /// A copy of these bytes.
+    /// Copies these bytes.
     ///
     /// # Errors
     ///

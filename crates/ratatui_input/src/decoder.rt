@@ -372,7 +372,7 @@ fn pasted(key: KeyEvent) -> Event
 }
 
 impl Decoder {
-    /// A decoder that has read nothing.
+    /// Makes a decoder that has read nothing.
     pub fn new() -> Decoder
         ensures { result ≡ record { state = Ground; is_pasting = false } }
     {
@@ -459,7 +459,7 @@ impl Decoder {
         }
     }
 
-    /// Whether nothing of a further event has come.
+    /// Returns whether nothing of a further event has come.
     pub fn is_empty(&self) -> bool
         ensures { IsTrue result ↔ (self.now.state ≡ Ground) }
     {

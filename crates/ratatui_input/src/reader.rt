@@ -112,7 +112,7 @@ pub struct EventReader<R> {
 }
 
 impl<R: Read> EventReader<R> {
-    /// Nothing is read yet.
+    /// Makes a reader of events that has read nothing yet.
     pub fn new(reader: R) -> EventReader<R>
         ensures source { source result ≡ reader }
         ensures nothing { unread result ≡ ([], fresh_decoder) }
@@ -123,8 +123,8 @@ impl<R: Read> EventReader<R> {
         }
     }
 
-    /// The next event, reading until one is whole. `None` if a read found nothing and nothing that
-    /// had come is a key by itself.
+    /// Returns the next event, reading until one is whole. `None` if a read found nothing and
+    /// nothing that had come is a key by itself.
     ///
     /// # Errors
     ///

@@ -24,7 +24,7 @@ pub trait IntoCell<'a> {
     // whether it becomes one without memory
     ghost takes_none: { Self → Type 0 } = { λ _. ⊥ };
 
-    /// The cell that it becomes.
+    /// Returns the cell that it becomes.
     ///
     /// # Errors
     ///

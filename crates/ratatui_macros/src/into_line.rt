@@ -19,7 +19,7 @@ pub trait IntoLine<'a> {
     // whether it becomes one without memory
     ghost takes_none: { Self → Type 0 } = { λ _. ⊥ };
 
-    /// The line that it becomes.
+    /// Returns the line that it becomes.
     ///
     /// # Errors
     ///

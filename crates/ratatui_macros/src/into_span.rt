@@ -16,7 +16,7 @@ pub trait IntoSpan<'a> {
     // the span that it becomes
     ghost as_span: { Self → SpanData };
 
-    /// The span that it becomes.
+    /// Returns the span that it becomes.
     fn into_span(self) -> Span<'a>
         ensures { result ≡ as_span self };
 }

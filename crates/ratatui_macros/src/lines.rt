@@ -58,7 +58,7 @@ macro_rules! span {
     };
 }
 
-/// The spans with a part after them; refused spans stay refused.
+/// Adds a part after the spans; refused spans stay refused.
 ///
 /// # Errors
 ///
@@ -78,7 +78,7 @@ pub fn with_span<'a, S: IntoSpan<'a> + Drop>(
     Ok(spans)
 }
 
-/// A line of these spans; refused spans stay refused.
+/// Makes a line of these spans; refused spans stay refused.
 ///
 /// # Errors
 ///
@@ -90,7 +90,7 @@ pub fn line_of<'a>(spans: Result<Vec<Span<'a>>, AllocError>) -> Result<Line<'a>,
     Ok(Line::from(spans?))
 }
 
-/// A span that takes a text over; a refused text stays refused.
+/// Makes a span that takes a text over; a refused text stays refused.
 ///
 /// # Errors
 ///
@@ -102,7 +102,7 @@ pub fn span_of(text: Result<String, AllocError>) -> Result<Span<'static>, AllocE
     Ok(Span::from(text?))
 }
 
-/// A span that takes a text over, in a style; a refused text stays refused.
+/// Makes a span that takes a text over, in a style; a refused text stays refused.
 ///
 /// # Errors
 ///

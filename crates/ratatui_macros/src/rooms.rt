@@ -16,7 +16,7 @@ macro_rules! part_count {
     };
 }
 
-/// An empty list, with room for so many.
+/// Makes an empty list, with room for so many.
 ///
 /// # Errors
 ///

@@ -33,7 +33,7 @@ macro_rules! row {
     };
 }
 
-/// The cells with a part after them; refused cells stay refused.
+/// Adds a part after the cells; refused cells stay refused.
 ///
 /// # Errors
 ///
@@ -55,7 +55,7 @@ pub fn with_cell<'a, C: IntoCell<'a> + Drop>(
     Ok(cells)
 }
 
-/// A row of these cells, one row high and without margins; refused cells stay refused.
+/// Makes a row of these cells, one row high and without margins; refused cells stay refused.
 ///
 /// # Errors
 ///

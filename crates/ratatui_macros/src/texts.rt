@@ -33,7 +33,7 @@ macro_rules! text {
     };
 }
 
-/// The lines with a part below them; refused lines stay refused.
+/// Adds a part below the lines; refused lines stay refused.
 ///
 /// # Errors
 ///
@@ -55,7 +55,7 @@ pub fn with_line<'a, L: IntoLine<'a> + Drop>(
     Ok(lines)
 }
 
-/// A text of these lines; refused lines stay refused.
+/// Makes a text of these lines; refused lines stay refused.
 ///
 /// # Errors
 ///

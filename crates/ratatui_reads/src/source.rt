@@ -46,7 +46,7 @@ pub struct Pieces<'a> {
 }
 
 impl<'a> Pieces<'a> {
-    /// These pieces, from the first one on.
+    /// Takes these pieces, from the first one on.
     pub fn new(pieces: &'a [&'a [u8]]) -> Pieces<'a>
         ensures { pieces_left result ≡ map (λ piece. piece.now) pieces.now }
     {

@@ -33,9 +33,9 @@ fn size_if(columns: u16, rows: u16) -> Option<(u16, u16)>
     }
 }
 
-/// The size that an event tells, in columns and rows: the terminal's, or that up to the last place,
-/// where the cursor was sent to ask for it. A size of no cell, or of more than [`MOST_CELLS`], is
-/// none.
+/// Returns the size that an event tells, in columns and rows: the terminal's, or that up to the
+/// last place, where the cursor was sent to ask for it. A size of no cell, or of more than
+/// [`MOST_CELLS`], is none.
 pub fn size_in(event: Event) -> Option<(u16, u16)>
     ensures { result ≡ size_in event }
 {

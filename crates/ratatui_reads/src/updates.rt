@@ -23,7 +23,7 @@ pub trait Updates {
         ensures ok { OnOk result (self.new ≡ updated self.old event) }
         ensures refused { OnErr result (self.new ≡ self.old) };
 
-    /// Whether it takes no more events.
+    /// Returns whether it takes no more events.
     fn is_over(&self) -> bool
         ensures { result ≡ is_over self.now };
 }

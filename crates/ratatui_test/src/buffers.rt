@@ -34,8 +34,8 @@ pub struct BufferDifference<'b> {
     pub position: Option<Position>,
 }
 
-/// What differs between two buffers, or nothing if they are equal: if they have the same area, and
-/// equal cells. An unset symbol equals a blank.
+/// Returns what differs between two buffers, or nothing if they are equal: if they have the same
+/// area, and equal cells. An unset symbol equals a blank.
 ///
 /// ```
 /// if let Some(apart) = difference(&left, &right) {

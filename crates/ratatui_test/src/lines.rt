@@ -45,7 +45,7 @@ pub trait Shows {
     // the screen that it shows
     ghost screen: { Self → Screen };
 
-    /// What differs from these lines, or nothing if they are shown.
+    /// Returns what differs from these lines, or nothing if they are shown.
     ///
     /// # Errors
     ///

@@ -12,17 +12,17 @@ pub struct Counting<B> {
 }
 
 impl<B> Counting<B> {
-    /// Nothing was drawn yet.
+    /// Makes a backend to which nothing was drawn yet.
     pub fn new(inner: B) -> Counting<B> {
         Counting { inner, draws: 0 }
     }
 
-    /// The backend below.
+    /// Returns the backend below.
     pub fn inner(&self) -> &B {
         &self.inner
     }
 
-    /// How often it was drawn to; the count stays at the greatest number.
+    /// Returns how often it was drawn to; the count stays at the greatest number.
     pub fn draws(&self) -> u64 {
         self.draws
     }

@@ -19,7 +19,7 @@ pub struct Folder<'a> {
 }
 
 impl<'a> Folder<'a> {
-    /// A folder that answers so.
+    /// Makes a folder that answers so.
     pub fn new(answers: &'a [bool]) -> Folder<'a>
         ensures { result.answers.now ≡ answers.now }
     {

@@ -19,14 +19,14 @@ impl Model for Name {
 }
 
 impl Name {
-    /// The name that a text is.
+    /// Makes the name that a text is.
     pub fn new(text: String) -> Name
         ensures { result ≡ string_bytes text }
     {
         Name { text }
     }
 
-    /// The text.
+    /// Returns the text.
     pub fn as_str(&self) -> &str
         ensures { result.now ≡ self.now }
     {
@@ -49,21 +49,21 @@ impl Model for Names {
 }
 
 impl Names {
-    /// These names.
+    /// Takes these names.
     pub fn new(names: Vec<Name>) -> Names
         ensures { result ≡ names.items }
     {
         Names { names }
     }
 
-    /// How many there are.
+    /// Returns how many there are.
     pub fn len(&self) -> usize
         ensures { result ≡ length self.now }
     {
         self.names.len()
     }
 
-    /// One of them, if there are so many.
+    /// Returns one of them, if there are so many.
     pub fn get(&self, index: usize) -> Option<&Name>
         ensures { option_map (λ name. name.now) result ≡ slice_get self.now index }
     {

@@ -38,7 +38,7 @@ pub struct Remover {
 }
 
 impl Remover {
-    /// The first of these names is selected.
+    /// Takes these names, of which the first is selected.
     pub fn new(alloc: Global, names: Names) -> Remover
         ensures { result ≡ record { alloc = alloc; names = names; selected = 0; phase = Looking } }
     {
@@ -50,7 +50,7 @@ impl Remover {
         }
     }
 
-    /// The names that are left.
+    /// Returns the names that are left.
     pub fn names(&self) -> &Names
         ensures { result.now ≡ self.now.names }
     {

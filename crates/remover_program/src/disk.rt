@@ -19,7 +19,7 @@ pub struct Disk<P> {
 }
 
 impl<P: Performs + Drop> Disk<P> {
-    /// The folder in which this does commands.
+    /// Takes the folder in which this does commands.
     pub fn new(alloc: Global, files: P) -> Disk<P> {
         Disk { alloc, files }
     }

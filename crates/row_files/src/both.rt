@@ -43,7 +43,7 @@ fn answer_of<P: Performs>(
 }
 
 impl<'a> Both<'a> {
-    /// Nothing has been done yet.
+    /// Makes files of both kinds, with which nothing has been done yet.
     pub fn new(rt: &'a HostRuntime, folder: &'a str) -> io::Result<Both<'a>> {
         let alloc = rt.alloc();
         Ok(Both {

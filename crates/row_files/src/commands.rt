@@ -44,7 +44,7 @@ fn command_between(word: &str, from: Path, to: Path) -> Option<Command> {
     }
 }
 
-/// The command that a text says, if it says one.
+/// Returns the command that a text says, if it says one.
 pub fn command_of(alloc: Global, text: &str) -> Result<Option<Command>, AllocError> {
     let (word, rest) = text.split_once(' ').unwrap_or((text, ""));
     let (first, more) = rest.split_once(' ').unwrap_or((rest, ""));

@@ -32,7 +32,7 @@ fn told_entries(alloc: Global, entries: &Entries) -> Result<String, AllocError> 
     Ok(all)
 }
 
-/// An answer as text.
+/// Returns an answer as text.
 pub fn told(alloc: Global, answer: &Answer) -> Result<String, AllocError> {
     match answer {
         Answer::Listed(entries, _) => told_entries(alloc, entries),

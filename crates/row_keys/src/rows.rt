@@ -114,7 +114,7 @@ pub struct Tally {
 }
 
 impl Tally {
-    /// No row has come.
+    /// Makes a tally to which no row has come.
     pub fn new(alloc: Global) -> Tally {
         Tally {
             held: 0,

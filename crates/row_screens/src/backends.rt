@@ -54,18 +54,19 @@ fn put_rows_above(backend: &TestBackend, out: &mut String) -> Result<(), AllocEr
     Ok(())
 }
 
-/// What is seen of a backend: its screen, its cursor, and the rows that left the screen at its top,
-/// or how many if there are many.
+/// Adds what is seen of a backend: its screen, its cursor, and the rows that left the screen at its
+/// top, or how many if there are many.
 pub fn put_backend(backend: &TestBackend, answer: &mut Answer) -> Result<(), RowError> {
     answer.put(backend.buffer())?;
     put_cursor(backend, &mut answer.text)?;
     Ok(put_rows_above(backend, &mut answer.text)?)
 }
 
-// Adds what a call was refused for, if it was.
+// Adds what a call was refused for, if it was for anything but memory.
 fn told(outcome: Result<(), TestError>, answer: &mut Answer) -> Result<(), RowError> {
     match outcome {
         Ok(()) => Ok(()),
+        Err(TestError::Memory) => Err(RowError::Lost),
         Err(error) => answer.refused(&error),
     }
 }
@@ -97,7 +98,7 @@ fn items(args: &mut Args<'_>) -> Result<(Vec<Position>, Vec<Cell>), RowError> {
     Ok((places, cells))
 }
 
-/// A call on a backend.
+/// Makes a call on a backend.
 pub fn call(
     backend: &mut TestBackend,
     word: &str,
@@ -189,6 +190,7 @@ fn put_window_size(
             answer.add(size.columns_rows)?;
             answer.add(size.pixels)
         }
+        Err(TestError::Memory) => Err(RowError::Lost),
         Err(error) => answer.refused(&error),
     }
 }
@@ -257,7 +259,7 @@ fn made_with_lines(alloc: Global, lines: &[&str]) -> Result<TestBackend, RowErro
     Ok(TestBackend::with_lines(alloc, lines)?)
 }
 
-/// A part of the screen by its name, read and printed.
+/// Reads a part of the screen by its name, and prints it.
 pub fn clear_type(args: &mut Args<'_>, answer: &mut Answer) -> Result<(), RowError> {
     named::<ClearType>(args, answer)
 }
@@ -275,8 +277,8 @@ fn step(
     args.end()
 }
 
-/// A backend, and calls on it; what is seen of it at the end. A call that is refused memory is made
-/// once more, over what it left, unless the backend counts its calls to fail.
+/// Makes a backend, and calls on it; adds what is seen of it at the end. A call that is refused
+/// memory is made once more, over what it left, unless the backend counts its calls to fail.
 pub fn backend(
     alloc: Global,
     args: &mut Args<'_>,

@@ -411,8 +411,9 @@ fn step(
     Ok(is_question(word))
 }
 
-/// A buffer, and calls on it and on the one before it; then the buffer itself, unless the last call
-/// asks something. A call that is refused memory is made once more, over what it left.
+/// Makes a buffer, and calls on it and on the one before it; then adds the buffer itself, unless
+/// the last call asks something. A call that is refused memory is made once more, over what it
+/// left.
 pub fn buffer(
     alloc: Global,
     args: &mut Args<'_>,

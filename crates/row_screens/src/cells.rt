@@ -9,7 +9,7 @@ use row_words::texts::alike;
 use row_words::tokens::Token;
 use std::alloc::Global;
 
-/// A call that changes a cell.
+/// Makes a call that changes a cell.
 pub fn change(cell: &mut Cell, word: &str, args: &mut Args<'_>) -> Result<(), RowError> {
     match word {
         "set_symbol" | "append_symbol" | "merge_symbol" => {
@@ -119,8 +119,8 @@ fn step(
     args.end()
 }
 
-/// A cell, and calls on it; the cell itself if nothing was asked. A call that is refused memory is
-/// made once more, over what it left.
+/// Makes a cell, and calls on it; adds the cell itself if nothing was asked. A call that is refused
+/// memory is made once more, over what it left.
 pub fn cell(
     alloc: Global,
     args: &mut Args<'_>,

@@ -444,9 +444,9 @@ fn play(
     Ok(terminal.viewport_area().show(&mut answer.text)?)
 }
 
-/// A terminal, and calls on it; what is seen of its screen at the end, and its viewport. A call
-/// that is refused memory is made once more, over what it left, unless the backend counts its calls
-/// to fail.
+/// Makes a terminal, and calls on it; adds what is seen of its screen at the end, and its viewport.
+/// A call that is refused memory is made once more, over what it left, unless the backend counts
+/// its calls to fail.
 pub fn terminal(
     alloc: Global,
     args: &mut Args<'_>,

@@ -67,7 +67,7 @@ fn read_head(text: &str) -> Option<Head> {
     })
 }
 
-/// The row of a text, if it is one.
+/// Reads the row of a text, if it is one.
 ///
 /// # Errors
 ///
@@ -101,7 +101,7 @@ pub fn read(alloc: Global, text: &str) -> Result<Option<Row>, AllocError> {
     }))
 }
 
-/// The parts, each by where it begins and its size.
+/// Returns the parts as text, each by where it begins and its size.
 ///
 /// # Errors
 ///

@@ -182,7 +182,7 @@ fn step<'a>(
     Ok(line)
 }
 
-/// A line, and calls on it; the line itself if nothing was asked.
+/// Makes a line, and calls on it; adds the line itself if nothing was asked.
 pub fn line<'a>(
     alloc: Global,
     args: &mut Args<'a>,

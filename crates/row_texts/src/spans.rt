@@ -122,7 +122,7 @@ fn step<'a>(span: &mut Span<'a>, args: &mut Args<'a>, answer: &mut Answer) -> Re
     args.end()
 }
 
-/// A span, and calls on it; the span itself if nothing was asked.
+/// Makes a span, and calls on it; adds the span itself if nothing was asked.
 pub fn span<'a>(
     alloc: Global,
     args: &mut Args<'a>,

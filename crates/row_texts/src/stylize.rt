@@ -146,7 +146,7 @@ where
     }
 }
 
-/// A call on what has a style: what it is, and after a comma the call.
+/// Makes a call on what has a style: what it is, and after a comma the call.
 pub fn stylize(args: &mut Args<'_>, answer: &mut Answer) -> Result<(), RowError> {
     match args.word()? {
         "span" => called(args.span()?, args, answer),

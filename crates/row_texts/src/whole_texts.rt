@@ -154,7 +154,7 @@ fn step<'a>(
     Ok(text)
 }
 
-/// A text, and calls on it; the text itself if nothing was asked.
+/// Makes a text, and calls on it; adds the text itself if nothing was asked.
 pub fn text<'a>(
     alloc: Global,
     args: &mut Args<'a>,
@@ -174,7 +174,7 @@ pub fn text<'a>(
     }
 }
 
-/// A call on a masked text: the text, its mask, and what is asked.
+/// Makes a call on a masked text: the text, its mask, and what is asked.
 pub fn masked(args: &mut Args<'_>, answer: &mut Answer) -> Result<(), RowError> {
     let word = args.word()?;
     let (text, mask) = (args.text()?, args.char()?);
@@ -222,7 +222,7 @@ fn printed<T: Display>(
     }
 }
 
-/// What prints as a span, a line or a text.
+/// Adds what prints, as a span, a line or a text.
 pub fn to_text(args: &mut Args<'_>, answer: &mut Answer) -> Result<(), RowError> {
     let alloc = args.alloc;
     let word = args.word()?;

@@ -8,7 +8,7 @@ use row_words::error::RowError;
 use row_words::names::strategy_of;
 use std::alloc::AllocError;
 
-/// A call on a text's width.
+/// Makes a call on a text's width.
 pub fn width(args: &mut Args<'_>, answer: &mut Answer) -> Result<(), RowError> {
     match args.word()? {
         "cell_width" => answer.add(args.text()?.cell_width()),
@@ -17,7 +17,7 @@ pub fn width(args: &mut Args<'_>, answer: &mut Answer) -> Result<(), RowError> {
     }
 }
 
-/// A symbol that is joined to another one, or a border symbol by its arms.
+/// Adds a symbol that is joined to another one, or a border symbol by its arms.
 pub fn merge(args: &mut Args<'_>, answer: &mut Answer) -> Result<(), RowError> {
     match args.word()? {
         "arms" => arms(args.text()?, answer),

@@ -6,7 +6,7 @@ use row_words::error::RowError;
 use row_words::tokens::Token;
 use std::alloc::Global;
 
-/// A call on a rectangle.
+/// Makes a call on a rectangle.
 pub fn rect(args: &mut Args<'_>, answer: &mut Answer) -> Result<(), RowError> {
     match args.word()? {
         "ZERO" => answer.add(Rect::ZERO),
@@ -103,7 +103,7 @@ fn rect_moved(word: &str, rect: Rect, offset: Offset, answer: &mut Answer) -> Re
     answer.add(moved)
 }
 
-/// A call on a position.
+/// Makes a call on a position.
 pub fn position(args: &mut Args<'_>, answer: &mut Answer) -> Result<(), RowError> {
     match args.word()? {
         "ORIGIN" => answer.add(Position::ORIGIN),
@@ -167,7 +167,7 @@ fn position_moved(
     answer.add(moved)
 }
 
-/// A call on an offset.
+/// Makes a call on an offset.
 pub fn offset(args: &mut Args<'_>, answer: &mut Answer) -> Result<(), RowError> {
     match args.word()? {
         "ZERO" => answer.add(Offset::ZERO),
@@ -194,7 +194,7 @@ fn offset_itself(
     }
 }
 
-/// A call on a size.
+/// Makes a call on a size.
 pub fn size(args: &mut Args<'_>, answer: &mut Answer) -> Result<(), RowError> {
     match args.word()? {
         "ZERO" => answer.add(Size::ZERO),
@@ -222,7 +222,7 @@ fn size_itself(
     }
 }
 
-/// A call on a margin.
+/// Makes a call on a margin.
 pub fn margin(args: &mut Args<'_>, answer: &mut Answer) -> Result<(), RowError> {
     match args.word()? {
         "default" => answer.add(Margin::default()),

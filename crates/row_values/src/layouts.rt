@@ -11,7 +11,8 @@ use std::alloc::{AllocError, Global};
 use std::convert::AsRef;
 use std::mem;
 
-/// A call on a direction, a flex, an alignment, a constraint, a spacing, or lists of constraints.
+/// Makes a call on a direction, a flex, an alignment, a constraint, a spacing, or lists of
+/// constraints.
 pub fn layout_part(args: &mut Args<'_>, answer: &mut Answer) -> Result<(), RowError> {
     match args.word()? {
         "Direction" => named::<Direction>(args, answer),
@@ -225,7 +226,7 @@ fn put_layout(layout: &Layout, alloc: Global, answer: &mut Answer) -> Result<(),
     put_constraints(layout.constraints_of(), answer)
 }
 
-/// A layout, and calls on it; its direction, margin, flex, spacing and constraints.
+/// Makes a layout, and calls on it; adds its direction, margin, flex, spacing and constraints.
 pub fn layout(
     alloc: Global,
     args: &mut Args<'_>,

@@ -139,7 +139,7 @@ fn material_shades(name: &str, answer: &mut Answer) -> Result<(), RowError> {
     }
 }
 
-/// The shades of a palette, or black or white, by its name.
+/// Adds the shades of a palette, or black or white, by its name.
 pub fn palette(args: &mut Args<'_>, answer: &mut Answer) -> Result<(), RowError> {
     match args.word()? {
         "tailwind" => tailwind_shades(args.word()?, answer),

@@ -7,7 +7,7 @@ use row_words::error::RowError;
 use row_words::tokens::Token;
 use std::alloc::Global;
 
-/// A call on a colour.
+/// Makes a call on a colour.
 pub fn color(args: &mut Args<'_>, answer: &mut Answer) -> Result<(), RowError> {
     match args.word()? {
         "default" => answer.add(Color::default()),
@@ -65,7 +65,7 @@ fn color_of_four(
     }
 }
 
-/// A call on modifiers.
+/// Makes a call on modifiers.
 pub fn modifier(args: &mut Args<'_>, answer: &mut Answer) -> Result<(), RowError> {
     match args.word()? {
         "bits" => answer.add(args.modifier().bits()),
@@ -221,7 +221,7 @@ fn colored(style: Style, word: &str, color: Color) -> Style {
     }
 }
 
-/// A style, and calls on it; the style itself if nothing was asked.
+/// Makes a style, and calls on it; adds the style itself if nothing was asked.
 pub fn style(
     alloc: Global,
     args: &mut Args<'_>,

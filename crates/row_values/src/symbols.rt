@@ -326,7 +326,7 @@ fn scrollbar_by_name(name: &str, answer: &mut Answer) -> Result<(), RowError> {
     }
 }
 
-/// A symbol, a set of symbols or a table of patterns; or a marker that is read from its name.
+/// Adds a symbol, a set of symbols or a table of patterns; or a marker that is read from its name.
 pub fn symbols(args: &mut Args<'_>, answer: &mut Answer) -> Result<(), RowError> {
     match args.word()? {
         "braille::BRAILLE" => put_characters(&braille::BRAILLE, answer),

@@ -12,7 +12,7 @@ pub struct Case<'a> {
     pub texts: &'a str,
 }
 
-/// The case that a line says, if it says one.
+/// Returns the case that a line says, if it says one.
 pub fn case_of(line: &str) -> Option<Case<'_>> {
     let (head, texts) = line.split_once(" | ").unwrap_or((line, ""));
     let (kind, size) = head.split_once(" ")?;
@@ -27,14 +27,14 @@ pub fn case_of(line: &str) -> Option<Case<'_>> {
     })
 }
 
-/// Two numbers with a comma between them.
+/// Reads two numbers with a comma between them.
 pub fn pair_of(word: &str) -> Option<(i64, i64)> {
     let (first, second) = word.split_once(",")?;
     Some((first.parse().ok()?, second.parse().ok()?))
 }
 
 impl<'a> Case<'a> {
-    /// What an option says, if it stands there.
+    /// Returns what an option says, if it stands there.
     pub fn option(&self, name: &str) -> Option<&'a str> {
         for word in self.options.split(" ") {
             if let Some((key, value)) = word.split_once("=") {
@@ -46,12 +46,12 @@ impl<'a> Case<'a> {
         None
     }
 
-    /// The number that an option says, if it says one.
+    /// Returns the number that an option says, if it says one.
     pub fn number(&self, name: &str) -> Option<usize> {
         self.option(name)?.parse().ok()
     }
 
-    /// The number that an option says, cut at 65535, or another one.
+    /// Returns the number that an option says, cut at 65535, or another one.
     pub fn small(&self, name: &str, other: u16) -> u16 {
         match self.number(name) {
             Some(number) => number.min(65535) as u16,
@@ -59,7 +59,7 @@ impl<'a> Case<'a> {
         }
     }
 
-    /// The two numbers that an option says, or 0 and 10.
+    /// Returns the two numbers that an option says, or 0 and 10.
     pub fn bounds(&self, name: &str) -> [i64; 2] {
         let (low, high) = self
             .option(name)
@@ -68,7 +68,7 @@ impl<'a> Case<'a> {
         [low, high]
     }
 
-    /// The text that an option says, in which `_` stands for a blank.
+    /// Returns the text that an option says, in which `_` stands for a blank.
     pub fn text(&self, alloc: Global, name: &str) -> Result<Option<String>, AllocError> {
         match self.option(name) {
             Some(text) => Ok(Some(text.replace(alloc, "_", " ")?)),
@@ -76,7 +76,7 @@ impl<'a> Case<'a> {
         }
     }
 
-    /// The same, or another text.
+    /// Returns the text that an option says, in which `_` stands for a blank, or another text.
     pub fn text_or(&self, alloc: Global, name: &str, other: &str) -> Result<String, AllocError> {
         match self.option(name) {
             Some(text) => text.replace(alloc, "_", " "),

@@ -41,7 +41,7 @@ fn render(
     }
 }
 
-/// The rows that a case leaves, and of a table its state.
+/// Returns the rows that a case leaves, and of a table its state.
 pub fn show(alloc: Global, case: &Case<'_>) -> Result<String, AllocError> {
     let area = Rect::new(0, 0, case.width, case.height);
     let told = told_of(case.kind);

@@ -5,7 +5,7 @@ use ratatui_core::style::Color;
 use ratatui_core::symbols::Marker;
 use std::alloc::{AllocError, Global};
 
-/// The marker that a case says.
+/// Returns the marker that a case says.
 pub fn marker_of(case: &Case<'_>) -> Marker {
     match case.option("marker") {
         Some("dot") => Marker::Dot,
@@ -19,7 +19,7 @@ pub fn marker_of(case: &Case<'_>) -> Marker {
     }
 }
 
-/// The colour that a letter says.
+/// Returns the colour that a letter says.
 pub fn color_of(letter: &str) -> Color {
     match letter {
         "r" => Color::Red,
@@ -40,7 +40,7 @@ fn points_of(alloc: Global, text: &str) -> Result<Vec<(i64, i64)>, AllocError> {
     Ok(points)
 }
 
-/// The points of each text.
+/// Returns the points of each text.
 pub fn all_points(alloc: Global, texts: &str) -> Result<Vec<Vec<(i64, i64)>>, AllocError> {
     let mut lists = Vec::new(alloc);
     for text in texts.split(" | ") {

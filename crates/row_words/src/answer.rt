@@ -24,7 +24,7 @@ impl Answer {
         }
     }
 
-    /// Whether nothing was answered.
+    /// Returns whether nothing was answered.
     pub fn is_empty(&self) -> bool {
         self.text.is_empty()
     }

@@ -20,7 +20,7 @@ impl<'a> Args<'a> {
         Args { rest, alloc }
     }
 
-    /// Whether nothing is left.
+    /// Returns whether nothing is left.
     pub fn is_empty(&self) -> bool {
         self.rest.is_empty()
     }
@@ -33,7 +33,7 @@ impl<'a> Args<'a> {
         Some(first)
     }
 
-    /// The next word.
+    /// Takes the next word.
     pub fn word(&mut self) -> Result<&'a str, RowError> {
         match self.token() {
             Some(Token::Word(word)) => Ok(word.as_str()),
@@ -41,7 +41,7 @@ impl<'a> Args<'a> {
         }
     }
 
-    /// The next text.
+    /// Takes the next text.
     pub fn text(&mut self) -> Result<&'a str, RowError> {
         match self.token() {
             Some(Token::Text(text)) => Ok(text.as_str()),
@@ -58,12 +58,12 @@ impl<'a> Args<'a> {
         }
     }
 
-    /// How many tokens are left.
+    /// Returns how many tokens are left.
     pub fn len(&self) -> usize {
         self.rest.len()
     }
 
-    /// The next word, which is left, if one stands before the next comma.
+    /// Returns the next word, which is left, if one stands before the next comma.
     pub fn peek(&self) -> Option<&'a str> {
         match self.rest.first()? {
             Token::Word(word) => Some(word.as_str()),
@@ -94,7 +94,7 @@ impl<'a> Args<'a> {
         is_next
     }
 
-    /// The next text, if there is one before the next comma.
+    /// Takes the next text, if there is one before the next comma.
     pub fn next_text(&mut self) -> Option<&'a str> {
         let Some((Token::Text(text), rest)) = self.rest.split_first() else {
             return None;
@@ -103,12 +103,12 @@ impl<'a> Args<'a> {
         Some(text.as_str())
     }
 
-    /// The only character of the next text.
+    /// Takes the next text, and answers its first character.
     pub fn char(&mut self) -> Result<char, RowError> {
         self.text()?.chars().next().ok_or(RowError::Unread)
     }
 
-    /// The next word, as a value that it names.
+    /// Takes the next word, as a value that it names.
     pub fn value<T: FromStr>(&mut self) -> Result<T, RowError>
     where
         T::Err: Drop,
@@ -120,7 +120,7 @@ impl<'a> Args<'a> {
         self.value::<u16>()
     }
 
-    /// Two numbers.
+    /// Takes two numbers.
     pub fn pair(&mut self) -> Result<(u16, u16), RowError> {
         Ok((self.u16()?, self.u16()?))
     }
@@ -135,7 +135,8 @@ impl<'a> Args<'a> {
         })
     }
 
-    /// A rectangle for a call that requires one which ends at column and row 65535 at the latest.
+    /// Takes a rectangle for a call that requires one which ends at column and row 65535 at the
+    /// latest.
     pub fn area(&mut self) -> Result<Rect, RowError>
         ensures { IfOk result EdgesFit }
     {
@@ -173,7 +174,7 @@ impl<'a> Args<'a> {
         })
     }
 
-    /// The texts that are left.
+    /// Takes the texts that are left.
     pub fn texts(&mut self) -> Result<Vec<&'a str>, RowError> {
         let mut texts = Vec::new(self.alloc);
         self.skip_comma();

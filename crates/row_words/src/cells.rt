@@ -51,7 +51,8 @@ fn put_look(cell: &Cell, out: &mut String) -> Result<(), AllocError> {
     put_option(cell, out)
 }
 
-/// How a cell looks and is drawn where that isn't as usual, each word after a blank.
+/// Returns the words that say how a cell looks and is drawn where that isn't as usual, each after a
+/// blank.
 pub fn look_words(cell: &Cell, alloc: Global) -> Result<String, AllocError> {
     let mut words = String::new(alloc);
     put_look(cell, &mut words)?;
@@ -66,7 +67,7 @@ impl Show for Cell {
 }
 
 impl<'a> Args<'a> {
-    /// How a cell is drawn.
+    /// Takes how a cell is drawn.
     pub fn option(&mut self) -> Result<CellDiffOption, RowError> {
         match self.word()? {
             "None" => Ok(CellDiffOption::None),
@@ -80,7 +81,7 @@ impl<'a> Args<'a> {
         }
     }
 
-    /// A cell: its symbol, its style, and how it is drawn.
+    /// Takes a cell: its symbol, its style, and how it is drawn.
     pub fn cell(&mut self) -> Result<Cell, RowError> {
         let mut cell = Cell::new(self.alloc, self.text()?)?;
         cell.set_style(self.style());

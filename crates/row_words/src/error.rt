@@ -27,12 +27,12 @@ impl<T: Drop> From<AllocFailed<T>> for RowError {
 }
 
 impl RowError {
-    /// Whether memory was refused.
+    /// Returns whether memory was refused.
     pub fn is_memory(self) -> bool {
         matches!(self, RowError::Memory | RowError::Lost)
     }
 
-    /// The word that stands for an answer.
+    /// Returns the word that stands for an answer.
     pub fn word(self) -> &'static str {
         match self {
             RowError::Unread => "unread",

@@ -53,7 +53,7 @@ impl<'a> Args<'a> {
         Ok((self.value::<u32>()?, self.value::<u32>()?))
     }
 
-    /// The constraints that are left.
+    /// Takes the constraints that are left.
     pub fn constraints(&mut self) -> Result<Vec<Constraint>, RowError> {
         let mut all = Vec::new(self.alloc);
         for _ in 0..self.len() {
@@ -64,7 +64,7 @@ impl<'a> Args<'a> {
         Ok(all)
     }
 
-    /// The numbers that are left.
+    /// Takes the numbers that are left.
     pub fn numbers(&mut self) -> Result<Vec<u16>, RowError> {
         let mut all = Vec::new(self.alloc);
         for _ in 0..self.len() {
@@ -75,7 +75,7 @@ impl<'a> Args<'a> {
         Ok(all)
     }
 
-    /// The pairs of numbers that are left.
+    /// Takes the pairs of numbers that are left.
     pub fn ratios(&mut self) -> Result<Vec<(u32, u32)>, RowError> {
         let mut all = Vec::new(self.alloc);
         for _ in 0..self.len() {

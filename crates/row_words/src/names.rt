@@ -6,7 +6,7 @@ use ratatui_core::symbols::merge::MergeStrategy;
 use std::fmt::Display;
 use std::str::FromStr;
 
-/// What a table has under a name, if it has the name.
+/// Returns what a table has under a name, if it has the name.
 pub fn entry_of<'t, T>(table: &'t [(&str, T)], name: &str) -> Option<&'t T> {
     for (own, entry) in table {
         if *own == name {
@@ -31,7 +31,7 @@ where
     }
 }
 
-/// How borders are joined, by a name.
+/// Returns how borders are joined, by a name.
 pub fn strategy_of(word: &str) -> Result<MergeStrategy, RowError> {
     match word {
         "replace" => Ok(MergeStrategy::Replace),

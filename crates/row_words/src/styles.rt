@@ -51,7 +51,7 @@ fn colored(style: Style, part: &str, color: Color) -> Option<Style> {
 }
 
 impl<'a> Args<'a> {
-    /// The style that the next words name.
+    /// Takes the style that the next words name.
     pub fn style(&mut self) -> Style {
         self.skip_comma();
         let mut style = Style::new();
@@ -65,7 +65,7 @@ impl<'a> Args<'a> {
         style
     }
 
-    /// The modifiers that the next words name.
+    /// Takes the modifiers that the next words name.
     pub fn modifier(&mut self) -> Modifier {
         self.skip_comma();
         let mut set = Modifier::empty();

@@ -10,13 +10,13 @@ use std::alloc::AllocError;
 use std::hash::{BuildHasher, BuildHasherDefault, FoldHasher, Hash};
 
 impl<'a> Args<'a> {
-    /// A span: a text, and its style.
+    /// Takes a span: a text, and its style.
     pub fn span(&mut self) -> Result<Span<'a>, RowError> {
         Ok(Span::styled(self.text()?, self.style()))
     }
 
-    /// A line: spans with a `+` between two, after them `style` with its words, and `aligned` with
-    /// how.
+    /// Takes a line: spans with a `+` between two, after them `style` with its words, and `aligned`
+    /// with how.
     pub fn line(&mut self) -> Result<Line<'a>, RowError> {
         self.skip_comma();
         let mut line = Line::default_in(self.alloc);
@@ -42,8 +42,8 @@ impl<'a> Args<'a> {
         Ok(true)
     }
 
-    /// A text: lines with a `/` between two, and after a `//` the style and alignment of the whole;
-    /// `nothing` has no lines.
+    /// Takes a text: lines with a `/` between two, and after a `//` the style and alignment of the
+    /// whole; `nothing` has no lines.
     pub fn lines(&mut self) -> Result<Text<'a>, RowError> {
         self.skip_comma();
         let mut text = Text::default_in(self.alloc);
@@ -77,12 +77,12 @@ impl<'a> Args<'a> {
     }
 }
 
-/// The hash of a value.
+/// Returns the hash of a value.
 pub fn hash_of<T: Hash>(value: &T) -> u64 {
     BuildHasherDefault::<FoldHasher>::default().hash_one(value)
 }
 
-/// Whether two values are equal with equal hashes, or differ.
+/// Adds whether two values are equal with equal hashes, or differ.
 pub fn alike<T: PartialEq + Hash>(one: &T, other: &T, answer: &mut Answer) -> Result<(), RowError> {
     if one == other && hash_of(one) != hash_of(other) {
         return Err(RowError::Unread);

@@ -121,7 +121,7 @@ impl Tokens {
     }
 }
 
-/// The steps of a call.
+/// Returns the steps of a call.
 pub fn steps_of(alloc: Global, call: &str) -> Result<Vec<Vec<Token>>, RowError> {
     let mut tokens = Tokens {
         alloc,

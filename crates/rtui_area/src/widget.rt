@@ -75,7 +75,7 @@ impl<'a> TextAreaWidget<'a> {
         self
     }
 
-    /// Gives the text a style, which is laid over its whole area.
+    /// Sets the style of the text, which is laid over its whole area.
     pub fn style(mut self, style: Style) -> TextAreaWidget<'a>
         ensures { result ≡ record self.entry { style = style } }
     {
@@ -83,7 +83,7 @@ impl<'a> TextAreaWidget<'a> {
         self
     }
 
-    /// Gives the row of the cursor's line a style, under its number too.
+    /// Sets the style of the row of the cursor's line, under its number too.
     pub fn cursor_line_style(mut self, style: Style) -> TextAreaWidget<'a>
         ensures { result ≡ record self.entry { cursor_line_style = style } }
     {
@@ -91,7 +91,7 @@ impl<'a> TextAreaWidget<'a> {
         self
     }
 
-    /// Gives what is selected a style.
+    /// Sets the style of what is selected.
     pub fn selection_style(mut self, style: Style) -> TextAreaWidget<'a>
         ensures { result ≡ record self.entry { selection_style = style } }
     {
@@ -108,7 +108,7 @@ impl<'a> TextAreaWidget<'a> {
         self
     }
 
-    /// Gives a text of one line that is shown in a style as long as there is no other.
+    /// Sets a text of one line that is shown in a style as long as there is no other.
     pub fn placeholder(mut self, text: &'a str, style: Style) -> TextAreaWidget<'a>
         ensures { result
             ≡ record self.entry { placeholder = text.entry; placeholder_style = style } }

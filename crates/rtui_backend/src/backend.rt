@@ -26,7 +26,7 @@ pub struct WindowSize {
 pub trait AsCell: Drop {
     ghost cell: { Self → Cell };
 
-    /// The cell that is lent.
+    /// Returns the cell that is lent.
     fn as_cell(&self) -> &Cell
         ensures { result.now ≡ cell self.now };
 }
@@ -148,7 +148,7 @@ pub trait Backend {
         ensures counts { Counts result (failures self.old) (failures self.new) }
         ensures stops { OnErr result (stops_at self.old self.new) };
 
-    /// Where the cursor is, on the screen.
+    /// Returns where the cursor is, on the screen.
     ///
     /// # Errors
     ///
@@ -174,7 +174,7 @@ pub trait Backend {
         ensures counts { Counts result (failures self.old) (failures self.new) }
         ensures stops { OnErr result (stops_at self.old self.new) };
 
-    /// The old name of `get_cursor_position`: the column and the row.
+    /// Returns the column and the row of the cursor: the old name of `get_cursor_position`.
     ///
     /// # Errors
     ///
@@ -193,7 +193,7 @@ pub trait Backend {
         Ok((position.x, position.y))
     }
 
-    /// The old name of `set_cursor_position`.
+    /// Moves the cursor: the old name of `set_cursor_position`.
     ///
     /// # Errors
     ///
@@ -229,7 +229,7 @@ pub trait Backend {
         ensures counts { Counts result (failures self.old) (failures self.new) }
         ensures stops { OnErr result (stops_at self.old self.new) };
 
-    /// The size in columns and rows.
+    /// Returns the size in columns and rows.
     ///
     /// # Errors
     ///
@@ -242,7 +242,7 @@ pub trait Backend {
         ensures counts { Counts result (failures self.old) (failures self.new) }
         ensures stops { OnErr result (stops_at self.old self.new) };
 
-    /// The size in columns and rows, and in pixels if they are known.
+    /// Returns the size in columns and rows, and in pixels if they are known.
     ///
     /// # Errors
     ///

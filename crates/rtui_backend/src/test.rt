@@ -87,7 +87,7 @@ impl TestBackend {
     ghost use Rattle.rtui_backend.specs.TestBackend.{screen_of, buffer_of, failures_of, told_after};
     ghost use Rattle.rtui_backend.specs.TestBackend.{TakesTurn, IsSameBackend, DrawsFront, HasOnlyPut};
 
-    /// A blank screen of this size in columns and rows, its cursor visible in the corner.
+    /// Makes a blank screen of this size in columns and rows, its cursor visible in the corner.
     ///
     /// # Errors
     ///
@@ -109,7 +109,7 @@ impl TestBackend {
         })
     }
 
-    /// What the screen shows, as a buffer with its corner at (0, 0).
+    /// Returns what the screen shows, as a buffer with its corner at (0, 0).
     pub fn buffer(&self) -> &Buffer
         ensures area { result.now.area ≡ screen_area (screen_of self.now) }
         ensures shown { (a b : ℕ) → grid_of result.now.area.width result.now.cells a b
@@ -122,8 +122,8 @@ impl TestBackend {
         &self.buffer
     }
 
-    /// Whether the screen, as a buffer with its corner at (0, 0), equals this one: the same size,
-    /// in each column the cell's look, and no cell with an option or the flag.
+    /// Returns whether the screen, as a buffer with its corner at (0, 0), equals this one: the same
+    /// size, in each column the cell's look, and no cell with an option or the flag.
     pub fn buffer_is(&self, buffer: &Buffer) -> bool
         ensures { IsTrue result ↔ IsEqualBuffer (buffer_of self.now) buffer.now }
     {
@@ -131,8 +131,8 @@ impl TestBackend {
         self.buffer == *buffer
     }
 
-    /// The rows that scrolled off the screen, in order, each as wide as the screen was then. Their
-    /// cells have no options and no flags.
+    /// Returns the rows that scrolled off the screen, in order, each as wide as the screen was
+    /// then. Their cells have no options and no flags.
     pub fn scrollback(&self) -> &[Vec<Cell>]
         ensures looks { map (λ row. map look_of row.items) result.now
             ≡ (screen_of self.now).history }
@@ -141,22 +141,22 @@ impl TestBackend {
         self.scrollback.as_slice()
     }
 
-    /// Whether the cursor is visible.
+    /// Returns whether the cursor is visible.
     pub fn cursor_visible(&self) -> bool
         ensures { result ≡ (screen_of self.now).visible }
     {
         self.visible
     }
 
-    /// Where the cursor is.
+    /// Returns where the cursor is.
     pub fn cursor_position(&self) -> Position
         ensures { result ≡ cursor_of (screen_of self.now) }
     {
         self.cursor
     }
 
-    /// How many items were handed to `draw` since the backend was made, those off the screen too;
-    /// it stays at the greatest number.
+    /// Returns how many items were handed to `draw` since the backend was made, those off the
+    /// screen too; it stays at the greatest number.
     pub fn cells_written(&self) -> u64
         ensures { result ≡ (screen_of self.now).written }
     {

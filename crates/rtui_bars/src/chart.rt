@@ -56,8 +56,8 @@ pub struct BarChart<'a> {
 }
 
 impl<'a> BarChart<'a> {
-    /// A chart of these groups: bars of one column, a column apart, without box and styles. Takes
-    /// no memory.
+    /// Makes a chart of these groups: bars of one column, a column apart, without box and styles.
+    /// Takes no memory.
     pub fn grouped(groups: Vec<BarGroup<'a>>) -> BarChart<'a>
         ensures { IsNewBarChart groups.entry.items result }
     {
@@ -77,15 +77,15 @@ impl<'a> BarChart<'a> {
         }
     }
 
-    /// A chart without groups, to which [`BarChart::data`] adds them; takes no memory.
+    /// Makes a chart without groups, to which [`BarChart::data`] adds them; takes no memory.
     pub fn default_in(alloc: Global) -> BarChart<'a>
         ensures { IsNewBarChart [] result }
     {
         BarChart::grouped(Vec::new(alloc))
     }
 
-    /// A chart of one group of these bars: bars of one column, a column apart, without box and
-    /// styles. It takes memory for the group.
+    /// Makes a chart of one group of these bars: bars of one column, a column apart, without box
+    /// and styles. It takes memory for the group.
     ///
     /// # Errors
     ///
@@ -98,7 +98,8 @@ impl<'a> BarChart<'a> {
         Ok(BarChart::grouped(groups))
     }
 
-    /// A chart of one group of bars with plain labels, each as `Line::raw` makes it, and values.
+    /// Makes a chart of one group of bars with plain labels, each as `Line::raw` makes it, and
+    /// values.
     ///
     /// ```
     /// BarChart::raw(alloc, &[("a", 3), ("b", 8)])?.bar_width(3).render(area, buf)?;
@@ -114,7 +115,7 @@ impl<'a> BarChart<'a> {
         BarChart::new(alloc, raw_bars(alloc, bars)?)
     }
 
-    /// A chart of one group of bars from below, as [`BarChart::new`].
+    /// Makes a chart of one group of bars from below, as [`BarChart::new`] does.
     ///
     /// # Errors
     ///
@@ -125,8 +126,8 @@ impl<'a> BarChart<'a> {
         BarChart::new(alloc, bars)
     }
 
-    /// A chart of one group of horizontal bars: bars of one row, a row apart. It takes memory for
-    /// the group.
+    /// Makes a chart of one group of horizontal bars: bars of one row, a row apart. It takes memory
+    /// for the group.
     ///
     /// # Errors
     ///
@@ -137,8 +138,8 @@ impl<'a> BarChart<'a> {
         Ok(BarChart::new(alloc, bars)?.direction(Direction::Horizontal))
     }
 
-    /// The chart with one group more after the others; one without bars isn't added. It may take
-    /// memory for the group.
+    /// Adds one group after the others; one without bars isn't added. It may take memory for the
+    /// group.
     ///
     /// # Errors
     ///
@@ -155,7 +156,7 @@ impl<'a> BarChart<'a> {
         Ok(self)
     }
 
-    /// The chart in a box.
+    /// Puts the chart in a box.
     pub fn block(mut self, block: Block<'a>) -> BarChart<'a>
         ensures { result ≡ record self.entry { block = Some block.entry } }
     {
@@ -163,8 +164,7 @@ impl<'a> BarChart<'a> {
         self
     }
 
-    /// The chart with bars as long as there is room for this value; without one it is the greatest
-    /// value.
+    /// Sets the value whose bar is as long as there is room; without one it is the greatest value.
     pub fn max(mut self, max: u64) -> BarChart<'a>
         ensures { result ≡ record self.entry { max = Some max } }
     {
@@ -172,7 +172,7 @@ impl<'a> BarChart<'a> {
         self
     }
 
-    /// The chart with its bars in a style.
+    /// Sets the style of the bars.
     pub fn bar_style(mut self, style: Style) -> BarChart<'a>
         ensures { result ≡ record self.entry { bar_style = style } }
     {
@@ -180,11 +180,11 @@ impl<'a> BarChart<'a> {
         self
     }
 
-    /// The chart with its bars from below, side by side, or from the left, one under the other.
-    /// From the left, a label and a value stand in the middle row of their bar, of an even number
-    /// in the lower one of the two: the label as it is styled and aligned itself, in as many columns
-    /// as the widest one has, with a blank column after it. A group's label stands in the row after
-    /// its bars, if groups are apart.
+    /// Sets the direction of the bars: from below, side by side, or from the left, one under the
+    /// other. From the left, a label and a value stand in the middle row of their bar, of an even
+    /// number in the lower one of the two: the label as it is styled and aligned itself, in as many
+    /// columns as the widest one has, with a blank column after it. A group's label stands in the
+    /// row after its bars, if groups are apart.
     pub fn direction(mut self, direction: Direction) -> BarChart<'a>
         ensures { result ≡ record self.entry { direction = direction } }
     {
@@ -192,7 +192,7 @@ impl<'a> BarChart<'a> {
         self
     }
 
-    /// The chart with bars of so many columns; horizontal ones of so many rows.
+    /// Sets how many columns each bar takes; rows, if bars are horizontal.
     pub fn bar_width(mut self, width: u16) -> BarChart<'a>
         ensures { result ≡ record self.entry { bar_width = width } }
     {
@@ -200,7 +200,7 @@ impl<'a> BarChart<'a> {
         self
     }
 
-    /// The chart with so many columns between each two bars; rows, if they are horizontal.
+    /// Sets how many columns are between each two bars; rows, if they are horizontal.
     pub fn bar_gap(mut self, gap: u16) -> BarChart<'a>
         ensures { result ≡ record self.entry { bar_gap = gap } }
     {
@@ -208,7 +208,7 @@ impl<'a> BarChart<'a> {
         self
     }
 
-    /// The chart with so many columns more between each two groups; rows, if bars are horizontal.
+    /// Sets how many columns more are between each two groups; rows, if bars are horizontal.
     pub fn group_gap(mut self, gap: u16) -> BarChart<'a>
         ensures { result ≡ record self.entry { group_gap = gap } }
     {
@@ -216,7 +216,7 @@ impl<'a> BarChart<'a> {
         self
     }
 
-    /// The chart with these symbols for cells that are filled in part.
+    /// Sets the symbols for cells that are filled in part.
     pub fn bar_set(mut self, bar_set: bar::Set<'a>) -> BarChart<'a>
         ensures { result ≡ record self.entry { bar_set = bar_set.entry } }
     {
@@ -224,7 +224,7 @@ impl<'a> BarChart<'a> {
         self
     }
 
-    /// The chart with its values in a style.
+    /// Sets the style of the values.
     pub fn value_style(mut self, style: Style) -> BarChart<'a>
         ensures { result ≡ record self.entry { value_style = style } }
     {
@@ -232,7 +232,7 @@ impl<'a> BarChart<'a> {
         self
     }
 
-    /// The chart with its labels in a style; those at the left of horizontal bars keep their own.
+    /// Sets the style of the labels; those at the left of horizontal bars keep their own.
     pub fn label_style(mut self, style: Style) -> BarChart<'a>
         ensures { result ≡ record self.entry { label_style = style } }
     {
@@ -240,7 +240,7 @@ impl<'a> BarChart<'a> {
         self
     }
 
-    /// The chart in a style.
+    /// Sets the style of the chart.
     pub fn style(mut self, style: Style) -> BarChart<'a>
         ensures { result ≡ record self.entry { style = style } }
     {
@@ -248,7 +248,7 @@ impl<'a> BarChart<'a> {
         self
     }
 
-    /// An equal chart.
+    /// Makes an equal chart.
     ///
     /// # Errors
     ///

@@ -20,7 +20,7 @@ pub struct Bar<'a> {
 }
 
 impl<'a> Bar<'a> {
-    /// A bar of this value, without a label and styles; takes no memory.
+    /// Makes a bar of this value, without a label and styles; takes no memory.
     pub fn new(value: u64) -> Bar<'a>
         ensures { result ≡ new_bar value None }
     {
@@ -33,21 +33,21 @@ impl<'a> Bar<'a> {
         }
     }
 
-    /// A bar of this value with a label; takes no memory.
+    /// Makes a bar of this value with a label; takes no memory.
     pub fn with_label(label: Line<'a>, value: u64) -> Bar<'a>
         ensures { result ≡ new_bar value (Some label.entry) }
     {
         Bar::new(value).label(label)
     }
 
-    /// The bar with another value.
+    /// Sets the value of the bar.
     pub fn value(self, value: u64) -> Bar<'a>
         ensures { result ≡ record self.entry { value = value } }
     {
         Bar { value, ..self }
     }
 
-    /// The bar with a label.
+    /// Sets the label of the bar.
     pub fn label(mut self, label: Line<'a>) -> Bar<'a>
         ensures { result ≡ record self.entry { label = Some label.entry } }
     {
@@ -55,14 +55,14 @@ impl<'a> Bar<'a> {
         self
     }
 
-    /// The bar in a style, over that of the chart's bars.
+    /// Sets the style of the bar, over that of the chart's bars.
     pub fn style(self, style: Style) -> Bar<'a>
         ensures { result ≡ record self.entry { style = style } }
     {
         Bar { style, ..self }
     }
 
-    /// The bar with its value in a style, over that of the chart's values.
+    /// Sets the style of the bar's value, over that of the chart's values.
     pub fn value_style(self, style: Style) -> Bar<'a>
         ensures { result ≡ record self.entry { value_style = style } }
     {
@@ -72,7 +72,7 @@ impl<'a> Bar<'a> {
         }
     }
 
-    /// The bar with this text in place of its value's digits.
+    /// Sets the text in place of the value's digits.
     pub fn text_value(mut self, text: &'a str) -> Bar<'a>
         ensures { result ≡ record self.entry { text_value = Some text.entry } }
     {
@@ -80,7 +80,7 @@ impl<'a> Bar<'a> {
         self
     }
 
-    /// An equal bar.
+    /// Makes an equal bar.
     ///
     /// # Errors
     ///
@@ -106,14 +106,14 @@ pub struct BarGroup<'a> {
 }
 
 impl<'a> BarGroup<'a> {
-    /// A group of these bars, without a label; takes no memory.
+    /// Makes a group of these bars, without a label; takes no memory.
     pub fn new(bars: Vec<Bar<'a>>) -> BarGroup<'a>
         ensures { result ≡ record { label = None; bars = bars.entry } }
     {
         BarGroup { label: None, bars }
     }
 
-    /// A group of these bars with a label; takes no memory.
+    /// Makes a group of these bars with a label; takes no memory.
     pub fn with_label(label: Line<'a>, bars: Vec<Bar<'a>>) -> BarGroup<'a>
         ensures { result ≡ record { label = Some label.entry; bars = bars.entry } }
     {
@@ -123,7 +123,7 @@ impl<'a> BarGroup<'a> {
         }
     }
 
-    /// The group with a label.
+    /// Sets the label of the group.
     pub fn label(self, label: Line<'a>) -> BarGroup<'a>
         ensures { result ≡ record self.entry { label = Some label.entry } }
     {
@@ -133,14 +133,14 @@ impl<'a> BarGroup<'a> {
         }
     }
 
-    /// The group of other bars.
+    /// Sets the bars of the group.
     pub fn bars(self, bars: Vec<Bar<'a>>) -> BarGroup<'a>
         ensures { result ≡ record self.entry { bars = bars.entry } }
     {
         BarGroup { bars, ..self }
     }
 
-    /// An equal group.
+    /// Makes an equal group.
     ///
     /// # Errors
     ///

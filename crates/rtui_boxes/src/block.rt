@@ -48,7 +48,7 @@ pub struct Block<'a> {
 }
 
 impl<'a> Block<'a> {
-    /// A box without borders, titles, padding and style; takes no memory.
+    /// Makes a box without borders, titles, padding and style; takes no memory.
     pub fn new(alloc: Global) -> Block<'a>
         ensures { IsNewBlock 0 result }
     {
@@ -66,14 +66,14 @@ impl<'a> Block<'a> {
         }
     }
 
-    /// A box with plain lines on each side; takes no memory.
+    /// Makes a box with plain lines on each side; takes no memory.
     pub fn bordered(alloc: Global) -> Block<'a>
         ensures { IsNewBlock 15 result }
     {
         Block::new(alloc).borders(Borders::ALL)
     }
 
-    /// The box with a title, which stands where the titles do.
+    /// Adds a title, which stands where the titles do.
     ///
     /// # Errors
     ///
@@ -84,7 +84,7 @@ impl<'a> Block<'a> {
         self.with_title(None, line)
     }
 
-    /// The box with a plain text as a title, which stands where the titles do.
+    /// Adds a plain text as a title, which stands where the titles do.
     ///
     /// # Errors
     ///
@@ -96,7 +96,7 @@ impl<'a> Block<'a> {
         self.title(line)
     }
 
-    /// The box with a title in its first row.
+    /// Adds a title in the first row.
     ///
     /// # Errors
     ///
@@ -107,7 +107,7 @@ impl<'a> Block<'a> {
         self.with_title(Some(TitlePosition::Top), line)
     }
 
-    /// The box with a title in its last row.
+    /// Adds a title in the last row.
     ///
     /// # Errors
     ///
@@ -130,7 +130,7 @@ impl<'a> Block<'a> {
         Ok(self)
     }
 
-    /// The box with a style laid under each title.
+    /// Lays a style under each title.
     pub fn title_style(mut self, style: Style) -> Block<'a>
         ensures { result ≡ record self.entry { titles_style = style } }
     {
@@ -138,7 +138,7 @@ impl<'a> Block<'a> {
         self
     }
 
-    /// The box with this alignment for each title that has none of its own.
+    /// Sets the alignment of each title that has none of its own.
     pub fn title_alignment(mut self, alignment: HorizontalAlignment) -> Block<'a>
         ensures { result ≡ record self.entry { titles_alignment = alignment } }
     {
@@ -146,7 +146,7 @@ impl<'a> Block<'a> {
         self
     }
 
-    /// The box with this row for each title that doesn't say its own.
+    /// Sets the row of each title that doesn't say its own.
     pub fn title_position(mut self, position: TitlePosition) -> Block<'a>
         ensures { result ≡ record self.entry { titles_position = position } }
     {
@@ -154,7 +154,7 @@ impl<'a> Block<'a> {
         self
     }
 
-    /// The box with its borders in a style.
+    /// Sets the style of the borders.
     pub fn border_style(mut self, style: Style) -> Block<'a>
         ensures { result ≡ record self.entry { border_style = style } }
     {
@@ -162,7 +162,7 @@ impl<'a> Block<'a> {
         self
     }
 
-    /// The box in a style.
+    /// Sets the style of the box.
     pub fn style(mut self, style: Style) -> Block<'a>
         ensures { result ≡ record self.entry { style = style } }
     {
@@ -170,7 +170,7 @@ impl<'a> Block<'a> {
         self
     }
 
-    /// The box with borders on these sides.
+    /// Sets the sides that have borders.
     pub fn borders(mut self, borders: Borders) -> Block<'a>
         ensures { result ≡ record self.entry { borders = borders } }
     {
@@ -178,7 +178,7 @@ impl<'a> Block<'a> {
         self
     }
 
-    /// The box with borders of a kind.
+    /// Sets the kind of the borders.
     pub fn border_type(self, border_type: BorderType) -> Block<'a>
         ensures symbols { border_texts result.border_set ≡ border_of_kind border_type }
         ensures rest { result ≡ record self.entry { border_set = result.border_set } }
@@ -186,7 +186,7 @@ impl<'a> Block<'a> {
         self.border_set(border_type.to_border_set())
     }
 
-    /// The box with borders of these symbols.
+    /// Sets the symbols of the borders.
     pub fn border_set(mut self, border_set: border::Set<'a>) -> Block<'a>
         ensures { result ≡ record self.entry { border_set = border_set.entry } }
     {
@@ -194,7 +194,7 @@ impl<'a> Block<'a> {
         self
     }
 
-    /// The box with this space inside, in columns and rows.
+    /// Sets the space inside, in columns and rows.
     pub fn padding(mut self, padding: Padding) -> Block<'a>
         ensures { result ≡ record self.entry { padding = padding } }
     {
@@ -202,7 +202,7 @@ impl<'a> Block<'a> {
         self
     }
 
-    /// The box with its borders joined by a strategy with what stands there.
+    /// Sets the strategy by which the borders are joined with what stands there.
     pub fn merge_borders(mut self, strategy: MergeStrategy) -> Block<'a>
         ensures { result ≡ record self.entry { merge_borders = strategy } }
     {
@@ -210,8 +210,8 @@ impl<'a> Block<'a> {
         self
     }
 
-    /// What is inside: the area without the rows and columns of borders and titles, and without the
-    /// padding.
+    /// Returns what is inside: the area without the rows and columns of borders and titles, and
+    /// without the padding.
     pub fn inner(&self, area: Rect) -> Rect
         ensures { result ≡ inner_of self.now area }
     {
@@ -231,7 +231,7 @@ impl<'a> Block<'a> {
         }
     }
 
-    /// How many rows the box takes above and below what is inside.
+    /// Returns how many rows the box takes above and below what is inside.
     pub fn rows_around(&self) -> usize
         ensures { result ≡ rows_around self.now }
     {

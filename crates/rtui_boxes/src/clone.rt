@@ -6,7 +6,7 @@ use crate::block::Block;
 use ratatui_core::text::Line;
 use std::alloc::{AllocError, Global};
 
-/// An equal box, if there is one.
+/// Makes an equal box, if there is one.
 ///
 /// # Errors
 ///
@@ -24,7 +24,7 @@ pub fn cloned_block<'a>(
     }
 }
 
-/// An equal line, if there is one.
+/// Makes an equal line, if there is one.
 ///
 /// # Errors
 ///

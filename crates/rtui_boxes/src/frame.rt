@@ -11,7 +11,7 @@ use ratatui_core::style::Style;
 use ratatui_core::widgets::Widget;
 use std::alloc::AllocError;
 
-/// What is inside the box, if there is one.
+/// Returns what is inside the box, or the whole part if there is no box.
 pub fn inner_if(block: &Option<Block<'_>>, part: Rect) -> Rect
     ensures { result ≡ inner_if block.now part }
 {

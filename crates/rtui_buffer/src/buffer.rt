@@ -55,7 +55,7 @@ impl Model for Buffer {
 }
 
 impl Buffer {
-    /// A buffer of empty cells.
+    /// Makes a buffer of empty cells.
     ///
     /// # Conditions
     ///
@@ -75,7 +75,7 @@ impl Buffer {
         Ok(Buffer { area, content })
     }
 
-    /// A buffer with this cell everywhere.
+    /// Makes a buffer with this cell everywhere.
     ///
     /// # Conditions
     ///
@@ -95,7 +95,7 @@ impl Buffer {
         Ok(Buffer { area, content })
     }
 
-    /// An equal buffer.
+    /// Makes an equal buffer.
     ///
     /// # Errors
     ///
@@ -110,7 +110,7 @@ impl Buffer {
         Ok(Buffer { area, content })
     }
 
-    /// The cells, row by row.
+    /// Returns the cells, row by row.
     pub fn content(&self) -> &[Cell]
         ensures cells { result.now ≡ self.now.cells }
         ensures count { length result.now ≡ area_size self.now.area }
@@ -118,7 +118,7 @@ impl Buffer {
         self.content.as_slice()
     }
 
-    /// The cells of a row of the area, from left to right.
+    /// Returns the cells of a row of the area, from left to right.
     ///
     /// # Conditions
     ///
@@ -133,7 +133,7 @@ impl Buffer {
         &self.content[start..start + width]
     }
 
-    /// The cells, row by row, to be written.
+    /// Returns the cells, row by row, to be written.
     pub fn cells_mut(&mut self) -> &mut [Cell]
         ensures* writes_back { sem 𝓛 (Lends the_row (Array cell_row 0) self.entry result
             (with_cells self.old)) }
@@ -143,12 +143,12 @@ impl Buffer {
         self.content.as_mut_slice()
     }
 
-    /// What the cells' list takes its memory from.
+    /// Returns what the cells' list takes its memory from.
     pub fn allocator(&self) -> Global {
         *self.content.allocator()
     }
 
-    /// The area, in columns and rows of the screen.
+    /// Returns the area, in columns and rows of the screen.
     pub fn area(&self) -> &Rect
         ensures area { result.now ≡ self.now.area }
         ensures edges { EdgesFit self.now.area }
@@ -157,7 +157,7 @@ impl Buffer {
         &self.area
     }
 
-    /// The part of an area that the buffer has, if there is one.
+    /// Returns the part of an area that the buffer has, if there is one.
     pub fn part(&self, area: Rect) -> Option<Rect>
         ensures { let r = intersected area self.now.area in
             MatchOption result ((r.width ≡ 0) ⊎ (r.height ≡ 0)) (IsClipped area self.now.area) }
@@ -169,7 +169,7 @@ impl Buffer {
         Some(part)
     }
 
-    /// The cell in a column and a row of the area.
+    /// Returns the cell in a column and a row of the area.
     ///
     /// # Conditions
     ///
@@ -181,7 +181,7 @@ impl Buffer {
         &self[Position { x, y }]
     }
 
-    /// The cell in a column and a row of the area, to be written.
+    /// Returns the cell in a column and a row of the area, to be written.
     ///
     /// # Conditions
     ///
@@ -198,7 +198,7 @@ impl Buffer {
         &mut self.content[place]
     }
 
-    /// The cell at a position, if it lies in the area.
+    /// Returns the cell at a position, if it lies in the area.
     pub fn cell(&self, position: Position) -> Option<&Cell>
         ensures inside { IsSome result ↔ HasPosition self.now.area position }
         ensures value { IfSome result (λ cell. cell.now ≡ cell_in self.now position) }
@@ -207,7 +207,7 @@ impl Buffer {
         self.content.get(place)
     }
 
-    /// The cell at a position, to be written, if it lies in the area.
+    /// Returns the cell at a position, to be written, if it lies in the area.
     pub fn cell_mut(&mut self, position: Position) -> Option<&mut Cell>
         ensures* writes_back { sem 𝓛 (LendsIf the_row cell_row self.entry result
             (with_cell self.old position) self.old) }
@@ -218,7 +218,7 @@ impl Buffer {
         self.content.get_mut(place)
     }
 
-    /// The place of a column and a row of the area in the list of cells.
+    /// Returns the place of a column and a row of the area in the list of cells.
     ///
     /// # Conditions
     ///
@@ -246,7 +246,7 @@ impl Buffer {
         }
     }
 
-    /// The column and the row of a place in the list of cells.
+    /// Returns the column and the row of a place in the list of cells.
     ///
     /// # Conditions
     ///
@@ -331,9 +331,9 @@ impl Buffer {
         self.area.y = position.y;
     }
 
-    /// Whether a screen can show the buffer as it is: each skipped cell takes at most one column,
-    /// each other cell ends within its row, and after an unskipped wide cell stand only empty or
-    /// skipped ones. A full repaint of such a buffer shows it, whatever the screen had.
+    /// Returns whether a screen can show the buffer as it is: each skipped cell takes at most one
+    /// column, each other cell ends within its row, and after an unskipped wide cell stand only
+    /// empty or skipped ones. A full repaint of such a buffer shows it, whatever the screen had.
     pub fn is_settled(&self) -> bool
         ensures settled { IsTrue result ↔ IsSettledBuffer self.now }
         ensures repaints { IsTrue result → IsShownByRepaint self.now }
@@ -342,8 +342,8 @@ impl Buffer {
         is_settled(self.content(), area.width, area.height)
     }
 
-    /// The updates that turn a screen which shows this buffer into one that shows the next: over
-    /// the common rows, in order, only what differs.
+    /// Returns the updates that turn a screen which shows this buffer into one that shows the next:
+    /// over the common rows, in order, only what differs.
     ///
     /// # Conditions
     ///
@@ -364,7 +364,7 @@ impl Buffer {
         )
     }
 
-    /// The updates of `diff_iter` in a list.
+    /// Returns the updates of `diff_iter` in a list.
     ///
     /// # Conditions
     ///

@@ -19,9 +19,9 @@ fn part(buffer: &Buffer, first: u16, count: u16) -> &[Cell]
     &buffer.content()[start..end]
 }
 
-/// The updates from `count` rows of a buffer, from its row `first` on, to as many of the next one,
-/// from its row `next_first` on: what `diff_iter` gives from one part to the other, each taken as a
-/// buffer at (0, 0). Rows are counted from the top of each buffer.
+/// Returns the updates from `count` rows of a buffer, from its row `first` on, to as many of the
+/// next one, from its row `next_first` on: what `diff_iter` gives from one part to the other, each
+/// taken as a buffer at (0, 0). Rows are counted from the top of each buffer.
 ///
 /// # Conditions
 ///

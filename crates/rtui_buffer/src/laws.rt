@@ -157,8 +157,8 @@ pub fn ascii_graphemes_are_short()
     ensures { (text : List ℕ) → IsAscii text → EachGrapheme IsShort text }
 {}
 
-/// What is painted within a row of the area, seen by columns; and what isn't painted if memory is
-/// refused.
+/// Says what is painted within a row of the area, seen by columns; and what isn't painted if memory
+/// is refused.
 pub fn painting_goes_by_columns()
     ensures painted { (p : Position) (ps : List Piece) (old new : BufferData)
         → HasRow old.area p.y → old.area.x ≤ p.x → columns ps ≤ old.area.x + old.area.width - p.x

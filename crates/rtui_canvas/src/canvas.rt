@@ -41,8 +41,8 @@ pub struct Canvas<'a> {
 }
 
 impl<'a> Canvas<'a> {
-    /// A canvas of nothing, without a box, that marks dots in Braille. Its bounds are 0 on each
-    /// side, so it shows nothing before it is given others. Takes no memory.
+    /// Makes a canvas of nothing, without a box, that marks dots in Braille. Its bounds are 0 on
+    /// each side, so it shows nothing before it is given others. Takes no memory.
     pub fn new() -> Canvas<'a>
         ensures { IsNewCanvas result }
     {
@@ -59,7 +59,7 @@ impl<'a> Canvas<'a> {
         }
     }
 
-    /// The canvas in a box.
+    /// Puts the canvas in a box.
     pub fn block(mut self, block: Block<'a>) -> Canvas<'a>
         ensures { result ≡ record self.entry { block = Some block.entry } }
     {
@@ -67,8 +67,8 @@ impl<'a> Canvas<'a> {
         self
     }
 
-    /// The canvas with these coordinates at its left and its right side. It shows nothing unless
-    /// the left one is less.
+    /// Sets the coordinates at the left and the right side. The canvas shows nothing unless the
+    /// left one is less.
     pub fn x_bounds(mut self, bounds: [i64; 2]) -> Canvas<'a>
         ensures { let left = slice_index_or bounds 0 (pos 0) in
             let right = slice_index_or bounds 1 (pos 0) in
@@ -79,8 +79,8 @@ impl<'a> Canvas<'a> {
         self
     }
 
-    /// The canvas with these coordinates at its lower and its upper side. It shows nothing unless
-    /// the lower one is less.
+    /// Sets the coordinates at the lower and the upper side. The canvas shows nothing unless the
+    /// lower one is less.
     pub fn y_bounds(mut self, bounds: [i64; 2]) -> Canvas<'a>
         ensures { let bottom = slice_index_or bounds 0 (pos 0) in
             let top = slice_index_or bounds 1 (pos 0) in
@@ -91,21 +91,21 @@ impl<'a> Canvas<'a> {
         self
     }
 
-    /// The canvas with other shapes.
+    /// Sets the shapes of the canvas.
     pub fn paint(self, drawings: &'a [Drawing<'a>]) -> Canvas<'a>
         ensures { result ≡ record self.entry { drawings = drawings.entry } }
     {
         Canvas { drawings, ..self }
     }
 
-    /// The canvas with other labels. They lie over all dots, each over those before it.
+    /// Sets the labels of the canvas. They lie over all dots, each over those before it.
     pub fn print(self, labels: &'a [Label<'a>]) -> Canvas<'a>
         ensures { result ≡ record self.entry { labels = labels.entry } }
     {
         Canvas { labels, ..self }
     }
 
-    /// The canvas over this background.
+    /// Sets the background of the canvas.
     pub fn background_color(mut self, color: Color) -> Canvas<'a>
         ensures { result ≡ record self.entry { background_color = color } }
     {
@@ -113,7 +113,7 @@ impl<'a> Canvas<'a> {
         self
     }
 
-    /// The canvas with its dots marked so.
+    /// Sets how the dots are marked.
     pub fn marker(mut self, marker: Marker) -> Canvas<'a>
         ensures { result ≡ record self.entry { marker = marker } }
     {
@@ -121,7 +121,7 @@ impl<'a> Canvas<'a> {
         self
     }
 
-    /// A canvas of the same shapes and labels, in an equal box.
+    /// Makes a canvas of the same shapes and labels, in an equal box.
     ///
     /// # Errors
     ///

@@ -24,14 +24,14 @@ pub struct Label<'a> {
 }
 
 impl<'a> Label<'a> {
-    /// A line from this point on to the right.
+    /// Makes a label of a line from this point on to the right.
     pub fn new(x: i64, y: i64, line: Line<'a>) -> Label<'a>
         ensures { result ≡ record { x = x; y = y; line = line.entry } }
     {
         Label { x, y, line }
     }
 
-    /// An equal label.
+    /// Makes an equal label.
     ///
     /// # Errors
     ///

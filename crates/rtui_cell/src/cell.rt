@@ -73,7 +73,7 @@ impl Cell {
         symbol: Symbol::UNSET,
     };
 
-    /// An otherwise empty cell with this text.
+    /// Makes an otherwise empty cell with this text.
     ///
     /// # Errors
     ///
@@ -88,7 +88,7 @@ impl Cell {
         })
     }
 
-    /// An otherwise empty cell with this character.
+    /// Makes an otherwise empty cell with this character.
     ///
     /// # Errors
     ///
@@ -101,7 +101,7 @@ impl Cell {
         Cell::new(alloc, ch.encode_utf8(&mut bytes))
     }
 
-    /// The text, one blank if none is set.
+    /// Returns the text, one blank if none is set.
     pub fn symbol(&self) -> &str
         ensures { result.now ≡ symbol_text self.now.symbol }
     {
@@ -225,7 +225,7 @@ impl Cell {
         self
     }
 
-    /// Its three colours, and its modifiers as added ones.
+    /// Returns the three colours of the cell, and its modifiers as added ones.
     pub fn style(&self) -> Style
         ensures { result ≡ style_of self.now }
     {
@@ -256,7 +256,8 @@ impl Cell {
         self
     }
 
-    /// Whether the cell is never drawn: its option is `Skip`, or it has none and the flag is set.
+    /// Returns whether the cell is never drawn: its option is `Skip`, or it has none and the flag
+    /// is set.
     #[tactic(auto, unfolding(crate::specs::Cell::is_skipped))]
     pub fn is_skipped(&self) -> bool
         ensures { result ≡ is_skipped self.now }
@@ -268,8 +269,8 @@ impl Cell {
         }
     }
 
-    /// Whether the text is a single byte, as a blank if none is set, and the cell has no option. It
-    /// takes one column then.
+    /// Returns whether the text is a single byte, as a blank if none is set, and the cell has no
+    /// option. It takes one column then.
     #[tactic(auto, unfolding(crate::specs::Cell::is_single_byte))]
     pub fn is_single_byte(&self) -> bool
         ensures value { result ≡ is_single_byte self.now }
@@ -313,7 +314,7 @@ impl Cell {
         Ok(())
     }
 
-    /// An equal cell.
+    /// Makes an equal cell.
     ///
     /// # Errors
     ///

@@ -9,7 +9,7 @@ use unicode_width::{UnicodeWidthChar, UnicodeWidthStr};
 pub trait CellWidth {
     ghost columns: { Self → ℕ };
 
-    /// The width in columns, at most 65535.
+    /// Returns the width in columns, at most 65535.
     fn cell_width(&self) -> u16
         ensures { result ≡ columns self.now };
 }

@@ -53,7 +53,7 @@ impl Symbol {
         text: Storage::Unset,
     };
 
-    /// A symbol with this text.
+    /// Makes a symbol with this text.
     ///
     /// # Errors
     ///
@@ -69,7 +69,7 @@ impl Symbol {
         Ok(Symbol { text })
     }
 
-    /// The text, one blank if there is none.
+    /// Returns the text, one blank if there is none.
     pub fn as_str(&self) -> &str
         ensures { result.now ≡ symbol_text self.now }
     {
@@ -210,7 +210,7 @@ impl Symbol {
         }
     }
 
-    /// Whether the text is a single byte, as the blank of an unset symbol is.
+    /// Returns whether the text is a single byte, as the blank of an unset symbol is.
     pub fn is_single_byte(&self) -> bool
         ensures { result ≡ (length (symbol_text self.now) == 1) }
     {
@@ -245,7 +245,7 @@ impl Symbol {
         Ok(())
     }
 
-    /// An equal symbol.
+    /// Makes an equal symbol.
     ///
     /// # Errors
     ///

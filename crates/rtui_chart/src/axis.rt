@@ -27,8 +27,8 @@ pub struct Axis<'a> {
 }
 
 impl<'a> Axis<'a> {
-    /// An axis without a title and labels. Its bounds are 0 at both ends, so that no points lie
-    /// between them. Takes no memory.
+    /// Makes an axis without a title and labels. Its bounds are 0 at both ends, so that no points
+    /// lie between them. Takes no memory.
     pub fn new() -> Axis<'a>
         ensures { IsNewAxis result }
     {
@@ -42,9 +42,9 @@ impl<'a> Axis<'a> {
         }
     }
 
-    /// The axis with a title, which stands over the dots: that of the axis below at its right end,
-    /// that of the axis at the left in the first row. It is shown if there are more columns and at
-    /// least three rows of them.
+    /// Sets the title of the axis, which stands over the dots: that of the axis below at its right
+    /// end, that of the axis at the left in the first row. It is shown if there are more columns
+    /// and at least three rows of them.
     pub fn title(self, title: Line<'a>) -> Axis<'a>
         ensures { result ≡ record self.entry { title = Some title.entry } }
     {
@@ -54,7 +54,7 @@ impl<'a> Axis<'a> {
         }
     }
 
-    /// The axis with these coordinates at its ends: from the left to the right, or from below up.
+    /// Sets the coordinates at the ends of the axis: from the left to the right, or from below up.
     /// No points are shown unless the first one is less.
     pub fn bounds(self, bounds: [i64; 2]) -> Axis<'a>
         ensures { let low = slice_index_or bounds 0 (pos 0) in
@@ -68,7 +68,7 @@ impl<'a> Axis<'a> {
         }
     }
 
-    /// The axis with these labels: from the left to the right, or from below up.
+    /// Sets the labels of the axis: from the left to the right, or from below up.
     pub fn labels(self, labels: Vec<Line<'a>>) -> Axis<'a>
         ensures { result ≡ record self.entry { labels = Some labels.entry.items } }
     {
@@ -78,8 +78,8 @@ impl<'a> Axis<'a> {
         }
     }
 
-    /// The axis with its labels aligned so. Of the axis below only the first label goes by it: it
-    /// ends left of the dots, is centred at their first column, or begins at the axis at the left.
+    /// Sets how the labels are aligned. Of the axis below only the first label goes by it: it ends
+    /// left of the dots, is centred at their first column, or begins at the axis at the left.
     pub fn labels_alignment(self, alignment: HorizontalAlignment) -> Axis<'a>
         ensures { result ≡ record self.entry { labels_alignment = alignment } }
     {
@@ -89,14 +89,14 @@ impl<'a> Axis<'a> {
         }
     }
 
-    /// The axis with its line in a style.
+    /// Sets the style of the line of the axis.
     pub fn style(self, style: Style) -> Axis<'a>
         ensures { result ≡ record self.entry { style = style } }
     {
         Axis { style, ..self }
     }
 
-    /// An equal axis.
+    /// Makes an equal axis.
     ///
     /// # Errors
     ///

@@ -45,7 +45,8 @@ pub struct Chart<'a> {
 }
 
 impl<'a> Chart<'a> {
-    /// A chart of these data sets, without a box, with axes that show nothing. Takes no memory.
+    /// Makes a chart of these data sets, without a box, with axes that show nothing. Takes no
+    /// memory.
     pub fn new(datasets: Vec<Dataset<'a>>) -> Chart<'a>
         ensures { IsNewChart datasets.entry.items result }
     {
@@ -60,7 +61,7 @@ impl<'a> Chart<'a> {
         }
     }
 
-    /// The chart in a box.
+    /// Puts the chart in a box.
     pub fn block(mut self, block: Block<'a>) -> Chart<'a>
         ensures { result ≡ record self.entry { block = Some block.entry } }
     {
@@ -68,7 +69,7 @@ impl<'a> Chart<'a> {
         self
     }
 
-    /// The chart in a style; its background is that of the dots, too.
+    /// Sets the style of the chart; its background is that of the dots, too.
     pub fn style(mut self, style: Style) -> Chart<'a>
         ensures { result ≡ record self.entry { style = style } }
     {
@@ -76,7 +77,7 @@ impl<'a> Chart<'a> {
         self
     }
 
-    /// The chart with this axis below.
+    /// Sets the axis below.
     pub fn x_axis(self, axis: Axis<'a>) -> Chart<'a>
         ensures { result ≡ record self.entry { x_axis = axis.entry } }
     {
@@ -86,7 +87,7 @@ impl<'a> Chart<'a> {
         }
     }
 
-    /// The chart with this axis at the left.
+    /// Sets the axis at the left.
     pub fn y_axis(self, axis: Axis<'a>) -> Chart<'a>
         ensures { result ≡ record self.entry { y_axis = axis.entry } }
     {
@@ -96,7 +97,7 @@ impl<'a> Chart<'a> {
         }
     }
 
-    /// The chart with its legend at this place, or without one. It names the data sets that have
+    /// Sets the place of the legend, or takes the legend away. It names the data sets that have
     /// names, and is shown if there is room for it.
     pub fn legend_position(mut self, position: Option<LegendPosition>) -> Chart<'a>
         ensures { result ≡ record self.entry { legend_position = position } }
@@ -105,8 +106,8 @@ impl<'a> Chart<'a> {
         self
     }
 
-    /// The chart with its legend shown if it takes at most so many of the columns of the dots and
-    /// so many of their rows; a quarter of each, if it isn't told otherwise.
+    /// Sets how many of the columns of the dots and how many of their rows the legend takes at most
+    /// if it is shown; a quarter of each, if it isn't told otherwise.
     pub fn hidden_legend_constraints(mut self, constraints: (Constraint, Constraint)) -> Chart<'a>
         ensures { result ≡ record self.entry { hidden_legend_constraints = constraints } }
     {
@@ -114,7 +115,7 @@ impl<'a> Chart<'a> {
         self
     }
 
-    /// An equal chart.
+    /// Makes an equal chart.
     ///
     /// # Errors
     ///

@@ -32,7 +32,8 @@ pub struct Dataset<'a> {
 }
 
 impl<'a> Dataset<'a> {
-    /// No points, without a name, each as a dot. Takes no memory.
+    /// Makes a data set of no points, without a name, which shows each point as a dot. Takes no
+    /// memory.
     pub fn new() -> Dataset<'a>
         ensures { IsNewDataset result }
     {
@@ -45,7 +46,7 @@ impl<'a> Dataset<'a> {
         }
     }
 
-    /// The data set with a name, by which the legend knows it.
+    /// Sets the name of the data set, by which the legend knows it.
     pub fn name(mut self, name: Line<'a>) -> Dataset<'a>
         ensures { result ≡ record self.entry { name = Some name.entry } }
     {
@@ -53,7 +54,7 @@ impl<'a> Dataset<'a> {
         self
     }
 
-    /// The data set of other points: their coordinates from the left and from below.
+    /// Sets the points of the data set: their coordinates from the left and from below.
     pub fn data(self, data: &'a [(i64, i64)]) -> Dataset<'a>
         ensures { result ≡ record self.entry { points = data.entry } }
     {
@@ -63,7 +64,7 @@ impl<'a> Dataset<'a> {
         }
     }
 
-    /// The data set with its dots marked so.
+    /// Sets how the dots are marked.
     pub fn marker(mut self, marker: Marker) -> Dataset<'a>
         ensures { result ≡ record self.entry { marker = marker } }
     {
@@ -71,7 +72,7 @@ impl<'a> Dataset<'a> {
         self
     }
 
-    /// The data set with its points shown so.
+    /// Sets how the points are shown.
     pub fn graph_type(mut self, graph_type: GraphType) -> Dataset<'a>
         ensures { result ≡ record self.entry { graph_type = graph_type } }
     {
@@ -79,8 +80,8 @@ impl<'a> Dataset<'a> {
         self
     }
 
-    /// The data set in a style: its foreground is the colour of the dots, and all of it is over its
-    /// name in the legend.
+    /// Sets the style of the data set: its foreground is the colour of the dots, and all of it is
+    /// over the data set's name in the legend.
     pub fn style(mut self, style: Style) -> Dataset<'a>
         ensures { result ≡ record self.entry { style = style } }
     {
@@ -88,7 +89,7 @@ impl<'a> Dataset<'a> {
         self
     }
 
-    /// A data set of the same points, with an equal name.
+    /// Makes a data set of the same points, with an equal name.
     ///
     /// # Errors
     ///

@@ -28,8 +28,8 @@ impl<'prev, 'next> Model for BufferDiff<'prev, 'next> {
 }
 
 impl<'prev, 'next> BufferDiff<'prev, 'next> {
-    /// The updates over the area at (x, y) of this width and height, in columns and rows. Both
-    /// lists have its cells, row by row, and may go on after it.
+    /// Makes the updates over the area at (x, y) of this width and height, in columns and rows.
+    /// Both lists have its cells, row by row, and may go on after it.
     ///
     /// # Conditions
     ///

@@ -35,9 +35,9 @@ fn is_settled_at(cells: &[Cell], columns: usize, at: usize) -> bool
     true
 }
 
-/// Whether a frame of this width and height, in columns and rows, is settled: each skipped cell
-/// takes at most one column, each other cell ends within its row, and after an unskipped wide cell
-/// stand only empty or skipped ones.
+/// Returns whether a frame of this width and height, in columns and rows, is settled: each skipped
+/// cell takes at most one column, each other cell ends within its row, and after an unskipped wide
+/// cell stand only empty or skipped ones.
 ///
 /// # Conditions
 ///

@@ -24,7 +24,7 @@ pub struct Circle {
 }
 
 impl Circle {
-    /// A circle around this centre.
+    /// Makes a circle around this centre.
     pub fn new(x: i64, y: i64, radius: u64, color: Color) -> Circle
         ensures { result ≡ record { x = x; y = y; radius = radius; color = color } }
     {

@@ -33,7 +33,7 @@ pub enum Drawing<'a> {
 }
 
 impl<'a> Drawing<'a> {
-    /// Whether it begins a layer.
+    /// Returns whether it begins a layer.
     pub fn is_layer(&self) -> bool
         ensures { result ≡ is_layer self.now }
     {

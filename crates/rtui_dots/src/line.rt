@@ -29,7 +29,7 @@ pub struct Line {
 }
 
 impl Line {
-    /// A line from one point to another one.
+    /// Makes a line from one point to another one.
     pub fn new(x1: i64, y1: i64, x2: i64, y2: i64, color: Color) -> Line
         ensures { result ≡ record { x1 = x1; y1 = y1; x2 = x2; y2 = y2; color = color } }
     {

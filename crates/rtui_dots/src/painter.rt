@@ -79,7 +79,7 @@ fn cell_row(marker: Marker, y: u64) -> u64
 }
 
 impl DotCell {
-    /// Whether the two halves of the cell have one colour.
+    /// Returns whether the two halves of the cell have one colour.
     #[tactic(auto, unfolding(crate::specs::Grids::has_one_color))]
     pub fn has_one_color(&self) -> bool
         ensures { result ≡ has_one_color self.now }
@@ -108,7 +108,7 @@ impl DotCell {
 }
 
 impl Painter {
-    /// A grid of this scale, without dots. It takes memory for each of its cells.
+    /// Makes a grid of this scale, without dots. It takes memory for each of its cells.
     ///
     /// # Errors
     ///
@@ -122,14 +122,14 @@ impl Painter {
         Ok(Painter { scale, cells })
     }
 
-    /// The scale that it was made with.
+    /// Returns the scale that it was made with.
     pub fn scale(&self) -> Scale
         ensures { result ≡ self.now.scale }
     {
         self.scale
     }
 
-    /// The cells, row by row.
+    /// Returns the cells, row by row.
     pub fn cells(&self) -> &[DotCell]
         ensures { result.now ≡ self.now.cells.items }
     {

@@ -18,7 +18,7 @@ pub struct Points<'a> {
 }
 
 impl<'a> Points<'a> {
-    /// Points of these coordinates, in a colour.
+    /// Makes points of these coordinates, in a colour.
     pub fn new(coords: &'a [(i64, i64)], color: Color) -> Points<'a>
         ensures { result ≡ record { coords = coords.entry; color = color } }
     {

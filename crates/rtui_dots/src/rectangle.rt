@@ -22,7 +22,7 @@ pub struct Rectangle {
 }
 
 impl Rectangle {
-    /// A rectangle from its lower left corner on.
+    /// Makes a rectangle from its lower left corner on.
     pub fn new(x: i64, y: i64, width: i64, height: i64, color: Color) -> Rectangle
         ensures { result
             ≡ record { x = x; y = y; width = width; height = height; color = color } }

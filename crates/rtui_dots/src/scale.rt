@@ -191,7 +191,7 @@ impl Scale {
         lies_between(self.left, self.right, x) && lies_between(self.bottom, self.top, y)
     }
 
-    /// Whether there are points between the bounds, and this is one of them.
+    /// Returns whether there are points between the bounds, and this is one of them.
     pub fn has_point(&self, x: i64, y: i64) -> bool
         ensures { result ≡ has_point self.now x y }
     {
@@ -220,7 +220,7 @@ impl Scale {
         share(from_top, whole, self.rows)
     }
 
-    /// The column and the row among the cells, from 0 on, of a point within the bounds.
+    /// Returns the column and the row among the cells, from 0 on, of a point within the bounds.
     ///
     /// # Conditions
     ///

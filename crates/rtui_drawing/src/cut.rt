@@ -36,7 +36,7 @@ pub enum Cut {
 }
 
 impl Cut {
-    /// This part of an area.
+    /// Returns this part of an area.
     pub fn of(self, area: Rect) -> Rect
         ensures { result ≡ cut_from self area }
     {

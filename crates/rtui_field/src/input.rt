@@ -62,7 +62,7 @@ impl<'a> Input<'a> {
         self
     }
 
-    /// Gives the input a style, which is laid over its whole area.
+    /// Sets the style of the input, which is laid over its whole area.
     pub fn style(mut self, style: Style) -> Input<'a>
         ensures { result ≡ record self.entry { style = style } }
     {
@@ -70,7 +70,7 @@ impl<'a> Input<'a> {
         self
     }
 
-    /// Gives the input a text that is shown in a style as long as the field has none.
+    /// Sets a text that is shown in a style as long as the field has none.
     pub fn placeholder(mut self, text: &'a str, style: Style) -> Input<'a>
         ensures { result
             ≡ record self.entry { placeholder = text.entry; placeholder_style = style } }
@@ -174,7 +174,7 @@ impl<'a> Input<'a> {
     }
 }
 
-/// Answers the column and the row of the buffer in which the cursor stood when the field was
+/// Returns the column and the row of the buffer in which the cursor stood when the field was
 /// rendered last, for `Frame::set_cursor_position`, or `None` if there was no place for it.
 pub fn cursor_position(field: &TextField) -> Option<Position>
     ensures { result ≡ position_if field.now.place }

@@ -12,7 +12,7 @@ pub struct Margin {
 }
 
 impl Margin {
-    /// A margin of `horizontal` columns on either side and `vertical` rows above and below.
+    /// Makes a margin of `horizontal` columns on either side and `vertical` rows above and below.
     pub fn new(horizontal: u16, vertical: u16) -> Self
         ensures { result ≡ record { horizontal = horizontal; vertical = vertical } }
     {

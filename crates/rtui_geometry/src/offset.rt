@@ -27,7 +27,7 @@ impl Offset {
         y: 2147483647,
     };
 
-    /// The move by `x` columns and `y` rows.
+    /// Makes the move by `x` columns and `y` rows.
     pub fn new(x: i32, y: i32) -> Self
         ensures { result ≡ record { x = x; y = y } }
     {

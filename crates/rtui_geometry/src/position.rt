@@ -29,14 +29,14 @@ impl Position {
     /// The greatest position.
     pub const MAX: Self = Position { x: 65535, y: 65535 };
 
-    /// The position in column `x` of row `y`.
+    /// Makes the position in column `x` of row `y`.
     pub fn new(x: u16, y: u16) -> Self
         ensures { result ≡ record { x = x; y = y } }
     {
         Position { x, y }
     }
 
-    /// The position moved by the offset, as far as the grid goes.
+    /// Returns the position moved by the offset, as far as the grid goes.
     pub fn offset(self, offset: Offset) -> Self
         ensures { result ≡ moved_position self offset }
     {

@@ -76,7 +76,7 @@ impl Rect {
         height: 65535,
     };
 
-    /// The rectangle at a corner, with its size cut so that neither edge lies past 65535.
+    /// Makes the rectangle at a corner, with its size cut so that neither edge lies past 65535.
     pub fn new(x: u16, y: u16, width: u16, height: u16) -> Self
         ensures value { result ≡ cut_rect x y width height }
         ensures fits { EdgesFit result }
@@ -89,49 +89,50 @@ impl Rect {
         }
     }
 
-    /// How many cells the rectangle has.
+    /// Returns how many cells the rectangle has.
     pub fn area(self) -> u32
         ensures { result ≡ self.width * self.height }
     {
         u32::from(self.width) * u32::from(self.height)
     }
 
-    /// Whether the rectangle has no column or no row.
+    /// Returns whether the rectangle has no column or no row.
     pub fn is_empty(self) -> bool
         ensures { IsTrue result ↔ ((self.width ≡ 0) ⊎ (self.height ≡ 0)) }
     {
         self.width == 0 || self.height == 0
     }
 
-    /// The first column.
+    /// Returns the first column.
     pub fn left(self) -> u16
         ensures { result ≡ self.x }
     {
         self.x
     }
 
-    /// The column right after the last one, at most 65535.
+    /// Returns the column right after the last one, at most 65535.
     pub fn right(self) -> u16
         ensures { result ≡ right_edge self }
     {
         self.x.saturating_add(self.width)
     }
 
-    /// The first row.
+    /// Returns the first row.
     pub fn top(self) -> u16
         ensures { result ≡ self.y }
     {
         self.y
     }
 
-    /// The row right below the last one, at most 65535.
+    /// Returns the row right below the last one, at most 65535.
     pub fn bottom(self) -> u16
         ensures { result ≡ bottom_edge self }
     {
         self.y.saturating_add(self.height)
     }
 
-    /// The rectangle less a margin on each side, or `ZERO` if it has no room for the margin.
+    /// Returns the rectangle less a margin on each side, or `ZERO` if it has no room for the
+    /// margin.
     pub fn inner(self, margin: Margin) -> Self
         ensures room { HasRoom self margin → result ≡ shrunk self margin }
         ensures no_room { ¬ (HasRoom self margin) → result ≡ Rect.ZERO }
@@ -153,7 +154,7 @@ impl Rect {
         }
     }
 
-    /// The rectangle with each edge moved out by a margin, as far as the grid goes.
+    /// Returns the rectangle with each edge moved out by a margin, as far as the grid goes.
     pub fn outer(self, margin: Margin) -> Self
         ensures value { result ≡ grown self margin }
         ensures fits { EdgesFit result }
@@ -169,7 +170,7 @@ impl Rect {
         }
     }
 
-    /// The rectangle moved by the offset. Its size stays, and no edge leaves the grid.
+    /// Returns the rectangle moved by the offset. Its size stays, and no edge leaves the grid.
     pub fn offset(self, offset: Offset) -> Self
         ensures value { result ≡ moved_rect self offset }
         ensures fits { EdgesFit result }
@@ -177,7 +178,7 @@ impl Rect {
         self + offset
     }
 
-    /// The rectangle at the same corner with another size, cut as `new` does.
+    /// Returns the rectangle at the same corner with another size, cut as `new` does.
     pub fn resize(self, size: Size) -> Self
         ensures value { result ≡ cut_rect self.x self.y size.width size.height }
         ensures fits { EdgesFit result }
@@ -185,7 +186,7 @@ impl Rect {
         Rect::new(self.x, self.y, size.width, size.height)
     }
 
-    /// The smallest rectangle that spans both, even if one of them is empty.
+    /// Returns the smallest rectangle that spans both, even if one of them is empty.
     pub fn union(self, other: Self) -> Self
         ensures value { result ≡ united self other }
         ensures fits { EdgesFit result }
@@ -202,7 +203,7 @@ impl Rect {
         }
     }
 
-    /// The rectangle of the positions that both have. If they have none, it is empty.
+    /// Returns the rectangle of the positions that both have. If they have none, it is empty.
     pub fn intersection(self, other: Self) -> Self
         ensures value { result ≡ intersected self other }
         ensures positions { (p : Position)
@@ -219,7 +220,7 @@ impl Rect {
         }
     }
 
-    /// Whether the rectangles overlap. An empty rectangle within another overlaps it.
+    /// Returns whether the rectangles overlap. An empty rectangle within another overlaps it.
     pub fn intersects(self, other: Self) -> bool
         ensures value { IsTrue result ↔ Intersects self other }
 
@@ -233,7 +234,7 @@ impl Rect {
             && self.bottom() > other.y
     }
 
-    /// Whether the position is one of the rectangle's.
+    /// Returns whether the position is one of the rectangle's.
     pub fn contains(self, position: Position) -> bool
         ensures { IsTrue result ↔ HasPosition self position }
     {
@@ -243,7 +244,8 @@ impl Rect {
             && position.y < self.bottom()
     }
 
-    /// The rectangle cut to the size of another, and moved as little as it takes to lie in it.
+    /// Returns the rectangle cut to the size of another, and moved as little as it takes to lie in
+    /// it.
     ///
     /// # Conditions
     ///
@@ -265,7 +267,7 @@ impl Rect {
         Rect::new(x, y, width, height)
     }
 
-    /// The rows from top to bottom, each a rectangle of height 1.
+    /// Returns the rows from top to bottom, each a rectangle of height 1.
     #[tactic(auto, using(crate::proofs::Numbers::ends))]
     pub fn rows(self) -> Rows
         ensures value { result ≡ rows_of self }
@@ -275,7 +277,7 @@ impl Rect {
         Rows::new(self)
     }
 
-    /// The columns from left to right, each a rectangle of width 1.
+    /// Returns the columns from left to right, each a rectangle of width 1.
     #[tactic(auto, using(crate::proofs::Numbers::ends))]
     pub fn columns(self) -> Columns
         ensures value { result ≡ columns_of self }
@@ -285,7 +287,7 @@ impl Rect {
         Columns::new(self)
     }
 
-    /// The positions, row by row.
+    /// Returns the positions, row by row.
     #[tactic(auto, using(crate::proofs::Places::counts))]
     pub fn positions(self) -> Positions
         ensures value { result ≡ positions_of self }
@@ -297,7 +299,7 @@ impl Rect {
         Positions::new(self)
     }
 
-    /// The corner at the top left.
+    /// Returns the corner at the top left.
     pub fn as_position(self) -> Position
         ensures { result ≡ corner self }
     {
@@ -307,7 +309,7 @@ impl Rect {
         }
     }
 
-    /// The number of columns and of rows.
+    /// Returns the number of columns and of rows.
     pub fn as_size(self) -> Size
         ensures { result ≡ record { width = self.width; height = self.height } }
     {

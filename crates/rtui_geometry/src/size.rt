@@ -30,14 +30,14 @@ impl Size {
         height: 65535,
     };
 
-    /// The size of `width` columns and `height` rows.
+    /// Makes the size of `width` columns and `height` rows.
     pub fn new(width: u16, height: u16) -> Self
         ensures { result ≡ record { width = width; height = height } }
     {
         Size { width, height }
     }
 
-    /// How many cells a rectangle of this size has.
+    /// Returns how many cells a rectangle of this size has.
     pub fn area(self) -> u32
         ensures { result ≡ self.width * self.height }
     {

@@ -20,7 +20,7 @@ where
     draw_fn(buffer)
 }
 
-/// What a closure leaves of an empty buffer of this area.
+/// Returns what a closure leaves of an empty buffer of this area.
 ///
 /// # Conditions
 ///

@@ -29,49 +29,49 @@ pub enum Constraint {
 }
 
 impl Constraint {
-    /// Whether this is a `Min`.
+    /// Returns whether this is a `Min`.
     pub fn is_min(&self) -> bool
         ensures { IsTrue result ↔ IsMin self.now }
     {
         matches!(self, Constraint::Min(..))
     }
 
-    /// Whether this is a `Max`.
+    /// Returns whether this is a `Max`.
     pub fn is_max(&self) -> bool
         ensures { IsTrue result ↔ IsMax self.now }
     {
         matches!(self, Constraint::Max(..))
     }
 
-    /// Whether this is a `Length`.
+    /// Returns whether this is a `Length`.
     pub fn is_length(&self) -> bool
         ensures { IsTrue result ↔ IsLength self.now }
     {
         matches!(self, Constraint::Length(..))
     }
 
-    /// Whether this is a `Percentage`.
+    /// Returns whether this is a `Percentage`.
     pub fn is_percentage(&self) -> bool
         ensures { IsTrue result ↔ IsPercentage self.now }
     {
         matches!(self, Constraint::Percentage(..))
     }
 
-    /// Whether this is a `Ratio`.
+    /// Returns whether this is a `Ratio`.
     pub fn is_ratio(&self) -> bool
         ensures { IsTrue result ↔ IsRatio self.now }
     {
         matches!(self, Constraint::Ratio(..))
     }
 
-    /// Whether this is a `Fill`.
+    /// Returns whether this is a `Fill`.
     pub fn is_fill(&self) -> bool
         ensures { IsTrue result ↔ IsFill self.now }
     {
         matches!(self, Constraint::Fill(..))
     }
 
-    /// A `Length` of each number, in the order of the slice.
+    /// Makes a `Length` of each number, in the order of the slice.
     ///
     /// # Errors
     ///
@@ -89,7 +89,7 @@ impl Constraint {
             .collect(alloc)
     }
 
-    /// A `Ratio` of each pair, in the order of the slice.
+    /// Makes a `Ratio` of each pair, in the order of the slice.
     ///
     /// # Errors
     ///
@@ -108,7 +108,7 @@ impl Constraint {
             .collect(alloc)
     }
 
-    /// A `Percentage` of each number, in the order of the slice.
+    /// Makes a `Percentage` of each number, in the order of the slice.
     ///
     /// # Errors
     ///
@@ -126,7 +126,7 @@ impl Constraint {
             .collect(alloc)
     }
 
-    /// A `Max` of each number, in the order of the slice.
+    /// Makes a `Max` of each number, in the order of the slice.
     ///
     /// # Errors
     ///
@@ -141,7 +141,7 @@ impl Constraint {
         maxes.iter().map(|n| Constraint::Max(*n)).collect(alloc)
     }
 
-    /// A `Min` of each number, in the order of the slice.
+    /// Makes a `Min` of each number, in the order of the slice.
     ///
     /// # Errors
     ///
@@ -156,7 +156,7 @@ impl Constraint {
         mins.iter().map(|n| Constraint::Min(*n)).collect(alloc)
     }
 
-    /// A `Fill` of each number, in the order of the slice.
+    /// Makes a `Fill` of each number, in the order of the slice.
     ///
     /// # Errors
     ///

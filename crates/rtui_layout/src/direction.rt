@@ -16,7 +16,7 @@ pub enum Direction {
 }
 
 impl Direction {
-    /// The other direction.
+    /// Returns the other direction.
     pub fn perpendicular(self) -> Self
         ensures horizontal { self ≡ Direction.Horizontal → result ≡ Direction.Vertical }
         ensures vertical { self ≡ Direction.Vertical → result ≡ Direction.Horizontal }

@@ -27,49 +27,49 @@ pub enum Flex {
 }
 
 impl Flex {
-    /// Whether this is `Legacy`.
+    /// Returns whether this is `Legacy`.
     pub fn is_legacy(&self) -> bool
         ensures { IsTrue result ↔ (self.now ≡ Flex.Legacy) }
     {
         matches!(self, Flex::Legacy)
     }
 
-    /// Whether this is `Start`.
+    /// Returns whether this is `Start`.
     pub fn is_start(&self) -> bool
         ensures { IsTrue result ↔ (self.now ≡ Flex.Start) }
     {
         matches!(self, Flex::Start)
     }
 
-    /// Whether this is `End`.
+    /// Returns whether this is `End`.
     pub fn is_end(&self) -> bool
         ensures { IsTrue result ↔ (self.now ≡ Flex.End) }
     {
         matches!(self, Flex::End)
     }
 
-    /// Whether this is `Center`.
+    /// Returns whether this is `Center`.
     pub fn is_center(&self) -> bool
         ensures { IsTrue result ↔ (self.now ≡ Flex.Center) }
     {
         matches!(self, Flex::Center)
     }
 
-    /// Whether this is `SpaceBetween`.
+    /// Returns whether this is `SpaceBetween`.
     pub fn is_space_between(&self) -> bool
         ensures { IsTrue result ↔ (self.now ≡ Flex.SpaceBetween) }
     {
         matches!(self, Flex::SpaceBetween)
     }
 
-    /// Whether this is `SpaceEvenly`.
+    /// Returns whether this is `SpaceEvenly`.
     pub fn is_space_evenly(&self) -> bool
         ensures { IsTrue result ↔ (self.now ≡ Flex.SpaceEvenly) }
     {
         matches!(self, Flex::SpaceEvenly)
     }
 
-    /// Whether this is `SpaceAround`.
+    /// Returns whether this is `SpaceAround`.
     pub fn is_space_around(&self) -> bool
         ensures { IsTrue result ↔ (self.now ≡ Flex.SpaceAround) }
     {

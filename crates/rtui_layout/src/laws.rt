@@ -15,7 +15,7 @@ pub fn names_read_back()
     ensures flex { ReadsBack flex_name }
 {}
 
-/// The variants that are defaults: downwards, at the left, at the top, at the start.
+/// The variants downwards, at the left, at the top and at the start are the defaults.
 pub fn defaults()
     ensures direction { (d : Direction) → ⟦<Direction as Default>⟧.is_default d
         → d ≡ Direction.Vertical }

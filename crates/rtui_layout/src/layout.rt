@@ -100,7 +100,7 @@ impl Model for Layout {
 }
 
 impl Layout {
-    /// The layout that is vertical, has no constraints and no margin, begins at the start and
+    /// Makes the layout that is vertical, has no constraints and no margin, begins at the start and
     /// leaves no space between its parts.
     pub fn default_in(alloc: Global) -> Self
         ensures { result ≡ default_layout }
@@ -114,7 +114,7 @@ impl Layout {
         }
     }
 
-    /// The default layout with a direction and constraints.
+    /// Makes the default layout with a direction and constraints.
     ///
     /// # Errors
     ///
@@ -133,7 +133,7 @@ impl Layout {
             .constraints(constraints)
     }
 
-    /// The layout from top to bottom with these constraints.
+    /// Makes the layout from top to bottom with these constraints.
     ///
     /// # Errors
     ///
@@ -147,7 +147,7 @@ impl Layout {
         Layout::new(alloc, Direction::Vertical, constraints)
     }
 
-    /// The layout from left to right with these constraints.
+    /// Makes the layout from left to right with these constraints.
     ///
     /// # Errors
     ///
@@ -161,7 +161,7 @@ impl Layout {
         Layout::new(alloc, Direction::Horizontal, constraints)
     }
 
-    /// The layout with another direction.
+    /// Sets the direction of the layout.
     pub fn direction(mut self, direction: Direction) -> Self
         ensures { result ≡ record self { direction = direction } }
     {
@@ -169,7 +169,7 @@ impl Layout {
         self
     }
 
-    /// The layout with other constraints.
+    /// Sets the constraints of the layout.
     ///
     /// # Errors
     ///
@@ -182,7 +182,7 @@ impl Layout {
         Ok(self)
     }
 
-    /// The layout with the same margin on all sides, in columns and rows.
+    /// Sets the same margin on all sides of the layout, in columns and rows.
     pub fn margin(mut self, margin: u16) -> Self
         ensures { result
             ≡ record self { margin = record { horizontal = margin; vertical = margin } } }
@@ -191,7 +191,7 @@ impl Layout {
         self
     }
 
-    /// The layout with another margin to the left and to the right, in columns.
+    /// Sets the margin of the layout to the left and to the right, in columns.
     pub fn horizontal_margin(mut self, horizontal: u16) -> Self
         ensures { result ≡ record self { margin = record self.margin { horizontal = horizontal } } }
     {
@@ -199,7 +199,7 @@ impl Layout {
         self
     }
 
-    /// The layout with another margin at the top and at the bottom, in rows.
+    /// Sets the margin of the layout at the top and at the bottom, in rows.
     pub fn vertical_margin(mut self, vertical: u16) -> Self
         ensures { result ≡ record self { margin = record self.margin { vertical = vertical } } }
     {
@@ -207,7 +207,7 @@ impl Layout {
         self
     }
 
-    /// The layout with another place for the space that is left.
+    /// Sets where the space that is left goes.
     pub fn flex(mut self, flex: Flex) -> Self
         ensures { result ≡ record self { flex = flex } }
     {
@@ -215,7 +215,7 @@ impl Layout {
         self
     }
 
-    /// The layout with another space between its parts.
+    /// Sets the space between the parts of the layout.
     pub fn spacing(mut self, spacing: Spacing) -> Self
         ensures { result ≡ record self { spacing = spacing } }
     {
@@ -223,42 +223,42 @@ impl Layout {
         self
     }
 
-    /// The direction.
+    /// Returns the direction.
     pub fn direction_of(&self) -> Direction
         ensures { result ≡ self.now.direction }
     {
         self.direction
     }
 
-    /// The constraints, in their order.
+    /// Returns the constraints, in their order.
     pub fn constraints_of(&self) -> &[Constraint]
         ensures { result.now ≡ self.now.constraints }
     {
         self.constraints.as_slice()
     }
 
-    /// The margin.
+    /// Returns the margin.
     pub fn margin_of(&self) -> Margin
         ensures { result ≡ self.now.margin }
     {
         self.margin
     }
 
-    /// Where the space that is left goes.
+    /// Returns where the space that is left goes.
     pub fn flex_of(&self) -> Flex
         ensures { result ≡ self.now.flex }
     {
         self.flex
     }
 
-    /// The space between the parts.
+    /// Returns the space between the parts.
     pub fn spacing_of(&self) -> &Spacing
         ensures { result.now ≡ self.now.spacing }
     {
         &self.spacing
     }
 
-    /// An equal layout.
+    /// Makes an equal layout.
     ///
     /// # Errors
     ///

@@ -18,7 +18,7 @@ pub struct ListItem<'a> {
 }
 
 impl<'a> ListItem<'a> {
-    /// An item of a text; takes no memory.
+    /// Makes an item of a text; takes no memory.
     pub fn new(content: Text<'a>) -> ListItem<'a>
         ensures { result ≡ record { content = content.entry; style = new_style } }
     {
@@ -28,7 +28,7 @@ impl<'a> ListItem<'a> {
         }
     }
 
-    /// An item of a plain text, a row for each of its lines.
+    /// Makes an item of a plain text, a row for each of its lines.
     ///
     /// # Errors
     ///
@@ -41,14 +41,14 @@ impl<'a> ListItem<'a> {
         Ok(ListItem::new(content))
     }
 
-    /// The item in a style.
+    /// Sets the style of the item.
     pub fn style(self, style: Style) -> ListItem<'a>
         ensures { result ≡ record self.entry { style = style } }
     {
         ListItem { style, ..self }
     }
 
-    /// An equal item.
+    /// Makes an equal item.
     ///
     /// # Errors
     ///
@@ -62,14 +62,14 @@ impl<'a> ListItem<'a> {
         })
     }
 
-    /// How many rows it takes.
+    /// Returns how many rows it takes.
     pub fn height(&self) -> usize
         ensures { result ≡ item_rows self.now }
     {
         self.content.height()
     }
 
-    /// How many columns its widest line takes.
+    /// Returns how many columns its widest line takes.
     pub fn width(&self) -> usize
         ensures { result ≡ widest self.now.content.lines }
     {

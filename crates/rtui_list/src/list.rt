@@ -83,7 +83,7 @@ pub struct List<'a> {
 }
 
 impl<'a> List<'a> {
-    /// A list of items, without box, styles and highlight symbol; takes no memory.
+    /// Makes a list of items, without box, styles and highlight symbol; takes no memory.
     pub fn new(items: Vec<ListItem<'a>>) -> List<'a>
         ensures { IsNewList items.entry.items result }
     {
@@ -100,7 +100,7 @@ impl<'a> List<'a> {
         }
     }
 
-    /// A list of plain texts, an item each, as [`ListItem::raw`] makes it.
+    /// Makes a list of plain texts, an item each, as [`ListItem::raw`] makes it.
     ///
     /// ```
     /// let list = List::raw(alloc, &["one", "two"])?;
@@ -116,7 +116,7 @@ impl<'a> List<'a> {
         Ok(List::new(raw_items(alloc, texts)?))
     }
 
-    /// A list of the items that an iterator gives, an array among them.
+    /// Makes a list of the items that an iterator gives, an array among them.
     ///
     /// # Conditions
     ///
@@ -137,7 +137,7 @@ impl<'a> List<'a> {
         Ok(List::new(Vec::from_iter(alloc, items)?))
     }
 
-    /// The list of other items.
+    /// Sets the items of the list.
     pub fn items(mut self, items: Vec<ListItem<'a>>) -> List<'a>
         ensures { result ≡ record self.entry { items = items.entry } }
     {
@@ -145,7 +145,7 @@ impl<'a> List<'a> {
         self
     }
 
-    /// The list in a box.
+    /// Puts the list in a box.
     pub fn block(mut self, block: Block<'a>) -> List<'a>
         ensures { result ≡ record self.entry { block = Some block.entry } }
     {
@@ -153,7 +153,7 @@ impl<'a> List<'a> {
         self
     }
 
-    /// The list in a style.
+    /// Sets the style of the list.
     pub fn style(mut self, style: Style) -> List<'a>
         ensures { result ≡ record self.entry { style = style } }
     {
@@ -161,7 +161,7 @@ impl<'a> List<'a> {
         self
     }
 
-    /// The list from above or from below.
+    /// Sets the direction of the list: from above or from below.
     pub fn direction(mut self, direction: ListDirection) -> List<'a>
         ensures { result ≡ record self.entry { direction = direction } }
     {
@@ -169,7 +169,7 @@ impl<'a> List<'a> {
         self
     }
 
-    /// The list with its selected item in a style.
+    /// Sets the style of the selected item.
     pub fn highlight_style(mut self, style: Style) -> List<'a>
         ensures { result ≡ record self.entry { highlight_style = style } }
     {
@@ -177,8 +177,8 @@ impl<'a> List<'a> {
         self
     }
 
-    /// The list with a symbol before its selected item, in the symbol's own styles over the
-    /// item's and the highlight's.
+    /// Sets the symbol before the selected item, in the symbol's own styles over the item's and the
+    /// highlight's.
     pub fn highlight_symbol(mut self, symbol: Line<'a>) -> List<'a>
         ensures { result ≡ record self.entry { highlight_symbol = Some symbol.entry } }
     {
@@ -186,7 +186,8 @@ impl<'a> List<'a> {
         self
     }
 
-    /// The list with its symbol before each line of the selected item, or before the first one.
+    /// Sets whether the symbol stands before each line of the selected item, or before the first
+    /// one.
     pub fn repeat_highlight_symbol(mut self, repeat: bool) -> List<'a>
         ensures { result ≡ record self.entry { repeat_highlight_symbol = repeat } }
     {
@@ -194,7 +195,7 @@ impl<'a> List<'a> {
         self
     }
 
-    /// The list with this spacing: when the columns of the symbol stay free.
+    /// Sets when the columns of the symbol stay free.
     pub fn highlight_spacing(mut self, spacing: HighlightSpacing) -> List<'a>
         ensures { result ≡ record self.entry { highlight_spacing = spacing } }
     {
@@ -202,7 +203,7 @@ impl<'a> List<'a> {
         self
     }
 
-    /// The list with so many items before and after the selected one in view, if they fit.
+    /// Sets how many items before and after the selected one are in view, if they fit.
     pub fn scroll_padding(mut self, padding: usize) -> List<'a>
         ensures { result ≡ record self.entry { scroll_padding = padding } }
     {
@@ -210,7 +211,7 @@ impl<'a> List<'a> {
         self
     }
 
-    /// An equal list.
+    /// Makes an equal list.
     ///
     /// # Errors
     ///
@@ -232,14 +233,14 @@ impl<'a> List<'a> {
         })
     }
 
-    /// How many items there are.
+    /// Returns how many items there are.
     pub fn len(&self) -> usize
         ensures { result ≡ length self.now.items.items }
     {
         self.items.len()
     }
 
-    /// Whether there are none.
+    /// Returns whether there are none.
     pub fn is_empty(&self) -> bool
         ensures { result ≡ (length self.now.items.items == 0) }
     {

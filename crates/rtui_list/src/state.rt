@@ -12,7 +12,7 @@ pub struct ListState {
 }
 
 impl ListState {
-    /// The state that begins with this item.
+    /// Sets the item that the state begins with.
     pub fn with_offset(mut self, offset: usize) -> ListState
         ensures { result ≡ record self { offset = offset } }
     {
@@ -20,7 +20,7 @@ impl ListState {
         self
     }
 
-    /// The state in which this item is selected.
+    /// Sets the selected item.
     pub fn with_selected(mut self, selected: Option<usize>) -> ListState
         ensures { result ≡ record self { selected = selected } }
     {
@@ -28,14 +28,14 @@ impl ListState {
         self
     }
 
-    /// The first item that is shown.
+    /// Returns the first item that is shown.
     pub fn offset(&self) -> usize
         ensures { result ≡ self.now.offset }
     {
         self.offset
     }
 
-    /// The first item that is shown, to be written.
+    /// Returns the first item that is shown, to be written.
     pub fn offset_mut(&mut self) -> &mut usize
         ensures* writes_back { sem 𝓛 (LendsOffset self.entry result) }
         ensures value { result.now ≡ self.old.offset }
@@ -43,15 +43,15 @@ impl ListState {
         &mut self.offset
     }
 
-    /// The selected item.
+    /// Returns the selected item.
     pub fn selected(&self) -> Option<usize>
         ensures { result ≡ self.now.selected }
     {
         self.selected
     }
 
-    /// The selected item, to be written. The first item that is shown stays, also if none is
-    /// selected.
+    /// Returns the selected item, to be written. The first item that is shown stays, also if none
+    /// is selected.
     pub fn selected_mut(&mut self) -> &mut Option<usize>
         ensures* writes_back { sem 𝓛 (LendsSelected self.entry result) }
         ensures value { result.now ≡ self.old.selected }

@@ -28,7 +28,7 @@ use LineStyle::{
 };
 
 impl LineStyle {
-    /// Whether the two styles are one.
+    /// Returns whether the two styles are one.
     #[tactic(auto, unfolding(crate::specs::Arms::same_style))]
     pub(crate) fn is(self, style: Self) -> bool
         ensures { result ≡ spec.same_style self style }
@@ -36,28 +36,28 @@ impl LineStyle {
         self == style
     }
 
-    /// The style's place among the styles.
+    /// Returns the style's place among the styles.
     pub(crate) fn number(self) -> usize
         ensures { result ≡ spec.style_number self }
     {
         self as usize
     }
 
-    /// The arm `next`, or this one if there is no `next`.
+    /// Returns the arm `next`, or this one if there is no `next`.
     fn merge(self, next: Self) -> Self
         ensures { result ≡ merge.over self next }
     {
         if next.is(Nothing) { self } else { next }
     }
 
-    /// The style `to` in place of `from`, and any other as it is.
+    /// Returns the style `to` in place of `from`, and any other as it is.
     fn replace(self, from: Self, to: Self) -> Self
         ensures { result ≡ spec.replace_style self from to }
     {
         if self.is(from) { to } else { self }
     }
 
-    /// The style without its gaps.
+    /// Returns the style without its gaps.
     fn solid(self) -> Self
         ensures { result ≡ spec.solid self }
     {
@@ -79,7 +79,7 @@ pub struct BorderSymbol {
 }
 
 impl BorderSymbol {
-    /// Whether an arm has this style.
+    /// Returns whether an arm has this style.
     #[tactic(auto, unfolding(crate::specs::Arms::contains))]
     pub(crate) fn contains(self, style: LineStyle) -> bool
         ensures { result ≡ spec.contains self style }
@@ -87,7 +87,7 @@ impl BorderSymbol {
         self.right.is(style) || self.up.is(style) || self.left.is(style) || self.down.is(style)
     }
 
-    /// Whether opposite arms are equal, and one of the two pairs is not there.
+    /// Returns whether opposite arms are equal, and one of the two pairs is not there.
     #[tactic(auto, unfolding(crate::specs::Arms::is_straight))]
     pub(crate) fn is_straight(self) -> bool
         ensures { result ≡ spec.is_straight self }
@@ -97,7 +97,7 @@ impl BorderSymbol {
             && (self.up.is(Nothing) || self.left.is(Nothing))
     }
 
-    /// Whether two neighbouring arms are equal, and the other two are not there.
+    /// Returns whether two neighbouring arms are equal, and the other two are not there.
     #[tactic(auto, unfolding(crate::specs::Arms::is_corner))]
     fn is_corner(self) -> bool
         ensures { result ≡ spec.is_corner self }
@@ -114,7 +114,7 @@ impl BorderSymbol {
             || bends(down, right, left, up)
     }
 
-    /// Whether each arm is none, plain, double or thick.
+    /// Returns whether each arm is none, plain, double or thick.
     #[tactic(auto, unfolding(crate::specs::Shapes::is_mixed))]
     pub(crate) fn is_mixed(self) -> bool
         ensures { result ≡ shape.is_mixed self }
@@ -123,7 +123,7 @@ impl BorderSymbol {
             && (self.left.number() < 4 && self.down.number() < 4)
     }
 
-    /// Whether this is a corner of rounded arms.
+    /// Returns whether this is a corner of rounded arms.
     #[tactic(auto, unfolding(crate::specs::Shapes::is_rounded))]
     pub(crate) fn is_rounded(self) -> bool
         ensures { result ≡ shape.is_rounded self }
@@ -131,7 +131,7 @@ impl BorderSymbol {
         self.is_corner() && self.contains(Rounded)
     }
 
-    /// Every arm of the style `from` drawn as `to`.
+    /// Draws every arm of the style `from` as `to`.
     #[tactic(auto, unfolding(crate::specs::Arms::replace))]
     fn replace(self, from: LineStyle, to: LineStyle) -> Self
         ensures { result ≡ spec.replace self from to }
@@ -146,7 +146,7 @@ impl BorderSymbol {
 }
 
 impl BorderSymbol {
-    /// Each arm of `next`, or this symbol's if `next` has none.
+    /// Returns each arm of `next`, or this symbol's if `next` has none.
     #[tactic(auto, unfolding(crate::specs::Merge::exact))]
     pub fn exact(self, next: Self) -> Self
         ensures { result ≡ merge.exact self next }
@@ -159,7 +159,7 @@ impl BorderSymbol {
         }
     }
 
-    /// Dashes stand in straight symbols alone.
+    /// Makes dashes solid unless the symbol is straight: they stand in straight symbols alone.
     #[tactic(auto, unfolding(crate::specs::Merge::solid_unless_straight))]
     fn solid_unless_straight(self) -> Self
         ensures { result ≡ merge.solid_unless_straight self }
@@ -176,7 +176,7 @@ impl BorderSymbol {
         }
     }
 
-    /// Rounded arms stand in corners alone.
+    /// Makes rounded arms plain unless the symbol is a corner: they stand in corners alone.
     #[tactic(auto, unfolding(crate::specs::Merge::square_unless_corner))]
     fn square_unless_corner(self) -> Self
         ensures { result ≡ merge.square_unless_corner self }
@@ -188,7 +188,7 @@ impl BorderSymbol {
         }
     }
 
-    /// Double and thick arms never meet.
+    /// Makes double and thick arms one kind: they never meet.
     #[tactic(auto, unfolding(crate::specs::Merge::double_or_thick))]
     fn double_or_thick(self, next: Self) -> Self
         ensures { result ≡ merge.double_or_thick self next }
@@ -202,7 +202,7 @@ impl BorderSymbol {
         }
     }
 
-    /// Some plain and double arms never meet.
+    /// Makes plain and double arms one kind if there is no symbol with these arms: some never meet.
     #[tactic(auto, unfolding(crate::specs::Merge::double_or_plain))]
     fn double_or_plain(self, next: Self) -> Self
         ensures { result ≡ merge.double_or_plain self next }
@@ -216,7 +216,7 @@ impl BorderSymbol {
         }
     }
 
-    /// These arms in styles for which there is a symbol, if `next` was drawn last.
+    /// Returns these arms in styles for which there is a symbol, if `next` was drawn last.
     #[tactic(auto, unfolding(crate::specs::Merge::fuzzy))]
     pub fn fuzzy(self, next: Self) -> Self
         ensures { result ≡ merge.fuzzy self next }
@@ -228,7 +228,7 @@ impl BorderSymbol {
     }
 }
 
-/// Whether the first two arms are equal, and the other two are not there.
+/// Returns whether the first two arms are equal, and the other two are not there.
 #[tactic(auto, unfolding(crate::specs::Arms::bends))]
 fn bends(first: LineStyle, second: LineStyle, third: LineStyle, fourth: LineStyle) -> bool
     ensures { result ≡ spec.bends first second third fourth }

@@ -44,8 +44,8 @@ pub enum MergeStrategy {
 }
 
 impl MergeStrategy {
-    /// What stands in a cell that held `prev`, once `next` is drawn there: one of the two, or a
-    /// border symbol with the arms of both.
+    /// Returns what stands in a cell that held `prev`, once `next` is drawn there: one of the two,
+    /// or a border symbol with the arms of both.
     ///
     /// Save under `Replace`, a border symbol never hides a text that is none: then `prev` stays. A
     /// `next` that is no border symbol always takes its place.

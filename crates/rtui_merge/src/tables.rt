@@ -225,7 +225,7 @@ impl FromStr for BorderSymbol {
 }
 
 impl BorderSymbol {
-    /// The text of the symbol with these arms, if there is one.
+    /// Returns the text of the symbol with these arms, if there is one.
     ///
     /// ```
     /// let plain: BorderSymbol = "─".parse()?;
@@ -251,7 +251,7 @@ impl BorderSymbol {
         }
     }
 
-    /// The text of the symbol with these arms, if there is one.
+    /// Returns the text of the symbol with these arms, if there is one.
     #[tactic(auto, unfolding(crate::specs::Shapes::is_mixed))]
     fn crossing(self) -> Option<&'static str>
         requires { IsTrue (is_mixed self) }
@@ -260,7 +260,7 @@ impl BorderSymbol {
         CROSSINGS[self.right.number()][self.up.number()][self.left.number()][self.down.number()]
     }
 
-    /// The text of this rounded corner.
+    /// Returns the text of this rounded corner.
     #[tactic(auto, using(crate::proofs::ArmsLemmas::symbol_of_rounded))]
     fn rounded(self) -> &'static str
         requires { IsTrue (is_rounded self) }
@@ -278,7 +278,7 @@ impl BorderSymbol {
     }
 }
 
-/// The text of the horizontal symbol of a style, if there is one.
+/// Returns the text of the horizontal symbol of a style, if there is one.
 #[tactic(auto, using(crate::proofs::ArmsLemmas::symbol_of_across))]
 fn horizontal(style: LineStyle) -> Option<&'static str>
     ensures { option_copied result ≡ symbol_of (across style) }
@@ -286,7 +286,7 @@ fn horizontal(style: LineStyle) -> Option<&'static str>
     HORIZONTALS[style.number()]
 }
 
-/// The text of the vertical symbol of a style, if there is one.
+/// Returns the text of the vertical symbol of a style, if there is one.
 #[tactic(auto, using(crate::proofs::ArmsLemmas::symbol_of_upright))]
 fn vertical(style: LineStyle) -> Option<&'static str>
     ensures { option_copied result ≡ symbol_of (upright style) }

@@ -36,7 +36,7 @@ pub struct Gauge<'a> {
 }
 
 impl<'a> Gauge<'a> {
-    /// An empty gauge, without box, label and styles; takes no memory.
+    /// Makes an empty gauge, without box, label and styles; takes no memory.
     pub fn new() -> Gauge<'a>
         ensures { IsNewGauge result }
     {
@@ -50,7 +50,7 @@ impl<'a> Gauge<'a> {
         }
     }
 
-    /// The gauge in a box.
+    /// Puts the gauge in a box.
     pub fn block(mut self, block: Block<'a>) -> Gauge<'a>
         ensures { result ≡ record self.entry { block = Some block.entry } }
     {
@@ -58,14 +58,14 @@ impl<'a> Gauge<'a> {
         self
     }
 
-    /// The gauge, filled by so many hundredths; more than 100 are 100.
+    /// Sets how many hundredths are filled; more than 100 are 100.
     pub fn percent(self, percent: u16) -> Gauge<'a>
         ensures { result ≡ record self.entry { share = share_of percent 100 } }
     {
         self.ratio(u32::from(percent), 100)
     }
 
-    /// The gauge, filled by so many parts of a whole; more than the whole are the whole.
+    /// Sets how many parts of a whole are filled; more than the whole are the whole.
     pub fn ratio(mut self, parts: u32, whole: u32) -> Gauge<'a>
         ensures { result ≡ record self.entry { share = share_of parts whole } }
     {
@@ -73,7 +73,7 @@ impl<'a> Gauge<'a> {
         self
     }
 
-    /// The gauge with a label; without one the percentage is shown.
+    /// Sets the label; without one the percentage is shown.
     pub fn label(mut self, label: Span<'a>) -> Gauge<'a>
         ensures { result ≡ record self.entry { label = Some label.entry } }
     {
@@ -81,7 +81,7 @@ impl<'a> Gauge<'a> {
         self
     }
 
-    /// The gauge with its last column filled by eighths, or by whole columns.
+    /// Sets whether the last column is filled by eighths, or by whole columns.
     pub fn use_unicode(mut self, unicode: bool) -> Gauge<'a>
         ensures { result ≡ record self.entry { use_unicode = unicode } }
     {
@@ -89,7 +89,7 @@ impl<'a> Gauge<'a> {
         self
     }
 
-    /// The gauge in a style, with its box.
+    /// Sets the style of the gauge, with its box.
     pub fn style(mut self, style: Style) -> Gauge<'a>
         ensures { result ≡ record self.entry { style = style } }
     {
@@ -97,8 +97,8 @@ impl<'a> Gauge<'a> {
         self
     }
 
-    /// The gauge with its bar in a style: the foreground is the colour of the filled part, the
-    /// background that of the rest.
+    /// Sets the style of the bar: the foreground is the colour of the filled part, the background
+    /// that of the rest.
     pub fn gauge_style(mut self, style: Style) -> Gauge<'a>
         ensures { result ≡ record self.entry { gauge_style = style } }
     {
@@ -106,7 +106,7 @@ impl<'a> Gauge<'a> {
         self
     }
 
-    /// An equal gauge.
+    /// Makes an equal gauge.
     ///
     /// # Errors
     ///

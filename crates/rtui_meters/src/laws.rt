@@ -39,7 +39,7 @@ pub fn full_gauges_are_filled()
         → filled_cell f p c ≡ full_cell f p c }
 {}
 
-/// The symbols that gauges are made of, by their characters.
+/// The symbols that gauges are made of have these characters.
 pub fn gauges_have_these_symbols()
     ensures line { PLAIN_LINE.now ≡ encode_utf8_all (codes "─") }
     ensures block { FULL_BLOCK.now ≡ encode_utf8_all (codes "█") }

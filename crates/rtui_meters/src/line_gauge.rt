@@ -39,7 +39,7 @@ pub struct LineGauge<'a> {
 }
 
 impl<'a> LineGauge<'a> {
-    /// An empty gauge of plain lines, without box, label and styles; takes no memory.
+    /// Makes an empty gauge of plain lines, without box, label and styles; takes no memory.
     pub fn new() -> LineGauge<'a>
         ensures { IsNewLineGauge result }
     {
@@ -55,7 +55,7 @@ impl<'a> LineGauge<'a> {
         }
     }
 
-    /// The gauge in a box.
+    /// Puts the gauge in a box.
     pub fn block(mut self, block: Block<'a>) -> LineGauge<'a>
         ensures { result ≡ record self.entry { block = Some block.entry } }
     {
@@ -63,14 +63,14 @@ impl<'a> LineGauge<'a> {
         self
     }
 
-    /// The gauge, filled by so many hundredths; more than 100 are 100.
+    /// Sets how many hundredths are filled; more than 100 are 100.
     pub fn percent(self, percent: u16) -> LineGauge<'a>
         ensures { result ≡ record self.entry { share = share_of percent 100 } }
     {
         self.ratio(u32::from(percent), 100)
     }
 
-    /// The gauge, filled by so many parts of a whole; more than the whole are the whole.
+    /// Sets how many parts of a whole are filled; more than the whole are the whole.
     pub fn ratio(mut self, parts: u32, whole: u32) -> LineGauge<'a>
         ensures { result ≡ record self.entry { share = share_of parts whole } }
     {
@@ -78,7 +78,7 @@ impl<'a> LineGauge<'a> {
         self
     }
 
-    /// The gauge with a label; without one the percentage is shown.
+    /// Sets the label; without one the percentage is shown.
     pub fn label(mut self, label: Line<'a>) -> LineGauge<'a>
         ensures { result ≡ record self.entry { label = Some label.entry } }
     {
@@ -86,7 +86,7 @@ impl<'a> LineGauge<'a> {
         self
     }
 
-    /// The gauge of the level line of a set.
+    /// Sets the symbol of all columns to the level line of a set.
     pub fn line_set(mut self, set: line::Set<'a>) -> LineGauge<'a>
         ensures { let symbol = set.entry.horizontal in
             result ≡ record self.entry { filled_symbol = symbol; unfilled_symbol = symbol } }
@@ -96,7 +96,7 @@ impl<'a> LineGauge<'a> {
         self
     }
 
-    /// The gauge with this symbol in each column that is filled.
+    /// Sets the symbol of each column that is filled.
     pub fn filled_symbol(mut self, symbol: &'a str) -> LineGauge<'a>
         ensures { result ≡ record self.entry { filled_symbol = symbol.entry } }
     {
@@ -104,7 +104,7 @@ impl<'a> LineGauge<'a> {
         self
     }
 
-    /// The gauge with this symbol in each other column.
+    /// Sets the symbol of each other column.
     pub fn unfilled_symbol(mut self, symbol: &'a str) -> LineGauge<'a>
         ensures { result ≡ record self.entry { unfilled_symbol = symbol.entry } }
     {
@@ -112,7 +112,7 @@ impl<'a> LineGauge<'a> {
         self
     }
 
-    /// The gauge in a style, with its box and its label.
+    /// Sets the style of the gauge, with its box and its label.
     pub fn style(mut self, style: Style) -> LineGauge<'a>
         ensures { result ≡ record self.entry { style = style } }
     {
@@ -120,7 +120,7 @@ impl<'a> LineGauge<'a> {
         self
     }
 
-    /// The gauge with the filled part of its line in a style.
+    /// Sets the style of the filled part of the line.
     pub fn filled_style(mut self, style: Style) -> LineGauge<'a>
         ensures { result ≡ record self.entry { filled_style = style } }
     {
@@ -128,7 +128,7 @@ impl<'a> LineGauge<'a> {
         self
     }
 
-    /// The gauge with the other part of its line in a style.
+    /// Sets the style of the other part of the line.
     pub fn unfilled_style(mut self, style: Style) -> LineGauge<'a>
         ensures { result ≡ record self.entry { unfilled_style = style } }
     {
@@ -136,7 +136,7 @@ impl<'a> LineGauge<'a> {
         self
     }
 
-    /// An equal gauge.
+    /// Makes an equal gauge.
     ///
     /// # Errors
     ///

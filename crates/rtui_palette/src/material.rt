@@ -44,7 +44,7 @@ pub struct NonAccentedPalette {
 }
 
 impl AccentedPalette {
-    /// The palette of these numbers, each `0x00RRGGBB`, in the order of the fields.
+    /// Makes the palette of these numbers, each `0x00RRGGBB`, in the order of the fields.
     pub fn from_variants(variants: [u32; 14]) -> Self
         ensures { result ≡ accented_of variants }
     {
@@ -68,7 +68,7 @@ impl AccentedPalette {
 }
 
 impl NonAccentedPalette {
-    /// The palette of these numbers, each `0x00RRGGBB`, in the order of the fields.
+    /// Makes the palette of these numbers, each `0x00RRGGBB`, in the order of the fields.
     pub fn from_variants(variants: [u32; 10]) -> Self
         ensures { result ≡ non_accented_of variants }
     {

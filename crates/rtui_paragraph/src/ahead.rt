@@ -50,7 +50,7 @@ fn ahead_with(ahead: usize, trim: bool, grapheme: &Measured<'_>) -> usize
 }
 
 impl<'t, 'a> Ahead<'t, 'a> {
-    /// A line of which nothing was read.
+    /// Makes a line of which nothing was read.
     pub(crate) fn new(
         alloc: Global,
         graphemes: LineGraphemes<'t, 'a>,
@@ -100,7 +100,7 @@ impl<'t, 'a> Ahead<'t, 'a> {
         Ok(())
     }
 
-    /// Whether no row is left.
+    /// Returns whether no row is left.
     pub(crate) fn is_empty(&self) -> bool
         requires { HoldsNext self.now }
         ensures { result ≡ (length (left_of self.now) == 0) }
@@ -108,7 +108,7 @@ impl<'t, 'a> Ahead<'t, 'a> {
         self.passed == self.held.len()
     }
 
-    /// The next row, and how many graphemes stand before the one after it.
+    /// Returns the next row, and how many graphemes stand before the one after it.
     pub(crate) fn row(&self) -> (&[Measured<'t>], usize)
         requires ready { HoldsNext self.now }
         requires fit { AllFit self.now.width (left_of self.now) }

@@ -20,7 +20,7 @@ pub(crate) struct Cut<'t, 'a> {
 }
 
 impl<'t, 'a> Cut<'t, 'a> {
-    /// The row of a line, of which nothing was given.
+    /// Makes the row of a line, of which nothing was given.
     pub(crate) fn new(graphemes: LineGraphemes<'t, 'a>, width: u16, offset: u16) -> Cut<'t, 'a>
         ensures cut { IsCut result }
         ensures left { left_of_cut result
@@ -36,7 +36,7 @@ impl<'t, 'a> Cut<'t, 'a> {
         }
     }
 
-    /// The next grapheme of the row. After the last one nothing is to be asked for.
+    /// Returns the next grapheme of the row. After the last one nothing is to be asked for.
     pub(crate) fn next(&mut self) -> Option<StyledGrapheme<'t>>
         requires { IsCut self.old }
         ensures cut { IsCut self.new }
@@ -65,7 +65,7 @@ impl<'t, 'a> Cut<'t, 'a> {
         None
     }
 
-    /// How many columns the row takes.
+    /// Returns how many columns the row takes.
     pub(crate) fn columns(self) -> u16
         requires { IsCut self }
         ensures { result ≡ self.entry.used + columns_taken (left_of_cut self.entry) }

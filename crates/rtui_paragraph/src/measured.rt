@@ -28,7 +28,7 @@ impl<'t> Model for Measured<'t> {
 }
 
 impl<'t> Measured<'t> {
-    /// A grapheme that takes so many columns.
+    /// Makes a grapheme that takes so many columns.
     pub(crate) fn new(grapheme: StyledGrapheme<'t>, columns: u16) -> Measured<'t>
         requires { columns ≡ grapheme_columns (grapheme_data grapheme) }
         ensures { result ≡ grapheme_data grapheme.entry }
@@ -36,28 +36,28 @@ impl<'t> Measured<'t> {
         Measured { grapheme, columns }
     }
 
-    /// The grapheme.
+    /// Returns the grapheme.
     pub(crate) fn symbol(&self) -> &'t str
         ensures { result.now ≡ self.now.symbol }
     {
         self.grapheme.symbol
     }
 
-    /// Its style.
+    /// Returns its style.
     pub(crate) fn style(&self) -> Style
         ensures { result ≡ self.now.style }
     {
         self.grapheme.style
     }
 
-    /// How many columns it takes.
+    /// Returns how many columns it takes.
     pub(crate) fn columns(&self) -> u16
         ensures { result ≡ grapheme_columns self.now }
     {
         self.columns
     }
 
-    /// Whether a line may be broken at it.
+    /// Returns whether a line may be broken at it.
     pub(crate) fn is_blank(&self) -> bool
         ensures { result ≡ is_break self.now }
     {

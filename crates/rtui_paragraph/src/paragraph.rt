@@ -64,7 +64,7 @@ pub struct Paragraph<'a> {
 }
 
 impl<'a> Paragraph<'a> {
-    /// A paragraph of a text; takes no memory.
+    /// Makes a paragraph of a text; takes no memory.
     pub fn new(text: Text<'a>) -> Paragraph<'a>
         ensures { IsNewParagraph text.entry result }
     {
@@ -78,7 +78,7 @@ impl<'a> Paragraph<'a> {
         }
     }
 
-    /// A paragraph of a plain text, a line for each of its lines.
+    /// Makes a paragraph of a plain text, a line for each of its lines.
     ///
     /// # Errors
     ///
@@ -90,7 +90,7 @@ impl<'a> Paragraph<'a> {
         Ok(Paragraph::new(text))
     }
 
-    /// The paragraph in a box.
+    /// Puts the paragraph in a box.
     pub fn block(mut self, block: Block<'a>) -> Paragraph<'a>
         ensures { result ≡ record self.entry { block = Some block.entry } }
     {
@@ -98,7 +98,7 @@ impl<'a> Paragraph<'a> {
         self
     }
 
-    /// The paragraph in a style.
+    /// Sets the style of the paragraph.
     pub fn style(mut self, style: Style) -> Paragraph<'a>
         ensures { result ≡ record self.entry { style = style } }
     {
@@ -106,7 +106,7 @@ impl<'a> Paragraph<'a> {
         self
     }
 
-    /// The paragraph with its lines broken if they don't fit.
+    /// Breaks the lines of the paragraph if they don't fit.
     pub fn wrap(mut self, wrap: Wrap) -> Paragraph<'a>
         ensures { result ≡ record self.entry { wrap = Some wrap } }
     {
@@ -114,7 +114,7 @@ impl<'a> Paragraph<'a> {
         self
     }
 
-    /// The paragraph without its first rows and its first columns, in this order.
+    /// Leaves out so many of the first rows and of the first columns, in this order.
     pub fn scroll(mut self, offset: (u16, u16)) -> Paragraph<'a>
         ensures { let place = position_of (offset.1, offset.0) in
             result ≡ record self.entry { scroll = place } }
@@ -126,7 +126,7 @@ impl<'a> Paragraph<'a> {
         self
     }
 
-    /// The paragraph with this alignment for each line that has none of its own.
+    /// Sets the alignment of each line that has none of its own.
     pub fn alignment(mut self, alignment: HorizontalAlignment) -> Paragraph<'a>
         ensures { result ≡ record self.entry { alignment = alignment } }
     {
@@ -134,29 +134,29 @@ impl<'a> Paragraph<'a> {
         self
     }
 
-    /// The paragraph, aligned to the left.
+    /// Aligns the paragraph to the left.
     pub fn left_aligned(self) -> Paragraph<'a>
         ensures { result ≡ record self.entry { alignment = Left } }
     {
         self.alignment(HorizontalAlignment::Left)
     }
 
-    /// The paragraph, centred.
+    /// Centres the paragraph.
     pub fn centered(self) -> Paragraph<'a>
         ensures { result ≡ record self.entry { alignment = Center } }
     {
         self.alignment(HorizontalAlignment::Center)
     }
 
-    /// The paragraph, aligned to the right.
+    /// Aligns the paragraph to the right.
     pub fn right_aligned(self) -> Paragraph<'a>
         ensures { result ≡ record self.entry { alignment = Right } }
     {
         self.alignment(HorizontalAlignment::Right)
     }
 
-    /// How many rows the paragraph takes in so many columns, with those of its box: none if there
-    /// are no columns, and at most `usize::MAX`.
+    /// Returns how many rows the paragraph takes in so many columns, with those of its box: none if
+    /// there are no columns, and at most `usize::MAX`.
     ///
     /// # Errors
     ///
@@ -172,8 +172,8 @@ impl<'a> Paragraph<'a> {
         Ok(rows.saturating_add(self.rows_around()))
     }
 
-    /// How many columns the paragraph needs so that no line of it is broken or cut, with those of
-    /// its box; at most `usize::MAX`.
+    /// Returns how many columns the paragraph needs so that no line of it is broken or cut, with
+    /// those of its box; at most `usize::MAX`.
     pub fn line_width(&self) -> usize
         ensures { result ≡ columns_needed self.now }
     {

@@ -37,7 +37,7 @@ pub enum ScrollbarOrientation {
 }
 
 impl ScrollbarOrientation {
-    /// Whether it goes from above to below.
+    /// Returns whether it goes from above to below.
     pub fn is_vertical(&self) -> bool
         ensures { result ≡ is_upright self.now }
     {
@@ -71,7 +71,7 @@ pub struct Scrollbar<'a> {
 }
 
 impl<'a> Scrollbar<'a> {
-    /// A bar of double lines at a side, with arrows; takes no memory.
+    /// Makes a bar of double lines at a side, with arrows; takes no memory.
     pub fn new(orientation: ScrollbarOrientation) -> Scrollbar<'a>
         ensures { IsNewScrollbar orientation result }
     {
@@ -89,7 +89,7 @@ impl<'a> Scrollbar<'a> {
         }
     }
 
-    /// The bar at another side, in double lines.
+    /// Puts the bar at another side, in double lines.
     pub fn orientation(self, orientation: ScrollbarOrientation) -> Scrollbar<'a>
         ensures { HasSymbols orientation self.entry result }
     {
@@ -97,7 +97,7 @@ impl<'a> Scrollbar<'a> {
         self.symbols(set).at_side(orientation)
     }
 
-    /// The bar at another side, of these symbols.
+    /// Puts the bar at another side, with these symbols.
     pub fn orientation_and_symbol(
         self,
         orientation: ScrollbarOrientation,
@@ -117,7 +117,7 @@ impl<'a> Scrollbar<'a> {
         self
     }
 
-    /// The bar of these symbols; a part that it doesn't show stays hidden.
+    /// Sets the symbols of the bar; a part that it doesn't show stays hidden.
     pub fn symbols(mut self, symbols: Set<'a>) -> Scrollbar<'a>
         ensures { result ≡ with_bar_symbols symbols.entry self.entry }
     {
@@ -134,7 +134,7 @@ impl<'a> Scrollbar<'a> {
         self
     }
 
-    /// The bar with this thumb.
+    /// Sets the symbol of the thumb.
     pub fn thumb_symbol(mut self, symbol: &'a str) -> Scrollbar<'a>
         ensures { result ≡ record self.entry { thumb_symbol = symbol.entry } }
     {
@@ -142,7 +142,7 @@ impl<'a> Scrollbar<'a> {
         self
     }
 
-    /// The bar, its thumb in a style.
+    /// Sets the style of the thumb.
     pub fn thumb_style(mut self, style: Style) -> Scrollbar<'a>
         ensures { result ≡ record self.entry { thumb_style = style } }
     {
@@ -150,7 +150,7 @@ impl<'a> Scrollbar<'a> {
         self
     }
 
-    /// The bar with this track, or without one.
+    /// Sets the symbol of the track, or takes the track away.
     pub fn track_symbol(mut self, symbol: Option<&'a str>) -> Scrollbar<'a>
         ensures { result ≡ record self.entry { track_symbol = symbol.entry } }
     {
@@ -158,7 +158,7 @@ impl<'a> Scrollbar<'a> {
         self
     }
 
-    /// The bar, its track in a style.
+    /// Sets the style of the track.
     pub fn track_style(mut self, style: Style) -> Scrollbar<'a>
         ensures { result ≡ record self.entry { track_style = style } }
     {
@@ -166,7 +166,7 @@ impl<'a> Scrollbar<'a> {
         self
     }
 
-    /// The bar with this symbol at its start, or without one.
+    /// Sets the symbol at the start, or takes it away.
     pub fn begin_symbol(mut self, symbol: Option<&'a str>) -> Scrollbar<'a>
         ensures { result ≡ record self.entry { begin_symbol = symbol.entry } }
     {
@@ -174,7 +174,7 @@ impl<'a> Scrollbar<'a> {
         self
     }
 
-    /// The bar, the symbol at its start in a style.
+    /// Sets the style of the symbol at the start.
     pub fn begin_style(mut self, style: Style) -> Scrollbar<'a>
         ensures { result ≡ record self.entry { begin_style = style } }
     {
@@ -182,7 +182,7 @@ impl<'a> Scrollbar<'a> {
         self
     }
 
-    /// The bar with this symbol at its end, or without one.
+    /// Sets the symbol at the end, or takes it away.
     pub fn end_symbol(mut self, symbol: Option<&'a str>) -> Scrollbar<'a>
         ensures { result ≡ record self.entry { end_symbol = symbol.entry } }
     {
@@ -190,7 +190,7 @@ impl<'a> Scrollbar<'a> {
         self
     }
 
-    /// The bar, the symbol at its end in a style.
+    /// Sets the style of the symbol at the end.
     pub fn end_style(mut self, style: Style) -> Scrollbar<'a>
         ensures { result ≡ record self.entry { end_style = style } }
     {
@@ -198,7 +198,7 @@ impl<'a> Scrollbar<'a> {
         self
     }
 
-    /// The bar, all of it in a style.
+    /// Sets the style of the whole bar.
     pub fn style(mut self, style: Style) -> Scrollbar<'a>
         ensures { result ≡ record self.entry
             { thumb_style = style; track_style = style; begin_style = style; end_style = style } }

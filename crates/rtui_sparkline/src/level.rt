@@ -5,8 +5,8 @@ ghost use Rattle.rtui_sparkline.specs.Levels.{eighths_of_value, left_at, level_t
 
 use ratatui_core::symbols::bar;
 
-/// How many eighths of a cell a value is high, rounded down, if the greatest one takes so many
-/// rows; none if that is 0.
+/// Returns how many eighths of a cell a value is high, rounded down, if the greatest one takes so
+/// many rows; none if that is 0.
 pub fn eighths_of(value: u64, greatest: u64, rows: u16) -> u128
     ensures { result ≡ eighths_of_value value greatest rows }
 {
@@ -16,7 +16,7 @@ pub fn eighths_of(value: u64, greatest: u64, rows: u16) -> u128
     u128::from(value) * u128::from(rows) * 8 / u128::from(greatest)
 }
 
-/// How many of so many eighths the cell of a row shows; the lowest row is 0.
+/// Returns how many of so many eighths the cell of a row shows; the lowest row is 0.
 pub fn left_at(eighths: u128, row: u16) -> usize
     ensures value { result ≡ left_at eighths row }
     ensures within { result ≤ 8 }
@@ -24,7 +24,7 @@ pub fn left_at(eighths: u128, row: u16) -> usize
     eighths.saturating_sub(u128::from(row) * 8).min(8) as usize
 }
 
-/// The symbol of a cell that is filled by so many eighths; more than eight fill it.
+/// Returns the symbol of a cell that is filled by so many eighths; more than eight fill it.
 pub fn level_of<'a>(set: &bar::Set<'a>, eighths: usize) -> &'a str
     ensures { result.now ≡ level_text set.now eighths }
 {

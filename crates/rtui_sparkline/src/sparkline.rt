@@ -37,14 +37,14 @@ pub struct SparklineBar {
 }
 
 impl SparklineBar {
-    /// A bar of a value, or of an absent one.
+    /// Makes a bar of a value, or of an absent one.
     pub fn new(value: Option<u64>) -> SparklineBar
         ensures { result ≡ record { value = value; style = None } }
     {
         SparklineBar { value, style: None }
     }
 
-    /// The bar in a style of its own; without one it has the sparkline's.
+    /// Sets the bar's own style; without one it has the sparkline's.
     pub fn style(self, style: Option<Style>) -> SparklineBar
         ensures { result ≡ record self { style = style } }
     {
@@ -74,8 +74,8 @@ pub struct Sparkline<'a> {
 }
 
 impl<'a> Sparkline<'a> {
-    /// A sparkline of these bars from the left, without box and styles; absent values are blank.
-    /// Takes no memory.
+    /// Makes a sparkline of these bars from the left, without box and styles; absent values are
+    /// blank. Takes no memory.
     pub fn new(bars: Vec<SparklineBar>) -> Sparkline<'a>
         ensures { IsNewSparkline bars.items result }
     {
@@ -91,7 +91,7 @@ impl<'a> Sparkline<'a> {
         }
     }
 
-    /// The sparkline of other bars.
+    /// Sets the bars of the sparkline.
     pub fn data(mut self, bars: Vec<SparklineBar>) -> Sparkline<'a>
         ensures { result ≡ record self.entry { bars = bars } }
     {
@@ -99,7 +99,7 @@ impl<'a> Sparkline<'a> {
         self
     }
 
-    /// The sparkline in a box.
+    /// Puts the sparkline in a box.
     pub fn block(mut self, block: Block<'a>) -> Sparkline<'a>
         ensures { result ≡ record self.entry { block = Some block.entry } }
     {
@@ -107,7 +107,7 @@ impl<'a> Sparkline<'a> {
         self
     }
 
-    /// The sparkline with its bars in a style; its box and what is beside the bars keep theirs.
+    /// Sets the style of the bars; the box and what is beside the bars keep theirs.
     pub fn style(mut self, style: Style) -> Sparkline<'a>
         ensures { result ≡ record self.entry { style = style } }
     {
@@ -115,7 +115,7 @@ impl<'a> Sparkline<'a> {
         self
     }
 
-    /// The sparkline with its absent values in a style.
+    /// Sets the style of the absent values.
     pub fn absent_value_style(mut self, style: Style) -> Sparkline<'a>
         ensures { result ≡ record self.entry { absent_value_style = style } }
     {
@@ -123,7 +123,7 @@ impl<'a> Sparkline<'a> {
         self
     }
 
-    /// The sparkline with this symbol in each cell of an absent value.
+    /// Sets the symbol in each cell of an absent value.
     pub fn absent_value_symbol(mut self, symbol: &'a str) -> Sparkline<'a>
         ensures { result ≡ record self.entry { absent_value_symbol = symbol.entry } }
     {
@@ -131,7 +131,7 @@ impl<'a> Sparkline<'a> {
         self
     }
 
-    /// The sparkline with this value as high as the area; without one it is the greatest value.
+    /// Sets the value that is as high as the area; without one it is the greatest value.
     pub fn max(mut self, max: u64) -> Sparkline<'a>
         ensures { result ≡ record self.entry { max = Some max } }
     {
@@ -139,7 +139,7 @@ impl<'a> Sparkline<'a> {
         self
     }
 
-    /// The sparkline with these symbols for cells that are filled in part.
+    /// Sets the symbols for cells that are filled in part.
     pub fn bar_set(mut self, bar_set: bar::Set<'a>) -> Sparkline<'a>
         ensures { result ≡ record self.entry { bar_set = bar_set.entry } }
     {
@@ -147,7 +147,7 @@ impl<'a> Sparkline<'a> {
         self
     }
 
-    /// The sparkline from the left or from the right.
+    /// Sets the direction of the sparkline: from the left or from the right.
     pub fn direction(mut self, direction: RenderDirection) -> Sparkline<'a>
         ensures { result ≡ record self.entry { direction = direction } }
     {
@@ -155,7 +155,7 @@ impl<'a> Sparkline<'a> {
         self
     }
 
-    /// An equal sparkline.
+    /// Makes an equal sparkline.
     ///
     /// # Errors
     ///

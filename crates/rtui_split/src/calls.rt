@@ -40,7 +40,7 @@ pub trait Split {
     /// The layout.
     ghost layout: { Self → LayoutData };
 
-    /// The parts of an area.
+    /// Returns the parts of an area.
     ///
     /// # Errors
     ///
@@ -49,7 +49,7 @@ pub trait Split {
         ensures { IfOk result (λ parts. IsSplit (layout self.now)
             (inner area (layout self.now).margin) parts.items) };
 
-    /// The parts of an area, and the spaces before, between and after them.
+    /// Returns the parts of an area, and the spaces before, between and after them.
     ///
     /// # Errors
     ///
@@ -90,13 +90,13 @@ pub trait SplitInto<const N: usize> {
     /// The layout.
     ghost layout: { Self → LayoutData };
 
-    /// The parts of an area, in an array of as many; takes no memory.
+    /// Returns the parts of an area, in an array of as many; takes no memory.
     fn areas(&self, area: Rect) -> [Rect; N]
         requires count { N ≡ length (layout self.now).constraints }
         requires small { N < 2 ^ 32 }
         ensures { IsSplit (layout self.now) (inner area (layout self.now).margin) result };
 
-    /// The parts of an area, in an array if it has as many; takes no memory.
+    /// Returns the parts of an area, in an array if it has as many; takes no memory.
     ///
     /// # Errors
     ///
@@ -107,8 +107,8 @@ pub trait SplitInto<const N: usize> {
             (IsSplit (layout self.now) (inner area (layout self.now).margin)) }
         ensures count { IsOk result ↔ (N ≡ length (layout self.now).constraints) };
 
-    /// The spaces before, between and after the parts of an area, in an array of one more than
-    /// parts; takes no memory.
+    /// Returns the spaces before, between and after the parts of an area, in an array of one more
+    /// than parts; takes no memory.
     fn spacers(&self, area: Rect) -> [Rect; N]
         requires count { N ≡ length (layout self.now).constraints + 1 }
         requires small { N < 2 ^ 32 }
@@ -147,7 +147,7 @@ pub trait SplitArea {
     /// The area.
     ghost area: { Self → Rect };
 
-    /// The parts by a layout.
+    /// Returns the parts by a layout.
     ///
     /// # Errors
     ///
@@ -156,15 +156,15 @@ pub trait SplitArea {
         ensures { IfOk result (λ parts.
             IsSplit layout.now (inner (area self) layout.now.margin) parts.items) };
 
-    /// The columns that a constraint wishes, in the middle of the area.
+    /// Returns the columns that a constraint wishes, in the middle of the area.
     fn centered_horizontally(self, constraint: Constraint) -> Rect
         ensures { IsSplit (centered_layout Horizontal constraint) (area self) (result ∷ []) };
 
-    /// The rows that a constraint wishes, in the middle of the area.
+    /// Returns the rows that a constraint wishes, in the middle of the area.
     fn centered_vertically(self, constraint: Constraint) -> Rect
         ensures { IsSplit (centered_layout Vertical constraint) (area self) (result ∷ []) };
 
-    /// The columns and rows that two constraints wish, in the middle of the area.
+    /// Returns the columns and rows that two constraints wish, in the middle of the area.
     fn centered(self, horizontal: Constraint, vertical: Constraint) -> Rect
         ensures { (columns : Rect)
             × IsSplit (centered_layout Horizontal horizontal) (area self) (columns ∷ [])
@@ -206,13 +206,13 @@ pub trait SplitAreaInto<const N: usize> {
     /// The area.
     ghost area: { Self → Rect };
 
-    /// The parts by a layout of as many constraints; takes no memory.
+    /// Returns the parts by a layout of as many constraints; takes no memory.
     fn layout(self, layout: &Layout) -> [Rect; N]
         requires count { N ≡ length layout.now.constraints }
         requires small { N < 2 ^ 32 }
         ensures { IsSplit layout.now (inner (area self) layout.now.margin) result };
 
-    /// The parts by a layout, in an array if it has as many; takes no memory.
+    /// Returns the parts by a layout, in an array if it has as many; takes no memory.
     ///
     /// # Errors
     ///

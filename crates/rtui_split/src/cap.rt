@@ -40,7 +40,8 @@ fn level_below(parts: &[Part], turn: usize, room: u64, to: u64) -> u64
     low
 }
 
-/// The highest level that has room, if each part of a turn gets what it wishes, but at most so much.
+/// Returns the highest level that has room, if each part of a turn gets what it wishes, but at most
+/// so much.
 pub(crate) fn highest_level(parts: &[Part], turn: usize, room: u64) -> u64
     requires { room < wanted_in turn parts.now }
     ensures fits { capped_in turn result parts.now ≤ room }

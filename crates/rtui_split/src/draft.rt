@@ -19,7 +19,7 @@ impl Draft {
     };
 }
 
-/// All try the same size.
+/// Has all try the same size.
 pub(crate) fn try_all(size: u64, drafts: &mut [Draft])
     ensures { All (λ (d : Draft). d.tried ≡ size) drafts.new }
 {

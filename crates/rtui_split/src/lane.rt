@@ -62,7 +62,7 @@ fn inner_of(area: Rect, margin: Margin) -> Rect
     area.inner(margin)
 }
 
-/// The columns or rows of an area that a layout cuts.
+/// Returns the columns or rows of an area that a layout cuts.
 pub(crate) fn lane_of(layout: &Layout, area: Rect) -> Lane
     ensures { IsLane layout.now (inner area layout.now.margin) result }
 {
@@ -156,7 +156,7 @@ fn cut_lane(
     );
 }
 
-/// The part of one constraint in the middle of an area; takes no memory.
+/// Returns the part of one constraint in the middle of an area; takes no memory.
 pub(crate) fn cut_centered(constraint: Constraint, direction: Direction, area: Rect) -> Rect
     ensures { IsSplit (centered_layout direction constraint) area (result ∷ []) }
 {
@@ -188,7 +188,7 @@ pub(crate) fn cut_centered(constraint: Constraint, direction: Direction, area: R
     segments[0]
 }
 
-/// The parts, in a list.
+/// Returns the parts, in a list.
 ///
 /// # Errors
 ///
@@ -213,7 +213,7 @@ pub(crate) fn cut_list(alloc: Global, layout: &Layout, lane: Lane) -> Result<Vec
     Ok(segments)
 }
 
-/// The parts, in an array of as many; takes no memory.
+/// Returns the parts, in an array of as many; takes no memory.
 pub(crate) fn cut_array<const N: usize>(layout: &Layout, lane: Lane) -> [Rect; N]
     requires lane { IsLane layout.now lane.area lane }
     requires count { N ≡ length layout.now.constraints }
@@ -245,7 +245,7 @@ fn cut_spaces(layout: &Layout, lane: Lane, segments: &[Rect], spaces: &mut [Rect
     place_spaces(segments, lane, spaces);
 }
 
-/// The spaces before, between and after these parts, in a list.
+/// Returns the spaces before, between and after these parts, in a list.
 ///
 /// # Errors
 ///
@@ -266,8 +266,8 @@ pub(crate) fn spaces_list(
     Ok(spaces)
 }
 
-/// The spaces before, between and after the parts, in an array of one more than parts; takes no
-/// memory.
+/// Returns the spaces before, between and after the parts, in an array of one more than parts;
+/// takes no memory.
 pub(crate) fn spaces_array<const N: usize>(layout: &Layout, lane: Lane) -> [Rect; N]
     requires lane { IsLane layout.now lane.area lane }
     requires count { N ≡ length layout.now.constraints + 1 }

@@ -39,7 +39,8 @@ fn share_of(weight: u16, level: u64) -> u64
     (u128::from(weight) * u128::from(level) / u128::from(GRAIN)) as u64
 }
 
-/// The size of a part at a level: its wish, or if it takes what is left, at least its share.
+/// Returns the size of a part at a level: its wish, or if it takes what is left, at least its
+/// share.
 pub(crate) fn size_at(part: &Part, takers: Takers, level: u64) -> u64
     ensures { result ≡ sized takers level part.now }
 {
@@ -84,7 +85,7 @@ fn lower_level(parts: &[Part], takers: Takers, level: Option<u64>, room: u64) ->
     left.saturating_mul(GRAIN) / weights.max(1)
 }
 
-/// Who takes what is left.
+/// Returns who takes what is left.
 pub(crate) fn takers_of(parts: &[Part], legacy: bool) -> Takers
     ensures legacy { result.legacy ≡ legacy }
     ensures even { result.even ≡ (weights legacy parts.now == 0) }
@@ -143,15 +144,15 @@ fn level_between(parts: &[Part], takers: Takers, room: u64, from: u64, to: u64) 
     low
 }
 
-/// A level so high that one weight takes more than the room.
+/// Returns a level so high that one weight takes more than the room.
 pub(crate) fn top_of(room: u64) -> u64
     ensures { room < 2 ^ 43 → result ≡ (room + 1) * 1048576 }
 {
     room.saturating_add(1).saturating_mul(GRAIN)
 }
 
-/// The highest level that has room, but for less than a unit; the top if the parts take nothing of
-/// what is left.
+/// Returns the highest level that has room, but for less than a unit; the top if the parts take
+/// nothing of what is left.
 pub(crate) fn level_of(parts: &[Part], takers: Takers, room: u64) -> u64
     requires { wanted_before FILL parts.now ≤ room }
     ensures fits { sum_by (sized takers result) parts.now ≤ room }

@@ -26,7 +26,7 @@ impl Part {
     };
 }
 
-/// In which turn a part gets what it wishes.
+/// Returns in which turn a part gets what it wishes.
 pub(crate) fn turn_of(constraint: Constraint) -> usize
     ensures { result ≡ turn constraint }
 {
@@ -68,8 +68,8 @@ pub(crate) fn write_parts(constraints: &[Constraint], cells: u16, parts: &mut [P
     }
 }
 
-/// What is left of the room when all have their wishes whose turn comes before this one; `None` if
-/// they don't fit.
+/// Returns what is left of the room when all have their wishes whose turn comes before this one;
+/// `None` if they don't fit.
 pub(crate) fn left_before(parts: &[Part], turn: usize, room: u64) -> Option<u64>
     ensures { MatchOption result (room < wanted_before turn parts.now)
         (λ left. left + wanted_before turn parts.now ≡ room) }

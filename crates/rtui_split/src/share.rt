@@ -207,7 +207,7 @@ fn left_at(level: u64, room: u64, sizes: &[u64]) -> u64
     }
 }
 
-/// What the parts leave of the whole.
+/// Returns what the parts leave of the whole.
 pub(crate) fn rest_of(whole: u64, sizes: &[u64]) -> u64
     ensures { result ≡ whole - sum sizes.now }
 {
@@ -249,7 +249,7 @@ fn stretched(parts: &[Part]) -> usize
     at
 }
 
-/// What nobody takes goes to the last part of the kind that minds least.
+/// Gives what nobody takes to the last part of the kind that minds least.
 pub(crate) fn stretch(parts: &[Part], left: u64, sizes: &mut [u64])
     ensures more { AllZip IsAtMost sizes.old sizes.new }
     ensures all { sum sizes.new ≤ sum sizes.old + left }

@@ -81,7 +81,7 @@ const COLOR_NAMES: [(&str, Color); 37] = [
 ];
 
 impl Color {
-    /// The colour of `0x00RRGGBB`. The top eight bits don't count.
+    /// Makes the colour of `0x00RRGGBB`. The top eight bits don't count.
     pub fn from_u32(rgb: u32) -> Self
         ensures { result ≡ color_of_number rgb }
     {
@@ -106,8 +106,8 @@ impl fmt::Display for ParseColorError {
 
 impl Error for ParseColorError {}
 
-/// The character as it counts in a colour's name: ASCII letters in lower case, and the Kelvin sign
-/// as a k.
+/// Returns the character as it counts in a colour's name: ASCII letters in lower case, and the
+/// Kelvin sign as a k.
 fn lowered(c: char) -> char
     ensures { result ≡ lowered c }
 {
@@ -118,14 +118,14 @@ fn lowered(c: char) -> char
     }
 }
 
-/// Whether the character counts in a colour's name.
+/// Returns whether the character counts in a colour's name.
 fn is_kept(c: char) -> bool
     ensures { result ≡ is_kept c }
 {
     !matches!(c, ' ' | '-' | '_')
 }
 
-/// Whether a text, cleaned, is this name.
+/// Returns whether a text, cleaned, is this name.
 fn is_named(text: &str, name: &[u8]) -> bool
     ensures { result ≡ pointwise nat_eq name.now (cleaned text.now) }
 {
@@ -144,7 +144,7 @@ fn is_named(text: &str, name: &[u8]) -> bool
     rest.is_empty()
 }
 
-/// The colour whose name among these a text is.
+/// Returns the colour whose name among these a text is.
 fn color_among(names: &[(&str, Color)], text: &str) -> Option<Color>
     ensures { result ≡ color_among (map (λ row. (row.0.now, row.1)) names.now) text.now }
 {
@@ -156,14 +156,14 @@ fn color_among(names: &[(&str, Color)], text: &str) -> Option<Color>
     None
 }
 
-/// The colour whose name a text is.
+/// Returns the colour whose name a text is.
 fn named_color(text: &str) -> Option<Color>
     ensures { result ≡ named_color text.now }
 {
     color_among(&COLOR_NAMES, text)
 }
 
-/// The byte that two characters write: two hexadecimal digits, or a plus and one.
+/// Returns the byte that two characters write: two hexadecimal digits, or a plus and one.
 fn pair_value(high: u8, low: u8) -> Option<u8>
     ensures { result ≡ pair_value high low }
 {
@@ -176,7 +176,7 @@ fn pair_value(high: u8, low: u8) -> Option<u8>
     Some((16 * high + low) as u8)
 }
 
-/// The colour that `#` and three pairs write.
+/// Returns the colour that `#` and three pairs write.
 fn hex_color(text: &str) -> Option<Color>
     ensures { result ≡ hex_color text.now }
 {

@@ -92,7 +92,7 @@ pub struct Style {
 }
 
 impl Style {
-    /// The style that changes nothing.
+    /// Makes the style that changes nothing.
     pub fn new() -> Self
         ensures { result ≡ new_style }
     {
@@ -105,7 +105,8 @@ impl Style {
         }
     }
 
-    /// The style that sets all three colours to the terminal's own and takes every modifier away.
+    /// Makes the style that sets all three colours to the terminal's own and takes every modifier
+    /// away.
     pub fn reset() -> Self
         ensures { result ≡ reset_style }
     {
@@ -118,7 +119,7 @@ impl Style {
         }
     }
 
-    /// The style with this foreground.
+    /// Sets the foreground to this colour.
     pub fn fg(mut self, color: Color) -> Self
         ensures { result ≡ with_fg color self }
     {
@@ -126,7 +127,7 @@ impl Style {
         self
     }
 
-    /// The style with this background.
+    /// Sets the background to this colour.
     pub fn bg(mut self, color: Color) -> Self
         ensures { result ≡ with_bg color self }
     {
@@ -134,7 +135,7 @@ impl Style {
         self
     }
 
-    /// The style with this colour of the underline.
+    /// Sets the colour of the underline to this one.
     pub fn underline_color(mut self, color: Color) -> Self
         ensures { result ≡ with_underline_color color self }
     {
@@ -142,7 +143,7 @@ impl Style {
         self
     }
 
-    /// The style that adds these modifiers, and takes none of them away.
+    /// Makes the style add these modifiers, and take none of them away.
     pub fn add_modifier(mut self, modifier: Modifier) -> Self
         ensures { result ≡ with_modifier modifier self }
     {
@@ -151,7 +152,7 @@ impl Style {
         self
     }
 
-    /// The style that takes these modifiers away, and adds none of them.
+    /// Makes the style take these modifiers away, and add none of them.
     pub fn remove_modifier(mut self, modifier: Modifier) -> Self
         ensures { result ≡ without_modifier modifier self }
     {
@@ -160,14 +161,14 @@ impl Style {
         self
     }
 
-    /// Whether these modifiers are all added, and not all taken away.
+    /// Returns whether these modifiers are all added, and not all taken away.
     pub fn has_modifier(self, modifier: Modifier) -> bool
         ensures { result ≡ has_modifier modifier self }
     {
         self.add_modifier.contains(modifier) && !self.sub_modifier.contains(modifier)
     }
 
-    /// This style with `other` laid over it: if both say something, `other` counts.
+    /// Lays `other` over this style: if both say something, `other` counts.
     pub fn patch(mut self, other: Style) -> Self
         ensures { result ≡ patch self other }
     {

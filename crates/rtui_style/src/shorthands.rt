@@ -7,350 +7,350 @@ ghost use Rattle.rtui_style.specs.Style.{with_fg, with_bg, with_modifier, withou
 use crate::{Color, Modifier, Style};
 
 impl Style {
-    /// The style with the foreground black.
+    /// Sets the foreground to black.
     pub fn black(self) -> Self
         ensures { result ≡ with_fg Color.Black self }
     {
         self.fg(Color::Black)
     }
 
-    /// The style with the background black.
+    /// Sets the background to black.
     pub fn on_black(self) -> Self
         ensures { result ≡ with_bg Color.Black self }
     {
         self.bg(Color::Black)
     }
 
-    /// The style with the foreground red.
+    /// Sets the foreground to red.
     pub fn red(self) -> Self
         ensures { result ≡ with_fg Color.Red self }
     {
         self.fg(Color::Red)
     }
 
-    /// The style with the background red.
+    /// Sets the background to red.
     pub fn on_red(self) -> Self
         ensures { result ≡ with_bg Color.Red self }
     {
         self.bg(Color::Red)
     }
 
-    /// The style with the foreground green.
+    /// Sets the foreground to green.
     pub fn green(self) -> Self
         ensures { result ≡ with_fg Color.Green self }
     {
         self.fg(Color::Green)
     }
 
-    /// The style with the background green.
+    /// Sets the background to green.
     pub fn on_green(self) -> Self
         ensures { result ≡ with_bg Color.Green self }
     {
         self.bg(Color::Green)
     }
 
-    /// The style with the foreground yellow.
+    /// Sets the foreground to yellow.
     pub fn yellow(self) -> Self
         ensures { result ≡ with_fg Color.Yellow self }
     {
         self.fg(Color::Yellow)
     }
 
-    /// The style with the background yellow.
+    /// Sets the background to yellow.
     pub fn on_yellow(self) -> Self
         ensures { result ≡ with_bg Color.Yellow self }
     {
         self.bg(Color::Yellow)
     }
 
-    /// The style with the foreground blue.
+    /// Sets the foreground to blue.
     pub fn blue(self) -> Self
         ensures { result ≡ with_fg Color.Blue self }
     {
         self.fg(Color::Blue)
     }
 
-    /// The style with the background blue.
+    /// Sets the background to blue.
     pub fn on_blue(self) -> Self
         ensures { result ≡ with_bg Color.Blue self }
     {
         self.bg(Color::Blue)
     }
 
-    /// The style with the foreground magenta.
+    /// Sets the foreground to magenta.
     pub fn magenta(self) -> Self
         ensures { result ≡ with_fg Color.Magenta self }
     {
         self.fg(Color::Magenta)
     }
 
-    /// The style with the background magenta.
+    /// Sets the background to magenta.
     pub fn on_magenta(self) -> Self
         ensures { result ≡ with_bg Color.Magenta self }
     {
         self.bg(Color::Magenta)
     }
 
-    /// The style with the foreground cyan.
+    /// Sets the foreground to cyan.
     pub fn cyan(self) -> Self
         ensures { result ≡ with_fg Color.Cyan self }
     {
         self.fg(Color::Cyan)
     }
 
-    /// The style with the background cyan.
+    /// Sets the background to cyan.
     pub fn on_cyan(self) -> Self
         ensures { result ≡ with_bg Color.Cyan self }
     {
         self.bg(Color::Cyan)
     }
 
-    /// The style with the foreground gray.
+    /// Sets the foreground to gray.
     pub fn gray(self) -> Self
         ensures { result ≡ with_fg Color.Gray self }
     {
         self.fg(Color::Gray)
     }
 
-    /// The style with the background gray.
+    /// Sets the background to gray.
     pub fn on_gray(self) -> Self
         ensures { result ≡ with_bg Color.Gray self }
     {
         self.bg(Color::Gray)
     }
 
-    /// The style with the foreground dark gray.
+    /// Sets the foreground to dark gray.
     pub fn dark_gray(self) -> Self
         ensures { result ≡ with_fg Color.DarkGray self }
     {
         self.fg(Color::DarkGray)
     }
 
-    /// The style with the background dark gray.
+    /// Sets the background to dark gray.
     pub fn on_dark_gray(self) -> Self
         ensures { result ≡ with_bg Color.DarkGray self }
     {
         self.bg(Color::DarkGray)
     }
 
-    /// The style with the foreground light red.
+    /// Sets the foreground to light red.
     pub fn light_red(self) -> Self
         ensures { result ≡ with_fg Color.LightRed self }
     {
         self.fg(Color::LightRed)
     }
 
-    /// The style with the background light red.
+    /// Sets the background to light red.
     pub fn on_light_red(self) -> Self
         ensures { result ≡ with_bg Color.LightRed self }
     {
         self.bg(Color::LightRed)
     }
 
-    /// The style with the foreground light green.
+    /// Sets the foreground to light green.
     pub fn light_green(self) -> Self
         ensures { result ≡ with_fg Color.LightGreen self }
     {
         self.fg(Color::LightGreen)
     }
 
-    /// The style with the background light green.
+    /// Sets the background to light green.
     pub fn on_light_green(self) -> Self
         ensures { result ≡ with_bg Color.LightGreen self }
     {
         self.bg(Color::LightGreen)
     }
 
-    /// The style with the foreground light yellow.
+    /// Sets the foreground to light yellow.
     pub fn light_yellow(self) -> Self
         ensures { result ≡ with_fg Color.LightYellow self }
     {
         self.fg(Color::LightYellow)
     }
 
-    /// The style with the background light yellow.
+    /// Sets the background to light yellow.
     pub fn on_light_yellow(self) -> Self
         ensures { result ≡ with_bg Color.LightYellow self }
     {
         self.bg(Color::LightYellow)
     }
 
-    /// The style with the foreground light blue.
+    /// Sets the foreground to light blue.
     pub fn light_blue(self) -> Self
         ensures { result ≡ with_fg Color.LightBlue self }
     {
         self.fg(Color::LightBlue)
     }
 
-    /// The style with the background light blue.
+    /// Sets the background to light blue.
     pub fn on_light_blue(self) -> Self
         ensures { result ≡ with_bg Color.LightBlue self }
     {
         self.bg(Color::LightBlue)
     }
 
-    /// The style with the foreground light magenta.
+    /// Sets the foreground to light magenta.
     pub fn light_magenta(self) -> Self
         ensures { result ≡ with_fg Color.LightMagenta self }
     {
         self.fg(Color::LightMagenta)
     }
 
-    /// The style with the background light magenta.
+    /// Sets the background to light magenta.
     pub fn on_light_magenta(self) -> Self
         ensures { result ≡ with_bg Color.LightMagenta self }
     {
         self.bg(Color::LightMagenta)
     }
 
-    /// The style with the foreground light cyan.
+    /// Sets the foreground to light cyan.
     pub fn light_cyan(self) -> Self
         ensures { result ≡ with_fg Color.LightCyan self }
     {
         self.fg(Color::LightCyan)
     }
 
-    /// The style with the background light cyan.
+    /// Sets the background to light cyan.
     pub fn on_light_cyan(self) -> Self
         ensures { result ≡ with_bg Color.LightCyan self }
     {
         self.bg(Color::LightCyan)
     }
 
-    /// The style with the foreground white.
+    /// Sets the foreground to white.
     pub fn white(self) -> Self
         ensures { result ≡ with_fg Color.White self }
     {
         self.fg(Color::White)
     }
 
-    /// The style with the background white.
+    /// Sets the background to white.
     pub fn on_white(self) -> Self
         ensures { result ≡ with_bg Color.White self }
     {
         self.bg(Color::White)
     }
 
-    /// The style that adds the modifier bold.
+    /// Makes the style add the modifier bold.
     pub fn bold(self) -> Self
         ensures { result ≡ with_modifier Modifier.BOLD self }
     {
         self.add_modifier(Modifier::BOLD)
     }
 
-    /// The style that takes the modifier bold away.
+    /// Makes the style take the modifier bold away.
     pub fn not_bold(self) -> Self
         ensures { result ≡ without_modifier Modifier.BOLD self }
     {
         self.remove_modifier(Modifier::BOLD)
     }
 
-    /// The style that adds the modifier dim.
+    /// Makes the style add the modifier dim.
     pub fn dim(self) -> Self
         ensures { result ≡ with_modifier Modifier.DIM self }
     {
         self.add_modifier(Modifier::DIM)
     }
 
-    /// The style that takes the modifier dim away.
+    /// Makes the style take the modifier dim away.
     pub fn not_dim(self) -> Self
         ensures { result ≡ without_modifier Modifier.DIM self }
     {
         self.remove_modifier(Modifier::DIM)
     }
 
-    /// The style that adds the modifier italic.
+    /// Makes the style add the modifier italic.
     pub fn italic(self) -> Self
         ensures { result ≡ with_modifier Modifier.ITALIC self }
     {
         self.add_modifier(Modifier::ITALIC)
     }
 
-    /// The style that takes the modifier italic away.
+    /// Makes the style take the modifier italic away.
     pub fn not_italic(self) -> Self
         ensures { result ≡ without_modifier Modifier.ITALIC self }
     {
         self.remove_modifier(Modifier::ITALIC)
     }
 
-    /// The style that adds the modifier underlined.
+    /// Makes the style add the modifier underlined.
     pub fn underlined(self) -> Self
         ensures { result ≡ with_modifier Modifier.UNDERLINED self }
     {
         self.add_modifier(Modifier::UNDERLINED)
     }
 
-    /// The style that takes the modifier underlined away.
+    /// Makes the style take the modifier underlined away.
     pub fn not_underlined(self) -> Self
         ensures { result ≡ without_modifier Modifier.UNDERLINED self }
     {
         self.remove_modifier(Modifier::UNDERLINED)
     }
 
-    /// The style that adds the modifier slow blink.
+    /// Makes the style add the modifier slow blink.
     pub fn slow_blink(self) -> Self
         ensures { result ≡ with_modifier Modifier.SLOW_BLINK self }
     {
         self.add_modifier(Modifier::SLOW_BLINK)
     }
 
-    /// The style that takes the modifier slow blink away.
+    /// Makes the style take the modifier slow blink away.
     pub fn not_slow_blink(self) -> Self
         ensures { result ≡ without_modifier Modifier.SLOW_BLINK self }
     {
         self.remove_modifier(Modifier::SLOW_BLINK)
     }
 
-    /// The style that adds the modifier rapid blink.
+    /// Makes the style add the modifier rapid blink.
     pub fn rapid_blink(self) -> Self
         ensures { result ≡ with_modifier Modifier.RAPID_BLINK self }
     {
         self.add_modifier(Modifier::RAPID_BLINK)
     }
 
-    /// The style that takes the modifier rapid blink away.
+    /// Makes the style take the modifier rapid blink away.
     pub fn not_rapid_blink(self) -> Self
         ensures { result ≡ without_modifier Modifier.RAPID_BLINK self }
     {
         self.remove_modifier(Modifier::RAPID_BLINK)
     }
 
-    /// The style that adds the modifier reversed.
+    /// Makes the style add the modifier reversed.
     pub fn reversed(self) -> Self
         ensures { result ≡ with_modifier Modifier.REVERSED self }
     {
         self.add_modifier(Modifier::REVERSED)
     }
 
-    /// The style that takes the modifier reversed away.
+    /// Makes the style take the modifier reversed away.
     pub fn not_reversed(self) -> Self
         ensures { result ≡ without_modifier Modifier.REVERSED self }
     {
         self.remove_modifier(Modifier::REVERSED)
     }
 
-    /// The style that adds the modifier hidden.
+    /// Makes the style add the modifier hidden.
     pub fn hidden(self) -> Self
         ensures { result ≡ with_modifier Modifier.HIDDEN self }
     {
         self.add_modifier(Modifier::HIDDEN)
     }
 
-    /// The style that takes the modifier hidden away.
+    /// Makes the style take the modifier hidden away.
     pub fn not_hidden(self) -> Self
         ensures { result ≡ without_modifier Modifier.HIDDEN self }
     {
         self.remove_modifier(Modifier::HIDDEN)
     }
 
-    /// The style that adds the modifier crossed out.
+    /// Makes the style add the modifier crossed out.
     pub fn crossed_out(self) -> Self
         ensures { result ≡ with_modifier Modifier.CROSSED_OUT self }
     {
         self.add_modifier(Modifier::CROSSED_OUT)
     }
 
-    /// The style that takes the modifier crossed out away.
+    /// Makes the style take the modifier crossed out away.
     pub fn not_crossed_out(self) -> Self
         ensures { result ≡ without_modifier Modifier.CROSSED_OUT self }
     {

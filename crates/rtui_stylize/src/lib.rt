@@ -25,11 +25,11 @@ pub trait Styled {
     // what it becomes with this style
     ghost with_style: { Self → Style → Self.Item };
 
-    /// Its style.
+    /// Returns its style.
     fn style(&self) -> Style
         ensures { result ≡ style_of self.now };
 
-    /// What it becomes with this style in place of its own.
+    /// Returns what it becomes with this style in place of its own.
     fn set_style(self, style: Style) -> Self::Item
         ensures { result ≡ with_style self style };
 }

@@ -13,7 +13,7 @@ use rtui_style::{Color, Modifier, Style};
 /// let line = Line::raw(alloc, "plain text in a green line")?.green();
 /// ```
 pub trait Stylize: Styled + Sized {
-    /// With this foreground.
+    /// Sets the foreground to this colour.
     final fn fg(self, color: Color) -> Self::Item
         ensures { result ≡ Self.with_style self (with_fg color (Self.style_of self)) }
     {
@@ -21,7 +21,7 @@ pub trait Stylize: Styled + Sized {
         self.set_style(style)
     }
 
-    /// With this background.
+    /// Sets the background to this colour.
     final fn bg(self, color: Color) -> Self::Item
         ensures { result ≡ Self.with_style self (with_bg color (Self.style_of self)) }
     {
@@ -29,15 +29,15 @@ pub trait Stylize: Styled + Sized {
         self.set_style(style)
     }
 
-    /// With the style that sets every colour to the terminal's own and takes every modifier away,
-    /// in place of its own.
+    /// Sets the style that sets every colour to the terminal's own and takes every modifier away, in
+    /// place of its own.
     final fn reset(self) -> Self::Item
         ensures { result ≡ Self.with_style self reset_style }
     {
         self.set_style(Style::reset())
     }
 
-    /// With these modifiers added, and none of them taken away.
+    /// Adds these modifiers, and takes none of them away.
     final fn add_modifier(self, modifier: Modifier) -> Self::Item
         ensures { result ≡ Self.with_style self (with_modifier modifier (Self.style_of self)) }
     {
@@ -45,7 +45,7 @@ pub trait Stylize: Styled + Sized {
         self.set_style(style)
     }
 
-    /// With these modifiers taken away, and none of them added.
+    /// Takes these modifiers away, and adds none of them.
     final fn remove_modifier(self, modifier: Modifier) -> Self::Item
         ensures { result ≡ Self.with_style self (without_modifier modifier (Self.style_of self)) }
     {
@@ -53,238 +53,238 @@ pub trait Stylize: Styled + Sized {
         self.set_style(style)
     }
 
-    /// With the foreground black.
+    /// Sets the foreground to black.
     final fn black(self) -> Self::Item
         ensures { result ≡ Self.with_style self (with_fg Color.Black (Self.style_of self)) }
     {
         self.fg(Color::Black)
     }
 
-    /// With the background black.
+    /// Sets the background to black.
     final fn on_black(self) -> Self::Item
         ensures { result ≡ Self.with_style self (with_bg Color.Black (Self.style_of self)) }
     {
         self.bg(Color::Black)
     }
 
-    /// With the foreground red.
+    /// Sets the foreground to red.
     final fn red(self) -> Self::Item
         ensures { result ≡ Self.with_style self (with_fg Color.Red (Self.style_of self)) }
     {
         self.fg(Color::Red)
     }
 
-    /// With the background red.
+    /// Sets the background to red.
     final fn on_red(self) -> Self::Item
         ensures { result ≡ Self.with_style self (with_bg Color.Red (Self.style_of self)) }
     {
         self.bg(Color::Red)
     }
 
-    /// With the foreground green.
+    /// Sets the foreground to green.
     final fn green(self) -> Self::Item
         ensures { result ≡ Self.with_style self (with_fg Color.Green (Self.style_of self)) }
     {
         self.fg(Color::Green)
     }
 
-    /// With the background green.
+    /// Sets the background to green.
     final fn on_green(self) -> Self::Item
         ensures { result ≡ Self.with_style self (with_bg Color.Green (Self.style_of self)) }
     {
         self.bg(Color::Green)
     }
 
-    /// With the foreground yellow.
+    /// Sets the foreground to yellow.
     final fn yellow(self) -> Self::Item
         ensures { result ≡ Self.with_style self (with_fg Color.Yellow (Self.style_of self)) }
     {
         self.fg(Color::Yellow)
     }
 
-    /// With the background yellow.
+    /// Sets the background to yellow.
     final fn on_yellow(self) -> Self::Item
         ensures { result ≡ Self.with_style self (with_bg Color.Yellow (Self.style_of self)) }
     {
         self.bg(Color::Yellow)
     }
 
-    /// With the foreground blue.
+    /// Sets the foreground to blue.
     final fn blue(self) -> Self::Item
         ensures { result ≡ Self.with_style self (with_fg Color.Blue (Self.style_of self)) }
     {
         self.fg(Color::Blue)
     }
 
-    /// With the background blue.
+    /// Sets the background to blue.
     final fn on_blue(self) -> Self::Item
         ensures { result ≡ Self.with_style self (with_bg Color.Blue (Self.style_of self)) }
     {
         self.bg(Color::Blue)
     }
 
-    /// With the foreground magenta.
+    /// Sets the foreground to magenta.
     final fn magenta(self) -> Self::Item
         ensures { result ≡ Self.with_style self (with_fg Color.Magenta (Self.style_of self)) }
     {
         self.fg(Color::Magenta)
     }
 
-    /// With the background magenta.
+    /// Sets the background to magenta.
     final fn on_magenta(self) -> Self::Item
         ensures { result ≡ Self.with_style self (with_bg Color.Magenta (Self.style_of self)) }
     {
         self.bg(Color::Magenta)
     }
 
-    /// With the foreground cyan.
+    /// Sets the foreground to cyan.
     final fn cyan(self) -> Self::Item
         ensures { result ≡ Self.with_style self (with_fg Color.Cyan (Self.style_of self)) }
     {
         self.fg(Color::Cyan)
     }
 
-    /// With the background cyan.
+    /// Sets the background to cyan.
     final fn on_cyan(self) -> Self::Item
         ensures { result ≡ Self.with_style self (with_bg Color.Cyan (Self.style_of self)) }
     {
         self.bg(Color::Cyan)
     }
 
-    /// With the foreground gray.
+    /// Sets the foreground to gray.
     final fn gray(self) -> Self::Item
         ensures { result ≡ Self.with_style self (with_fg Color.Gray (Self.style_of self)) }
     {
         self.fg(Color::Gray)
     }
 
-    /// With the background gray.
+    /// Sets the background to gray.
     final fn on_gray(self) -> Self::Item
         ensures { result ≡ Self.with_style self (with_bg Color.Gray (Self.style_of self)) }
     {
         self.bg(Color::Gray)
     }
 
-    /// With the foreground dark gray.
+    /// Sets the foreground to dark gray.
     final fn dark_gray(self) -> Self::Item
         ensures { result ≡ Self.with_style self (with_fg Color.DarkGray (Self.style_of self)) }
     {
         self.fg(Color::DarkGray)
     }
 
-    /// With the background dark gray.
+    /// Sets the background to dark gray.
     final fn on_dark_gray(self) -> Self::Item
         ensures { result ≡ Self.with_style self (with_bg Color.DarkGray (Self.style_of self)) }
     {
         self.bg(Color::DarkGray)
     }
 
-    /// With the foreground light red.
+    /// Sets the foreground to light red.
     final fn light_red(self) -> Self::Item
         ensures { result ≡ Self.with_style self (with_fg Color.LightRed (Self.style_of self)) }
     {
         self.fg(Color::LightRed)
     }
 
-    /// With the background light red.
+    /// Sets the background to light red.
     final fn on_light_red(self) -> Self::Item
         ensures { result ≡ Self.with_style self (with_bg Color.LightRed (Self.style_of self)) }
     {
         self.bg(Color::LightRed)
     }
 
-    /// With the foreground light green.
+    /// Sets the foreground to light green.
     final fn light_green(self) -> Self::Item
         ensures { result ≡ Self.with_style self (with_fg Color.LightGreen (Self.style_of self)) }
     {
         self.fg(Color::LightGreen)
     }
 
-    /// With the background light green.
+    /// Sets the background to light green.
     final fn on_light_green(self) -> Self::Item
         ensures { result ≡ Self.with_style self (with_bg Color.LightGreen (Self.style_of self)) }
     {
         self.bg(Color::LightGreen)
     }
 
-    /// With the foreground light yellow.
+    /// Sets the foreground to light yellow.
     final fn light_yellow(self) -> Self::Item
         ensures { result ≡ Self.with_style self (with_fg Color.LightYellow (Self.style_of self)) }
     {
         self.fg(Color::LightYellow)
     }
 
-    /// With the background light yellow.
+    /// Sets the background to light yellow.
     final fn on_light_yellow(self) -> Self::Item
         ensures { result ≡ Self.with_style self (with_bg Color.LightYellow (Self.style_of self)) }
     {
         self.bg(Color::LightYellow)
     }
 
-    /// With the foreground light blue.
+    /// Sets the foreground to light blue.
     final fn light_blue(self) -> Self::Item
         ensures { result ≡ Self.with_style self (with_fg Color.LightBlue (Self.style_of self)) }
     {
         self.fg(Color::LightBlue)
     }
 
-    /// With the background light blue.
+    /// Sets the background to light blue.
     final fn on_light_blue(self) -> Self::Item
         ensures { result ≡ Self.with_style self (with_bg Color.LightBlue (Self.style_of self)) }
     {
         self.bg(Color::LightBlue)
     }
 
-    /// With the foreground light magenta.
+    /// Sets the foreground to light magenta.
     final fn light_magenta(self) -> Self::Item
         ensures { result ≡ Self.with_style self (with_fg Color.LightMagenta (Self.style_of self)) }
     {
         self.fg(Color::LightMagenta)
     }
 
-    /// With the background light magenta.
+    /// Sets the background to light magenta.
     final fn on_light_magenta(self) -> Self::Item
         ensures { result ≡ Self.with_style self (with_bg Color.LightMagenta (Self.style_of self)) }
     {
         self.bg(Color::LightMagenta)
     }
 
-    /// With the foreground light cyan.
+    /// Sets the foreground to light cyan.
     final fn light_cyan(self) -> Self::Item
         ensures { result ≡ Self.with_style self (with_fg Color.LightCyan (Self.style_of self)) }
     {
         self.fg(Color::LightCyan)
     }
 
-    /// With the background light cyan.
+    /// Sets the background to light cyan.
     final fn on_light_cyan(self) -> Self::Item
         ensures { result ≡ Self.with_style self (with_bg Color.LightCyan (Self.style_of self)) }
     {
         self.bg(Color::LightCyan)
     }
 
-    /// With the foreground white.
+    /// Sets the foreground to white.
     final fn white(self) -> Self::Item
         ensures { result ≡ Self.with_style self (with_fg Color.White (Self.style_of self)) }
     {
         self.fg(Color::White)
     }
 
-    /// With the background white.
+    /// Sets the background to white.
     final fn on_white(self) -> Self::Item
         ensures { result ≡ Self.with_style self (with_bg Color.White (Self.style_of self)) }
     {
         self.bg(Color::White)
     }
 
-    /// With the modifier bold added.
+    /// Adds the modifier bold.
     final fn bold(self) -> Self::Item
         ensures { result ≡ Self.with_style self (with_modifier Modifier.BOLD (Self.style_of self)) }
     {
         self.add_modifier(Modifier::BOLD)
     }
 
-    /// With the modifier bold taken away.
+    /// Takes the modifier bold away.
     final fn not_bold(self) -> Self::Item
         ensures { result
             ≡ Self.with_style self (without_modifier Modifier.BOLD (Self.style_of self)) }
@@ -292,14 +292,14 @@ pub trait Stylize: Styled + Sized {
         self.remove_modifier(Modifier::BOLD)
     }
 
-    /// With the modifier dim added.
+    /// Adds the modifier dim.
     final fn dim(self) -> Self::Item
         ensures { result ≡ Self.with_style self (with_modifier Modifier.DIM (Self.style_of self)) }
     {
         self.add_modifier(Modifier::DIM)
     }
 
-    /// With the modifier dim taken away.
+    /// Takes the modifier dim away.
     final fn not_dim(self) -> Self::Item
         ensures { result
             ≡ Self.with_style self (without_modifier Modifier.DIM (Self.style_of self)) }
@@ -307,7 +307,7 @@ pub trait Stylize: Styled + Sized {
         self.remove_modifier(Modifier::DIM)
     }
 
-    /// With the modifier italic added.
+    /// Adds the modifier italic.
     final fn italic(self) -> Self::Item
         ensures { result
             ≡ Self.with_style self (with_modifier Modifier.ITALIC (Self.style_of self)) }
@@ -315,7 +315,7 @@ pub trait Stylize: Styled + Sized {
         self.add_modifier(Modifier::ITALIC)
     }
 
-    /// With the modifier italic taken away.
+    /// Takes the modifier italic away.
     final fn not_italic(self) -> Self::Item
         ensures { result
             ≡ Self.with_style self (without_modifier Modifier.ITALIC (Self.style_of self)) }
@@ -323,7 +323,7 @@ pub trait Stylize: Styled + Sized {
         self.remove_modifier(Modifier::ITALIC)
     }
 
-    /// With the modifier underlined added.
+    /// Adds the modifier underlined.
     final fn underlined(self) -> Self::Item
         ensures { result
             ≡ Self.with_style self (with_modifier Modifier.UNDERLINED (Self.style_of self)) }
@@ -331,7 +331,7 @@ pub trait Stylize: Styled + Sized {
         self.add_modifier(Modifier::UNDERLINED)
     }
 
-    /// With the modifier underlined taken away.
+    /// Takes the modifier underlined away.
     final fn not_underlined(self) -> Self::Item
         ensures { result
             ≡ Self.with_style self (without_modifier Modifier.UNDERLINED (Self.style_of self)) }
@@ -339,7 +339,7 @@ pub trait Stylize: Styled + Sized {
         self.remove_modifier(Modifier::UNDERLINED)
     }
 
-    /// With the modifier slow blink added.
+    /// Adds the modifier slow blink.
     final fn slow_blink(self) -> Self::Item
         ensures { result
             ≡ Self.with_style self (with_modifier Modifier.SLOW_BLINK (Self.style_of self)) }
@@ -347,7 +347,7 @@ pub trait Stylize: Styled + Sized {
         self.add_modifier(Modifier::SLOW_BLINK)
     }
 
-    /// With the modifier slow blink taken away.
+    /// Takes the modifier slow blink away.
     final fn not_slow_blink(self) -> Self::Item
         ensures { result
             ≡ Self.with_style self (without_modifier Modifier.SLOW_BLINK (Self.style_of self)) }
@@ -355,7 +355,7 @@ pub trait Stylize: Styled + Sized {
         self.remove_modifier(Modifier::SLOW_BLINK)
     }
 
-    /// With the modifier rapid blink added.
+    /// Adds the modifier rapid blink.
     final fn rapid_blink(self) -> Self::Item
         ensures { result
             ≡ Self.with_style self (with_modifier Modifier.RAPID_BLINK (Self.style_of self)) }
@@ -363,7 +363,7 @@ pub trait Stylize: Styled + Sized {
         self.add_modifier(Modifier::RAPID_BLINK)
     }
 
-    /// With the modifier rapid blink taken away.
+    /// Takes the modifier rapid blink away.
     final fn not_rapid_blink(self) -> Self::Item
         ensures { result
             ≡ Self.with_style self (without_modifier Modifier.RAPID_BLINK (Self.style_of self)) }
@@ -371,7 +371,7 @@ pub trait Stylize: Styled + Sized {
         self.remove_modifier(Modifier::RAPID_BLINK)
     }
 
-    /// With the modifier reversed added.
+    /// Adds the modifier reversed.
     final fn reversed(self) -> Self::Item
         ensures { result
             ≡ Self.with_style self (with_modifier Modifier.REVERSED (Self.style_of self)) }
@@ -379,7 +379,7 @@ pub trait Stylize: Styled + Sized {
         self.add_modifier(Modifier::REVERSED)
     }
 
-    /// With the modifier reversed taken away.
+    /// Takes the modifier reversed away.
     final fn not_reversed(self) -> Self::Item
         ensures { result
             ≡ Self.with_style self (without_modifier Modifier.REVERSED (Self.style_of self)) }
@@ -387,7 +387,7 @@ pub trait Stylize: Styled + Sized {
         self.remove_modifier(Modifier::REVERSED)
     }
 
-    /// With the modifier hidden added.
+    /// Adds the modifier hidden.
     final fn hidden(self) -> Self::Item
         ensures { result
             ≡ Self.with_style self (with_modifier Modifier.HIDDEN (Self.style_of self)) }
@@ -395,7 +395,7 @@ pub trait Stylize: Styled + Sized {
         self.add_modifier(Modifier::HIDDEN)
     }
 
-    /// With the modifier hidden taken away.
+    /// Takes the modifier hidden away.
     final fn not_hidden(self) -> Self::Item
         ensures { result
             ≡ Self.with_style self (without_modifier Modifier.HIDDEN (Self.style_of self)) }
@@ -403,7 +403,7 @@ pub trait Stylize: Styled + Sized {
         self.remove_modifier(Modifier::HIDDEN)
     }
 
-    /// With the modifier crossed out added.
+    /// Adds the modifier crossed out.
     final fn crossed_out(self) -> Self::Item
         ensures { result
             ≡ Self.with_style self (with_modifier Modifier.CROSSED_OUT (Self.style_of self)) }
@@ -411,7 +411,7 @@ pub trait Stylize: Styled + Sized {
         self.add_modifier(Modifier::CROSSED_OUT)
     }
 
-    /// With the modifier crossed out taken away.
+    /// Takes the modifier crossed out away.
     final fn not_crossed_out(self) -> Self::Item
         ensures { result
             ≡ Self.with_style self (without_modifier Modifier.CROSSED_OUT (Self.style_of self)) }

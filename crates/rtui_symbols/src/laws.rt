@@ -27,7 +27,7 @@ pub fn octants_are_in_order()
     ensures { OCTANTS ≡ filled older_octants 256 0 0x1cd00 }
 {}
 
-/// The set of normal lines, and the border that is made of it.
+/// Returns the set of normal lines, and the border that is made of it.
 pub fn plain_border() -> (line::Set<'static>, border::Set<'static>)
     ensures lines { line_texts result.0 ≡ normal_lines }
     ensures border { border_texts result.1 ≡ border_of result.0 }
@@ -35,7 +35,7 @@ pub fn plain_border() -> (line::Set<'static>, border::Set<'static>)
     (line::NORMAL, border::PLAIN)
 }
 
-/// The set of rounded lines, and the border that is made of it.
+/// Returns the set of rounded lines, and the border that is made of it.
 pub fn rounded_border() -> (line::Set<'static>, border::Set<'static>)
     ensures lines { line_texts result.0 ≡ rounded_lines }
     ensures border { border_texts result.1 ≡ border_of result.0 }
@@ -43,7 +43,7 @@ pub fn rounded_border() -> (line::Set<'static>, border::Set<'static>)
     (line::ROUNDED, border::ROUNDED)
 }
 
-/// The set of double lines, and the border that is made of it.
+/// Returns the set of double lines, and the border that is made of it.
 pub fn double_border() -> (line::Set<'static>, border::Set<'static>)
     ensures lines { line_texts result.0 ≡ double_lines }
     ensures border { border_texts result.1 ≡ border_of result.0 }
@@ -51,7 +51,7 @@ pub fn double_border() -> (line::Set<'static>, border::Set<'static>)
     (line::DOUBLE, border::DOUBLE)
 }
 
-/// The set of thick lines, and the border that is made of it.
+/// Returns the set of thick lines, and the border that is made of it.
 pub fn thick_border() -> (line::Set<'static>, border::Set<'static>)
     ensures lines { line_texts result.0 ≡ thick_lines }
     ensures border { border_texts result.1 ≡ border_of result.0 }
@@ -59,7 +59,7 @@ pub fn thick_border() -> (line::Set<'static>, border::Set<'static>)
     (line::THICK, border::THICK)
 }
 
-/// The set of light double dashed lines, and the border that is made of it.
+/// Returns the set of light double dashed lines, and the border that is made of it.
 pub fn light_double_dashed_border() -> (line::Set<'static>, border::Set<'static>)
     ensures lines { line_texts result.0
         ≡ with_dashes line_symbol.LIGHT_DOUBLE_DASH_VERTICAL.now
@@ -69,7 +69,7 @@ pub fn light_double_dashed_border() -> (line::Set<'static>, border::Set<'static>
     (line::LIGHT_DOUBLE_DASHED, border::LIGHT_DOUBLE_DASHED)
 }
 
-/// The set of heavy double dashed lines, and the border that is made of it.
+/// Returns the set of heavy double dashed lines, and the border that is made of it.
 pub fn heavy_double_dashed_border() -> (line::Set<'static>, border::Set<'static>)
     ensures lines { line_texts result.0
         ≡ with_dashes line_symbol.HEAVY_DOUBLE_DASH_VERTICAL.now
@@ -79,7 +79,7 @@ pub fn heavy_double_dashed_border() -> (line::Set<'static>, border::Set<'static>
     (line::HEAVY_DOUBLE_DASHED, border::HEAVY_DOUBLE_DASHED)
 }
 
-/// The set of light triple dashed lines, and the border that is made of it.
+/// Returns the set of light triple dashed lines, and the border that is made of it.
 pub fn light_triple_dashed_border() -> (line::Set<'static>, border::Set<'static>)
     ensures lines { line_texts result.0
         ≡ with_dashes line_symbol.LIGHT_TRIPLE_DASH_VERTICAL.now
@@ -89,7 +89,7 @@ pub fn light_triple_dashed_border() -> (line::Set<'static>, border::Set<'static>
     (line::LIGHT_TRIPLE_DASHED, border::LIGHT_TRIPLE_DASHED)
 }
 
-/// The set of heavy triple dashed lines, and the border that is made of it.
+/// Returns the set of heavy triple dashed lines, and the border that is made of it.
 pub fn heavy_triple_dashed_border() -> (line::Set<'static>, border::Set<'static>)
     ensures lines { line_texts result.0
         ≡ with_dashes line_symbol.HEAVY_TRIPLE_DASH_VERTICAL.now
@@ -99,7 +99,7 @@ pub fn heavy_triple_dashed_border() -> (line::Set<'static>, border::Set<'static>
     (line::HEAVY_TRIPLE_DASHED, border::HEAVY_TRIPLE_DASHED)
 }
 
-/// The set of light quadruple dashed lines, and the border that is made of it.
+/// Returns the set of light quadruple dashed lines, and the border that is made of it.
 pub fn light_quadruple_dashed_border() -> (line::Set<'static>, border::Set<'static>)
     ensures lines { line_texts result.0
         ≡ with_dashes line_symbol.LIGHT_QUADRUPLE_DASH_VERTICAL.now
@@ -109,7 +109,7 @@ pub fn light_quadruple_dashed_border() -> (line::Set<'static>, border::Set<'stat
     (line::LIGHT_QUADRUPLE_DASHED, border::LIGHT_QUADRUPLE_DASHED)
 }
 
-/// The set of heavy quadruple dashed lines, and the border that is made of it.
+/// Returns the set of heavy quadruple dashed lines, and the border that is made of it.
 pub fn heavy_quadruple_dashed_border() -> (line::Set<'static>, border::Set<'static>)
     ensures lines { line_texts result.0
         ≡ with_dashes line_symbol.HEAVY_QUADRUPLE_DASH_VERTICAL.now

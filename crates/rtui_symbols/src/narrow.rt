@@ -18,7 +18,7 @@ pub fn symbols_are_narrow()
     ensures lines { AreNarrowTexts normal_lines }
 {}
 
-/// The sets of borders: each symbol is narrow.
+/// Returns the sets of borders: each symbol is narrow.
 pub fn borders() -> [border::Set<'static>; 18]
     ensures sets { map border_texts result ≡ border_sets }
     ensures narrow { AreNarrowTexts (flat_map border_texts result) }
@@ -45,7 +45,7 @@ pub fn borders() -> [border::Set<'static>; 18]
     ]
 }
 
-/// The sets of lines: each symbol is narrow.
+/// Returns the sets of lines: each symbol is narrow.
 pub fn lines() -> [line::Set<'static>; 10]
     ensures sets { map line_texts result ≡ line_sets }
     ensures narrow { AreNarrowTexts (flat_map line_texts result) }
@@ -64,7 +64,7 @@ pub fn lines() -> [line::Set<'static>; 10]
     ]
 }
 
-/// The sets of scrollbars: each symbol is narrow.
+/// Returns the sets of scrollbars: each symbol is narrow.
 pub fn scrollbars() -> [scrollbar::Set<'static>; 4]
     ensures sets { map scrollbar_texts result ≡ scrollbar_sets }
     ensures narrow { AreNarrowTexts (flat_map scrollbar_texts result) }

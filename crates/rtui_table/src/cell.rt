@@ -20,7 +20,7 @@ pub struct Cell<'a> {
 }
 
 impl<'a> Cell<'a> {
-    /// A cell of a text; takes no memory.
+    /// Makes a cell of a text; takes no memory.
     pub fn new(content: Text<'a>) -> Cell<'a>
         ensures { result ≡ record { content = content.entry; style = new_style } }
     {
@@ -30,7 +30,7 @@ impl<'a> Cell<'a> {
         }
     }
 
-    /// A cell of a plain text, a line for each of its lines.
+    /// Makes a cell of a plain text, a line for each of its lines.
     ///
     /// # Errors
     ///
@@ -41,21 +41,21 @@ impl<'a> Cell<'a> {
         Ok(Cell::new(Text::raw(alloc, content)?))
     }
 
-    /// The cell with another text.
+    /// Sets the text of the cell.
     pub fn content(self, content: Text<'a>) -> Cell<'a>
         ensures { result ≡ record self.entry { content = content.entry } }
     {
         Cell { content, ..self }
     }
 
-    /// The cell in a style.
+    /// Sets the style of the cell.
     pub fn style(self, style: Style) -> Cell<'a>
         ensures { result ≡ record self.entry { style = style } }
     {
         Cell { style, ..self }
     }
 
-    /// An equal cell.
+    /// Makes an equal cell.
     ///
     /// # Errors
     ///

@@ -24,7 +24,7 @@ pub struct Row<'a> {
 }
 
 impl<'a> Row<'a> {
-    /// A row of these cells, one row high and without margins; takes no memory.
+    /// Makes a row of these cells, one row high and without margins; takes no memory.
     pub fn new(cells: Vec<Cell<'a>>) -> Row<'a>
         ensures { result ≡ record
             { cells = cells.entry; height = 1; top_margin = 0; bottom_margin = 0; style = new_style } }
@@ -38,7 +38,7 @@ impl<'a> Row<'a> {
         }
     }
 
-    /// A row of plain texts, a cell each, as [`Cell::raw`] makes it.
+    /// Makes a row of plain texts, a cell each, as [`Cell::raw`] makes it.
     ///
     /// ```
     /// let row = Row::raw(alloc, &["cpu", "97%"])?;
@@ -54,7 +54,7 @@ impl<'a> Row<'a> {
         Ok(Row::new(raw_cells(alloc, texts)?))
     }
 
-    /// A row of the cells that an iterator gives.
+    /// Makes a row of the cells that an iterator gives.
     ///
     /// # Conditions
     ///
@@ -75,21 +75,21 @@ impl<'a> Row<'a> {
         Ok(Row::new(Vec::from_iter(alloc, cells)?))
     }
 
-    /// The row of other cells.
+    /// Sets the cells of the row.
     pub fn cells(self, cells: Vec<Cell<'a>>) -> Row<'a>
         ensures { result ≡ record self.entry { cells = cells.entry } }
     {
         Row { cells, ..self }
     }
 
-    /// The row with its cells in so many rows of the screen.
+    /// Sets how many rows of the screen the cells take.
     pub fn height(self, height: u16) -> Row<'a>
         ensures { result ≡ record self.entry { height = height } }
     {
         Row { height, ..self }
     }
 
-    /// The row with so many free rows above its cells.
+    /// Sets how many free rows are above the cells.
     pub fn top_margin(self, margin: u16) -> Row<'a>
         ensures { result ≡ record self.entry { top_margin = margin } }
     {
@@ -99,7 +99,7 @@ impl<'a> Row<'a> {
         }
     }
 
-    /// The row with so many free rows below its cells.
+    /// Sets how many free rows are below the cells.
     pub fn bottom_margin(self, margin: u16) -> Row<'a>
         ensures { result ≡ record self.entry { bottom_margin = margin } }
     {
@@ -109,14 +109,14 @@ impl<'a> Row<'a> {
         }
     }
 
-    /// The row in a style, without its margins.
+    /// Sets the style of the row, without its margins.
     pub fn style(self, style: Style) -> Row<'a>
         ensures { result ≡ record self.entry { style = style } }
     {
         Row { style, ..self }
     }
 
-    /// An equal row.
+    /// Makes an equal row.
     ///
     /// # Errors
     ///
@@ -134,7 +134,7 @@ impl<'a> Row<'a> {
         })
     }
 
-    /// How many rows of the screen it takes, with its margins.
+    /// Returns how many rows of the screen it takes, with its margins.
     pub fn height_with_margin(&self) -> usize
         ensures value { result ≡ full_height self.now }
         ensures small { result ≤ 196605 }

@@ -15,7 +15,7 @@ pub struct TableState {
 }
 
 impl TableState {
-    /// The state that begins with the first row, and in which nothing is selected.
+    /// Makes a state that begins with the first row, and in which nothing is selected.
     pub fn new() -> TableState
         ensures { result ≡ record { offset = 0; selected = None; selected_column = None } }
     {
@@ -26,7 +26,7 @@ impl TableState {
         }
     }
 
-    /// The state that begins with this row.
+    /// Sets the row that the state begins with.
     pub fn with_offset(mut self, offset: usize) -> TableState
         ensures { result ≡ record self { offset = offset } }
     {
@@ -34,7 +34,7 @@ impl TableState {
         self
     }
 
-    /// The state in which this row is selected.
+    /// Sets the selected row.
     pub fn with_selected(mut self, selected: Option<usize>) -> TableState
         ensures { result ≡ record self { selected = selected } }
     {
@@ -42,7 +42,7 @@ impl TableState {
         self
     }
 
-    /// The state in which this column is selected.
+    /// Sets the selected column.
     pub fn with_selected_column(mut self, selected: Option<usize>) -> TableState
         ensures { result ≡ record self { selected_column = selected } }
     {
@@ -50,7 +50,7 @@ impl TableState {
         self
     }
 
-    /// The state in which the cell of this row and this column is selected, or no row and no column.
+    /// Sets the selected row and column to those of this cell, or to no row and no column.
     pub fn with_selected_cell(mut self, selected: Option<(usize, usize)>) -> TableState
         ensures { let row = option_map (λ cell. cell.0) selected in
             let column = option_map (λ cell. cell.1) selected in
@@ -69,14 +69,14 @@ impl TableState {
         self
     }
 
-    /// The first row that is shown.
+    /// Returns the first row that is shown.
     pub fn offset(&self) -> usize
         ensures { result ≡ self.now.offset }
     {
         self.offset
     }
 
-    /// The first row that is shown, to be written.
+    /// Returns the first row that is shown, to be written.
     pub fn offset_mut(&mut self) -> &mut usize
         ensures* writes_back { sem 𝓛 (LendsRowOffset self.entry result) }
         ensures value { result.now ≡ self.old.offset }
@@ -84,14 +84,15 @@ impl TableState {
         &mut self.offset
     }
 
-    /// The selected row.
+    /// Returns the selected row.
     pub fn selected(&self) -> Option<usize>
         ensures { result ≡ self.now.selected }
     {
         self.selected
     }
 
-    /// The selected row, to be written. The first row that is shown stays, also if none is selected.
+    /// Returns the selected row, to be written. The first row that is shown stays, also if none is
+    /// selected.
     pub fn selected_mut(&mut self) -> &mut Option<usize>
         ensures* writes_back { sem 𝓛 (LendsSelectedRow self.entry result) }
         ensures value { result.now ≡ self.old.selected }
@@ -99,14 +100,14 @@ impl TableState {
         &mut self.selected
     }
 
-    /// The selected column.
+    /// Returns the selected column.
     pub fn selected_column(&self) -> Option<usize>
         ensures { result ≡ self.now.selected_column }
     {
         self.selected_column
     }
 
-    /// The selected column, to be written.
+    /// Returns the selected column, to be written.
     pub fn selected_column_mut(&mut self) -> &mut Option<usize>
         ensures* writes_back { sem 𝓛 (LendsSelectedColumn self.entry result) }
         ensures value { result.now ≡ self.old.selected_column }
@@ -114,7 +115,7 @@ impl TableState {
         &mut self.selected_column
     }
 
-    /// The selected row and column, if both are.
+    /// Returns the selected row and column, if both are.
     pub fn selected_cell(&self) -> Option<(usize, usize)>
         ensures { result ≡ cell_of_state self.now }
     {

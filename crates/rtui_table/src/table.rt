@@ -50,8 +50,9 @@ pub struct Table<'a> {
 }
 
 impl<'a> Table<'a> {
-    /// A table of rows in columns of these widths, a column apart; without widths its columns are
-    /// all the same. It has no header, footer, box, styles and highlight symbol. Takes no memory.
+    /// Makes a table of rows in columns of these widths, a column apart; without widths its columns
+    /// are all the same. It has no header, footer, box, styles and highlight symbol. Takes no
+    /// memory.
     pub fn new(rows: Vec<Row<'a>>, widths: Vec<Constraint>) -> Table<'a>
         ensures { IsNewTable rows.entry.items widths.items result }
     {
@@ -72,8 +73,8 @@ impl<'a> Table<'a> {
         }
     }
 
-    /// A table of the rows that an iterator gives, in columns of these widths, a column apart;
-    /// without widths its columns are all the same.
+    /// Makes a table of the rows that an iterator gives, in columns of these widths, a column
+    /// apart; without widths its columns are all the same.
     ///
     /// ```
     /// let rows = [Row::raw(alloc, &["init", "0%"])?, Row::raw(alloc, &["sshd", "1%"])?];
@@ -104,7 +105,7 @@ impl<'a> Table<'a> {
         Ok(Table::new(rows, widths.to_vec(alloc)?))
     }
 
-    /// The table of other rows.
+    /// Sets the rows of the table.
     pub fn rows(mut self, rows: Vec<Row<'a>>) -> Table<'a>
         ensures { result ≡ record self.entry { rows = rows.entry } }
     {
@@ -112,7 +113,7 @@ impl<'a> Table<'a> {
         self
     }
 
-    /// The table with a row above the others, which stays in view.
+    /// Puts a row above the others, which stays in view.
     pub fn header(mut self, header: Row<'a>) -> Table<'a>
         ensures { result ≡ record self.entry { header = Some header.entry } }
     {
@@ -120,7 +121,7 @@ impl<'a> Table<'a> {
         self
     }
 
-    /// The table with a row below the others, which stays in view.
+    /// Puts a row below the others, which stays in view.
     pub fn footer(mut self, footer: Row<'a>) -> Table<'a>
         ensures { result ≡ record self.entry { footer = Some footer.entry } }
     {
@@ -128,7 +129,7 @@ impl<'a> Table<'a> {
         self
     }
 
-    /// The table with its columns of these widths; without any they are all the same.
+    /// Sets the widths of the columns; without any they are all the same.
     pub fn widths(mut self, widths: Vec<Constraint>) -> Table<'a>
         ensures { result ≡ record self.entry { widths = widths } }
     {
@@ -136,7 +137,7 @@ impl<'a> Table<'a> {
         self
     }
 
-    /// The table with so many columns of the screen between each two of its own.
+    /// Sets how many columns of the screen are between each two of the table's own.
     pub fn column_spacing(mut self, spacing: u16) -> Table<'a>
         ensures { result ≡ record self.entry { column_spacing = spacing } }
     {
@@ -144,7 +145,7 @@ impl<'a> Table<'a> {
         self
     }
 
-    /// The table in a box.
+    /// Puts the table in a box.
     pub fn block(mut self, block: Block<'a>) -> Table<'a>
         ensures { result ≡ record self.entry { block = Some block.entry } }
     {
@@ -152,7 +153,7 @@ impl<'a> Table<'a> {
         self
     }
 
-    /// The table in a style.
+    /// Sets the style of the table.
     pub fn style(mut self, style: Style) -> Table<'a>
         ensures { result ≡ record self.entry { style = style } }
     {
@@ -160,7 +161,7 @@ impl<'a> Table<'a> {
         self
     }
 
-    /// The table with its selected row in a style.
+    /// Sets the style of the selected row.
     pub fn row_highlight_style(mut self, style: Style) -> Table<'a>
         ensures { result ≡ record self.entry { row_highlight_style = style } }
     {
@@ -168,7 +169,7 @@ impl<'a> Table<'a> {
         self
     }
 
-    /// The table with its selected column in a style, over that of the row, where its rows stand;
+    /// Sets the style of the selected column, over that of the row, where the table's rows stand;
     /// without rows nothing is highlighted.
     pub fn column_highlight_style(mut self, style: Style) -> Table<'a>
         ensures { result ≡ record self.entry { column_highlight_style = style } }
@@ -177,7 +178,7 @@ impl<'a> Table<'a> {
         self
     }
 
-    /// The table with a style where its selected row and its selected column meet, over theirs.
+    /// Sets the style where the selected row and the selected column meet, over theirs.
     pub fn cell_highlight_style(mut self, style: Style) -> Table<'a>
         ensures { result ≡ record self.entry { cell_highlight_style = style } }
     {
@@ -185,7 +186,7 @@ impl<'a> Table<'a> {
         self
     }
 
-    /// The table with a symbol before its selected row.
+    /// Sets the symbol before the selected row.
     pub fn highlight_symbol(mut self, symbol: Text<'a>) -> Table<'a>
         ensures { result ≡ record self.entry { highlight_symbol = Some symbol.entry } }
     {
@@ -193,7 +194,7 @@ impl<'a> Table<'a> {
         self
     }
 
-    /// The table with this spacing: when the columns of the symbol stay free.
+    /// Sets when the columns of the symbol stay free.
     pub fn highlight_spacing(mut self, spacing: HighlightSpacing) -> Table<'a>
         ensures { result ≡ record self.entry { highlight_spacing = spacing } }
     {
@@ -201,7 +202,7 @@ impl<'a> Table<'a> {
         self
     }
 
-    /// The table with another place for the columns of the screen that its own leave.
+    /// Sets the place of the columns of the screen that the table's own leave.
     pub fn flex(mut self, flex: Flex) -> Table<'a>
         ensures { result ≡ record self.entry { flex = flex } }
     {
@@ -209,7 +210,7 @@ impl<'a> Table<'a> {
         self
     }
 
-    /// An equal table.
+    /// Makes an equal table.
     ///
     /// # Errors
     ///

@@ -41,8 +41,8 @@ pub struct Tabs<'a> {
 }
 
 impl<'a> Tabs<'a> {
-    /// Tabs with these titles, of which the first is selected: it is reversed. Before and after
-    /// each title stands a blank, and between each two a line. Takes no memory.
+    /// Makes tabs with these titles, of which the first is selected: it is reversed. Before and
+    /// after each title stands a blank, and between each two a line. Takes no memory.
     pub fn new(titles: Vec<Line<'a>>) -> Tabs<'a>
         ensures { IsNewTabs titles.entry.items result }
     {
@@ -58,8 +58,8 @@ impl<'a> Tabs<'a> {
         }
     }
 
-    /// Tabs with these plain texts as their titles, each as `Line::raw` makes it, of which the first
-    /// is selected.
+    /// Makes tabs with these plain texts as their titles, each as `Line::raw` makes it, of which
+    /// the first is selected.
     ///
     /// ```
     /// Tabs::raw(alloc, &["Files", "Log"])?.select(Some(1)).render(area, buf)?;
@@ -75,7 +75,7 @@ impl<'a> Tabs<'a> {
         Ok(Tabs::new(raw_lines(alloc, titles)?))
     }
 
-    /// Tabs with the titles that an iterator gives, of which the first is selected.
+    /// Makes tabs with the titles that an iterator gives, of which the first is selected.
     ///
     /// # Conditions
     ///
@@ -96,8 +96,8 @@ impl<'a> Tabs<'a> {
         Ok(Tabs::new(Vec::from_iter(alloc, titles)?))
     }
 
-    /// The tabs with other titles. The selected number stays, as far as there are titles; if none
-    /// was selected the first one is.
+    /// Sets the titles. The selected number stays, as far as there are titles; if none was selected
+    /// the first one is.
     pub fn titles(mut self, titles: Vec<Line<'a>>) -> Tabs<'a>
         ensures { let selected = selected_of (length titles.entry.items) self.entry.selected in
             result ≡ record self.entry { titles = titles.entry; selected = selected } }
@@ -107,7 +107,7 @@ impl<'a> Tabs<'a> {
         self
     }
 
-    /// The tabs in a box.
+    /// Puts the tabs in a box.
     pub fn block(mut self, block: Block<'a>) -> Tabs<'a>
         ensures { result ≡ record self.entry { block = Some block.entry } }
     {
@@ -115,7 +115,7 @@ impl<'a> Tabs<'a> {
         self
     }
 
-    /// The tabs with the title of this number selected, from 0 on, or none.
+    /// Selects the title of this number, from 0 on, or none.
     pub fn select(mut self, selected: Option<usize>) -> Tabs<'a>
         ensures { result ≡ record self.entry { selected = selected } }
     {
@@ -123,7 +123,7 @@ impl<'a> Tabs<'a> {
         self
     }
 
-    /// The tabs in a style.
+    /// Sets the style of the tabs.
     pub fn style(mut self, style: Style) -> Tabs<'a>
         ensures { result ≡ record self.entry { style = style } }
     {
@@ -131,7 +131,7 @@ impl<'a> Tabs<'a> {
         self
     }
 
-    /// The tabs with their selected title in a style.
+    /// Sets the style of the selected title.
     pub fn highlight_style(mut self, style: Style) -> Tabs<'a>
         ensures { result ≡ record self.entry { highlight_style = style } }
     {
@@ -139,7 +139,7 @@ impl<'a> Tabs<'a> {
         self
     }
 
-    /// The tabs with this text between each two titles.
+    /// Sets the text between each two titles.
     pub fn divider(mut self, divider: Span<'a>) -> Tabs<'a>
         ensures { result ≡ record self.entry { divider = divider.entry } }
     {
@@ -147,7 +147,7 @@ impl<'a> Tabs<'a> {
         self
     }
 
-    /// The tabs with these lines before and after each title.
+    /// Sets the lines before and after each title.
     pub fn padding(self, left: Line<'a>, right: Line<'a>) -> Tabs<'a>
         ensures { result ≡ record self.entry
             { padding_left = Some left.entry; padding_right = Some right.entry } }
@@ -155,7 +155,7 @@ impl<'a> Tabs<'a> {
         self.padding_left(left).padding_right(right)
     }
 
-    /// The tabs with this line before each title.
+    /// Sets the line before each title.
     pub fn padding_left(mut self, padding: Line<'a>) -> Tabs<'a>
         ensures { result ≡ record self.entry { padding_left = Some padding.entry } }
     {
@@ -163,7 +163,7 @@ impl<'a> Tabs<'a> {
         self
     }
 
-    /// The tabs with this line after each title.
+    /// Sets the line after each title.
     pub fn padding_right(mut self, padding: Line<'a>) -> Tabs<'a>
         ensures { result ≡ record self.entry { padding_right = Some padding.entry } }
     {
@@ -171,7 +171,7 @@ impl<'a> Tabs<'a> {
         self
     }
 
-    /// Equal tabs.
+    /// Makes equal tabs.
     ///
     /// # Errors
     ///

@@ -4,8 +4,8 @@ ghost use Rattle.rtui_cell.specs.Width.{text_columns, is_sound_mark};
 use crate::printable::is_printable_text;
 use unicode_width::UnicodeWidthStr;
 
-/// How many columns a text takes in a line: its Unicode width less the half-width katakana sound
-/// marks.
+/// Returns how many columns a text takes in a line: its Unicode width less the half-width katakana
+/// sound marks.
 #[tactic(auto, using(crate::proofs::PrintableLemmas::columns_rules))]
 pub fn text_columns(text: &str) -> usize
     ensures value { result ≡ text_columns text.now }

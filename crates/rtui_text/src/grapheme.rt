@@ -22,7 +22,7 @@ pub struct StyledGrapheme<'a> {
 }
 
 impl<'a> StyledGrapheme<'a> {
-    /// A grapheme in a style.
+    /// Makes a grapheme in a style.
     pub fn new(symbol: &'a str, style: Style) -> StyledGrapheme<'a>
         ensures symbol { result.symbol.now ≡ symbol.now }
         ensures style { result.style ≡ style }
@@ -30,8 +30,8 @@ impl<'a> StyledGrapheme<'a> {
         StyledGrapheme { symbol, style }
     }
 
-    /// Whether it is white space: the zero-width space, or nothing but white space and not the
-    /// no-break space.
+    /// Returns whether it is white space: the zero-width space, or nothing but white space and not
+    /// the no-break space.
     pub fn is_whitespace(&self) -> bool
         ensures { result ≡ is_whitespace_symbol self.now.symbol.now }
     {
@@ -47,7 +47,7 @@ fn is_white_space(text: &str) -> bool
     text.chars().all(|c| c.is_whitespace())
 }
 
-/// Whether a control character stands in a text.
+/// Returns whether a control character stands in a text.
 pub fn has_control(text: &str) -> bool
     ensures { result ≡ has_control text.now }
 {

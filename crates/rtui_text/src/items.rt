@@ -27,7 +27,7 @@ impl<T> Model for Items<T> {
 }
 
 impl<T: Drop> Items<T> {
-    /// No items yet; takes no memory.
+    /// Makes a list without items; takes no memory.
     pub fn new(alloc: Global) -> Items<T>
         ensures { result ≡ [] }
     {
@@ -36,41 +36,41 @@ impl<T: Drop> Items<T> {
         }
     }
 
-    /// The items, in order.
+    /// Returns the items, in order.
     pub fn as_slice(&self) -> &[T]
         ensures { result.now ≡ self.now }
     {
         self.items.as_slice()
     }
 
-    /// The items, in order, to be written. A caller's proof doesn't see what is written; through
-    /// `items` it does.
+    /// Returns the items, in order, to be written. A caller's proof doesn't see what is written;
+    /// through `items` it does.
     pub fn as_mut_slice(&mut self) -> &mut [T]
         ensures { result.now ≡ self.old }
     {
         self.items.as_mut_slice()
     }
 
-    /// What the list takes its memory from.
+    /// Returns what the list takes its memory from.
     pub fn allocator(&self) -> Global {
         *self.items.allocator()
     }
 
-    /// The items, one by one.
+    /// Returns the items, one by one.
     pub fn iter(&self) -> slice::Iter<'_, T>
         ensures { iter_rest result ≡ self.now }
     {
         self.items.iter()
     }
 
-    /// The items, one by one, to be written.
+    /// Returns the items, one by one, to be written.
     pub fn iter_mut(&mut self) -> slice::IterMut<'_, T>
         ensures { iter_mut_rest result ≡ self.old }
     {
         self.as_mut_slice().iter_mut()
     }
 
-    /// The list of the items; takes no memory.
+    /// Returns the list of the items; takes no memory.
     pub fn into_vec(self) -> Vec<T>
         ensures { result.items ≡ self }
     {
@@ -78,14 +78,14 @@ impl<T: Drop> Items<T> {
         items
     }
 
-    /// How many items there are.
+    /// Returns how many items there are.
     pub fn len(&self) -> usize
         ensures { result ≡ length self.now }
     {
         self.items.len()
     }
 
-    /// Whether there are none.
+    /// Returns whether there are none.
     pub fn is_empty(&self) -> bool
         ensures { IsTrue result ↔ (self.now ≡ []) }
     {

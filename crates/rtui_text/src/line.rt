@@ -63,15 +63,15 @@ impl<'a> Model for Line<'a> {
 }
 
 impl<'a> Line<'a> {
-    /// A line without spans, style or alignment; takes no memory.
+    /// Makes a line without spans, style or alignment; takes no memory.
     pub fn default_in(alloc: Global) -> Line<'a>
         ensures { result ≡ line_of [] }
     {
         Line::from(Spans::new(alloc))
     }
 
-    /// A plain span for each line of a text, none for the empty text. The line breaks themselves
-    /// vanish: the lines stand one after the other.
+    /// Makes a plain span for each line of a text, none for the empty text. The line breaks
+    /// themselves vanish: the lines stand one after the other.
     ///
     /// # Errors
     ///
@@ -96,7 +96,7 @@ impl<'a> Line<'a> {
         Line::from_span(alloc, Span::raw(content))
     }
 
-    /// The line that `raw` makes of a text, with a style of the whole.
+    /// Makes the line that `raw` makes of a text, with a style of the whole.
     ///
     /// # Errors
     ///
@@ -109,7 +109,7 @@ impl<'a> Line<'a> {
         Ok(line)
     }
 
-    /// The same line as `raw` makes of the text, with copies of its lines.
+    /// Makes the same line as `raw` makes of the text, with copies of its lines.
     ///
     /// # Errors
     ///
@@ -131,7 +131,7 @@ impl<'a> Line<'a> {
         Ok(Line::from(spans))
     }
 
-    /// A line of one span.
+    /// Makes a line of one span.
     ///
     /// # Errors
     ///
@@ -142,7 +142,7 @@ impl<'a> Line<'a> {
         Ok(Line::from(vec![in alloc; span]?))
     }
 
-    /// A line of spans equal to these.
+    /// Makes a line of spans equal to these.
     ///
     /// # Errors
     ///
@@ -154,7 +154,7 @@ impl<'a> Line<'a> {
         Ok(Line::from(Spans::from_slice(alloc, spans)?))
     }
 
-    /// The line with spans equal to these in place of its own.
+    /// Puts spans equal to these in place of the line's own.
     ///
     /// # Errors
     ///
@@ -167,7 +167,7 @@ impl<'a> Line<'a> {
         Ok(Line { spans, ..self })
     }
 
-    /// The line in another style.
+    /// Sets the style of the line.
     pub fn style(mut self, style: Style) -> Line<'a>
         ensures { result ≡ record self.entry { style = style } }
     {
@@ -175,7 +175,7 @@ impl<'a> Line<'a> {
         self
     }
 
-    /// The line with a style laid over its own.
+    /// Lays a style over the line's own.
     pub fn patch_style(mut self, style: Style) -> Line<'a>
         ensures { result ≡ record self.entry { style = patch self.entry.style style } }
     {
@@ -183,15 +183,15 @@ impl<'a> Line<'a> {
         self
     }
 
-    /// The line with a style laid over its own that sets all colours to the terminal's and takes
-    /// every modifier away.
+    /// Lays a style over the line's own that sets all colours to the terminal's and takes every
+    /// modifier away.
     pub fn reset_style(self) -> Line<'a>
         ensures { result ≡ record self.entry { style = patch self.entry.style reset_style } }
     {
         self.patch_style(Style::reset())
     }
 
-    /// The line with this alignment.
+    /// Sets the alignment of the line.
     pub fn alignment(mut self, alignment: HorizontalAlignment) -> Line<'a>
         ensures { result ≡ record self.entry { alignment = Some alignment } }
     {
@@ -199,29 +199,29 @@ impl<'a> Line<'a> {
         self
     }
 
-    /// The line, aligned to the left.
+    /// Aligns the line to the left.
     pub fn left_aligned(self) -> Line<'a>
         ensures { result ≡ record self.entry { alignment = Some HorizontalAlignment.Left } }
     {
         self.alignment(HorizontalAlignment::Left)
     }
 
-    /// The line, centred.
+    /// Centres the line.
     pub fn centered(self) -> Line<'a>
         ensures { result ≡ record self.entry { alignment = Some HorizontalAlignment.Center } }
     {
         self.alignment(HorizontalAlignment::Center)
     }
 
-    /// The line, aligned to the right.
+    /// Aligns the line to the right.
     pub fn right_aligned(self) -> Line<'a>
         ensures { result ≡ record self.entry { alignment = Some HorizontalAlignment.Right } }
     {
         self.alignment(HorizontalAlignment::Right)
     }
 
-    /// The graphemes without a control character, each in its span's style over the line's over a
-    /// base style.
+    /// Returns the graphemes without a control character, each in its span's style over the line's
+    /// over a base style.
     pub fn styled_graphemes<'l>(&'l self, base_style: Style) -> LineGraphemes<'l, 'a>
         ensures { line_graphemes_left result
             ≡ line_graphemes (patch base_style self.now.style) self.now.spans }
@@ -229,21 +229,21 @@ impl<'a> Line<'a> {
         LineGraphemes::new(self.spans.as_slice(), base_style.patch(self.style))
     }
 
-    /// The spans, one by one.
+    /// Returns the spans, one by one.
     pub fn iter(&self) -> slice::Iter<'_, Span<'a>>
         ensures { iter_rest result ≡ self.now.spans }
     {
         self.spans.iter()
     }
 
-    /// The spans, one by one, to be written.
+    /// Returns the spans, one by one, to be written.
     pub fn iter_mut(&mut self) -> slice::IterMut<'_, Span<'a>>
         ensures { iter_mut_rest result ≡ self.old.spans }
     {
         self.spans.iter_mut()
     }
 
-    /// A line of the spans that an iterator gives.
+    /// Makes a line of the spans that an iterator gives.
     ///
     /// # Conditions
     ///
@@ -297,7 +297,7 @@ impl<'a> Line<'a> {
         self.spans.push(span)
     }
 
-    /// The line with a span after the others.
+    /// Puts a span after the others.
     ///
     /// # Errors
     ///
@@ -309,7 +309,7 @@ impl<'a> Line<'a> {
         Ok(self)
     }
 
-    /// A text of this line and another one below it.
+    /// Makes a text of this line and another one below it.
     ///
     /// # Errors
     ///
@@ -320,7 +320,7 @@ impl<'a> Line<'a> {
         Text::from_line(self.spans.allocator(), self)?.try_add_line(line)
     }
 
-    /// The texts of the spans, one after the other.
+    /// Returns the texts of the spans, one after the other.
     ///
     /// # Errors
     ///
@@ -336,7 +336,7 @@ impl<'a> Line<'a> {
         Ok(content)
     }
 
-    /// How many columns the spans take together, at most the greatest `usize`.
+    /// Returns how many columns the spans take together, at most the greatest `usize`.
     pub fn width(&self) -> usize
         ensures { result ≡ line_width self.now.spans }
     {
@@ -347,7 +347,7 @@ impl<'a> Line<'a> {
         width
     }
 
-    /// An equal line.
+    /// Makes an equal line.
     ///
     /// # Errors
     ///

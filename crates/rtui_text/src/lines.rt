@@ -10,7 +10,7 @@ use std::alloc::{AllocError, Global};
 pub type Lines<'a> = Items<Line<'a>>;
 
 impl<'a> Items<Line<'a>> {
-    /// Lines equal to these.
+    /// Makes lines equal to these.
     ///
     /// # Errors
     ///
@@ -26,7 +26,7 @@ impl<'a> Items<Line<'a>> {
         Ok(Lines { items })
     }
 
-    /// Equal lines.
+    /// Makes equal lines.
     ///
     /// # Errors
     ///

@@ -40,7 +40,7 @@ impl<'a> Model for Masked<'a> {
 }
 
 impl<'a> Masked<'a> {
-    /// A borrowed text, and the character to show.
+    /// Takes a borrowed text, and the character to show.
     pub fn new(text: &'a str, mask_char: char) -> Masked<'a>
         ensures { result ≡ record { content = text.now; mask_char = mask_char } }
     {
@@ -50,7 +50,7 @@ impl<'a> Masked<'a> {
         }
     }
 
-    /// An owned text, and the character to show.
+    /// Takes an owned text, and the character to show.
     pub fn from_string(text: String, mask_char: char) -> Masked<'a>
         ensures { result ≡ record { content = string_bytes text; mask_char = mask_char } }
     {
@@ -60,14 +60,14 @@ impl<'a> Masked<'a> {
         }
     }
 
-    /// The character to show.
+    /// Returns the character to show.
     pub fn mask_char(&self) -> char
         ensures { result ≡ self.now.mask_char }
     {
         self.mask_char
     }
 
-    /// What is shown, in a text of its own.
+    /// Returns what is shown, in a text of its own.
     ///
     /// # Errors
     ///
@@ -79,7 +79,7 @@ impl<'a> Masked<'a> {
         Ok(CowStr::Owned(self.shown(alloc)?))
     }
 
-    /// What is shown, as a text of lines.
+    /// Returns what is shown, as a text of lines.
     ///
     /// # Errors
     ///
@@ -90,7 +90,7 @@ impl<'a> Masked<'a> {
         Text::raw_string(alloc, self.shown(alloc)?)
     }
 
-    /// An equal one, which borrows what this one borrows.
+    /// Makes an equal one, which borrows what this one borrows.
     ///
     /// # Errors
     ///

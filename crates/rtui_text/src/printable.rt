@@ -6,9 +6,9 @@ ghost use Rattle.std.specs.Str.{IsCharBoundary};
 ghost use Rattle.unicode_segmentation.specs.Grapheme.{graphemes};
 ghost use Rattle.rtui_text.specs.Printable.{IsPrintable, ArePrintable, IsPrintableFront, singles};
 
-/// How many bytes a text begins with, at most `max`, that are printable characters of ASCII and
-/// graphemes of their own: a character beyond ASCII may join the one before it, which isn't counted
-/// then. Each takes one column.
+/// Returns how many bytes a text begins with, at most `max`, that are printable characters of ASCII
+/// and graphemes of their own: a character beyond ASCII may join the one before it, which isn't
+/// counted then. Each takes one column.
 #[tactic(auto, using(crate::proofs::PrintableLemmas::front_rules))]
 pub fn printable_front(text: &str, max: usize) -> usize
     ensures front { IsPrintableFront text.now result }

@@ -51,14 +51,14 @@ impl<'a> Model for Span<'a> {
 }
 
 impl<'a> Span<'a> {
-    /// A borrowed text in the style that changes nothing.
+    /// Makes a span of a borrowed text in the style that changes nothing.
     pub fn raw(content: &'a str) -> Span<'a>
         ensures { result ≡ unstyled content.now }
     {
         Span::styled(content, Style::new())
     }
 
-    /// A borrowed text in a style.
+    /// Makes a span of a borrowed text in a style.
     pub fn styled(content: &'a str, style: Style) -> Span<'a>
         ensures { result ≡ record { style = style; content = content.now } }
     {
@@ -66,7 +66,7 @@ impl<'a> Span<'a> {
         Span { style, content }
     }
 
-    /// The span with another text, which it borrows.
+    /// Sets the text of the span, which borrows it.
     pub fn content(mut self, content: &'a str) -> Span<'a>
         ensures { result ≡ record self.entry { content = content.now } }
     {
@@ -74,7 +74,7 @@ impl<'a> Span<'a> {
         self
     }
 
-    /// The span in another style.
+    /// Sets the style of the span.
     pub fn style(mut self, style: Style) -> Span<'a>
         ensures { result ≡ record self.entry { style = style } }
     {
@@ -82,7 +82,7 @@ impl<'a> Span<'a> {
         self
     }
 
-    /// The span with a style laid over its own.
+    /// Lays a style over the span's own.
     pub fn patch_style(mut self, style: Style) -> Span<'a>
         ensures { result ≡ record self.entry { style = patch self.entry.style style } }
     {
@@ -90,36 +90,37 @@ impl<'a> Span<'a> {
         self
     }
 
-    /// The span with a style laid over its own that sets all colours to the terminal's and takes
-    /// every modifier away.
+    /// Lays a style over the span's own that sets all colours to the terminal's and takes every
+    /// modifier away.
     pub fn reset_style(self) -> Span<'a>
         ensures { result ≡ record self.entry { style = patch self.entry.style reset_style } }
     {
         self.patch_style(Style::reset())
     }
 
-    /// The text.
+    /// Returns the text.
     pub fn text(&self) -> &str
         ensures { result.now ≡ self.now.content }
     {
         self.content.as_str()
     }
 
-    /// How many columns the text takes. The half-width katakana sound marks take none.
+    /// Returns how many columns the text takes. The half-width katakana sound marks take none.
     pub fn width(&self) -> usize
         ensures { result ≡ span_width self.now }
     {
         text_columns(self.text())
     }
 
-    /// The graphemes without a control character, each in the span's style over a base style.
+    /// Returns the graphemes without a control character, each in the span's style over a base
+    /// style.
     pub fn styled_graphemes(&self, base_style: Style) -> SpanGraphemes<'_>
         ensures { span_graphemes_left result ≡ span_graphemes base_style self.now }
     {
         SpanGraphemes::new(self.text(), base_style.patch(self.style))
     }
 
-    /// A line of this span, aligned to the left.
+    /// Makes a line of this span, aligned to the left.
     ///
     /// # Errors
     ///
@@ -131,7 +132,7 @@ impl<'a> Span<'a> {
         Ok(Line::from_span(alloc, self)?.left_aligned())
     }
 
-    /// The old name of `into_left_aligned_line`.
+    /// Makes a line of this span, aligned to the left: the old name of `into_left_aligned_line`.
     ///
     /// # Errors
     ///
@@ -143,7 +144,7 @@ impl<'a> Span<'a> {
         self.into_left_aligned_line(alloc)
     }
 
-    /// A line of this span, centred.
+    /// Makes a line of this span, centred.
     ///
     /// # Errors
     ///
@@ -155,7 +156,7 @@ impl<'a> Span<'a> {
         Ok(Line::from_span(alloc, self)?.centered())
     }
 
-    /// The old name of `into_centered_line`.
+    /// Makes a line of this span, centred: the old name of `into_centered_line`.
     ///
     /// # Errors
     ///
@@ -167,7 +168,7 @@ impl<'a> Span<'a> {
         self.into_centered_line(alloc)
     }
 
-    /// A line of this span, aligned to the right.
+    /// Makes a line of this span, aligned to the right.
     ///
     /// # Errors
     ///
@@ -179,7 +180,7 @@ impl<'a> Span<'a> {
         Ok(Line::from_span(alloc, self)?.right_aligned())
     }
 
-    /// The old name of `into_right_aligned_line`.
+    /// Makes a line of this span, aligned to the right: the old name of `into_right_aligned_line`.
     ///
     /// # Errors
     ///
@@ -191,7 +192,7 @@ impl<'a> Span<'a> {
         self.into_right_aligned_line(alloc)
     }
 
-    /// A line of this span and another after it.
+    /// Makes a line of this span and another after it.
     ///
     /// # Errors
     ///
@@ -202,7 +203,7 @@ impl<'a> Span<'a> {
         Line::from_span(alloc, self)?.try_add(other)
     }
 
-    /// An equal span, which borrows what this one borrows.
+    /// Makes an equal span, which borrows what this one borrows.
     ///
     /// # Errors
     ///

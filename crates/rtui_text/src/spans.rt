@@ -8,7 +8,7 @@ use std::alloc::{AllocError, Global};
 pub type Spans<'a> = Items<Span<'a>>;
 
 impl<'a> Items<Span<'a>> {
-    /// Spans equal to these.
+    /// Makes spans equal to these.
     ///
     /// # Errors
     ///
@@ -24,7 +24,7 @@ impl<'a> Items<Span<'a>> {
         Ok(Spans { items })
     }
 
-    /// Equal spans.
+    /// Makes equal spans.
     ///
     /// # Errors
     ///

@@ -53,14 +53,14 @@ impl<'a> Model for Text<'a> {
 }
 
 impl<'a> Text<'a> {
-    /// A text without lines, style or alignment; takes no memory.
+    /// Makes a text without lines, style or alignment; takes no memory.
     pub fn default_in(alloc: Global) -> Text<'a>
         ensures { result ≡ text_of [] }
     {
         Text::from(Lines::new(alloc))
     }
 
-    /// A line for each line of a text, and one without spans for the empty text.
+    /// Makes a line for each line of a text, and one without spans for the empty text.
     ///
     /// # Errors
     ///
@@ -78,7 +78,7 @@ impl<'a> Text<'a> {
         Ok(Text::from(lines))
     }
 
-    /// The same text as `raw` makes, with copies of the lines.
+    /// Makes the same text as `raw` makes, with copies of the lines.
     ///
     /// # Errors
     ///
@@ -103,7 +103,7 @@ impl<'a> Text<'a> {
         Ok(Text::from(lines))
     }
 
-    /// The text that `raw` makes, with a style of the whole.
+    /// Makes the text that `raw` makes, with a style of the whole.
     ///
     /// # Errors
     ///
@@ -114,7 +114,7 @@ impl<'a> Text<'a> {
         Ok(Text::raw(alloc, content)?.style(style))
     }
 
-    /// A text of one line of one span.
+    /// Makes a text of one line of one span.
     ///
     /// # Errors
     ///
@@ -125,7 +125,7 @@ impl<'a> Text<'a> {
         Text::from_line(alloc, Line::from_span(alloc, span)?)
     }
 
-    /// A text of one line.
+    /// Makes a text of one line.
     ///
     /// # Errors
     ///
@@ -136,7 +136,7 @@ impl<'a> Text<'a> {
         Ok(Text::from(vec![in alloc; line]?))
     }
 
-    /// A text of lines equal to these.
+    /// Makes a text of lines equal to these.
     ///
     /// # Errors
     ///
@@ -148,7 +148,7 @@ impl<'a> Text<'a> {
         Ok(Text::from(Lines::from_slice(alloc, lines)?))
     }
 
-    /// How many columns the widest line takes; 0 if there are no lines.
+    /// Returns how many columns the widest line takes; 0 if there are no lines.
     pub fn width(&self) -> usize
         ensures { result ≡ widest self.now.lines }
     {
@@ -159,14 +159,14 @@ impl<'a> Text<'a> {
         width
     }
 
-    /// How many lines there are.
+    /// Returns how many lines there are.
     pub fn height(&self) -> usize
         ensures { result ≡ length self.now.lines }
     {
         self.lines.len()
     }
 
-    /// The text in another style.
+    /// Sets the style of the text.
     pub fn style(mut self, style: Style) -> Text<'a>
         ensures { result ≡ record self.entry { style = style } }
     {
@@ -174,7 +174,7 @@ impl<'a> Text<'a> {
         self
     }
 
-    /// The text with a style laid over its own.
+    /// Lays a style over the text's own.
     pub fn patch_style(mut self, style: Style) -> Text<'a>
         ensures { result ≡ record self.entry { style = patch self.entry.style style } }
     {
@@ -182,15 +182,15 @@ impl<'a> Text<'a> {
         self
     }
 
-    /// The text with a style laid over its own that sets all colours to the terminal's and takes
-    /// every modifier away.
+    /// Lays a style over the text's own that sets all colours to the terminal's and takes every
+    /// modifier away.
     pub fn reset_style(self) -> Text<'a>
         ensures { result ≡ record self.entry { style = patch self.entry.style reset_style } }
     {
         self.patch_style(Style::reset())
     }
 
-    /// The text with this alignment for each line that has none of its own.
+    /// Sets the alignment of each line that has none of its own.
     pub fn alignment(mut self, alignment: HorizontalAlignment) -> Text<'a>
         ensures { result ≡ record self.entry { alignment = Some alignment } }
     {
@@ -198,42 +198,42 @@ impl<'a> Text<'a> {
         self
     }
 
-    /// The text, aligned to the left.
+    /// Aligns the text to the left.
     pub fn left_aligned(self) -> Text<'a>
         ensures { result ≡ record self.entry { alignment = Some HorizontalAlignment.Left } }
     {
         self.alignment(HorizontalAlignment::Left)
     }
 
-    /// The text, centred.
+    /// Centres the text.
     pub fn centered(self) -> Text<'a>
         ensures { result ≡ record self.entry { alignment = Some HorizontalAlignment.Center } }
     {
         self.alignment(HorizontalAlignment::Center)
     }
 
-    /// The text, aligned to the right.
+    /// Aligns the text to the right.
     pub fn right_aligned(self) -> Text<'a>
         ensures { result ≡ record self.entry { alignment = Some HorizontalAlignment.Right } }
     {
         self.alignment(HorizontalAlignment::Right)
     }
 
-    /// The lines, one by one.
+    /// Returns the lines, one by one.
     pub fn iter(&self) -> slice::Iter<'_, Line<'a>>
         ensures { iter_rest result ≡ self.now.lines }
     {
         self.lines.iter()
     }
 
-    /// The lines, one by one, to be written.
+    /// Returns the lines, one by one, to be written.
     pub fn iter_mut(&mut self) -> slice::IterMut<'_, Line<'a>>
         ensures { iter_mut_rest result ≡ self.old.lines }
     {
         self.lines.iter_mut()
     }
 
-    /// A text of the lines that an iterator gives.
+    /// Makes a text of the lines that an iterator gives.
     ///
     /// # Conditions
     ///
@@ -314,7 +314,7 @@ impl<'a> Text<'a> {
         self.lines.append(text.lines)
     }
 
-    /// The text with a line below the others.
+    /// Puts a line below the others.
     ///
     /// # Errors
     ///
@@ -327,7 +327,7 @@ impl<'a> Text<'a> {
         Ok(self)
     }
 
-    /// The text with the lines of another one below its own.
+    /// Puts the lines of another text below the others.
     ///
     /// # Errors
     ///
@@ -340,7 +340,7 @@ impl<'a> Text<'a> {
         Ok(self)
     }
 
-    /// An equal text.
+    /// Makes an equal text.
     ///
     /// # Errors
     ///

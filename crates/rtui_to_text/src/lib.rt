@@ -21,7 +21,7 @@ pub trait ToSpan {
     // what it prints, if that is stated
     ghost printed_text: { Self → Option (List ℕ) };
 
-    /// A span of what it prints.
+    /// Makes a span of what it prints.
     ///
     /// # Errors
     ///
@@ -45,7 +45,7 @@ pub trait ToLine {
     // what it prints, if that is stated
     ghost printed_text: { Self → Option (List ℕ) };
 
-    /// A line of what it prints, as `Line::raw_string` makes it.
+    /// Makes a line of what it prints, as `Line::raw_string` makes it.
     ///
     /// # Errors
     ///
@@ -69,7 +69,7 @@ pub trait ToText {
     // what it prints, if that is stated
     ghost printed_text: { Self → Option (List ℕ) };
 
-    /// A text of what it prints, as `Text::raw_string` makes it.
+    /// Makes a text of what it prints, as `Text::raw_string` makes it.
     ///
     /// # Errors
     ///

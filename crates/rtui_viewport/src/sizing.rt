@@ -8,8 +8,8 @@ use crate::viewport::Viewport;
 use rtui_backend::Backend;
 use rtui_geometry::Rect;
 
-/// The area that a new viewport is placed on: a fixed one's own, for which no call is made, or else
-/// the whole screen.
+/// Returns the area that a new viewport is placed on: a fixed one's own, for which no call is made,
+/// or else the whole screen.
 ///
 /// # Conditions
 ///
@@ -33,8 +33,8 @@ pub fn first_area<B: Backend>(backend: &mut B, viewport: Viewport) -> Result<Rec
     Ok(Rect::from(backend.size()?))
 }
 
-/// The area that a viewport has to be placed on again: the whole screen, if that isn't the last
-/// known one. A fixed viewport stays, and no call is made for it.
+/// Returns the area that a viewport has to be placed on again: the whole screen, if that isn't the
+/// last known one. A fixed viewport stays, and no call is made for it.
 ///
 /// # Errors
 ///

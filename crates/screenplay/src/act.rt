@@ -48,7 +48,7 @@ impl<'a> Model for Acts<'a> {
 }
 
 impl<'a> Acts<'a> {
-    /// No acts; it takes no memory.
+    /// Makes a list without acts; takes no memory.
     pub fn new(alloc: Global) -> Acts<'a>
         ensures { result ≡ [] }
     {
@@ -57,7 +57,7 @@ impl<'a> Acts<'a> {
         }
     }
 
-    /// One more act after the others.
+    /// Appends an act.
     ///
     /// # Errors
     ///
@@ -70,7 +70,7 @@ impl<'a> Acts<'a> {
         Ok(())
     }
 
-    /// The acts, in order.
+    /// Returns the acts, in order.
     pub fn as_slice(&self) -> &[Act<'a>]
         ensures { result.now ≡ self.now }
     {

@@ -69,7 +69,7 @@ fn paint(
     Ok(frame.is_settled())
 }
 
-/// A terminal over a blank stage.
+/// Makes a terminal over a blank stage.
 ///
 /// # Conditions
 ///
@@ -357,7 +357,7 @@ fn add_scene(
     Ok(())
 }
 
-/// Plays steps on a blank stage: the scene at the start, and one after each step.
+/// Plays steps on a blank stage, and answers the scene at the start, and one after each step.
 ///
 /// # Conditions
 ///

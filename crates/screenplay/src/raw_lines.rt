@@ -29,14 +29,14 @@ impl<'a> LineRest<'a> {
         LineRest { text }
     }
 
-    /// The same rest.
+    /// Copies the rest.
     pub fn copied(&self) -> LineRest<'a>
         ensures { result ≡ self.now }
     {
         LineRest { text: self.text }
     }
 
-    /// A line of this text.
+    /// Makes a line of this text.
     ///
     /// # Errors
     ///
@@ -67,7 +67,7 @@ impl<'a> Model for RawLines<'a> {
 }
 
 impl<'a> RawLines<'a> {
-    /// No lines; it takes no memory.
+    /// Makes a text without lines; takes no memory.
     pub fn new(alloc: Global) -> RawLines<'a>
         ensures { result ≡ text_of [] }
     {
@@ -76,14 +76,14 @@ impl<'a> RawLines<'a> {
         }
     }
 
-    /// How many lines there are.
+    /// Returns how many lines there are.
     pub fn len(&self) -> usize
         ensures { result ≡ length self.now.lines }
     {
         self.items.len()
     }
 
-    /// One more line below the others.
+    /// Appends a line below the others.
     ///
     /// # Errors
     ///
@@ -97,7 +97,7 @@ impl<'a> RawLines<'a> {
         Ok(())
     }
 
-    /// The text, as far as a screen can have rows for it.
+    /// Makes the text, as far as a screen can have rows for it.
     ///
     /// # Errors
     ///

@@ -34,7 +34,7 @@ impl Model for Puts {
 }
 
 impl Puts {
-    /// No puts; it takes no memory.
+    /// Makes a list without puts; takes no memory.
     pub fn new(alloc: Global) -> Puts
         ensures { result ≡ [] }
     {
@@ -43,7 +43,7 @@ impl Puts {
         }
     }
 
-    /// One more put after the others.
+    /// Appends a put.
     ///
     /// # Errors
     ///
@@ -56,14 +56,14 @@ impl Puts {
         Ok(())
     }
 
-    /// The puts, in order.
+    /// Returns the puts, in order.
     pub fn as_slice(&self) -> &[(u16, u16, char)]
         ensures { result.now ≡ self.now }
     {
         self.items.as_slice()
     }
 
-    /// The list of the puts; takes no memory.
+    /// Returns the list of the puts; takes no memory.
     pub fn into_vec(self) -> Vec<(u16, u16, char)>
         ensures { result.items ≡ self }
     {

@@ -8,7 +8,7 @@ ghost use Rattle.script_words.specs.Words.{first_word, after_word, parsed_number
 
 use rtui_geometry::Size;
 
-/// The first word of a text, and what stands after the blank that follows it.
+/// Returns the first word of a text, and what stands after the blank that follows it.
 pub fn split_word(text: &str) -> (&str, &str)
     ensures first { result.0.now ≡ first_word text.now }
     ensures after { result.1.now ≡ after_word text.now }
@@ -25,7 +25,7 @@ fn are_digits(text: &str) -> bool
     text.bytes().all(|byte| byte.is_ascii_digit())
 }
 
-/// A number of decimal digits, at most 65535.
+/// Reads a number of decimal digits, at most 65535.
 pub fn read_number(text: &str) -> Option<u16>
     ensures { result ≡ parsed_number text.now }
 {
@@ -36,7 +36,7 @@ pub fn read_number(text: &str) -> Option<u16>
     }
 }
 
-/// Two numbers as a size, if both are at least 1.
+/// Returns two numbers as a size, if both are at least 1.
 pub fn size_by(width: Option<u16>, height: Option<u16>) -> Option<Size>
     ensures value { result ≡ size_by width height }
     ensures some { IfSome result (λ size. (0 < size.width) × (0 < size.height)) }
@@ -49,7 +49,7 @@ pub fn size_by(width: Option<u16>, height: Option<u16>) -> Option<Size>
     }
 }
 
-/// A number of columns and one of rows, both at least 1, with a blank between them.
+/// Reads a number of columns and one of rows, both at least 1, with a blank between them.
 #[tactic(auto, unfolding(crate::specs::Words::parsed_size))]
 pub fn read_size(text: &str) -> Option<Size>
     ensures value { result ≡ parsed_size text.now }

@@ -20,7 +20,7 @@ pub struct Stopwatch {
 }
 
 impl Stopwatch {
-    /// No time has gone; it runs.
+    /// Makes a stopwatch on which no time has gone; it runs.
     pub fn new() -> Stopwatch
         ensures { result ≡ record { nanos = 0; is_running = true; is_over = false } }
     {

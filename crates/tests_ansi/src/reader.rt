@@ -397,8 +397,8 @@ impl<'a> Reader<'a> {
         Ok(())
     }
 
-    /// Whether it is sure of what it shows, and these are all the rows that scrolled off, without
-    /// what its history had before.
+    /// Returns whether it is sure of what it shows, and these are all the rows that scrolled off,
+    /// without what its history had before.
     pub fn has_above(&self, rows: &[&str]) -> bool {
         self.sure
             && self.history.len().checked_sub(self.rows_left) == Some(rows.len())
@@ -410,7 +410,7 @@ impl<'a> Reader<'a> {
                 .all(|(row, text)| are_letters(row.as_slice(), text))
     }
 
-    /// Whether a place is covered by a symbol that begins left of it.
+    /// Returns whether a place is covered by a symbol that begins left of it.
     pub fn is_behind(&self, x: u16, y: u16) -> bool {
         match self.column(x, y) {
             Some(column) => 0 < column.index,
@@ -418,8 +418,8 @@ impl<'a> Reader<'a> {
         }
     }
 
-    /// Whether it is sure of what it shows, with its cursor in this place, and shows what a screen
-    /// in memory does, below the rows that were left in its history.
+    /// Returns whether it is sure of what it shows, with its cursor in this place, and shows what a
+    /// screen in memory does, below the rows that were left in its history.
     pub fn shows(&self, cursor: Position, screen: &TestBackend) -> bool {
         let x = self.x.min(self.width.saturating_sub(1));
         let is_calm = self.sure

@@ -16,7 +16,7 @@ pub struct Tearing {
 }
 
 impl Tearing {
-    /// A writer that fails after so many calls.
+    /// Makes a writer that fails after so many calls.
     pub fn new(alloc: Global, calls: u64) -> Tearing {
         Tearing {
             sent: Vec::new(alloc),

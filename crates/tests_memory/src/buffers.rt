@@ -17,7 +17,7 @@ fn letter(place: usize) -> char {
     }
 }
 
-/// A buffer of this size with a letter in each cell.
+/// Makes a buffer of this size with a letter in each cell.
 pub fn letters(alloc: Global, width: u16, height: u16) -> Result<Buffer, AllocError> {
     let mut buffer = Buffer::empty(alloc, Rect::new(0, 0, width, height))?;
     for (place, cell) in buffer.cells_mut().iter_mut().enumerate() {

@@ -26,8 +26,8 @@ impl fmt::Display for Outcome {
     }
 }
 
-/// What came of a call that was refused or not, left what it should or not, and was right when it
-/// was made again or not.
+/// Returns what came of a call that was refused or not, left what it should or not, and was right
+/// when it was made again or not.
 pub fn judged(is_refused: bool, is_left: bool, is_right: bool) -> Outcome {
     if !is_left || !is_right {
         Outcome::Broken
@@ -38,7 +38,7 @@ pub fn judged(is_refused: bool, is_left: bool, is_right: bool) -> Outcome {
     }
 }
 
-/// The same of a play, by the step before which it was refused, if it was.
+/// Returns the same of a play, by the step before which it was refused, if it was.
 pub fn judged_at(refused: Option<usize>, is_left: bool, is_right: bool) -> Outcome {
     match refused {
         Some(step) if is_left && is_right => Outcome::HeldAt(step),
@@ -51,11 +51,11 @@ pub const LONG: &str = "\u{1F468}\u{200D}\u{1F469}\u{200D}\u{1F467}\u{200D}\u{1F
 
 /// The cases of a module: calls that take memory, each with a name.
 pub trait Cases {
-    /// The names, in the order of the cases' numbers. The name of a case whose call takes no memory
-    /// ends in `: no memory`.
+    /// Returns the names, in the order of the cases' numbers. The name of a case whose call takes
+    /// no memory ends in `: no memory`.
     fn names() -> &'static [&'static str];
 
-    /// What came of the case of this number.
+    /// Returns what came of the case of this number.
     ///
     /// # Errors
     ///

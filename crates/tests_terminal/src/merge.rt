@@ -132,7 +132,7 @@ static SYMBOLS: &str = "\
 ╾ p-t-
 ╿ -t-p";
 
-/// The arms of a text by the table above, if it is a border symbol.
+/// Returns the arms of a text by the table above, if it is a border symbol.
 fn arms_of(text: &str) -> Option<&'static str> {
     for line in SYMBOLS.lines() {
         if let Some((symbol, arms)) = line.split_once(' ') {
@@ -144,14 +144,15 @@ fn arms_of(text: &str) -> Option<&'static str> {
     None
 }
 
-/// Whether there is an arm just if one of the other two has one.
+/// Returns whether there is an arm just if one of the other two has one.
 fn has_arms_of_both(joined: &str, prev: &str, next: &str) -> bool {
     let both = prev.bytes().zip(next.bytes());
     joined.bytes().zip(both).all(|(arm, (prev, next))| (arm != b'-')
         == (prev != b'-' || next != b'-'))
 }
 
-/// The half of a line in this style, of a plain and a thick one, and no text if there is no arm.
+/// Returns the half of a line in this style, of a plain and a thick one, and no text if there is no
+/// arm.
 fn half(style: u8, plain: &'static str, thick: &'static str) -> Option<&'static str> {
     match style {
         b'-' => Some(""),
@@ -171,7 +172,7 @@ fn join(prev: &'static str, next: &'static str) -> &'static str {
     }
 }
 
-/// The join of two texts that there may be.
+/// Returns the join of two texts, if both are there.
 fn joined(prev: Option<&'static str>, next: Option<&'static str>) -> Option<&'static str> {
     match (prev, next) {
         (Some(prev), Some(next)) => Some(join(prev, next)),
@@ -179,7 +180,7 @@ fn joined(prev: Option<&'static str>, next: Option<&'static str>) -> Option<&'st
     }
 }
 
-/// The join of the halves of lines that have these arms, if there are such halves.
+/// Returns the join of the halves of lines that have these arms, if there are such halves.
 fn joined_halves(arms: &str) -> Option<&'static str> {
     match arms.as_bytes() {
         [right, up, left, down] => {
@@ -191,7 +192,8 @@ fn joined_halves(arms: &str) -> Option<&'static str> {
     }
 }
 
-/// The symbol and the arms of a line of the table above, or no texts if there aren't four arms.
+/// Returns the symbol and the arms of a line of the table above, or no texts if there aren't four
+/// arms.
 fn symbol_and_arms(line: &'static str) -> (&'static str, &'static str) {
     match line.split_once(' ') {
         Some((symbol, arms)) if arms.len() == 4 => (symbol, arms),
@@ -199,8 +201,8 @@ fn symbol_and_arms(line: &'static str) -> (&'static str, &'static str) {
     }
 }
 
-/// Whether of two symbols Fuzzy gives one with an arm just if one of them has one, and Replace the
-/// second.
+/// Returns whether of two symbols Fuzzy gives one with an arm just if one of them has one, and
+/// Replace the second.
 fn gives_arms_of_both(prev_line: &'static str, next_line: &'static str) -> bool {
     let (prev, prev_arms) = symbol_and_arms(prev_line);
     let (next, next_arms) = symbol_and_arms(next_line);
@@ -228,7 +230,7 @@ fn all_pairs(rt: HostRuntime) {
     assert!(rt; pairs == 15625);
 }
 
-/// Whether a symbol over itself stays.
+/// Returns whether a symbol over itself stays.
 fn stays(line: &'static str) -> bool {
     let (symbol, arms) = symbol_and_arms(line);
     arms_of(symbol) == Some(arms)
@@ -236,7 +238,7 @@ fn stays(line: &'static str) -> bool {
         && MergeStrategy::Fuzzy.merge(symbol, symbol) == symbol
 }
 
-/// Whether the halves of a symbol join to it, if it has some.
+/// Returns whether the halves of a symbol join to it, if it has some.
 fn is_joined_of_halves(line: &'static str) -> Option<bool> {
     let (symbol, arms) = symbol_and_arms(line);
     match joined_halves(arms) {
@@ -259,7 +261,7 @@ fn all_symbols(rt: HostRuntime) {
     assert!(rt; rebuilt == 80);
 }
 
-/// The style of an arm by its letter in the table above.
+/// Returns the style of an arm by its letter in the table above.
 fn style(letter: u8) -> LineStyle {
     match letter {
         b'p' => LineStyle::Plain,
@@ -276,7 +278,7 @@ fn style(letter: u8) -> LineStyle {
     }
 }
 
-/// Whether a border symbol has these arms.
+/// Returns whether a border symbol has these arms.
 fn has_arms(symbol: BorderSymbol, arms: &str) -> bool {
     match arms.as_bytes() {
         [right, up, left, down] => {
@@ -289,7 +291,7 @@ fn has_arms(symbol: BorderSymbol, arms: &str) -> bool {
     }
 }
 
-/// Whether a symbol is read as its arms, and found by them.
+/// Returns whether a symbol is read as its arms, and found by them.
 fn is_read(line: &'static str) -> bool {
     let (text, arms) = symbol_and_arms(line);
     match BorderSymbol::from_str(text) {

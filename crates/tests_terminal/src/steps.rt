@@ -6,7 +6,7 @@ use rtui_terminal::Terminal;
 use std::alloc::{AllocError, Global};
 use std::test::Fail;
 
-/// A terminal over a blank screen of this size.
+/// Makes a terminal over a blank screen of this size.
 pub fn terminal(alloc: Global, width: u16, height: u16) -> Result<Terminal<TestBackend>, Fail> {
     let backend = TestBackend::new(alloc, width, height)?;
     match Terminal::new(alloc, backend) {

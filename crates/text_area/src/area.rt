@@ -109,49 +109,49 @@ impl TextArea {
         })
     }
 
-    /// Answers the whole text, with a line feed between each two lines.
+    /// Returns the whole text, with a line feed between each two lines.
     pub fn text(&self) -> &str
         ensures { result.now ≡ area_text self.now }
     {
         self.journal.draft().text()
     }
 
-    /// Answers the text before the cursor.
+    /// Returns the text before the cursor.
     pub fn before(&self) -> &str
         ensures { result.now ≡ area_before self.now }
     {
         self.journal.draft().before()
     }
 
-    /// Answers the text after the cursor.
+    /// Returns the text after the cursor.
     pub fn after(&self) -> &str
         ensures { result.now ≡ area_after self.now }
     {
         self.journal.draft().after()
     }
 
-    /// Answers what was killed last: what `yank` types. At first it is empty.
+    /// Returns what was killed last: what `yank` types. At first it is empty.
     pub fn killed(&self) -> &str
         ensures { result.now ≡ self.now.killed }
     {
         self.killed.as_str()
     }
 
-    /// Answers whether there is no text.
+    /// Returns whether there is no text.
     pub fn is_empty(&self) -> bool
         ensures { IsTrue result ↔ (area_text self.now ≡ []) }
     {
         self.text().is_empty()
     }
 
-    /// Answers how many lines there are: one more than line feeds. It reads the whole text.
+    /// Returns how many lines there are: one more than line feeds. It reads the whole text.
     pub fn line_count(&self) -> usize
         ensures { result ≡ feeds (area_text self.now) + 1 }
     {
         feeds(self.text()) + 1
     }
 
-    /// Answers a line without its line feed, or `None` if no line has this number. The first one
+    /// Returns a line without its line feed, or `None` if no line has this number. The first one
     /// has the number 0. It reads the text up to there.
     pub fn line(&self, number: usize) -> Option<&str>
         ensures some { IfSome result (λ line. line.now ≡ nth_line number (area_text self.now)) }
@@ -161,7 +161,7 @@ impl TextArea {
         line(self.text(), number)
     }
 
-    /// Answers the number of the line in which the cursor stands, and how many graphemes stand
+    /// Returns the number of the line in which the cursor stands, and how many graphemes stand
     /// before it there. It reads the text before the cursor.
     pub fn cursor(&self) -> (usize, usize)
         ensures line { result.0 ≡ feeds (area_before self.now) }
@@ -171,7 +171,7 @@ impl TextArea {
         (feeds(before), column_after(before))
     }
 
-    /// Answers the byte of the text at which the cursor stands.
+    /// Returns the byte of the text at which the cursor stands.
     pub fn cursor_byte(&self) -> usize
         ensures value { result ≡ area_cursor self.now }
         ensures boundary { IsCharBoundary (area_text self.now) result }
@@ -242,7 +242,7 @@ impl TextArea {
         self.aim = aim;
     }
 
-    /// Says how many lines a page has.
+    /// Sets how many lines a page has.
     pub fn set_page(&mut self, lines: usize)
         ensures { self.new ≡ record self.old { page = lines } }
     {
@@ -257,7 +257,8 @@ impl TextArea {
         self.journal.forget(most);
     }
 
-    /// Answers between which bytes of the text is selected. Without a selection both are the cursor's.
+    /// Returns between which bytes of the text is selected. Without a selection both are the
+    /// cursor's.
     pub fn selection(&self) -> (usize, usize)
         ensures value { result ≡ selection self.now }
         ensures order { result.0 ≤ result.1 }
@@ -282,7 +283,7 @@ impl TextArea {
         ends(self.cursor_byte(), self.target(to))
     }
 
-    /// Answers what is selected: nothing if there is no selection.
+    /// Returns what is selected: nothing if there is no selection.
     pub fn selected(&self) -> &str
         ensures { result.now ≡ selected self.now }
     {
@@ -495,14 +496,14 @@ impl TextArea {
         Ok(())
     }
 
-    /// Answers whether there is anything to undo.
+    /// Returns whether there is anything to undo.
     pub fn can_undo(&self) -> bool
         ensures { IsTrue result ↔ (0 < length self.now.journal.past) }
     {
         self.journal.can_undo()
     }
 
-    /// Answers whether there is anything to redo.
+    /// Returns whether there is anything to redo.
     pub fn can_redo(&self) -> bool
         ensures { IsTrue result ↔ (0 < length self.now.journal.future) }
     {

@@ -37,7 +37,7 @@ fn last_before(text: &str, to: usize, pattern: &str) -> Option<(usize, usize)>
 }
 
 impl TextArea {
-    /// Answers between which bytes of the text a pattern occurs first after what is selected, or
+    /// Returns between which bytes of the text a pattern occurs first after what is selected, or
     /// after the cursor; or `None` if it doesn't occur there.
     pub fn find_next(&self, pattern: &str) -> Option<(usize, usize)>
         ensures some { IfSome result (λ part.
@@ -49,7 +49,7 @@ impl TextArea {
         first_from(self.text(), self.selection().1, pattern)
     }
 
-    /// Answers between which bytes of the text a pattern occurs last before what is selected, or
+    /// Returns between which bytes of the text a pattern occurs last before what is selected, or
     /// before the cursor; or `None` if it doesn't occur there.
     pub fn find_former(&self, pattern: &str) -> Option<(usize, usize)>
         ensures some { IfSome result (λ part.

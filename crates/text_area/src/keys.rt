@@ -231,7 +231,7 @@ fn key_edit(key: KeyEvent) -> Option<AreaEdit>
     }
 }
 
-/// Answers the edit that an event asks of a text area, or `None` if it asks none.
+/// Returns the edit that an event asks of a text area, or `None` if it asks none.
 ///
 /// A character that is typed or pasted is inserted, and Enter begins a new line. Arrows, Home, End,
 /// PageUp and PageDown move, Backspace and Delete delete a grapheme. With Control or Alt, Left and

@@ -41,7 +41,7 @@ fn start_after(text: &str, number: usize, start: usize) -> Option<usize>
 }
 
 impl TextArea {
-    /// Answers the byte of the text at which a line begins, or `None` if no line has this number.
+    /// Returns the byte of the text at which a line begins, or `None` if no line has this number.
     /// The first one has the number 0. It reads the text up to there.
     pub fn line_start(&self, number: usize) -> Option<usize>
         ensures some { IfSome result (λ start. start ≡ nth_start number (area_text self.now)) }
@@ -52,7 +52,7 @@ impl TextArea {
         nth_start(self.text(), number)
     }
 
-    /// Answers the text from a byte on up to the end of its line: of a byte at which a line begins
+    /// Returns the text from a byte on up to the end of its line: of a byte at which a line begins
     /// this is the line, without its line feed. It reads that line alone.
     ///
     /// # Conditions
@@ -65,7 +65,7 @@ impl TextArea {
         line_from(self.text(), start)
     }
 
-    /// Answers the byte at which the line after a line begins, or `None` if that is the last one.
+    /// Returns the byte at which the line after a line begins, or `None` if that is the last one.
     /// It reads the line of the number alone.
     ///
     /// # Conditions
@@ -83,7 +83,7 @@ impl TextArea {
         start_after(self.text(), number, start)
     }
 
-    /// Answers the part of the cursor's line before the cursor, and the part after it. It reads
+    /// Returns the part of the cursor's line before the cursor, and the part after it. It reads
     /// that line alone.
     pub fn cursor_line(&self) -> (&str, &str)
         ensures before { result.0.now ≡ last_line (area_before self.now) }

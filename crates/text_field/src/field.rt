@@ -147,49 +147,49 @@ impl TextField {
         self
     }
 
-    /// Answers how many characters there may be, or `None` if there is no limit.
+    /// Returns how many characters there may be, or `None` if there is no limit.
     pub fn limit(&self) -> Option<usize>
         ensures { result ≡ self.now.limit }
     {
         self.limit
     }
 
-    /// Answers the whole text.
+    /// Returns the whole text.
     pub fn text(&self) -> &str
         ensures { result.now ≡ field_text self.now }
     {
         self.text.as_str()
     }
 
-    /// Answers the text before the cursor.
+    /// Returns the text before the cursor.
     pub fn before(&self) -> &str
         ensures { result.now ≡ self.now.before }
     {
         self.text.as_str().split_at(self.at).0
     }
 
-    /// Answers the text after the cursor.
+    /// Returns the text after the cursor.
     pub fn after(&self) -> &str
         ensures { result.now ≡ self.now.after }
     {
         self.text.as_str().split_at(self.at).1
     }
 
-    /// Answers what was killed last: what `yank` types. At first it is empty.
+    /// Returns what was killed last: what `yank` types. At first it is empty.
     pub fn killed(&self) -> &str
         ensures { result.now ≡ self.now.killed }
     {
         self.killed.as_str()
     }
 
-    /// Answers whether there is no text.
+    /// Returns whether there is no text.
     pub fn is_empty(&self) -> bool
         ensures { IsTrue result ↔ (field_text self.now ≡ []) }
     {
         self.text.is_empty()
     }
 
-    /// Answers the byte of the text at which the view began when the field was rendered last: of
+    /// Returns the byte of the text at which the view began when the field was rendered last: of
     /// what is shown in its place if it was masked.
     pub fn view_start(&self) -> usize
         ensures { result ≡ self.now.first }
@@ -197,7 +197,7 @@ impl TextField {
         self.first
     }
 
-    /// Answers the column and the row of the buffer in which the cursor stood when the field was
+    /// Returns the column and the row of the buffer in which the cursor stood when the field was
     /// rendered last, or `None` if there was no place for it.
     pub fn cursor_place(&self) -> Option<(u16, u16)>
         ensures { result ≡ self.now.place }

@@ -56,14 +56,14 @@ impl History {
         }
     }
 
-    /// Answers whether there is anything to undo.
+    /// Returns whether there is anything to undo.
     pub fn can_undo(&self) -> bool
         ensures { IsTrue result ↔ (0 < length self.now.past) }
     {
         self.past.len() > 0
     }
 
-    /// Answers whether there is anything to redo.
+    /// Returns whether there is anything to redo.
     pub fn can_redo(&self) -> bool
         ensures { IsTrue result ↔ (0 < length self.now.future) }
     {

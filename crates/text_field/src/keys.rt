@@ -143,7 +143,7 @@ fn key_edit(key: KeyEvent) -> Option<Edit>
     }
 }
 
-/// Answers the edit that an event asks of a field, or `None` if it asks none.
+/// Returns the edit that an event asks of a field, or `None` if it asks none.
 ///
 /// A character that is typed or pasted is inserted. Left and Right move by a grapheme, Home and End
 /// over all; Backspace and Delete delete a grapheme. With Control or Alt these four go over words,

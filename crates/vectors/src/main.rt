@@ -15,9 +15,16 @@ use std::alloc::Global;
 use std::process::ExitCode;
 use std::{env, fs, io};
 
-// Checks the rows of a file, and prints what came of them; how many don't hold.
+// Checks the rows of a file, and prints what came of them; how many don't hold. A file that can't be
+// read counts as one.
 fn check_file(rt: &HostRuntime, alloc: Global, name: &str) -> io::Result<usize> {
-    let text = fs::read_to_string(rt, name)?;
+    let text = match fs::read_to_string(rt, name) {
+        Ok(text) => text,
+        Err(fault) => {
+            eprintln!(rt; "vectors: {name}: {fault}")?;
+            return Ok(1);
+        }
+    };
     let subject = name.strip_suffix(".rows").unwrap_or(name);
     let mut tally = Tally::new(alloc);
     for line in text.as_str().lines() {

@@ -2,9 +2,9 @@
 use row_words::answer::Answer;
 use row_words::args::Args;
 use row_words::error::RowError;
-use screenplay::run;
+use screenplay::{PlayCause, RunError, StepError, run};
 
-/// Runs a script: what it prints, or why it fails.
+/// Runs a script, and adds what it prints, or why it fails if not for want of memory.
 pub fn script(args: &mut Args<'_>, answer: &mut Answer) -> Result<(), RowError> {
     if args.word()? != "run" {
         return Err(RowError::Unread);
@@ -16,6 +16,11 @@ pub fn script(args: &mut Args<'_>, answer: &mut Answer) -> Result<(), RowError> 
             Ok(text) => answer.add(text.as_str()),
             Err(_) => Err(RowError::Unread),
         },
+        Err(RunError::Memory)
+        | Err(RunError::Step(StepError {
+            cause: PlayCause::Memory,
+            ..
+        })) => Err(RowError::Memory),
         Err(fault) => answer.refused(&fault),
     }
 }

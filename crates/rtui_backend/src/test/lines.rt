@@ -121,8 +121,8 @@ impl TestBackend {
     ghost use Rattle.std.specs.Prelude.{None};
     ghost use Rattle.rtui_backend.specs.TestBackend.{failures_of, told_after};
 
-    /// A screen that shows these lines, a row each, as a buffer made by `Buffer::from_texts` of
-    /// them does, its cursor visible in the corner.
+    /// Makes a screen that shows these lines, a row each, as a buffer made by `Buffer::from_texts`
+    /// of them does, its cursor visible in the corner.
     ///
     /// # Conditions
     ///
@@ -164,7 +164,7 @@ impl TestBackend {
         &self.buffer.content()[start..start + width]
     }
 
-    /// Whether the screen shows these lines, symbol by symbol, as a buffer made by
+    /// Returns whether the screen shows these lines, symbol by symbol, as a buffer made by
     /// `Buffer::from_texts` of them does: it has as many rows as there are lines and as many
     /// columns as the widest of them.
     pub fn lines_are(&self, lines: &[&str]) -> bool
@@ -184,8 +184,8 @@ impl TestBackend {
         true
     }
 
-    /// Whether the rows that scrolled off the screen show these lines, symbol by symbol, as a
-    /// buffer made by `Buffer::from_texts` of them does: there are as many rows as lines, each as
+    /// Returns whether the rows that scrolled off the screen show these lines, symbol by symbol, as
+    /// a buffer made by `Buffer::from_texts` of them does: there are as many rows as lines, each as
     /// wide as the widest of the lines.
     pub fn scrollback_is(&self, lines: &[&str]) -> bool
         ensures { IsTrue result ↔ HistoryHasLines (raw_lines lines.now) (screen_of self.now) }

@@ -7,7 +7,7 @@ use crate::title::Title;
 use std::alloc::{AllocError, Global};
 
 impl<'a> Block<'a> {
-    /// An equal box.
+    /// Makes an equal box.
     ///
     /// # Errors
     ///

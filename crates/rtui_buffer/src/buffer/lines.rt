@@ -104,8 +104,8 @@ impl Buffer {
         Ok((x + used, y))
     }
 
-    /// A buffer at the corner `(0, 0)` with these lines, each in a row of its own: as wide as the
-    /// widest of them, and as high as there are lines.
+    /// Makes a buffer at the corner `(0, 0)` with these lines, each in a row of its own: as wide as
+    /// the widest of them, and as high as there are lines.
     ///
     /// # Conditions
     ///
@@ -133,7 +133,7 @@ impl Buffer {
         Ok(Buffer { area, content })
     }
 
-    /// A buffer with a line for each of these texts, as `with_lines` makes it.
+    /// Makes a buffer with a line for each of these texts, as `with_lines` makes it.
     ///
     /// # Conditions
     ///
@@ -159,8 +159,8 @@ impl Buffer {
     }
 }
 
-/// The greatest width of these lines in columns: that of the buffer that `Buffer::with_lines`
-/// makes.
+/// Returns the greatest width of these lines in columns: that of the buffer that
+/// `Buffer::with_lines` makes.
 pub fn lines_width(lines: &[Line<'_>]) -> usize
     ensures { result ≡ widest lines.now }
 {
@@ -171,8 +171,8 @@ pub fn lines_width(lines: &[Line<'_>]) -> usize
     width
 }
 
-/// The greatest width of these texts in columns, each as a raw line: that of the buffer that
-/// `Buffer::from_texts` makes.
+/// Returns the greatest width of these texts in columns, each as a raw line: that of the buffer
+/// that `Buffer::from_texts` makes.
 pub fn texts_width(texts: &[&str]) -> usize
     ensures { result ≡ widest (raw_lines texts.now) }
 {

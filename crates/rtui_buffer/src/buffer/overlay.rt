@@ -14,7 +14,8 @@ use rtui_grid::{Block, move_block};
 use std::alloc::{AllocError, Global};
 
 impl Buffer {
-    /// A buffer without cells, over the empty area in the corner of the grid; takes no memory.
+    /// Makes a buffer without cells, over the empty area in the corner of the grid; takes no
+    /// memory.
     pub fn default_in(alloc: Global) -> Buffer
         ensures area { result.area ≡ no_area }
         ensures cells { result.cells ≡ [] }

@@ -231,7 +231,7 @@ fn paint_graphemes(
     Ok(used)
 }
 
-/// How many columns a grapheme is painted in: none if it has a control character.
+/// Returns how many columns a grapheme is painted in: none if it has a control character.
 #[tactic(auto, unfolding(crate::specs::Painting::painted_width))]
 pub fn painted_width(grapheme: &str) -> u16
     ensures { result ≡ painted_width grapheme.now }

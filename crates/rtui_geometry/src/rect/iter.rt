@@ -27,7 +27,7 @@ impl Model for Rows {
 }
 
 impl Rows {
-    /// All rows of the rectangle.
+    /// Makes the iterator over all rows of the rectangle.
     pub fn new(rect: Rect) -> Self
         ensures { result ≡ rows_of rect }
     {
@@ -100,7 +100,7 @@ impl Model for Columns {
 }
 
 impl Columns {
-    /// All columns of the rectangle.
+    /// Makes the iterator over all columns of the rectangle.
     pub fn new(rect: Rect) -> Self
         ensures { result ≡ columns_of rect }
     {
@@ -176,7 +176,7 @@ impl Model for Positions {
 }
 
 impl Positions {
-    /// All positions of the rectangle.
+    /// Makes the iterator over all positions of the rectangle.
     #[tactic(auto, using(crate::proofs::Places::walk))]
     pub fn new(rect: Rect) -> Self
         ensures { result ≡ positions_of rect }

@@ -7,7 +7,7 @@ use rtui_boxes::cloned_block;
 use std::alloc::{AllocError, Global};
 
 impl<'a> Paragraph<'a> {
-    /// An equal paragraph.
+    /// Makes an equal paragraph.
     ///
     /// # Errors
     ///

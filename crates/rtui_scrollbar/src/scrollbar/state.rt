@@ -24,7 +24,7 @@ pub struct ScrollbarState {
 }
 
 impl ScrollbarState {
-    /// A state at the start of a content of this length.
+    /// Makes a state at the start of a content of this length.
     pub fn new(content_length: usize) -> ScrollbarState
         ensures { result ≡ record
             { content_length = content_length; position = 0; viewport_content_length = 0 } }
@@ -36,7 +36,7 @@ impl ScrollbarState {
         }
     }
 
-    /// The state at a position.
+    /// Sets the position.
     pub fn position(mut self, position: usize) -> ScrollbarState
         ensures { result ≡ record self { position = position } }
     {
@@ -44,7 +44,7 @@ impl ScrollbarState {
         self
     }
 
-    /// The state with a content of this length.
+    /// Sets the length of the content.
     pub fn content_length(mut self, content_length: usize) -> ScrollbarState
         ensures { result ≡ record self { content_length = content_length } }
     {
@@ -52,7 +52,7 @@ impl ScrollbarState {
         self
     }
 
-    /// The state in which so much is seen at once.
+    /// Sets how much is seen at once.
     pub fn viewport_content_length(mut self, length: usize) -> ScrollbarState
         ensures { result ≡ record self { viewport_content_length = length } }
     {
@@ -60,21 +60,21 @@ impl ScrollbarState {
         self
     }
 
-    /// The position.
+    /// Returns the position.
     pub fn get_position(&self) -> usize
         ensures { result ≡ self.now.position }
     {
         self.position
     }
 
-    /// One back, if there is one.
+    /// Moves one position back, if there is one.
     pub fn prev(&mut self)
         ensures { self.new ≡ record self.old { position = self.old.position - 1 } }
     {
         self.position = self.position.saturating_sub(1);
     }
 
-    /// One on, as far as the content goes.
+    /// Moves one position on, as far as the content goes.
     pub fn next(&mut self)
         ensures { self.new ≡ moved_on self.old }
     {
@@ -82,21 +82,21 @@ impl ScrollbarState {
         self.position = self.position.saturating_add(1).min(last);
     }
 
-    /// To the start.
+    /// Moves to the start.
     pub fn first(&mut self)
         ensures { self.new ≡ record self.old { position = 0 } }
     {
         self.position = 0;
     }
 
-    /// To the last row or column.
+    /// Moves to the last row or column.
     pub fn last(&mut self)
         ensures { self.new ≡ record self.old { position = self.old.content_length - 1 } }
     {
         self.position = self.content_length.saturating_sub(1);
     }
 
-    /// One on or back.
+    /// Moves one position on or back.
     pub fn scroll(&mut self, direction: ScrollDirection)
         ensures { self.new ≡ scrolled_by direction self.old }
     {

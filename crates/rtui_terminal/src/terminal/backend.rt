@@ -12,14 +12,14 @@ use rtui_backend::Backend;
 use rtui_geometry::{Rect, Size};
 
 impl<B: Backend> Terminal<B> {
-    /// The backend.
+    /// Returns the backend.
     pub fn backend(&self) -> &B
         ensures { result.now ≡ self.now.backend }
     {
         &self.backend
     }
 
-    /// The backend, to be written. The terminal doesn't know what is changed on its screen.
+    /// Returns the backend, to be written. The terminal doesn't know what is changed on its screen.
     pub fn backend_mut(&mut self) -> &mut B
         ensures* writes_back { sem 𝓛 (LendsBackend B.row B.Error.row B.Backend B.Error.Debug
             B.Error.Display self.entry result) }
@@ -28,8 +28,8 @@ impl<B: Backend> Terminal<B> {
         &mut self.backend
     }
 
-    /// The backend, when the terminal is done with: as the last call left it. A cursor that the
-    /// terminal hid stays hidden.
+    /// Returns the backend, when the terminal is done with: as the last call left it. A cursor that
+    /// the terminal hid stays hidden.
     pub fn into_backend(self) -> B
         ensures { result ≡ self.backend }
     {
@@ -46,22 +46,23 @@ impl<B: Backend> Terminal<B> {
         backend
     }
 
-    /// The viewport: the part of the screen that is drawn on, in columns and rows.
+    /// Returns the viewport: the part of the screen that is drawn on, in columns and rows.
     pub fn viewport_area(&self) -> Rect
         ensures { result ≡ self.now.viewport_area }
     {
         self.viewport_area
     }
 
-    /// The area of the screen when the terminal last asked for it, in columns and rows: a draw on
-    /// a screen of another size resizes first. A fixed viewport's own area stays in its place.
+    /// Returns the area of the screen when the terminal last asked for it, in columns and rows: a
+    /// draw on a screen of another size resizes first. A fixed viewport's own area stays in its
+    /// place.
     pub fn last_known_area(&self) -> Rect
         ensures { result ≡ self.now.last_known_area }
     {
         self.last_known_area
     }
 
-    /// The size of the backend's screen, in columns and rows.
+    /// Returns the size of the backend's screen, in columns and rows.
     ///
     /// # Errors
     ///

@@ -32,8 +32,8 @@ fn write_differences<B: Backend>(
 }
 
 impl<B: Backend> Terminal<B> {
-    /// A new frame over the current buffer, without a cursor. To paint outside a draw in a way that
-    /// a proof sees, use `current_buffer_mut`.
+    /// Makes a new frame over the current buffer, without a cursor. To paint outside a draw in a
+    /// way that a proof sees, use `current_buffer_mut`.
     pub fn get_frame(&mut self) -> Frame<'_>
         ensures* writes_back { sem 𝓛 (LendsCurrent B.row B.Error.row B.Backend B.Error.Debug
             B.Error.Display self.entry result.buffer.ghost_name) }
@@ -50,7 +50,7 @@ impl<B: Backend> Terminal<B> {
         }
     }
 
-    /// The buffer to paint on.
+    /// Returns the buffer to paint on.
     pub fn current_buffer_mut(&mut self) -> &mut Buffer
         ensures* writes_back { sem 𝓛 (LendsCurrent B.row B.Error.row B.Backend B.Error.Debug
             B.Error.Display self.entry result.ghost_name) }

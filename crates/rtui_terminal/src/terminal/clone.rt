@@ -7,7 +7,7 @@ use rtui_backend::Backend;
 use std::alloc::{AllocError, Global};
 
 impl<B: Backend + Clone> Terminal<B> {
-    /// An equal terminal over a clone of the backend.
+    /// Makes an equal terminal over a clone of the backend.
     ///
     /// # Conditions
     ///

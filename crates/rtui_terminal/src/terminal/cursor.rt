@@ -48,14 +48,14 @@ impl<B: Backend> Terminal<B> {
         Ok(())
     }
 
-    /// Whether the terminal hid the cursor and didn't show it since.
+    /// Returns whether the terminal hid the cursor and didn't show it since.
     pub fn is_cursor_hidden(&self) -> bool
         ensures { result ≡ self.now.hidden_cursor }
     {
         self.hidden_cursor
     }
 
-    /// The old name of `get_cursor_position`: the column and the row.
+    /// Returns the column and the row of the cursor: the old name of `get_cursor_position`.
     ///
     /// # Errors
     ///
@@ -74,7 +74,7 @@ impl<B: Backend> Terminal<B> {
         Ok((position.x, position.y))
     }
 
-    /// The old name of `set_cursor_position`.
+    /// Moves the cursor: the old name of `set_cursor_position`.
     ///
     /// # Errors
     ///
@@ -91,7 +91,7 @@ impl<B: Backend> Terminal<B> {
         self.set_cursor_position(Position { x, y })
     }
 
-    /// Where the cursor is, on the screen.
+    /// Returns where the cursor is, on the screen.
     ///
     /// # Errors
     ///

@@ -30,35 +30,35 @@ impl Frame<'_> {
     ghost use Rattle.rtui_terminal.specs.Borrows.{LendsBuffer};
     ghost use Rattle.rtui_terminal.specs.Frames.{KeepsFrame};
 
-    /// The area of the viewport, in columns and rows of the screen.
+    /// Returns the area of the viewport, in columns and rows of the screen.
     pub fn area(&self) -> Rect
         ensures { result ≡ self.now.viewport_area }
     {
         self.viewport_area
     }
 
-    /// The old name of `area`.
+    /// Returns the area of the viewport: the old name of `area`.
     pub fn size(&self) -> Rect
         ensures { result ≡ self.now.viewport_area }
     {
         self.viewport_area
     }
 
-    /// Where the cursor is to be after the draw; a frame without one hides it.
+    /// Sets where the cursor is to be after the draw; a frame without one hides it.
     pub fn set_cursor_position(&mut self, position: Position)
         ensures { self.new ≡ record self.old { cursor_position = Some position } }
     {
         self.cursor_position = Some(position);
     }
 
-    /// The old name of `set_cursor_position`.
+    /// Sets where the cursor is to be after the draw: the old name of `set_cursor_position`.
     pub fn set_cursor(&mut self, x: u16, y: u16)
         ensures { self.new ≡ record self.old { cursor_position = Some (record { x = x; y = y }) } }
     {
         self.set_cursor_position(Position { x, y });
     }
 
-    /// The buffer to paint on.
+    /// Returns the buffer to paint on.
     pub fn buffer_mut(&mut self) -> &mut Buffer
         ensures* writes_back { sem 𝓛 (LendsBuffer self.entry result) }
         ensures value { result.now ≡ self.old.buffer.now }
@@ -130,7 +130,8 @@ impl Frame<'_> {
         widget.render(area, self.buffer, state)
     }
 
-    /// How many frames were drawn before this one; it starts again at 0 past the greatest number.
+    /// Returns how many frames were drawn before this one; it starts again at 0 past the greatest
+    /// number.
     pub fn count(&self) -> usize
         ensures { result ≡ self.now.count }
     {
@@ -149,7 +150,7 @@ pub struct CompletedFrame<'a, B: Backend> {
 }
 
 impl<B: Backend> CompletedFrame<'_, B> {
-    /// The buffer that was painted.
+    /// Returns the buffer that was painted.
     pub fn buffer(&self) -> &Buffer
         ensures { result.now ≡ self.now.terminal.now.previous }
     {

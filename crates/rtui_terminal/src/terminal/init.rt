@@ -21,8 +21,8 @@ pub struct TerminalOptions {
 }
 
 impl<B: Backend + Drop> Terminal<B> {
-    /// A terminal over the whole screen of a backend, with empty buffers; it is in step if the
-    /// screen is blank.
+    /// Makes a terminal over the whole screen of a backend, with empty buffers; it is in step if
+    /// the screen is blank.
     ///
     /// # Errors
     ///
@@ -42,9 +42,9 @@ impl<B: Backend + Drop> Terminal<B> {
         Terminal::with_options(alloc, backend, options)
     }
 
-    /// A terminal over a part of a backend's screen, with empty buffers; it is in step if that part
-    /// is on the screen and blank. If an inline viewport doesn't fit below the cursor, the screen
-    /// scrolls.
+    /// Makes a terminal over a part of a backend's screen, with empty buffers; it is in step if
+    /// that part is on the screen and blank. If an inline viewport doesn't fit below the cursor,
+    /// the screen scrolls.
     ///
     /// ```
     /// // Three rows at the cursor, below what the screen shows already.
@@ -101,8 +101,8 @@ impl<B: Backend + Drop> Terminal<B> {
 }
 
 impl<B: Backend + Default + Drop> Terminal<B> {
-    /// A terminal over a default backend, which isn't asked for its size: the viewport is empty. It
-    /// takes no memory.
+    /// Makes a terminal over a default backend, which isn't asked for its size: the viewport is
+    /// empty. It takes no memory.
     pub fn default_in(alloc: Global) -> Self
         ensures empty { IsDefaultOver result }
         ensures backend { B.is_default result.backend }

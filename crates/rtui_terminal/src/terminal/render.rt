@@ -195,7 +195,7 @@ impl<B: Backend> Terminal<B> {
         })
     }
 
-    /// The same as `draw` with a closure that may answer the backend's error.
+    /// Does the same as `draw` with a closure that may answer the backend's error.
     ///
     /// ```
     /// let mut terminal = Terminal::new(alloc, TestBackend::new(alloc, 5, 1)?)?;
