@@ -1,5 +1,5 @@
 -- The tables of the keys: what each asks for while a text is read, and while a search is typed.
-use Rattle.std.specs.Prelude.{ℕ, Bool, true, false, ◌-◌, ◌==◌, ◌||◌, ◌&&◌, nat_le, if◌then◌else◌}
+use Rattle.std.specs.Prelude.{◌≡◌, ℕ, Bool, true, false, ◌-◌, ◌==◌, ◌||◌, ◌&&◌, nat_le, if◌then◌else◌}
 use Rattle.std.specs.Prelude.{Option, Some, None}
 use Rattle.ratatui_events.specs.declared.event.Event.{Event}
 use Rattle.ratatui_events.specs.declared.event.Event.TheVariants.{Key, Mouse, Pasted}
@@ -137,6 +137,12 @@ is_press_kind _ = true
 abbrev pub is_press : Event → Bool
 is_press (Key k) = is_press_kind k.kind
 is_press _ = false
+
+-- Ctrl+C, pressed or held
+pub record IsControlC (k : KeyEvent) : Type 0 where
+  pub code : k.code ≡ key.Char 99
+  pub control : modifier_bits k.modifiers ≡ 4
+  pub pressed : is_press (Key k) ≡ true
 
 -- where a character's mark is kept: the apostrophe's, then those of a to z, then those of A to Z
 abbrev pub mark_index : ℕ → Option ℕ

@@ -1,5 +1,5 @@
 -- What a pager paints: lines in rows, and the status in the last one.
-use Rattle.std.specs.Prelude.{◌≡◌, ℕ, zero, suc, ◌+◌, ◌-◌, ◌*◌, ◌/◌, ◌==◌}
+use Rattle.std.specs.Prelude.{◌≡◌, ◌<◌, ℕ, zero, suc, ◌+◌, ◌-◌, ◌*◌, ◌/◌, ◌==◌, true}
 use Rattle.std.specs.Prelude.{min, if◌then◌else◌, List, [], ◌∷◌, ◌++◌, length, Option, Some, None, option_map}
 use Rattle.std.specs.Prelude.{unwrap_or, slice_get, slice_index_or, is_some, codes, encode_utf8, ◌^◌}
 use Rattle.std.specs.{Fmt.decimal, List.flat_map}
@@ -8,8 +8,9 @@ use Rattle.ratatui_core.specs.Buffer.{BufferData, PaintsPieces, IsPlainFrom, IsS
 use Rattle.ratatui_core.specs.Buffer.{text_pieces, position_of}
 use Rattle.ratatui_core.specs.Widgets.{ChangesWithin, OnPart}
 use Rattle.rtui_boxes.specs.Titles.{InTurn}
-use Rattle.pager.specs.Symbols.{LineSymbol, reversed, line_symbols, symbols_in_view}
+use Rattle.pager.specs.Symbols.{LineSymbol, reversed, line_symbols, symbols_in_view, is_in_view}
 use Rattle.pager.specs.Places.{breaking, number_columns, stride, page_rows, page_place, places_after}
+use Rattle.pager.specs.Places.{rows_of_line}
 use Rattle.pager.specs.Places.{place_after}
 use Rattle.pager.specs.declared.place.Place.{Place}
 use Rattle.pager.specs.declared.view.View.{View}
@@ -54,6 +55,13 @@ view_at p row width =
     let left = row * stride p in
     if p.wraps then record { left = left; limit = left + min (stride p) width; width = width }
     else view_from p.left width
+
+-- one row of a line that is broken shows a symbol, and no other one does
+pub record IsInOneRow (p : Pager) (width : ℕ) (line : List ℕ) (s : LineSymbol) : Type 0 where
+  pub row : ℕ
+  pub within : row < rows_of_line (breaking p) line
+  pub shown : is_in_view (view_at p row width) s ≡ true
+  pub alone : (k : ℕ) → is_in_view (view_at p k width) s ≡ true → k ≡ row
 
 -- a number that ends in column 7, with its first seven digits
 abbrev pub PaintsNumber : ℕ → ℕ → ℕ → BufferData → BufferData → Type 0

@@ -17,11 +17,14 @@ page_place p = text_place p.top p.row
 abbrev pub number_columns : Pager → ℕ → ℕ
 number_columns p width = if p.has_numbers && nat_lt 8 width then 8 else 0
 
--- how many columns of a line begin in a row, if lines are broken: all but those of the numbers and the
--- last one,
--- in which a wide symbol may end
+-- how many columns a row has for its line: all but those of the numbers
+abbrev pub text_columns : Pager → ℕ
+text_columns p = p.columns - number_columns p p.columns
+
+-- how many columns of a line begin in a row, if lines are broken: all but the last one, in which a wide symbol
+-- may end
 abbrev pub stride : Pager → ℕ
-stride p = max (p.columns - number_columns p p.columns - 1) 1
+stride p = max (text_columns p - 1) 1
 
 -- the column in which the last symbol begins
 abbrev pub last_start : ℕ → List LineSymbol → ℕ

@@ -61,7 +61,7 @@ fn key_answer(key: KeyEvent) -> Answer
     }
 }
 
-/// What an event asks for.
+/// Returns what an event asks for.
 pub fn answer_of(event: Event) -> Answer
     ensures { result ≡ event_answer event }
 {
@@ -82,7 +82,7 @@ fn is_press_kind(kind: KeyEventKind) -> bool
     }
 }
 
-/// Whether an event is a key that was pressed or is held.
+/// Returns whether an event is a key that was pressed or is held.
 pub fn is_press(event: Event) -> bool
     ensures { result ≡ is_press event }
 {
@@ -116,7 +116,7 @@ fn code_mark(code: KeyCode) -> Option<usize>
     }
 }
 
-/// The mark that an event names.
+/// Returns the mark that an event names.
 pub fn mark_of(event: Event) -> Option<usize>
     ensures index { result ≡ event_mark event }
     ensures bound { IfSome result (λ mark. mark < 53) }

@@ -169,7 +169,7 @@ fn mouse_command(kind: MouseEventKind) -> Command
     }
 }
 
-/// What an event asks for.
+/// Returns what an event asks for.
 pub fn command_of(event: Event) -> Command
     ensures { result ≡ event_command event }
 {

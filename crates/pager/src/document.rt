@@ -59,7 +59,7 @@ impl Model for Numbers {
 }
 
 impl Numbers {
-    /// No number.
+    /// Makes an empty list of numbers.
     pub fn new(alloc: Global) -> Numbers
         ensures { result ≡ [] }
     {
@@ -68,7 +68,7 @@ impl Numbers {
         }
     }
 
-    /// A number, and after the last one another one.
+    /// Returns a number by its place, and after the last one another one.
     pub fn get_or(&self, place: u64, other: u64) -> u64
         ensures number { result ≡ slice_index_or self.now place other }
         ensures small { other < 9223372036854775808 → result < 9223372036854775808 }
@@ -81,7 +81,7 @@ impl Numbers {
 }
 
 impl<'a> Document<'a> {
-    /// The lines of a text, as `str::lines` gives them.
+    /// Makes the lines of a text, as `str::lines` gives them.
     ///
     /// # Errors
     ///
@@ -96,19 +96,19 @@ impl<'a> Document<'a> {
         Ok(Document { lines })
     }
 
-    /// What the list of lines takes its memory from.
+    /// Returns what the list of lines takes its memory from.
     pub fn allocator(&self) -> Global {
         *self.lines.allocator()
     }
 
-    /// How many lines there are.
+    /// Returns how many lines there are.
     pub fn len(&self) -> u32
         ensures { result ≡ length self.now }
     {
         self.lines.len() as u32
     }
 
-    /// The numbers of the lines that have a text in them, as a search takes it.
+    /// Returns the numbers of the lines that have a text in them, as a search takes it.
     ///
     /// # Errors
     ///
@@ -126,7 +126,7 @@ impl<'a> Document<'a> {
         Ok(Numbers { numbers })
     }
 
-    /// The lines of these numbers.
+    /// Makes a document of the lines of these numbers.
     ///
     /// # Errors
     ///
@@ -142,7 +142,7 @@ impl<'a> Document<'a> {
         Ok(Document { lines })
     }
 
-    /// A line by its number, from 0 on.
+    /// Returns a line by its number, from 0 on.
     pub fn line(&self, number: usize) -> Option<&'a str>
         ensures { option_map (λ line. line.now) result ≡ slice_get self.now number }
     {
@@ -152,7 +152,7 @@ impl<'a> Document<'a> {
         }
     }
 
-    /// A line by its number, from 0 on, and after the end an empty one.
+    /// Returns a line by its number, from 0 on, and after the end an empty one.
     pub fn line_or_empty(&self, number: u64) -> &'a str
         ensures { result.now ≡ numbered_line self.now number }
     {
@@ -162,7 +162,8 @@ impl<'a> Document<'a> {
         }
     }
 
-    /// How many bytes the first lines take, with one for the end of each; at most `u64::MAX`.
+    /// Returns how many bytes the first lines take, with one for the end of each; at most
+    /// `u64::MAX`.
     pub fn bytes_before(&self, count: u64) -> u64
         ensures { result ≡ min (bytes_before self.now count) (2 ^ 64 - 1) }
     {

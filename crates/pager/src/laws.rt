@@ -1,17 +1,23 @@
 //! Laws of the pager.
 
-ghost use Rattle.std.specs.Prelude.{◌≡◌, ◌<◌, ℕ, List, Option, Some, length};
+ghost use Rattle.std.specs.Prelude.{◌≡◌, ◌<◌, ◌≤◌, ◌^◌, ℕ, true, List, Option, Some, length, Contains};
 ghost use Rattle.ratatui_core.specs.Layout.{Size};
 ghost use Rattle.ratatui_core.specs.Terminal.{TerminalData};
 ghost use Rattle.ratatui_ansi.specs.Backend.{BackendState};
 ghost use Rattle.ratatui_events.specs.declared.event.Event.{Event};
+ghost use Rattle.ratatui_events.specs.declared.event.Event.TheVariants.{Key};
+ghost use Rattle.ratatui_events.specs.declared.key.KeyEvent.{KeyEvent};
 ghost use Rattle.ratatui_reads.specs.Reads.{Between};
 ghost use Rattle.ratatui_reads.specs.Sources.{Coming};
 ghost use Rattle.ratatui_app.specs.Showing.{RunsTo};
 ghost use Rattle.ratatui_app.specs.Glass.{sender, RunsOnGlass, RunsAlongGlass, IsOnGlass};
 ghost use Rattle.pager.specs.Moves.{started, updated};
 ghost use Rattle.pager.specs.Search.{next_match, last_match, IsFirstMatch, IsLastMatch};
-ghost use Rattle.pager.specs.Places.{IsInText};
+ghost use Rattle.pager.specs.Keys.{IsControlC};
+ghost use Rattle.pager.specs.Symbols.{LineSymbol, line_symbols};
+ghost use Rattle.pager.specs.Pages.{IsInOneRow};
+ghost use Rattle.pager.specs.declared.styles.Run.{Run};
+ghost use Rattle.pager.specs.Places.{IsInText, text_columns};
 ghost use Rattle.pager.specs.Paging.{paging, page_size, IsPaged, FillsScreen, FillsAlong, TakesAlong};
 ghost use Rattle.pager.specs.declared.pager.Pager.{Pager};
 
@@ -36,6 +42,21 @@ pub fn a_search_passes_no_match_over()
         → next_match pattern lines from ≡ Some k → IsFirstMatch pattern lines from k }
     ensures back { (pattern : List ℕ) (lines : List (List ℕ)) (before k : ℕ)
         → last_match pattern lines before ≡ Some k → IsLastMatch pattern lines before k }
+{}
+
+/// Broken lines lose nothing: if a row has two columns or more beside the number, each symbol of at
+/// most two columns is shown in one row of its line, and in no other one.
+pub fn broken_lines_lose_nothing()
+    ensures { (p : Pager) (pattern line : List ℕ) (runs : List Run) (s : LineSymbol)
+        → p.wraps ≡ true → 2 ≤ text_columns p
+        → Contains (line_symbols pattern runs line) s → s.columns ≤ 2 → s.column < 2 ^ 32
+        → IsInOneRow p (text_columns p) line s }
+{}
+
+/// Two times Ctrl+C leave, whatever is typed or shown.
+pub fn control_c_leaves()
+    ensures { (p : Pager) (k : KeyEvent) → IsControlC k
+        → (updated (updated p (Key k)) (Key k)).is_over ≡ true }
 {}
 
 /// If no call had failed before a run, then where it stands now each terminal that has read what

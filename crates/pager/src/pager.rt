@@ -89,8 +89,8 @@ pub struct Pager<'a> {
 }
 
 impl<'a> Pager<'a> {
-    /// A pager at the first line of a text, on a terminal of this size; `pattern` is what is sought
-    /// before anything was typed.
+    /// Makes a pager at the first line of a text, on a terminal of this size; `pattern` is what is
+    /// sought before anything was typed.
     pub fn new(document: Document<'a>, name: OwnText, pattern: OwnText, size: Size) -> Pager<'a>
         ensures { result ≡ started document.entry name pattern size }
     {
@@ -120,7 +120,7 @@ impl<'a> Pager<'a> {
         }
     }
 
-    /// The pager, with the styles of its lines.
+    /// Sets the styles of the lines.
     pub fn styled(self, styles: Styles) -> Pager<'a>
         ensures { result ≡ record self.entry { styles = styles } }
     {
@@ -242,8 +242,8 @@ impl<'a> Updates for Pager<'a> {
     ///
     /// # Errors
     ///
-    /// `AllocError` if memory is refused; nothing has changed then. Only the beginning of a search and
-    /// a filter take some.
+    /// `AllocError` if memory is refused; nothing has changed then. Only the beginning of a search
+    /// and a filter take some.
     fn update(&mut self, event: Event) -> Result<(), AllocError>
         ensures ok { OnOk result (self.new ≡ updated self.old event) }
         ensures err { OnErr result (self.new ≡ self.old) }

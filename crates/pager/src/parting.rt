@@ -137,11 +137,12 @@ fn has_signs(text: &str) -> bool
     text.chars().any(|c| c == '\x1b' || c == '\x08')
 }
 
-/// What a text says and the runs of styles of its lines, if it has an escape or a backspace.
+/// Returns what a text says and the runs of styles of its lines, if it has an escape or a
+/// backspace.
 ///
-/// A sequence of SGR, as `ESC [ 1 ; 31 m`, styles what follows it in its line. A character struck over
-/// itself is bold, and one over an underscore or under one is underlined, as in pages of `man`. None of
-/// these stands in what the text says; each other escape and backspace does.
+/// A sequence of SGR, as `ESC [ 1 ; 31 m`, styles what follows it in its line. A character struck
+/// over itself is bold, and one over an underscore or under one is underlined, as in pages of `man`.
+/// None of these stands in what the text says; each other escape and backspace does.
 ///
 /// # Errors
 ///

@@ -3,6 +3,7 @@
 ghost use Rattle.std.specs.Prelude.{◌≡◌, ◌<◌, ◌≤◌, ◌+◌, [], min, ◌^◌, ◌-◌};
 ghost use Rattle.pager.specs.Search.{numbered_line};
 ghost use Rattle.pager.specs.Symbols.{line_symbols};
+ghost use Rattle.pager.proofs.PastLemmas.{places-past};
 ghost use Rattle.pager.specs.Places.{page_place, breaking, number_columns, stride, last_start, rows_of_line};
 ghost use Rattle.pager.specs.Places.{next_place, previous_place, places_after, places_before, page_rows};
 ghost use Rattle.pager.specs.Places.{last_page, is_before, earlier, at_place, place_after, place_before};
@@ -132,8 +133,16 @@ impl<'a> Pager<'a> {
         ensures place { result ≡ places_after (breaking self.now) rows place }
         ensures line { result.line ≤ place.line + rows }
     {
+        let end = u64::from(self.document.len());
         let mut place = place;
-        for _ in 0..rows {
+        for done in 0..rows {
+            if place.line >= end && place.row == 0 {
+                // After the end each line takes one row.
+                return Place {
+                    line: place.line + u64::from(rows - done),
+                    row: 0,
+                };
+            }
             place = self.next_place(place);
         }
         place

@@ -37,7 +37,7 @@ impl Model for Styles {
 }
 
 impl Styles {
-    /// No line has a style.
+    /// Makes styles in which no line has one.
     pub fn new(alloc: Global) -> Styles
         ensures { result ≡ [] }
     {
@@ -46,7 +46,7 @@ impl Styles {
         }
     }
 
-    /// The runs of one more line.
+    /// Appends the runs of one more line.
     ///
     /// # Errors
     ///
@@ -69,7 +69,7 @@ impl Styles {
         }
     }
 
-    /// The runs of a line by its number, from 0 on.
+    /// Returns the runs of a line by its number, from 0 on.
     pub fn line(&self, number: u64) -> &[Run]
         ensures { result.now ≡ line_runs self.now number }
     {

@@ -32,7 +32,7 @@ impl<'a> Stage<'a> {
         }
     }
 
-    /// A pager of the text.
+    /// Makes a pager of the text.
     pub fn pager(&self) -> Option<Pager<'a>> {
         let styles = self.styles()?;
         let document = Document::new(self.alloc, self.text).ok()?;
@@ -41,7 +41,7 @@ impl<'a> Stage<'a> {
         Some(Pager::new(document, name, pattern, self.size).styled(styles))
     }
 
-    /// A pager of the text, on a screen in memory.
+    /// Makes a pager of the text, on a screen in memory.
     pub fn open(&self) -> Option<(Terminal<TestBackend>, Pager<'a>)> {
         let pager = self.pager()?;
         let backend = TestBackend::new(self.alloc, self.size.width, self.size.height).ok()?;

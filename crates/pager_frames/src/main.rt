@@ -3,14 +3,15 @@
 //! `pager_frames FILE COLUMNS ROWS` shows a file on a screen in memory. Each line of standard input
 //! is the bytes of a read: words, each all its characters or the name of a byte (`ESC`, `SP`, `CR`,
 //! `TAB`, `DEL`), and `TICK` a read that finds nothing. After each it prints the screen, with a sign
-//! below what is styled: `^` reversed, `b` bold, `u` underlined, `B` both, `g` a background, `c` another
-//! colour. Then it plays the second half again, in which each kind of key is:
-//! cut at random places, and compares the last screen; and with each read and each call of the
-//! screen failing in turn, and counts the faults that were told. With wrong words, or if a screen is
-//! another one, the status is 1.
+//! below what is styled: `^` reversed, `b` bold, `u` underlined, `B` both, `g` a background, `c`
+//! another colour.
 //!
-//! With a number as a fourth word it shows the same reads as bytes for a terminal while one request
-//! for memory is refused, and prints what came of it. `tools/refusals` has each request refused.
+//! After a line `--` stand fewer reads, in which each kind of key is. It plays them cut at random
+//! places, and compares the last screen; and with each read and each call of the screen failing in
+//! turn, and counts the faults that were told. With wrong words, or if a screen is another one, the
+//! status is 1. With a number as a fourth word it only shows these reads as bytes for a terminal
+//! while one request for memory is refused, and prints what came of it: `tools/refusals` has each
+//! request refused.
 #![tactic(auto)]
 
 mod frames;
@@ -46,7 +47,10 @@ fn play(rt: &HostRuntime, words: &[String]) -> anyhow::Result<bool> {
         None => raw.as_str(),
     };
     let script = io::read_to_string(rt.alloc(), rt.reader())?;
-    let recording = Recording::read(rt.alloc(), script.as_str(), 0)?;
+    let Some((script, trials)) = script.as_str().split_once("\n--\n") else {
+        return Ok(false);
+    };
+    let fewer = Recording::read(rt.alloc(), trials)?;
     let stage = Stage {
         alloc: rt.alloc(),
         raw: raw.as_str(),
@@ -57,13 +61,13 @@ fn play(rt: &HostRuntime, words: &[String]) -> anyhow::Result<bool> {
         let Ok(number) = number.as_str().parse::<usize>() else {
             return Ok(false);
         };
-        print_refused(rt, stage, &recording, number)?;
+        print_refused(rt, stage, &fewer, number)?;
         return Ok(true);
     }
-    let frames = print_frames(rt, stage, script.as_str(), &recording)?;
-    let second_half = Recording::read(rt.alloc(), script.as_str(), recording.ends.len() / 2)?;
-    let trials = print_trials(rt, stage, &second_half)?;
-    Ok(frames && trials)
+    let recording = Recording::read(rt.alloc(), script)?;
+    let are_drawn = print_frames(rt, stage, script, &recording)?;
+    let are_told = print_trials(rt, stage, &fewer)?;
+    Ok(are_drawn && are_told)
 }
 
 fn main(rt: HostRuntime) -> anyhow::Result<ExitCode> {

@@ -2,13 +2,13 @@
 //!
 //! `pager FILE` shows a file, and reads the keys from standard input; without a word, or with `-`,
 //! the text is standard input's, and the keys come from `/dev/tty`. `+42` begins at line 42, and
-//! `+/WORDS` at the first line that has these words. Bytes that aren't UTF-8 stand as `<FF>`. If keys
-//! can be typed, but standard output is no terminal, the text is copied there. The terminal has to be in raw
-//! mode, where a read that finds nothing answers after a while: `tools/raw pager_program FILE` sees
-//! to that. The size is that of `--columns` and `--rows`, or of the variables COLUMNS and LINES; or
-//! else the terminal is asked. What isn't a terminal ends with its last byte. If a text can't be
-//! read or a call fails, one line stands on standard error that begins with `pager: `, and the
-//! status is 1; with wrong words it is 2.
+//! `+/WORDS` at the first line that has these words. Bytes that aren't UTF-8 stand as `<FF>`. If
+//! keys can be typed, but standard output is no terminal, the text is copied there. The terminal has
+//! to be in raw mode, where a read that finds nothing answers after a while: `tools/raw
+//! pager_program FILE` sees to that. The size is that of `--columns` and `--rows`, or of the
+//! variables COLUMNS and LINES; or else the terminal is asked. What isn't a terminal ends with its
+//! last byte. If a text can't be read or a call fails, one line stands on standard error that begins
+//! with `pager: `, and the status is 1; with wrong words it is 2. `--version` says the version.
 #![tactic(auto)]
 
 mod begin;
@@ -19,10 +19,11 @@ mod words;
 
 use crate::begin::{taken, typed};
 use crate::error::PagerError;
-use crate::size::{Given, INPUT, OUTPUT, is_terminal, size_for};
+use crate::size::{Given, size_for};
 use crate::text::parted_text;
 use crate::words::{command, given_by, name_of};
 use pager::{Document, OwnText, Pager, show};
+use programs::{Stream, is_terminal};
 use std::io::{self, BufWriter, Read, Write};
 use std::process::ExitCode;
 use std::{env, fs};
@@ -59,8 +60,8 @@ fn copy(rt: &HostRuntime, bytes: &[u8]) -> Result<(), PagerError> {
 // Shows a file; the keys are standard input's.
 fn page_file(rt: &HostRuntime, path: &str, first: &str, given: Given) -> Result<(), PagerError> {
     let bytes = fs::read(rt, path).map_err(PagerError::Read)?;
-    let has_ticks = is_terminal(rt, INPUT);
-    if has_ticks && !is_terminal(rt, OUTPUT) {
+    let has_ticks = is_terminal(rt, Stream::Input);
+    if has_ticks && !is_terminal(rt, Stream::Output) {
         return copy(rt, bytes.as_slice());
     }
     page(rt, path, bytes, first, &mut rt.reader(), has_ticks, given)
@@ -72,7 +73,7 @@ fn page_input(rt: &HostRuntime, first: &str, given: Given) -> Result<(), PagerEr
     rt.reader()
         .read_to_end(&mut bytes)
         .map_err(PagerError::Read)?;
-    if !is_terminal(rt, OUTPUT) {
+    if !is_terminal(rt, Stream::Output) {
         return copy(rt, bytes.as_slice());
     }
     let mut keys = fs::open(rt, "/dev/tty").map_err(PagerError::Keys)?;

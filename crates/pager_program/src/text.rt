@@ -35,7 +35,7 @@ fn text_of(alloc: Global, bytes: Vec<u8>) -> Result<String, AllocError> {
     }
 }
 
-/// What bytes say, and the styles in which they say it.
+/// Returns what bytes say, and the styles in which they say it.
 pub fn parted_text(alloc: Global, bytes: Vec<u8>) -> Result<(String, Styles), AllocError> {
     let text = text_of(alloc, bytes)?;
     match parted(alloc, text.as_str())? {
