@@ -7,13 +7,14 @@ use Rattle.ratatui_events.specs.declared.key.KeyEventKind.TheVariants.{Press, Re
 use Rattle.ratatui_events.specs.Key.{modifier_bits}
 use Rattle.pager.specs.declared.pager.Pager.{Pager}
 use Rattle.pager.specs.declared.pager.Mode.{Mode}
-use Rattle.pager.specs.declared.pager.Mode.TheVariants.{Reading, Asking, Filtering, Marking, Returning, Helping}
+use Rattle.pager.specs.declared.pager.Mode.TheVariants.{Reading, Asking, Filtering, Marking, Returning, Turning, Helping}
 use Rattle.pager.specs.declared.command.Command.TheVariants.{Quit}
 use Rattle.pager.specs.declared.answer.Answer.TheVariants.{Cancel}
 use Rattle.pager.specs.Keys.{IsControlC, has_control_key, control_command, control_answer, kind_command, kind_answer}
 use Rattle.pager.specs.Keys.{code_command, code_answer, code_mark, event_command, event_answer, event_mark, is_press}
+use Rattle.pager.specs.Keys.{event_ending, code_ending}
 use Rattle.pager.specs.Keys.{is_press_kind}
-use Rattle.pager.specs.Moves.{acted, answered, obeyed, updated, letter_marked, gone_back, marked_line}
+use Rattle.pager.specs.Moves.{acted, answered, obeyed, updated, letter_marked, gone_back, marked_line, turned}
 
 module _ (k : KeyEvent) (is : IsControlC k) where
   held : has_control_key k ≡ true
@@ -32,6 +33,9 @@ module _ (k : KeyEvent) (is : IsControlC k) where
   no-mark : event_mark (Key k) ≡ None
   no-mark = ap (λ b. if b then None else code_mark k.code) held
 
+  no-ending : event_ending (Key k) ≡ None
+  no-ending = ap (λ b. if b then None else code_ending k.code) held
+
   reads : (m : Mode) (p : Pager) → p.mode ≡ m → (acted m (Key k) p).mode ≡ Reading
   reads Reading p mode = ap (λ c. (obeyed c p).mode) (command-of k.kind is.pressed) ∙ mode
   reads Asking p mode = ap (λ a. (answered a p).mode) (answer-of k.kind is.pressed)
@@ -42,6 +46,9 @@ module _ (k : KeyEvent) (is : IsControlC k) where
   reads Returning p mode =
       ap (λ b. (if b then gone_back (marked_line (event_mark (Key k)) p) p else p).mode) is.pressed
       ∙ ap (λ o. (gone_back (marked_line o p) p).mode) no-mark
+  reads Turning p mode =
+      ap (λ b. (if b then turned (event_ending (Key k)) p else p).mode) is.pressed
+      ∙ ap (λ o. (turned o p).mode) no-ending
   reads Helping p mode = ap (λ b. (if b then record p { mode = Reading } else p).mode) is.pressed
 
   over : (m : Mode) (p : Pager) → m ≡ Reading → (acted m (Key k) p).is_over ≡ true

@@ -8,22 +8,23 @@ use Rattle.ratatui_events.specs.declared.event.Event.{Event}
 use Rattle.ratatui_reads.specs.Reads.{size_in}
 use Rattle.pager.specs.declared.pager.Pager.{Pager}
 use Rattle.pager.specs.declared.pager.Mode.{Mode}
-use Rattle.pager.specs.declared.pager.Mode.TheVariants.{Reading, Asking, Filtering, Marking, Returning, Helping}
+use Rattle.pager.specs.declared.pager.Mode.TheVariants.{Reading, Asking, Filtering, Marking, Returning, Turning, Helping}
 use Rattle.pager.specs.declared.answer.Answer.{Answer}
 use Rattle.pager.specs.declared.answer.Answer.TheVariants.{Add, Erase, Search, Cancel, Ignore}
 use Rattle.pager.specs.declared.command.Command.{Command}
 use Rattle.pager.specs.declared.command.Command.TheVariants.{Nothing, Digit, Down, Up, PageDown, PageUp, HalfDown, HalfUp}
 use Rattle.pager.specs.declared.command.Command.TheVariants.{WheelDown, WheelUp}
 use Rattle.pager.specs.declared.command.Command.TheVariants.{ToStart, ToEnd, ToLeft, ToRight, Ask, Next, Previous, Numbers, Wrap}
-use Rattle.pager.specs.declared.command.Command.TheVariants.{Help, Quit, ToPart, Details, Mark, ToMark, Filter}
+use Rattle.pager.specs.declared.command.Command.TheVariants.{Help, Quit, ToPart, Details, Mark, ToMark, Turn, Filter}
 use Rattle.std.specs.Prelude.{replicate}
 use Rattle.pager.specs.Search.{next_match, last_match, matching, picked}
 use Rattle.pager.specs.declared.place.Place.{Place}
 use Rattle.pager.specs.Places.{IsInText, text_place, last_page, is_before, at_place}
 use Rattle.pager.specs.Moves.{started, found_at, sought_before, sought_from, before_found, after_found, sought_on, after_move}
 use Rattle.pager.specs.Moves.{obeyed, with_pattern, answered, acted, updated_by, updated, with_mark, letter_marked, marked_line, gone_back}
-use Rattle.pager.specs.Moves.{sought_first, all_lines, relined, with_lines, taken_in}
-use Rattle.pager.specs.Keys.{event_command, event_answer, event_mark, is_press}
+use Rattle.pager.specs.Moves.{sought_first, all_lines, relined, with_lines, taken_in, has_text, turned}
+use Rattle.pager.specs.Keys.{event_command, event_answer, event_mark, event_ending, is_press}
+use Rattle.pager.specs.declared.pager.Ending.{Ending}
 
 -- of two places at most one stands before the other one
 both : (a b c d : ℕ) → (nat_lt a c || ((a == c) && nat_lt b d)) ≡ true → (nat_lt c a || ((c == a) && nat_lt d b)) ≡ false
@@ -79,6 +80,7 @@ moved-in Details p is = is
 moved-in Mark p is = is
 moved-in Filter p is = is
 moved-in ToMark p is = is
+moved-in Turn p is = is
 moved-in Nothing p is = is
 
 obeyed-in : (command : Command) (p : Pager) → IsInText p → IsInText (obeyed command p)
@@ -108,6 +110,7 @@ obeyed-in Details p is = is
 obeyed-in Mark p is = is
 obeyed-in Filter p is = is
 obeyed-in ToMark p is = is
+obeyed-in Turn p is = is
 
 sought_first-if : (is_back : Bool) (p : Pager) → IsInText p
     → IsInText (if is_back then sought_before p.top p else sought_from p.top p)
@@ -151,6 +154,7 @@ taken-in Reading p is = sought-in p is
 taken-in Asking p is = sought-in p is
 taken-in Marking p is = sought-in p is
 taken-in Returning p is = sought-in p is
+taken-in Turning p is = sought-in p is
 taken-in Helping p is = sought-in p is
 
 answered-in : (answer : Answer) (p : Pager) → IsInText p → IsInText (answered answer p)
@@ -176,6 +180,15 @@ returned-if : (b : Bool) (line : Option ℕ) (p : Pager) → IsInText p → IsIn
 returned-if true line p is = returned-in line p is
 returned-if false line p is = is
 
+turned-if : (b : Bool) (e : Option Ending) (p : Pager) → IsInText p → IsInText (if b then turned e p else p)
+turned-if true None p is = is
+turned-if true (Some e) p is = by (has_text e p)
+  where
+    by : (b : Bool) → IsInText (if b then record p { mode = Reading; is_over = true; ending = e } else record p { mode = Reading })
+    by true = is
+    by false = is
+turned-if false e p is = is
+
 helped-if : (b : Bool) (p : Pager) → IsInText p → IsInText (if b then record p { mode = Reading } else p)
 helped-if true p is = is
 helped-if false p is = is
@@ -186,6 +199,7 @@ acted-in Asking event p is = answered-in (event_answer event) p is
 acted-in Filtering event p is = answered-in (event_answer event) p is
 acted-in Marking event p is = marked-if (is_press event) (event_mark event) p is
 acted-in Returning event p is = returned-if (is_press event) (marked_line (event_mark event) p) p is
+acted-in Turning event p is = turned-if (is_press event) (event_ending event) p is
 acted-in Helping event p is = helped-if (is_press event) p is
 
 by-size : (size : Option (ℕ × ℕ)) (event : Event) (p : Pager) → IsInText p → IsInText (updated_by size event p)

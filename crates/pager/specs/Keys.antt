@@ -16,7 +16,9 @@ use Rattle.pager.specs.declared.command.Command.TheVariants.{Nothing, Digit, Dow
 use Rattle.pager.specs.declared.command.Command.TheVariants.{HalfDown, HalfUp, WheelDown, WheelUp}
 use Rattle.pager.specs.declared.command.Command.TheVariants.{ToStart, ToEnd, ToLeft, ToRight, Ask, Next}
 use Rattle.pager.specs.declared.command.Command.TheVariants.{Previous, Numbers, Wrap, Help, Quit, ToPart}
-use Rattle.pager.specs.declared.command.Command.TheVariants.{Details, Mark, ToMark, Filter}
+use Rattle.pager.specs.declared.command.Command.TheVariants.{Details, Mark, ToMark, Turn, Filter}
+use Rattle.pager.specs.declared.pager.Ending.{Ending}
+use Rattle.pager.specs.declared.pager.Ending.TheVariants as ending
 use Rattle.pager.specs.declared.answer.Answer.{Answer}
 use Rattle.pager.specs.declared.answer.Answer.TheVariants.{Add, Erase, Search, Cancel, Ignore}
 
@@ -35,7 +37,7 @@ move_command c =
     else Nothing
 
 -- a character: q, a slash, a question mark, n, N, the ampersand, l, w, h, the equals sign, m, an apostrophe,
--- a digit, or a move
+-- a colon, a digit, or a move
 abbrev pub character_command : ℕ → Command
 character_command c =
     if c == 113 then Quit
@@ -50,6 +52,7 @@ character_command c =
     else if c == 61 then Details
     else if c == 109 then Mark
     else if c == 39 then ToMark
+    else if c == 58 then Turn
     else if nat_le 48 c && nat_le c 57 then Digit (c - 48)
     else move_command c
 
@@ -160,3 +163,16 @@ code_mark _ = None
 abbrev pub event_mark : Event → Option ℕ
 event_mark (Key k) = if has_control_key k then None else code_mark k.code
 event_mark _ = None
+
+-- the text that a key turns to after a colon, or the end
+abbrev pub code_ending : KeyCode → Option Ending
+code_ending (key.Char c) =
+    if c == 110 then Some ending.Next
+    else if c == 112 then Some ending.Previous
+    else if c == 113 then Some ending.Quit
+    else None
+code_ending _ = None
+
+abbrev pub event_ending : Event → Option Ending
+event_ending (Key k) = if has_control_key k then None else code_ending k.code
+event_ending _ = None

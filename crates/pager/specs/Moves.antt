@@ -8,8 +8,10 @@ use Rattle.ratatui_events.specs.declared.event.Event.{Event}
 use Rattle.ratatui_reads.specs.Reads.{size_in}
 use Rattle.pager.specs.declared.pager.Pager.{Pager}
 use Rattle.pager.specs.declared.pager.Mode.{Mode}
-use Rattle.pager.specs.declared.pager.Mode.TheVariants.{Reading, Asking, Filtering, Marking, Returning, Helping}
+use Rattle.pager.specs.declared.pager.Mode.TheVariants.{Reading, Asking, Filtering, Marking, Returning, Turning, Helping}
 use Rattle.pager.specs.declared.pager.Note.TheVariants.{Range, Bytes, Missing}
+use Rattle.pager.specs.declared.pager.Ending.{Ending}
+use Rattle.pager.specs.declared.pager.Ending.TheVariants as ending
 use Rattle.pager.specs.declared.answer.Answer.{Answer}
 use Rattle.pager.specs.declared.answer.Answer.TheVariants.{Add, Erase, Search, Cancel, Ignore}
 use Rattle.pager.specs.declared.command.Command.{Command}
@@ -17,8 +19,8 @@ use Rattle.pager.specs.declared.command.Command.TheVariants.{Digit, Down, Up, Pa
 use Rattle.pager.specs.declared.command.Command.TheVariants.{HalfDown, HalfUp, WheelDown, WheelUp}
 use Rattle.pager.specs.declared.command.Command.TheVariants.{ToStart, ToEnd, ToLeft, ToRight, Ask, Next}
 use Rattle.pager.specs.declared.command.Command.TheVariants.{Previous, Numbers, Wrap, Help, Quit, ToPart}
-use Rattle.pager.specs.declared.command.Command.TheVariants.{Details, Mark, ToMark, Filter}
-use Rattle.pager.specs.Keys.{event_command, event_answer, event_mark, is_press}
+use Rattle.pager.specs.declared.command.Command.TheVariants.{Details, Mark, ToMark, Turn, Filter}
+use Rattle.pager.specs.Keys.{event_command, event_answer, event_mark, event_ending, is_press}
 use Rattle.pager.specs.Search.{next_match, last_match, matching, picked}
 use Rattle.pager.specs.Places.{text_place, page_rows, at_place, place_after, place_before}
 
@@ -45,7 +47,10 @@ started lines name pattern size = record {
   found = None;
   marks = replicate 53 None;
   note = Range;
+  has_previous = false;
+  has_next = false;
   is_over = false;
+  ending = ending.Quit;
 }
 
 abbrev pub half_page : Pager → ℕ
@@ -151,6 +156,7 @@ obeyed Filter p = record (filter_asked p) { number = 0; note = Range }
 obeyed Details p = record p { number = 0; note = Bytes }
 obeyed Mark p = record p { number = 0; note = Range; mode = Marking }
 obeyed ToMark p = record p { number = 0; note = Range; mode = Returning }
+obeyed Turn p = record p { number = 0; note = Range; mode = Turning }
 obeyed command p = record (after_move command p) { number = 0; found = None; note = Range }
 
 -- a character more of what is sought, of at most 80
@@ -225,6 +231,17 @@ abbrev pub gone_back : Option ℕ → Pager → Pager
 gone_back (Some line) p = record (jumped_to line p) { found = None; mode = Reading }
 gone_back None p = record p { mode = Reading }
 
+-- whether there is the text that an ending turns to
+abbrev pub has_text : Ending → Pager → Bool
+has_text ending.Quit p = true
+has_text ending.Next p = p.has_next
+has_text ending.Previous p = p.has_previous
+
+-- the reader is done, and another text is to be shown, if there is one
+abbrev pub turned : Option Ending → Pager → Pager
+turned (Some e) p = if has_text e p then record p { mode = Reading; is_over = true; ending = e } else record p { mode = Reading }
+turned None p = record p { mode = Reading }
+
 -- on a terminal of another size
 abbrev pub at_size : ℕ × ℕ → Pager → Pager
 at_size size p = at_line p.top (record p { columns = size.0; rows = size.1 })
@@ -236,6 +253,7 @@ acted Asking event p = answered (event_answer event) p
 acted Filtering event p = answered (event_answer event) p
 acted Marking event p = if is_press event then letter_marked (event_mark event) p else p
 acted Returning event p = if is_press event then gone_back (marked_line (event_mark event) p) p else p
+acted Turning event p = if is_press event then turned (event_ending event) p else p
 acted Helping event p = if is_press event then record p { mode = Reading } else p
 
 abbrev pub updated_by : Option (ℕ × ℕ) → Event → Pager → Pager

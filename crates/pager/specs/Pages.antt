@@ -18,7 +18,7 @@ use Rattle.pager.specs.declared.styles.Run.{Run}
 use Rattle.pager.specs.declared.help.TheConstants.{HELP}
 use Rattle.pager.specs.declared.pager.Pager.{Pager}
 use Rattle.pager.specs.declared.pager.Mode.{Mode}
-use Rattle.pager.specs.declared.pager.Mode.TheVariants.{Reading, Asking, Filtering, Marking, Returning, Helping}
+use Rattle.pager.specs.declared.pager.Mode.TheVariants.{Reading, Asking, Filtering, Marking, Returning, Turning, Helping}
 use Rattle.pager.specs.declared.pager.Note.{Note}
 use Rattle.pager.specs.declared.pager.Note.TheVariants.{Range, Bytes, Missing}
 use Rattle.pager.specs.Search.{numbered_line}
@@ -173,6 +173,7 @@ first_part Asking p = if p.is_back then codes "?" else codes "/"
 first_part Filtering p = codes "&"
 first_part Marking p = codes "mark"
 first_part Returning p = codes "go to mark"
+first_part Turning p = codes ":"
 first_part Helping p = codes "keys"
 
 abbrev pub second_part : Mode → Pager → List ℕ
@@ -181,6 +182,7 @@ second_part Asking p = flat_map encode_utf8 p.typed
 second_part Filtering p = flat_map encode_utf8 p.typed
 second_part Marking p = codes ": a letter"
 second_part Returning p = codes ": a letter, or ' for where the last jump began"
+second_part Turning p = codes " n for the next text, p for the one before, q for the end"
 second_part Helping p = codes ": any key goes back"
 
 -- the status in a row, one part after the other

@@ -1,10 +1,12 @@
-//! What an event asks for while a search is typed, which mark it names, and which one leaves the help.
+//! What an event asks for while a search is typed, which mark or text it names, and which one leaves
+//! the help.
 
 ghost use Rattle.std.specs.Prelude.{◌≡◌, ◌<◌, IfSome};
 ghost use Rattle.pager.specs.Keys.{code_answer, control_answer, kind_answer, event_answer, is_press_kind};
-ghost use Rattle.pager.specs.Keys.{is_press, mark_index, code_mark, event_mark};
+ghost use Rattle.pager.specs.Keys.{is_press, mark_index, code_mark, event_mark, code_ending, event_ending};
 
 use crate::command::has_control_key;
+use crate::pager::Ending;
 use ratatui_events::{Event, KeyCode, KeyEvent, KeyEventKind};
 
 /// What is made of a search that is typed.
@@ -123,6 +125,28 @@ pub fn mark_of(event: Event) -> Option<usize>
 {
     match event {
         Event::Key(key) if !has_control_key(key) => code_mark(key.code),
+        _ => None,
+    }
+}
+
+// The text that a key turns to.
+fn code_ending(code: KeyCode) -> Option<Ending>
+    ensures { result ≡ code_ending code }
+{
+    match code {
+        KeyCode::Char('n') => Some(Ending::Next),
+        KeyCode::Char('p') => Some(Ending::Previous),
+        KeyCode::Char('q') => Some(Ending::Quit),
+        _ => None,
+    }
+}
+
+/// Returns the text that an event turns to, after a colon: `n` and `p`; or the end, `q`.
+pub fn ending_of(event: Event) -> Option<Ending>
+    ensures { result ≡ event_ending event }
+{
+    match event {
+        Event::Key(key) if !has_control_key(key) => code_ending(key.code),
         _ => None,
     }
 }

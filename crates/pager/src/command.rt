@@ -53,6 +53,8 @@ pub enum Command {
     Mark,
     /// The line of a mark.
     ToMark,
+    /// Another text.
+    Turn,
     /// The list of the keys.
     Help,
     /// The end.
@@ -101,6 +103,7 @@ fn character_command(code: char) -> Command
         '=' => Command::Details,
         'm' => Command::Mark,
         '\'' => Command::ToMark,
+        ':' => Command::Turn,
         '0'..='9' => Command::Digit((code as u32 - 48) as u8),
         _ => move_command(code),
     }

@@ -4,7 +4,7 @@ ghost use Rattle.std.specs.Prelude.{◌≡◌, [], slice_get, option_map, unwrap
 ghost use Rattle.pager.specs.Pages.{help_text};
 
 /// The list of the keys, row by row.
-pub static HELP: [&str; 17] = [
+pub static HELP: [&str; 18] = [
     "j k  Down Up  Enter   a row further, back: or as many as the number typed before",
     "Space b  f b  PgDn PgUp   a page further, back",
     "d u                   half a page further, back",
@@ -17,6 +17,7 @@ pub static HELP: [&str; 17] = [
     "m ' and a letter      marks the first row's line, goes back; '' to the last jump",
     "=                     how many bytes of the text end with the page",
     "l w                   numbers of lines, or none; long lines broken, or cut",
+    ":n :p                 the next text, the one before, if there are several",
     "h                     this list",
     "q  Ctrl+C             the end",
     "The wheel of the mouse goes three rows further or back.",

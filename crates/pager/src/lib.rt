@@ -33,7 +33,7 @@ pub use command::Command;
 pub use document::{Document, Numbers, TextError};
 pub use help::HELP;
 pub use own_text::OwnText;
-pub use pager::{Mode, Note, Pager};
+pub use pager::{Ending, Mode, Note, Pager};
 pub use parting::parted;
 pub use place::Place;
 pub use showing::{show, show_on};

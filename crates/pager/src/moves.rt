@@ -161,7 +161,7 @@ impl<'a> Pager<'a> {
         self.typed = Typing::new();
     }
 
-    // Takes the next key for a mark.
+    // Takes the next key for a mark or a text.
     fn await_letter(&mut self, mode: Mode)
         ensures { self.new ≡ record self.old { mode = mode; note = Note.Range } }
     {
@@ -189,6 +189,7 @@ impl<'a> Pager<'a> {
             Command::Details => self.note = Note::Bytes,
             Command::Mark => self.await_letter(Mode::Marking),
             Command::ToMark => self.await_letter(Mode::Returning),
+            Command::Turn => self.await_letter(Mode::Turning),
             _ => {
                 self.go(command);
                 self.found = None;

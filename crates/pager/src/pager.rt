@@ -1,10 +1,10 @@
 //! The state of a pager.
 
 ghost use Rattle.std.specs.Prelude.{◌≡◌, OnOk, OnErr};
-ghost use Rattle.pager.specs.Moves.{started, with_one_less, taken_in, answered, acted, updated};
+ghost use Rattle.pager.specs.Moves.{started, with_one_less, taken_in, answered, has_text, acted, updated};
 ghost use Rattle.pager.specs.Inner.{at_told_size};
 
-use crate::answer::{Answer, answer_of, is_press, mark_of};
+use crate::answer::{Answer, answer_of, ending_of, is_press, mark_of};
 use crate::command::command_of;
 use crate::document::{Document, Numbers};
 use crate::own_text::OwnText;
@@ -28,8 +28,21 @@ pub enum Mode {
     Marking,
     /// For the letter of a mark to go to.
     Returning,
+    /// For the text to turn to.
+    Turning,
     /// The list of the keys is shown; any key ends that.
     Helping,
+}
+
+/// How a reader is done with a text.
+#[derive(Debug, Clone, Copy, PartialEq, Eq)]
+pub enum Ending {
+    /// With the pager.
+    Quit,
+    /// The text after it is to be shown.
+    Next,
+    /// The text before it is to be shown.
+    Previous,
 }
 
 /// What the status tells while a text is read.
@@ -84,8 +97,12 @@ pub struct Pager<'a> {
     pub(crate) marks: [Option<u32>; MARKS],
     /// What the status tells.
     pub(crate) note: Note,
-    /// Whether the reader is done.
+    /// Whether a text can be turned to, back and further.
+    pub(crate) has_previous: bool,
+    pub(crate) has_next: bool,
+    /// Whether the reader is done, and how.
     pub(crate) is_over: bool,
+    pub(crate) ending: Ending,
 }
 
 impl<'a> Pager<'a> {
@@ -116,8 +133,29 @@ impl<'a> Pager<'a> {
             found: None,
             marks: [None; MARKS],
             note: Note::Range,
+            has_previous: false,
+            has_next: false,
             is_over: false,
+            ending: Ending::Quit,
         }
+    }
+
+    /// Sets whether there is a text before this one and one after it, to which `:p` and `:n` turn.
+    pub fn between(self, has_previous: bool, has_next: bool) -> Pager<'a>
+        ensures { result ≡ record self.entry { has_previous = has_previous; has_next = has_next } }
+    {
+        Pager {
+            has_previous,
+            has_next,
+            ..self
+        }
+    }
+
+    /// Returns how the reader is done with the text; it means something once the pager is over.
+    pub fn ending(&self) -> Ending
+        ensures { result ≡ self.now.ending }
+    {
+        self.ending
     }
 
     /// Sets the styles of the lines.
@@ -197,6 +235,33 @@ impl<'a> Pager<'a> {
         }
     }
 
+    // Whether there is the text that an ending turns to.
+    fn has(&self, ending: Ending) -> bool
+        ensures { result ≡ has_text ending self.now }
+    {
+        match ending {
+            Ending::Quit => true,
+            Ending::Next => self.has_next,
+            Ending::Previous => self.has_previous,
+        }
+    }
+
+    // Turns to another text, if an event names one that there is.
+    fn take_turn(&mut self, event: Event)
+        ensures { self.new ≡ acted Mode.Turning event self.old }
+    {
+        if !is_press(event) {
+            return;
+        }
+        self.mode = Mode::Reading;
+        if let Some(ending) = ending_of(event) {
+            if self.has(ending) {
+                self.is_over = true;
+                self.ending = ending;
+            }
+        }
+    }
+
     // Leaves the help, if an event does.
     fn end_help(&mut self, event: Event)
         ensures { self.new ≡ acted Mode.Helping event self.old }
@@ -223,6 +288,10 @@ impl<'a> Pager<'a> {
             }
             Mode::Returning => {
                 self.take_return(event);
+                Ok(())
+            }
+            Mode::Turning => {
+                self.take_turn(event);
                 Ok(())
             }
             Mode::Helping => {

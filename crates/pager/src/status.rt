@@ -120,6 +120,7 @@ impl<'a> Pager<'a> {
             Mode::Filtering => "&",
             Mode::Marking => "mark",
             Mode::Returning => "go to mark",
+            Mode::Turning => ":",
             Mode::Helping => "keys",
         }
     }
@@ -202,6 +203,10 @@ impl<'a> Pager<'a> {
             Mode::Marking => paint_text(": a letter", room, reversed(), x, y, part, buf),
             Mode::Returning => {
                 let awaited = ": a letter, or ' for where the last jump began";
+                paint_text(awaited, room, reversed(), x, y, part, buf)
+            }
+            Mode::Turning => {
+                let awaited = " n for the next text, p for the one before, q for the end";
                 paint_text(awaited, room, reversed(), x, y, part, buf)
             }
             Mode::Helping => {

@@ -5,10 +5,10 @@ use clap::{Arg, ArgMatches, Command, value_parser};
 use programs::VERSION;
 use std::alloc::{AllocError, Global};
 
-/// Says what the program takes: a file, and the columns and rows of the terminal.
+/// Says what the program takes: files, and the columns and rows of the terminal.
 pub fn command<'a>(alloc: Global) -> Result<Command<'a>, AllocError> {
-    let file = Arg::new(alloc, "FILE").help(
-        "The text, and then the keys are read from standard input; with - it is that",
+    let file = Arg::new(alloc, "FILE").num_args(0..).help(
+        "The texts, and then the keys are read from standard input; with - it is that",
     );
     let columns = Arg::new(alloc, "COLUMNS")
         .long("columns")
@@ -39,8 +39,10 @@ pub fn given_by(matches: &ArgMatches<'_>) -> Given {
     }
 }
 
-/// Returns the file that the words name, if they do.
-pub fn name_of<'a>(matches: &ArgMatches<'a>) -> Option<&'a str> {
-    let name = matches.get_str("FILE")?;
-    (name != "-").then_some(name)
+/// Returns the files that the words name: none if the text is standard input's.
+pub fn names_of<'b, 'a>(matches: &'b ArgMatches<'a>) -> &'b [&'a str] {
+    match matches.get_strs("FILE") {
+        Some(["-"]) | None => &[],
+        Some(names) => names,
+    }
 }
