@@ -102,7 +102,7 @@ split-name name e = slice_split_none is_slash name (no-slashes name (name-unslas
 -- the path of a name in a folder is a path
 is_path-entry : (folder name : List ℕ) → is_path folder ≡ true → is_name name ≡ true → is_path (path_in folder name) ≡ true
 is_path-entry [] name p e =
-    ap (λ ps. bytes_eq name [] || list_all is_name ps) (split-name name e) ∙ ap (λ b. bytes_eq name [] || (b && true)) e 
+    ap (λ ps. bytes_eq name [] || list_all is_name ps) (split-name name e) ∙ ap (λ b. bytes_eq name [] || (b && true)) e
     ∙ or_right (bytes_eq name []) true refl
 is_path-entry (c ∷ folder) name p e =
     ap (λ text. list_all is_name (slice_split is_slash text)) (append_assoc (c ∷ folder) (codes "/") name)

@@ -71,7 +71,7 @@ module _ {X : Type 0} (p : X → Bool) where
   one-passes : (xs : List X) (k : ℕ) → k < length xs → HoldsAt (λ x. p x ≡ true) xs k → list_any p xs ≡ true
   one-passes [] k l h = absurd (omega arith)
   one-passes (x ∷ xs) zero l h = ap (λ b. b || list_any p xs) (h x)
-  one-passes (x ∷ xs) (suc k) l h = ap (λ b. p x || b) (one-passes xs k (omega arith) h) 
+  one-passes (x ∷ xs) (suc k) l h = ap (λ b. p x || b) (one-passes xs k (omega arith) h)
       ∙ or_right (p x) true refl
 
   none-passes : (xs : List X) → ((k : ℕ) (d : X) → k < length xs → p (slice_index_or xs k d) ≡ false) → list_any p xs ≡ false

@@ -17,10 +17,14 @@ pub fn script(args: &mut Args<'_>, answer: &mut Answer) -> Result<(), RowError> 
             Err(_) => Err(RowError::Unread),
         },
         Err(RunError::Memory)
-        | Err(RunError::Step(StepError {
-            cause: PlayCause::Memory,
-            ..
-        })) => Err(RowError::Memory),
+        | Err(
+            RunError::Step(
+                StepError {
+                    cause: PlayCause::Memory,
+                    ..
+                },
+            ),
+        ) => Err(RowError::Memory),
         Err(fault) => answer.refused(&fault),
     }
 }
