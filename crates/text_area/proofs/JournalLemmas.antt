@@ -3,7 +3,7 @@ use Rattle.std.proofs.Common.{ℕ, zero, suc, ◌≡◌, ◌+◌, ◌-◌, ◌�
 use Rattle.std.proofs.Common.{if◌then◌else◌, List, [], ◌∷◌, ◌++◌, length, take, drop, slice_range}
 use Rattle.std.proofs.Common.{refl, sym, ap, ap₂, subst, ◌∙◌, arith, append_assoc, length-append}
 use Rattle.std.proofs.lemmas.{List.take_at, List.drop_at, List.length-take-le, List.length-take}
-use Rattle.std.proofs.lemmas.{List.take-append-drop, List.take-append-le}
+use Rattle.std.proofs.lemmas.{List.take-append-drop, List.take-append-le, Bool.and_parts}
 use Rattle.std.proofs.lemmas.{Str.IsCharBoundary-at_seam, Str.IsUtf8-append, Str.IsUtf8-drop, Str.IsUtf8-take}
 use Rattle.std.proofs.lemmas.{Str.IsUtf8-between, Str.IsCharBoundary-from_take}
 use Rattle.std.specs.{List.replace_range, Str.IsUtf8, Str.IsCharBoundary}
@@ -129,9 +129,9 @@ step-longer s text piece utf8 put step =
 places-after : (from to : ℕ) (s : StepData) (piece : List ℕ)
     → (is_after from to s && not (begins_line piece)) ≡ true → (s.to ≡ from) × (s.to ≡ to)
 places-after from to s piece is =
-    let first = both-true (is_after from to s) (not (begins_line piece)) is in
-    let both = both-true (from == to) ((s.to == from) && ltb s.at from) first.0 in
-    let last = both-true (s.to == from) (ltb s.at from) both.1 in
+    let first = and_parts (is_after from to s) (not (begins_line piece)) is in
+    let both = and_parts (from == to) ((s.to == from) && ltb s.at from) first.0 in
+    let last = and_parts (s.to == from) (ltb s.at from) both.1 in
     let start : s.to ≡ from = eqb-true s.to from last.0 in
     (start, start ∙ eqb-true from to both.0)
 
