@@ -5,3 +5,7 @@ pub mod RowLemmas
 pub mod SizeLemmas
 pub mod FilterLemmas
 pub mod StyleLemmas
+pub mod PastLemmas
+pub mod MeetLemmas
+pub mod BrokenLemmas
+pub mod LeaveLemmas

@@ -11,13 +11,15 @@ ghost use Rattle.ratatui_reads.specs.Reads.{Between};
 ghost use Rattle.ratatui_reads.specs.Sources.{Coming};
 ghost use Rattle.ratatui_app.specs.Showing.{RunsTo};
 ghost use Rattle.ratatui_app.specs.Glass.{sender, RunsOnGlass, RunsAlongGlass, IsOnGlass};
-ghost use Rattle.pager.specs.Moves.{started, updated};
+ghost use Rattle.pager.specs.Moves.{started, updated, after_move};
 ghost use Rattle.pager.specs.Search.{next_match, last_match, IsFirstMatch, IsLastMatch};
 ghost use Rattle.pager.specs.Keys.{IsControlC};
 ghost use Rattle.pager.specs.Symbols.{LineSymbol, line_symbols};
 ghost use Rattle.pager.specs.Pages.{IsInOneRow};
 ghost use Rattle.pager.specs.declared.styles.Run.{Run};
-ghost use Rattle.pager.specs.Places.{IsInText, text_columns};
+ghost use Rattle.pager.specs.Places.{IsInText, text_columns, page_rows, page_place, text_place, place_after};
+ghost use Rattle.pager.specs.Places.{places_after, breaking, last_page, earlier, is_before};
+ghost use Rattle.pager.specs.declared.command.Command.TheVariants.{PageDown};
 ghost use Rattle.pager.specs.Paging.{paging, page_size, IsPaged, FillsScreen, FillsAlong, TakesAlong};
 ghost use Rattle.pager.specs.declared.pager.Pager.{Pager};
 
@@ -51,6 +53,18 @@ pub fn broken_lines_lose_nothing()
         → p.wraps ≡ true → 2 ≤ text_columns p
         → Contains (line_symbols pattern runs line) s → s.columns ≤ 2 → s.column < 2 ^ 32
         → IsInOneRow p (text_columns p) line s }
+{}
+
+/// Pages meet: a page further begins with the row after the last one of the page before, or it is
+/// the last page; and if that doesn't begin with the text's first row, the row after it is the
+/// text's end.
+pub fn pages_meet()
+    ensures further { (p : Pager) → p.number ≡ 0
+        → page_place (after_move PageDown p)
+        ≡ earlier (place_after (page_rows p) p) (last_page p) }
+    ensures ends { (p : Pager) → is_before (text_place 0 0) (last_page p) ≡ true
+        → places_after (breaking p) (page_rows p) (last_page p)
+        ≡ text_place (length p.document) 0 }
 {}
 
 /// Two times Ctrl+C leave, whatever is typed or shown.

@@ -3,7 +3,6 @@
 ghost use Rattle.std.specs.Prelude.{◌≡◌, ◌<◌, ◌≤◌, ◌+◌, [], min, ◌^◌, ◌-◌};
 ghost use Rattle.pager.specs.Search.{numbered_line};
 ghost use Rattle.pager.specs.Symbols.{line_symbols};
-ghost use Rattle.pager.proofs.PastLemmas.{places-past};
 ghost use Rattle.pager.specs.Places.{page_place, breaking, number_columns, stride, last_start, rows_of_line};
 ghost use Rattle.pager.specs.Places.{next_place, previous_place, places_after, places_before, page_rows};
 ghost use Rattle.pager.specs.Places.{last_page, is_before, earlier, at_place, place_after, place_before};
