@@ -3,6 +3,7 @@ use Rattle.std.proofs.Common.{◌≡◌, ◌≤◌, ◌<◌, ℕ, zero, suc, ◌
 use Rattle.std.proofs.Common.{Bool, true, false, cond, min, ◌/◌, ◌^◌, subst, nat_lt, if◌then◌else◌, add-one}
 use native.Mathlib.Nat.{zero-div}
 use Rattle.std.specs.List.{slice_index_or}
+use Rattle.unicode_segmentation.proofs.Computing.{unicode_segmentation}
 use Rattle.unicode_segmentation.specs.Grapheme.{graphemes}
 use Rattle.pager.specs.declared.place.Place.{Place}
 use Rattle.pager.specs.Search.{numbered_line}
@@ -17,7 +18,7 @@ line-past (l ∷ ls) (suc k) le = line-past ls k (omega (arith, le))
 
 -- and it takes one row
 no-symbols : last_start 0 (line_symbols [] [] []) ≡ 0
-unfolding symbols_from
+unfolding unicode_segmentation symbols_from
 no-symbols = refl
 
 row-past : (t : Breaking) → rows_of_line t [] ≡ 1
