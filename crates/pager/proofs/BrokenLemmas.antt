@@ -82,7 +82,7 @@ in-one-row p pattern line runs s wraps wide (k, l, is) narrow fits =
     let some : 0 < n = omega arith in
     let more : n + 1 ≡ width = omega (arith, wide) in
     let seen : (k : ℕ) → is_in_view (view_at p k width) s
-        ≡ (nat_le (k * n) s.column && nat_lt s.column (k * n + min n width) && nat_le (s.column + s.columns) (k * n + width)) =
+    ≡ (nat_le (k * n) s.column && nat_lt s.column (k * n + min n width) && nat_le (s.column + s.columns) (k * n + width)) =
     λ k. ap (λ b. is_in_view (if b then record { left = k * n; limit = k * n + min n width; width = width }
     else view_from p.left width) s) wraps in
     let last : ℕ = last_start 0 (line_symbols [] [] line) in

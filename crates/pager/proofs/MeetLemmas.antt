@@ -41,7 +41,7 @@ row-less t line row =
     let some : nat_lt 0 (suc row) ≡ true = grind (arith, nat_tests) in
     let same : suc row - 1 ≡ row = omega arith in
     let other : Place = if nat_lt 0 line then text_place (line - 1)
-        (rows_of_line t (numbered_line t.lines (line - 1)) - 1) else text_place line (suc row) in
+    (rows_of_line t (numbered_line t.lines (line - 1)) - 1) else text_place line (suc row) in
     ap (λ b. if b then text_place line (suc row - 1) else other) some ∙ ap (text_place line) same
 
 -- the row before is a row
