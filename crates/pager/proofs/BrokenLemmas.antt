@@ -1,5 +1,5 @@
 -- Broken lines lose nothing.
-use Rattle.std.proofs.Common.{◌≡◌, ◌<◌, ◌≤◌, ℕ, zero, suc, ◌+◌, ◌-◌, ◌*◌, ◌/◌, ◌^◌, ◌&&◌, min, max, Bool, true, false, List, []}
+use Rattle.std.proofs.Common.{◌≡◌, ◌<◌, ◌≤◌, ℕ, zero, suc, ◌+◌, ◌-◌, ◌*◌, ◌/◌, ◌^◌, ◌&&◌, min, true, List, []}
 use Rattle.std.proofs.Common.{◌∷◌, length, Contains, slice_index_or, nat_le, nat_lt, refl, ap, sym, ◌∙◌, subst, arith}
 use Rattle.std.proofs.Common.{if◌then◌else◌}
 use Rattle.std.proofs.Math.Nat.{div-mul-le_self, lt-div-mul-add, div-eq_of_lt-le, le-div_iff_mul-le, add-mul, one-mul}
@@ -8,7 +8,7 @@ use Rattle.unicode_segmentation.specs.Grapheme.{graphemes}
 use Rattle.pager.specs.declared.pager.Pager.{Pager}
 use Rattle.pager.specs.declared.styles.Run.{Run}
 use Rattle.pager.specs.Symbols.{LineSymbol, Reach, shown_columns, reach_after, symbols_from, line_symbols, line_front, is_in_view}
-use Rattle.pager.specs.Places.{last_start, text_columns, stride, rows_of_line, breaking}
+use Rattle.pager.specs.Places.{last_start, text_columns, stride}
 use Rattle.pager.specs.Pages.{IsInOneRow, view_at, view_from}
 
 -- columns don't depend on what is sought, and on styles

@@ -1,17 +1,16 @@
 -- Ctrl+C leaves each mode, and then the pager.
-use Rattle.std.proofs.Common.{◌≡◌, ℕ, ◌==◌, Bool, true, false, Option, Some, None, refl, ap, sym, ◌∙◌, if◌then◌else◌}
+use Rattle.std.proofs.Common.{◌≡◌, ◌==◌, true, None, refl, ap, ◌∙◌, if◌then◌else◌}
 use Rattle.ratatui_events.specs.declared.event.Event.TheVariants.{Key}
 use Rattle.ratatui_events.specs.declared.key.KeyEvent.{KeyEvent}
 use Rattle.ratatui_events.specs.declared.key.KeyEventKind.{KeyEventKind}
 use Rattle.ratatui_events.specs.declared.key.KeyEventKind.TheVariants.{Press, Repeat, Release}
-use Rattle.ratatui_events.specs.Key.{modifier_bits}
 use Rattle.pager.specs.declared.pager.Pager.{Pager}
 use Rattle.pager.specs.declared.pager.Mode.{Mode}
 use Rattle.pager.specs.declared.pager.Mode.TheVariants.{Reading, Asking, Filtering, Marking, Returning, Turning, Helping}
 use Rattle.pager.specs.declared.command.Command.TheVariants.{Quit}
 use Rattle.pager.specs.declared.answer.Answer.TheVariants.{Cancel}
 use Rattle.pager.specs.Keys.{IsControlC, has_control_key, control_command, control_answer, kind_command, kind_answer}
-use Rattle.pager.specs.Keys.{code_command, code_answer, code_mark, event_command, event_answer, event_mark, is_press}
+use Rattle.pager.specs.Keys.{code_mark, event_mark}
 use Rattle.pager.specs.Keys.{event_ending, code_ending}
 use Rattle.pager.specs.Keys.{is_press_kind}
 use Rattle.pager.specs.Moves.{acted, answered, obeyed, updated, letter_marked, gone_back, marked_line, turned}
@@ -21,14 +20,14 @@ module _ (k : KeyEvent) (is : IsControlC k) where
   held = ap (λ n. n == 4) is.control
 
   command-of : (kind : KeyEventKind) → is_press_kind kind ≡ true → kind_command kind k ≡ Quit
-  command-of Release no = cc
-  command-of Press yes = rw held (ap control_command is.code)
-  command-of Repeat yes = rw held (ap control_command is.code)
+  command-of Release released = cc
+  command-of Press pressed = rw held (ap control_command is.code)
+  command-of Repeat pressed = rw held (ap control_command is.code)
 
   answer-of : (kind : KeyEventKind) → is_press_kind kind ≡ true → kind_answer kind k ≡ Cancel
-  answer-of Release no = cc
-  answer-of Press yes = rw held (ap control_answer is.code)
-  answer-of Repeat yes = rw held (ap control_answer is.code)
+  answer-of Release released = cc
+  answer-of Press pressed = rw held (ap control_answer is.code)
+  answer-of Repeat pressed = rw held (ap control_answer is.code)
 
   no-mark : event_mark (Key k) ≡ None
   no-mark = ap (λ b. if b then None else code_mark k.code) held

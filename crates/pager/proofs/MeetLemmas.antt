@@ -1,5 +1,5 @@
 -- Pages meet, and the last one ends with the text.
-use Rattle.std.proofs.Common.{◌≡◌, ◌<◌, ◌≤◌, ◌==◌, ◌&&◌, ◌||◌, ℕ, zero, suc, ◌+◌, ◌-◌, Bool, true, false, List, [], length}
+use Rattle.std.proofs.Common.{◌≡◌, ◌<◌, ◌≤◌, ◌==◌, ℕ, zero, suc, ◌+◌, ◌-◌, Bool, true, false, List, [], length}
 use Rattle.std.proofs.Common.{nat_lt, if◌then◌else◌, refl, ap, sym, ◌∙◌, subst, arith, min, ◌/◌, ◌^◌}
 use Rattle.std.proofs.lemmas.Bool.Decides.{nat_tests}
 use Rattle.pager.specs.declared.pager.Pager.{Pager}
@@ -9,7 +9,8 @@ use Rattle.pager.specs.Search.{numbered_line}
 use Rattle.pager.specs.Symbols.{line_symbols}
 use Rattle.pager.specs.Places.{Breaking, breaking, text_place, page_place, page_rows, last_start, rows_of_line, next_place}
 use Rattle.pager.specs.Places.{previous_place, places_after, places_before, place_after, last_page, earlier, is_before}
-use Rattle.pager.specs.Moves.{after_move, at_place}
+use Rattle.pager.specs.Places.{at_place}
+use Rattle.pager.specs.Moves.{after_move}
 
 pub meets : (p : Pager) → p.number ≡ 0
     → page_place (after_move PageDown p) ≡ earlier (place_after (page_rows p) p) (last_page p)

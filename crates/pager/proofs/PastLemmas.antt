@@ -1,13 +1,11 @@
 -- Places after the end of a text.
-use Rattle.std.proofs.Common.{◌≡◌, ◌≤◌, ◌<◌, ℕ, zero, suc, ◌+◌, ◌-◌, List, [], ◌∷◌, length, refl, ap, sym, ◌∙◌, arith}
-use Rattle.std.proofs.Common.{Bool, true, false, cond, min, ◌/◌, ◌^◌, subst, nat_lt, if◌then◌else◌, add-one}
+use Rattle.std.proofs.Common.{◌≡◌, ◌≤◌, ℕ, zero, suc, ◌+◌, ◌-◌, List, [], ◌∷◌, length, refl, ap, sym, ◌∙◌, arith}
+use Rattle.std.proofs.Common.{Bool, true, false, min, ◌/◌, ◌^◌, nat_lt, if◌then◌else◌}
 use native.Mathlib.Nat.{zero-div}
-use Rattle.std.specs.List.{slice_index_or}
 use Rattle.unicode_segmentation.proofs.Computing.{unicode_segmentation}
-use Rattle.unicode_segmentation.specs.Grapheme.{graphemes}
 use Rattle.pager.specs.declared.place.Place.{Place}
 use Rattle.pager.specs.Search.{numbered_line}
-use Rattle.pager.specs.Symbols.{line_symbols, line_front, symbols_from}
+use Rattle.pager.specs.Symbols.{line_symbols, symbols_from}
 use Rattle.pager.specs.Places.{Breaking, text_place, last_start, rows_of_line, next_place, places_after}
 
 -- no line is there

@@ -1,6 +1,6 @@
 -- What a pager paints: lines in rows, and the status in the last one.
 use Rattle.std.specs.Prelude.{◌≡◌, ◌<◌, ℕ, zero, suc, ◌+◌, ◌-◌, ◌*◌, ◌/◌, ◌==◌, true}
-use Rattle.std.specs.Prelude.{min, if◌then◌else◌, List, [], ◌∷◌, ◌++◌, length, Option, Some, None, option_map}
+use Rattle.std.specs.Prelude.{min, if◌then◌else◌, List, [], ◌∷◌, ◌++◌, length, Option, Some, None, map}
 use Rattle.std.specs.Prelude.{unwrap_or, slice_get, slice_index_or, is_some, codes, encode_utf8, ◌^◌}
 use Rattle.std.specs.{Fmt.decimal, List.flat_map}
 use Rattle.ratatui_core.specs.{Layout.Rect, Layout.EdgesFit, Style.Style, Style.new_style}
@@ -98,7 +98,7 @@ PaintsLineAt None p q r y = PaintsLine r.x y (view_from 0 r.width) [] [] (codes 
 
 -- a row of the list of the keys
 abbrev pub help_text : ℕ → List ℕ
-help_text k = unwrap_or (option_map (λ line. line.now) (slice_get HELP k)) []
+help_text k = unwrap_or (slice_get (map (λ line. line.now) HELP) k) []
 
 -- a place of the text in a row
 abbrev pub PaintsTextRow : Pager → Place → Rect → ℕ → BufferData → BufferData → Type 0

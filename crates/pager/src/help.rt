@@ -1,10 +1,10 @@
 //! The list of the keys.
 
-ghost use Rattle.std.specs.Prelude.{◌≡◌, [], slice_get, option_map, unwrap_or};
+ghost use Rattle.std.specs.Prelude.{◌≡◌, [], map, slice_get, unwrap_or};
 ghost use Rattle.pager.specs.Pages.{help_text};
 
 /// The list of the keys, row by row.
-pub static HELP: [&str; 18] = [
+pub static HELP: [&str; 17] = [
     "j k  Down Up  Enter   a row further, back: or as many as the number typed before",
     "Space b  f b  PgDn PgUp   a page further, back",
     "d u                   half a page further, back",
@@ -18,8 +18,7 @@ pub static HELP: [&str; 18] = [
     "=                     how many bytes of the text end with the page",
     "l w                   numbers of lines, or none; long lines broken, or cut",
     ":n :p                 the next text, the one before, if there are several",
-    "h                     this list",
-    "q  Ctrl+C             the end",
+    "h  q  Ctrl+C          this list; the end",
     "The wheel of the mouse goes three rows further or back.",
     "A search takes A to Z as small letters, unless one of them is typed.",
     "Tabs go to every eighth column. What can't be shown is a replacement character.",
@@ -27,7 +26,7 @@ pub static HELP: [&str; 18] = [
 
 // Row k of a list, and after it an empty one.
 fn row_of(rows: &[&'static str], k: u16) -> &'static str
-    ensures { result.now ≡ unwrap_or (option_map (λ row. row.now) (slice_get rows.now k)) [] }
+    ensures { result.now ≡ unwrap_or (slice_get (map (λ row. row.now) rows.now) k) [] }
 {
     match rows.get(usize::from(k)) {
         Some(row) => row,
