@@ -3,3 +3,9 @@ pub mod SearchLemmas
 pub mod PlaceLemmas
 pub mod RowLemmas
 pub mod SizeLemmas
+pub mod FilterLemmas
+pub mod StyleLemmas
+pub mod PastLemmas
+pub mod MeetLemmas
+pub mod BrokenLemmas
+pub mod LeaveLemmas

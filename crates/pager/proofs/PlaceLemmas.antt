@@ -1,5 +1,5 @@
 -- The place lies in the text, whatever comes.
-use Rattle.std.proofs.Common.{◌≡◌, ℕ, ◌-◌, ◌==◌, ◌&&◌, ◌||◌, Bool, true, false, not, nat_lt, if◌then◌else◌, List, length}
+use Rattle.std.proofs.Common.{◌≡◌, ℕ, ◌-◌, ◌==◌, ◌&&◌, ◌||◌, Bool, true, false, not, nat_lt, if◌then◌else◌, List, [], length}
 use Rattle.std.proofs.Common.{take, encode_utf8, Option, Some, None, refl, arith}
 use Rattle.std.proofs.lemmas.Bool.Decides.{nat_tests}
 use Rattle.std.specs.List.{flat_map}
@@ -8,20 +8,23 @@ use Rattle.ratatui_events.specs.declared.event.Event.{Event}
 use Rattle.ratatui_reads.specs.Reads.{size_in}
 use Rattle.pager.specs.declared.pager.Pager.{Pager}
 use Rattle.pager.specs.declared.pager.Mode.{Mode}
-use Rattle.pager.specs.declared.pager.Mode.TheVariants.{Reading, Asking, Helping}
+use Rattle.pager.specs.declared.pager.Mode.TheVariants.{Reading, Asking, Filtering, Marking, Returning, Turning, Helping}
 use Rattle.pager.specs.declared.answer.Answer.{Answer}
 use Rattle.pager.specs.declared.answer.Answer.TheVariants.{Add, Erase, Search, Cancel, Ignore}
 use Rattle.pager.specs.declared.command.Command.{Command}
 use Rattle.pager.specs.declared.command.Command.TheVariants.{Nothing, Digit, Down, Up, PageDown, PageUp, HalfDown, HalfUp}
 use Rattle.pager.specs.declared.command.Command.TheVariants.{WheelDown, WheelUp}
 use Rattle.pager.specs.declared.command.Command.TheVariants.{ToStart, ToEnd, ToLeft, ToRight, Ask, Next, Previous, Numbers, Wrap}
-use Rattle.pager.specs.declared.command.Command.TheVariants.{Help, Quit}
-use Rattle.pager.specs.Search.{next_match, last_match}
+use Rattle.pager.specs.declared.command.Command.TheVariants.{Help, Quit, ToPart, Details, Mark, ToMark, Turn, Filter}
+use Rattle.std.specs.Prelude.{replicate}
+use Rattle.pager.specs.Search.{next_match, last_match, matching, picked}
 use Rattle.pager.specs.declared.place.Place.{Place}
 use Rattle.pager.specs.Places.{IsInText, text_place, last_page, is_before, at_place}
 use Rattle.pager.specs.Moves.{started, found_at, sought_before, sought_from, before_found, after_found, sought_on, after_move}
-use Rattle.pager.specs.Moves.{obeyed, with_pattern, answered, acted, updated_by, updated}
-use Rattle.pager.specs.Keys.{event_command, event_answer, is_press}
+use Rattle.pager.specs.Moves.{obeyed, with_pattern, answered, acted, updated_by, updated, with_mark, letter_marked, marked_line, gone_back}
+use Rattle.pager.specs.Moves.{sought_first, all_lines, relined, with_lines, taken_in, has_text, turned_to}
+use Rattle.pager.specs.Keys.{event_command, event_answer, event_mark, event_ending, is_press}
+use Rattle.pager.specs.declared.pager.Ending.{Ending}
 
 -- of two places at most one stands before the other one
 both : (a b c d : ℕ) → (nat_lt a c || ((a == c) && nat_lt b d)) ≡ true → (nat_lt c a || ((c == a) && nat_lt d b)) ≡ false
@@ -44,7 +47,7 @@ pub first : (lines : List (List ℕ)) (name pattern : List ℕ) (size : Size) �
 first lines name pattern size = let l = last_page (started lines name pattern size) in none-before l.line l.row
 
 found-in : (found : Option ℕ) (p : Pager) → IsInText p → IsInText (found_at found p)
-found-in (Some k) p is = placed-in (text_place k 0) p
+found-in (Some k) p is = placed-in (text_place k 0) (with_mark 0 p)
 found-in None p is = is
 
 sought_on-in : (is_back : Bool) (p : Pager) → IsInText p → IsInText (sought_on is_back p)
@@ -60,8 +63,9 @@ moved-in HalfDown p is = placed-in _ p
 moved-in HalfUp p is = placed-in _ p
 moved-in WheelDown p is = placed-in _ p
 moved-in WheelUp p is = placed-in _ p
-moved-in ToStart p is = placed-in _ p
-moved-in ToEnd p is = placed-in _ p
+moved-in ToStart p is = placed-in _ (with_mark 0 p)
+moved-in ToEnd p is = placed-in _ (with_mark 0 p)
+moved-in ToPart p is = placed-in _ (with_mark 0 p)
 moved-in ToLeft p is = is
 moved-in ToRight p is = is
 moved-in Numbers p is = placed-in (text_place p.top 0) (record p { has_numbers = not p.has_numbers })
@@ -72,6 +76,11 @@ moved-in (Digit d) p is = is
 moved-in (Ask is_back) p is = is
 moved-in Next p is = is
 moved-in Previous p is = is
+moved-in Details p is = is
+moved-in Mark p is = is
+moved-in Filter p is = is
+moved-in ToMark p is = is
+moved-in Turn p is = is
 moved-in Nothing p is = is
 
 obeyed-in : (command : Command) (p : Pager) → IsInText p → IsInText (obeyed command p)
@@ -90,12 +99,18 @@ obeyed-in WheelDown p is = moved-in WheelDown p is
 obeyed-in WheelUp p is = moved-in WheelUp p is
 obeyed-in ToStart p is = moved-in ToStart p is
 obeyed-in ToEnd p is = moved-in ToEnd p is
+obeyed-in ToPart p is = moved-in ToPart p is
 obeyed-in ToLeft p is = is
 obeyed-in ToRight p is = is
 obeyed-in Numbers p is = moved-in Numbers p is
 obeyed-in Wrap p is = moved-in Wrap p is
 obeyed-in Help p is = is
 obeyed-in Quit p is = is
+obeyed-in Details p is = is
+obeyed-in Mark p is = is
+obeyed-in Filter p is = is
+obeyed-in ToMark p is = is
+obeyed-in Turn p is = is
 
 sought_first-if : (is_back : Bool) (p : Pager) → IsInText p
     → IsInText (if is_back then sought_before p.top p else sought_from p.top p)
@@ -106,18 +121,73 @@ pattern-if : (b : Bool) (pattern : List ℕ) (p : Pager) → IsInText p → IsIn
 pattern-if true pattern p is = is
 pattern-if false pattern p is = is
 
+sought-in : (p : Pager) → IsInText p → IsInText (sought_first (with_pattern p))
+sought-in p is = sought_first-if (with_pattern p).is_back (with_pattern p) (pattern-if (nat_lt 0 (length p.typed))
+    (flat_map encode_utf8 p.typed) p is)
+
 erased-if : (b : Bool) (typed : List ℕ) (p : Pager) → IsInText p
     → IsInText (if b then record p { typed = typed } else record p { mode = Reading })
 erased-if true typed p is = is
 erased-if false typed p is = is
 
+-- other lines, before the page of the first one is shown
+abbrev fresh : Option (List (List ℕ)) → List ℕ → List (List ℕ) → Pager → Pager
+fresh whole numbers lines p = record p {
+  document = lines;
+  whole = whole;
+  numbers = numbers;
+  left = 0;
+  found = None;
+  marks = replicate 53 None;
+}
+
+filtered-if : (b : Bool) (numbers : List ℕ) (p : Pager) → IsInText p
+    → IsInText (if b then with_lines numbers p else relined None [] (all_lines p) p)
+filtered-if true numbers p is =
+    placed-in (text_place 0 0) (fresh (Some (all_lines p)) numbers (picked (all_lines p) numbers) p)
+filtered-if false numbers p is = placed-in (text_place 0 0) (fresh None [] (all_lines p) p)
+
+taken-in : (mode : Mode) (p : Pager) → IsInText p → IsInText (taken_in mode p)
+taken-in Filtering p is = filtered-if (nat_lt 0 (length p.typed))
+    (matching (flat_map encode_utf8 p.typed) (all_lines p) (length (all_lines p))) p is
+taken-in Reading p is = sought-in p is
+taken-in Asking p is = sought-in p is
+taken-in Marking p is = sought-in p is
+taken-in Returning p is = sought-in p is
+taken-in Turning p is = sought-in p is
+taken-in Helping p is = sought-in p is
+
 answered-in : (answer : Answer) (p : Pager) → IsInText p → IsInText (answered answer p)
 answered-in (Add c) p is = is
 answered-in Erase p is = erased-if (nat_lt 0 (length p.typed)) (take (length p.typed - 1) p.typed) p is
-answered-in Search p is = sought_first-if (with_pattern p).is_back (with_pattern p) (pattern-if (nat_lt 0 (length p.typed))
-    (flat_map encode_utf8 p.typed) p is)
+answered-in Search p is = taken-in p.mode p is
 answered-in Cancel p is = is
 answered-in Ignore p is = is
+
+marked-in : (mark : Option ℕ) (p : Pager) → IsInText p → IsInText (letter_marked mark p)
+marked-in (Some mark) p is = is
+marked-in None p is = is
+
+returned-in : (line : Option ℕ) (p : Pager) → IsInText p → IsInText (gone_back line p)
+returned-in (Some line) p is = placed-in (text_place line 0) (with_mark 0 p)
+returned-in None p is = is
+
+marked-if : (b : Bool) (mark : Option ℕ) (p : Pager) → IsInText p → IsInText (if b then letter_marked mark p else p)
+marked-if true mark p is = marked-in mark p is
+marked-if false mark p is = is
+
+returned-if : (b : Bool) (line : Option ℕ) (p : Pager) → IsInText p → IsInText (if b then gone_back line p else p)
+returned-if true line p is = returned-in line p is
+returned-if false line p is = is
+
+turned_to-if : (b : Bool) (e : Option Ending) (p : Pager) → IsInText p → IsInText (if b then turned_to e p else p)
+turned_to-if true None p is = is
+turned_to-if true (Some e) p is = by (has_text e p)
+  where
+    by : (b : Bool) → IsInText (if b then record p { mode = Reading; is_over = true; ending = e } else record p { mode = Reading })
+    by true = is
+    by false = is
+turned_to-if false e p is = is
 
 helped-if : (b : Bool) (p : Pager) → IsInText p → IsInText (if b then record p { mode = Reading } else p)
 helped-if true p is = is
@@ -126,6 +196,10 @@ helped-if false p is = is
 acted-in : (mode : Mode) (event : Event) (p : Pager) → IsInText p → IsInText (acted mode event p)
 acted-in Reading event p is = obeyed-in (event_command event) p is
 acted-in Asking event p is = answered-in (event_answer event) p is
+acted-in Filtering event p is = answered-in (event_answer event) p is
+acted-in Marking event p is = marked-if (is_press event) (event_mark event) p is
+acted-in Returning event p is = returned-if (is_press event) (marked_line (event_mark event) p) p is
+acted-in Turning event p is = turned_to-if (is_press event) (event_ending event) p is
 acted-in Helping event p is = helped-if (is_press event) p is
 
 by-size : (size : Option (ℕ × ℕ)) (event : Event) (p : Pager) → IsInText p → IsInText (updated_by size event p)

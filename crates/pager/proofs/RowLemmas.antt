@@ -1,37 +1,50 @@
 -- How many rows a line takes, and the rows of a text one after the other.
-use Rattle.std.proofs.Common.{◌≡◌, ℕ, ◌+◌, ◌-◌, ◌≤◌, List, [], ◌∷◌, length, refl, ap, ◌∙◌, arith, add-one}
+use Rattle.std.proofs.Common.{◌≡◌, ℕ, ◌+◌, ◌≤◌, List, [], ◌∷◌, length, refl, ap, ◌∙◌, arith, add-one}
 use Rattle.pager.specs.declared.place.Place.{Place}
-use Rattle.pager.specs.Symbols.{shown_columns, symbols_from}
+use Rattle.pager.specs.Symbols.{Reach, shown_columns, reach_after, symbols_from}
+use Rattle.pager.specs.Search.{numbered_line}
+use Rattle.pager.specs.Pages.{bytes_before}
 use Rattle.pager.specs.Places.{Breaking, last_start, next_place, previous_place, places_after, places_before}
 
--- without anything that is sought no byte is marked
-no-mark : (n : ℕ) → 0 - n ≡ 0
-no-mark n = omega arith
+-- a place by its column alone
+abbrev pub reach_at : ℕ → ℕ → Reach
+reach_at size column = record { size = size; column = column; marked = 0; runs = [] }
 
-pub last-turn : (last column : ℕ) (g : List ℕ) (all rest : List (List ℕ)) → all ≡ g ∷ rest
-    → last_start last (symbols_from [] 0 column all) ≡ last_start column
-    (symbols_from [] 0 (column + shown_columns column g) rest)
+-- columns don't depend on marks and runs
+last-same : (last : ℕ) (a b : Reach) (gs : List (List ℕ)) → a.column ≡ b.column
+    → last_start last (symbols_from [] a gs) ≡ last_start last (symbols_from [] b gs)
 unfolding symbols_from
-last-turn last column g all rest is =
-    ap (λ gs. last_start last (symbols_from [] 0 column gs)) is
-    ∙ ap (λ m. last_start column (symbols_from [] m (column + shown_columns column g) rest)) (no-mark (length g))
+last-same last a b [] same = refl
+last-same last a b (g ∷ gs) same =
+    last-same a.column (reach_after [] a g gs) (reach_after [] b g gs) gs (ap (λ k. k + shown_columns k g) same)
+    ∙ ap (λ k. last_start k (symbols_from [] (reach_after [] b g gs) gs)) same
 
-last-le : (last column : ℕ) (gs : List (List ℕ)) → last ≤ column → last ≤ last_start last (symbols_from [] 0 column gs)
+pub last-turn : (last size column : ℕ) (g : List ℕ) (all rest : List (List ℕ)) → all ≡ g ∷ rest
+    → last_start last (symbols_from [] (reach_at size column) all)
+    ≡ last_start column (symbols_from [] (reach_at size (column + shown_columns column g)) rest)
 unfolding symbols_from
-last-le last column [] le = omega arith
-last-le last column (g ∷ gs) le =
-    let more = last-le column (column + shown_columns column g) gs (omega arith) in
-    let same = last-turn last column g (g ∷ gs) gs refl in
+last-turn last size column g all rest is =
+    ap (λ gs. last_start last (symbols_from [] (reach_at size column) gs)) is
+    ∙ last-same column (reach_after [] (reach_at size column) g rest) (reach_at size (column + shown_columns column g)) rest refl
+
+last-le : (last size column : ℕ) (gs : List (List ℕ)) → last ≤ column
+    → last ≤ last_start last (symbols_from [] (reach_at size column) gs)
+unfolding symbols_from
+last-le last size column [] le = omega arith
+last-le last size column (g ∷ gs) le =
+    let more = last-le column size (column + shown_columns column g) gs (omega arith) in
+    let same = last-turn last size column g (g ∷ gs) gs refl in
     rw same (omega arith)
 
-pub last-far : (last column : ℕ) (g : List ℕ) (all rest : List (List ℕ)) → all ≡ g ∷ rest
-    → column ≤ last_start last (symbols_from [] 0 column all)
-last-far last column g all rest is = rw (last-turn last column g all rest is)
-    (last-le column (column + shown_columns column g) rest (omega arith))
+pub last-far : (last size column : ℕ) (g : List ℕ) (all rest : List (List ℕ)) → all ≡ g ∷ rest
+    → column ≤ last_start last (symbols_from [] (reach_at size column) all)
+last-far last size column g all rest is = rw (last-turn last size column g all rest is)
+    (last-le column size (column + shown_columns column g) rest (omega arith))
 
-pub last-none : (last column : ℕ) (gs : List (List ℕ)) → gs ≡ [] → last_start last (symbols_from [] 0 column gs) ≡ last
+pub last-none : (last size column : ℕ) (gs : List (List ℕ)) → gs ≡ []
+    → last_start last (symbols_from [] (reach_at size column) gs) ≡ last
 unfolding symbols_from
-last-none last column gs none = rw none refl
+last-none last size column gs none = rw none refl
 
 -- ---- places
 
@@ -52,3 +65,14 @@ pub before-next : (t : Breaking) (n : ℕ) (q r s : Place) → r ≡ places_befo
     → s ≡ places_before t (n + 1) q
 unfolding places_before
 before-next t n q r s before is = rw add-one (is ∙ ap (previous_place t) before)
+
+-- ---- bytes
+
+pub bytes-none : (lines : List (List ℕ)) → bytes_before lines 0 ≡ 0
+unfolding bytes_before
+bytes-none lines = refl
+
+pub bytes-next : (lines : List (List ℕ)) (k : ℕ)
+    → bytes_before lines (k + 1) ≡ bytes_before lines k + length (numbered_line lines k) + 1
+unfolding bytes_before
+bytes-next lines k = rw add-one refl

@@ -9,18 +9,20 @@ use Rattle.ratatui_reads.specs.Moments.{Stage, Moment, AreMoments}
 use Rattle.ratatui_app.specs.Showing.{Device, TakesOrKeepsSize, rules_of}
 use Rattle.pager.specs.declared.pager.Pager.{Pager}
 use Rattle.pager.specs.declared.pager.Mode.{Mode}
-use Rattle.pager.specs.declared.pager.Mode.TheVariants.{Reading, Asking, Helping}
+use Rattle.pager.specs.declared.pager.Mode.TheVariants.{Reading, Asking, Filtering, Marking, Returning, Turning, Helping}
 use Rattle.pager.specs.declared.answer.Answer.{Answer}
 use Rattle.pager.specs.declared.answer.Answer.TheVariants.{Add, Erase, Search, Cancel, Ignore}
 use Rattle.pager.specs.declared.command.Command.{Command}
 use Rattle.pager.specs.declared.command.Command.TheVariants.{Nothing, Digit, Down, Up, PageDown, PageUp, HalfDown, HalfUp}
 use Rattle.pager.specs.declared.command.Command.TheVariants.{WheelDown, WheelUp}
 use Rattle.pager.specs.declared.command.Command.TheVariants.{ToStart, ToEnd, ToLeft, ToRight, Ask, Next, Previous, Numbers, Wrap}
-use Rattle.pager.specs.declared.command.Command.TheVariants.{Help, Quit}
-use Rattle.pager.specs.Search.{next_match, last_match}
+use Rattle.pager.specs.declared.command.Command.TheVariants.{Help, Quit, ToPart, Details, Mark, ToMark, Turn, Filter}
+use Rattle.pager.specs.Search.{next_match, last_match, matching}
 use Rattle.pager.specs.Moves.{found_at, sought_before, sought_from, before_found, after_found, sought_on, obeyed, with_pattern}
-use Rattle.pager.specs.Moves.{answered, acted, updated_by, updated}
-use Rattle.pager.specs.Keys.{event_command, event_answer, is_press}
+use Rattle.pager.specs.Moves.{answered, acted, updated_by, updated, letter_marked, marked_line, gone_back}
+use Rattle.pager.specs.Moves.{sought_first, all_lines, relined, with_lines, taken_in, has_text, turned_to}
+use Rattle.pager.specs.declared.pager.Ending.{Ending}
+use Rattle.pager.specs.Keys.{event_command, event_answer, event_mark, event_ending, is_press}
 use Rattle.pager.specs.Paging.{paging, page_size, FillsScreen, FillsAlong, TakesAlong}
 
 found-same : (found : Option ℕ) (p : Pager) → page_size (found_at found p) ≡ page_size p
@@ -53,6 +55,12 @@ obeyed-same Numbers p = refl
 obeyed-same Wrap p = refl
 obeyed-same Help p = refl
 obeyed-same Quit p = refl
+obeyed-same ToPart p = refl
+obeyed-same Details p = refl
+obeyed-same Mark p = refl
+obeyed-same Filter p = refl
+obeyed-same ToMark p = refl
+obeyed-same Turn p = refl
 
 first-same : (is_back : Bool) (p : Pager)
     → page_size (if is_back then sought_before p.top p else sought_from p.top p) ≡ page_size p
@@ -69,13 +77,52 @@ erased-same : (b : Bool) (typed : List ℕ) (p : Pager)
 erased-same true typed p = refl
 erased-same false typed p = refl
 
+filtered-same : (b : Bool) (numbers : List ℕ) (p : Pager)
+    → page_size (if b then with_lines numbers p else relined None [] (all_lines p) p) ≡ page_size p
+filtered-same true numbers p = refl
+filtered-same false numbers p = refl
+
+sought_first-same : (p : Pager) → page_size (sought_first (with_pattern p)) ≡ page_size p
+sought_first-same p = first-same (with_pattern p).is_back (with_pattern p)
+    ∙ pattern-same (nat_lt 0 (length p.typed)) (flat_map encode_utf8 p.typed) p
+
+taken-same : (mode : Mode) (p : Pager) → page_size (taken_in mode p) ≡ page_size p
+taken-same Filtering p = filtered-same (nat_lt 0 (length p.typed))
+    (matching (flat_map encode_utf8 p.typed) (all_lines p) (length (all_lines p))) p
+taken-same Reading p = sought_first-same p
+taken-same Asking p = sought_first-same p
+taken-same Marking p = sought_first-same p
+taken-same Returning p = sought_first-same p
+taken-same Turning p = sought_first-same p
+taken-same Helping p = sought_first-same p
+
 answered-same : (answer : Answer) (p : Pager) → page_size (answered answer p) ≡ page_size p
 answered-same (Add c) p = refl
 answered-same Erase p = erased-same (nat_lt 0 (length p.typed)) (take (length p.typed - 1) p.typed) p
-answered-same Search p = first-same (with_pattern p).is_back (with_pattern p)
-    ∙ pattern-same (nat_lt 0 (length p.typed)) (flat_map encode_utf8 p.typed) p
+answered-same Search p = taken-same p.mode p
 answered-same Cancel p = refl
 answered-same Ignore p = refl
+
+marked-same : (b : Bool) (mark : Option ℕ) (p : Pager) → page_size (if b then letter_marked mark p else p) ≡ page_size p
+marked-same true (Some mark) p = refl
+marked-same true None p = refl
+marked-same false mark p = refl
+
+returned-same : (b : Bool) (line : Option ℕ) (p : Pager) → page_size (if b then gone_back line p else p) ≡ page_size p
+returned-same true (Some line) p = refl
+returned-same true None p = refl
+returned-same false line p = refl
+
+turned_to-same : (b : Bool) (e : Option Ending) (p : Pager) → page_size (if b then turned_to e p else p) ≡ page_size p
+turned_to-same true None p = refl
+turned_to-same true (Some e) p = by (has_text e p)
+  where
+    by : (b : Bool)
+        → page_size (if b then record p { mode = Reading; is_over = true; ending = e } else record p { mode = Reading })
+        ≡ page_size p
+    by true = refl
+    by false = refl
+turned_to-same false e p = refl
 
 helped-same : (b : Bool) (p : Pager) → page_size (if b then record p { mode = Reading } else p) ≡ page_size p
 helped-same true p = refl
@@ -84,6 +131,10 @@ helped-same false p = refl
 acted-same : (mode : Mode) (event : Event) (p : Pager) → page_size (acted mode event p) ≡ page_size p
 acted-same Reading event p = obeyed-same (event_command event) p
 acted-same Asking event p = answered-same (event_answer event) p
+acted-same Filtering event p = answered-same (event_answer event) p
+acted-same Marking event p = marked-same (is_press event) (event_mark event) p
+acted-same Returning event p = returned-same (is_press event) (marked_line (event_mark event) p) p
+acted-same Turning event p = turned_to-same (is_press event) (event_ending event) p
 acted-same Helping event p = helped-same (is_press event) p
 
 -- the size that was told, or else another one

@@ -1,5 +1,6 @@
 -- The tables of the keys: what each asks for while a text is read, and while a search is typed.
-use Rattle.std.specs.Prelude.{ℕ, Bool, true, false, ◌-◌, ◌==◌, ◌||◌, ◌&&◌, nat_le, if◌then◌else◌}
+use Rattle.std.specs.Prelude.{◌≡◌, ℕ, Bool, true, false, ◌-◌, ◌==◌, ◌||◌, ◌&&◌, nat_le, if◌then◌else◌}
+use Rattle.std.specs.Prelude.{Option, Some, None}
 use Rattle.ratatui_events.specs.declared.event.Event.{Event}
 use Rattle.ratatui_events.specs.declared.event.Event.TheVariants.{Key, Mouse, Pasted}
 use Rattle.ratatui_events.specs.declared.key.KeyEvent.{KeyEvent}
@@ -14,11 +15,14 @@ use Rattle.pager.specs.declared.command.Command.{Command}
 use Rattle.pager.specs.declared.command.Command.TheVariants.{Nothing, Digit, Down, Up, PageDown, PageUp}
 use Rattle.pager.specs.declared.command.Command.TheVariants.{HalfDown, HalfUp, WheelDown, WheelUp}
 use Rattle.pager.specs.declared.command.Command.TheVariants.{ToStart, ToEnd, ToLeft, ToRight, Ask, Next}
-use Rattle.pager.specs.declared.command.Command.TheVariants.{Previous, Numbers, Wrap, Help, Quit}
+use Rattle.pager.specs.declared.command.Command.TheVariants.{Previous, Numbers, Wrap, Help, Quit, ToPart}
+use Rattle.pager.specs.declared.command.Command.TheVariants.{Details, Mark, ToMark, Turn, Filter}
+use Rattle.pager.specs.declared.pager.Ending.{Ending}
+use Rattle.pager.specs.declared.pager.Ending.TheVariants as ending
 use Rattle.pager.specs.declared.answer.Answer.{Answer}
 use Rattle.pager.specs.declared.answer.Answer.TheVariants.{Add, Erase, Search, Cancel, Ignore}
 
--- characters of moves: j, k, the blank and f, b, d, u, g, G
+-- characters of moves: j, k, the blank and f, b, d, u, g, G, and p and the sign of per cent
 abbrev pub move_command : ℕ → Command
 move_command c =
     if c == 106 then Down
@@ -29,9 +33,11 @@ move_command c =
     else if c == 117 then HalfUp
     else if c == 103 then ToStart
     else if c == 71 then ToEnd
+    else if (c == 112) || (c == 37) then ToPart
     else Nothing
 
--- a character: a letter of the table below, a slash, a question mark, a digit, or a move
+-- a character: q, a slash, a question mark, n, N, the ampersand, l, w, h, the equals sign, m, an apostrophe,
+-- a colon, a digit, or a move
 abbrev pub character_command : ℕ → Command
 character_command c =
     if c == 113 then Quit
@@ -39,9 +45,14 @@ character_command c =
     else if c == 63 then Ask true
     else if c == 110 then Next
     else if c == 78 then Previous
+    else if c == 38 then Filter
     else if c == 108 then Numbers
     else if c == 119 then Wrap
     else if c == 104 then Help
+    else if c == 61 then Details
+    else if c == 109 then Mark
+    else if c == 39 then ToMark
+    else if c == 58 then Turn
     else if nat_le 48 c && nat_le c 57 then Digit (c - 48)
     else move_command c
 
@@ -129,3 +140,39 @@ is_press_kind _ = true
 abbrev pub is_press : Event → Bool
 is_press (Key k) = is_press_kind k.kind
 is_press _ = false
+
+-- Ctrl+C, pressed or held
+pub record IsControlC (k : KeyEvent) : Type 0 where
+  pub code : k.code ≡ key.Char 99
+  pub control : modifier_bits k.modifiers ≡ 4
+  pub pressed : is_press (Key k) ≡ true
+
+-- where a character's mark is kept: the apostrophe's, then those of a to z, then those of A to Z
+abbrev pub mark_index : ℕ → Option ℕ
+mark_index c =
+    if c == 39 then Some 0
+    else if nat_le 97 c && nat_le c 122 then Some (c - 96)
+    else if nat_le 65 c && nat_le c 90 then Some (c - 38)
+    else None
+
+abbrev pub code_mark : KeyCode → Option ℕ
+code_mark (key.Char c) = mark_index c
+code_mark _ = None
+
+-- the mark that a key names
+abbrev pub event_mark : Event → Option ℕ
+event_mark (Key k) = if has_control_key k then None else code_mark k.code
+event_mark _ = None
+
+-- the text that a key turns to after a colon, or the end
+abbrev pub code_ending : KeyCode → Option Ending
+code_ending (key.Char c) =
+    if c == 110 then Some ending.Next
+    else if c == 112 then Some ending.Previous
+    else if c == 113 then Some ending.Quit
+    else None
+code_ending _ = None
+
+abbrev pub event_ending : Event → Option Ending
+event_ending (Key k) = if has_control_key k then None else code_ending k.code
+event_ending _ = None

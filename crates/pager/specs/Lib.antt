@@ -1,6 +1,7 @@
 pub mod Keys
 pub mod Search
 pub mod Symbols
+pub mod Parted
 pub mod Places
 pub mod Moves
 pub mod Pages

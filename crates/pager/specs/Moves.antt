@@ -1,29 +1,36 @@
 -- What each event makes of a pager: its place, its search, and what it shows.
 use Rattle.std.specs.Prelude.{ℕ, Bool, true, false, not, ◌+◌, ◌-◌, ◌*◌, ◌/◌, ◌==◌, nat_lt, min, max}
 use Rattle.std.specs.Prelude.{if◌then◌else◌, List, [], ◌∷◌, ◌++◌, length, take, encode_utf8, Option, Some}
-use Rattle.std.specs.Prelude.{None, ◌^◌}
+use Rattle.std.specs.Prelude.{None, ◌^◌, replicate, slice_get, slice_set, unwrap_or}
 use Rattle.std.specs.List.{flat_map}
 use Rattle.ratatui_core.specs.Layout.{Size}
 use Rattle.ratatui_events.specs.declared.event.Event.{Event}
 use Rattle.ratatui_reads.specs.Reads.{size_in}
 use Rattle.pager.specs.declared.pager.Pager.{Pager}
 use Rattle.pager.specs.declared.pager.Mode.{Mode}
-use Rattle.pager.specs.declared.pager.Mode.TheVariants.{Reading, Asking, Helping}
+use Rattle.pager.specs.declared.pager.Mode.TheVariants.{Reading, Asking, Filtering, Marking, Returning, Turning, Helping}
+use Rattle.pager.specs.declared.pager.Note.TheVariants.{Range, Bytes, Missing}
+use Rattle.pager.specs.declared.pager.Ending.{Ending}
+use Rattle.pager.specs.declared.pager.Ending.TheVariants as ending
 use Rattle.pager.specs.declared.answer.Answer.{Answer}
 use Rattle.pager.specs.declared.answer.Answer.TheVariants.{Add, Erase, Search, Cancel, Ignore}
 use Rattle.pager.specs.declared.command.Command.{Command}
 use Rattle.pager.specs.declared.command.Command.TheVariants.{Digit, Down, Up, PageDown, PageUp}
 use Rattle.pager.specs.declared.command.Command.TheVariants.{HalfDown, HalfUp, WheelDown, WheelUp}
 use Rattle.pager.specs.declared.command.Command.TheVariants.{ToStart, ToEnd, ToLeft, ToRight, Ask, Next}
-use Rattle.pager.specs.declared.command.Command.TheVariants.{Previous, Numbers, Wrap, Help, Quit}
-use Rattle.pager.specs.Keys.{event_command, event_answer, is_press}
-use Rattle.pager.specs.Search.{next_match, last_match}
+use Rattle.pager.specs.declared.command.Command.TheVariants.{Previous, Numbers, Wrap, Help, Quit, ToPart}
+use Rattle.pager.specs.declared.command.Command.TheVariants.{Details, Mark, ToMark, Turn, Filter}
+use Rattle.pager.specs.Keys.{event_command, event_answer, event_mark, event_ending, is_press}
+use Rattle.pager.specs.Search.{next_match, last_match, matching, picked}
 use Rattle.pager.specs.Places.{text_place, page_rows, at_place, place_after, place_before}
 
 -- at the first line
 abbrev pub started : List (List ℕ) → List ℕ → List ℕ → Size → Pager
 started lines name pattern size = record {
   document = lines;
+  styles = [];
+  whole = None;
+  numbers = [];
   name = name;
   columns = size.width;
   rows = size.height;
@@ -38,8 +45,12 @@ started lines name pattern size = record {
   typed = [];
   pattern = pattern;
   found = None;
-  is_missing = false;
+  marks = replicate 53 None;
+  note = Range;
+  has_previous = false;
+  has_next = false;
   is_over = false;
+  ending = ending.Quit;
 }
 
 abbrev pub half_page : Pager → ℕ
@@ -48,6 +59,18 @@ half_page p = max (page_rows p / 2) 1
 -- the page that begins at a line, or the last one
 abbrev pub at_line : ℕ → Pager → Pager
 at_line n p = at_place (text_place n 0) p
+
+-- the line at which the page begins is kept as a mark
+abbrev pub with_mark : ℕ → Pager → Pager
+with_mark mark p = record p { marks = slice_set p.marks mark (Some p.top) }
+
+-- at a line far away, and the apostrophe marks where that jump began
+abbrev pub jumped_to : ℕ → Pager → Pager
+jumped_to n p = at_line n (with_mark 0 p)
+
+-- the line before which a number of hundredths of the text lies
+abbrev pub part_line : ℕ → Pager → ℕ
+part_line per_cent p = length p.document * min per_cent 100 / 100
 
 -- the number that was typed, or else another one
 abbrev pub or_number : ℕ → Pager → ℕ
@@ -74,8 +97,9 @@ after_move HalfDown p = further (half_page p) p
 after_move HalfUp p = back (half_page p) p
 after_move WheelDown p = further 3 p
 after_move WheelUp p = back 3 p
-after_move ToStart p = at_line (or_number 1 p - 1) p
-after_move ToEnd p = at_line (or_number (length p.document) p - 1) p
+after_move ToStart p = jumped_to (or_number 1 p - 1) p
+after_move ToEnd p = jumped_to (or_number (length p.document) p - 1) p
+after_move ToPart p = jumped_to (part_line p.number p) p
 after_move ToLeft p = record p { left = p.left - or_number (half_width p) p }
 after_move ToRight p = record p { left = min (p.left + or_number (half_width p) p) (2 ^ 32 - 1) }
 after_move Numbers p = at_line p.top (record p { has_numbers = not p.has_numbers })
@@ -90,8 +114,8 @@ typed_digit d p = record p { number = min (p.number * 10 + d) 9999999 }
 
 -- at a line that was found; or none was
 abbrev pub found_at : Option ℕ → Pager → Pager
-found_at (Some k) p = record (at_line k p) { found = Some k; is_missing = false }
-found_at None p = record p { is_missing = true }
+found_at (Some k) p = record (jumped_to k p) { found = Some k; note = Range }
+found_at None p = record p { note = Missing }
 
 -- the first line from one on that has what is sought, and the last one before a line
 abbrev pub sought_from : ℕ → Pager → Pager
@@ -118,13 +142,22 @@ sought_on is_back p =
 abbrev pub asked : Bool → Pager → Pager
 asked is_back p = record p { mode = Asking; is_back = is_back; typed = [] }
 
+-- a filter is typed
+abbrev pub filter_asked : Pager → Pager
+filter_asked p = record p { mode = Filtering; typed = [] }
+
 -- what a command makes of a pager: each but a digit takes the number, and each move ends a search
 abbrev pub obeyed : Command → Pager → Pager
 obeyed (Digit d) p = typed_digit d p
-obeyed (Ask is_back) p = record (asked is_back p) { number = 0; is_missing = false }
+obeyed (Ask is_back) p = record (asked is_back p) { number = 0; note = Range }
 obeyed Next p = record (sought_on p.is_back p) { number = 0 }
 obeyed Previous p = record (sought_on (not p.is_back) p) { number = 0 }
-obeyed command p = record (after_move command p) { number = 0; found = None; is_missing = false }
+obeyed Filter p = record (filter_asked p) { number = 0; note = Range }
+obeyed Details p = record p { number = 0; note = Bytes }
+obeyed Mark p = record p { number = 0; note = Range; mode = Marking }
+obeyed ToMark p = record p { number = 0; note = Range; mode = Returning }
+obeyed Turn p = record p { number = 0; note = Range; mode = Turning }
+obeyed command p = record (after_move command p) { number = 0; found = None; note = Range }
 
 -- a character more of what is sought, of at most 80
 abbrev pub with_character : ℕ → List ℕ → List ℕ
@@ -144,13 +177,70 @@ with_pattern p = if nat_lt 0 (length p.typed) then record p { pattern = flat_map
 abbrev pub sought_first : Pager → Pager
 sought_first p = if p.is_back then sought_before p.top p else sought_from p.top p
 
--- what an answer makes of a pager of which a search is asked
+-- all lines, also while some of them are hidden
+abbrev pub all_lines : Pager → List (List ℕ)
+all_lines p = unwrap_or p.whole p.document
+
+-- these lines, from the first one on, without marks
+abbrev pub relined : Option (List (List ℕ)) → List ℕ → List (List ℕ) → Pager → Pager
+relined whole numbers lines p = at_line 0 (record p {
+  document = lines;
+  whole = whole;
+  numbers = numbers;
+  left = 0;
+  found = None;
+  marks = replicate 53 None;
+})
+
+-- only the lines of these numbers
+abbrev pub with_lines : List ℕ → Pager → Pager
+with_lines numbers p = relined (Some (all_lines p)) numbers (picked (all_lines p) numbers) p
+
+-- only the lines that have what was typed; all of them if that is nothing
+abbrev pub filtered : Pager → Pager
+filtered p =
+    if nat_lt 0 (length p.typed) then
+    with_lines (matching (flat_map encode_utf8 p.typed) (all_lines p) (length (all_lines p))) p
+    else relined None [] (all_lines p) p
+
+-- what was typed is taken: for a filter, or for a search
+abbrev pub taken_in : Mode → Pager → Pager
+taken_in Filtering p = filtered p
+taken_in _ p = sought_first (with_pattern p)
+
+-- what an answer makes of a pager of which a search or a filter is asked
 abbrev pub answered : Answer → Pager → Pager
 answered (Add c) p = record p { typed = with_character c p.typed }
 answered Erase p = with_one_less p
-answered Search p = record (sought_first (with_pattern p)) { mode = Reading }
+answered Search p = record (taken_in p.mode p) { mode = Reading }
 answered Cancel p = record p { mode = Reading }
 answered Ignore p = p
+
+-- the page's first line has a mark from now on
+abbrev pub letter_marked : Option ℕ → Pager → Pager
+letter_marked (Some mark) p = record (with_mark mark p) { mode = Reading }
+letter_marked None p = record p { mode = Reading }
+
+-- the line that a mark keeps
+abbrev pub marked_line : Option ℕ → Pager → Option ℕ
+marked_line (Some mark) p = unwrap_or (slice_get p.marks mark) None
+marked_line None p = None
+
+-- at a line that was marked, if one was
+abbrev pub gone_back : Option ℕ → Pager → Pager
+gone_back (Some line) p = record (jumped_to line p) { found = None; mode = Reading }
+gone_back None p = record p { mode = Reading }
+
+-- whether there is the text that an ending turns to
+abbrev pub has_text : Ending → Pager → Bool
+has_text ending.Quit p = true
+has_text ending.Next p = p.has_next
+has_text ending.Previous p = p.has_previous
+
+-- the reader is done, and another text is to be shown, if there is one
+abbrev pub turned_to : Option Ending → Pager → Pager
+turned_to (Some e) p = if has_text e p then record p { mode = Reading; is_over = true; ending = e } else record p { mode = Reading }
+turned_to None p = record p { mode = Reading }
 
 -- on a terminal of another size
 abbrev pub at_size : ℕ × ℕ → Pager → Pager
@@ -160,6 +250,10 @@ at_size size p = at_line p.top (record p { columns = size.0; rows = size.1 })
 abbrev pub acted : Mode → Event → Pager → Pager
 acted Reading event p = obeyed (event_command event) p
 acted Asking event p = answered (event_answer event) p
+acted Filtering event p = answered (event_answer event) p
+acted Marking event p = if is_press event then letter_marked (event_mark event) p else p
+acted Returning event p = if is_press event then gone_back (marked_line (event_mark event) p) p else p
+acted Turning event p = if is_press event then turned_to (event_ending event) p else p
 acted Helping event p = if is_press event then record p { mode = Reading } else p
 
 abbrev pub updated_by : Option (ℕ × ℕ) → Event → Pager → Pager

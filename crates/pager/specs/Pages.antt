@@ -1,22 +1,27 @@
 -- What a pager paints: lines in rows, and the status in the last one.
-use Rattle.std.specs.Prelude.{◌≡◌, ℕ, zero, suc, ◌+◌, ◌-◌, ◌*◌, ◌/◌, ◌==◌}
-use Rattle.std.specs.Prelude.{min, if◌then◌else◌, List, [], ◌∷◌, ◌++◌, length, Option, Some, None, option_map}
-use Rattle.std.specs.Prelude.{unwrap_or, slice_get, codes, encode_utf8}
+use Rattle.std.specs.Prelude.{◌≡◌, ◌<◌, ℕ, zero, suc, ◌+◌, ◌-◌, ◌*◌, ◌/◌, ◌==◌, true}
+use Rattle.std.specs.Prelude.{min, if◌then◌else◌, List, [], ◌∷◌, ◌++◌, length, Option, Some, None, map}
+use Rattle.std.specs.Prelude.{unwrap_or, slice_get, slice_index_or, is_some, codes, encode_utf8, ◌^◌}
 use Rattle.std.specs.{Fmt.decimal, List.flat_map}
 use Rattle.ratatui_core.specs.{Layout.Rect, Layout.EdgesFit, Style.Style, Style.new_style}
 use Rattle.ratatui_core.specs.Buffer.{BufferData, PaintsPieces, IsPlainFrom, IsSettledBuffer, columns}
 use Rattle.ratatui_core.specs.Buffer.{text_pieces, position_of}
 use Rattle.ratatui_core.specs.Widgets.{ChangesWithin, OnPart}
 use Rattle.rtui_boxes.specs.Titles.{InTurn}
-use Rattle.pager.specs.Symbols.{LineSymbol, reversed, line_symbols, symbols_in_view}
+use Rattle.pager.specs.Symbols.{LineSymbol, reversed, line_symbols, symbols_in_view, is_in_view}
 use Rattle.pager.specs.Places.{breaking, number_columns, stride, page_rows, page_place, places_after}
+use Rattle.pager.specs.Places.{rows_of_line}
 use Rattle.pager.specs.Places.{place_after}
 use Rattle.pager.specs.declared.place.Place.{Place}
 use Rattle.pager.specs.declared.view.View.{View}
+use Rattle.pager.specs.declared.styles.Run.{Run}
 use Rattle.pager.specs.declared.help.TheConstants.{HELP}
 use Rattle.pager.specs.declared.pager.Pager.{Pager}
 use Rattle.pager.specs.declared.pager.Mode.{Mode}
-use Rattle.pager.specs.declared.pager.Mode.TheVariants.{Reading, Asking, Helping}
+use Rattle.pager.specs.declared.pager.Mode.TheVariants.{Reading, Asking, Filtering, Marking, Returning, Turning, Helping}
+use Rattle.pager.specs.declared.pager.Note.{Note}
+use Rattle.pager.specs.declared.pager.Note.TheVariants.{Range, Bytes, Missing}
+use Rattle.pager.specs.Search.{numbered_line}
 
 -- ---- lines
 
@@ -33,10 +38,10 @@ unfoldable pub PaintsSymbols : ℕ → ℕ → View → List LineSymbol → Buff
 PaintsSymbols x y v [] old new = new ≡ old
 PaintsSymbols x y v (s ∷ ss) old new = InTurn (PaintsSymbol x y v s) (PaintsSymbols x y v ss) old new
 
--- what shows of a line, painted in a row from x on, with what is sought marked
-abbrev pub PaintsLine : ℕ → ℕ → View → List ℕ → List ℕ → BufferData → BufferData → Type 0
-PaintsLine x y v pattern line old new =
-    PaintsSymbols x y v (symbols_in_view v (line_symbols pattern line)) old new
+-- what shows of a line in its runs of styles, painted in a row from x on, with what is sought marked
+abbrev pub PaintsLine : ℕ → ℕ → View → List ℕ → List Run → List ℕ → BufferData → BufferData → Type 0
+PaintsLine x y v pattern runs line old new =
+    PaintsSymbols x y v (symbols_in_view v (line_symbols pattern runs line)) old new
 
 -- ---- rows of a page
 
@@ -51,6 +56,13 @@ view_at p row width =
     if p.wraps then record { left = left; limit = left + min (stride p) width; width = width }
     else view_from p.left width
 
+-- one row of a line that is broken shows a symbol, and no other one does
+pub record IsInOneRow (p : Pager) (width : ℕ) (line : List ℕ) (s : LineSymbol) : Type 0 where
+  pub row : ℕ
+  pub within : row < rows_of_line (breaking p) line
+  pub shown : is_in_view (view_at p row width) s ≡ true
+  pub alone : (k : ℕ) → is_in_view (view_at p k width) s ≡ true → k ≡ row
+
 -- a number that ends in column 7, with its first seven digits
 abbrev pub PaintsNumber : ℕ → ℕ → ℕ → BufferData → BufferData → Type 0
 PaintsNumber n x y old new =
@@ -63,22 +75,30 @@ PaintsNumberIf zero n x y old new = new ≡ old
 PaintsNumberIf (suc k) zero x y old new = new ≡ old
 PaintsNumberIf (suc k) (suc n) x y old new = PaintsNumber (suc n) x y old new
 
+-- the number of a line that is shown among all lines, from 0 on
+abbrev pub line_number : Pager → ℕ → ℕ
+line_number p k = if is_some p.whole then slice_index_or p.numbers k k else k
+
 -- the number of a line from 1 on in its first row, and none in its other ones
-abbrev pub number_at : Place → ℕ
-number_at q = if q.row == 0 then q.line + 1 else 0
+abbrev pub number_at : Pager → Place → ℕ
+number_at p q = if q.row == 0 then line_number p q.line + 1 else 0
+
+-- the runs of a line by its number; a line without any is in no style
+abbrev pub line_runs : List (List Run) → ℕ → List Run
+line_runs styles k = slice_index_or styles k []
 
 -- a row of the text: a row of a line, with the line's number in the first one; after the end of the text
 -- a tilde
 abbrev pub PaintsLineAt : Option (List ℕ) → Pager → Place → Rect → ℕ → BufferData → BufferData → Type 0
 PaintsLineAt (Some line) p q r y =
     let beside = number_columns p r.width in
-    InTurn (PaintsNumberIf beside (number_at q) r.x y)
-    (PaintsLine (r.x + beside) y (view_at p q.row (r.width - beside)) p.pattern line)
-PaintsLineAt None p q r y = PaintsLine r.x y (view_from 0 r.width) [] (codes "~")
+    InTurn (PaintsNumberIf beside (number_at p q) r.x y)
+    (PaintsLine (r.x + beside) y (view_at p q.row (r.width - beside)) p.pattern (line_runs p.styles (line_number p q.line)) line)
+PaintsLineAt None p q r y = PaintsLine r.x y (view_from 0 r.width) [] [] (codes "~")
 
 -- a row of the list of the keys
 abbrev pub help_text : ℕ → List ℕ
-help_text k = unwrap_or (option_map (λ line. line.now) (slice_get HELP k)) []
+help_text k = unwrap_or (slice_get (map (λ line. line.now) HELP) k) []
 
 -- a place of the text in a row
 abbrev pub PaintsTextRow : Pager → Place → Rect → ℕ → BufferData → BufferData → Type 0
@@ -86,9 +106,8 @@ PaintsTextRow p q r y = PaintsLineAt (slice_get p.document q.line) p q r y
 
 -- row k of a page: a place of the text, or a row of the list of the keys
 abbrev pub PaintsRowIn : Mode → Pager → Rect → ℕ → Place → BufferData → BufferData → Type 0
-PaintsRowIn Helping p r k q = PaintsLine r.x (r.y + k) (view_from 0 r.width) [] (help_text k)
-PaintsRowIn Reading p r k q = PaintsTextRow p q r (r.y + k)
-PaintsRowIn Asking p r k q = PaintsTextRow p q r (r.y + k)
+PaintsRowIn Helping p r k q = PaintsLine r.x (r.y + k) (view_from 0 r.width) [] [] (help_text k)
+PaintsRowIn _ p r k q = PaintsTextRow p q r (r.y + k)
 
 -- row k of a page shows the place that is so many rows behind the first one
 abbrev pub PaintsPageRow : Pager → Rect → ℕ → BufferData → BufferData → Type 0
@@ -112,24 +131,58 @@ last_shown p = min ((place_after (page_rows p - 1) p).line + 1) (length p.docume
 abbrev pub per_cent : Pager → ℕ
 per_cent p = if length p.document == 0 then 100 else last_shown p * 100 / length p.document
 
--- the place, as ` 1-23/100 23%`
+-- whether some lines are hidden
+abbrev pub filter_text : Pager → List ℕ
+filter_text p = if is_some p.whole then codes " filtered" else []
+
+-- the place, as ` 1-23/100 23%`, and ` filtered` where some lines are hidden
 abbrev pub place_text : Pager → List ℕ
 place_text p =
     codes " " ++ decimal (first_shown p) ++ codes "-" ++ decimal (last_shown p)
     ++ codes "/" ++ decimal (length p.document)
-    ++ codes " " ++ decimal (per_cent p) ++ codes "%"
+    ++ codes " " ++ decimal (per_cent p) ++ codes "%" ++ filter_text p
 
--- the two parts of a status: what the text is called, and the place; or what isn't found; or what is
--- typed of a
--- search; or how to leave the list of the keys
+-- how many bytes the first lines of a text take, with one for the end of each
+unfoldable pub bytes_before : List (List ℕ) → ℕ → ℕ
+bytes_before lines zero = 0
+bytes_before lines (suc k) = bytes_before lines k + length (numbered_line lines k) + 1
+
+abbrev pub byte_count : Pager → ℕ → ℕ
+byte_count p k = min (bytes_before p.document k) (2 ^ 64 - 1)
+
+-- the place, and how many bytes of the text end with the page, as ` 1-23/100 23% bytes 1024/4096`
+abbrev pub details_text : Pager → List ℕ
+details_text p =
+    place_text p ++ codes " bytes " ++ decimal (byte_count p (last_shown p)) ++ codes "/"
+    ++ decimal (byte_count p (length p.document))
+
+-- what the status tells while the text is read: what the text is called, and the place; or what isn't found
+abbrev pub note_name : Note → Pager → List ℕ
+note_name Missing p = codes "not found: "
+note_name _ p = p.name
+
+abbrev pub note_text : Note → Pager → List ℕ
+note_text Range p = place_text p
+note_text Bytes p = details_text p
+note_text Missing p = p.pattern
+
+-- the two parts of a status: such a note; or what is typed of a search; or which key is awaited
 abbrev pub first_part : Mode → Pager → List ℕ
-first_part Reading p = if p.is_missing then codes "not found: " else p.name
+first_part Reading p = note_name p.note p
 first_part Asking p = if p.is_back then codes "?" else codes "/"
+first_part Filtering p = codes "&"
+first_part Marking p = codes "mark"
+first_part Returning p = codes "go to mark"
+first_part Turning p = codes ":"
 first_part Helping p = codes "keys"
 
 abbrev pub second_part : Mode → Pager → List ℕ
-second_part Reading p = if p.is_missing then p.pattern else place_text p
+second_part Reading p = note_text p.note p
 second_part Asking p = flat_map encode_utf8 p.typed
+second_part Filtering p = flat_map encode_utf8 p.typed
+second_part Marking p = codes ": a letter"
+second_part Returning p = codes ": a letter, or ' for where the last jump began"
+second_part Turning p = codes " n for the next text, p for the one before, q for the end"
 second_part Helping p = codes ": any key goes back"
 
 -- the status in a row, one part after the other

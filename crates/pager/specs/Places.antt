@@ -17,11 +17,14 @@ page_place p = text_place p.top p.row
 abbrev pub number_columns : Pager → ℕ → ℕ
 number_columns p width = if p.has_numbers && nat_lt 8 width then 8 else 0
 
--- how many columns of a line begin in a row, if lines are broken: all but those of the numbers and the
--- last one,
--- in which a wide symbol may end
+-- how many columns a row has for its line: all but those of the numbers
+abbrev pub columns_for_line : Pager → ℕ
+columns_for_line p = p.columns - number_columns p p.columns
+
+-- how many columns of a line begin in a row, if lines are broken: all but the last one, in which a wide symbol
+-- may end
 abbrev pub stride : Pager → ℕ
-stride p = max (p.columns - number_columns p p.columns - 1) 1
+stride p = max (columns_for_line p - 1) 1
 
 -- the column in which the last symbol begins
 abbrev pub last_start : ℕ → List LineSymbol → ℕ
@@ -39,7 +42,7 @@ breaking p = record { lines = p.document; wraps = p.wraps; stride = stride p }
 
 -- how many rows a line takes
 abbrev pub rows_of_line : Breaking → List ℕ → ℕ
-rows_of_line t line = if t.wraps then min (last_start 0 (line_symbols [] line)) (2 ^ 32 - 1) / t.stride + 1
+rows_of_line t line = if t.wraps then min (last_start 0 (line_symbols [] [] line)) (2 ^ 32 - 1) / t.stride + 1
     else 1
 
 -- the next row of a text, which goes on behind its end

@@ -7,6 +7,7 @@ use Rattle.ratatui_core.specs.{Buffer.text_width, Text.has_control, Style.Style,
 use Rattle.ratatui_core.specs.{Style.with_modifier, Style.modifier_of}
 use Rattle.ansi_model.specs.Symbols.{is_printed}
 use Rattle.pager.specs.declared.view.View.{View}
+use Rattle.pager.specs.declared.styles.Run.{Run}
 use Rattle.pager.specs.Search.{begins_with}
 
 abbrev pub is_tab : List ℕ → Bool
@@ -45,25 +46,65 @@ line_symbol style column g =
     record { text = shown_symbol g; style = style; column = column; columns = shown_columns column g }
 
 -- how many bytes are marked: all of what is sought where that stands at the front, and else what is left
--- of an
--- earlier mark
+-- of an earlier mark
 abbrev pub marked_bytes : List ℕ → ℕ → List ℕ → ℕ
 marked_bytes pattern marked rest =
     if nat_lt 0 (length pattern) && begins_with pattern rest then length pattern else marked
 
-abbrev pub mark_style : ℕ → Style
-mark_style marked = if nat_lt 0 marked then reversed else new_style
+-- what is marked is reversed, and else in a style of its own
+abbrev pub mark_style : ℕ → Style → Style
+mark_style marked style = if nat_lt 0 marked then reversed else style
 
--- graphemes as symbols from a column on, one after the other, if so many bytes are marked of an earlier match
-unfoldable pub symbols_from : List ℕ → ℕ → ℕ → List (List ℕ) → List LineSymbol
-symbols_from pattern marked column [] = []
-symbols_from pattern marked column (g ∷ gs) =
-    let here = marked_bytes pattern marked (concat (g ∷ gs)) in
-    line_symbol (mark_style here) column g
-    ∷ symbols_from pattern (here - length g) (column + shown_columns column g) gs
+-- the runs of a line that end after a byte of it
+unfoldable pub runs_after : ℕ → List Run → List Run
+runs_after at [] = []
+runs_after at (r ∷ rs) = if nat_le r.end at then runs_after at rs else r ∷ rs
 
-abbrev pub line_symbols : List ℕ → List ℕ → List LineSymbol
-line_symbols pattern line = symbols_from pattern 0 0 (graphemes true line)
+-- the style of the first run, and after the last one none
+abbrev pub first_style : List Run → Style
+first_style [] = new_style
+first_style (r ∷ rs) = r.style
+
+-- where a line of so many bytes is read: the column, how many bytes are marked of an earlier match, and the
+-- runs of styles that are left
+pub record Reach : Type 0 where
+  pub size : ℕ
+  pub column : ℕ
+  pub marked : ℕ
+  pub runs : List Run
+
+-- at the front of a line in these runs
+abbrev pub line_front : List Run → List ℕ → Reach
+line_front runs line = record { size = length line; column = 0; marked = 0; runs = runs }
+
+-- there, if the line goes on with these graphemes: how many bytes are marked, the runs, and the style
+abbrev pub marked_at : List ℕ → Reach → List (List ℕ) → ℕ
+marked_at pattern at gs = marked_bytes pattern at.marked (concat gs)
+
+abbrev pub runs_at : Reach → List (List ℕ) → List Run
+runs_at at gs = runs_after (at.size - length (concat gs)) at.runs
+
+abbrev pub style_at : List ℕ → Reach → List (List ℕ) → Style
+style_at pattern at gs = mark_style (marked_at pattern at gs) (first_style (runs_at at gs))
+
+-- after the first one of these graphemes
+abbrev pub reach_after : List ℕ → Reach → List ℕ → List (List ℕ) → Reach
+reach_after pattern at g gs = record {
+  size = at.size;
+  column = at.column + shown_columns at.column g;
+  marked = marked_at pattern at (g ∷ gs) - length g;
+  runs = runs_at at (g ∷ gs);
+}
+
+-- graphemes as symbols, one after the other
+unfoldable pub symbols_from : List ℕ → Reach → List (List ℕ) → List LineSymbol
+symbols_from pattern at [] = []
+symbols_from pattern at (g ∷ gs) =
+    line_symbol (style_at pattern at (g ∷ gs)) at.column g ∷ symbols_from pattern (reach_after pattern at g gs) gs
+
+-- the symbols of a line in these runs of styles
+abbrev pub line_symbols : List ℕ → List Run → List ℕ → List LineSymbol
+line_symbols pattern runs line = symbols_from pattern (line_front runs line) (graphemes true line)
 
 -- a symbol that begins in the columns of a view and fits
 abbrev pub is_in_view : View → LineSymbol → Bool

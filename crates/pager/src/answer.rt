@@ -1,10 +1,12 @@
-//! What an event asks for while a search is typed, and which event leaves the help.
+//! What an event asks for while a search is typed, which mark or text it names, and which one leaves
+//! the help.
 
-ghost use Rattle.std.specs.Prelude.{◌≡◌};
+ghost use Rattle.std.specs.Prelude.{◌≡◌, ◌<◌, IfSome};
 ghost use Rattle.pager.specs.Keys.{code_answer, control_answer, kind_answer, event_answer, is_press_kind};
-ghost use Rattle.pager.specs.Keys.{is_press};
+ghost use Rattle.pager.specs.Keys.{is_press, mark_index, code_mark, event_mark, code_ending, event_ending};
 
 use crate::command::has_control_key;
+use crate::pager::Ending;
 use ratatui_events::{Event, KeyCode, KeyEvent, KeyEventKind};
 
 /// What is made of a search that is typed.
@@ -61,7 +63,7 @@ fn key_answer(key: KeyEvent) -> Answer
     }
 }
 
-/// What an event asks for.
+/// Returns what an event asks for.
 pub fn answer_of(event: Event) -> Answer
     ensures { result ≡ event_answer event }
 {
@@ -82,12 +84,69 @@ fn is_press_kind(kind: KeyEventKind) -> bool
     }
 }
 
-/// Whether an event is a key that was pressed or is held.
+/// Returns whether an event is a key that was pressed or is held.
 pub fn is_press(event: Event) -> bool
     ensures { result ≡ is_press event }
 {
     match event {
         Event::Key(key) => is_press_kind(key.kind),
         _ => false,
+    }
+}
+
+// Where a character's mark is kept.
+fn mark_index(code: char) -> Option<usize>
+    ensures index { result ≡ mark_index code }
+    ensures bound { IfSome result (λ mark. mark < 53) }
+{
+    match code {
+        '\'' => Some(0),
+        'a'..='z' => Some((code as u32 - 96) as usize),
+        'A'..='Z' => Some((code as u32 - 38) as usize),
+        _ => None,
+    }
+}
+
+// The mark that a key names.
+fn code_mark(code: KeyCode) -> Option<usize>
+    ensures index { result ≡ code_mark code }
+    ensures bound { IfSome result (λ mark. mark < 53) }
+{
+    match code {
+        KeyCode::Char(character) => mark_index(character),
+        _ => None,
+    }
+}
+
+/// Returns the mark that an event names.
+pub fn mark_of(event: Event) -> Option<usize>
+    ensures index { result ≡ event_mark event }
+    ensures bound { IfSome result (λ mark. mark < 53) }
+{
+    match event {
+        Event::Key(key) if !has_control_key(key) => code_mark(key.code),
+        _ => None,
+    }
+}
+
+// The text that a key turns to.
+fn code_ending(code: KeyCode) -> Option<Ending>
+    ensures { result ≡ code_ending code }
+{
+    match code {
+        KeyCode::Char('n') => Some(Ending::Next),
+        KeyCode::Char('p') => Some(Ending::Previous),
+        KeyCode::Char('q') => Some(Ending::Quit),
+        _ => None,
+    }
+}
+
+/// Returns the text that an event turns to, after a colon: `n` and `p`; or the end, `q`.
+pub fn ending_of(event: Event) -> Option<Ending>
+    ensures { result ≡ event_ending event }
+{
+    match event {
+        Event::Key(key) if !has_control_key(key) => code_ending(key.code),
+        _ => None,
     }
 }

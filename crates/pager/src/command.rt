@@ -30,6 +30,8 @@ pub enum Command {
     ToStart,
     /// The line of the number, or else the last one.
     ToEnd,
+    /// The number in hundredths of the text.
+    ToPart,
     /// So many columns to a side: the number, or else half of them.
     ToLeft,
     ToRight,
@@ -39,10 +41,20 @@ pub enum Command {
     Next,
     /// The next match in the other direction.
     Previous,
+    /// Only the lines that have what is typed.
+    Filter,
     /// The numbers of the lines, or no longer.
     Numbers,
     /// Long lines broken, or no longer.
     Wrap,
+    /// The bytes that the page ends with, beside the place.
+    Details,
+    /// A mark for the first line of the page.
+    Mark,
+    /// The line of a mark.
+    ToMark,
+    /// Another text.
+    Turn,
     /// The list of the keys.
     Help,
     /// The end.
@@ -69,6 +81,7 @@ fn move_command(code: char) -> Command
         'u' => Command::HalfUp,
         'g' => Command::ToStart,
         'G' => Command::ToEnd,
+        'p' | '%' => Command::ToPart,
         _ => Command::Nothing,
     }
 }
@@ -83,9 +96,14 @@ fn character_command(code: char) -> Command
         '?' => Command::Ask(true),
         'n' => Command::Next,
         'N' => Command::Previous,
+        '&' => Command::Filter,
         'l' => Command::Numbers,
         'w' => Command::Wrap,
         'h' => Command::Help,
+        '=' => Command::Details,
+        'm' => Command::Mark,
+        '\'' => Command::ToMark,
+        ':' => Command::Turn,
         '0'..='9' => Command::Digit((code as u32 - 48) as u8),
         _ => move_command(code),
     }
@@ -154,7 +172,7 @@ fn mouse_command(kind: MouseEventKind) -> Command
     }
 }
 
-/// What an event asks for.
+/// Returns what an event asks for.
 pub fn command_of(event: Event) -> Command
     ensures { result ≡ event_command event }
 {

@@ -1,9 +1,12 @@
 //! A text by its lines.
 
-ghost use Rattle.std.specs.Prelude.{◌≡◌, length, map, slice_get, option_map, IfOk};
+ghost use Rattle.std.specs.Prelude.{◌≡◌, ◌≤◌, ◌-◌, ◌^◌, [], length, map, min, slice_get, slice_index_or};
+ghost use Rattle.std.specs.Prelude.{◌<◌, ◌∷◌, ◌++◌, if◌then◌else◌, option_map, IfOk, OnOk};
 ghost use Rattle.std.specs.Str.Lines.{lines};
-ghost use Rattle.pager.specs.Search.{numbered_line};
+ghost use Rattle.pager.specs.Search.{numbered_line, matching, picked};
+ghost use Rattle.pager.specs.Pages.{bytes_before};
 
+use crate::search::has_match;
 use std::alloc::{AllocError, Global};
 use std::marker::Model;
 use thiserror::Error;
@@ -12,6 +15,12 @@ use thiserror::Error;
 #[derive(Drop)]
 pub struct Document<'a> {
     lines: Vec<&'a str>,
+}
+
+/// The numbers of lines, from 0 on.
+#[derive(Drop)]
+pub struct Numbers {
+    numbers: Vec<u32>,
 }
 
 /// Why a text has no `Document`.
@@ -41,8 +50,38 @@ impl<'a> Model for Document<'a> {
     ghost invariant = { λ d. length d.lines.items < 2 ^ 32 };
 }
 
+impl Model for Numbers {
+    ghost use Rattle.std.specs.Prelude.{ℕ, List};
+
+    ghost Value = { List ℕ };
+
+    ghost view = { λ numbers. numbers.numbers.items };
+}
+
+impl Numbers {
+    /// Makes an empty list of numbers.
+    pub fn new(alloc: Global) -> Numbers
+        ensures { result ≡ [] }
+    {
+        Numbers {
+            numbers: Vec::new(alloc),
+        }
+    }
+
+    /// Returns a number by its place, and after the last one another one.
+    pub fn get_or(&self, place: u64, other: u64) -> u64
+        ensures number { result ≡ slice_index_or self.now place other }
+        ensures small { other < 9223372036854775808 → result < 9223372036854775808 }
+    {
+        match self.numbers.get(place as usize) {
+            Some(number) => u64::from(*number),
+            None => other,
+        }
+    }
+}
+
 impl<'a> Document<'a> {
-    /// The lines of a text, as `str::lines` gives them.
+    /// Makes the lines of a text, as `str::lines` gives them.
     ///
     /// # Errors
     ///
@@ -57,19 +96,53 @@ impl<'a> Document<'a> {
         Ok(Document { lines })
     }
 
-    /// What the list of lines takes its memory from.
+    /// Returns what the list of lines takes its memory from.
     pub fn allocator(&self) -> Global {
         *self.lines.allocator()
     }
 
-    /// How many lines there are.
+    /// Returns how many lines there are.
     pub fn len(&self) -> u32
         ensures { result ≡ length self.now }
     {
         self.lines.len() as u32
     }
 
-    /// A line by its number, from 0 on.
+    /// Returns the numbers of the lines that have a text in them, as a search takes it.
+    ///
+    /// # Errors
+    ///
+    /// `AllocError` if memory is refused.
+    pub fn matching(&self, pattern: &str) -> Result<Numbers, AllocError>
+        ensures numbers { IfOk result (λ numbers.
+            numbers ≡ matching pattern.now self.now (length self.now)) }
+        ensures count { IfOk result (λ numbers. length numbers < 2 ^ 32) }
+    {
+        let mut numbers = Vec::new(self.allocator());
+        for number in 0..self.len() {
+            let is_match = has_match(pattern, self.line_or_empty(u64::from(number)));
+            push_if(is_match, number, &mut numbers)?;
+        }
+        Ok(Numbers { numbers })
+    }
+
+    /// Makes a document of the lines of these numbers.
+    ///
+    /// # Errors
+    ///
+    /// `AllocError` if memory is refused.
+    pub fn picked(&self, numbers: &Numbers) -> Result<Document<'a>, AllocError>
+        requires { length numbers.now < 2 ^ 32 }
+        ensures { IfOk result (λ d. d ≡ picked self.now numbers.now) }
+    {
+        let mut lines = Vec::new(self.allocator());
+        for number in &numbers.numbers {
+            lines.push(self.line_or_empty(u64::from(*number)))?;
+        }
+        Ok(Document { lines })
+    }
+
+    /// Returns a line by its number, from 0 on.
     pub fn line(&self, number: usize) -> Option<&'a str>
         ensures { option_map (λ line. line.now) result ≡ slice_get self.now number }
     {
@@ -79,7 +152,7 @@ impl<'a> Document<'a> {
         }
     }
 
-    /// A line by its number, from 0 on, and after the end an empty one.
+    /// Returns a line by its number, from 0 on, and after the end an empty one.
     pub fn line_or_empty(&self, number: u64) -> &'a str
         ensures { result.now ≡ numbered_line self.now number }
     {
@@ -88,6 +161,30 @@ impl<'a> Document<'a> {
             None => "",
         }
     }
+
+    /// Returns how many bytes the first lines take, with one for the end of each; at most
+    /// `u64::MAX`.
+    pub fn bytes_before(&self, count: u64) -> u64
+        ensures { result ≡ min (bytes_before self.now count) (2 ^ 64 - 1) }
+    {
+        let mut bytes = 0u64;
+        for number in 0..count {
+            let length = self.line_or_empty(number).len() as u64;
+            bytes = bytes.saturating_add(length).saturating_add(1);
+        }
+        bytes
+    }
+}
+
+// Another number, if a line has a match.
+fn push_if(is_match: bool, number: u32, numbers: &mut Vec<u32>) -> Result<(), AllocError>
+    ensures { OnOk result (numbers.new.items
+        ≡ (if is_match then numbers.old.items ++ number ∷ [] else numbers.old.items)) }
+{
+    if is_match {
+        numbers.push(number)?;
+    }
+    Ok(())
 }
 
 // The lines of a text, in a list.

@@ -1,16 +1,25 @@
 //! Laws of the pager.
 
-ghost use Rattle.std.specs.Prelude.{◌≡◌, ℕ, List, Option};
+ghost use Rattle.std.specs.Prelude.{◌≡◌, ◌<◌, ◌≤◌, ◌^◌, ℕ, true, List, Option, Some, length, Contains};
 ghost use Rattle.ratatui_core.specs.Layout.{Size};
 ghost use Rattle.ratatui_core.specs.Terminal.{TerminalData};
 ghost use Rattle.ratatui_ansi.specs.Backend.{BackendState};
 ghost use Rattle.ratatui_events.specs.declared.event.Event.{Event};
+ghost use Rattle.ratatui_events.specs.declared.event.Event.TheVariants.{Key};
+ghost use Rattle.ratatui_events.specs.declared.key.KeyEvent.{KeyEvent};
 ghost use Rattle.ratatui_reads.specs.Reads.{Between};
 ghost use Rattle.ratatui_reads.specs.Sources.{Coming};
 ghost use Rattle.ratatui_app.specs.Showing.{RunsTo};
 ghost use Rattle.ratatui_app.specs.Glass.{sender, RunsOnGlass, RunsAlongGlass, IsOnGlass};
-ghost use Rattle.pager.specs.Moves.{started, updated};
-ghost use Rattle.pager.specs.Places.{IsInText};
+ghost use Rattle.pager.specs.Moves.{started, updated, after_move};
+ghost use Rattle.pager.specs.Search.{next_match, last_match, IsFirstMatch, IsLastMatch};
+ghost use Rattle.pager.specs.Keys.{IsControlC};
+ghost use Rattle.pager.specs.Symbols.{LineSymbol, line_symbols};
+ghost use Rattle.pager.specs.Pages.{IsInOneRow};
+ghost use Rattle.pager.specs.declared.styles.Run.{Run};
+ghost use Rattle.pager.specs.Places.{IsInText, columns_for_line, page_rows, page_place, text_place, place_after};
+ghost use Rattle.pager.specs.Places.{places_after, breaking, last_page, earlier, is_before};
+ghost use Rattle.pager.specs.declared.command.Command.TheVariants.{PageDown};
 ghost use Rattle.pager.specs.Paging.{paging, page_size, IsPaged, FillsScreen, FillsAlong, TakesAlong};
 ghost use Rattle.pager.specs.declared.pager.Pager.{Pager};
 
@@ -26,6 +35,42 @@ pub fn the_place_lies_in_the_text()
     ensures first { (lines : List (List ℕ)) (name pattern : List ℕ) (size : Size)
         → IsInText (started lines name pattern size) }
     ensures next { (p : Pager) (event : Event) → IsInText p → IsInText (updated p event) }
+{}
+
+/// A search passes no match over: it finds the first line from one on that has what is sought, or the
+/// last one before a line.
+pub fn a_search_passes_no_match_over()
+    ensures further { (pattern : List ℕ) (lines : List (List ℕ)) (from k : ℕ)
+        → next_match pattern lines from ≡ Some k → IsFirstMatch pattern lines from k }
+    ensures back { (pattern : List ℕ) (lines : List (List ℕ)) (before k : ℕ)
+        → last_match pattern lines before ≡ Some k → IsLastMatch pattern lines before k }
+{}
+
+/// Broken lines lose nothing: if a row has two columns or more beside the number, each symbol of at
+/// most two columns is shown in one row of its line, and in no other one.
+pub fn broken_lines_lose_nothing()
+    ensures { (p : Pager) (pattern line : List ℕ) (runs : List Run) (s : LineSymbol)
+        → p.wraps ≡ true → 2 ≤ columns_for_line p
+        → Contains (line_symbols pattern runs line) s → s.columns ≤ 2 → s.column < 2 ^ 32
+        → IsInOneRow p (columns_for_line p) line s }
+{}
+
+/// Pages meet: a page further begins with the row after the last one of the page before, or it is
+/// the last page; and if that doesn't begin with the text's first row, the row after it is the
+/// text's end.
+pub fn pages_meet()
+    ensures further { (p : Pager) → p.number ≡ 0
+        → page_place (after_move PageDown p)
+        ≡ earlier (place_after (page_rows p) p) (last_page p) }
+    ensures ends { (p : Pager) → is_before (text_place 0 0) (last_page p) ≡ true
+        → places_after (breaking p) (page_rows p) (last_page p)
+        ≡ text_place (length p.document) 0 }
+{}
+
+/// Two times Ctrl+C leave, whatever is typed or shown.
+pub fn control_c_leaves()
+    ensures { (p : Pager) (k : KeyEvent) → IsControlC k
+        → (updated (updated p (Key k)) (Key k)).is_over ≡ true }
 {}
 
 /// If no call had failed before a run, then where it stands now each terminal that has read what

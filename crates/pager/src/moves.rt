@@ -2,10 +2,10 @@
 
 ghost use Rattle.std.specs.Prelude.{◌≡◌, ◌-◌};
 ghost use Rattle.pager.specs.Moves.{half_page, or_number, at_line, further, back, half_width, typed_digit};
-ghost use Rattle.pager.specs.Moves.{after_move, asked, obeyed};
+ghost use Rattle.pager.specs.Moves.{jumped_to, part_line, after_move, asked, filter_asked, obeyed};
 
 use crate::command::Command;
-use crate::pager::{Mode, Pager};
+use crate::pager::{Mode, Note, Pager};
 use crate::place::Place;
 use crate::typing::Typing;
 
@@ -51,10 +51,18 @@ impl<'a> Pager<'a> {
 
     // Goes to a line from 1 on, or to the one that the number says.
     fn go_to_number(&mut self, line: u32)
-        ensures { self.new ≡ at_line (or_number line self.old - 1) self.old }
+        ensures { self.new ≡ jumped_to (or_number line self.old - 1) self.old }
     {
         let number = self.or_number(line);
-        self.go_to(u64::from(number.saturating_sub(1)));
+        self.jump_to(u64::from(number.saturating_sub(1)));
+    }
+
+    // Goes as many hundredths of the text from its beginning as the number says.
+    fn go_to_part(&mut self)
+        ensures { self.new ≡ jumped_to (part_line self.old.number self.old) self.old }
+    {
+        let count = u64::from(self.document.len());
+        self.jump_to(count * u64::from(self.number.min(100)) / 100);
     }
 
     // Half of the columns.
@@ -125,6 +133,7 @@ impl<'a> Pager<'a> {
             Command::WheelUp => self.go_up(3),
             Command::ToStart => self.go_to_number(1),
             Command::ToEnd => self.go_to_number(count),
+            Command::ToPart => self.go_to_part(),
             Command::ToLeft => self.go_left(),
             Command::ToRight => self.go_right(),
             Command::Numbers => self.go_numbering(),
@@ -144,6 +153,22 @@ impl<'a> Pager<'a> {
         self.typed = Typing::new();
     }
 
+    // Lets a filter be typed.
+    fn ask_filter(&mut self)
+        ensures { self.new ≡ filter_asked self.old }
+    {
+        self.mode = Mode::Filtering;
+        self.typed = Typing::new();
+    }
+
+    // Takes the next key for a mark or a text.
+    fn await_letter(&mut self, mode: Mode)
+        ensures { self.new ≡ record self.old { mode = mode; note = Note.Range } }
+    {
+        self.mode = mode;
+        self.note = Note::Range;
+    }
+
     // Does what a command says; each but a digit takes the number.
     pub(crate) fn obey(&mut self, command: Command)
         ensures { self.new ≡ obeyed command self.old }
@@ -153,14 +178,22 @@ impl<'a> Pager<'a> {
             Command::Digit(digit) => return self.type_digit(digit),
             Command::Ask(is_back) => {
                 self.ask(is_back);
-                self.is_missing = false;
+                self.note = Note::Range;
+            }
+            Command::Filter => {
+                self.ask_filter();
+                self.note = Note::Range;
             }
             Command::Next => self.seek_on(is_back),
             Command::Previous => self.seek_on(!is_back),
+            Command::Details => self.note = Note::Bytes,
+            Command::Mark => self.await_letter(Mode::Marking),
+            Command::ToMark => self.await_letter(Mode::Returning),
+            Command::Turn => self.await_letter(Mode::Turning),
             _ => {
                 self.go(command);
                 self.found = None;
-                self.is_missing = false;
+                self.note = Note::Range;
             }
         }
         self.number = 0;

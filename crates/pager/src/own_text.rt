@@ -19,14 +19,14 @@ impl Model for OwnText {
 }
 
 impl OwnText {
-    /// The text of a `String`.
+    /// Keeps the text of a `String`.
     pub fn new(text: String) -> OwnText
         ensures { result ≡ string_bytes text }
     {
         OwnText { text }
     }
 
-    /// The text, lent.
+    /// Lends the text.
     pub fn as_str(&self) -> &str
         ensures { result.now ≡ self.now }
     {

@@ -5,7 +5,7 @@ ghost use Rattle.ratatui_core.specs.Layout.{IsInside};
 ghost use Rattle.ratatui_core.specs.Buffer.{IsReadyAt, IsReadyFrom, IsSettledBuffer};
 ghost use Rattle.ratatui_core.specs.Widgets.{ChangesWithin};
 ghost use Rattle.rtui_boxes.specs.Boxes.{IsBoxArea};
-ghost use Rattle.pager.specs.Pages.{view_at, PaintsNumber, PaintsNumberIf, PaintsLine, PaintsLineAt};
+ghost use Rattle.pager.specs.Pages.{view_at, line_number, PaintsNumber, PaintsNumberIf, PaintsLine, PaintsLineAt};
 ghost use Rattle.pager.specs.Pages.{PaintsTextRow, PaintsRowIn, PaintsPageRows, view_from, PaintsPage};
 
 use crate::help::help_text;
@@ -71,11 +71,11 @@ fn paint_plain(line: &str, y: u16, part: Rect, buf: &mut Buffer) -> Result<(), A
     requires bottom { y < part.y + part.height }
     ensures within { ChangesWithin part buf.old buf.new }
     ensures ok { OnOk result
-        (PaintsLine part.x y (view_from 0 part.width) [] line.now buf.old buf.new) }
+        (PaintsLine part.x y (view_from 0 part.width) [] [] line.now buf.old buf.new) }
     ensures ready { IsReadyFrom y buf.old → OnOk result (IsReadyFrom (y + 1) buf.new) }
 {
     let view = View::new(0, part.width);
-    paint_line(line, "", view, part.x, y, part, buf)
+    paint_line(line, &[], "", view, part.x, y, part, buf)
 }
 
 impl<'a> Pager<'a> {
@@ -93,6 +93,18 @@ impl<'a> Pager<'a> {
             left,
             limit: left + stride.min(u64::from(width)),
             width,
+        }
+    }
+
+    // The number of a line that is shown among all lines.
+    fn line_number(&self, line: u64) -> u64
+        requires { line < 9223372036854775808 }
+        ensures number { result ≡ line_number self.now line }
+        ensures bound { result < 9223372036854775808 }
+    {
+        match self.whole {
+            Some(_) => self.numbers.get_or(line, line),
+            None => line,
         }
     }
 
@@ -116,11 +128,13 @@ impl<'a> Pager<'a> {
         ensures ready { IsReadyFrom y buf.old → OnOk result (IsReadyFrom (y + 1) buf.new) }
     {
         let beside = self.number_columns(part.width);
-        let number = if place.row == 0 { place.line + 1 } else { 0 };
+        let line_number = self.line_number(place.line);
+        let number = if place.row == 0 { line_number + 1 } else { 0 };
         paint_number_if(beside, number, y, part, buf)?;
         let view = self.view_at(place.row, part.width - beside);
         paint_line(
             line,
+            self.styles.line(line_number),
             self.pattern.as_str(),
             view,
             part.x + beside,
@@ -173,8 +187,7 @@ impl<'a> Pager<'a> {
     {
         match self.mode {
             Mode::Helping => paint_plain(help_text(k), part.y + k, part, buf),
-            Mode::Reading => self.paint_text_row(place, part.y + k, part, buf),
-            Mode::Asking => self.paint_text_row(place, part.y + k, part, buf),
+            _ => self.paint_text_row(place, part.y + k, part, buf),
         }
     }
 

@@ -1,13 +1,14 @@
 //! The state of a pager.
 
 ghost use Rattle.std.specs.Prelude.{◌≡◌, OnOk, OnErr};
-ghost use Rattle.pager.specs.Moves.{started, with_one_less, answered, acted, updated};
+ghost use Rattle.pager.specs.Moves.{started, with_one_less, taken_in, answered, has_text, acted, updated};
 ghost use Rattle.pager.specs.Inner.{at_told_size};
 
-use crate::answer::{Answer, answer_of, is_press};
+use crate::answer::{Answer, answer_of, ending_of, is_press, mark_of};
 use crate::command::command_of;
-use crate::document::Document;
+use crate::document::{Document, Numbers};
 use crate::own_text::OwnText;
+use crate::styles::Styles;
 use crate::typing::Typing;
 use ratatui_core::layout::Size;
 use ratatui_events::Event;
@@ -21,15 +22,53 @@ pub enum Mode {
     Reading,
     /// For what is sought.
     Asking,
+    /// For what the lines that are shown must have.
+    Filtering,
+    /// For the letter of a mark that is set.
+    Marking,
+    /// For the letter of a mark to go to.
+    Returning,
+    /// For the text to turn to.
+    Turning,
     /// The list of the keys is shown; any key ends that.
     Helping,
 }
+
+/// How a reader is done with a text.
+#[derive(Debug, Clone, Copy, PartialEq, Eq)]
+pub enum Ending {
+    /// With the pager.
+    Quit,
+    /// The text after it is to be shown.
+    Next,
+    /// The text before it is to be shown.
+    Previous,
+}
+
+/// What the status tells while a text is read.
+#[derive(Debug, Clone, Copy, PartialEq, Eq)]
+pub enum Note {
+    /// Which lines are shown.
+    Range,
+    /// Which lines are shown, and how many bytes of the text end with them.
+    Bytes,
+    /// That the last search found no line.
+    Missing,
+}
+
+/// How many marks there are: one for the apostrophe, and one for each letter.
+pub(crate) const MARKS: usize = 53;
 
 /// A text in pages: the lines of a text, and the place in them.
 #[derive(Drop)]
 pub struct Pager<'a> {
     /// The lines of the text.
     pub(crate) document: Document<'a>,
+    /// The styles of all lines.
+    pub(crate) styles: Styles,
+    /// All lines while only some of them are shown, and the numbers of those that are.
+    pub(crate) whole: Option<Document<'a>>,
+    pub(crate) numbers: Numbers,
     /// What the text is called.
     pub(crate) name: OwnText,
     /// The columns and rows of the terminal.
@@ -54,20 +93,30 @@ pub struct Pager<'a> {
     /// What is sought, and the line in which it was found last, unless the place was left since.
     pub(crate) pattern: OwnText,
     pub(crate) found: Option<u32>,
-    /// Whether the last search found no line.
-    pub(crate) is_missing: bool,
-    /// Whether the reader is done.
+    /// The line that each mark keeps.
+    pub(crate) marks: [Option<u32>; MARKS],
+    /// What the status tells.
+    pub(crate) note: Note,
+    /// Whether a text can be turned_to to, back and further.
+    pub(crate) has_previous: bool,
+    pub(crate) has_next: bool,
+    /// Whether the reader is done, and how.
     pub(crate) is_over: bool,
+    pub(crate) ending: Ending,
 }
 
 impl<'a> Pager<'a> {
-    /// A pager at the first line of a text, on a terminal of this size; `pattern` is what is sought
-    /// before anything was typed.
+    /// Makes a pager at the first line of a text, on a terminal of this size; `pattern` is what is
+    /// sought before anything was typed.
     pub fn new(document: Document<'a>, name: OwnText, pattern: OwnText, size: Size) -> Pager<'a>
         ensures { result ≡ started document.entry name pattern size }
     {
+        let alloc = document.allocator();
         Pager {
             document,
+            styles: Styles::new(alloc),
+            whole: None,
+            numbers: Numbers::new(alloc),
             name,
             columns: size.width,
             rows: size.height,
@@ -82,9 +131,38 @@ impl<'a> Pager<'a> {
             typed: Typing::new(),
             pattern,
             found: None,
-            is_missing: false,
+            marks: [None; MARKS],
+            note: Note::Range,
+            has_previous: false,
+            has_next: false,
             is_over: false,
+            ending: Ending::Quit,
         }
+    }
+
+    /// Sets whether there is a text before this one and one after it, to which `:p` and `:n` turn.
+    pub fn between(self, has_previous: bool, has_next: bool) -> Pager<'a>
+        ensures { result ≡ record self.entry { has_previous = has_previous; has_next = has_next } }
+    {
+        Pager {
+            has_previous,
+            has_next,
+            ..self
+        }
+    }
+
+    /// Returns how the reader is done with the text; it means something once the pager is over.
+    pub fn ending(&self) -> Ending
+        ensures { result ≡ self.now.ending }
+    {
+        self.ending
+    }
+
+    /// Sets the styles of the lines.
+    pub fn styled(self, styles: Styles) -> Pager<'a>
+        ensures { result ≡ record self.entry { styles = styles } }
+    {
+        Pager { styles, ..self }
     }
 
     // Takes the size that an event tells, if there is one.
@@ -109,7 +187,18 @@ impl<'a> Pager<'a> {
         }
     }
 
-    // Does what is asked while a search is typed.
+    // Takes what was typed, for a filter or for a search.
+    fn take_typed(&mut self) -> Result<(), AllocError>
+        ensures ok { OnOk result (self.new ≡ taken_in self.old.mode self.old) }
+        ensures err { OnErr result (self.new ≡ self.old) }
+    {
+        match self.mode {
+            Mode::Filtering => self.filter(),
+            _ => self.search(),
+        }
+    }
+
+    // Does what is asked while a search or a filter is typed.
     fn answer(&mut self, answer: Answer) -> Result<(), AllocError>
         ensures ok { OnOk result (self.new ≡ answered answer self.old) }
         ensures err { OnErr result (self.new ≡ self.old) }
@@ -117,11 +206,60 @@ impl<'a> Pager<'a> {
         match answer {
             Answer::Add(character) => self.typed.push(character),
             Answer::Erase => self.erase(),
-            Answer::Search => return self.search(),
+            Answer::Search => {
+                self.take_typed()?;
+                self.mode = Mode::Reading;
+            }
             Answer::Cancel => self.mode = Mode::Reading,
             Answer::Ignore => {}
         }
         Ok(())
+    }
+
+    // Marks the first line of the page, if an event names a mark.
+    fn take_mark(&mut self, event: Event)
+        ensures { self.new ≡ acted Mode.Marking event self.old }
+    {
+        if is_press(event) {
+            self.set_mark(mark_of(event));
+        }
+    }
+
+    // Goes to a mark, if an event names one.
+    fn take_return(&mut self, event: Event)
+        ensures { self.new ≡ acted Mode.Returning event self.old }
+    {
+        if is_press(event) {
+            let line = self.marked_line(mark_of(event));
+            self.return_to(line);
+        }
+    }
+
+    // Whether there is the text that an ending turns to.
+    fn has(&self, ending: Ending) -> bool
+        ensures { result ≡ has_text ending self.now }
+    {
+        match ending {
+            Ending::Quit => true,
+            Ending::Next => self.has_next,
+            Ending::Previous => self.has_previous,
+        }
+    }
+
+    // Turns to another text, if an event names one that there is.
+    fn take_turn(&mut self, event: Event)
+        ensures { self.new ≡ acted Mode.Turning event self.old }
+    {
+        if !is_press(event) {
+            return;
+        }
+        self.mode = Mode::Reading;
+        if let Some(ending) = ending_of(event) {
+            if self.has(ending) {
+                self.is_over = true;
+                self.ending = ending;
+            }
+        }
     }
 
     // Leaves the help, if an event does.
@@ -143,7 +281,19 @@ impl<'a> Pager<'a> {
                 self.obey(command_of(event));
                 Ok(())
             }
-            Mode::Asking => self.answer(answer_of(event)),
+            Mode::Asking | Mode::Filtering => self.answer(answer_of(event)),
+            Mode::Marking => {
+                self.take_mark(event);
+                Ok(())
+            }
+            Mode::Returning => {
+                self.take_return(event);
+                Ok(())
+            }
+            Mode::Turning => {
+                self.take_turn(event);
+                Ok(())
+            }
             Mode::Helping => {
                 self.end_help(event);
                 Ok(())
@@ -162,7 +312,7 @@ impl<'a> Updates for Pager<'a> {
     /// # Errors
     ///
     /// `AllocError` if memory is refused; nothing has changed then. Only the beginning of a search
-    /// takes some.
+    /// and a filter take some.
     fn update(&mut self, event: Event) -> Result<(), AllocError>
         ensures ok { OnOk result (self.new ≡ updated self.old event) }
         ensures err { OnErr result (self.new ≡ self.old) }

@@ -9,7 +9,10 @@ ghost use Rattle.pager.specs.Symbols.{shown_columns, line_symbol};
 ghost use Rattle.pager.specs.Pages.{PaintsText, PaintsLine};
 ghost use Rattle.pager.specs.Inner.{PaintsIfInView};
 
-use crate::symbols::{mark_style, marked_bytes, shown_columns, shown_text};
+use crate::styles::Run;
+use crate::symbols::{
+    first_style, mark_style, marked_bytes, runs_after, shown_columns, shown_text,
+};
 use crate::view::View;
 use ratatui_core::buffer::Buffer;
 use ratatui_core::layout::Rect;
@@ -82,9 +85,11 @@ fn paint_grapheme(
     Ok(end)
 }
 
-// Paints what shows of a line in a row from x on, with a text marked wherever it stands.
+// Paints what shows of a line in its runs of styles in a row from x on, with a text marked wherever
+// it stands.
 pub(crate) fn paint_line(
     line: &str,
+    runs: &[Run],
     pattern: &str,
     view: View,
     x: u16,
@@ -101,10 +106,11 @@ pub(crate) fn paint_line(
     requires top { part.y ≤ y }
     requires bottom { y < part.y + part.height }
     ensures within { ChangesWithin part buf.old buf.new }
-    ensures ok { OnOk result (PaintsLine x y view pattern.now line.now buf.old buf.new) }
+    ensures ok { OnOk result (PaintsLine x y view pattern.now runs.now line.now buf.old buf.new) }
     ensures ready { IsReadyAt x y buf.old → OnOk result (IsReadyFrom (y + 1) buf.new) }
 {
     let mut graphemes = line.graphemes(true);
+    let mut runs = runs;
     let mut column = 0;
     let mut marked = 0;
     while column < view.limit {
@@ -112,8 +118,10 @@ pub(crate) fn paint_line(
         let Some(grapheme) = graphemes.next() else {
             return Ok(());
         };
+        let byte = line.len().saturating_sub(rest.len());
+        runs = runs_after(byte, runs);
         let here = marked_bytes(pattern, marked, rest);
-        let style = mark_style(here);
+        let style = mark_style(here, first_style(runs));
         column = paint_grapheme(grapheme, style, column, view, x, y, part, buf)?;
         marked = here.saturating_sub(grapheme.len());
     }

@@ -20,7 +20,7 @@ pub struct Place {
 
 // The column in which the last symbol of a line begins, at most `u32::MAX`.
 fn last_start(line: &str) -> u32
-    ensures { result ≡ min (last_start 0 (line_symbols [] line.now)) (2 ^ 32 - 1) }
+    ensures { result ≡ min (last_start 0 (line_symbols [] [] line.now)) (2 ^ 32 - 1) }
 {
     let mut last = 0u32;
     let mut column = 0u64;
@@ -132,8 +132,16 @@ impl<'a> Pager<'a> {
         ensures place { result ≡ places_after (breaking self.now) rows place }
         ensures line { result.line ≤ place.line + rows }
     {
+        let end = u64::from(self.document.len());
         let mut place = place;
-        for _ in 0..rows {
+        for done in 0..rows {
+            if place.line >= end && place.row == 0 {
+                // After the end each line takes one row.
+                return Place {
+                    line: place.line + u64::from(rows - done),
+                    row: 0,
+                };
+            }
             place = self.next_place(place);
         }
         place

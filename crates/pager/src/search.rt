@@ -1,18 +1,47 @@
 //! Lines that have what is sought.
 
-ghost use Rattle.std.specs.Prelude.{◌≡◌, OnOk, OnErr};
-ghost use Rattle.pager.specs.Search.{occurs, has_match, numbered_line, next_match, last_match};
+ghost use Rattle.std.specs.Prelude.{◌≡◌, ◌<◌, false, length, OnOk, OnErr};
+ghost use Rattle.pager.specs.Search.{has_capital, occurs, has_match, numbered_line, next_match, last_match};
 ghost use Rattle.pager.specs.Moves.{found_at, sought_from, sought_before, after_found, before_found};
 ghost use Rattle.pager.specs.Moves.{sought_on, with_pattern, sought_first};
 
-use crate::pager::{Mode, Pager};
+use crate::pager::{Note, Pager};
+use crate::symbols::{begins_in_any_case, has_capital};
 use std::alloc::AllocError;
 
-// Whether a text stands somewhere in a line.
-fn occurs(pattern: &str, line: &str) -> bool
+// Whether a text without a capital stands somewhere in a line, whose capitals count as small
+// letters.
+fn occurs_in_any_case(pattern: &[u8], line: &[u8]) -> bool
+    requires some { 0 < length pattern.now }
+    requires small { has_capital pattern.now ≡ false }
     ensures { result ≡ occurs pattern.now line.now }
 {
-    line.contains(pattern)
+    for at in 0..line.len() {
+        if begins_in_any_case(pattern, &line[at..]) {
+            return true;
+        }
+    }
+    false
+}
+
+// Whether a text stands somewhere in a line; a capital counts as a small letter, unless one is
+// sought.
+fn occurs(pattern: &str, line: &str) -> bool
+    requires { 0 < length pattern.now }
+    ensures { result ≡ occurs pattern.now line.now }
+{
+    if has_capital(pattern) {
+        line.contains(pattern)
+    } else {
+        occurs_in_any_case(pattern.as_bytes(), line.as_bytes())
+    }
+}
+
+// Whether a line has what is sought.
+pub(crate) fn has_match(pattern: &str, line: &str) -> bool
+    ensures { result ≡ has_match pattern.now line.now }
+{
+    !pattern.is_empty() && occurs(pattern, line)
 }
 
 impl<'a> Pager<'a> {
@@ -20,11 +49,10 @@ impl<'a> Pager<'a> {
     fn has_match(&self, line: u32) -> bool
         ensures { result ≡ has_match self.now.pattern (numbered_line self.now.document line) }
     {
-        let pattern = self.pattern.as_str();
-        match self.document.line(line as usize) {
-            Some(text) => !pattern.is_empty() && occurs(pattern, text),
-            None => false,
-        }
+        has_match(
+            self.pattern.as_str(),
+            self.document.line_or_empty(u64::from(line)),
+        )
     }
 
     // The first line from one on that has what is sought.
@@ -59,11 +87,11 @@ impl<'a> Pager<'a> {
     {
         match found {
             Some(line) => {
-                self.go_to(u64::from(line));
+                self.jump_to(u64::from(line));
                 self.found = Some(line);
-                self.is_missing = false;
+                self.note = Note::Range;
             }
-            None => self.is_missing = true,
+            None => self.note = Note::Missing,
         }
     }
 
@@ -130,12 +158,10 @@ impl<'a> Pager<'a> {
 
     // Begins the search of what was typed.
     pub(crate) fn search(&mut self) -> Result<(), AllocError>
-        ensures ok { OnOk result
-            (self.new ≡ record (sought_first (with_pattern self.old)) { mode = Mode.Reading }) }
+        ensures ok { OnOk result (self.new ≡ sought_first (with_pattern self.old)) }
         ensures err { OnErr result (self.new ≡ self.old) }
     {
         self.take_pattern()?;
-        self.mode = Mode::Reading;
         if self.is_back {
             let before = self.top;
             self.seek_before(before);

@@ -1,15 +1,16 @@
 //! The status in the last row of a page.
 
-ghost use Rattle.std.specs.Prelude.{◌≡◌, ◌+◌, ◌-◌, ◌<◌, ◌≤◌, OnOk, IfOk};
+ghost use Rattle.std.specs.Prelude.{◌≡◌, length, ◌+◌, ◌-◌, ◌<◌, ◌≤◌, OnOk, IfOk};
 ghost use Rattle.ratatui_core.specs.Layout.{IsInside};
 ghost use Rattle.ratatui_core.specs.Buffer.{IsReadyAt, IsReadyFrom, IsSettledBuffer};
 ghost use Rattle.ratatui_core.specs.Widgets.{ChangesWithin};
 ghost use Rattle.rtui_boxes.specs.Boxes.{IsBoxArea};
 ghost use Rattle.pager.specs.Symbols.{reversed};
-ghost use Rattle.pager.specs.Pages.{first_shown, last_shown, per_cent, place_text, first_part, second_part};
-ghost use Rattle.pager.specs.Pages.{PaintsText, PaintsStatus};
+ghost use Rattle.pager.specs.Pages.{first_shown, last_shown, per_cent, filter_text, place_text, byte_count};
+ghost use Rattle.pager.specs.Pages.{details_text};
+ghost use Rattle.pager.specs.Pages.{note_name, note_text, first_part, second_part, PaintsText, PaintsStatus};
 
-use crate::pager::{Mode, Pager};
+use crate::pager::{Mode, Note, Pager};
 use crate::painting::paint_text;
 use crate::symbols::reversed;
 use arrayvec::ArrayString;
@@ -46,6 +47,18 @@ impl<'a> Pager<'a> {
         }
     }
 
+    // Whether some lines are hidden.
+    fn filter_text(&self) -> &'static str
+        ensures text { result.now ≡ filter_text self.now }
+        ensures short { length result.now ≤ 9 }
+    {
+        if self.whole.is_some() {
+            " filtered"
+        } else {
+            ""
+        }
+    }
+
     // The place, as it is shown.
     fn place_text(&self) -> ArrayString<100>
         ensures { result.bytes ≡ place_text self.now }
@@ -61,7 +74,39 @@ impl<'a> Pager<'a> {
         text.push_str(" ");
         text.push_str(digits.format(self.per_cent()));
         text.push_str("%");
+        text.push_str(self.filter_text());
         text
+    }
+
+    // How many bytes the first lines take.
+    fn byte_count(&self, lines: u64) -> u64
+        ensures { result ≡ byte_count self.now lines }
+    {
+        self.document.bytes_before(lines)
+    }
+
+    // The place, and how many bytes of the text end with the page.
+    fn details_text(&self) -> ArrayString<160>
+        ensures { result.bytes ≡ details_text self.now }
+    {
+        let mut digits = Digits::new();
+        let mut text = ArrayString::new();
+        text.push_str(self.place_text().as_str());
+        text.push_str(" bytes ");
+        text.push_str(digits.format(self.byte_count(self.last_shown())));
+        text.push_str("/");
+        text.push_str(digits.format(self.byte_count(u64::from(self.document.len()))));
+        text
+    }
+
+    // What the text is called, or that something isn't found.
+    fn note_name(&self) -> &str
+        ensures { result.now ≡ note_name self.now.note self.now }
+    {
+        match self.note {
+            Note::Missing => "not found: ",
+            _ => self.name.as_str(),
+        }
     }
 
     // The first part of the status.
@@ -69,11 +114,42 @@ impl<'a> Pager<'a> {
         ensures { result.now ≡ first_part self.now.mode self.now }
     {
         match self.mode {
-            Mode::Reading if self.is_missing => "not found: ",
-            Mode::Reading => self.name.as_str(),
+            Mode::Reading => self.note_name(),
             Mode::Asking if self.is_back => "?",
             Mode::Asking => "/",
+            Mode::Filtering => "&",
+            Mode::Marking => "mark",
+            Mode::Returning => "go to mark",
+            Mode::Turning => ":",
             Mode::Helping => "keys",
+        }
+    }
+
+    // Paints the place, or what isn't found.
+    fn paint_note(
+        &self,
+        room: u16,
+        x: u16,
+        y: u16,
+        part: Rect,
+        buf: &mut Buffer,
+    ) -> Result<u16, AllocError>
+        requires some { IsBoxArea part }
+        requires inside { IsInside part buf.old.area }
+        requires left { part.x ≤ x }
+        requires right { x + room ≤ part.x + part.width }
+        requires top { part.y ≤ y }
+        requires bottom { y < part.y + part.height }
+        ensures within { ChangesWithin part buf.old buf.new }
+        ensures ok { OnOk result (PaintsText x y room reversed
+            (note_text self.now.note self.now) buf.old buf.new) }
+        ensures ready { IsReadyAt x y buf.old → IfOk result (λ end. IsReadyAt end y buf.new) }
+    {
+        let style = reversed();
+        match self.note {
+            Note::Range => paint_text(self.place_text().as_str(), room, style, x, y, part, buf),
+            Note::Bytes => paint_text(self.details_text().as_str(), room, style, x, y, part, buf),
+            Note::Missing => paint_text(self.pattern.as_str(), room, style, x, y, part, buf),
         }
     }
 
@@ -122,21 +198,17 @@ impl<'a> Pager<'a> {
         ensures ready { IsReadyAt x y buf.old → IfOk result (λ end. IsReadyAt end y buf.new) }
     {
         match self.mode {
-            Mode::Reading if self.is_missing => {
-                paint_text(self.pattern.as_str(), room, reversed(), x, y, part, buf)
+            Mode::Reading => self.paint_note(room, x, y, part, buf),
+            Mode::Asking | Mode::Filtering => self.paint_typed(room, x, y, part, buf),
+            Mode::Marking => paint_text(": a letter", room, reversed(), x, y, part, buf),
+            Mode::Returning => {
+                let awaited = ": a letter, or ' for where the last jump began";
+                paint_text(awaited, room, reversed(), x, y, part, buf)
             }
-            Mode::Reading => {
-                paint_text(
-                    self.place_text().as_str(),
-                    room,
-                    reversed(),
-                    x,
-                    y,
-                    part,
-                    buf,
-                )
+            Mode::Turning => {
+                let awaited = " n for the next text, p for the one before, q for the end";
+                paint_text(awaited, room, reversed(), x, y, part, buf)
             }
-            Mode::Asking => self.paint_typed(room, x, y, part, buf),
             Mode::Helping => {
                 paint_text(": any key goes back", room, reversed(), x, y, part, buf)
             }

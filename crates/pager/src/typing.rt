@@ -27,7 +27,7 @@ impl Model for Typing {
 }
 
 impl Typing {
-    /// No character.
+    /// Makes a line without a character.
     pub fn new() -> Typing
         ensures { result ≡ [] }
     {
@@ -36,14 +36,14 @@ impl Typing {
         }
     }
 
-    /// Whether no character was typed.
+    /// Returns whether no character was typed.
     pub fn is_empty(&self) -> bool
         ensures { IsTrue result ↔ (length self.now ≡ 0) }
     {
         self.characters.is_empty()
     }
 
-    /// Another character, unless there are 80.
+    /// Adds a character, unless there are 80.
     pub fn push(&mut self, character: char)
         ensures { self.new ≡ with_character character self.old }
     {
@@ -52,14 +52,14 @@ impl Typing {
         }
     }
 
-    /// The last character is gone, if there was one.
+    /// Takes the last character away, if there is one.
     pub fn pop(&mut self)
         ensures { self.new ≡ take (length self.old - 1) self.old }
     {
         self.characters.pop();
     }
 
-    /// The characters as a text.
+    /// Returns the characters as a text.
     ///
     /// # Errors
     ///

@@ -2,36 +2,46 @@
 
 use crate::recording::Recording;
 use bitflags::Flags;
-use pager::{Document, OwnText, Pager};
+use pager::{Document, OwnText, Pager, Styles, parted};
 use ratatui_app::{draw, feed};
 use ratatui_core::backend::TestBackend;
 use ratatui_core::buffer::Cell;
 use ratatui_core::layout::Size;
-use ratatui_core::style::Modifier;
+use ratatui_core::style::{Color, Modifier};
 use ratatui_core::terminal::Terminal;
 use ratatui_input::Decoder;
 use std::alloc::Global;
 use std::io::{self, ErrorKind};
 use std::str;
 
-/// A text, and the size of the screen on which it is shown.
+/// A text as it came and what it says, and the size of the screen on which it is shown.
 #[derive(Clone, Copy)]
 pub struct Stage<'a> {
     pub alloc: Global,
+    pub raw: &'a str,
     pub text: &'a str,
     pub size: Size,
 }
 
 impl<'a> Stage<'a> {
-    /// A pager of the text.
+    // The styles in which the text is said.
+    fn styles(&self) -> Option<Styles> {
+        match parted(self.alloc, self.raw).ok()? {
+            Some((_text, styles)) => Some(styles),
+            None => Some(Styles::new(self.alloc)),
+        }
+    }
+
+    /// Makes a pager of the text.
     pub fn pager(&self) -> Option<Pager<'a>> {
+        let styles = self.styles()?;
         let document = Document::new(self.alloc, self.text).ok()?;
         let name = OwnText::new(String::from_str(self.alloc, "text").ok()?);
         let pattern = OwnText::new(String::new(self.alloc));
-        Some(Pager::new(document, name, pattern, self.size))
+        Some(Pager::new(document, name, pattern, self.size).styled(styles))
     }
 
-    /// A pager of the text, on a screen in memory.
+    /// Makes a pager of the text, on a screen in memory.
     pub fn open(&self) -> Option<(Terminal<TestBackend>, Pager<'a>)> {
         let pager = self.pager()?;
         let backend = TestBackend::new(self.alloc, self.size.width, self.size.height).ok()?;
@@ -40,15 +50,35 @@ impl<'a> Stage<'a> {
     }
 }
 
-// Prints which columns of a row are reversed, if some are.
+// A sign for how a cell is styled.
+fn sign_of(cell: &Cell) -> &'static str {
+    let is_bold = cell.modifier.contains(Modifier::BOLD);
+    let is_underlined = cell.modifier.contains(Modifier::UNDERLINED);
+    if cell.modifier.contains(Modifier::REVERSED) {
+        "^"
+    } else if is_bold && is_underlined {
+        "B"
+    } else if is_bold {
+        "b"
+    } else if is_underlined {
+        "u"
+    } else if cell.bg != Color::Reset {
+        "g"
+    } else if cell.fg != Color::Reset {
+        "c"
+    } else {
+        " "
+    }
+}
+
+// Prints how the columns of a row are styled, if some are.
 fn print_marks(rt: &HostRuntime, alloc: Global, cells: &[Cell], width: usize) -> io::Result<()> {
     let mut marks = String::new(alloc);
     let mut is_marked = false;
     for cell in cells.iter().take(width) {
-        let is_reversed = cell.modifier.contains(Modifier::REVERSED);
-        is_marked = is_marked || is_reversed;
-        let mark = if is_reversed { "^" } else { " " };
-        marks.push_str(mark).map_err(|_| ErrorKind::OutOfMemory)?;
+        let sign = sign_of(cell);
+        is_marked = is_marked || sign != " ";
+        marks.push_str(sign).map_err(|_| ErrorKind::OutOfMemory)?;
     }
     if is_marked {
         let marks = marks.as_str().trim_end();
@@ -57,7 +87,7 @@ fn print_marks(rt: &HostRuntime, alloc: Global, cells: &[Cell], width: usize) ->
     Ok(())
 }
 
-// Prints the screen, and below each row but the last one what is reversed there.
+// Prints the screen, and below each row but the last one how it is styled.
 fn print_screen(rt: &HostRuntime, alloc: Global, backend: &TestBackend) -> io::Result<()> {
     let mut rows = Vec::new(alloc);
     backend.write_to(&mut rows)?;

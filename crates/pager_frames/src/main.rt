@@ -2,14 +2,16 @@
 //!
 //! `pager_frames FILE COLUMNS ROWS` shows a file on a screen in memory. Each line of standard input
 //! is the bytes of a read: words, each all its characters or the name of a byte (`ESC`, `SP`, `CR`,
-//! `TAB`, `DEL`), and `TICK` a read that finds nothing. After each it prints the screen, with `^`
-//! below what is shown reversed. Then it plays the second half again, in which each kind of key is:
-//! cut at random places, and compares the last screen; and with each read and each call of the
-//! screen failing in turn, and counts the faults that were told. With wrong words, or if a screen is
-//! another one, the status is 1.
+//! `TAB`, `DEL`), and `TICK` a read that finds nothing. After each it prints the screen, with a sign
+//! below what is styled: `^` reversed, `b` bold, `u` underlined, `B` both, `g` a background, `c`
+//! another colour.
 //!
-//! With a number as a fourth word it shows the same reads as bytes for a terminal while one request
-//! for memory is refused, and prints what came of it. `tools/refusals` has each request refused.
+//! After a line `--` stand fewer reads, in which each kind of key is. It plays them cut at random
+//! places, and compares the last screen; and with each read and each call of the screen failing in
+//! turn, and counts the faults that were told. With wrong words, or if a screen is another one, the
+//! status is 1. With a number as a fourth word it only shows these reads as bytes for a terminal
+//! while one request for memory is refused, and prints what came of it: `tools/refusals` has each
+//! request refused.
 #![tactic(auto)]
 
 mod frames;
@@ -21,6 +23,7 @@ use crate::frames::{Stage, print_frames};
 use crate::recording::Recording;
 use crate::refused::print_refused;
 use crate::trials::print_trials;
+use pager::parted;
 use ratatui_core::layout::Size;
 use std::process::ExitCode;
 use std::{env, fs, io};
@@ -37,25 +40,34 @@ fn play(rt: &HostRuntime, words: &[String]) -> anyhow::Result<bool> {
     let (Some(file), Some(size)) = (words.get(1), size_of(words)) else {
         return Ok(false);
     };
-    let text = fs::read_to_string(rt, file.as_str())?;
+    let raw = fs::read_to_string(rt, file.as_str())?;
+    let said = parted(rt.alloc(), raw.as_str())?;
+    let text = match &said {
+        Some((text, _)) => text.as_str(),
+        None => raw.as_str(),
+    };
     let script = io::read_to_string(rt.alloc(), rt.reader())?;
-    let recording = Recording::read(rt.alloc(), script.as_str(), 0)?;
+    let Some((script, trials)) = script.as_str().split_once("\n--\n") else {
+        return Ok(false);
+    };
+    let fewer = Recording::read(rt.alloc(), trials)?;
     let stage = Stage {
         alloc: rt.alloc(),
-        text: text.as_str(),
+        raw: raw.as_str(),
+        text,
         size,
     };
     if let Some(number) = words.get(4) {
         let Ok(number) = number.as_str().parse::<usize>() else {
             return Ok(false);
         };
-        print_refused(rt, stage, &recording, number)?;
+        print_refused(rt, stage, &fewer, number)?;
         return Ok(true);
     }
-    let frames = print_frames(rt, stage, script.as_str(), &recording)?;
-    let second_half = Recording::read(rt.alloc(), script.as_str(), recording.ends.len() / 2)?;
-    let trials = print_trials(rt, stage, &second_half)?;
-    Ok(frames && trials)
+    let recording = Recording::read(rt.alloc(), script)?;
+    let are_drawn = print_frames(rt, stage, script, &recording)?;
+    let are_told = print_trials(rt, stage, &fewer)?;
+    Ok(are_drawn && are_told)
 }
 
 fn main(rt: HostRuntime) -> anyhow::Result<ExitCode> {

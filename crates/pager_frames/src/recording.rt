@@ -25,11 +25,11 @@ fn bytes_of(word: &str) -> &[u8] {
 }
 
 impl Recording {
-    /// The reads of a script, one a line, from a line on.
-    pub fn read(alloc: Global, script: &str, first: usize) -> Result<Recording, AllocError> {
+    /// Makes the reads that a script says, one a line.
+    pub fn read(alloc: Global, script: &str) -> Result<Recording, AllocError> {
         let mut bytes = Vec::new(alloc);
         let mut ends = Vec::new(alloc);
-        for line in script.lines().skip(first) {
+        for line in script.lines() {
             for word in line.split(' ') {
                 bytes.extend_from_slice(bytes_of(word))?;
             }
@@ -54,7 +54,7 @@ pub struct Player<'a> {
 }
 
 impl<'a> Player<'a> {
-    /// From the first read on.
+    /// Makes a player that begins with the first read.
     pub fn new(recording: &'a Recording, seed: Option<u32>, calls: usize) -> Player<'a> {
         Player {
             recording,

@@ -116,7 +116,8 @@ fn shown(
     Some((told, terminal.is_given_back()))
 }
 
-/// How many of the reads, of which one fails in each recording, leave the terminal given back.
+/// Returns how many of the reads, of which one fails in each recording, leave the terminal given
+/// back.
 pub fn reads_given_back(stage: Stage<'_>, recording: &Recording) -> usize {
     let mut count = 0usize;
     for calls in 0..recording.ends.len() {
@@ -129,8 +130,8 @@ pub fn reads_given_back(stage: Stage<'_>, recording: &Recording) -> usize {
     count
 }
 
-/// How many of the writer's calls, of which one fails in each recording of so many reads, leave the
-/// terminal given back or were to give it back, and how many calls there are.
+/// Returns how many of the writer's calls, of which one fails in each recording of so many reads,
+/// leave the terminal given back or were to give it back, and how many calls there are.
 pub fn writes_given_back(stage: Stage<'_>, recording: &Recording, reads: usize) -> (usize, usize) {
     let mut count = 0usize;
     for calls in 1..1000usize {

@@ -2,7 +2,8 @@
 
 use std::alloc::{AllocError, Global};
 
-/// The first word that begins with `+`, which is taken out of the words: what comes after it.
+/// Takes the first word that begins with `+` out of the words, and returns what comes after the
+/// `+`.
 pub fn taken(alloc: Global, words: &mut Vec<String>) -> Result<String, AllocError> {
     match words.iter().position(|word| word.as_str().starts_with('+')) {
         Some(at) => String::from_str(alloc, words.remove(at).as_str().get(1..).unwrap_or("")),
@@ -10,7 +11,7 @@ pub fn taken(alloc: Global, words: &mut Vec<String>) -> Result<String, AllocErro
     }
 }
 
-/// The keys that such a word stands for: `42` goes to line 42, `/WORDS` searches, and other
+/// Returns the keys that such a word stands for: `42` goes to line 42, `/WORDS` searches, and other
 /// characters are keys.
 pub fn typed(mut word: String) -> Result<String, AllocError> {
     if word.as_str().starts_with(['/', '?']) {

@@ -1,14 +1,15 @@
 //! The program `pager`: shows a text page by page on a terminal, moved by keys. `h` lists them.
 //!
-//! `pager FILE` shows a file, and reads the keys from standard input; without a word, or with `-`,
-//! the text is standard input's, and the keys come from `/dev/tty`. `+42` begins at line 42, and
-//! `+/WORDS` at the first line that has these words. Bytes that aren't UTF-8 stand as `<FF>`. If keys
-//! can be typed, but standard output is no terminal, the text is copied there. The terminal has to be in raw
-//! mode, where a read that finds nothing answers after a while: `tools/raw pager_program FILE` sees
-//! to that. The size is that of `--columns` and `--rows`, or of the variables COLUMNS and LINES; or
-//! else the terminal is asked. What isn't a terminal ends with its last byte. If a text can't be
-//! read or a call fails, one line stands on standard error that begins with `pager: `, and the
-//! status is 1; with wrong words it is 2.
+//! `pager FILE ..` shows a file, or several, to which `:n` and `:p` turn, and reads the keys from
+//! standard input; without a word, or with `-`, the text is standard input's, and the keys come from
+//! `/dev/tty`. `+42` begins at line 42, and `+/WORDS` at the first line that has these words. Bytes
+//! that aren't UTF-8 stand as `<FF>`. If keys can be typed, but standard output is no terminal, the
+//! texts are copied there. The terminal has to be in raw mode, where a read that finds nothing
+//! answers after a while: `tools/raw pager_program FILE` sees to that. The size is that of
+//! `--columns` and `--rows`, or of the variables COLUMNS and LINES; or else the terminal is asked.
+//! What isn't a terminal ends with its last byte. If a text can't be read or a call fails, one line
+//! stands on standard error that begins with `pager: `, and the status is 1; with wrong words it is
+//! 2. `--version` says the version.
 #![tactic(auto)]
 
 mod begin;
@@ -19,34 +20,66 @@ mod words;
 
 use crate::begin::{taken, typed};
 use crate::error::PagerError;
-use crate::size::{Given, INPUT, OUTPUT, is_terminal, size_for};
-use crate::text::text_of;
-use crate::words::{command, given_by, name_of};
-use pager::{Document, OwnText, Pager, show};
+use crate::size::{Given, size_for};
+use crate::text::parted_text;
+use crate::words::{command, given_by, names_of};
+use pager::{Document, Ending, OwnText, Pager, show};
+use programs::{Stream, is_terminal};
+use std::alloc::{AllocError, Global};
 use std::io::{self, BufWriter, Read, Write};
 use std::process::ExitCode;
 use std::{env, fs};
 
-// Shows a text that has a name, moved by keys that are typed first, and then by a reader's.
+// A text among others: how it is called, and which it is, from 0 on, of how many.
+#[derive(Clone, Copy)]
+struct Place<'a> {
+    name: &'a str,
+    at: usize,
+    count: usize,
+}
+
+impl Place<'_> {
+    // How the text is called in the status.
+    fn title(&self, alloc: Global) -> Result<String, AllocError> {
+        if self.count == 1 {
+            return String::from_str(alloc, self.name);
+        }
+        let (name, number, count) = (self.name, self.at.saturating_add(1), self.count);
+        format!(in alloc; "{name} ({number} of {count})")
+    }
+
+    fn has_previous(&self) -> bool {
+        self.at > 0
+    }
+
+    fn has_next(&self) -> bool {
+        self.at.saturating_add(1) < self.count
+    }
+}
+
+// Shows a text, moved by keys that are typed first, and then by a reader's; how it is done with.
 fn page<R: Read>(
     rt: &HostRuntime,
-    name: &str,
+    place: Place<'_>,
     bytes: Vec<u8>,
     first: &str,
     keys: &mut R,
     has_ticks: bool,
     given: Given,
-) -> Result<(), PagerError> {
+) -> Result<Ending, PagerError> {
     let alloc = rt.alloc();
-    let text = text_of(alloc, bytes).map_err(|_| PagerError::Memory)?;
+    let (text, styles) = parted_text(alloc, bytes).map_err(|_| PagerError::Memory)?;
     let document = Document::new(alloc, text.as_str()).map_err(PagerError::Text)?;
-    let name = OwnText::new(String::from_str(alloc, name).map_err(|_| PagerError::Memory)?);
+    let name = OwnText::new(place.title(alloc).map_err(|_| PagerError::Memory)?);
     let pattern = OwnText::new(String::new(alloc));
     let mut writer = BufWriter::new(alloc, io::writer(rt)).map_err(PagerError::Write)?;
     let size = size_for(rt, given, keys, has_ticks, &mut writer)?;
-    let mut pager = Pager::new(document, name, pattern, size);
+    let mut pager = Pager::new(document, name, pattern, size)
+        .styled(styles)
+        .between(place.has_previous(), place.has_next());
     let mut typed = first.as_bytes().chain(keys);
-    show(alloc, size, &mut typed, has_ticks, &mut writer, &mut pager).map_err(PagerError::Run)
+    show(alloc, size, &mut typed, has_ticks, &mut writer, &mut pager).map_err(PagerError::Run)?;
+    Ok(pager.ending())
 }
 
 // Copies a text to standard output.
@@ -57,26 +90,69 @@ fn copy(rt: &HostRuntime, bytes: &[u8]) -> Result<(), PagerError> {
 }
 
 // Shows a file; the keys are standard input's.
-fn page_file(rt: &HostRuntime, path: &str, first: &str, given: Given) -> Result<(), PagerError> {
-    let bytes = fs::read(rt, path).map_err(PagerError::Read)?;
-    let has_ticks = is_terminal(rt, INPUT);
-    if has_ticks && !is_terminal(rt, OUTPUT) {
-        return copy(rt, bytes.as_slice());
+fn page_file(
+    rt: &HostRuntime,
+    place: Place<'_>,
+    first: &str,
+    given: Given,
+) -> Result<Ending, PagerError> {
+    let bytes = fs::read(rt, place.name).map_err(PagerError::Read)?;
+    let has_ticks = is_terminal(rt, Stream::Input);
+    if has_ticks && !is_terminal(rt, Stream::Output) {
+        copy(rt, bytes.as_slice())?;
+        return Ok(if place.has_next() {
+            Ending::Next
+        } else {
+            Ending::Quit
+        });
     }
-    page(rt, path, bytes, first, &mut rt.reader(), has_ticks, given)
+    page(rt, place, bytes, first, &mut rt.reader(), has_ticks, given)
+}
+
+// Shows files, from the first one on, until the reader is done with the pager.
+fn page_files(rt: &HostRuntime, names: &[&str], first: &str, given: Given) -> io::Result<ExitCode> {
+    let mut typed = first;
+    let mut at = 0usize;
+    for _ in 0..u64::MAX {
+        let Some(name) = names.get(at) else {
+            return Ok(ExitCode::SUCCESS);
+        };
+        let place = Place {
+            name,
+            at,
+            count: names.len(),
+        };
+        match page_file(rt, place, typed, given) {
+            Ok(Ending::Quit) => return Ok(ExitCode::SUCCESS),
+            Ok(Ending::Next) => at = at.saturating_add(1),
+            Ok(Ending::Previous) => at = at.saturating_sub(1),
+            Err(refusal) => {
+                refusal.tell(rt, name)?;
+                return Ok(ExitCode::FAILURE);
+            }
+        }
+        typed = "";
+    }
+    Ok(ExitCode::SUCCESS)
 }
 
 // Shows standard input; the keys are the terminal's.
 fn page_input(rt: &HostRuntime, first: &str, given: Given) -> Result<(), PagerError> {
+    let place = Place {
+        name: "standard input",
+        at: 0,
+        count: 1,
+    };
     let mut bytes = Vec::new(rt.alloc());
     rt.reader()
         .read_to_end(&mut bytes)
         .map_err(PagerError::Read)?;
-    if !is_terminal(rt, OUTPUT) {
+    if !is_terminal(rt, Stream::Output) {
         return copy(rt, bytes.as_slice());
     }
     let mut keys = fs::open(rt, "/dev/tty").map_err(PagerError::Keys)?;
-    page(rt, "standard input", bytes, first, &mut keys, true, given)
+    page(rt, place, bytes, first, &mut keys, true, given)?;
+    Ok(())
 }
 
 // Reads the words, and shows what they name.
@@ -94,16 +170,14 @@ fn start(rt: &HostRuntime) -> anyhow::Result<ExitCode> {
         }
     };
     let given = given_by(&matches);
-    let name = name_of(&matches);
-    let shown = match name {
-        Some(path) => page_file(rt, path, first.as_str(), given),
-        None => page_input(rt, first.as_str(), given),
-    };
-    match shown {
+    let names = names_of(&matches);
+    if !names.is_empty() {
+        return Ok(page_files(rt, names, first.as_str(), given)?);
+    }
+    match page_input(rt, first.as_str(), given) {
         Ok(()) => Ok(ExitCode::SUCCESS),
         Err(refusal) => {
-            let name = name.unwrap_or("standard input");
-            refusal.tell(rt, name)?;
+            refusal.tell(rt, "standard input")?;
             Ok(ExitCode::FAILURE)
         }
     }

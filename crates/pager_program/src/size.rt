@@ -4,8 +4,8 @@ use crate::error::PagerError;
 use ratatui_core::layout::Size;
 use ratatui_events::Event;
 use ratatui_input::Decoder;
+use std::env;
 use std::io::{self, Read, Write};
-use std::{env, fs};
 
 /// What asks a terminal where its last column and row are, and leaves the cursor where it is.
 const ASKING: &str = "\x1b7\x1b[9999;9999H\x1b[6n\x1b8";
@@ -18,22 +18,6 @@ const PATIENCE: u32 = 64;
 pub struct Given {
     pub columns: Option<u16>,
     pub rows: Option<u16>,
-}
-
-/// Where the system says what standard input is, and standard output.
-pub const INPUT: &str = "/proc/self/fd/0";
-
-pub const OUTPUT: &str = "/proc/self/fd/1";
-
-/// Whether one of these is a terminal.
-pub fn is_terminal(rt: &HostRuntime, stream: &str) -> bool {
-    match fs::read_link(rt, stream) {
-        Ok(path) => {
-            let path = path.as_path();
-            path.starts_with("/dev/pts") || path.starts_with("/dev/tty")
-        }
-        Err(_) => false,
-    }
 }
 
 // A number of columns or rows that a variable says.
@@ -70,8 +54,8 @@ fn asked_size<R: Read, W: Write>(keys: &mut R, writer: &mut W) -> Result<Option<
     told_size(keys).map_err(PagerError::Keys)
 }
 
-/// The size of the terminal: each number is the word's, or else the variable's; if one is unknown,
-/// it is what the terminal tells, or else 80 columns and 24 rows.
+/// Returns the size of the terminal: each number is the word's, or else the variable's; if one is
+/// unknown, it is what the terminal tells, or else 80 columns and 24 rows.
 pub fn size_for<R: Read, W: Write>(
     rt: &HostRuntime,
     given: Given,

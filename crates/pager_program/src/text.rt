@@ -1,5 +1,6 @@
 //! A text of any bytes.
 
+use pager::{Styles, parted};
 use std::alloc::{AllocError, Global};
 
 // Puts a byte as `<FF>` at the end of a text: its value in two hexadecimal digits.
@@ -26,10 +27,19 @@ fn with_bytes_shown(alloc: Global, bytes: &[u8]) -> Result<String, AllocError> {
     Ok(text)
 }
 
-/// The text that bytes are in UTF-8. A byte that is part of no character stands as `<FF>`.
-pub fn text_of(alloc: Global, bytes: Vec<u8>) -> Result<String, AllocError> {
+// The text that bytes are in UTF-8. A byte that is part of no character stands as `<FF>`.
+fn text_of(alloc: Global, bytes: Vec<u8>) -> Result<String, AllocError> {
     match String::from_utf8(bytes) {
         Ok(text) => Ok(text),
         Err(error) => with_bytes_shown(alloc, error.as_bytes()),
+    }
+}
+
+/// Returns what bytes say, and the styles in which they say it.
+pub fn parted_text(alloc: Global, bytes: Vec<u8>) -> Result<(String, Styles), AllocError> {
+    let text = text_of(alloc, bytes)?;
+    match parted(alloc, text.as_str())? {
+        Some(both) => Ok(both),
+        None => Ok((text, Styles::new(alloc))),
     }
 }

@@ -2,12 +2,13 @@
 
 use crate::size::Given;
 use clap::{Arg, ArgMatches, Command, value_parser};
+use programs::VERSION;
 use std::alloc::{AllocError, Global};
 
-/// What the program takes: a file, and the columns and rows of the terminal.
+/// Says what the program takes: files, and the columns and rows of the terminal.
 pub fn command<'a>(alloc: Global) -> Result<Command<'a>, AllocError> {
-    let file = Arg::new(alloc, "FILE").help(
-        "The text, and then the keys are read from standard input; with - it is that",
+    let file = Arg::new(alloc, "FILE").num_args(0..).help(
+        "The texts, and then the keys are read from standard input; with - it is that",
     );
     let columns = Arg::new(alloc, "COLUMNS")
         .long("columns")
@@ -21,6 +22,7 @@ pub fn command<'a>(alloc: Global) -> Result<Command<'a>, AllocError> {
         .value_parser(value_parser!(u16).range(1..=65535));
     Command::new(alloc, "pager")
         .bin_name("pager")?
+        .version(VERSION)
         .about(
             "Shows a text page by page, moved by keys; h lists them. +42 begins at line 42, +/WORDS at these words",
         )
@@ -29,7 +31,7 @@ pub fn command<'a>(alloc: Global) -> Result<Command<'a>, AllocError> {
         .arg(rows)
 }
 
-/// The columns and rows that the words say.
+/// Returns the columns and rows that the words say.
 pub fn given_by(matches: &ArgMatches<'_>) -> Given {
     Given {
         columns: matches.get_one::<u16>("COLUMNS"),
@@ -37,8 +39,10 @@ pub fn given_by(matches: &ArgMatches<'_>) -> Given {
     }
 }
 
-/// The file that the words name, if they do.
-pub fn name_of<'a>(matches: &ArgMatches<'a>) -> Option<&'a str> {
-    let name = matches.get_str("FILE")?;
-    (name != "-").then_some(name)
+/// Returns the files that the words name: none if the text is standard input's.
+pub fn names_of<'b, 'a>(matches: &'b ArgMatches<'a>) -> &'b [&'a str] {
+    match matches.get_strs("FILE") {
+        Some(["-"]) | None => &[],
+        Some(names) => names,
+    }
 }

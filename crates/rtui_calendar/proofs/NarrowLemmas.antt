@@ -19,7 +19,7 @@ use Rattle.rtui_drawing.proofs.Laws.{IsNarrowDrawing}
 use Rattle.rtui_inside.proofs.InsideLemmas.{inside-plain}
 use Rattle.rtui_calendar.specs.Days.{weeks_of, day_number}
 use Rattle.rtui_calendar.specs.Calendars.{written, written_if, month_names, month_name, month_text, weekdays_text, heading_if}
-use Rattle.rtui_calendar.specs.Calendars.{weekdays_if, last_digit, digit_before, background_of, style_at, day_cell, week_cell, weeks}
+use Rattle.rtui_calendar.specs.Calendars.{weekdays_if, last_digit, digit_before, background_of, day_style, day_cell, week_cell, weeks}
 use Rattle.rtui_calendar.specs.Calendars.{rows_above_weeks, calendar_drawing, RendersMonthly}
 use Rattle.rtui_calendar.specs.declared.monthly.Monthly.{Monthly}
 
@@ -86,7 +86,7 @@ module _ (own : ℤ → Style) (days : Style) (beside : Option Style) (d : Date)
       let x = p.x - r.x in
       let place = 7 * (p.y - r.y) + x / 3 in
       let n = day_number d place in
-      let look = style_at own days beside d place in
+      let look = day_style own days beside d place in
       plain-if (x == 0) _ _ (written-plain 32 new_style c (lit< tt) is)
       (plain-if (x % 3 == 0) _ _ (written-plain 32 (background_of days) c (lit< tt) is)
       (plain-if (x % 3 == 1) _ _ (day-plain days look (digit_before n) c (before-ascii n) is)

@@ -2,7 +2,7 @@
 use Rattle.std.proofs.Common.{◌≡◌, ℕ, ℤ, false, Option, None, Some, refl, sym}
 use Rattle.ratatui_core.specs.Style.{Style}
 use Rattle.jiff_core.specs.declared.civil.date.Date.{Date}
-use Rattle.rtui_calendar.specs.{Days.day_at, Days.is_day, Calendars.style_at, Calendars.style_beside}
+use Rattle.rtui_calendar.specs.{Days.day_at, Days.is_day, Calendars.day_style, Calendars.style_beside}
 use Rattle.rtui_calendar.proofs.PlaceLemmas.{missing-off}
 
 beside-missing : (own : ℤ → Style) (days : Style) (beside : Option Style) (day : ℤ) → false ≡ is_day day
@@ -11,6 +11,6 @@ beside-missing own days None day missing = refl
 beside-missing own days (Some style) day missing = rw (sym missing) refl
 
 pub style_missing : (own : ℤ → Style) (days : Style) (beside : Option Style) (d : Date) (place : ℕ)
-    → false ≡ is_day (day_at d place) → None ≡ style_at own days beside d place
+    → false ≡ is_day (day_at d place) → None ≡ day_style own days beside d place
 style_missing own days beside d place missing =
     rw (missing-off d place missing) (beside-missing own days beside (day_at d place) missing)

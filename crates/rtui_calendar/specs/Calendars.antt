@@ -80,8 +80,8 @@ day_cell days (Some style) ch c = written ch style c
 -- beside, if they are shown
 module _ (own : ℤ → Style) (days : Style) (beside : Option Style) (d : Date) where
   -- the style in which the day in a place is written, if it is
-  abbrev pub style_at : ℕ → Option Style
-  style_at place =
+  abbrev pub day_style : ℕ → Option Style
+  day_style place =
       let day = day_at d place in
       if is_in_month d place then Some (patch days (own day)) else style_beside own days beside day
 
@@ -91,8 +91,8 @@ module _ (own : ℤ → Style) (days : Style) (beside : Option Style) (d : Date)
       let x = p.x - r.x in let place = 7 * (p.y - r.y) + x / 3 in let n = day_number d place in
       if x == 0 then written 32 new_style c
       else if x % 3 == 0 then written 32 (background_of days) c
-      else if x % 3 == 1 then day_cell days (style_at place) (digit_before n) c
-      else day_cell days (style_at place) (last_digit n) c
+      else if x % 3 == 1 then day_cell days (day_style place) (digit_before n) c
+      else day_cell days (day_style place) (last_digit n) c
 
   -- the weeks, each in a row
   abbrev pub weeks : Rect → Drawing

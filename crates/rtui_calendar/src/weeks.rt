@@ -1,7 +1,7 @@
 //! The days of a month, a week in each row.
 
 ghost use Rattle.std.specs.Prelude.{◌≡◌};
-ghost use Rattle.rtui_calendar.specs.Calendars.{last_digit, digit_before, background_of, style_at};
+ghost use Rattle.rtui_calendar.specs.Calendars.{last_digit, digit_before, background_of, day_style};
 
 use crate::events::DateStyler;
 use crate::letters::put_char;
@@ -26,7 +26,7 @@ impl<'b, DS: DateStyler> Weeks<'b, DS> {
     #[tactic(auto, using(crate::proofs::WeekLemmas::style_missing))]
     fn style(&self, place: u32) -> Option<Style>
         ensures { let w = self.now in
-            result ≡ style_at (DS.style_of w.events.now) w.days w.beside w.month.date place }
+            result ≡ day_style (DS.style_of w.events.now) w.days w.beside w.month.date place }
     {
         let is_in_month = self.month.is_in_month(place);
         let under = if is_in_month {
