@@ -97,7 +97,7 @@ pub struct Pager<'a> {
     pub(crate) marks: [Option<u32>; MARKS],
     /// What the status tells.
     pub(crate) note: Note,
-    /// Whether a text can be turned_to to, back and further.
+    /// Whether a text can be turned to, back and further.
     pub(crate) has_previous: bool,
     pub(crate) has_next: bool,
     /// Whether the reader is done, and how.
