@@ -22,7 +22,7 @@ use crate::begin::{taken, typed};
 use crate::error::PagerError;
 use crate::size::{Given, size_for};
 use crate::text::parted_text;
-use crate::words::{command, given_by, names_of};
+use crate::words::{command, given_by, is_input};
 use pager::{Document, Ending, OwnText, Pager, show};
 use programs::{Stream, is_terminal};
 use std::alloc::{AllocError, Global};
@@ -170,8 +170,8 @@ fn start(rt: &HostRuntime) -> anyhow::Result<ExitCode> {
         }
     };
     let given = given_by(&matches);
-    let names = names_of(&matches);
-    if !names.is_empty() {
+    if !is_input(&matches) {
+        let names = matches.get_strs("FILE").unwrap_or(&[]);
         return Ok(page_files(rt, names, first.as_str(), given)?);
     }
     match page_input(rt, first.as_str(), given) {

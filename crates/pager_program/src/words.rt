@@ -39,10 +39,10 @@ pub fn given_by(matches: &ArgMatches<'_>) -> Given {
     }
 }
 
-/// Returns the files that the words name: none if the text is standard input's.
-pub fn names_of<'b, 'a>(matches: &'b ArgMatches<'a>) -> &'b [&'a str] {
+/// Returns whether the words name no file: the text is standard input's then.
+pub fn is_input(matches: &ArgMatches<'_>) -> bool {
     match matches.get_strs("FILE") {
-        Some(["-"]) | None => &[],
-        Some(names) => names,
+        Some(names) => names.len() == 1 && names.first().copied() == Some("-"),
+        None => true,
     }
 }
