@@ -5,7 +5,7 @@ use Rattle.ratatui_core.specs.Layout.{Rect, HasPosition, intersected}
 use Rattle.ratatui_core.specs.{Buffer.BufferData, Buffer.IsPlain, Buffer.IsPlainFrom, Buffer.empty_cell, Widgets.ChangesWithin}
 use Rattle.ratatui_core.proofs.BufferLemmas.{Changes-within, decide_position, plain-changed, width-empty}
 use Rattle.ratatui_core.proofs.WidgetLemmas.{within-then}
-use Rattle.rtui_boxes.specs.{declared.block.Block.Block, ClearsFirst.RendersClear, Framed.inner_if}
+use Rattle.rtui_boxes.specs.{declared.block.Block.Block, Clears.RendersClear, Framed.inner_if}
 use Rattle.rtui_drawing.specs.Drawings.{Drawing, IsShortDrawing}
 use Rattle.rtui_inside.specs.Inside.{IsShortInside}
 use Rattle.rtui_inside.proofs.InsideLemmas.{inside-plain}

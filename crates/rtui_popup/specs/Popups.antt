@@ -2,7 +2,7 @@
 use Rattle.std.specs.Prelude.{◌≡◌, None, IfSome}
 use Rattle.ratatui_core.specs.{Layout.Rect, Style.new_style, Text.TextData}
 use Rattle.ratatui_core.specs.{Text.EachTextGrapheme, Text.TakesOneColumn, Buffer.BufferData}
-use Rattle.rtui_boxes.specs.{Boxes.IsNarrowBox, ClearsFirst.RendersClear}
+use Rattle.rtui_boxes.specs.{Boxes.IsNarrowBox, Clears.RendersClear}
 use Rattle.rtui_drawing.specs.Drawings.{Drawing, put_text}
 use Rattle.rtui_inside.specs.Inside.{DrawsInside, LeavesInside, IsShortInside}
 use Rattle.rtui_popup.specs.declared.popup.Popup.{Popup}
