@@ -34,6 +34,8 @@ pub fn throbber(frame: &mut Frame<'_>) -> Result<(), AllocError> {
     let area = frame.area();
     let mut state = ThrobberState::new();
     state.calc_next();
-    let throbber = Throbber::new().label(Span::raw("Loading")).throbber_set(ASCII);
+    let throbber = Throbber::new()
+        .label(Span::raw("Loading"))
+        .throbber_set(ASCII);
     frame.render_stateful_widget(throbber, area, &mut state)
 }
