@@ -14,8 +14,8 @@ use tui::widgets::{Block, BorderType, Borders, Gauge, LineGauge, List, ListItem,
 const FOX: &str = "the quick brown fox jumps over the lazy dog and runs away from it as fast as it can";
 
 static NAMES: [&str; 24] = [
-    "rtui_geometry", "rtui_layout", "rtui_style", "rtui_palette", "rtui_symbols", "rtui_merge", "rtui_cell", "rtui_text", "rtui_stylize",
-    "rtui_to_text", "rtui_diff", "rtui_buffer", "rtui_widgets", "rtui_canvas", "rtui_backend", "rtui_viewport", "rtui_insert",
+    "rtui_geometry", "rtui_layout", "rtui_style", "rtui_palette", "rtui_symbols", "rtui_merge", "rtui_cell", "rtui_text", "rtui_drawing",
+    "ratatui_acts", "rtui_diff", "rtui_buffer", "rtui_widgets", "rtui_canvas", "rtui_backend", "rtui_viewport", "rtui_insert",
     "rtui_terminal", "ratatui_core", "ratatui_ansi", "rtui_boxes", "rtui_meters", "rtui_list", "ratatui_widgets",
 ];
 

@@ -64,7 +64,7 @@ pub mod layout {
 /// Colours, modifiers and styles.
 pub mod style {
     pub use rtui_style::{Color, Modifier, ParseColorError, Style, laws};
-    pub use rtui_stylize::{Styled, Stylize};
+    pub use rtui_text::{Styled, Stylize};
 
     /// Colours by name.
     pub mod palette {
@@ -105,9 +105,8 @@ pub mod terminal {
 pub mod text {
     pub use rtui_text::{
         Items, Line, LineGraphemes, Lines, Masked, Span, SpanGraphemes, Spans, StyledGrapheme,
-        Text, text_columns,
+        Text, ToLine, ToSpan, ToText, text_columns,
     };
-    pub use rtui_to_text::{ToLine, ToSpan, ToText};
 }
 
 /// What can be rendered over an area of a buffer.

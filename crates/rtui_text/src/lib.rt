@@ -17,7 +17,10 @@ mod printable;
 mod span;
 mod span_graphemes;
 mod spans;
+mod styled;
+mod stylize;
 mod text;
+mod to_text;
 
 pub use columns::text_columns;
 pub use grapheme::{LineGraphemes, StyledGrapheme, has_control};
@@ -29,4 +32,7 @@ pub use printable::printable_front;
 pub use span::Span;
 pub use span_graphemes::SpanGraphemes;
 pub use spans::Spans;
+pub use styled::Styled;
+pub use stylize::Stylize;
 pub use text::Text;
+pub use to_text::{ToLine, ToSpan, ToText};

@@ -1,8 +1,7 @@
 //! Lines and texts that are made, copied or joined.
 use crate::outcome::{Cases, Outcome, judged};
 use rtui_style::Style;
-use rtui_text::{Line, Masked, Span, Text};
-use rtui_to_text::{ToLine, ToSpan, ToText};
+use rtui_text::{Line, Masked, Span, Text, ToLine, ToSpan, ToText};
 use std::alloc::{AllocError, Global};
 use std::slice;
 

@@ -1,8 +1,7 @@
 //! What prints, as a span, a line and a text.
 use rtui_buffer::Buffer;
 use rtui_geometry::Rect;
-use rtui_text::{Line, Masked, Span, Text};
-use rtui_to_text::{ToLine, ToSpan, ToText};
+use rtui_text::{Line, Masked, Span, Text, ToLine, ToSpan, ToText};
 use rtui_widgets::Widget;
 use std::alloc::{AllocError, Global};
 use std::borrow::CowStr;

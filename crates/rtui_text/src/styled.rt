@@ -1,13 +1,35 @@
-//! Texts in styles. A bare text has the style that changes nothing, and becomes a span.
+//! What has a style, and texts in one: a bare text has the style that changes nothing, and becomes a
+//! span.
 
+ghost use Rattle.std.specs.Prelude.{◌≡◌};
 ghost use Rattle.std.specs.Cow.{cow_str_bytes};
 ghost use Rattle.std.specs.String.{string_bytes};
 ghost use Rattle.rtui_style.specs.Style.{new_style};
+ghost use Rattle.rtui_style.specs.declared.Style.{Style};
 
-use crate::{Styled, Stylize};
+use crate::{Line, Span, StyledGrapheme, Stylize, Text};
 use rtui_style::Style;
-use rtui_text::{Line, Span, StyledGrapheme, Text};
 use std::borrow::CowStr;
+
+/// What has a style that can be replaced.
+pub trait Styled {
+    /// What it becomes with another style.
+    type Item;
+
+    // its style
+    ghost style_of: { Self → Style };
+
+    // what it becomes with this style
+    ghost with_style: { Self → Style → Self.Item };
+
+    /// Returns its style.
+    fn style(&self) -> Style
+        ensures { result ≡ style_of self.now };
+
+    /// Returns what it becomes with this style in place of its own.
+    fn set_style(self, style: Style) -> Self::Item
+        ensures { result ≡ with_style self style };
+}
 
 impl<'a> Styled for &'a str {
     type Item = Span<'a>;

@@ -1,4 +1,7 @@
-//! Shorthands for whatever has a style.
+//! Whatever has a style, styled by name: `text.red().on_white().bold()`.
+//!
+//! A type says by [`Styled`] what its style is and what it becomes with another one; an empty
+//! `impl Stylize` then gives it every call, each proved once for all types.
 
 ghost use Rattle.std.specs.Prelude.{◌≡◌};
 ghost use Rattle.rtui_style.specs.Style.{reset_style, with_bg, with_fg, with_modifier, without_modifier};

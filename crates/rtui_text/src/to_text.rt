@@ -1,14 +1,12 @@
 //! What can be printed, as a text on the screen.
 //!
-//! It stands on `rtui_text`. Whatever prints is a [`ToSpan`], a [`ToLine`] and a [`ToText`]: its
+//! Whatever prints is a [`ToSpan`], a [`ToLine`] and a [`ToText`]: its
 //! printed text, owned, in the style that changes nothing. Contracts name that text if the type
 //! states what it prints; if it doesn't, they say that it is some text, made so.
-#![tactic(auto)]
-
 ghost use Rattle.std.specs.Prelude.{◌≡◌, ℕ, List, Option, IfOk, IfSome};
 ghost use Rattle.rtui_text.specs.Text.{unstyled, raw_line, raw_text};
 
-use rtui_text::{Line, Span, Text};
+use crate::{Line, Span, Text};
 use std::alloc::{AllocError, Global};
 use std::fmt;
 
