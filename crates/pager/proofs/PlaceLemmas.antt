@@ -184,7 +184,8 @@ turned_to-if : (b : Bool) (e : Option Ending) (p : Pager) → IsInText p → IsI
 turned_to-if true None p is = is
 turned_to-if true (Some e) p is = by (has_text e p)
   where
-    by : (b : Bool) → IsInText (if b then record p { mode = Reading; is_over = true; ending = e } else record p { mode = Reading })
+    by : (b : Bool)
+        → IsInText (if b then record p { mode = Reading; is_over = true; ending = e } else record p { mode = Reading })
     by true = is
     by false = is
 turned_to-if false e p is = is

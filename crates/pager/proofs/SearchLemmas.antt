@@ -1,6 +1,6 @@
 -- Where a text stands in another, and which line has it.
-use Rattle.std.proofs.Common.{◌≡◌, ℕ, zero, suc, subst, ◌+◌, ◌<◌, ◌≤◌, ◌&&◌, ⊎_elim, ◌==◌, nat_lt, if◌then◌else◌, Bool, true, false, Decides}
-use Rattle.std.proofs.Common.{List, [], ◌∷◌, ◌++◌, map, take, drop, length, Some, None, unwrap_or, slice_get, slice_index_or, refl, sym, ap}
+use Rattle.std.proofs.Common.{◌≡◌, ℕ, zero, suc, subst, ◌+◌, ◌<◌, ◌≤◌, ⊎_elim, ◌==◌, if◌then◌else◌, Bool, true, false, Decides}
+use Rattle.std.proofs.Common.{List, [], ◌∷◌, ◌++◌, map, drop, length, Some, None, unwrap_or, slice_get, slice_index_or, refl, sym, ap}
 use Rattle.std.proofs.Common.{◌∙◌, arith, length-append}
 use Rattle.std.specs.Str.Iter.{HasSubslice}
 use Rattle.std.specs.List.{position_from, starts_with}
@@ -8,7 +8,6 @@ use Rattle.std.specs.{Char.to_ascii_lowercase, Str.str_eq_ignore_ascii_case}
 use Rattle.std.proofs.lemmas.Bool.{cases_Bool, cases_lt, or_right}
 use Rattle.std.proofs.lemmas.{Bool.Decides.Decides-eqb}
 use Rattle.std.proofs.lemmas.{Option.unwrap_or-slice_get, Slice.Eq.starts_is, Slice.Eq.bytes_eq-Decides, List.drop_more, List.drop_all}
-use Rattle.std.proofs.lemmas.List.{length-map, length-take}
 use Rattle.pager.specs.Search.{has_capital, begins_with, occurs, has_match, numbered_line, next_match, last_match}
 use Rattle.pager.specs.Search.{IsFirstMatch, IsLastMatch, matching}
 
@@ -53,7 +52,8 @@ stands-after pattern (a ∷ before) [] rest capital is = let no : ⊥ = cc in ab
 stands-after pattern (a ∷ before) (b ∷ bs) rest capital is =
     later-occurs pattern b bs (stands-after pattern before bs rest capital (cc))
 
-pub occurs-decides : (pattern text : List ℕ) → has_capital pattern ≡ true → Decides (occurs pattern text) (HasSubslice text pattern)
+pub occurs-decides : (pattern text : List ℕ) → has_capital pattern ≡ true
+    → Decides (occurs pattern text) (HasSubslice text pattern)
 occurs-decides pattern text capital =
     (stands pattern text capital, λ found. stands-after pattern found.0 text found.1 capital found.2)
 
@@ -78,19 +78,6 @@ occurs-later pattern text k lt is =
 pub same-case : (a b : List ℕ) → Decides (str_eq_ignore_ascii_case a b) (map to_ascii_lowercase a ≡ map to_ascii_lowercase b)
 same-case a b = bytes_eq-Decides (map to_ascii_lowercase a) (map to_ascii_lowercase b)
 
--- a text that is too short doesn't begin with another
-pub case-short : (pattern text : List ℕ) → length text < length pattern
-    → str_eq_ignore_ascii_case pattern (take (length pattern) text) ≡ false
-case-short pattern text lt = ⊎_elim
-    (λ (same : str_eq_ignore_ascii_case pattern (take (length pattern) text) ≡ true).
-    let e = ap length ((same-case pattern (take (length pattern) text)).0 same) in
-    let m = length-map pattern to_ascii_lowercase in
-    let n = length-map (take (length pattern) text) to_ascii_lowercase in
-    let t = length-take (length pattern) text in
-    absurd (omega arith))
-    (λ (other : str_eq_ignore_ascii_case pattern (take (length pattern) text) ≡ false). other)
-    (cases_Bool (str_eq_ignore_ascii_case pattern (take (length pattern) text)))
-
 if-false : (b : Bool) → (if b then false else false) ≡ false
 if-false true = refl
 if-false false = refl
@@ -110,17 +97,6 @@ none-there xs k d none = sym (unwrap_or-slice_get xs k d) ∙ ap (λ o. unwrap_o
 
 pub none-at : (lines : List (List ℕ)) (k : ℕ) → slice_get lines k ≡ None → numbered_line lines k ≡ []
 none-at lines k none = sym (unwrap_or-slice_get lines k []) ∙ ap (λ o. unwrap_or o []) none
-
-and-false : (b : Bool) → (b && false) ≡ false
-and-false true = refl
-and-false false = refl
-
--- an empty line has nothing that is sought
-pub none-matches : (pattern line : List ℕ) → line ≡ [] → has_match pattern line ≡ false
-unfolding occurs
-none-matches [] line none = refl
-none-matches (b ∷ bs) line none =
-    rw none (ap (λ x. nat_lt 0 (length (b ∷ bs)) && x) (empty-not (b ∷ bs) (omega arith)) ∙ and-false (nat_lt 0 (length (b ∷ bs))))
 
 pub next-here : (pattern : List ℕ) (lines : List (List ℕ)) (k : ℕ) → k < length lines
     → has_match pattern (numbered_line lines k) ≡ true → position_from (has_match pattern) k (drop k lines) ≡ Some k

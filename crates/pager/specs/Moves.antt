@@ -239,7 +239,9 @@ has_text ending.Previous p = p.has_previous
 
 -- the reader is done, and another text is to be shown, if there is one
 abbrev pub turned_to : Option Ending → Pager → Pager
-turned_to (Some e) p = if has_text e p then record p { mode = Reading; is_over = true; ending = e } else record p { mode = Reading }
+turned_to (Some e) p =
+    if has_text e p then record p { mode = Reading; is_over = true; ending = e }
+    else record p { mode = Reading }
 turned_to None p = record p { mode = Reading }
 
 -- on a terminal of another size

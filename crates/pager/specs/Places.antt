@@ -21,8 +21,8 @@ number_columns p width = if p.has_numbers && nat_lt 8 width then 8 else 0
 abbrev pub columns_for_line : Pager → ℕ
 columns_for_line p = p.columns - number_columns p p.columns
 
--- how many columns of a line begin in a row, if lines are broken: all but the last one, in which a wide symbol
--- may end
+-- how many columns of a line begin in a row, if lines are broken: all but the last one, in which a wide
+-- symbol may end
 abbrev pub stride : Pager → ℕ
 stride p = max (columns_for_line p - 1) 1
 

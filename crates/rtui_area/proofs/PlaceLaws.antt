@@ -9,7 +9,8 @@ use Rattle.rtui_area.specs.Wraps.{wrapped_line_rows, row_past, wrapped_place_at}
 use Rattle.rtui_area.specs.Windows.{cursor_row, cursor_part, base_line, rows_above_cursor, first_shown_row, wrapped_plan}
 
 -- rows are counted from a row on as from 0 on
-past-counted : (w : TextAreaWidget) (stride a i n : ℕ) → a ≤ 18446744073709551615 → row_past w stride a i n ≡ past a (row_past w stride 0 i n)
+past-counted : (w : TextAreaWidget) (stride a i n : ℕ) → a ≤ 18446744073709551615
+    → row_past w stride a i n ≡ past a (row_past w stride 0 i n)
 past-counted w stride a i zero most = omega (arith, most)
 past-counted w stride a i (suc n) most =
     let rows = wrapped_line_rows w stride i in
@@ -24,7 +25,7 @@ one-less w stride i n q lt =
     let there = past-counted w stride (past 0 (wrapped_line_rows w stride i)) (i + 1) n (omega arith) in
     omega (arith, lt, there)
 
--- how far a row is behind another one, counted from two lines
+-- how far a row is after another one, counted from two lines
 pub wrapped_place_at-rest : (w : TextAreaWidget) (stride q n i row end : ℕ) → i + n ≡ end → row ≤ past (row_past w stride 0 i n) q
     → past (row_past w stride 0 i n) q < 18446744073709551615
     → past (row_past w stride 0 i n) q - row

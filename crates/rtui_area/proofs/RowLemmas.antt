@@ -55,7 +55,7 @@ rows-next w p width height k number lt is le =
     let test : nat_le (p.top + k) (feeds (area_text w.text.now)) ≡ true = grind (arith, nat_tests) in
     rw (more, is, test) refl
 
--- nothing is left behind the last row
+-- nothing is left after the last row
 pub rows-end : (w : TextAreaWidget) (p : Plan) (width height k : ℕ) → height ≤ k
     → numbered_rows_drawing w p width k (height - k) ≡ nothing
 rows-end w p width height k le = let none : height - k ≡ 0 = omega arith in rw none refl
@@ -68,7 +68,7 @@ pub grapheme-next : (w : TextAreaWidget) (p : Plan) (room column byte : ℕ) (g 
 grapheme-next w p room column byte g gs left is lt =
     let test : nat_lt (column - p.left) room ≡ true = grind (arith, nat_tests) in rw (is, test) refl
 
--- nothing is left behind the last column
+-- nothing is left after the last column
 pub graphemes-end : (w : TextAreaWidget) (p : Plan) (room column byte : ℕ) (gs : List (List ℕ)) → room ≤ column - p.left
     → graphemes_drawing w p room column byte gs ≡ nothing
 graphemes-end w p room column byte [] le = refl

@@ -62,7 +62,7 @@ rows-first tab stride column g gs some most all order (suc n) k le lt =
     rw (here, below) (ap (λ rest. g ∷ rest) (all (suc n) k (omega (arith, le, row)) lt)))
     (cases_lt k (column / stride))
 
--- a line ends behind its graphemes
+-- a line ends after its graphemes
 end-later : (tab column : ℕ) (gs : List (List ℕ)) → column ≤ 18446744073709551615 → column ≤ column_past tab column gs
 end-later tab column [] most = omega arith
 end-later tab column (g ∷ gs) most =

@@ -1,8 +1,7 @@
 -- Rows of wrapped lines, counted and drawn.
 use Rattle.std.proofs.Common.{◌≡◌, ℕ, zero, suc, ◌+◌, ◌-◌, ◌%◌, ◌<◌, ◌≤◌, nat_le, nat_lt, true, false, List, [], ◌∷◌, length, refl, arith}
 use Rattle.std.proofs.Common.{Result, Bool, cond, ◌==◌, min}
-use Rattle.std.proofs.lemmas.{Bool.Decides.nat_tests, List.Sums.sum_by-append, Nat.mod_below}
-use Rattle.std.proofs.Math.Nat.{mod-le}
+use Rattle.std.proofs.lemmas.{Bool.Decides.nat_tests, List.Sums.sum_by-append}
 use Rattle.std.specs.declared.alloc.AllocError.{AllocError}
 use Rattle.ratatui_core.specs.{Layout.Rect, Buffer.BufferData}
 use Rattle.rtui_drawing.specs.Cuts.{cut_from}
@@ -18,7 +17,7 @@ use Rattle.rtui_area.specs.declared.widget.TextAreaWidget.{TextAreaWidget}
 use Rattle.rtui_area.specs.Columns.{columns_of_grapheme, past}
 use Rattle.rtui_area.specs.Wraps.{wrapped_line_rows, row_past, wrapped_place_at, former_row}
 use Rattle.rtui_area.specs.Windows.{window_start, cursor_row, cursor_part, base_line, rows_above_cursor, first_shown_row, wrapped_place}
-use Rattle.rtui_area.specs.TextAreas.{grapheme_drawing, number_drawing, wrapped_row, turned, row_behind}
+use Rattle.rtui_area.specs.TextAreas.{grapheme_drawing, number_drawing, wrapped_row, turned, row_after_line}
 use Rattle.rtui_area.specs.TextAreas.{row_style_drawing, first_number_drawing}
 use Rattle.rtui_area.specs.TextAreas.{wrapped_grapheme_drawing, wrapped_graphemes_drawing, wrapped_line_drawing, wrapped_lines_drawing}
 
@@ -28,11 +27,6 @@ cursor-within w =
     let all : feeds (area_text w.text.now) ≡ feeds (area_before w.text.now) + feeds (area_after w.text.now) =
     sum_by-append (λ b. cond (is_feed b) 1 0) (area_before w.text.now) (area_after w.text.now) in
     omega (arith, all)
-
--- the beginning of a column's row
-pub turned-within : (stride column : ℕ) → 0 < stride → column - (column - column % stride) < stride
-turned-within stride column some =
-    let lt = mod_below column stride some in let le = mod-le column stride in omega (arith, lt, le)
 
 -- the next line is counted, and none is left
 pub row-next : (w : TextAreaWidget) (stride row i end : ℕ) → i < end
@@ -55,7 +49,8 @@ wrapped_place_at-next w stride row i end lt later =
     let more : end - i ≡ suc (end - (i + 1)) = omega arith in
     let test : nat_lt row (wrapped_line_rows w stride i) ≡ false = grind (arith, nat_tests) in rw (more, test) refl
 
-pub wrapped_place_at-end : (w : TextAreaWidget) (stride row i end : ℕ) → end ≤ i → wrapped_place_at w stride row i (end - i) ≡ (i, row)
+pub wrapped_place_at-end : (w : TextAreaWidget) (stride row i end : ℕ) → end ≤ i
+    → wrapped_place_at w stride row i (end - i) ≡ (i, row)
 wrapped_place_at-end w stride row i end le = let none : end - i ≡ 0 = omega arith in rw none refl
 
 -- a grapheme in its row
@@ -88,7 +83,7 @@ pub wrapped-next : (w : TextAreaWidget) (p : Plan) (r : Rect) (begin column byte
 wrapped-next w p r begin column byte g gs left is lt =
     let test : nat_lt (wrapped_row p begin column - p.above) r.height ≡ true = grind (arith, nat_tests) in rw (is, test) refl
 
--- nothing is left behind the last row
+-- nothing is left after the last row
 pub wrapped-end : (w : TextAreaWidget) (p : Plan) (r : Rect) (begin column byte : ℕ) (gs : List (List ℕ))
     → r.height ≤ wrapped_row p begin column - p.above → wrapped_graphemes_drawing w p r begin column byte gs ≡ nothing
 wrapped-end w p r begin column byte [] le = refl
@@ -97,7 +92,7 @@ wrapped-end w p r begin column byte (g ∷ gs) le =
 
 -- the style of a line's rows
 pub style-drawn : (w : TextAreaWidget) (p : Plan) (r part : Rect) (begin i y rows : ℕ) (is_lit : Bool) (old new : BufferData)
-    → y ≡ begin - p.above → rows ≡ min (row_behind w p begin i - p.above - y) r.height → is_lit ≡ (i == p.row)
+    → y ≡ begin - p.above → rows ≡ min (row_after_line w p begin i - p.above - y) r.height → is_lit ≡ (i == p.row)
     → part ≡ cut_from (Rows y rows) r → DrawsAll (draw_if is_lit (put_style w.cursor_line_style)) part old new
     → DrawsAll (row_style_drawing w p r begin i) r old new
 style-drawn w p r part begin i y rows is_lit old new y_is rows_is lit part_is drawn =
@@ -123,13 +118,13 @@ number-hidden w p width begin i lt =
 pub lines-next : (w : TextAreaWidget) (p : Plan) (r : Rect) (begin i k : ℕ) → k < r.height → i ≤ feeds (area_text w.text.now)
     → begin - p.above < r.height
     → wrapped_lines_drawing w p r begin i (r.height - k) ≡ (wrapped_line_drawing w p r begin i
-    before wrapped_lines_drawing w p r (row_behind w p begin i) (i + 1) (r.height - (k + 1)))
+    before wrapped_lines_drawing w p r (row_after_line w p begin i) (i + 1) (r.height - (k + 1)))
 lines-next w p r begin i k lt le there =
     let more : r.height - k ≡ suc (r.height - (k + 1)) = omega arith in
     let one : nat_le i (feeds (area_text w.text.now)) ≡ true = grind (arith, nat_tests) in
     let two : nat_lt (begin - p.above) r.height ≡ true = grind (arith, nat_tests) in rw (more, one, two) refl
 
--- no line is left after the last one, none below the view, and none behind so many
+-- no line is left after the last one, none below the view, and none after so many
 pub lines-none : (w : TextAreaWidget) (p : Plan) (r : Rect) (begin i n : ℕ) → feeds (area_text w.text.now) < i
     → wrapped_lines_drawing w p r begin i n ≡ nothing
 lines-none w p r begin i zero lt = refl
@@ -151,7 +146,8 @@ lines-end w p r begin i k le = let none : r.height - k ≡ 0 = omega arith in rw
 window-stays : (first place room : ℕ) → first ≤ place → place < first + room → window_start first place room ≡ first
 window-stays first place room le lt = omega (arith, le, lt)
 
-wrapped_place_at-stays : (w : TextAreaWidget) (stride row i n : ℕ) → row < wrapped_line_rows w stride i → wrapped_place_at w stride row i n ≡ (i, row)
+wrapped_place_at-stays : (w : TextAreaWidget) (stride row i n : ℕ) → row < wrapped_line_rows w stride i
+    → wrapped_place_at w stride row i n ≡ (i, row)
 wrapped_place_at-stays w stride row i zero lt = refl
 wrapped_place_at-stays w stride row i (suc n) lt =
     let test : nat_lt row (wrapped_line_rows w stride i) ≡ true = grind (arith, nat_tests) in rw test refl

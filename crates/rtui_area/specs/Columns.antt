@@ -26,5 +26,5 @@ column_past tab column [] = column
 column_past tab column (g ∷ gs) = column_past tab (past column (columns_of_grapheme tab column g)) gs
 
 -- the column after a text that begins a line
-abbrev pub column_behind : ℕ → List ℕ → ℕ
-column_behind tab text = column_past tab 0 (graphemes true text)
+abbrev pub column_after_line : ℕ → List ℕ → ℕ
+column_after_line tab text = column_past tab 0 (graphemes true text)

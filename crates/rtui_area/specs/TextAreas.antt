@@ -15,7 +15,7 @@ use Rattle.text_area.specs.Areas.{AreaData, area_text, area_before, area_after, 
 use Rattle.rtui_area.specs.declared.view.AreaView.{AreaView}
 use Rattle.rtui_area.specs.declared.plan.Plan.{Plan}
 use Rattle.rtui_area.specs.declared.widget.TextAreaWidget.{TextAreaWidget}
-use Rattle.rtui_area.specs.Columns.{columns_of_grapheme, past, column_past, column_behind}
+use Rattle.rtui_area.specs.Columns.{columns_of_grapheme, past, column_past, column_after_line}
 use Rattle.rtui_area.specs.Wraps.{rows_of_columns}
 use Rattle.rtui_area.specs.Windows.{plan_of, next_view, cursor_forgotten}
 
@@ -52,7 +52,8 @@ abbrev pub graphemes_drawing : TextAreaWidget → Plan → ℕ → ℕ → ℕ �
 graphemes_drawing w p room column byte [] = nothing
 graphemes_drawing w p room column byte (g ∷ gs) =
     draw_if (nat_lt (column - p.left) room) (grapheme_drawing w p room column byte g
-    before graphemes_drawing w p room (past column (columns_of_grapheme w.tab column g)) (past byte (length g)) gs)
+    before graphemes_drawing w p room (past column (columns_of_grapheme w.tab column g))
+    (past byte (length g)) gs)
 
 -- The line of a number. The cursor's line is read in two parts, before the cursor and after it, as each is
 -- edited: so the cursor stands where a grapheme begins.
@@ -89,8 +90,8 @@ numbered_rows_drawing w p width k (suc n) =
     draw_if (nat_le (p.top + k) (feeds (area_text w.text.now))) (over (Rows k 1) (numbered_row_drawing w p width (p.top + k))
     before numbered_rows_drawing w p width (k + 1) n)
 
--- The same where lines are wrapped. Rows are counted from the first one of the view's first line on, and some of them are
--- above the view.
+-- The same where lines are wrapped. Rows are counted from the first one of the view's first line on, and some
+-- of them are above the view.
 -- a column of a line that begins in a row: its row
 abbrev pub wrapped_row : Plan → ℕ → ℕ → ℕ
 wrapped_row p begin column = past begin (column / p.stride)
@@ -110,24 +111,26 @@ wrapped_grapheme_drawing w p width begin column byte g =
 abbrev pub wrapped_graphemes_drawing : TextAreaWidget → Plan → Rect → ℕ → ℕ → ℕ → List (List ℕ) → Drawing
 wrapped_graphemes_drawing w p r begin column byte [] = nothing
 wrapped_graphemes_drawing w p r begin column byte (g ∷ gs) =
-    draw_if (nat_lt (wrapped_row p begin column - p.above) r.height) (wrapped_grapheme_drawing w p r.width begin column byte g
-    before wrapped_graphemes_drawing w p r begin (past column (columns_of_grapheme w.tab column g)) (past byte (length g)) gs)
+    draw_if (nat_lt (wrapped_row p begin column - p.above) r.height)
+    (wrapped_grapheme_drawing w p r.width begin column byte g
+    before wrapped_graphemes_drawing w p r begin (past column (columns_of_grapheme w.tab column g))
+    (past byte (length g)) gs)
 
 -- the column after the line of a number
 abbrev pub end_column : TextAreaWidget → Plan → ℕ → ℕ
 end_column w p i =
     if i == p.row then column_past w.tab p.column (graphemes true (first_line (area_after w.text.now)))
-    else column_behind w.tab (nth_line i (area_text w.text.now))
+    else column_after_line w.tab (nth_line i (area_text w.text.now))
 
 -- the row after that line, which begins in a row
-abbrev pub row_behind : TextAreaWidget → Plan → ℕ → ℕ → ℕ
-row_behind w p begin i = past begin (rows_of_columns p.stride (end_column w p i))
+abbrev pub row_after_line : TextAreaWidget → Plan → ℕ → ℕ → ℕ
+row_after_line w p begin i = past begin (rows_of_columns p.stride (end_column w p i))
 
 -- the style of the cursor's line, over all of its rows that are in view
 abbrev pub row_style_drawing : TextAreaWidget → Plan → Rect → ℕ → ℕ → Drawing
 row_style_drawing w p r begin i =
     let y = begin - p.above in
-    over (Rows y (min (row_behind w p begin i - p.above - y) r.height))
+    over (Rows y (min (row_after_line w p begin i - p.above - y) r.height))
     (draw_if (i == p.row) (put_style w.cursor_line_style))
 
 -- the number of a line that begins in a row, in that row, unless it is above the view
@@ -154,7 +157,7 @@ wrapped_lines_drawing w p r begin i zero = nothing
 wrapped_lines_drawing w p r begin i (suc n) =
     draw_if (nat_le i (feeds (area_text w.text.now)) && nat_lt (begin - p.above) r.height)
     (wrapped_line_drawing w p r begin i
-    before wrapped_lines_drawing w p r (row_behind w p begin i) (i + 1) n)
+    before wrapped_lines_drawing w p r (row_after_line w p begin i) (i + 1) n)
 
 -- a text that is empty
 abbrev pub is_empty : List ℕ → Bool
@@ -181,8 +184,8 @@ abbrev pub area_drawing : TextAreaWidget → AreaView → Rect → Drawing
 area_drawing w v r = planned_drawing w (plan_of w v r) r
 
 -- A text area over the part of an area that a buffer has: its style, its box, and inside, if there are cells,
--- its lines in view; the view follows the cursor. Nothing outside the area changes. Without cells inside only the
--- cursor's place is forgotten.
+-- its lines in view; the view follows the cursor. Nothing outside the area changes. Without cells inside only
+-- the cursor's place is forgotten.
 abbrev pub RendersArea : TextAreaWidget → AreaView → AreaView → Rect → BufferData → BufferData → Type 0
 RendersArea w v = DrawsStateInside w.style w.block (area_drawing w) (next_view w) (cursor_forgotten v)
 

@@ -8,7 +8,7 @@ use Rattle.text_area.specs.Areas.{area_text, area_before, area_after, selection}
 use Rattle.rtui_area.specs.declared.view.AreaView.{AreaView}
 use Rattle.rtui_area.specs.declared.plan.Plan.{Plan}
 use Rattle.rtui_area.specs.declared.widget.TextAreaWidget.{TextAreaWidget}
-use Rattle.rtui_area.specs.Columns.{column_past, column_behind, past}
+use Rattle.rtui_area.specs.Columns.{column_past, column_after_line, past}
 use Rattle.rtui_area.specs.Wraps.{stride_of, row_past, wrapped_place_at, former_row}
 
 -- of all windows of so many places that have a place in them, the one that begins nearest to where it began
@@ -18,7 +18,8 @@ window_start first place room = max (min first place) (place - (room - 1))
 -- how many columns the numbers of the lines take, with a blank after them, if there are to be any: as many as
 -- the last number has digits; none if that leaves no column for the text
 abbrev pub gutter_columns : TextAreaWidget → ℕ → ℕ
-gutter_columns w width = columns_if w.line_numbers (length (decimal (feeds (area_text w.text.now) + 1)) + 1) width
+gutter_columns w width =
+    columns_if w.line_numbers (length (decimal (feeds (area_text w.text.now) + 1)) + 1) width
   where
     columns_if : {X : Type 0} → Option X → ℕ → ℕ → ℕ
     columns_if None n width = 0
@@ -29,14 +30,14 @@ abbrev pub cursor_row : TextAreaWidget → ℕ
 cursor_row w = feeds (area_before w.text.now)
 
 abbrev pub cursor_column : TextAreaWidget → ℕ
-cursor_column w = column_behind w.tab (last_line (area_before w.text.now))
+cursor_column w = column_after_line w.tab (last_line (area_before w.text.now))
 
 -- the column after its line, which is read in two parts, before the cursor and after it
 abbrev pub cursor_end : TextAreaWidget → ℕ
 cursor_end w = column_past w.tab (cursor_column w) (graphemes true (first_line (area_after w.text.now)))
 
--- What is shown in an area, if the view was this one before: the view moves only as far as the cursor wants it.
--- A line in each row:
+-- What is shown in an area, if the view was this one before: the view moves only as far as the cursor wants
+-- it. A line in each row:
 abbrev pub plain_plan : TextAreaWidget → AreaView → Rect → Plan
 plain_plan w v r =
     let n = gutter_columns w r.width in
@@ -55,13 +56,13 @@ plain_plan w v r =
       to = (selection w.text.now).1;
     }
 
--- And lines that go on in the next rows; behind a full row the cursor stands in the last column. Rows are counted from the
--- first one of a line on, which is the one with which a view of lines that aren't wrapped would begin: so it isn't below the
--- cursor's line, nor far above it.
+-- And lines that go on in the next rows; after a full row the cursor stands in the last column. Rows are
+-- counted from the first one of a line on, which is the one with which a view of lines that aren't wrapped
+-- would begin: so it isn't below the cursor's line, nor far above it.
 abbrev pub base_line : TextAreaWidget → AreaView → ℕ → ℕ
 base_line w v height = window_start v.top (cursor_row w) height
 
--- the cursor's row in its line: the one of its column, or the last one if it stands behind that
+-- the cursor's row in its line: the one of its column, or the last one if it stands after that
 abbrev pub cursor_part : TextAreaWidget → ℕ → ℕ
 cursor_part w stride = min (cursor_column w / stride) ((cursor_end w - 1) / stride)
 

@@ -3,7 +3,7 @@
 ghost use Rattle.std.specs.Prelude.{◌≡◌, ◌≤◌, ◌<◌, ◌+◌, ◌-◌, true};
 ghost use Rattle.unicode_segmentation.specs.Grapheme.{graphemes};
 ghost use Rattle.rtui_area.specs.Columns.{is_tab_grapheme, tab_columns, columns_of_grapheme, past};
-ghost use Rattle.rtui_area.specs.Columns.{column_past, column_behind};
+ghost use Rattle.rtui_area.specs.Columns.{column_past, column_after_line};
 ghost use Rattle.rtui_area.specs.Windows.{window_start};
 
 use ratatui_core::buffer::CellWidth;
@@ -60,8 +60,8 @@ pub(crate) fn column_past(tab: u16, from: usize, text: &str) -> usize
 }
 
 // The column after a text that begins a line.
-pub(crate) fn column_behind(tab: u16, text: &str) -> usize
-    ensures { result ≡ column_behind tab text.now }
+pub(crate) fn column_after_line(tab: u16, text: &str) -> usize
+    ensures { result ≡ column_after_line tab text.now }
 {
     column_past(tab, 0, text)
 }

@@ -10,7 +10,7 @@ ghost use Rattle.rtui_area.specs.Wraps.{former_row};
 ghost use Rattle.rtui_area.specs.Windows.{cursor_row, cursor_part, base_line, rows_above_cursor};
 ghost use Rattle.rtui_area.specs.Windows.{first_shown_row, wrapped_place};
 
-use crate::columns::{column_behind, past, window_start};
+use crate::columns::{column_after_line, past, window_start};
 use crate::view::AreaView;
 use crate::widget::TextAreaWidget;
 
@@ -78,7 +78,10 @@ impl<'a> TextAreaWidget<'a> {
         requires boundary { IsCharBoundary (area_text self.now.text.now) start }
         ensures { result ≡ wrapped_line_rows self.now stride number }
     {
-        rows_of_columns(stride, column_behind(self.tab, self.text.line_from(start)))
+        rows_of_columns(
+            stride,
+            column_after_line(self.tab, self.text.line_from(start)),
+        )
     }
 
     // The row in which a line begins, counted from the first one of the line on that begins at a

@@ -7,7 +7,7 @@ ghost use Rattle.rtui_area.specs.Windows.{gutter_columns, plain_plan, wrapped_pl
 ghost use Rattle.rtui_area.specs.Windows.{view_of};
 ghost use Rattle.rtui_area.specs.TextAreas.{IsNewWidget};
 
-use crate::columns::{column_behind, column_past, window_start};
+use crate::columns::{column_after_line, column_past, window_start};
 use crate::numbers::digit_count;
 use crate::places::{column_in_part, part_of, stride_of};
 use crate::plan::Plan;
@@ -134,7 +134,7 @@ impl<'a> TextAreaWidget<'a> {
     /// Says whether lines that are longer than the area is wide go on in the next rows.
     ///
     /// A row shows the graphemes that begin in its columns, all but the last one of the area: there a
-    /// wide grapheme ends that begins in the one before, or the cursor stands behind a line that
+    /// wide grapheme ends that begins in the one before, or the cursor stands after a line that
     /// fills the row. The style of the cursor's line covers all its rows, and a line's number stands
     /// in the first one. The view doesn't move as long as the cursor's row is in it; its first column
     /// stays as it is.
@@ -168,7 +168,7 @@ impl<'a> TextAreaWidget<'a> {
     {
         let numbers = self.gutter_columns(area.width);
         let row = self.text.cursor().0;
-        let column = column_behind(self.tab, self.text.cursor_line().0);
+        let column = column_after_line(self.tab, self.text.cursor_line().0);
         let top = window_start(view.top, row, area.height);
         let left = window_start(view.left, column, area.width - numbers);
         let (from, to) = self.text.selection();
@@ -199,7 +199,7 @@ impl<'a> TextAreaWidget<'a> {
         let numbers = self.gutter_columns(area.width);
         let stride = stride_of(area.width - numbers);
         let row = self.text.cursor().0;
-        let column = column_behind(self.tab, self.text.cursor_line().0);
+        let column = column_after_line(self.tab, self.text.cursor_line().0);
         let end = column_past(self.tab, column, self.text.cursor_line().1);
         let part = part_of(stride, column, end);
         let (top, above, y) = self.wrapped_view(view, stride, row, part, area.height);

@@ -8,13 +8,13 @@ ghost use Rattle.rtui_boxes.specs.Boxes.{IsBoxArea};
 ghost use Rattle.rtui_drawing.specs.Drawings.{DrawsAll, IsDone};
 ghost use Rattle.text_area.specs.Lines.{feeds, nth_start};
 ghost use Rattle.text_area.specs.Areas.{area_text};
-ghost use Rattle.rtui_area.specs.TextAreas.{wrapped_row, end_column, row_behind};
+ghost use Rattle.rtui_area.specs.TextAreas.{wrapped_row, end_column, row_after_line};
 ghost use Rattle.rtui_area.specs.TextAreas.{row_style_drawing, first_number_drawing};
 ghost use Rattle.rtui_area.specs.TextAreas.{wrapped_grapheme_drawing, wrapped_graphemes_drawing};
 ghost use Rattle.rtui_area.specs.TextAreas.{wrapped_text_drawing};
 ghost use Rattle.rtui_area.specs.TextAreas.{wrapped_line_drawing, wrapped_lines_drawing};
 
-use crate::columns::{column_behind, column_past, past};
+use crate::columns::{column_after_line, column_past, past};
 use crate::places::rows_of_columns;
 use crate::plan::Plan;
 use crate::rows::{Place, put_style_if};
@@ -96,16 +96,16 @@ impl<'a> TextAreaWidget<'a> {
         if number == plan.row {
             column_past(self.tab, plan.column, self.text.cursor_line().1)
         } else {
-            column_behind(self.tab, self.text.line_from(start))
+            column_after_line(self.tab, self.text.line_from(start))
         }
     }
 
     // The row after the line of a number, which begins in a row and at a byte.
-    fn row_behind(&self, plan: &Plan, begin: usize, number: usize, start: usize) -> usize
+    fn row_after_line(&self, plan: &Plan, begin: usize, number: usize, start: usize) -> usize
         requires stride { 0 < plan.now.stride }
         requires start { start ≡ nth_start number (area_text self.now.text.now) }
         requires boundary { IsCharBoundary (area_text self.now.text.now) start }
-        ensures { result ≡ row_behind self.now plan.now begin number }
+        ensures { result ≡ row_after_line self.now plan.now begin number }
     {
         let end = self.end_column(plan, number, start);
         past(begin, rows_of_columns(plan.stride, end))
@@ -117,19 +117,19 @@ impl<'a> TextAreaWidget<'a> {
         &self,
         plan: &Plan,
         begin: usize,
-        behind: usize,
+        end_row: usize,
         number: usize,
         inner: Rect,
         buf: &mut Buffer,
     )
         requires there { begin - plan.now.above < inner.height }
-        requires behind { behind ≡ row_behind self.now plan.now begin number }
+        requires end_row { end_row ≡ row_after_line self.now plan.now begin number }
         ensures drawn { let d = row_style_drawing self.now plan.now inner begin number in
             DrawsAll d inner buf.old buf.new }
         ensures area { buf.new.area ≡ buf.old.area }
     {
         let y = begin.saturating_sub(plan.above);
-        let rows = behind.saturating_sub(plan.above).saturating_sub(y);
+        let rows = end_row.saturating_sub(plan.above).saturating_sub(y);
         let rows = rows.min(usize::from(inner.height));
         let part = Cut::Rows(y as u16, rows as u16).of(inner);
         put_style_if(number == plan.row, self.cursor_line_style, part, buf);
@@ -199,7 +199,7 @@ impl<'a> TextAreaWidget<'a> {
         &self,
         plan: &Plan,
         begin: usize,
-        behind: usize,
+        end_row: usize,
         number: usize,
         start: usize,
         inner: Rect,
@@ -210,14 +210,14 @@ impl<'a> TextAreaWidget<'a> {
         requires stride { 0 < plan.now.stride }
         requires numbers { plan.now.numbers + plan.now.stride ≤ inner.width }
         requires there { begin - plan.now.above < inner.height }
-        requires behind { behind ≡ row_behind self.now plan.now begin number }
+        requires end_row { end_row ≡ row_after_line self.now plan.now begin number }
         requires start { start ≡ nth_start number (area_text self.now.text.now) }
         requires boundary { IsCharBoundary (area_text self.now.text.now) start }
         ensures done { let d = wrapped_line_drawing self.now plan.now inner begin number in
             IsDone d inner result buf.old buf.new }
         ensures area { buf.new.area ≡ buf.old.area }
     {
-        self.put_row_style(plan, begin, behind, number, inner, buf);
+        self.put_row_style(plan, begin, end_row, number, inner, buf);
         self.draw_first_number(plan, begin, number, inner, buf)?;
         self.draw_wrapped_text(plan, begin, number, start, inner, buf)
     }
@@ -249,9 +249,9 @@ impl<'a> TextAreaWidget<'a> {
             if begin.saturating_sub(plan.above) >= usize::from(inner.height) {
                 return Ok(());
             }
-            let behind = self.row_behind(plan, begin, number, start);
-            self.draw_wrapped_line(plan, begin, behind, number, start, inner, buf)?;
-            begin = behind;
+            let end_row = self.row_after_line(plan, begin, number, start);
+            self.draw_wrapped_line(plan, begin, end_row, number, start, inner, buf)?;
+            begin = end_row;
             let Some(next) = self.text.start_after(number, start) else {
                 return Ok(());
             };

@@ -44,7 +44,8 @@ month_name month = slice_index_or month_names (month - 1) []
 abbrev pub month_text : Date → List ℕ
 month_text d = month_name d.month ++ codes " " ++ signed_decimal d.year
 
--- the month and its year in a row in their style, in its middle; of a text that is too long the middle is shown
+-- the month and its year in a row in their style, in its middle; of a text that is too long the middle is
+-- shown
 abbrev pub heading : Date → Style → Rect → Drawing
 heading d style row =
     let text = month_text d in let middle = Middle (length text) in
@@ -65,8 +66,8 @@ digit_before n = if nat_lt n 10 then 32 else last_digit (n / 10)
 abbrev pub background_of : Style → Style
 background_of style = record new_style { bg = style.bg }
 
--- the style of a day beside the month, if those are shown and the calendar has it: that of its own over theirs,
--- over that of the days
+-- the style of a day beside the month, if those are shown and the calendar has it: that of its own over
+-- theirs, over that of the days
 abbrev pub style_beside : (ℤ → Style) → Style → Option Style → ℤ → Option Style
 style_beside own days None day = None
 style_beside own days (Some beside) day = if is_day day then Some (patch (patch days beside) (own day)) else None
@@ -76,8 +77,8 @@ abbrev pub day_cell : Style → Option Style → ℕ → Cell → Cell
 day_cell days None ch c = written 32 (background_of days) c
 day_cell days (Some style) ch c = written ch style c
 
--- the weeks of a date's month: which style each day has of its own, the style of the days, and that of the days
--- beside, if they are shown
+-- the weeks of a date's month: which style each day has of its own, the style of the days, and that of the
+-- days beside, if they are shown
 module _ (own : ℤ → Style) (days : Style) (beside : Option Style) (d : Date) where
   -- the style in which the day in a place is written, if it is
   abbrev pub day_style : ℕ → Option Style
@@ -85,7 +86,8 @@ module _ (own : ℤ → Style) (days : Style) (beside : Option Style) (d : Date)
       let day = day_at d place in
       if is_in_month d place then Some (patch days (own day)) else style_beside own days beside day
 
-  -- a cell: each day has three columns, a blank and the two of its number; the first blank of a week has no style
+  -- a cell: each day has three columns, a blank and the two of its number; the first blank of a week has no
+  -- style
   abbrev pub week_cell : Rect → Position → Cell → Cell
   week_cell r p c =
       let x = p.x - r.x in let place = 7 * (p.y - r.y) + x / 3 in let n = day_number d place in

@@ -35,8 +35,8 @@ is_in_month d place =
 abbrev pub length_before : Date → ℕ
 length_before d = if d.month == 1 then 31 else days_in_month d.year (d.month - 1)
 
--- which day of its month stands in a place: the month's days stand one after the other from the 1st on, before
--- them the last ones of the month before, and after them the first ones of the month after
+-- which day of its month stands in a place: the month's days stand one after the other from the 1st on,
+-- before them the last ones of the month before, and after them the first ones of the month after
 abbrev pub day_number : Date → ℕ → ℕ
 day_number d place =
     let f = column_of_first d in

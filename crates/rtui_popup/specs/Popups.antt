@@ -29,8 +29,8 @@ pub record ClearsFirst (f : Rect → BufferData → BufferData → Type 0) (area
 abbrev pub RendersPopup : Popup → Rect → BufferData → BufferData → Type 0
 RendersPopup p area = ClearsFirst (DrawsInside p.style p.block (popup_drawing p)) (popup_area p area)
 
--- what a refusal leaves: the cells are emptied, and if the box takes no memory, it stands, with the rows of the
--- text above one of them
+-- what a refusal leaves: the cells are emptied, and if the box takes no memory, it stands, with the rows of
+-- the text above one of them
 abbrev pub LeavesPopup : Popup → Rect → BufferData → BufferData → Type 0
 LeavesPopup p area = ClearsFirst (LeavesInside p.style p.block (popup_drawing p)) (popup_area p area)
 

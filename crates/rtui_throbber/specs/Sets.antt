@@ -27,7 +27,8 @@ texts_of_set set = set.full.now ∷ set.empty.now ∷ turning_texts set
 abbrev pub each_alone : List ℕ → List (List ℕ)
 each_alone characters = map encode_utf8 characters
 
--- the texts of the named sets: lines of ASCII, lines, arrows, and six and eight dots, of which U+2800 has none
+-- the texts of the named sets: lines of ASCII, lines, arrows, and six and eight dots, of which U+2800 has
+-- none
 abbrev pub ascii_texts : List (List ℕ)
 ascii_texts = each_alone (codes "* |/-\\")
 

@@ -45,7 +45,8 @@ throbber_drawing t s r = over (Rows 0 1) (turned_drawing t (turned_symbol t.thro
 
 -- A throbber over the part of an area that a buffer has: its style, and in the first row the symbol, a blank
 -- and the label. Nothing outside the area changes, and the state stays.
-abbrev pub RendersThrobber : Throbber → ThrobberState → ThrobberState → Rect → BufferData → BufferData → Type 0
+abbrev pub RendersThrobber : Throbber → ThrobberState → ThrobberState → Rect → BufferData → BufferData
+    → Type 0
 RendersThrobber t = DrawsStateInside t.style None (throbber_drawing t) (λ s _. s)
 
 -- what a refusal leaves: the style, and all before one of the texts; the state stays

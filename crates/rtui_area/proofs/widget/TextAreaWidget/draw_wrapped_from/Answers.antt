@@ -1,6 +1,6 @@
 use Rattle.std.proofs.Common.{◌≡◌, ◌+◌, ◌-◌, ◌∙◌, refl, arith}
 use Rattle.rtui_drawing.proofs.DrawingLemmas.{continues-all, continues-next, continues-stop, continues-end}
-use Rattle.rtui_area.specs.TextAreas.{row_behind}
+use Rattle.rtui_area.specs.TextAreas.{row_after_line}
 use Rattle.rtui_area.proofs.WrapLemmas.{lines-next, lines-none, lines-below, lines-end}
 use Rattle.rtui_area.proofs.widget.TextAreaWidget.draw_wrapped_from.Goals as goal
 
@@ -50,7 +50,7 @@ returns-in_default-clause-done c =
     let drawn = continues-next (rw next at i.rest) c.in_ok-draw_wrapped_line.ensures.done in
     let last = rw c.in_default.is at c.start_after.ensures.none in
     let none = lines-none c.args.self.now c.args.plan.now c.args.inner
-    (row_behind c.args.self.now c.args.plan.now c.loop-k.begin c.loop-k.number) (c.loop-k.number + 1)
+    (row_after_line c.args.self.now c.args.plan.now c.loop-k.begin c.loop-k.number) (c.loop-k.number + 1)
     (c.args.inner.height - (c.loop-k.k + 1)) (omega (arith, last)) in
     continues-end (rw none at drawn)
 
@@ -67,7 +67,7 @@ loop-k-preserved c =
       start = rw c.in-Some.is at c.start_after.ensures.some;
       boundary = rw c.in-Some.is at c.start_after.ensures.boundary;
       area = c.in_ok-draw_wrapped_line.ensures.area ∙ i.area;
-      rest = rw c.row_behind-behind.ensures
+      rest = rw c.row_after_line-end_row.ensures
           (continues-next (rw next at i.rest) c.in_ok-draw_wrapped_line.ensures.done);
     }
 
