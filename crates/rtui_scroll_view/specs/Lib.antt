@@ -1,0 +1,5 @@
+pub mod Offsets
+pub mod Places
+pub mod Contents
+pub mod ScrollViews
+pub mod Inner

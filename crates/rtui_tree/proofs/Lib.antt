@@ -1,0 +1,11 @@
+pub mod AncestorLemmas
+pub mod ShownLemmas
+pub mod LinkLemmas
+pub mod BuildLemmas
+pub mod ParentLemmas
+pub mod ScrollLemmas
+pub mod MoveLemmas
+pub mod LawLemmas
+pub mod RowLemmas
+pub mod DrawLemmas
+pub mod NarrowTreeLemmas
