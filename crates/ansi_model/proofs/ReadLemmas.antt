@@ -5,6 +5,7 @@ use Rattle.std.proofs.Common.{OnOk, append_assoc, append-nil, subst}
 use Rattle.std.specs.{Result.is_ok, Fmt.decimal}
 use Rattle.std.proofs.lemmas.{Fmt.decimal_by_steps, Fmt.decimal_step, Fmt.decimal_digit, Bool.Decides.nat_tests}
 use Rattle.std.proofs.Math.Nat.{div-add-mod'}
+use Rattle.ansi_model.specs.Commands.{cursor_bytes}
 use Rattle.ansi_model.specs.Emulator.{Emulator, Phase, rested, cursor_moved, returned, erased, scrolled, line_fed, fed, if_so}
 use Rattle.ansi_model.specs.Emulator.{cursor_shown, with_region, without_region, lines_deleted, lines_inserted, with_modes}
 use Rattle.ansi_model.specs.Emulator.{holding, with_sgr}
@@ -197,11 +198,8 @@ with_two m n final small_m small_n t ground =
 
 -- ---- the sequences
 
-abbrev pub CUP : ℕ → ℕ → List ℕ
-CUP x y = 27 ∷ 91 ∷ (decimal (y + 1) ++ (59 ∷ (decimal (x + 1) ++ 72 ∷ [])))
-
 pub CUP-read : (x y : ℕ) → x < 2 ^ 16 → y < 2 ^ 16 → (t : Emulator) → t.phase ≡ Ground
-    → feed (CUP x y) t ≡ cursor_moved x y (rested t)
+    → feed (cursor_bytes x y) t ≡ cursor_moved x y (rested t)
 CUP-read x y x_in y_in t ground =
     let ex : x + 1 - 1 ≡ x = omega arith in
     let ey : y + 1 - 1 ≡ y = omega arith in
@@ -221,7 +219,7 @@ digits-one n old new small last = last ∙ ap (λ ds. old ++ ds) (sym (decimal_d
 pub move-appended : (x y fx fy : ℕ) (old first second third fourth new semicolon last : List ℕ) → first ≡ old ++ 27 ∷ 91 ∷ []
     → second ≡ first ++ decimal (fy + 1) → third ≡ second ++ semicolon
     → fourth ≡ third ++ decimal (fx + 1) → new ≡ fourth ++ last → fy ≡ y → fx ≡ x → semicolon ≡ 59 ∷ [] → last ≡ 72 ∷ []
-    → new ≡ old ++ CUP x y
+    → new ≡ old ++ cursor_bytes x y
 move-appended x y fx fy old first second third fourth new semicolon last e1 e2 e3 e4 e5 row column is_semicolon is_last =
     let all : new ≡ old ++ ((27 ∷ 91 ∷ []) ++ (decimal (fy + 1) ++ (semicolon ++ (decimal (fx + 1) ++ last)))) =
     after-those old first new _ _ e1

@@ -1,7 +1,8 @@
 -- What is sent to a terminal that changes nothing on its screen.
-use Rattle.std.specs.Prelude.{◌≡◌, ℕ, Bool, List, [], ◌∷◌, ◌++◌, codes, chars, encode_utf8, if◌then◌else◌}
+use Rattle.std.specs.Prelude.{ℕ, ◌+◌, Bool, List, [], ◌∷◌, ◌++◌, codes, chars, encode_utf8, if◌then◌else◌}
 use Rattle.std.specs.Fmt.{decimal}
 use Rattle.std.specs.List.{flat_map}
+use Rattle.ratatui_core.specs.{Layout.Position}
 use Rattle.ansi_model.specs.{declared.command.Command.Command, declared.command.SetCursorStyle.SetCursorStyle}
 use Rattle.ansi_model.specs.declared.command.KeyboardEnhancementFlags.{KeyboardEnhancementFlags}
 use Rattle.ansi_model.specs.{Symbols.is_shown}
@@ -86,12 +87,14 @@ title_bytes title = with_escape (codes "]2;") ++ (shown_text title ++ with_escap
 abbrev pub titled_bytes : Bool → List ℕ → List ℕ
 titled_bytes is_first title = (if is_first then command_bytes KeepTitle else []) ++ title_bytes title
 
--- asks for the place of the last column and row: CUP goes as far down and right as there is room, and DSR
--- asks there
-abbrev pub size_question : List ℕ
-size_question = with_escape (codes "[65535;65535H") ++ with_escape (codes "[6n")
+-- CUP, which puts the cursor in a column and a row: both are counted from 1 on
+abbrev pub cursor_bytes : ℕ → ℕ → List ℕ
+cursor_bytes x y = with_escape (codes "[" ++ (decimal (y + 1) ++ (codes ";" ++ (decimal (x + 1) ++ codes "H"))))
 
--- bytes were appended that ask for it, and then others, for the way back
-pub record AsksSize (old new : List ℕ) : Type 0 where
-  pub back : List ℕ
-  pub asked : new ≡ old ++ (size_question ++ back)
+-- CUP goes as far down and right as there is room, and DSR asks where that is
+abbrev pub end_question : List ℕ
+end_question = with_escape (codes "[65535;65535H") ++ with_escape (codes "[6n")
+
+-- a question for the size, after which the cursor is back in its place
+abbrev pub size_question : Position → List ℕ
+size_question p = end_question ++ cursor_bytes p.x p.y

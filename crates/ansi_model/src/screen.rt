@@ -7,7 +7,7 @@ ghost use Rattle.ratatui_core.specs.Backend.{ScrollsDown, Clears, with_cursor, w
 ghost use Rattle.ratatui_core.specs.Backend.{CurrentLine};
 ghost use Rattle.ansi_model.specs.Beginnings.{MakesBlank, OpensAlternate, SavesScreen, SavesHigher};
 ghost use Rattle.ansi_model.specs.Inner.{without_modes};
-ghost use Rattle.ansi_model.specs.Commands.{size_question, AsksSize};
+ghost use Rattle.ansi_model.specs.Commands.{end_question, size_question};
 ghost use Rattle.ansi_model.specs.Endings.{ClosesAlternate, left_below};
 ghost use Rattle.ansi_model.specs.Emulator.{cursor_moved, returned, erased, line_fed, fed, with_region};
 ghost use Rattle.ansi_model.specs.Emulator.{without_region, lines_deleted, lines_inserted};
@@ -81,7 +81,7 @@ pub fn clear_screen(
 
 // Moves the cursor as far down and right as it goes, and asks where it is.
 fn ask_at_the_end(out: &mut String) -> Result<(), AllocError>
-    ensures bytes { OnOk result (string_bytes out.new ≡ string_bytes out.old ++ size_question) }
+    ensures bytes { OnOk result (string_bytes out.new ≡ string_bytes out.old ++ end_question) }
     ensures moves { OnOk result (Performs (string_bytes out.old) (string_bytes out.new)
         (cursor_moved 65534 65534)) }
 {
@@ -95,7 +95,8 @@ fn ask_at_the_end(out: &mut String) -> Result<(), AllocError>
 ///
 /// `AllocError` if memory is refused. What the text holds then isn't said.
 pub fn ask_size(out: &mut String, x: u16, y: u16) -> Result<(), AllocError>
-    ensures asks { OnOk result (AsksSize (string_bytes out.old) (string_bytes out.new)) }
+    ensures asks { OnOk result (string_bytes out.new
+        ≡ string_bytes out.old ++ size_question (record { x = x; y = y })) }
     ensures turns { OnOk result ((w h : ℕ) → 0 < w → 0 < h → Turns w h (string_bytes out.old)
         (string_bytes out.new) (λ s. Becomes (λ p q. p.cursor_x ≡ x → p.cursor_y ≡ y
         → q ≡ p) s.columns s)) }

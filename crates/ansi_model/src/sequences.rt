@@ -6,6 +6,7 @@ ghost use Rattle.std.specs.Fmt.{decimal};
 ghost use Rattle.ansi_model.specs.Emulator.{cursor_moved, returned, erased, fed, with_region, without_region};
 ghost use Rattle.ansi_model.specs.Emulator.{lines_deleted, lines_inserted, cursor_shown, holding};
 ghost use Rattle.ratatui_core.specs.Backend.{BeforeCursor};
+ghost use Rattle.ansi_model.specs.Commands.{cursor_bytes};
 ghost use Rattle.ansi_model.specs.Sends.{Performs};
 
 use ratatui_core::backend::ClearType;
@@ -44,8 +45,10 @@ pub fn push_number(out: &mut String, n: u32) -> Result<(), AllocError>
 ///
 /// `AllocError` if memory is refused. What the text holds then isn't said.
 pub fn move_to(out: &mut String, x: u16, y: u16) -> Result<(), AllocError>
-    ensures { OnOk result (Performs (string_bytes out.old) (string_bytes out.new)
+    ensures moves { OnOk result (Performs (string_bytes out.old) (string_bytes out.new)
         (cursor_moved x y)) }
+    ensures bytes { OnOk result
+        (string_bytes out.new ≡ string_bytes out.old ++ cursor_bytes x y) }
 {
     out.push_str("\u{1b}[")?;
     push_number(out, u32::from(y) + 1)?;

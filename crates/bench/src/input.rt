@@ -1,11 +1,16 @@
 //! Workloads on keys and areas.
-ghost use Rattle.std.specs.Prelude.{◌<◌, ◌^◌};
+ghost use Rattle.std.specs.Prelude.{◌<◌, ◌^◌, OnOk};
+ghost use Rattle.ratatui_app.specs.{Counting.PaintsCounter, Glass.no_cursor, Glass.StandsOnGlass};
 
-use crate::terminals::sending;
+use crate::memory::Memory;
 use crate::{Done, Size};
-use ratatui_app::{Counter, draw, feed};
-use ratatui_core::layout::{Constraint, Layout, Rect, SplitInto};
+use ratatui_acts::{Glass, Nothing, Seat, Told};
+use ratatui_ansi::AnsiBackend;
+use ratatui_app::{Counter, OnGlass};
+use ratatui_core::layout::{Constraint, Layout, Rect, Size as ScreenSize, SplitInto};
+use ratatui_core::terminal::Viewport;
 use ratatui_input::Decoder;
+use ratatui_reads::Pieces;
 use std::alloc::{AllocError, Global};
 
 // A text's bytes decoded each round; the sum counts the events.
@@ -23,27 +28,52 @@ fn decodes(alloc: Global, size: Size, text: &str) -> Done {
     Ok(Some((size.count, events)))
 }
 
-// A key fed to an application each round, which counts up and down, from the key's byte to the bytes
-// that are sent: how many those were, and the last count.
-fn frames(alloc: Global, size: Size) -> Done {
-    let mut terminal = sending(alloc, size, None)?;
-    let mut decoder = Decoder::new();
-    let mut counter = Counter {
-        count: 0,
-        is_over: false,
-    };
-    if draw(&mut terminal, &counter).is_err() {
-        return Err(AllocError);
+// Has an application hear a key, unless it is over, and shows it.
+fn hear(glass: &mut OnGlass<Memory>, seat: &mut Seat<Counter>, key: &[u8]) -> Result<(), AllocError>
+    requires { StandsOnGlass (PaintsCounter seat.old.state) no_cursor glass.old.terminal }
+    ensures { OnOk result (StandsOnGlass (PaintsCounter seat.new.state) no_cursor
+        glass.new.terminal) }
+{
+    if seat.state().is_over {
+        return Ok(());
     }
-    let before = terminal.backend().writer().flushed();
+    let pieces = [key];
+    let Ok(told) = seat.turn(&mut Pieces::new(&pieces), &mut Nothing, glass) else {
+        return Err(AllocError);
+    };
+    let Ok(()) = glass.show(seat.state(), told) else {
+        return Err(AllocError);
+    };
+    Ok(())
+}
+
+// A key heard by an application each round, which counts up and down, from the key's byte to the
+// bytes that are sent: how many those were, and the last count.
+fn frames(alloc: Global, size: Size) -> Done {
+    let screen = ScreenSize::new(size.width, size.height);
+    let Ok(backend) = AnsiBackend::new(alloc, Memory::new(alloc), screen) else {
+        return Err(AllocError);
+    };
+    let Ok(mut glass) = OnGlass::begin(alloc, Viewport::Fullscreen, backend) else {
+        return Err(AllocError);
+    };
+    let mut seat = Seat::new(
+        alloc,
+        Counter {
+            count: 0,
+            is_over: false,
+        },
+    );
+    let Ok(()) = glass.show(seat.state(), Told::first()) else {
+        return Err(AllocError);
+    };
+    let before = glass.terminal().backend().writer().flushed();
     for round in 0..size.count {
         let key = if round % 4 < 2 { "+" } else { "-" };
-        if feed(key.as_bytes(), &mut decoder, &mut terminal, &mut counter).is_err() {
-            return Err(AllocError);
-        }
+        hear(&mut glass, &mut seat, key.as_bytes())?;
     }
-    let after = terminal.backend().writer().flushed();
-    Ok(Some((after.wrapping_sub(before), u64::from(counter.count))))
+    let after = glass.terminal().backend().writer().flushed();
+    Ok(Some((after.wrapping_sub(before), u64::from(seat.state().count))))
 }
 
 // A row cut into N parts each round; the sum counts their columns.

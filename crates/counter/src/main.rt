@@ -1,13 +1,13 @@
 //! The program `counter`: a number that `+` and `-` change, until `q`.
 //!
-//! It is an application of `acts_app`, on the terminal's alternate screen. `tools/play counter`
+//! It is an application of `ratatui_app`, on the terminal's alternate screen. `tools/play counter`
 //! shows it.
 #![tactic(auto)]
 
-use acts_app::{Counter, run_and_leave};
 use programs::{Stream, is_terminal};
 use ratatui_acts::{Nothing, Seat};
 use ratatui_ansi::{AnsiBackend, size_told};
+use ratatui_app::{Counter, run_and_leave};
 use std::io::BufWriter;
 
 fn main(rt: HostRuntime) -> anyhow::Result<()> {

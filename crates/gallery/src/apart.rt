@@ -1,12 +1,15 @@
-//! A calendar, a popup and a throbber, which stand in crates of their own.
+//! A calendar, a popup, a throbber, a scroll view and a tree, which stand in crates of their own.
 use jiff::civil::Date;
+use ratatui_core::layout::{Position, Size};
 use ratatui_core::style::{Style, Stylize};
 use ratatui_core::terminal::Frame;
-use ratatui_core::text::Span;
+use ratatui_core::text::{Span, Text};
 use ratatui_widgets::Block;
 use rtui_calendar::{CalendarEventStore, Monthly};
 use rtui_popup::Popup;
+use rtui_scroll_view::{ScrollView, ScrollViewState};
 use rtui_throbber::{ASCII, Throbber, ThrobberState};
+use rtui_tree::{Tree, TreeItem, TreeState};
 use std::alloc::{AllocError, Global};
 
 /// Draws the calendar of a month, of which a day has a style of its own.
@@ -38,4 +41,30 @@ pub fn throbber(frame: &mut Frame<'_>) -> Result<(), AllocError> {
         .label(Span::raw("Loading"))
         .throbber_set(ASCII);
     frame.render_stateful_widget(throbber, area, &mut state)
+}
+
+/// Draws a part of a text that is higher than the screen.
+pub fn scroll_view(alloc: Global, frame: &mut Frame<'_>) -> Result<(), AllocError> {
+    let text = Text::raw(alloc, "one\ntwo\nthree\nfour\nfive\nsix\nseven\neight")?;
+    let mut view = ScrollView::new(alloc, Size::new(12, 8))?;
+    let whole = view.area();
+    view.render_widget(&text, whole)?;
+    let area = frame.area();
+    let mut state = ScrollViewState::with_offset(Position::new(0, 2));
+    frame.render_stateful_widget(&view, area, &mut state)
+}
+
+/// Draws a tree of which a node is opened.
+pub fn tree(alloc: Global, frame: &mut Frame<'_>) -> Result<(), AllocError> {
+    let items = vec![in alloc;
+        TreeItem::raw(alloc, 0, "src")?,
+        TreeItem::raw(alloc, 1, "lib.rt")?,
+        TreeItem::raw(alloc, 0, "README.md")?,
+    ]?;
+    let area = frame.area();
+    let tree = Tree::new(alloc, items)?.highlight_symbol("> ");
+    let mut state = TreeState::new(alloc);
+    state.key_down(&tree);
+    state.key_right(&tree)?;
+    frame.render_stateful_widget(&tree, area, &mut state)
 }

@@ -32,6 +32,8 @@ enum Picture {
     Monthly,
     Popup,
     Throbber,
+    ScrollView,
+    Tree,
 }
 
 impl Picture {
@@ -53,6 +55,8 @@ impl Picture {
             Picture::Monthly => "Monthly",
             Picture::Popup => "Popup",
             Picture::Throbber => "Throbber",
+            Picture::ScrollView => "ScrollView",
+            Picture::Tree => "Tree",
         }
     }
 
@@ -78,12 +82,14 @@ impl Picture {
             },
             Picture::Popup => apart::popup(alloc, frame),
             Picture::Throbber => apart::throbber(frame),
+            Picture::ScrollView => apart::scroll_view(alloc, frame),
+            Picture::Tree => apart::tree(alloc, frame),
         }
     }
 }
 
 // Each widget, with the columns and rows of its picture.
-static PICTURES: [(Picture, u16, u16); 16] = [
+static PICTURES: [(Picture, u16, u16); 18] = [
     (Picture::Block, 24, 4),
     (Picture::Paragraph, 24, 4),
     (Picture::List, 24, 3),
@@ -100,6 +106,8 @@ static PICTURES: [(Picture, u16, u16); 16] = [
     (Picture::Monthly, 24, 7),
     (Picture::Popup, 24, 5),
     (Picture::Throbber, 24, 1),
+    (Picture::ScrollView, 24, 4),
+    (Picture::Tree, 24, 3),
 ];
 
 // Draws a widget on a screen of its own, and prints its name and that screen.

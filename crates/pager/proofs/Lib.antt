@@ -2,6 +2,7 @@ pub mod PaintLemmas
 pub mod SearchLemmas
 pub mod PlaceLemmas
 pub mod RowLemmas
+pub mod ShowLemmas
 pub mod SizeLemmas
 pub mod FilterLemmas
 pub mod StyleLemmas

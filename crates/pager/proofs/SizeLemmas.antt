@@ -3,10 +3,17 @@ use Rattle.std.proofs.Common.{◌≡◌, ◌⊎◌, ℕ, ◌-◌, Bool, true, fa
 use Rattle.std.proofs.Common.{take, encode_utf8, Option, Some, None, IfSome, refl, ap, sym, subst, ◌∙◌, rules}
 use Rattle.std.specs.List.{flat_map}
 use Rattle.ratatui_core.specs.{Layout.Size, Backend.size_of, Terminal.TerminalData}
+use Rattle.ratatui_ansi.specs.Backend.{BackendState, shown_by}
 use Rattle.ratatui_events.specs.declared.event.Event.{Event}
 use Rattle.ratatui_reads.specs.Reads.{Between, size_in, later, last_size, next_state, all_updated, told_by, size_told}
-use Rattle.ratatui_reads.specs.Moments.{Stage, Moment, AreMoments}
-use Rattle.ratatui_app.specs.Showing.{Device, TakesOrKeepsSize, rules_of}
+use Rattle.ratatui_reads.specs.Sources.{Coming}
+use Rattle.ratatui_acts.specs.declared.nothing.{Never.Never, Nothing.Nothing as Outside}
+use Rattle.ratatui_acts.specs.Turns.{Turn as AnyTurn, Came, Done, Standing, turn_size}
+use Rattle.ratatui_acts.specs.Runs.{Now, Past, HasRun, IsTurn}
+use Rattle.ratatui_acts.specs.Reading.{event_rules}
+use Rattle.ratatui_acts.proofs.{ReadingLemmas.turn-between, ReadingLemmas.some-none, RunLemmas.run-rests, TakingLemmas.Rests}
+use Rattle.ratatui_app.specs.declared.on_glass.OnGlass.{OnGlass}
+use Rattle.ratatui_app.specs.{Showing.TakesOrKeepsSize, Glass.sender, Glass.MovesAndAsks}
 use Rattle.pager.specs.declared.pager.Pager.{Pager}
 use Rattle.pager.specs.declared.pager.Mode.{Mode}
 use Rattle.pager.specs.declared.pager.Mode.TheVariants.{Reading, Asking, Filtering, Marking, Returning, Turning, Helping}
@@ -23,7 +30,8 @@ use Rattle.pager.specs.Moves.{answered, acted, updated_by, updated, letter_marke
 use Rattle.pager.specs.Moves.{sought_first, all_lines, relined, with_lines, taken_in, has_text, turned_to}
 use Rattle.pager.specs.declared.pager.Ending.{Ending}
 use Rattle.pager.specs.Keys.{event_command, event_answer, event_mark, event_ending, is_press}
-use Rattle.pager.specs.Paging.{paging, page_size, FillsScreen, FillsAlong, TakesAlong}
+use Rattle.pager.proofs.ShowLemmas.{asks-nothing}
+use Rattle.pager.specs.Paging.{paged_after, paging, paging_on, page_size, FillsScreen, FillsAlong, TakesAlong}
 
 found-same : (found : Option ℕ) (p : Pager) → page_size (found_at found p) ≡ page_size p
 found-same (Some k) p = refl
@@ -159,49 +167,85 @@ IsOfSize told s p = (p.is_over ≡ true) ⊎ (page_size p ≡ told_or told s)
 
 next-sized : (over : Bool) (event : Event) (known : Option (ℕ × ℕ)) (s : Size) (p : Pager) → p.is_over ≡ over
     → IsOfSize known s p → IsOfSize (later (size_in event) known) s (if over then p else updated p event)
+unfolding paged_after
 next-sized true event known s p is sized = inl is
 next-sized false event known s p is (inl over) = absurd (false-true (sym is ∙ over))
 next-sized false event known s p is (inr sized) = inr (sized-by (size_in event) event p ∙ ap (told_or (size_in event)) sized
     ∙ later-or (size_in event) known s)
 
 all-sized : (events : List Event) (known : Option (ℕ × ℕ)) (s : Size) (p : Pager) → IsOfSize known s p
-    → IsOfSize (last_size known events) s (all_updated (rules_of paging) p events)
+    → IsOfSize (last_size known events) s (all_updated (event_rules paging) p events)
+unfolding paged_after
 all-sized [] known s p sized = sized
 all-sized (e ∷ events) known s p sized =
-    all-sized events (later (size_in e) known) s (next_state (rules_of paging) p e)
+    all-sized events (later (size_in e) known) s (next_state (event_rules paging) p e)
     (next-sized p.is_over e known s p refl sized)
 
-module _ {B X : Type 0} (device : Device B X) where
+module _ {W : Type 0} where
   -- the terminal has the size that it was told, or its own
-  taken : (told : Option (ℕ × ℕ)) (s t : TerminalData B) → TakesOrKeepsSize device told s t
-      → IfSome told (λ z. size_of (device.screen t.backend) ≡ record { width = z.0; height = z.1 })
-      → told_or told (size_of (device.screen s.backend)) ≡ size_of (device.screen t.backend)
+  taken : (told : Option (ℕ × ℕ)) (s t : TerminalData (BackendState W)) → TakesOrKeepsSize sender told s t
+      → IfSome told (λ z. size_of (shown_by t.backend) ≡ record { width = z.0; height = z.1 })
+      → told_or told (size_of (shown_by s.backend)) ≡ size_of (shown_by t.backend)
   taken None s t keeps has = sym keeps
   taken (Some z) s t takes has = sym has
 
-  moved : (told : Option (ℕ × ℕ)) (p : Pager) (s t : TerminalData B)
-      → IsOfSize told (size_of (device.screen s.backend)) p
-      → told_or told (size_of (device.screen s.backend)) ≡ size_of (device.screen t.backend) → FillsScreen device p t
+  moved : (told : Option (ℕ × ℕ)) (p : Pager) (s t : TerminalData (BackendState W))
+      → IsOfSize told (size_of (shown_by s.backend)) p
+      → told_or told (size_of (shown_by s.backend)) ≡ size_of (shown_by t.backend) → FillsScreen p t
   moved told p s t (inl over) same = inl over
   moved told p s t (inr sized) same = inr (sized ∙ same)
 
-  pub fills : (stage : Stage Pager (TerminalData B))
-      → ((told : Option (ℕ × ℕ)) (s t : TerminalData B) → stage.takes_size told s t → TakesOrKeepsSize device told s t)
-      → (b : Between Pager) (s : TerminalData B) (ms : List (Moment Pager (TerminalData B)))
-      → AreMoments (rules_of paging) stage b s ms → FillsScreen device b.state s → TakesAlong device b ms
-      → FillsAlong device ms
-  fills stage takes b s [] are fits taken_all = tt
-  fills stage takes b s (m ∷ ms) are fits taken_all =
-      let told = size_told b.decoder m.bytes in
-      let sized = all-sized (told_by b.decoder m.bytes).0 None (size_of (device.screen s.backend)) b.state fits in
-      let here : FillsScreen device m.between.state m.terminal =
-      subst (λ (x : Between Pager). FillsScreen device x.state m.terminal) (sym are.0)
-      (moved told (all_updated (rules_of paging) b.state (told_by b.decoder m.bytes).0) s m.terminal sized
-      (taken told s m.terminal (takes told s m.terminal are.2) taken_all.0)) in
-      (here, fills stage takes m.between m.terminal ms are.4 here taken_all.1)
-
   -- the first frame keeps the size
-  pub fills-first : (p : Pager) (s t : TerminalData B) → size_of (device.screen t.backend) ≡ size_of (device.screen s.backend)
-      → FillsScreen device p s → FillsScreen device p t
+  pub fills-first : (p : Pager) (s t : TerminalData (BackendState W))
+      → size_of (shown_by t.backend) ≡ size_of (shown_by s.backend) → FillsScreen p s → FillsScreen p t
   fills-first p s t same (inl over) = inl over
   fills-first p s t same (inr sized) = inr (sized ∙ sym same)
+
+module _ {W H : Type 0} (coming : H → Coming) where
+  -- a turn
+  fills-turn : (before : Now Pager (OnGlass W) H Outside) (turn : AnyTurn Never Never) (after : Now Pager (OnGlass W) H Outside)
+      → Rests paging before.standing → (is : IsTurn (paging_on coming) before turn after)
+      → FillsScreen before.standing.state before.glass.terminal
+      → IfSome (turn_size before.standing turn)
+      (λ z. size_of (shown_by after.glass.terminal.backend) ≡ record { width = z.0; height = z.1 })
+      → FillsScreen after.standing.state after.glass.terminal
+  fills-turn before (Came bytes passed) after rests is fits has =
+      let b : Standing Pager = before.standing in
+      let read = turn-between paging b bytes passed asks-nothing rests in
+      let moves : MovesAndAsks is.told before.glass.terminal after.glass.terminal = is.moved in
+      let asked = ap size_of moves.asked.screen_stays in
+      let sized = all-sized (told_by b.decoder bytes).0 None (size_of (shown_by before.glass.terminal.backend)) b.state fits in
+      let state = ap (λ (x : Standing Pager). x.state) is.made ∙ ap (λ (x : Between Pager). x.state) read in
+      let size : TakesOrKeepsSize sender (size_told b.decoder bytes) before.glass.terminal moves.shown =
+      subst (λ (z : Option (ℕ × ℕ)). TakesOrKeepsSize sender z before.glass.terminal moves.shown) is.tells.size moves.moved.has in
+      subst (λ (p : Pager). FillsScreen p after.glass.terminal) (sym state)
+      (moved (size_told b.decoder bytes) (all_updated (event_rules paging) b.state (told_by b.decoder bytes).0)
+      before.glass.terminal after.glass.terminal sized
+      (taken (size_told b.decoder bytes) before.glass.terminal after.glass.terminal
+      (kept-on (size_told b.decoder bytes) before.glass.terminal moves.shown after.glass.terminal asked size) has))
+    where
+      kept-on : (told : Option (ℕ × ℕ)) (s u t : TerminalData (BackendState W))
+          → size_of (shown_by t.backend) ≡ size_of (shown_by u.backend)
+          → TakesOrKeepsSize sender told s u → TakesOrKeepsSize sender told s t
+      kept-on None s u t same keeps = same ∙ keeps
+      kept-on (Some z) s u t same (inl takes) = inl (same ∙ takes)
+      kept-on (Some z) s u t same (inr keeps) = inr (same ∙ keeps)
+  fills-turn before (Done command answer) after rests is fits has =
+      absurd (some-none paging command before.standing.state asks-nothing is.wanted)
+
+  fills-now : (past : List (Past Pager Never Never (OnGlass W) H Outside)) (now : Now Pager (OnGlass W) H Outside)
+      → FillsAlong past now → FillsScreen now.standing.state now.glass.terminal
+  fills-now [] now fills = fills
+  fills-now (p ∷ earlier) now fills = fills.0
+
+  pub fills-along : (begun now : Now Pager (OnGlass W) H Outside) (past : List (Past Pager Never Never (OnGlass W) H Outside))
+      → begun.standing.left ≡ [] → HasRun (paging_on coming) begun past now
+      → FillsScreen begun.standing.state begun.glass.terminal → TakesAlong past now → FillsAlong past now
+  fills-along begun now [] none run fits takes =
+      subst (λ (n : Now Pager (OnGlass W) H Outside). FillsScreen n.standing.state n.glass.terminal) (sym run) fits
+  fills-along begun now (p ∷ earlier) none run fits takes =
+      let before = fills-along begun p.before earlier none run.0 fits takes.1 in (
+        fills-turn p.before p.turn now (run-rests (paging_on coming) begun p.before earlier none run.0) run.1
+            (fills-now earlier p.before before) takes.0,
+        before,
+      )

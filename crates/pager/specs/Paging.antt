@@ -1,48 +1,98 @@
 -- A pager on a terminal.
-use Rattle.std.specs.Prelude.{◌≡◌, ◌⊎◌, ℕ, true, List, [], ◌∷◌, Option, IfSome, ⊤}
-use Rattle.ratatui_core.specs.{Layout.Size, Backend.size_of}
-use Rattle.ratatui_core.specs.Terminal.{TerminalData, Fullscreen}
-use Rattle.ansi_model.specs.Beginnings.{MakesBlank, OpensAlternate}
+use Rattle.std.specs.Prelude.{◌≡◌, ◌⊎◌, ℕ, Bool, true, List, [], ◌∷◌, ◌++◌, Option, None, IfSome, ⊤}
+use Rattle.ratatui_core.specs.{Layout.Size, Backend.size_of, Backend.IsBlankScreen}
+use Rattle.ratatui_core.specs.Terminal.{TerminalData, TerminalError, Fullscreen}
+use Rattle.ansi_model.specs.{Beginnings.MakesBlank, Beginnings.OpensAlternate, Commands.command_bytes}
+use Rattle.ansi_model.specs.declared.command.Command.TheVariants.{EnableMouseCapture, EnableSizeReports}
 use Rattle.ratatui_ansi.specs.Backend.{BackendState, BeginsBy, shown_by}
-use Rattle.ratatui_reads.specs.{Reads.Between, Reads.size_told, Moments.Moment, Sources.Coming}
-use Rattle.ratatui_app.specs.{Showing.Device, Showing.App, Glass.RunsWhole}
+use Rattle.ratatui_ansi.specs.{Settings.no_settings, declared.error.AnsiError.AnsiError}
+use Rattle.ratatui_reads.specs.{Reads.after_reads, Sources.Coming, Sources.GivesReads}
+use Rattle.ratatui_acts.specs.declared.message.Message.{Message}
+use Rattle.ratatui_acts.specs.declared.message.Message.TheVariants as message
+use Rattle.ratatui_acts.specs.declared.nothing.{Never.Never, Nothing.Nothing}
+use Rattle.ratatui_acts.specs.declared.fault.Fault.{Fault}
+use Rattle.ratatui_acts.specs.Hearing.{GivesUntimed, FailsToGive}
+use Rattle.ratatui_acts.specs.Turns.{ActingRules, Standing, turn_size}
+use Rattle.ratatui_acts.specs.Runs.{Ground, Now, Past, turns_of}
+use Rattle.ratatui_acts.specs.Reading.{seat_between, event_rules, turn_reads}
+use Rattle.ratatui_app.specs.declared.on_glass.OnGlass.{OnGlass}
+use Rattle.ratatui_app.specs.{Glass.no_cursor, Runs.on_glass, Runs.RunsThrough, Runs.StopsThrough}
 use Rattle.pager.specs.declared.pager.Pager.{Pager}
 use Rattle.pager.specs.{Moves.updated, Pages.PaintsPager}
 
--- the application that a pager is
-abbrev pub paging : App Pager
-paging = record { updated = updated; is_over = λ p. p.is_over; paints = PaintsPager }
+-- events move a pager, and nothing else does
+unfoldable pub paged_after : {R : Type 0} → Pager → Message R → Pager
+paged_after p (message.Event event) = updated p event
+paged_after p (message.Tick passed) = p
+paged_after p (message.Answer answer) = p
 
--- a pager was run from beginning to end on the alternate screen of a terminal of this size: that was opened
--- and made blank, the page was shown at each moment, and the main screen was brought back. The writer held
--- these bytes before and after
-pub record IsPaged (W : Type 0) (size : Size) (first : Between Pager) (all : Coming) (last : Pager)
-    (rest : Coming) (before after : Option (List ℕ)) : Type 0 where
-  pub backend : BackendState W
-  pub is_size : backend.size ≡ size
-  pub screen_is : size_of (shown_by backend) ≡ size
-  pub alternate : backend.is_on_alternate ≡ true
-  pub opened : BeginsBy (OpensAlternate size.width size.height) before backend.before
-  pub blank : MakesBlank size.width size.height [] backend.sent
-  pub ran : RunsWhole paging Fullscreen backend first all last rest after
+-- a pager, as a state that asks for nothing
+abbrev pub paging : ActingRules Pager Never Never
+paging = record { updated = paged_after; asked = λ _. None; is_over = λ p. p.is_over }
+
+-- what a run of it stands on, on a terminal that is sent bytes: what a source gives, and how it fails
+abbrev pub paging_on : {W H : Type 0} → (H → Coming)
+    → Ground Pager Never Never (OnGlass W) (TerminalError AnsiError) H Nothing
+paging_on coming =
+    on_glass paging PaintsPager (λ _. no_cursor) (GivesUntimed coming) (FailsToGive coming) (λ _ _ _ _. ⊥)
+
+-- the alternate screen of a terminal of this size, after bytes that its writer held before, was opened and
+-- made blank, and the terminal was told to tell of the mouse and of new sizes
+pub record OpensPaging {W : Type 0} (size : Size) (before : Option (List ℕ)) (b : BackendState W)
+    : Type 0 where
+  pub is_size : b.size ≡ size
+  pub screen : IsBlankScreen size.width size.height (shown_by b)
+  pub alternate : b.is_on_alternate ≡ true
+  pub opened : BeginsBy (OpensAlternate size.width size.height) before b.before
+  pub begun : List ℕ
+  pub blank : MakesBlank size.width size.height [] begun
+  pub sent : b.sent ≡ begun ++ (command_bytes EnableMouseCapture ++ command_bytes EnableSizeReports)
+  pub settings : b.settings ≡ record no_settings { mouse = true; sizes = true }
+  pub failures : b.failures ≡ 0
+
+module _ (W : Type 0) {H : Type 0} (coming : H → Coming) (size : Size) where
+  -- a pager was run from beginning to end on the alternate screen of a terminal of this size: the page was
+  -- shown at each turn, and the main screen was brought back. The last page is what the reads make of the first
+  -- one, and these are what the source gave. The writer held these bytes before and after
+  pub record IsPaged (has_ticks : Bool) (first : Standing Pager) (ears : H) (last : Standing Pager) (ears' : H)
+      (before after : Option (List ℕ)) : Type 0 where
+    pub backend : BackendState W
+    pub opens : OpensPaging size before backend
+    pub outside : Nothing
+    pub outside' : Nothing
+    pub through :
+        RunsThrough (paging_on coming) Fullscreen backend has_ticks first ears outside last ears' outside' after
+    pub read : first.left ≡ [] → seat_between last
+        ≡ after_reads (event_rules paging) (seat_between first) (turn_reads (turns_of (paging_on coming) through.runs.runs.past))
+    pub given : GivesReads (coming ears) (coming ears') (turn_reads (turns_of (paging_on coming) through.runs.runs.past))
+
+  -- a run that stopped: the page was shown at each turn before, and the main screen was brought back, unless
+  -- the terminal failed
+  pub record StopsPaging (fault : Fault (TerminalError AnsiError)) (first : Standing Pager) (ears : H)
+      (last : Standing Pager) (ears' : H) (before after : Option (List ℕ)) : Type 0 where
+    pub backend : BackendState W
+    pub opens : OpensPaging size before backend
+    pub outside : Nothing
+    pub outside' : Nothing
+    pub through : StopsThrough (paging_on coming) Fullscreen backend fault first ears outside last ears' outside' after
 
 -- the columns and rows of a page
 abbrev pub page_size : Pager → Size
 page_size p = record { width = p.columns; height = p.rows }
 
-module _ {B X : Type 0} (device : Device B X) where
-  -- the page is as large as the terminal's screen, or the pager is over
-  abbrev pub FillsScreen : Pager → TerminalData B → Type 0
-  FillsScreen p t = (p.is_over ≡ true) ⊎ (page_size p ≡ size_of (device.screen t.backend))
+-- the page is as large as the terminal's screen, or the pager is over
+abbrev pub FillsScreen : {W : Type 0} → Pager → TerminalData (BackendState W) → Type 0
+FillsScreen p t = (p.is_over ≡ true) ⊎ (page_size p ≡ size_of (shown_by t.backend))
 
-  -- so it is at each of these moments
-  abbrev pub FillsAlong : List (Moment Pager (TerminalData B)) → Type 0
-  FillsAlong [] = ⊤
-  FillsAlong (m ∷ ms) = FillsScreen m.between.state m.terminal × FillsAlong ms
+module _ {W H : Type 0} where
+  -- so it is now, and was at each turn of a run before
+  abbrev pub FillsAlong : List (Past Pager Never Never (OnGlass W) H Nothing) → Now Pager (OnGlass W) H Nothing → Type 0
+  FillsAlong [] now = FillsScreen now.standing.state now.glass.terminal
+  FillsAlong (p ∷ earlier) now = FillsScreen now.standing.state now.glass.terminal × FillsAlong earlier p.before
 
-  -- the terminal has each size that the reads of these moments told
-  abbrev pub TakesAlong : Between Pager → List (Moment Pager (TerminalData B)) → Type 0
-  TakesAlong b [] = ⊤
-  TakesAlong b (m ∷ ms) = IfSome (size_told b.decoder m.bytes)
-      (λ z. size_of (device.screen m.terminal.backend) ≡ record { width = z.0; height = z.1 })
-      × TakesAlong m.between ms
+  -- the terminal has each size that the turns of a run told
+  abbrev pub TakesAlong : List (Past Pager Never Never (OnGlass W) H Nothing) → Now Pager (OnGlass W) H Nothing → Type 0
+  TakesAlong [] now = ⊤
+  TakesAlong (p ∷ earlier) now = IfSome (turn_size p.before.standing p.turn)
+      (λ z. size_of (shown_by now.glass.terminal.backend) ≡ record { width = z.0; height = z.1 })
+      × TakesAlong earlier p.before

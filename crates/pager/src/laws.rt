@@ -1,16 +1,14 @@
 //! Laws of the pager.
 
-ghost use Rattle.std.specs.Prelude.{◌≡◌, ◌<◌, ◌≤◌, ◌^◌, ℕ, true, List, Option, Some, length, Contains};
+ghost use Rattle.std.specs.Prelude.{◌≡◌, ◌<◌, ◌≤◌, ◌^◌, ℕ, Bool, true, List, [], Option, Some, length, Contains};
 ghost use Rattle.ratatui_core.specs.Layout.{Size};
-ghost use Rattle.ratatui_core.specs.Terminal.{TerminalData};
-ghost use Rattle.ratatui_ansi.specs.Backend.{BackendState};
 ghost use Rattle.ratatui_events.specs.declared.event.Event.{Event};
 ghost use Rattle.ratatui_events.specs.declared.event.Event.TheVariants.{Key};
 ghost use Rattle.ratatui_events.specs.declared.key.KeyEvent.{KeyEvent};
-ghost use Rattle.ratatui_reads.specs.Reads.{Between};
-ghost use Rattle.ratatui_reads.specs.Sources.{Coming};
-ghost use Rattle.ratatui_app.specs.Showing.{RunsTo};
-ghost use Rattle.ratatui_app.specs.Glass.{sender, RunsOnGlass, RunsAlongGlass, IsOnGlass};
+ghost use Rattle.ratatui_acts.specs.Turns.{Standing};
+ghost use Rattle.ratatui_acts.specs.Runs.{Now, Past, HasRun, AreTimely};
+ghost use Rattle.ratatui_acts.specs.declared.nothing.{Never.Never, Nothing.Nothing};
+ghost use Rattle.ratatui_app.specs.declared.on_glass.OnGlass.{OnGlass};
 ghost use Rattle.pager.specs.Moves.{started, updated, after_move};
 ghost use Rattle.pager.specs.Search.{next_match, last_match, IsFirstMatch, IsLastMatch};
 ghost use Rattle.pager.specs.Keys.{IsControlC};
@@ -20,14 +18,14 @@ ghost use Rattle.pager.specs.declared.styles.Run.{Run};
 ghost use Rattle.pager.specs.Places.{IsInText, columns_for_line, page_rows, page_place, text_place, place_after};
 ghost use Rattle.pager.specs.Places.{places_after, breaking, last_page, earlier, is_before};
 ghost use Rattle.pager.specs.declared.command.Command.TheVariants.{PageDown};
-ghost use Rattle.pager.specs.Paging.{paging, page_size, IsPaged, FillsScreen, FillsAlong, TakesAlong};
+ghost use Rattle.pager.specs.Paging.{paging_on, page_size, IsPaged, FillsScreen, FillsAlong, TakesAlong};
 ghost use Rattle.pager.specs.declared.pager.Pager.{Pager};
 
 use crate::pager::Pager;
-use ratatui_ansi::AnsiBackend;
-use ratatui_app::laws::glass_shows_the_state;
-use ratatui_core::backend::Backend;
-use ratatui_core::terminal::Terminal;
+use ratatui_acts::Nothing;
+use ratatui_acts::laws::each_turn_was_made_while_its_state_was_shown;
+use ratatui_app::OnGlass;
+use ratatui_reads::Source;
 use std::io::Write;
 
 /// The place lies in the text at first, and after each event: no page begins after the last one.
@@ -73,31 +71,29 @@ pub fn control_c_leaves()
         → (updated (updated p (Key k)) (Key k)).is_over ≡ true }
 {}
 
-/// If no call had failed before a run, then where it stands now each terminal that has read what
-/// was sent shows the page that the keys so far lead to.
-pub fn the_glass_shows_the_page<W: Write + Drop>(terminal: &Terminal<AnsiBackend<W>>)
-    ensures { (before : TerminalData (BackendState W)) (first now : Between Pager)
-        (all rest : Coming)
-        → RunsOnGlass paging before first all now rest terminal.now
-        → before.backend.failures ≡ 0
-        → IsOnGlass paging now.state terminal.now }
+/// Whenever a run of a pager read, each terminal that had read what was sent until then showed the
+/// page that all reads before lead to.
+pub fn the_glass_shows_the_page<W: Write + Drop, S: Source>()
+    ensures { (begun now : Now Pager (OnGlass W) S Nothing)
+        (past : List (Past Pager Never Never (OnGlass W) S Nothing))
+        → HasRun (paging_on S.coming) begun past now
+        → AreTimely (paging_on S.coming) begun.standing past }
 {
-    glass_shows_the_state::<W, Pager<'static>>(terminal);
+    each_turn_was_made_while_its_state_was_shown::<Pager<'static>, OnGlass<W>, S, Nothing>();
 }
 
 /// If the first page is as large as the screen, and the terminal takes each size that it is told,
-/// then the page is as large as the screen at the first frame and at each moment of a run, until the
-/// pager is over; and a pager of a terminal's size begins so.
-pub fn the_page_fills_the_screen<B: Backend, W: Write>()
-    ensures runs { (before t : TerminalData B) (first now : Between Pager) (all rest : Coming)
-        (ran : RunsTo B.Backend paging before first all now rest t)
-        → FillsScreen B.Backend first.state before → TakesAlong B.Backend first ran.moments
-        → FillsScreen B.Backend first.state ran.begun × FillsAlong B.Backend ran.moments }
-    ensures glass { (before t : TerminalData (BackendState W)) (first now : Between Pager)
-        (all rest : Coming) (ran : RunsAlongGlass paging before first all now rest t)
-        → FillsScreen sender first.state before → TakesAlong sender first ran.moments
-        → FillsScreen sender first.state ran.begun × FillsAlong sender ran.moments }
-    ensures paged { (size : Size) (first : Between Pager) (all rest : Coming) (last : Pager)
-        (before after : Option (List ℕ)) (paged : IsPaged W size first all last rest before after)
-        → page_size first.state ≡ size → FillsScreen sender first.state paged.ran.begun }
+/// then the page is as large as the screen at each turn of a run, until the pager is over; and a
+/// pager of a terminal's size begins so.
+pub fn the_page_fills_the_screen<W: Write + Drop, S: Source>()
+    ensures runs { (begun now : Now Pager (OnGlass W) S Nothing)
+        (past : List (Past Pager Never Never (OnGlass W) S Nothing))
+        → begun.standing.left ≡ [] → HasRun (paging_on S.coming) begun past now
+        → FillsScreen begun.standing.state begun.glass.terminal
+        → TakesAlong past now → FillsAlong past now }
+    ensures paged { (size : Size) (has_ticks : Bool) (first last : Standing Pager) (ears ears' : S)
+        (before after : Option (List ℕ))
+        (paged : IsPaged W S.coming size has_ticks first ears last ears' before after)
+        → page_size first.state ≡ size
+        → FillsScreen first.state paged.through.runs.runs.glass.terminal }
 {}

@@ -36,7 +36,7 @@ pub use own_text::OwnText;
 pub use pager::{Ending, Mode, Note, Pager};
 pub use parting::parted;
 pub use place::Place;
-pub use showing::{show, show_on};
+pub use showing::show;
 pub use styles::{Run, Styles};
 pub use typing::Typing;
 pub use view::View;

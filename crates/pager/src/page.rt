@@ -16,7 +16,7 @@ use crate::view::View;
 use itoa::Buffer as Digits;
 use ratatui_app::Application;
 use ratatui_core::buffer::Buffer;
-use ratatui_core::layout::Rect;
+use ratatui_core::layout::{Position, Rect};
 use ratatui_core::style::Style;
 use std::alloc::AllocError;
 
@@ -224,15 +224,22 @@ impl<'a> Pager<'a> {
 
 impl<'a> Application for Pager<'a> {
     ghost use Rattle.pager.specs.Pages.{PaintsPager};
+    ghost use Rattle.ratatui_app.specs.Glass.{no_cursor};
     ghost use Rattle.pager.specs.PageLemmas.{pages-settled};
 
     ghost paints = { PaintsPager };
+
+    ghost cursor = { λ _. no_cursor };
 
     fn paint(&self, area: Rect, buf: &mut Buffer) -> Result<(), AllocError> {
         let Some(part) = buf.part(area) else {
             return Ok(());
         };
         self.paint_page(part, buf)
+    }
+
+    fn cursor(&self, _area: Rect) -> Option<Position> {
+        None
     }
 
     ghost is_settled = { pages-settled };

@@ -1,8 +1,9 @@
 //! The state of a pager.
 
-ghost use Rattle.std.specs.Prelude.{◌≡◌, OnOk, OnErr};
+ghost use Rattle.std.specs.Prelude.{◌≡◌, false, None, IfOk, OnOk, OnErr};
 ghost use Rattle.pager.specs.Moves.{started, with_one_less, taken_in, answered, has_text, acted, updated};
 ghost use Rattle.pager.specs.Inner.{at_told_size};
+ghost use Rattle.pager.specs.Paging.{paged_after};
 
 use crate::answer::{Answer, answer_of, ending_of, is_press, mark_of};
 use crate::command::command_of;
@@ -10,9 +11,10 @@ use crate::document::{Document, Numbers};
 use crate::own_text::OwnText;
 use crate::styles::Styles;
 use crate::typing::Typing;
+use ratatui_acts::{Acts, Message, Never};
 use ratatui_core::layout::Size;
 use ratatui_events::Event;
-use ratatui_reads::{Updates, size_in};
+use ratatui_reads::size_in;
 use std::alloc::AllocError;
 
 /// What keys are taken for.
@@ -300,20 +302,9 @@ impl<'a> Pager<'a> {
             }
         }
     }
-}
 
-impl<'a> Updates for Pager<'a> {
-    ghost updated = { updated };
-
-    ghost is_over = { λ p. p.is_over };
-
-    /// Takes an event.
-    ///
-    /// # Errors
-    ///
-    /// `AllocError` if memory is refused; nothing has changed then. Only the beginning of a search
-    /// and a filter take some.
-    fn update(&mut self, event: Event) -> Result<(), AllocError>
+    // Takes an event. Only the beginning of a search and a filter take memory.
+    fn hear(&mut self, event: Event) -> Result<(), AllocError>
         ensures ok { OnOk result (self.new ≡ updated self.old event) }
         ensures err { OnErr result (self.new ≡ self.old) }
     {
@@ -324,6 +315,37 @@ impl<'a> Updates for Pager<'a> {
             }
             None => self.act(event),
         }
+    }
+}
+
+impl<'a> Acts for Pager<'a> {
+    type Command = Never;
+
+    type Answer = Never;
+
+    ghost updated = { paged_after };
+
+    ghost asked = { λ _. None };
+
+    ghost is_over = { λ p. p.is_over };
+
+    fn update(&mut self, message: Message<Never>) -> Result<bool, AllocError>
+        ensures ok { OnOk result (self.new ≡ paged_after self.old message) }
+        ensures same { IfOk result (λ changed. changed ≡ false → self.new ≡ self.old) }
+        ensures refused { OnErr result (self.new ≡ self.old) }
+    {
+        match message {
+            Message::Event(event) => {
+                self.hear(event)?;
+                Ok(true)
+            }
+            Message::Tick(_) => Ok(false),
+            Message::Answer(_) => Ok(false),
+        }
+    }
+
+    fn asked(&self) -> Option<&Never> {
+        None
     }
 
     fn is_over(&self) -> bool {

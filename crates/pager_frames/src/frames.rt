@@ -1,15 +1,19 @@
 //! Frames, printed.
 
+ghost use Rattle.std.specs.Prelude.{◌≡◌, true};
+ghost use Rattle.pager_frames.specs.InMemory.{ShowsInMemory};
+
 use crate::recording::Recording;
 use bitflags::Flags;
 use pager::{Document, OwnText, Pager, Styles, parted};
-use ratatui_app::{draw, feed};
+use ratatui_acts::{Acts, Glass, Nothing, Seat, Told};
+use ratatui_app::OnScreen;
 use ratatui_core::backend::TestBackend;
 use ratatui_core::buffer::Cell;
 use ratatui_core::layout::Size;
 use ratatui_core::style::{Color, Modifier};
-use ratatui_core::terminal::Terminal;
-use ratatui_input::Decoder;
+use ratatui_core::terminal::Viewport;
+use ratatui_reads::Pieces;
 use std::alloc::Global;
 use std::io::{self, ErrorKind};
 use std::str;
@@ -39,14 +43,6 @@ impl<'a> Stage<'a> {
         let name = OwnText::new(String::from_str(self.alloc, "text").ok()?);
         let pattern = OwnText::new(String::new(self.alloc));
         Some(Pager::new(document, name, pattern, self.size).styled(styles))
-    }
-
-    /// Makes a pager of the text, on a screen in memory.
-    pub fn open(&self) -> Option<(Terminal<TestBackend>, Pager<'a>)> {
-        let pager = self.pager()?;
-        let backend = TestBackend::new(self.alloc, self.size.width, self.size.height).ok()?;
-        let terminal = Terminal::new(self.alloc, backend).ok()?;
-        Some((terminal, pager))
     }
 }
 
@@ -116,6 +112,25 @@ fn read_of(recording: &Recording, k: usize) -> &[u8] {
     recording.bytes.get(from..end).unwrap_or(&[])
 }
 
+// Takes the bytes of a read, unless the pager is over, and shows the page; answers whether that went
+// well.
+fn take(glass: &mut OnScreen<TestBackend>, seat: &mut Seat<Pager<'_>>, bytes: &[u8]) -> bool
+    requires { ShowsInMemory seat.old.state glass.old.terminal }
+    ensures { result ≡ true → ShowsInMemory seat.new.state glass.new.terminal }
+{
+    if seat.state().is_over() {
+        return true;
+    }
+    let pieces = [bytes];
+    let Ok(told) = seat.turn(&mut Pieces::new(&pieces), &mut Nothing, glass) else {
+        return false;
+    };
+    let Ok(()) = glass.show(seat.state(), told) else {
+        return false;
+    };
+    true
+}
+
 /// Prints the first frame, and the one after each read; answers whether all were drawn.
 pub fn print_frames(
     rt: &HostRuntime,
@@ -123,21 +138,26 @@ pub fn print_frames(
     script: &str,
     recording: &Recording,
 ) -> io::Result<bool> {
-    let Some((mut terminal, mut pager)) = stage.open() else {
+    let Some(pager) = stage.pager() else {
         return Ok(false);
     };
-    if draw(&mut terminal, &pager).is_err() {
+    let Ok(screen) = TestBackend::new(stage.alloc, stage.size.width, stage.size.height) else {
         return Ok(false);
-    }
-    print_screen(rt, stage.alloc, terminal.backend())?;
-    let mut decoder = Decoder::new();
+    };
+    let Ok(mut glass) = OnScreen::begin(stage.alloc, Viewport::Fullscreen, screen) else {
+        return Ok(false);
+    };
+    let mut seat = Seat::new(stage.alloc, pager);
+    let Ok(()) = glass.show(seat.state(), Told::first()) else {
+        return Ok(false);
+    };
+    print_screen(rt, stage.alloc, glass.terminal().backend())?;
     for (k, line) in script.lines().enumerate() {
         println!(rt; "> {line}")?;
-        let bytes = read_of(recording, k);
-        if feed(bytes, &mut decoder, &mut terminal, &mut pager).is_err() {
+        if !take(&mut glass, &mut seat, read_of(recording, k)) {
             return Ok(false);
         }
-        print_screen(rt, stage.alloc, terminal.backend())?;
+        print_screen(rt, stage.alloc, glass.terminal().backend())?;
     }
     Ok(true)
 }

@@ -4,8 +4,8 @@
 use crate::frames::Stage;
 use crate::recording::{Player, Recording};
 use pager::show;
+use ratatui_acts::{Fault, Seat};
 use ratatui_ansi::AnsiError;
-use ratatui_app::AppError;
 use ratatui_core::terminal::TerminalError;
 use std::alloc::Global;
 use std::io::{self, ErrorKind, Write};
@@ -73,7 +73,7 @@ impl Owned {
 impl Write for Owned {
     fn write(&mut self, buf: &[u8]) -> io::Result<usize> {
         if self.fails() {
-            self.is_lost = buf.ends_with(b"[?1049l\x1b[0m") || buf.ends_with(b"[?1000l");
+            self.is_lost = buf.ends_with(b"[?1049l\x1b[0m");
             return Err(ErrorKind::BrokenPipe.into());
         }
         for byte in buf {
@@ -90,15 +90,22 @@ impl Write for Owned {
     }
 }
 
-// What a fault is about.
-fn name_of(fault: &AppError<AnsiError>) -> &'static str {
-    match fault {
-        AppError::Memory
-        | AppError::Draw(TerminalError::Memory)
-        | AppError::Draw(TerminalError::Backend(AnsiError::Memory))
-        | AppError::Resize(AnsiError::Memory) => "no memory",
-        AppError::Read(_) => "no more reads",
-        AppError::Draw(_) | AppError::Resize(_) => "no draw",
+// What a terminal's fault is about.
+fn name_of(error: &TerminalError<AnsiError>) -> &'static str {
+    match error {
+        TerminalError::Memory | TerminalError::Backend(AnsiError::Memory) => "no memory",
+        _ => "no draw",
+    }
+}
+
+// How a run ended.
+fn name_of_end(ended: &Result<(), Fault<TerminalError<AnsiError>>>) -> &'static str {
+    match ended {
+        Ok(()) => "over",
+        Err(Fault::Memory) => "no memory",
+        Err(Fault::Read(_)) => "no more reads",
+        Err(Fault::Show(error)) => name_of(error),
+        Err(Fault::Outside(_) | Fault::Endless) => "no end",
     }
 }
 
@@ -108,10 +115,11 @@ fn shown(
     player: &mut Player<'_>,
     terminal: &mut Owned,
 ) -> Option<(&'static str, bool)> {
-    let mut pager = stage.pager()?;
-    let told = match show(stage.alloc, stage.size, player, true, terminal, &mut pager) {
-        Ok(()) => "over",
-        Err(fault) => name_of(&fault),
+    let mut seat = Seat::new(stage.alloc, stage.pager()?);
+    let (alloc, size) = (stage.alloc, stage.size);
+    let told = match show(alloc, size, player, true, &mut *terminal, &mut seat) {
+        Ok(left) => name_of_end(&left.ended),
+        Err(error) => name_of(&error),
     };
     Some((told, terminal.is_given_back()))
 }

@@ -1,11 +1,14 @@
 //! Recordings played again: cut at random places, and with reads and calls that fail.
 
+ghost use Rattle.ratatui_core.specs.Backend.{IsSameBackend};
+
 use crate::frames::Stage;
 use crate::recording::{Player, Recording};
 use crate::refused::{reads_given_back, writes_given_back};
-use ratatui_app::{AppError, run};
+use ratatui_acts::{Fault, Nothing, Seat, run};
+use ratatui_app::OnScreen;
 use ratatui_core::backend::TestBackend;
-use ratatui_core::terminal::Terminal;
+use ratatui_core::terminal::Viewport;
 use std::io;
 
 /// Each call of a writer in so many reads is made to fail, one in each recording.
@@ -14,24 +17,51 @@ const READS: usize = 10;
 /// How many times a recording is cut.
 const CUTS: u32 = 10;
 
-// What came of a recording: whether it was played to its end, and the fault if not.
+// Lets a call of a screen fail, the one after so many, if there is a number.
+fn failing(mut screen: TestBackend, calls: Option<u64>) -> TestBackend
+    ensures { IsSameBackend screen result }
+{
+    let Some(calls) = calls else {
+        return screen;
+    };
+    screen.fail_after(calls);
+    screen
+}
+
+// What came of a recording: its screen, if that could be begun; and whether it was played to its
+// end, or the fault.
 fn played(
     stage: Stage<'_>,
     player: &mut Player<'_>,
     calls: Option<u64>,
-) -> Option<(Terminal<TestBackend>, &'static str)> {
-    let (mut terminal, mut pager) = stage.open()?;
-    if let Some(calls) = calls {
-        terminal.backend_mut().fail_after(calls);
-    }
-    let told = match run(player, true, &mut terminal, &mut pager) {
-        Ok(()) => "over",
-        Err(AppError::Read(_)) => "read",
-        Err(AppError::Memory) => "memory",
-        Err(AppError::Draw(_)) => "draw",
-        Err(AppError::Resize(_)) => "resize",
+) -> Option<(Option<OnScreen<TestBackend>>, &'static str)> {
+    let Ok(backend) = TestBackend::new(stage.alloc, stage.size.width, stage.size.height) else {
+        return None;
     };
-    Some((terminal, told))
+    let screen = failing(backend, calls);
+    let mut seat = Seat::new(stage.alloc, stage.pager()?);
+    let Ok(mut glass) = OnScreen::begin(stage.alloc, Viewport::Fullscreen, screen) else {
+        return Some((None, "draw"));
+    };
+    let told = match run(player, &mut Nothing, true, &mut glass, &mut seat) {
+        Ok(()) => "over",
+        Err(Fault::Read(_)) => "read",
+        Err(Fault::Memory) => "memory",
+        Err(Fault::Show(_)) => "draw",
+        Err(Fault::Outside(_) | Fault::Endless) => "end",
+    };
+    Some((Some(glass), told))
+}
+
+// Whether there are two screens, and they show the same.
+fn is_same(one: &Option<OnScreen<TestBackend>>, other: &Option<OnScreen<TestBackend>>) -> bool {
+    match (one, other) {
+        (Some(one), Some(other)) => {
+            let buffer = other.terminal().backend().buffer();
+            one.terminal().backend().buffer_is(buffer)
+        }
+        _ => false,
+    }
 }
 
 // How often a recording that is cut leads to the same screen as the whole one.
@@ -42,7 +72,7 @@ fn same_screens(stage: Stage<'_>, recording: &Recording) -> Option<u32> {
     for seed in 0..CUTS {
         let mut cut = Player::new(recording, Some(seed), usize::MAX);
         let (second, told) = played(stage, &mut cut, None)?;
-        if told == first_told && first.backend().buffer_is(second.backend().buffer()) {
+        if told == first_told && is_same(&first, &second) {
             same = same.saturating_add(1);
         }
     }
@@ -71,7 +101,7 @@ fn told_calls(stage: Stage<'_>, recording: &Recording) -> Option<(u64, u64)> {
         let mut player = Player::new(recording, None, usize::MAX);
         let (_, fault) = played(stage, &mut player, Some(calls))?;
         match fault {
-            "draw" | "resize" => told = told.saturating_add(1),
+            "draw" => told = told.saturating_add(1),
             _ => return Some((told, calls)),
         }
     }

@@ -1,8 +1,9 @@
 //! Why a text isn't shown.
 
 use pager::TextError;
+use ratatui_acts::Fault;
 use ratatui_ansi::AnsiError;
-use ratatui_app::AppError;
+use ratatui_core::terminal::TerminalError;
 use std::io;
 
 /// Why a text isn't shown, or not to its end.
@@ -18,8 +19,10 @@ pub enum PagerError {
     Write(io::Error),
     /// Memory was refused.
     Memory,
+    /// The terminal can't be begun or given back.
+    Terminal(TerminalError<AnsiError>),
     /// The run stopped.
-    Run(AppError<AnsiError>),
+    Run(Fault<TerminalError<AnsiError>>),
 }
 
 impl PagerError {
@@ -31,6 +34,7 @@ impl PagerError {
             PagerError::Keys(error) => eprintln!(rt; "pager: /dev/tty: {error}"),
             PagerError::Write(error) => eprintln!(rt; "pager: standard output: {error}"),
             PagerError::Memory => eprintln!(rt; "pager: no memory"),
+            PagerError::Terminal(error) => eprintln!(rt; "pager: {error}"),
             PagerError::Run(error) => eprintln!(rt; "pager: {error}"),
         }
     }

@@ -25,6 +25,7 @@ use crate::text::parted_text;
 use crate::words::{command, given_by, is_input};
 use pager::{Document, Ending, OwnText, Pager, show};
 use programs::{Stream, is_terminal};
+use ratatui_acts::Seat;
 use std::alloc::{AllocError, Global};
 use std::io::{self, BufWriter, Read, Write};
 use std::process::ExitCode;
@@ -74,12 +75,16 @@ fn page<R: Read>(
     let pattern = OwnText::new(String::new(alloc));
     let mut writer = BufWriter::new(alloc, io::writer(rt)).map_err(PagerError::Write)?;
     let size = size_for(rt, given, keys, has_ticks, &mut writer)?;
-    let mut pager = Pager::new(document, name, pattern, size)
+    let pager = Pager::new(document, name, pattern, size)
         .styled(styles)
         .between(place.has_previous(), place.has_next());
+    let mut seat = Seat::new(alloc, pager);
     let mut typed = first.as_bytes().chain(keys);
-    show(alloc, size, &mut typed, has_ticks, &mut writer, &mut pager).map_err(PagerError::Run)?;
-    Ok(pager.ending())
+    let left = show(alloc, size, &mut typed, has_ticks, &mut writer, &mut seat).map_err(
+        PagerError::Terminal,
+    )?;
+    left.ended.map_err(PagerError::Run)?;
+    Ok(seat.state().ending())
 }
 
 // Copies a text to standard output.

@@ -90,7 +90,7 @@ module _ {S C R : Type 0} (rules : ActingRules S C R) where
       let over = over-if b.state nothing w in
       all-over b.state (b.left ++ es) over ∙ sym (all-over b.state es over)
 
-  turn-between : (b : Standing S) (bytes : List ℕ) (passed : Duration) → AsksNothing rules → Rests rules b
+  pub turn-between : (b : Standing S) (bytes : List ℕ) (passed : Duration) → AsksNothing rules → Rests rules b
       → seat_between (after_turn rules b (Came bytes passed)) ≡ after_read (event_rules rules) (seat_between b) bytes
   turn-between b bytes passed nothing rests =
       ap (λ (s : S). seat_between (taking rules (told_by b.decoder bytes).1 (b.left ++ (told_by b.decoder bytes).0) s))
@@ -99,7 +99,7 @@ module _ {S C R : Type 0} (rules : ActingRules S C R) where
       ∙ ap (λ (x : S). record { decoder = (told_by b.decoder bytes).1; state = x })
       (left-read b (told_by b.decoder bytes).0 nothing rests)
 
-  some-none : (command : C) (s : S) → AsksNothing rules → rules.asked s ≡ Some command → ⊥
+  pub some-none : (command : C) (s : S) → AsksNothing rules → rules.asked s ≡ Some command → ⊥
   some-none command s nothing is = true-false (ap (λ (o : Option C). is_some o) (sym is ∙ nothing.asks s))
 
 module _ {S C R G E H O : Type 0} (ground : Ground S C R G E H O) where

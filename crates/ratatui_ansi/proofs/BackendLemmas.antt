@@ -28,22 +28,25 @@ alike-on size sent out new e alike t left =
     ∙ ap (with_rows_above t.history) (sym (ap (reader size) e ∙ feed-append sent out (blank_terminal size.width size.height)))
 
 -- what a call's bytes are, once they were sent
-pub commanded-on : (call : Call) (sent out new after : List ℕ) → IsCommanded call out new → out ≡ [] → after ≡ sent ++ new
-    → IsCommanded call sent after
-commanded-on (Called.Command command) sent out new after is none e = e ∙ ap (λ xs. sent ++ xs)
+pub commanded-on : (call : Call) (cursor : Position) (sent out new after : List ℕ) → IsCommanded call cursor out new → out ≡ []
+    → after ≡ sent ++ new → IsCommanded call cursor sent after
+commanded-on (Called.Command command) cursor sent out new after is none e = e ∙ ap (λ xs. sent ++ xs)
     (is ∙ ap (λ xs. xs ++ command_bytes command) none)
-commanded-on (Called.PushKeyboardFlags flags) sent out new after is none e = e ∙ ap (λ xs. sent ++ xs)
+commanded-on (Called.PushKeyboardFlags flags) cursor sent out new after is none e = e ∙ ap (λ xs. sent ++ xs)
     (is ∙ ap (λ xs. xs ++ keyboard_bytes flags) none)
-commanded-on Called.AskSize sent out new after is none e = record {
-  back = is.back;
-  asked = e ∙ ap (λ xs. sent ++ xs) (is.asked ∙ ap (λ xs. xs ++ (size_question ++ is.back)) none);
-}
-commanded-on (Called.Move p) sent out new after is none e = tt
-commanded-on (Called.Show visible) sent out new after is none e = tt
-commanded-on (Called.Append n) sent out new after is none e = tt
-commanded-on (Called.ScrollUp region n) sent out new after is none e = tt
-commanded-on (Called.ScrollDown region n) sent out new after is none e = tt
-commanded-on (Called.Clear kind) sent out new after is none e = tt
+commanded-on Called.AskSize cursor sent out new after is none e = e ∙ ap (λ xs. sent ++ xs)
+    (is ∙ ap (λ xs. xs ++ size_question cursor) none)
+commanded-on (Called.Move p) cursor sent out new after is none e = tt
+commanded-on (Called.Show visible) cursor sent out new after is none e = tt
+commanded-on (Called.Append n) cursor sent out new after is none e = tt
+commanded-on (Called.ScrollUp region n) cursor sent out new after is none e = tt
+commanded-on (Called.ScrollDown region n) cursor sent out new after is none e = tt
+commanded-on (Called.Clear kind) cursor sent out new after is none e = tt
+
+-- where the cursor is
+pub commanded-at : (call : Call) (cursor there : Position) (old new : List ℕ) → there ≡ cursor → IsCommanded call cursor old new
+    → IsCommanded call there old new
+commanded-at call cursor there old new e is = subst (λ (p : Position). IsCommanded call p old new) (sym e) is
 
 -- what is tracked of the terminal that has read all
 pub tracked-from : (k : Tracker) {broken : Bool} {failures : ℕ} {sent : List ℕ}

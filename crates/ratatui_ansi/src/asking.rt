@@ -1,8 +1,8 @@
 //! What the backend asks of its terminal and tells it, beside its screen.
 
 ghost use Rattle.std.specs.Prelude.{◌≡◌, ◌++◌, not, if◌then◌else◌, IfErr, OnOk};
-ghost use Rattle.ratatui_core.specs.Backend.{Counts};
-ghost use Rattle.ansi_model.specs.Commands.{command_bytes, keyboard_bytes, titled_bytes, AsksSize};
+ghost use Rattle.ratatui_core.specs.Backend.{Counts, cursor_of};
+ghost use Rattle.ansi_model.specs.Commands.{command_bytes, keyboard_bytes, titled_bytes, size_question};
 ghost use Rattle.ratatui_ansi.specs.Backend.{shown_by};
 ghost use Rattle.ratatui_ansi.specs.Inner.Tracker.{CallDoes, IsCommanded, IsOfCall};
 ghost use Rattle.ratatui_ansi.specs.Refusals.{Answers, AnswersSet, IsOfWriting};
@@ -112,7 +112,8 @@ impl<W: Write + Drop> AnsiBackend<W> {
     /// `Memory`, `Broken` and `Write`, as of every call that writes.
     pub fn ask_size(&mut self) -> Result<(), AnsiError>
         ensures ok { OnOk result (shown_by self.new ≡ shown_by self.old) }
-        ensures asked { OnOk result (AsksSize self.old.sent self.new.sent) }
+        ensures asked { OnOk result (self.new.sent
+            ≡ self.old.sent ++ size_question (cursor_of (shown_by self.old))) }
         ensures why { IfErr result IsOfWriting }
         ensures state { Answers result self.old self.new }
         ensures counts { Counts result self.old.failures self.new.failures }
@@ -246,7 +247,8 @@ impl<W: Write + Drop> AnsiBackend<W> {
     // Makes a call after which this is set.
     fn set(&mut self, call: Call, after: Settings) -> Result<(), AnsiError>
         ensures ok { OnOk result (CallDoes call (shown_by self.old) (shown_by self.new)) }
-        ensures sent { OnOk result (IsCommanded call self.old.sent self.new.sent) }
+        ensures sent { OnOk result
+            (IsCommanded call (cursor_of (shown_by self.old)) self.old.sent self.new.sent) }
         ensures why { IfErr result (IsOfCall call (shown_by self.old)) }
         ensures state { AnswersSet result after self.old self.new }
         ensures counts { Counts result self.old.failures self.new.failures }

@@ -3,7 +3,7 @@
 ghost use Rattle.std.specs.Prelude.{◌≡◌, ℕ, ◌<◌, List, [], ◌++◌, true, false, IsSome, IsOk, IfOk, IfErr, OnOk};
 ghost use Rattle.std.specs.Io.KnownBytes.{Appends as AppendsKnown};
 ghost use Rattle.std.specs.Borrow.{sem, Lends};
-ghost use Rattle.ratatui_core.specs.Backend.{Counts, IsBlankScreen};
+ghost use Rattle.ratatui_core.specs.Backend.{Counts, IsBlankScreen, cursor_of};
 ghost use Rattle.ansi_model.specs.Beginnings.{MakesBlank, SavesScreen, SavesHigher, OpensAlternate};
 ghost use Rattle.ansi_model.specs.Endings.{ClosesAlternate, left_below};
 ghost use Rattle.ansi_model.specs.Sends.{Performs};
@@ -434,7 +434,8 @@ impl<W: Write + Drop> AnsiBackend<W> {
     // Makes a call that draws no cells.
     pub(crate) fn send(&mut self, call: Call) -> Result<(), AnsiError>
         ensures ok { OnOk result (CallDoes call (shown_by self.old) (shown_by self.new)) }
-        ensures sent { OnOk result (IsCommanded call self.old.sent self.new.sent) }
+        ensures sent { OnOk result
+            (IsCommanded call (cursor_of (shown_by self.old)) self.old.sent self.new.sent) }
         ensures why { IfErr result (IsOfCall call (shown_by self.old)) }
         ensures state { Answers result self.old self.new }
         ensures counts { Counts result self.old.failures self.new.failures }

@@ -10,7 +10,7 @@ ghost use Rattle.ratatui_core.specs.Backend.{with_cursor, with_visible, All};
 ghost use Rattle.ansi_model.specs.Emulator.{keeps_history};
 ghost use Rattle.ratatui_ansi.specs.declared.tracker.Call.TheVariants as Called;
 ghost use Rattle.ansi_model.specs.Flags.{is_cut, is_clear_cut};
-ghost use Rattle.ansi_model.specs.Commands.{command_bytes, keyboard_bytes, titled_bytes, AsksSize};
+ghost use Rattle.ansi_model.specs.Commands.{command_bytes, keyboard_bytes, titled_bytes, size_question};
 ghost use Rattle.ansi_model.specs.Sends.{IsWithinUpdate};
 ghost use Rattle.ansi_model.specs.Places.{PlacesEach};
 ghost use Rattle.ratatui_ansi.specs.Cells.{is_sendable_on};
@@ -166,7 +166,8 @@ impl Tracker {
         requires { IsTracker self.old }
         ensures ok { OnOk result (Collects self.old (λ s t. t ≡ s) self.new) }
         ensures asks { OnOk result
-            (AsksSize (string_bytes self.old.out) (string_bytes self.new.out)) }
+            (string_bytes self.new.out
+            ≡ string_bytes self.old.out ++ size_question self.old.cursor) }
         ensures err { OnErr result (KeepsTracked self.old self.new) }
     {
         ask_size(&mut self.out, self.cursor.x, self.cursor.y)
@@ -313,7 +314,8 @@ impl Tracker {
         requires { IsTracker self.old }
         ensures ok { OnOk result (Collects self.old (CallDoes call) self.new) }
         ensures bytes { OnOk result
-            (IsCommanded call (string_bytes self.old.out) (string_bytes self.new.out)) }
+            (IsCommanded call self.old.cursor (string_bytes self.old.out)
+            (string_bytes self.new.out)) }
         ensures err { OnErr result (KeepsTracked self.old self.new) }
         ensures why { IfErr result (IsUncollected call self.old) }
     {

@@ -1,34 +1,36 @@
 -- A number that keys change, and how it is painted.
-use Rattle.std.specs.Prelude.{◌≡◌, ℕ, ◌+◌, ◌-◌, ◌==◌, min, true, if◌then◌else◌}
+use Rattle.std.specs.Prelude.{ℕ, ◌+◌, ◌-◌, ◌==◌, min, true, if◌then◌else◌}
 use Rattle.std.specs.Fmt.{decimal}
-use Rattle.ratatui_core.specs.{Layout.Rect, Buffer.BufferData, Widgets.HasFirstRow, Widgets.RendersStr}
+use Rattle.ratatui_core.specs.{Layout.Rect, Buffer.BufferData}
 use Rattle.ratatui_events.specs.declared.event.Event.{Event}
 use Rattle.ratatui_events.specs.declared.event.Event.TheVariants.{Key}
 use Rattle.ratatui_events.specs.declared.key.KeyCode.{KeyCode}
 use Rattle.ratatui_events.specs.declared.key.KeyCode.TheVariants.{Char}
+use Rattle.ratatui_acts.specs.declared.message.Message.{Message}
+use Rattle.ratatui_acts.specs.declared.message.Message.TheVariants as message
 use Rattle.ratatui_app.specs.declared.counter.Counter.{Counter}
-use Rattle.ratatui_app.specs.Showing.{App}
+use Rattle.ratatui_app.specs.Lines.{PaintsFirstLine}
 
 -- + and - change the number, and q ends
-abbrev pub after_character : ℕ → Counter → Counter
-after_character code c =
+abbrev pub counter_by_character : ℕ → Counter → Counter
+counter_by_character code c =
     if code == 43 then record c { count = min (c.count + 1) 255 }
     else (if code == 45 then record c { count = c.count - 1 }
     else (if code == 113 then record c { is_over = true } else c))
 
-abbrev pub after_code : KeyCode → Counter → Counter
-after_code (Char code) c = after_character code c
-after_code _ c = c
+abbrev pub counter_by_code : KeyCode → Counter → Counter
+counter_by_code (Char code) c = counter_by_character code c
+counter_by_code _ c = c
 
-abbrev pub count_after : Counter → Event → Counter
-count_after c (Key key) = after_code key.code c
-count_after c _ = c
+abbrev pub counter_by_event : Event → Counter → Counter
+counter_by_event (Key key) c = counter_by_code key.code c
+counter_by_event _ c = c
 
--- the number in the first row of the area, if the buffer has that row
-pub record PaintsCount (c : Counter) (area : Rect) (old new : BufferData) : Type 0 where
-  pub painted : HasFirstRow area old → RendersStr (decimal c.count) area old new
-  pub kept : (HasFirstRow area old → ⊥) → new ≡ old
+abbrev pub counter_after : {R : Type 0} → Counter → Message R → Counter
+counter_after c (message.Event event) = counter_by_event event c
+counter_after c (message.Tick passed) = c
+counter_after c (message.Answer answer) = c
 
--- the application that counts
-abbrev pub counting : App Counter
-counting = record { updated = count_after; is_over = λ c. c.is_over; paints = PaintsCount }
+-- the number is painted
+abbrev pub PaintsCounter : Counter → Rect → BufferData → BufferData → Type 0
+PaintsCounter c = PaintsFirstLine (decimal c.count)

@@ -1,15 +1,16 @@
--- A run down to the bytes.
-use Rattle.std.specs.Prelude.{◌≡◌, true, false, List, ℕ, Option}
-use Rattle.ratatui_core.specs.Terminal.{TerminalData, ShowsRendered, Starts, Viewport}
-use Rattle.ansi_model.specs.Commands.{AsksSize}
+-- What is on the glass of a terminal that is sent bytes, and how a turn moves it; how it begins and is given
+-- back.
+use Rattle.std.specs.Prelude.{◌≡◌, ◌⊎◌, ℕ, true, false, List, ◌++◌, Option, None}
+use Rattle.ratatui_core.specs.{Layout.Rect, Layout.Position, Buffer.BufferData, Backend.cursor_of}
+use Rattle.ratatui_core.specs.Terminal.{TerminalData, TerminalError, ShowsRendered, HasCursor, Stays}
+use Rattle.ratatui_core.specs.Terminal.{Starts, Viewport}
+use Rattle.ansi_model.specs.Commands.{size_question}
 use Rattle.ratatui_ansi.specs.Backend.{BackendState, LeavesTerminal, BringsBack, shown_by, is_flushed}
 use Rattle.ratatui_ansi.specs.{declared.error.AnsiError.AnsiError, Refusals.StopsSending}
 use Rattle.ratatui_ansi.specs.Headline.{IsShownToAll}
-use Rattle.ratatui_input.specs.declared.decoder.Decoder.{Decoder}
-use Rattle.ratatui_reads.specs.Reads.{Between}
-use Rattle.ratatui_reads.specs.Moments.{Stage, Ran}
-use Rattle.ratatui_reads.specs.Sources.{Coming}
-use Rattle.ratatui_app.specs.Showing.{Device, App, rules_of, RunsTo, ShowsState, Moves, TakesOrKeepsSize}
+use Rattle.ratatui_acts.specs.declared.told.Told.{Told}
+use Rattle.ratatui_app.specs.Showing.{Device, RestsUnfixed}
+use Rattle.ratatui_app.specs.Moving.{MovesAsTold, StopsShowing}
 
 -- a terminal that is sent bytes
 abbrev pub sender : {W : Type 0} → Device (BackendState W) AnsiError
@@ -20,41 +21,46 @@ sender = record {
   stops_at = StopsSending;
 }
 
-module _ {W S : Type 0} (app : App S) where
-  -- a run on such a terminal
-  abbrev pub RunsOnGlass : TerminalData (BackendState W) → Between S → Coming → Between S → Coming
-      → TerminalData (BackendState W) → Type 0
-  RunsOnGlass = RunsTo sender app
+-- no cursor
+abbrev pub no_cursor : Rect → Option Position
+no_cursor _ = None
 
-  -- a buffer that is what painting the state makes of an empty one is shown by each terminal of the backend's
-  -- size that has read what was sent, however it was left before, and all of it was flushed
-  pub record IsOnGlass (s : S) (t : TerminalData (BackendState W)) : Type 0 where
-    pub painted : ShowsRendered shown_by (app.paints s) t
+module _ {W : Type 0} where
+  -- a frame can be drawn, and no call has failed
+  pub record CanShow (t : TerminalData (BackendState W)) : Type 0 where
+    pub rest : RestsUnfixed shown_by t
+    pub unfailed : t.backend.failures ≡ 0
+
+  -- a buffer that is what painting makes of an empty one is shown by each terminal of the backend's size that
+  -- has read what was sent, however it was left before; the cursor stands where it is wanted, or is hidden;
+  -- and all was flushed
+  pub record StandsOnGlass (paints : Rect → BufferData → BufferData → Type 0) (cursor : Rect → Option Position)
+      (t : TerminalData (BackendState W)) : Type 0 where
+    pub ready : CanShow t
+    pub painted : ShowsRendered shown_by paints t
+    pub placed : HasCursor (cursor t.viewport_area) (shown_by t.backend)
     pub shown : IsShownToAll t.previous t.backend
     pub flushed : is_flushed t.backend ≡ true
 
-  -- a state is shown by the screen, and by each such terminal
-  pub record ShowsOnGlass (s : S) (t : TerminalData (BackendState W)) : Type 0 where
-    pub state : ShowsState sender app s t
-    pub glass : IsOnGlass s t
+  -- a turn moved the terminal, and after it this may have been asked for its size
+  pub record MovesAndAsks (told : Told) (s t : TerminalData (BackendState W)) : Type 0 where
+    pub shown : TerminalData (BackendState W)
+    pub moved : MovesAsTold sender told s shown
+    pub asked : Stays shown_by shown t
+    pub faults : t.backend.failures ≡ shown.backend.failures
 
-  abbrev pub glass_stage : Stage S (TerminalData (BackendState W))
-  glass_stage = record {
-    shows = ShowsOnGlass;
-    moves = Moves sender;
-    takes_size = TakesOrKeepsSize sender;
-  }
-
-  -- a run that is shown so at each of its moments
-  abbrev pub RunsAlongGlass : TerminalData (BackendState W) → Between S → Coming → Between S → Coming
-      → TerminalData (BackendState W) → Type 0
-  RunsAlongGlass = Ran (rules_of app) glass_stage
+  -- where showing a state stops: at its frame; or, after it, at the question for the size
+  abbrev pub StopsOnGlass : (Rect → BufferData → BufferData → Type 0) → (Rect → Option Position)
+      → Told → TerminalData (BackendState W) → TerminalData (BackendState W) → TerminalError AnsiError → Type 0
+  StopsOnGlass paints cursor told s t error = StopsShowing sender paints cursor s t error
+      ⊎ ((shown : TerminalData (BackendState W)) × MovesAsTold sender told s shown
+      × (t ≡ record shown { backend = t.backend }))
 
 -- a terminal was asked for its size, and begun on the backend's screen
 pub record Begins {W : Type 0} (viewport : Viewport) (backend : BackendState W)
     (t : TerminalData (BackendState W)) : Type 0 where
   pub asked : BackendState W
-  pub asks : AsksSize backend.sent asked.sent
+  pub asks : asked.sent ≡ backend.sent ++ size_question (cursor_of (shown_by backend))
   pub shown : shown_by asked ≡ shown_by backend
   pub starts : Starts shown_by viewport asked t
   pub faults : t.backend.failures ≡ backend.failures
@@ -64,14 +70,3 @@ pub record Begins {W : Type 0} (viewport : Viewport) (backend : BackendState W)
 pub record IsGivenBack {W : Type 0} (b : BackendState W) (contents : Option (List ℕ)) : Type 0 where
   pub left : b.is_on_alternate ≡ false → LeavesTerminal b contents
   pub back : b.is_on_alternate ≡ true → BringsBack b contents
-
--- a run from beginning to end: the terminal was begun on a backend's screen, showed the state at each moment,
--- and was given back after the last one
-pub record RunsWhole {W S : Type 0} (app : App S) (viewport : Viewport) (backend : BackendState W)
-    (first : Between S) (all : Coming) (state : S) (rest : Coming) (contents : Option (List ℕ)) : Type 0 where
-  pub begun : TerminalData (BackendState W)
-  pub begins : Begins viewport backend begun
-  pub ended : TerminalData (BackendState W)
-  pub decoder : Decoder
-  pub ran : RunsAlongGlass app begun first all (record { decoder = decoder; state = state }) rest ended
-  pub given_back : IsGivenBack ended.backend contents

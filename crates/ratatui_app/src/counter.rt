@@ -1,16 +1,15 @@
 //! A number, two keys and quit.
 
-ghost use Rattle.std.specs.Prelude.{◌≡◌};
-ghost use Rattle.ratatui_app.specs.Counting.{count_after, after_character};
+ghost use Rattle.std.specs.Prelude.{◌≡◌, false, None, OnOk, OnErr, IfOk};
+ghost use Rattle.ratatui_app.specs.Counting.{counter_after, counter_by_event, counter_by_character};
 
 use crate::application::Application;
+use crate::line::paint_line;
 use itoa::Buffer as Digits;
+use ratatui_acts::{Acts, Message, Never};
 use ratatui_core::buffer::Buffer;
-use ratatui_core::layout::Rect;
-use ratatui_core::widgets::Widget;
-use ratatui_core::widgets::laws::ascii_texts_take_no_memory;
+use ratatui_core::layout::{Position, Rect};
 use ratatui_events::{Event, KeyCode};
-use ratatui_reads::Updates;
 use std::alloc::AllocError;
 
 /// A number that `+` and `-` change, until `q`.
@@ -22,10 +21,10 @@ pub struct Counter {
     pub is_over: bool,
 }
 
-// What a character makes of a number.
 impl Counter {
+    // What a character makes of a number.
     fn take(&mut self, code: char)
-        ensures { self.new ≡ after_character code self.old }
+        ensures { self.new ≡ counter_by_character code self.old }
     {
         match code {
             '+' => self.count = self.count.saturating_add(1),
@@ -34,14 +33,11 @@ impl Counter {
             _ => {}
         }
     }
-}
 
-impl Updates for Counter {
-    ghost updated = { count_after };
-
-    ghost is_over = { λ c. c.is_over };
-
-    fn update(&mut self, event: Event) -> Result<(), AllocError> {
+    // What an event makes of it.
+    fn hear(&mut self, event: Event)
+        ensures { self.new ≡ counter_by_event event self.old }
+    {
         match event {
             Event::Key(key) => match key.code {
                 KeyCode::Char(code) => self.take(code),
@@ -49,7 +45,35 @@ impl Updates for Counter {
             },
             _ => {}
         }
-        Ok(())
+    }
+}
+
+impl Acts for Counter {
+    type Command = Never;
+
+    type Answer = Never;
+
+    ghost updated = { counter_after };
+
+    ghost asked = { λ _. None };
+
+    ghost is_over = { λ c. c.is_over };
+
+    fn update(&mut self, message: Message<Never>) -> Result<bool, AllocError>
+        ensures ok { OnOk result (self.new ≡ counter_after self.old message) }
+        ensures same { IfOk result (λ changed. changed ≡ false → self.new ≡ self.old) }
+        ensures refused { OnErr result (self.new ≡ self.old) }
+    {
+        let before = *self;
+        match message {
+            Message::Event(event) => self.hear(event),
+            Message::Tick(_) | Message::Answer(_) => {}
+        }
+        Ok(*self != before)
+    }
+
+    fn asked(&self) -> Option<&Never> {
+        None
     }
 
     fn is_over(&self) -> bool {
@@ -58,20 +82,23 @@ impl Updates for Counter {
 }
 
 impl Application for Counter {
-    ghost use Rattle.ratatui_app.specs.Counting.{PaintsCount};
-    ghost use Rattle.ratatui_app.specs.CountLemmas.{paints-settled};
+    ghost use Rattle.ratatui_app.specs.Counting.{PaintsCounter};
+    ghost use Rattle.ratatui_app.specs.Glass.{no_cursor};
+    ghost use Rattle.std.specs.Fmt.{decimal};
+    ghost use Rattle.ratatui_app.specs.LineLemmas.{line-settled};
 
-    ghost paints = { PaintsCount };
+    ghost paints = { PaintsCounter };
+
+    ghost cursor = { λ _. no_cursor };
 
     fn paint(&self, area: Rect, buf: &mut Buffer) -> Result<(), AllocError> {
-        ascii_texts_take_no_memory();
-        let own = *buf.area();
-        if area.x < own.x || area.y < own.y || own.bottom() <= area.y {
-            return Ok(());
-        }
         let mut digits = Digits::new();
-        digits.format(self.count).render(area, buf)
+        paint_line(digits.format(self.count), area, buf)
     }
 
-    ghost is_settled = { paints-settled };
+    fn cursor(&self, _area: Rect) -> Option<Position> {
+        None
+    }
+
+    ghost is_settled = { λ c. line-settled (decimal c.count) };
 }

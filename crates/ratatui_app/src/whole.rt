@@ -1,151 +1,161 @@
 //! Runs from beginning to end.
 
-ghost use Rattle.std.specs.Prelude.{◌≡◌, ◌<◌, false, OnOk, IfOk};
-ghost use Rattle.ratatui_core.specs.Terminal.{Fullscreen, Inline, FitsEdges, FitsSize, IsBlank, IsFixed};
+ghost use Rattle.std.specs.Prelude.{◌≡◌, ◌<◌, OnOk, IfOk, IfErr};
+ghost use Rattle.ratatui_core.specs.Terminal.{Fullscreen, Inline, FitsEdges, FitsSize, IsBlank};
+ghost use Rattle.ratatui_core.specs.Terminal.{IsFixed};
 ghost use Rattle.ratatui_core.specs.Backend.{size_of};
 ghost use Rattle.ratatui_ansi.specs.Backend.{shown_by};
-ghost use Rattle.ratatui_input.specs.Encodings.{fresh_decoder};
-ghost use Rattle.ratatui_reads.specs.Moments.{HasEnded};
-ghost use Rattle.ratatui_app.specs.Showing.{IsEnd};
-ghost use Rattle.ratatui_app.specs.Glass.{Begins, IsGivenBack, RunsWhole};
+ghost use Rattle.ratatui_acts.specs.Seats.{seated};
+ghost use Rattle.ratatui_app.specs.Glass.{IsGivenBack};
+ghost use Rattle.ratatui_app.specs.Runs.{on_glass, RunsThrough, StopsThrough};
 
 use crate::application::Application;
-use crate::moments::run_on_glass;
-use crate::running::AppError;
+use crate::on_glass::OnGlass;
+use ratatui_acts::{Fault, Hears, Outside, Seat, run};
 use ratatui_ansi::{AnsiBackend, AnsiError};
-use ratatui_core::terminal::laws::calls_leave_a_terminal_at_rest;
-use ratatui_core::terminal::{Terminal, TerminalError, TerminalOptions, Viewport};
-use ratatui_reads::Source;
+use ratatui_core::terminal::{Terminal, TerminalError, Viewport};
 use std::alloc::Global;
 use std::io::Write;
 
-impl From<AnsiError> for AppError<AnsiError> {
-    fn from(error: AnsiError) -> Self {
-        AppError::Draw(TerminalError::Backend(error))
-    }
-}
-
-// Begins a terminal that is asked for its size, over a viewport. A backend that can't be asked is
-// dropped, which gives the terminal back.
-fn begin<W: Write + Drop>(
-    alloc: Global,
-    viewport: Viewport,
-    mut backend: AnsiBackend<W>,
-) -> Result<Terminal<AnsiBackend<W>>, AppError<AnsiError>>
-    requires { FitsEdges viewport }
-    ensures begins { IfOk result (Begins viewport backend) }
-{
-    backend.ask_size()?;
-    let terminal = Terminal::with_options(alloc, backend, TerminalOptions { viewport })?;
-    Ok(terminal)
+/// What a run left: the writer, which has sent all on, and how it ended.
+#[derive(Drop)]
+pub struct Left<W> {
+    /// The writer.
+    pub writer: W,
+    /// `Ok` if the application is over, or nothing more came; else what stopped it.
+    pub ended: Result<(), Fault<TerminalError<AnsiError>>>,
 }
 
 // Gives a terminal back.
-fn leave<W: Write + Drop>(terminal: Terminal<AnsiBackend<W>>) -> Result<W, AppError<AnsiError>>
+fn leave<W: Write + Drop>(terminal: Terminal<AnsiBackend<W>>) -> Result<W, AnsiError>
     ensures { terminal.backend.failures ≡ 0
         → IfOk result (λ writer. IsGivenBack terminal.backend (W.contents writer)) }
 {
     let _unbroken = terminal.backend().writer();
-    let writer = terminal.into_backend().leave()?;
-    Ok(writer)
+    terminal.into_backend().leave()
 }
 
 // Runs an application over a viewport, from beginning to end.
-fn run_over<S: Source, W: Write + Drop, A: Application>(
+fn run_over<W: Write + Drop, A: Application, H: Hears<A, OnGlass<W>>, O: Outside<A, OnGlass<W>>>(
     alloc: Global,
     viewport: Viewport,
-    source: &mut S,
+    ears: &mut H,
+    outside: &mut O,
     has_ticks: bool,
     backend: AnsiBackend<W>,
-    application: &mut A,
-) -> Result<W, AppError<AnsiError>>
-    requires { FitsEdges viewport }
-    ensures runs { (IsFixed viewport → ⊥) → FitsSize viewport (size_of (shown_by backend))
-        → IsBlank (shown_by backend) → backend.failures ≡ 0
-        → IfOk result (λ writer. RunsWhole A.Application viewport backend
-        (record { decoder = fresh_decoder; state = application.old }) (S.coming source.old)
-        application.new (S.coming source.new) (W.contents writer)) }
-    ensures typed { (IsFixed viewport → ⊥) → FitsSize viewport (size_of (shown_by backend))
-        → IsBlank (shown_by backend) → has_ticks ≡ false
-        → OnOk result (HasEnded A.Updates
-        (record { decoder = fresh_decoder; state = application.old }) (S.coming source.old)
-        application.new (S.coming source.new)) }
-    ensures ended { OnOk result
-        (IsEnd A.is_over has_ticks application.new (S.coming source.new)) }
+    seat: &mut Seat<A>,
+) -> Result<Left<W>, TerminalError<AnsiError>>
+    requires edges { FitsEdges viewport }
+    requires free { IsFixed viewport → ⊥ }
+    requires fits { FitsSize viewport (size_of (shown_by backend)) }
+    requires blank { IsBlank (shown_by backend) }
+    requires unfailed { backend.failures ≡ 0 }
+    ensures runs { IfOk result (λ left. OnOk left.ended (RunsThrough
+        (on_glass A.Acts A.paints A.cursor H.gives H.fails O.answers) viewport backend has_ticks
+        (seated seat.old) ears.old outside.old (seated seat.new) ears.new outside.new
+        (W.contents left.writer))) }
+    ensures stops { IfOk result (λ left. IfErr left.ended (λ fault. StopsThrough
+        (on_glass A.Acts A.paints A.cursor H.gives H.fails O.answers) viewport backend fault
+        (seated seat.old) ears.old outside.old (seated seat.new) ears.new outside.new
+        (W.contents left.writer))) }
 {
-    let mut terminal = begin(alloc, viewport, backend)?;
-    calls_leave_a_terminal_at_rest::<AnsiBackend<W>>();
-    let ran = run_on_glass(source, has_ticks, &mut terminal, application);
-    let left = leave(terminal);
-    ran?;
-    left
+    let mut glass = OnGlass::begin(alloc, viewport, backend)?;
+    let ended = run(ears, outside, has_ticks, &mut glass, seat);
+    match leave(glass.into_terminal()) {
+        Ok(writer) => Ok(Left { writer, ended }),
+        Err(error) => Err(TerminalError::Backend(error)),
+    }
 }
 
 /// Runs an application on a terminal that is sent bytes, from beginning to end: asks the terminal
-/// for its size, runs as [`run_on_glass`] does, and gives the terminal back, also after a fault.
-/// Answers the writer, which has sent all on. The terminal's answer is read as any other event.
+/// for its size, runs as [`run`] does, and gives the terminal back, also after a fault. The
+/// terminal's answers are read as any other event.
+///
+/// # Conditions
+///
+/// The backend's screen is blank, and no call of it has failed, as it is when it was just made.
 ///
 /// # Errors
 ///
-/// Those of [`step`](crate::step); `Draw` also if the terminal can't be asked, begun or given back.
-pub fn run_and_leave<S: Source, W: Write + Drop, A: Application>(
+/// If the terminal can't be asked, begun or given back. What stopped the run is told beside the
+/// writer.
+pub fn run_and_leave<
+    W: Write + Drop,
+    A: Application,
+    H: Hears<A, OnGlass<W>>,
+    O: Outside<A, OnGlass<W>>,
+>(
     alloc: Global,
-    source: &mut S,
+    ears: &mut H,
+    outside: &mut O,
     has_ticks: bool,
     backend: AnsiBackend<W>,
-    application: &mut A,
-) -> Result<W, AppError<AnsiError>>
-    ensures runs { IsBlank (shown_by backend) → backend.failures ≡ 0
-        → IfOk result (λ writer. RunsWhole A.Application Fullscreen backend
-        (record { decoder = fresh_decoder; state = application.old }) (S.coming source.old)
-        application.new (S.coming source.new) (W.contents writer)) }
-    ensures typed { IsBlank (shown_by backend) → has_ticks ≡ false
-        → OnOk result (HasEnded A.Updates
-        (record { decoder = fresh_decoder; state = application.old }) (S.coming source.old)
-        application.new (S.coming source.new)) }
-    ensures ended { OnOk result
-        (IsEnd A.is_over has_ticks application.new (S.coming source.new)) }
+    seat: &mut Seat<A>,
+) -> Result<Left<W>, TerminalError<AnsiError>>
+    requires blank { IsBlank (shown_by backend) }
+    requires unfailed { backend.failures ≡ 0 }
+    ensures runs { IfOk result (λ left. OnOk left.ended (RunsThrough
+        (on_glass A.Acts A.paints A.cursor H.gives H.fails O.answers) Fullscreen backend has_ticks
+        (seated seat.old) ears.old outside.old (seated seat.new) ears.new outside.new
+        (W.contents left.writer))) }
+    ensures stops { IfOk result (λ left. IfErr left.ended (λ fault. StopsThrough
+        (on_glass A.Acts A.paints A.cursor H.gives H.fails O.answers) Fullscreen backend fault
+        (seated seat.old) ears.old outside.old (seated seat.new) ears.new outside.new
+        (W.contents left.writer))) }
 {
     run_over(
         alloc,
         Viewport::Fullscreen,
-        source,
+        ears,
+        outside,
         has_ticks,
         backend,
-        application,
+        seat,
     )
 }
 
 /// Runs an application as [`run_and_leave`] does, on so many rows at the cursor.
 ///
+/// # Conditions
+///
+/// Those of [`run_and_leave`], and there is a row at least.
+///
 /// # Errors
 ///
 /// Those of [`run_and_leave`].
-pub fn run_inline_and_leave<S: Source, W: Write + Drop, A: Application>(
+pub fn run_inline_and_leave<
+    W: Write + Drop,
+    A: Application,
+    H: Hears<A, OnGlass<W>>,
+    O: Outside<A, OnGlass<W>>,
+>(
     alloc: Global,
     rows: u16,
-    source: &mut S,
+    ears: &mut H,
+    outside: &mut O,
     has_ticks: bool,
     backend: AnsiBackend<W>,
-    application: &mut A,
-) -> Result<W, AppError<AnsiError>>
-    ensures runs { 0 < rows → IsBlank (shown_by backend) → backend.failures ≡ 0
-        → IfOk result (λ writer. RunsWhole A.Application (Inline rows) backend
-        (record { decoder = fresh_decoder; state = application.old }) (S.coming source.old)
-        application.new (S.coming source.new) (W.contents writer)) }
-    ensures typed { 0 < rows → IsBlank (shown_by backend) → has_ticks ≡ false
-        → OnOk result (HasEnded A.Updates
-        (record { decoder = fresh_decoder; state = application.old }) (S.coming source.old)
-        application.new (S.coming source.new)) }
-    ensures ended { OnOk result
-        (IsEnd A.is_over has_ticks application.new (S.coming source.new)) }
+    seat: &mut Seat<A>,
+) -> Result<Left<W>, TerminalError<AnsiError>>
+    requires rows { 0 < rows }
+    requires blank { IsBlank (shown_by backend) }
+    requires unfailed { backend.failures ≡ 0 }
+    ensures runs { IfOk result (λ left. OnOk left.ended (RunsThrough
+        (on_glass A.Acts A.paints A.cursor H.gives H.fails O.answers) (Inline rows) backend
+        has_ticks (seated seat.old) ears.old outside.old (seated seat.new) ears.new
+        outside.new (W.contents left.writer))) }
+    ensures stops { IfOk result (λ left. IfErr left.ended (λ fault. StopsThrough
+        (on_glass A.Acts A.paints A.cursor H.gives H.fails O.answers) (Inline rows) backend fault
+        (seated seat.old) ears.old outside.old (seated seat.new) ears.new outside.new
+        (W.contents left.writer))) }
 {
     run_over(
         alloc,
         Viewport::Inline(rows),
-        source,
+        ears,
+        outside,
         has_ticks,
         backend,
-        application,
+        seat,
     )
 }

@@ -21,10 +21,6 @@ pub told-some : (d : Decoder) (bytes : List ℕ) → IsNonEmpty bytes → told_b
 told-some d [] h = absurd h
 told-some d (b ∷ bs) h = refl
 
-pub nonempty : (bytes : List ℕ) → 0 < length bytes → IsNonEmpty bytes
-nonempty [] lt = absurd (omega arith)
-nonempty (b ∷ bs) lt = tt
-
 size-append : (z : Option (ℕ × ℕ)) (a b : List Event) → last_size z (a ++ b) ≡ last_size (last_size z a) b
 size-append z [] b = refl
 size-append z (e ∷ a) b = size-append (later (size_in e) z) a b

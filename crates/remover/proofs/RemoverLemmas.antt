@@ -4,7 +4,7 @@ use Rattle.std.proofs.Common.{rules, ◌≡◌, ℕ, Bool, List, [], ◌∷◌, 
 use Rattle.std.specs.Prelude.{unwrap_or}
 use Rattle.ratatui_acts.specs.Turns.{Turn, Came, Done}
 use Rattle.ratatui_acts.specs.Runs.{Now, Past, Ground, IsTurn, HasRun}
-use Rattle.acts_app.specs.declared.on_glass.OnGlass.{OnGlass}
+use Rattle.ratatui_app.specs.declared.on_glass.OnGlass.{OnGlass}
 use Rattle.remover.specs.Laws.{on_terminal, NamesWhatIsRemoved, AreNamed}
 use Rattle.ratatui_core.specs.Terminal.{TerminalData, TerminalError}
 use Rattle.ratatui_ansi.specs.{declared.error.AnsiError.AnsiError}
@@ -12,9 +12,9 @@ use Rattle.ratatui_ansi.specs.Backend.{BackendState}
 use Rattle.remover.specs.declared.remover.Phase.{Phase}
 use Rattle.remover.specs.declared.remover.Phase.TheVariants.{Looking, Asking, Removing, Over}
 use Rattle.remover.specs.declared.remover.Remover.{Remover}
-use Rattle.acts_app.specs.Lines.{PaintsFirstLine}
+use Rattle.ratatui_app.specs.Lines.{PaintsFirstLine}
 use Rattle.remover.specs.Removing.{asked_in, asked_by, shown_in, line_shown, question, selected_name}
-use Rattle.acts_app.specs.Glass.{StandsOnGlass, no_cursor}
+use Rattle.ratatui_app.specs.Glass.{StandsOnGlass, no_cursor}
 
 none-some : (name : List ℕ) → None ≡ Some name → ⊥
 none-some name e = search rules

@@ -8,12 +8,12 @@ use Rattle.ratatui_acts.specs.Turns.{Turn, Came, Done, ActingRules, Standing}
 use Rattle.ratatui_acts.specs.Runs.{Past, Ground, RunsToEnd}
 use Rattle.ratatui_core.specs.Terminal.{TerminalError}
 use Rattle.ratatui_ansi.specs.{declared.error.AnsiError.AnsiError}
-use Rattle.acts_app.specs.Runs.{on_glass}
+use Rattle.ratatui_app.specs.Runs.{on_glass}
 use Rattle.remover.specs.declared.folder.Folder.{Folder}
 use Rattle.remover.specs.declared.remover.Remover.{Remover}
-use Rattle.acts_app.specs.declared.on_glass.OnGlass.{OnGlass}
-use Rattle.acts_app.specs.Glass.{StandsOnGlass, no_cursor}
-use Rattle.acts_app.specs.Lines.{PaintsFirstLine}
+use Rattle.ratatui_app.specs.declared.on_glass.OnGlass.{OnGlass}
+use Rattle.ratatui_app.specs.Glass.{StandsOnGlass, no_cursor}
+use Rattle.ratatui_app.specs.Lines.{PaintsFirstLine}
 use Rattle.remover.specs.Removing.{question, line_shown, after_message, asked_by, ends_in}
 
 -- the names that can be removed, as a state that acts

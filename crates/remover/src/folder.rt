@@ -1,14 +1,14 @@
 //! A folder whose answers are known.
 
 ghost use Rattle.std.specs.Prelude.{◌≡◌, ◌∷◌, IfOk};
-ghost use Rattle.acts_app.specs.Glass.{StandsOnGlass, no_cursor};
-ghost use Rattle.acts_app.specs.Lines.{PaintsFirstLine};
+ghost use Rattle.ratatui_app.specs.Glass.{StandsOnGlass, no_cursor};
+ghost use Rattle.ratatui_app.specs.Lines.{PaintsFirstLine};
 ghost use Rattle.remover.specs.Removing.{question};
 
 use crate::name::Name;
 use crate::remover::Remover;
-use acts_app::OnGlass;
 use ratatui_acts::Outside;
+use ratatui_app::OnGlass;
 use std::io::{self, ErrorKind, Write};
 
 /// A folder of which it is known which files can be removed, one after the other; after that it is

@@ -3,12 +3,12 @@
 ghost use Rattle.std.specs.Prelude.{List, ℕ, Bool};
 ghost use Rattle.ratatui_acts.specs.Runs.{Now, Past, HasRun};
 ghost use Rattle.remover.specs.declared.remover.Remover.{Remover};
-ghost use Rattle.acts_app.specs.declared.on_glass.OnGlass.{OnGlass};
+ghost use Rattle.ratatui_app.specs.declared.on_glass.OnGlass.{OnGlass};
 ghost use Rattle.remover.specs.Laws.{on_terminal, AreNamed};
 
 use crate::remover::Remover;
-use acts_app::OnGlass;
 use ratatui_acts::{Hears, Outside};
+use ratatui_app::OnGlass;
 use std::io::Write;
 
 /// Each name that a run removed was removed while each terminal that had read what was sent until

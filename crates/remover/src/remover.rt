@@ -8,8 +8,8 @@ ghost use Rattle.remover.specs.Removing.{asked_by, ends_in, line_shown, shown_in
 ghost use Rattle.remover.specs.Removing.{selected_name};
 
 use crate::name::{Name, Names};
-use acts_app::{Application, paint_line};
 use ratatui_acts::{Acts, Message};
+use ratatui_app::{Application, paint_line};
 use ratatui_core::buffer::Buffer;
 use ratatui_core::layout::{Position, Rect};
 use ratatui_events::{Event, KeyCode};
@@ -181,9 +181,9 @@ impl Acts for Remover {
 
 impl Application for Remover {
     ghost use Rattle.remover.specs.Removing.{line_shown};
-    ghost use Rattle.acts_app.specs.Lines.{PaintsFirstLine};
-    ghost use Rattle.acts_app.specs.LineLemmas.{line-settled};
-    ghost use Rattle.acts_app.specs.Glass.{no_cursor};
+    ghost use Rattle.ratatui_app.specs.Lines.{PaintsFirstLine};
+    ghost use Rattle.ratatui_app.specs.LineLemmas.{line-settled};
+    ghost use Rattle.ratatui_app.specs.Glass.{no_cursor};
 
     ghost paints = { λ s. PaintsFirstLine (line_shown s) };
 

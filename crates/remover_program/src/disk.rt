@@ -1,11 +1,11 @@
 //! A folder of files.
 
-ghost use Rattle.acts_app.specs.Glass.{StandsOnGlass, no_cursor};
-ghost use Rattle.acts_app.specs.Lines.{PaintsFirstLine};
+ghost use Rattle.ratatui_app.specs.Glass.{StandsOnGlass, no_cursor};
+ghost use Rattle.ratatui_app.specs.Lines.{PaintsFirstLine};
 ghost use Rattle.remover.specs.Removing.{question};
 
-use acts_app::OnGlass;
 use ratatui_acts::Outside;
+use ratatui_app::OnGlass;
 use ratatui_files::{Answer, Command, Path, Performs};
 use remover::{Name, Remover};
 use std::alloc::Global;

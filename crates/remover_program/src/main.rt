@@ -9,10 +9,10 @@
 mod disk;
 
 use crate::disk::Disk;
-use acts_app::run_and_leave;
 use programs::{Stream, VERSION, is_terminal};
 use ratatui_acts::Seat;
 use ratatui_ansi::{AnsiBackend, size_told};
+use ratatui_app::run_and_leave;
 use ratatui_files::{Answer, Command, Info, Kind, OnDisk, Path, Performs};
 use remover::{Name, Names, Remover};
 use std::alloc::Global;

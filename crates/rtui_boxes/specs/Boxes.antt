@@ -89,6 +89,11 @@ inner_of b r =
       height = r.height - t - one_if (has_row b bottom Bottom) - min (b.padding.top + b.padding.bottom) 65535;
     }
 
+-- how many columns the box takes left and right of what is inside
+abbrev pub columns_around : Block → ℕ
+columns_around b = one_if (has_side b left) + one_if (has_side b right)
+    + min (b.padding.left + b.padding.right) 65535
+
 -- how many rows the box takes above and below what is inside
 abbrev pub rows_around : Block → ℕ
 rows_around b = one_if (has_row b top Top) + one_if (has_row b bottom Bottom) + min

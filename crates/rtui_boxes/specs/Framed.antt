@@ -4,13 +4,18 @@ use Rattle.ratatui_core.specs.{Layout.Rect, Layout.IsInside, Layout.intersected,
 use Rattle.ratatui_core.specs.{Buffer.BufferData, Buffer.IsStyled}
 use Rattle.ratatui_core.specs.{Widgets.ChangesWithin, Widgets.IsClipped, Widgets.OnPart}
 use Rattle.rtui_boxes.specs.declared.block.Block.{Block}
-use Rattle.rtui_boxes.specs.Boxes.{inner_of, rows_around, RendersBlock, IsBoxArea, HasShortSymbols}
+use Rattle.rtui_boxes.specs.Boxes.{inner_of, columns_around, rows_around, RendersBlock, IsBoxArea, HasShortSymbols}
 use Rattle.rtui_boxes.specs.Boxes.{AreShortCells, AreShortAnywhere}
 
 -- what is inside the box, if there is one
 abbrev pub inner_if : Option Block → Rect → Rect
 inner_if None r = r
 inner_if (Some b) r = inner_of b r
+
+-- how many columns the box takes left and right of what is inside, if there is one
+abbrev pub columns_around_if : Option Block → ℕ
+columns_around_if None = 0
+columns_around_if (Some b) = columns_around b
 
 -- how many rows the box takes above and below what is inside, if there is one
 abbrev pub rows_around_if : Option Block → ℕ

@@ -6,7 +6,7 @@ ghost use Rattle.ratatui_core.specs.Symbols.{border_texts};
 ghost use Rattle.ratatui_core.specs.Text.{raw_line};
 ghost use Rattle.rtui_boxes.specs.Kinds.{border_of_kind};
 ghost use Rattle.rtui_boxes.specs.Boxes.{AddsTitle, IsNewBlock, has_side, has_row, has_title, is_in_row};
-ghost use Rattle.rtui_boxes.specs.Boxes.{inner_of, rows_around};
+ghost use Rattle.rtui_boxes.specs.Boxes.{inner_of, columns_around, rows_around};
 
 use crate::border_type::BorderType;
 use crate::borders::Borders;
@@ -229,6 +229,16 @@ impl<'a> Block<'a> {
             width: inside(area.width, left, right, columns),
             height: inside(area.height, top, bottom, rows),
         }
+    }
+
+    /// Returns how many columns the box takes left and right of what is inside.
+    pub fn columns_around(&self) -> usize
+        ensures { result ≡ columns_around self.now }
+    {
+        let left = usize::from(self.has_side(Borders::LEFT));
+        let right = usize::from(self.has_side(Borders::RIGHT));
+        let padding = self.padding.left.saturating_add(self.padding.right);
+        left + right + usize::from(padding)
     }
 
     /// Returns how many rows the box takes above and below what is inside.

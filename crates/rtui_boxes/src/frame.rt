@@ -2,7 +2,8 @@
 
 ghost use Rattle.std.specs.Prelude.{◌≡◌, MatchOption, IsOk, IfOk, OnOk};
 ghost use Rattle.ratatui_core.specs.Widgets.{ChangesWithin};
-ghost use Rattle.rtui_boxes.specs.Framed.{inner_if, RendersIfBox, FramesAlone, FramesInside, IsShortFrame};
+ghost use Rattle.rtui_boxes.specs.Framed.{inner_if, columns_around_if, rows_around_if, RendersIfBox};
+ghost use Rattle.rtui_boxes.specs.Framed.{FramesAlone, FramesInside, IsShortFrame};
 
 use crate::block::Block;
 use ratatui_core::buffer::Buffer;
@@ -18,6 +19,27 @@ pub fn inner_if(block: &Option<Block<'_>>, part: Rect) -> Rect
     match block {
         Some(block) => block.inner(part),
         None => part,
+    }
+}
+
+/// Returns how many columns the box takes left and right of what is inside; none if there is no
+/// box.
+pub fn columns_around_if(block: &Option<Block<'_>>) -> usize
+    ensures { result ≡ columns_around_if block.now }
+{
+    match block {
+        Some(block) => block.columns_around(),
+        None => 0,
+    }
+}
+
+/// Returns how many rows the box takes above and below what is inside; none if there is no box.
+pub fn rows_around_if(block: &Option<Block<'_>>) -> usize
+    ensures { result ≡ rows_around_if block.now }
+{
+    match block {
+        Some(block) => block.rows_around(),
+        None => 0,
     }
 }
 

@@ -23,6 +23,6 @@ pub use border_type::BorderType;
 pub use borders::Borders;
 pub use clear::Clear;
 pub use clone::{cloned_block, cloned_line};
-pub use frame::{inner_if, render_frame};
+pub use frame::{columns_around_if, inner_if, render_frame, rows_around_if};
 pub use padding::Padding;
 pub use title::TitlePosition;

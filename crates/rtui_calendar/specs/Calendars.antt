@@ -6,8 +6,7 @@ use Rattle.jiff_core.specs.declared.civil.date.Date.{Date}
 use Rattle.ratatui_core.specs.Layout.{Rect, Position}
 use Rattle.ratatui_core.specs.Style.{Style, new_style, patch}
 use Rattle.ratatui_core.specs.Buffer.{BufferData, Cell, styled, with_symbol}
-use Rattle.rtui_boxes.specs.{declared.block.Block.Block, Boxes.one_if}
-use Rattle.rtui_boxes.specs.Framed.{inner_if, rows_around_if}
+use Rattle.rtui_boxes.specs.{Boxes.one_if, Framed.columns_around_if, Framed.rows_around_if}
 use Rattle.rtui_drawing.specs.Cuts.{cut_from}
 use Rattle.rtui_drawing.specs.declared.cut.Cut.TheVariants.{First, Middle, Rows}
 use Rattle.rtui_drawing.specs.Drawings.{Drawing, nothing, over, ◌before◌, put_style, put_change}
@@ -100,10 +99,6 @@ module _ (own : ℤ → Style) (days : Style) (beside : Option Style) (d : Date)
   abbrev pub weeks : Rect → Drawing
   weeks r = over (First 21) (put_change (week_cell (cut_from (First 21) r)) (λ _ _. ⊤))
 
--- how many columns a box takes of the widest area, left and right of what is inside
-abbrev pub columns_of_box : Option Block → ℕ
-columns_of_box block = 65535 - (inner_if block (record { x = 0; y = 0; width = 65535; height = 1 })).width
-
 -- the month if it is shown, and the weekdays
 abbrev pub heading_if : Option Style → Date → Rect → Drawing
 heading_if None d row = nothing
@@ -133,7 +128,7 @@ module _ {E : Type 0} where
 
   -- how many columns and rows it takes with its box, as far as an area may have them
   abbrev pub columns_of_month : Monthly E → ℕ
-  columns_of_month m = min (21 + columns_of_box m.block) 65535
+  columns_of_month m = min (21 + columns_around_if m.block) 65535
 
   abbrev pub rows_of_month : Monthly E → ℕ
   rows_of_month m = min (weeks_of m.display_date + rows_above_weeks m + rows_around_if m.block) 65535

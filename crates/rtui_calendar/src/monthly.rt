@@ -2,9 +2,8 @@
 
 ghost use Rattle.std.specs.Prelude.{◌≡◌, Some, None};
 ghost use Rattle.ratatui_core.specs.Style.{new_style};
-ghost use Rattle.rtui_boxes.specs.Framed.{rows_around_if};
 ghost use Rattle.rtui_drawing.specs.Drawings.{IsDone};
-ghost use Rattle.rtui_calendar.specs.Calendars.{columns_of_box, columns_of_month, rows_of_month, weeks};
+ghost use Rattle.rtui_calendar.specs.Calendars.{columns_of_month, rows_of_month, weeks};
 ghost use Rattle.rtui_calendar.specs.Calendars.{heading, heading_if, weekdays_if};
 ghost use Rattle.rtui_calendar.specs.Calendars.{rows_above_weekdays, rows_above_weeks};
 
@@ -17,7 +16,7 @@ use ratatui_core::buffer::Buffer;
 use ratatui_core::layout::Rect;
 use ratatui_core::style::Style;
 use ratatui_core::widgets::Widget;
-use rtui_boxes::{Block, inner_if};
+use rtui_boxes::{Block, columns_around_if, rows_around_if};
 use rtui_drawing::{Cut, put_change, put_style};
 use rtui_inside::{DrawInside, render_inside};
 use std::alloc::AllocError;
@@ -112,7 +111,8 @@ impl<'a, DS: DateStyler> Monthly<'a, DS> {
     pub fn width(&self) -> u16
         ensures { result ≡ columns_of_month self.now }
     {
-        self.columns_of_box().saturating_add(21)
+        let columns = columns_around_if(&self.block).saturating_add(21);
+        columns.min(65535) as u16
     }
 
     /// Returns how many rows the calendar takes with its headers and its box; at most 65535.
@@ -120,24 +120,8 @@ impl<'a, DS: DateStyler> Monthly<'a, DS> {
         ensures { result ≡ rows_of_month self.now }
     {
         let rows = Month::of(self.display_date).weeks() + self.rows_above_weeks();
-        let around = match &self.block {
-            None => 0,
-            Some(block) => block.rows_around(),
-        };
-        usize::from(rows).saturating_add(around).min(65535) as u16
-    }
-
-    // How many columns a box takes of the widest area.
-    fn columns_of_box(&self) -> u16
-        ensures { result ≡ columns_of_box self.now.block }
-    {
-        let widest = Rect {
-            x: 0,
-            y: 0,
-            width: 65535,
-            height: 1,
-        };
-        65535u16.saturating_sub(inner_if(&self.block, widest).width)
+        let rows = rows_around_if(&self.block).saturating_add(usize::from(rows));
+        rows.min(65535) as u16
     }
 
     // How many rows stand above the weekdays.

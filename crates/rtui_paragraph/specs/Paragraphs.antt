@@ -12,7 +12,7 @@ use Rattle.ratatui_core.specs.Buffer.{BufferData, IsPlainFrom, IsSettledBuffer, 
 use Rattle.ratatui_core.specs.Buffer.{piece_of, PaintsPieces, text_pieces, position_of}
 use Rattle.rtui_paragraph.specs.{declared.paragraph.Paragraph.Paragraph, declared.paragraph.Wrap.Wrap}
 use Rattle.rtui_boxes.specs.{Titles.InTurn, Framed.RendersInFrame, Framed.rows_around_if, Boxes.IsNarrowBox}
-use Rattle.rtui_boxes.specs.{Framed.IsShortFrame, Framed.inner_if, declared.block.Block.Block}
+use Rattle.rtui_boxes.specs.{Framed.IsShortFrame, Framed.columns_around_if}
 use Rattle.rtui_paragraph.specs.Reflow.{grapheme_columns, columns_taken, fits_row, cut_row, broken_rows}
 
 -- a text without a box, from its first row and column on, cut and aligned to the left
@@ -76,13 +76,9 @@ abbrev pub rows_taken : Paragraph → ℕ → ℕ
 rows_taken p width = if width == 0 then 0 else min (length (paragraph_rows p width) + rows_around_if p.block)
     (2 ^ 64 - 1)
 
--- how many columns a box takes of the widest area, left and right of what is inside
-abbrev pub columns_around : Option Block → ℕ
-columns_around block = 65535 - (inner_if block (record { x = 0; y = 0; width = 65535; height = 1 })).width
-
 -- how many columns it needs so that no line of it is broken or cut, with those of its box
 abbrev pub columns_needed : Paragraph → ℕ
-columns_needed p = min (widest p.text.lines + columns_around p.block) (2 ^ 64 - 1)
+columns_needed p = min (widest p.text.lines + columns_around_if p.block) (2 ^ 64 - 1)
 
 -- in which column of the room a row of this width begins
 abbrev pub indent_of : HorizontalAlignment → ℕ → ℕ → ℕ

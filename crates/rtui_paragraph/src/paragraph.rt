@@ -9,11 +9,10 @@ ghost use Rattle.ratatui_core.specs.Text.{raw_text, ArePrintable, EachSpanGraphe
 ghost use Rattle.ratatui_core.specs.Widgets.{ChangesWithin};
 ghost use Rattle.ratatui_core.specs.declared.layout.HorizontalAlignment.TheVariants.{Left, Center, Right};
 ghost use Rattle.rtui_boxes.specs.Boxes.{IsBoxArea};
-ghost use Rattle.rtui_boxes.specs.Framed.{rows_around_if};
 ghost use Rattle.rtui_paragraph.specs.Paragraphs.{IsNewParagraph, aligned_row, aligned_rows};
 ghost use Rattle.rtui_paragraph.specs.Paragraphs.{columns_scrolled, cut_line, broken_line, rows_of_lines};
 ghost use Rattle.rtui_paragraph.specs.Paragraphs.{paragraph_rows, rows_taken, rows_shown, indent_of};
-ghost use Rattle.rtui_paragraph.specs.Paragraphs.{columns_around, columns_needed};
+ghost use Rattle.rtui_paragraph.specs.Paragraphs.{columns_needed};
 ghost use Rattle.rtui_paragraph.specs.Paragraphs.{graphemes_of, HasShortText};
 ghost use Rattle.rtui_paragraph.specs.Inner.{grapheme_in};
 ghost use Rattle.rtui_paragraph.specs.Paragraphs.{PaintsGrapheme, PaintsGraphemes, PaintsRow, PaintsRows};
@@ -32,7 +31,7 @@ use ratatui_core::layout::{HorizontalAlignment, Position, Rect};
 use ratatui_core::style::Style;
 use ratatui_core::text::{Line, Text};
 use ratatui_core::widgets::Widget;
-use rtui_boxes::{Block, inner_if, render_frame};
+use rtui_boxes::{Block, columns_around_if, render_frame, rows_around_if};
 use std::alloc::{AllocError, Global};
 
 mod clone;
@@ -169,7 +168,7 @@ impl<'a> Paragraph<'a> {
             return Ok(0);
         }
         let rows = self.count_rows(alloc, width)?;
-        Ok(rows.saturating_add(self.rows_around()))
+        Ok(rows.saturating_add(rows_around_if(&self.block)))
     }
 
     /// Returns how many columns the paragraph needs so that no line of it is broken or cut, with
@@ -177,7 +176,8 @@ impl<'a> Paragraph<'a> {
     pub fn line_width(&self) -> usize
         ensures { result ≡ columns_needed self.now }
     {
-        self.text.width().saturating_add(self.columns_around())
+        let around = columns_around_if(&self.block);
+        self.text.width().saturating_add(around)
     }
 
     // How many rows the text takes in so many columns.
@@ -217,29 +217,6 @@ impl<'a> Paragraph<'a> {
     {
         let graphemes = line.styled_graphemes(self.text.style);
         row_count(Ahead::new(alloc, graphemes, width, wrap.trim))
-    }
-
-    // How many rows a box takes.
-    fn rows_around(&self) -> usize
-        ensures { result ≡ rows_around_if self.now.block }
-    {
-        match &self.block {
-            None => 0,
-            Some(block) => block.rows_around(),
-        }
-    }
-
-    // How many columns a box takes of the widest area.
-    fn columns_around(&self) -> usize
-        ensures { result ≡ columns_around self.now.block }
-    {
-        let widest = Rect {
-            x: 0,
-            y: 0,
-            width: 65535,
-            height: 1,
-        };
-        usize::from(65535u16.saturating_sub(inner_if(&self.block, widest).width))
     }
 
     // Renders the text in a part of the buffer.

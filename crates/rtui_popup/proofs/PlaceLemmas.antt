@@ -1,16 +1,10 @@
 -- Where a popup stands, and its text.
-use Rattle.std.proofs.Common.{◌≡◌, ℕ, ◌+◌, ◌-◌, ◌≤◌, min, length, Option, Some, None, ap, arith}
+use Rattle.std.proofs.Common.{◌≡◌, ℕ, ◌+◌, ◌-◌, ◌≤◌, length, Option, Some, None, arith}
 use Rattle.ratatui_core.specs.Layout.{Rect, IsInside, EdgesFit}
 use Rattle.ratatui_core.specs.Text.{widest}
-use Rattle.rtui_boxes.specs.{declared.block.Block.Block, Framed.inner_if, Framed.rows_around_if}
+use Rattle.rtui_boxes.specs.{declared.block.Block.Block, Framed.inner_if, Framed.columns_around_if, Framed.rows_around_if}
 use Rattle.rtui_popup.specs.declared.popup.Popup.{Popup}
-use Rattle.rtui_popup.specs.Places.{middle_of, columns_around_if, columns_wanted, rows_wanted, popup_area, popup_inner}
-
--- what a box takes of the widest area
-pub around-columns : (o : Option Block) (r inside : Rect) → r.width ≡ 65535 → inside ≡ inner_if o r
-    → 65535 - inside.width ≡ min (columns_around_if o) 65535
-around-columns None r inside e is = let w = ap (λ (q : Rect). q.width) is in omega arith
-around-columns (Some b) r inside e is = let w = ap (λ (q : Rect). q.width) is in omega arith
+use Rattle.rtui_popup.specs.Places.{middle_of, columns_wanted, rows_wanted, popup_area, popup_inner}
 
 -- what is inside a box lies in its area
 pub inner-inside : (o : Option Block) (r : Rect) → IsInside (inner_if o r) r

@@ -1,9 +1,7 @@
 -- Where a popup stands in an area.
-use Rattle.std.specs.Prelude.{ℕ, ◌+◌, ◌-◌, ◌/◌, min, Option, Some, None, length}
+use Rattle.std.specs.Prelude.{ℕ, ◌+◌, ◌-◌, ◌/◌, min, length}
 use Rattle.ratatui_core.specs.{Layout.Rect, Text.widest}
-use Rattle.rtui_boxes.specs.declared.block.Block.{Block}
-use Rattle.rtui_boxes.specs.{Boxes.one_if, Boxes.has_side, Boxes.left, Boxes.right}
-use Rattle.rtui_boxes.specs.{Framed.inner_if, Framed.rows_around_if}
+use Rattle.rtui_boxes.specs.Framed.{inner_if, columns_around_if, rows_around_if}
 use Rattle.rtui_popup.specs.declared.popup.Popup.{Popup}
 
 -- so many columns and rows in the middle of an area, or all that it has; what is odd is left at the right and
@@ -15,12 +13,6 @@ middle_of columns rows r = record {
   width = min columns r.width;
   height = min rows r.height;
 }
-
--- how many columns the box takes left and right of what is inside, if there is one
-abbrev pub columns_around_if : Option Block → ℕ
-columns_around_if None = 0
-columns_around_if (Some b) =
-    one_if (has_side b left) + one_if (has_side b right) + min (b.padding.left + b.padding.right) 65535
 
 -- how many columns and rows a popup wants: as many as its text takes, with its box
 abbrev pub columns_wanted : Popup → ℕ

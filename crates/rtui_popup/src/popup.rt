@@ -3,8 +3,7 @@
 ghost use Rattle.std.specs.Prelude.{◌≡◌, ◌-◌, ◌/◌, min, Some, true, IfOk};
 ghost use Rattle.ratatui_core.specs.Layout.{EdgesFit, IsInside};
 ghost use Rattle.ratatui_core.specs.Text.{raw_text};
-ghost use Rattle.rtui_boxes.specs.Framed.{rows_around_if};
-ghost use Rattle.rtui_popup.specs.Places.{columns_around_if, popup_area, popup_inner};
+ghost use Rattle.rtui_popup.specs.Places.{popup_area, popup_inner};
 ghost use Rattle.rtui_popup.specs.Popups.{IsNewPopup};
 
 use ratatui_core::buffer::Buffer;
@@ -12,7 +11,7 @@ use ratatui_core::layout::Rect;
 use ratatui_core::style::Style;
 use ratatui_core::text::Text;
 use ratatui_core::widgets::Widget;
-use rtui_boxes::{Block, Clear, cloned_block, inner_if};
+use rtui_boxes::{Block, Clear, cloned_block, columns_around_if, inner_if, rows_around_if};
 use rtui_drawing::put_text;
 use rtui_inside::{DrawInside, render_inside};
 use std::alloc::{AllocError, Global};
@@ -80,8 +79,8 @@ impl<'a> Popup<'a> {
         ensures inside { IsInside result area }
         ensures fits { EdgesFit area → EdgesFit result }
     {
-        let columns = self.text.width().saturating_add(self.columns_around());
-        let rows = self.text.height().saturating_add(self.rows_around());
+        let columns = columns_around_if(&self.block).saturating_add(self.text.width());
+        let rows = rows_around_if(&self.block).saturating_add(self.text.height());
         let (before, width) = middle(area.width, columns);
         let (above, height) = middle(area.height, rows);
         Rect {
@@ -114,23 +113,6 @@ impl<'a> Popup<'a> {
             block: cloned_block(alloc, &self.block)?,
             style: self.style,
         })
-    }
-
-    // How many columns the box takes left and right of what is inside, at most 65535.
-    fn columns_around(&self) -> usize
-        ensures { result ≡ min (columns_around_if self.now.block) 65535 }
-    {
-        usize::from(u16::MAX - inner_if(&self.block, Rect::MAX).width)
-    }
-
-    // How many rows the box takes above and below what is inside.
-    fn rows_around(&self) -> usize
-        ensures { result ≡ rows_around_if self.now.block }
-    {
-        match &self.block {
-            Some(block) => block.rows_around(),
-            None => 0,
-        }
     }
 }
 

@@ -1,16 +1,16 @@
 //! The program `stopwatch`: how many seconds have gone, until `q`.
 //!
-//! The blank stops it and lets it go on, `r` begins anew. It is an application of `acts_app` whose
+//! The blank stops it and lets it go on, `r` begins anew. It is an application of `ratatui_app` whose
 //! ticks tell the time, by the system's clock. `tools/play stopwatch` shows it.
 #![tactic(auto)]
 
 mod watch;
 
 use crate::watch::Stopwatch;
-use acts_app::run_and_leave;
 use programs::{Stream, is_terminal};
 use ratatui_acts::{Clocked, Nothing, Seat};
 use ratatui_ansi::{AnsiBackend, size_told};
+use ratatui_app::run_and_leave;
 use std::io::BufWriter;
 
 fn main(rt: HostRuntime) -> anyhow::Result<()> {

@@ -3,9 +3,9 @@
 ghost use Rattle.std.specs.Prelude.{◌≡◌, true, false, None, OnOk, OnErr, IfOk};
 ghost use Rattle.stopwatch.specs.Watching.{watch_after, watch_by_event, watch_by_character, seconds};
 
-use acts_app::{Application, paint_line};
 use itoa::Buffer as Digits;
 use ratatui_acts::{Acts, Message, Never};
+use ratatui_app::{Application, paint_line};
 use ratatui_core::buffer::Buffer;
 use ratatui_core::layout::{Position, Rect};
 use ratatui_events::{Event, KeyCode};
@@ -96,9 +96,9 @@ impl Acts for Stopwatch {
 }
 
 impl Application for Stopwatch {
-    ghost use Rattle.acts_app.specs.Glass.{no_cursor};
-    ghost use Rattle.acts_app.specs.Lines.{PaintsFirstLine};
-    ghost use Rattle.acts_app.specs.LineLemmas.{line-settled};
+    ghost use Rattle.ratatui_app.specs.Glass.{no_cursor};
+    ghost use Rattle.ratatui_app.specs.Lines.{PaintsFirstLine};
+    ghost use Rattle.ratatui_app.specs.LineLemmas.{line-settled};
 
     ghost paints = { λ w. PaintsFirstLine (seconds w) };
 

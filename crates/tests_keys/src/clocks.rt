@@ -1,7 +1,7 @@
 //! Reads and the time that has gone.
 
-use acts_app::{Counter, OnScreen};
 use ratatui_acts::{Clocked, Glass, Heard, Hears, Told};
+use ratatui_app::{Counter, OnScreen};
 use ratatui_core::backend::TestBackend;
 use ratatui_core::terminal::Viewport;
 use ratatui_reads::Pieces;

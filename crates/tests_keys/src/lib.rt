@@ -4,8 +4,6 @@
 #![tactic(auto)]
 
 #[cfg(test)]
-mod acting;
-#[cfg(test)]
 mod area;
 #[cfg(test)]
 mod clocks;

@@ -1,10 +1,11 @@
 //! Pages after keys.
 
 use pager::{Document, OwnText, Pager};
-use ratatui_app::{AppError, run};
+use ratatui_acts::{Nothing, Seat, run};
+use ratatui_app::OnScreen;
 use ratatui_core::backend::TestBackend;
 use ratatui_core::layout::Size;
-use ratatui_core::terminal::Terminal;
+use ratatui_core::terminal::Viewport;
 use std::alloc::{AllocError, Global};
 use std::io::{self, Read};
 use std::test::Fail;
@@ -20,14 +21,15 @@ fn shows(alloc: Global, text: &str, keys: &[u8], lines: &[&str]) -> bool {
     let Ok(backend) = TestBackend::new(alloc, 14, 4) else {
         return false;
     };
-    let Ok(mut terminal) = Terminal::new(alloc, backend) else {
+    let Ok(mut glass) = OnScreen::begin(alloc, Viewport::Fullscreen, backend) else {
         return false;
     };
     let nothing = OwnText::new(String::new(alloc));
-    let mut pager = Pager::new(document, OwnText::new(name), nothing, Size::new(14, 4));
+    let pager = Pager::new(document, OwnText::new(name), nothing, Size::new(14, 4));
+    let mut seat = Seat::new(alloc, pager);
     let mut reader = keys;
-    match run(&mut reader, false, &mut terminal, &mut pager) {
-        Ok(()) => terminal.backend().lines_are(lines),
+    match run(&mut reader, &mut Nothing, false, &mut glass, &mut seat) {
+        Ok(()) => glass.terminal().backend().lines_are(lines),
         Err(_) => false,
     }
 }
@@ -100,16 +102,17 @@ fn fills_a_row(alloc: Global, text: &str, letter: &str) -> bool {
     let Ok(backend) = TestBackend::new(alloc, 300, 2) else {
         return false;
     };
-    let Ok(mut terminal) = Terminal::new(alloc, backend) else {
+    let Ok(mut glass) = OnScreen::begin(alloc, Viewport::Fullscreen, backend) else {
         return false;
     };
     let nothing = OwnText::new(String::new(alloc));
-    let mut pager = Pager::new(document, OwnText::new(name), nothing, Size::new(300, 2));
+    let pager = Pager::new(document, OwnText::new(name), nothing, Size::new(300, 2));
+    let mut seat = Seat::new(alloc, pager);
     let mut reader = b"".as_slice();
-    if run(&mut reader, false, &mut terminal, &mut pager).is_err() {
+    if run(&mut reader, &mut Nothing, false, &mut glass, &mut seat).is_err() {
         return false;
     }
-    let cells = terminal.backend().buffer().content();
+    let cells = glass.terminal().backend().buffer().content();
     cells.iter().take(300).all(|cell| cell.symbol() == letter)
 }
 

@@ -1,8 +1,8 @@
 //! Names that are removed, over reads and answers that are known.
 
-use acts_app::OnGlass;
 use ratatui_acts::{Fault, Seat, run};
 use ratatui_ansi::AnsiBackend;
+use ratatui_app::OnGlass;
 use ratatui_core::layout::Size;
 use ratatui_core::terminal::Viewport;
 use ratatui_reads::Pieces;

@@ -1,8 +1,8 @@
 //! What a terminal is sent when sizes are told, and when nothing is.
 
-use acts_app::{Counter, OnGlass};
 use ratatui_acts::{Glass, Told};
 use ratatui_ansi::AnsiBackend;
+use ratatui_app::{Counter, OnGlass};
 use ratatui_core::layout::Size;
 use ratatui_core::terminal::Viewport;
 use std::alloc::Global;

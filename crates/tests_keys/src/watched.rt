@@ -1,11 +1,12 @@
 //! Runs of which the source looks at what the terminal was sent.
 ghost use Rattle.std.specs.Io.{ReadsAtMost};
 
+use ratatui_acts::{Nothing, Seat, run};
 use ratatui_ansi::{AnsiBackend, AnsiError};
-use ratatui_app::{AppError, Counter, run, run_and_leave, run_on_glass};
+use ratatui_app::{Counter, OnGlass, OnScreen, run_and_leave};
 use ratatui_core::backend::TestBackend;
 use ratatui_core::layout::Size;
-use ratatui_core::terminal::{Terminal, TerminalError};
+use ratatui_core::terminal::{TerminalError, Viewport};
 use ratatui_reads::Pieces;
 use std::alloc::Global;
 use std::io::{self, ErrorKind, Read, Write};
@@ -17,11 +18,14 @@ const SIZE: Size = Size {
     height: 3,
 };
 
-fn counter() -> Counter {
-    Counter {
-        count: 0,
-        is_over: false,
-    }
+fn counter(alloc: Global) -> Seat<Counter> {
+    Seat::new(
+        alloc,
+        Counter {
+            count: 0,
+            is_over: false,
+        },
+    )
 }
 
 // What a terminal and its keyboard hang on: how often all was sent on, and whether it is cut.
@@ -45,6 +49,12 @@ impl Line {
 
     fn cut(&self) {
         self.is_cut.store(true, Ordering::Relaxed);
+    }
+
+    fn cut_if(&self, is_wanted: bool) {
+        if is_wanted {
+            self.cut();
+        }
     }
 
     // An error if the line is cut.
@@ -126,15 +136,15 @@ fn noted<'a>(
     is_on_glass: bool,
 ) -> Option<Keyboard<'a>> {
     let backend = AnsiBackend::new(alloc, Screen(line), SIZE).ok()?;
-    let mut terminal = Terminal::new(alloc, backend).ok()?;
     let mut keyboard = Keyboard::new(alloc, line, reads);
-    let mut counter = counter();
-    let ended = if is_on_glass {
-        run_on_glass(&mut keyboard, true, &mut terminal, &mut counter)
+    let mut seat = counter(alloc);
+    if is_on_glass {
+        let mut glass = OnGlass::begin(alloc, Viewport::Fullscreen, backend).ok()?;
+        run(&mut keyboard, &mut Nothing, true, &mut glass, &mut seat).ok()?;
     } else {
-        run(&mut keyboard, true, &mut terminal, &mut counter)
-    };
-    ended.ok()?;
+        let mut glass = OnScreen::begin(alloc, Viewport::Fullscreen, backend).ok()?;
+        run(&mut keyboard, &mut Nothing, true, &mut glass, &mut seat).ok()?;
+    }
     Some(keyboard)
 }
 
@@ -146,13 +156,13 @@ fn flushes_before(alloc: Global, is_on_glass: bool) -> Option<Vec<u64>> {
     (keyboard.least_room == 1024).then_some(keyboard.flushes)
 }
 
-// A frame is sent before a key is read, and one after each read that tells something: not after a
-// tick, nor after the half of a sequence.
+// A frame is sent before a key is read, and one after each read that changes something: not after a
+// tick, nor after the half of a sequence, nor after a key that means nothing.
 #[test]
 fn each_read_comes_after_its_frame(rt: HostRuntime) {
     for is_on_glass in [false, true] {
         let flushes = flushes_before(rt.alloc(), is_on_glass);
-        let wanted = [1, 2, 2, 2, 3, 4];
+        let wanted = [1, 2, 2, 2, 2, 3];
         assert!(rt; flushes.is_some_and(|flushes| flushes.as_slice() == wanted.as_slice()));
     }
 }
@@ -178,12 +188,13 @@ fn waits(alloc: Global, ticks: u32) -> bool {
     let Ok(backend) = TestBackend::new(alloc, 4, 3) else {
         return false;
     };
-    let Ok(mut terminal) = Terminal::new(alloc, backend) else {
+    let Ok(mut glass) = OnScreen::begin(alloc, Viewport::Fullscreen, backend) else {
         return false;
     };
     let mut source = Ticking { ticks };
-    let mut counter = counter();
-    run(&mut source, true, &mut terminal, &mut counter).is_ok() && counter.is_over
+    let mut seat = counter(alloc);
+    let ended = run(&mut source, &mut Nothing, true, &mut glass, &mut seat);
+    ended.is_ok() && seat.state().is_over
 }
 
 // The same on a terminal that is sent bytes, from beginning to end.
@@ -192,8 +203,11 @@ fn waits_and_leaves(alloc: Global, ticks: u32) -> bool {
         return false;
     };
     let mut source = Ticking { ticks };
-    let mut counter = counter();
-    run_and_leave(alloc, &mut source, true, backend, &mut counter).is_ok() && counter.is_over
+    let mut seat = counter(alloc);
+    match run_and_leave(alloc, &mut source, &mut Nothing, true, backend, &mut seat) {
+        Ok(left) => left.ended.is_ok() && seat.state().is_over,
+        Err(_) => false,
+    }
 }
 
 #[test]
@@ -206,56 +220,51 @@ fn a_run_that_leaves_its_terminal_waits_so_long(rt: HostRuntime) {
     assert!(rt; waits_and_leaves(rt.alloc(), 5000));
 }
 
-// How a run ends at a line that is cut after these reads.
-fn ends(alloc: Global, reads: &[&[u8]]) -> Option<AppError<AnsiError>> {
+// What stops a run whose source gives these reads and then fails.
+fn told(alloc: Global, reads: &[&[u8]]) -> Option<String> {
+    let backend = AnsiBackend::new(alloc, Vec::<u8>::new(alloc), SIZE).ok()?;
+    let mut seat = counter(alloc);
+    let mut source = Pieces::new(reads);
+    let left = run_and_leave(alloc, &mut source, &mut Nothing, true, backend, &mut seat).ok()?;
+    let fault = left.ended.err()?;
+    format!(in alloc; "{fault}").ok()
+}
+
+#[test]
+fn the_fault_of_a_read_is_told(rt: HostRuntime) {
+    let told = told(rt.alloc(), &[b"+"]);
+    assert!(rt; told.is_some_and(|told| told.as_str().starts_with("input: ")));
+}
+
+// Why a run fails at a line that is cut after these reads, or at once: then the terminal can't be
+// given back, or not be asked for its size.
+fn fails(alloc: Global, reads: &[&[u8]], is_cut_at_once: bool) -> Option<TerminalError<AnsiError>> {
     let line = Line::new();
     let backend = AnsiBackend::new(alloc, Screen(&line), SIZE).ok()?;
+    line.cut_if(is_cut_at_once);
     let mut keyboard = Keyboard::new(alloc, &line, reads);
-    let mut counter = counter();
-    run_and_leave(alloc, &mut keyboard, true, backend, &mut counter).err()
+    let mut seat = counter(alloc);
+    run_and_leave(alloc, &mut keyboard, &mut Nothing, true, backend, &mut seat).err()
 }
 
-// The read's fault is told, also where the terminal can't be given back then.
 #[test]
-fn the_first_fault_is_told(rt: HostRuntime) -> Result<(), Fail> {
-    let alloc = rt.alloc();
-    let fault = ends(alloc, &[b"+"]);
-    assert!(rt; matches!(&fault, Some(AppError::Read(_))));
-    if let Some(fault) = fault {
-        let told = format!(in alloc; "{fault}")?;
-        assert!(rt; told.as_str().starts_with("input: "));
+fn a_terminal_that_is_not_reached_is_told(rt: HostRuntime) {
+    for is_cut_at_once in [false, true] {
+        let error = fails(rt.alloc(), &[b"+"], is_cut_at_once);
+        assert!(rt; matches!(error, Some(TerminalError::Backend(AnsiError::Write(_)))));
     }
-    Ok(())
-}
-
-// How a run ends whose terminal can't be asked for its size.
-fn ends_at_once(alloc: Global) -> Option<AppError<AnsiError>> {
-    let line = Line::new();
-    let backend = AnsiBackend::new(alloc, Screen(&line), SIZE).ok()?;
-    line.cut();
-    let mut counter = counter();
-    run_and_leave(alloc, &mut Pieces::new(&[]), true, backend, &mut counter).err()
-}
-
-#[test]
-fn a_terminal_that_can_not_be_asked_is_told(rt: HostRuntime) {
-    let fault = ends_at_once(rt.alloc());
-    assert!(rt;
-        matches!(
-            fault,
-            Some(AppError::Draw(TerminalError::Backend(AnsiError::Write(_))))
-        )
-    );
 }
 
 // How often a run asks its terminal for something, at its beginning and until `q`.
 fn questions(alloc: Global) -> Option<usize> {
     let backend = AnsiBackend::new(alloc, Vec::<u8>::new(alloc), SIZE).ok()?;
     let reads: [&[u8]; 1] = [b"q"];
-    let mut counter = counter();
-    let sent = run_and_leave(alloc, &mut Pieces::new(&reads), true, backend, &mut counter).ok()?;
+    let mut seat = counter(alloc);
+    let mut source = Pieces::new(&reads);
+    let left = run_and_leave(alloc, &mut source, &mut Nothing, true, backend, &mut seat).ok()?;
     Some(
-        sent.as_slice()
+        left.writer
+            .as_slice()
             .windows(4)
             .filter(|bytes| *bytes == b"\x1b[6n".as_slice())
             .count(),

@@ -3,10 +3,11 @@
 //!
 //! `vectors FILE..` reads files of rows. It prints for each file how many rows hold, or each row
 //! that doesn't with both answers, and then ends with status 1. `data/README.md` says what a row
-//! is; those of `keys.rows`, `split.rows`, `split_cases.rows` and `files.rows` are read by the crates
-//! `row_keys`, `row_splits` and `row_files`, which say what they are. For a number in place of a
-//! file it makes so many requests for memory of its own, and says which of them is refused, if one
-//! is: so `tools/refusals` chooses the request that is refused.
+//! is; those of `keys.rows`, `split.rows`, `split_cases.rows`, `files.rows`, `areas.rows` and
+//! `views.rows` are read by the crates `row_keys`, `row_splits`, `row_files` and `row_areas`, which
+//! say what they are. For a number in place of a file it makes so many requests for memory of its
+//! own, and says which of them is refused, if one is: so `tools/refusals` chooses the request that
+//! is refused.
 #![tactic(auto)]
 
 mod rows;
@@ -53,6 +54,7 @@ fn check_file(rt: &HostRuntime, name: &str) -> io::Result<usize> {
         "keys.rows" => row_keys::check(rt, text),
         "split.rows" | "split_cases.rows" => row_splits::check(rt, name, text),
         "files.rows" => row_files::check(rt, text, FOLDER),
+        "areas.rows" | "views.rows" => row_areas::check(rt, name, text),
         _ => check_calls(rt, rt.alloc(), name, text),
     }
 }

@@ -1,10 +1,10 @@
 -- Words that only private contracts use: what a tracker knows of its terminal between two calls, and the
 -- bytes that it collected for a call.
 use Rattle.std.specs.Prelude.{◌≡◌, ℕ, ◌<◌, true, List, length, [], ◌++◌, string_bytes}
-use Rattle.ratatui_core.specs.Layout.{Size}
+use Rattle.ratatui_core.specs.Layout.{Size, Position}
 use Rattle.ratatui_core.specs.Backend.{Screen, Appends, Clears, ScrollsUp, ScrollsDown, with_cursor}
 use Rattle.ratatui_core.specs.Backend.{with_visible}
-use Rattle.ansi_model.specs.{Columns.blank_column, Commands.command_bytes, Commands.AsksSize}
+use Rattle.ansi_model.specs.{Columns.blank_column, Commands.command_bytes, Commands.size_question}
 use Rattle.ansi_model.specs.Commands.{keyboard_bytes}
 use Rattle.ansi_model.specs.{Beginnings.MakesBlank, Emulator.Emulator, Emulator.rested, Sends.Leads}
 use Rattle.ansi_model.specs.{Screens.screen_shown, Flags.AreContinuations, Flags.is_clear_cut}
@@ -65,11 +65,11 @@ CallDoes (Called.PushKeyboardFlags flags) s t = t ≡ s
 CallDoes Called.AskSize s t = t ≡ s
 
 -- a command's bytes, those of keyboard flags, or the question for the size, were appended for it
-abbrev pub IsCommanded : Call → List ℕ → List ℕ → Type 0
-IsCommanded (Called.Command command) old new = new ≡ old ++ command_bytes command
-IsCommanded (Called.PushKeyboardFlags flags) old new = new ≡ old ++ keyboard_bytes flags
-IsCommanded Called.AskSize old new = AsksSize old new
-IsCommanded _ old new = Unit {0}
+abbrev pub IsCommanded : Call → Position → List ℕ → List ℕ → Type 0
+IsCommanded (Called.Command command) cursor old new = new ≡ old ++ command_bytes command
+IsCommanded (Called.PushKeyboardFlags flags) cursor old new = new ≡ old ++ keyboard_bytes flags
+IsCommanded Called.AskSize cursor old new = new ≡ old ++ size_question cursor
+IsCommanded _ cursor old new = Unit {0}
 
 -- a clear would cut a symbol at the cursor
 abbrev pub IsCutByCall : Call → Tracker → Type 0

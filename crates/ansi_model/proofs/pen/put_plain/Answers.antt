@@ -14,7 +14,7 @@ returns-clause-prints c = λ w h column row.
     let symbol = encode_utf8 c.args.ch in
     elim c.if-not-is_at.branch [
       | then-not-is_at+in_ok-move_to v ↦
-          put-there w h c.args.x c.args.y c.args.pen.now _ symbol _ _ _ column row v.in_ok-move_to.ensures
+          put-there w h c.args.x c.args.y c.args.pen.now _ symbol _ _ _ column row v.in_ok-move_to.ensures.moves
           (subst (λ out. Sends (string_bytes out) (string_bytes c.push_plain.new.out)
           (typed symbol)) v.out-is c.in_ok-push_plain.ensures)
           (plain-printed c.args.ch c.requires.plain) (one-undisputed symbol (plain-single c.args.ch c.requires.plain)) refl
@@ -37,7 +37,7 @@ returns-clause-places c =
       | then-not-is_at+in_ok-move_to v ↦
           places-there c.args.ch c.args.pen.now _ _ _ _ c.requires.plain
           (subst (λ out. Sends (string_bytes out) (string_bytes c.push_plain.new.out)
-          (typed symbol)) v.out-is c.in_ok-push_plain.ensures) at c.args.x c.args.y _ v.in_ok-move_to.ensures refl
+          (typed symbol)) v.out-is c.in_ok-push_plain.ensures) at c.args.x c.args.y _ v.in_ok-move_to.ensures.moves refl
       | else-not-is_at v ↦
           let here : c.is_at.result ≡ true = grind (arith, nat_tests) in
           places-here c.args.ch c.args.pen.now _ _ _ _ c.requires.plain

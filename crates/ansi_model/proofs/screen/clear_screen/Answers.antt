@@ -13,4 +13,4 @@ returns c =
     turns-from w h _ _ (λ t. cursor_moved c.args.x c.args.y (erased BeforeCursor (cursor_moved (w - 1) (h - 1) t))) _
     (Does-then _ _ _ (λ t. erased BeforeCursor (cursor_moved (w - 1) (h - 1) t))
     (cursor_moved c.args.x c.args.y) c.in_ok-erase_all.ensures does (λ t. refl))
-    (screen-emptied w h c.args.x c.args.y wide high)) c.move_to.ensures
+    (screen-emptied w h c.args.x c.args.y wide high)) c.move_to.ensures.moves

@@ -7,4 +7,4 @@ use Rattle.ansi_model.proofs.screen.empty_row.Goals as goal
 
 pub returns : goal.returns
 returns c = on_ok_weaker c.erase.result (λ does. Does-then _ _ _ (cursor_moved 0 c.args.y)
-    (erased CurrentLine) c.in_ok-move_to.ensures does (λ t. refl)) c.erase.ensures
+    (erased CurrentLine) c.in_ok-move_to.ensures.moves does (λ t. refl)) c.erase.ensures

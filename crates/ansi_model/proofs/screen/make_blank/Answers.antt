@@ -15,7 +15,7 @@ returns c =
     let two = Does-then _ _ _ (λ t. with_sgr default_sgr (without_modes t)) without_region one c.in_ok-reset_region.ensures
     (λ t. refl) in
     let three = Does-then _ _ _ (λ t. erased BeforeCursor (cursor_moved (w - 1) (h - 1) t))
-    (cursor_moved 0 0) c.in_ok-erase_all.ensures c.in_ok-move_to.ensures (λ t. refl) in
+    (cursor_moved 0 0) c.in_ok-erase_all.ensures c.in_ok-move_to.ensures.moves (λ t. refl) in
     on_ok_weaker c.show_cursor.result (λ does wide high.
     makes-blank w h _ _ _ _ wide high two c.in_ok-print_letters.ensures
     (Does-then _ _ _ (λ t. cursor_moved 0 0 (erased BeforeCursor (cursor_moved (w - 1) (h - 1) t))) (cursor_shown true) three does

@@ -3,6 +3,7 @@ use Rattle.ratatui_ansi.specs.Backend.{reader}
 use Rattle.ratatui_ansi.specs.declared.tracker.Tracker.{Tracker}
 use Rattle.ratatui_ansi.proofs.{RefusalLemmas.if-error, RefusalLemmas.uncollected-why, BackendLemmas.in-order-on}
 use Rattle.ratatui_ansi.proofs.{BackendLemmas.shown-on, BackendLemmas.tracked-from, BackendLemmas.commanded-on}
+use Rattle.ratatui_ansi.proofs.BackendLemmas.{commanded-at}
 use Rattle.ratatui_ansi.proofs.backend.AnsiBackend.send.Goals as goal
 
 pub invariant_of-self-2 : goal.invariant_of-self-2
@@ -38,4 +39,7 @@ returns-clause-sent g c =
     let b = c.self.inside in
     let sent = c.in_ok-send.ensures.sent ∙ ap (λ s. s.sent.bytes ++ c.as_str.result.now) c.begin.ensures.rest
     ∙ ap (λ xs. b.sender.sent.bytes ++ xs) c.as_str.ensures.value in
-    rw (← c.self.view_is) (commanded-on c.args.call _ _ _ _ c.in_ok-collect.ensures.bytes c.clear.ensures.bytes sent)
+    let k : Tracker = record b.tracker { out = c.clear.new.self } in
+    let tracked = tracked-from k c.self.invariant.0 c.in_ok-failures.ensures.works in
+    rw (← c.self.view_is) (commanded-at c.args.call _ _ _ _ tracked.awaiting.placed
+    (commanded-on c.args.call _ _ _ _ _ c.in_ok-collect.ensures.bytes c.clear.ensures.bytes sent))

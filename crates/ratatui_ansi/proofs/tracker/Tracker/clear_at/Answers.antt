@@ -23,7 +23,7 @@ returns-clause-ok c =
     (call-does w h _ _ place place k.continuations.items flags
     (λ t. cursor_moved place.x place.y (erased kind (cursor_moved x y t))) _
     (Does-then _ _ _ (λ t. erased kind (cursor_moved x y t)) (cursor_moved place.x place.y)
-    (Does-then _ _ _ (cursor_moved x y) (erased kind) c.in_ok-move_to.ensures c.in_ok-erase.ensures (λ t. refl))
-    c.in_ok-move_to-2.ensures (λ t. refl))
+    (Does-then _ _ _ (cursor_moved x y) (erased kind) c.in_ok-move_to.ensures.moves c.in_ok-erase.ensures (λ t. refl))
+    c.in_ok-move_to-2.ensures.moves (λ t. refl))
     (part-kept w h x y kind place k.continuations.items flags c.requires.at_column c.requires.at_row c.requires.tracker.column
     c.requires.tracker.row c.requires.uncut c.requires.sure (rw lent.value at c.clear_part_flags.ensures)))
