@@ -1,5 +1,6 @@
 -- A pager on a terminal.
-use Rattle.std.specs.Prelude.{◌≡◌, ◌⊎◌, ℕ, Bool, true, List, [], ◌∷◌, ◌++◌, Option, None, IfSome, ⊤}
+use Rattle.std.specs.Prelude.{◌≡◌, ◌⊎◌, ℕ, Bool, true, List, [], ◌∷◌, ◌++◌, Option, None}
+use Rattle.std.specs.Prelude.{IfSome, ⊤}
 use Rattle.ratatui_core.specs.{Layout.Size, Backend.size_of, Backend.IsBlankScreen}
 use Rattle.ratatui_core.specs.Terminal.{TerminalData, TerminalError, Fullscreen}
 use Rattle.ansi_model.specs.{Beginnings.MakesBlank, Beginnings.OpensAlternate, Commands.command_bytes}
@@ -50,21 +51,28 @@ pub record OpensPaging {W : Type 0} (size : Size) (before : Option (List ℕ)) (
   pub settings : b.settings ≡ record no_settings { mouse = true; sizes = true }
   pub failures : b.failures ≡ 0
 
+-- the turns of such a run, the last one first, and its reads in order
+abbrev pub PagedTurns : Type 0 → Type 0 → Type 0
+PagedTurns W H = List (Past Pager Never Never (OnGlass W) H Nothing)
+
+abbrev pub paged_reads : {W H : Type 0} → (H → Coming) → PagedTurns W H → List (List ℕ)
+paged_reads coming past = turn_reads (turns_of (paging_on coming) past)
+
 module _ (W : Type 0) {H : Type 0} (coming : H → Coming) (size : Size) where
   -- a pager was run from beginning to end on the alternate screen of a terminal of this size: the page was
-  -- shown at each turn, and the main screen was brought back. The last page is what the reads make of the first
-  -- one, and these are what the source gave. The writer held these bytes before and after
-  pub record IsPaged (has_ticks : Bool) (first : Standing Pager) (ears : H) (last : Standing Pager) (ears' : H)
-      (before after : Option (List ℕ)) : Type 0 where
+  -- shown at each turn, and the main screen was brought back. The last page is what the reads make of the
+  -- first one, and these are what the source gave. The writer held these bytes before and after
+  pub record IsPaged (has_ticks : Bool) (first : Standing Pager) (ears : H) (last : Standing Pager)
+      (ears' : H) (before after : Option (List ℕ)) : Type 0 where
     pub backend : BackendState W
     pub opens : OpensPaging size before backend
     pub outside : Nothing
     pub outside' : Nothing
-    pub through :
-        RunsThrough (paging_on coming) Fullscreen backend has_ticks first ears outside last ears' outside' after
+    pub through : RunsThrough (paging_on coming) Fullscreen backend has_ticks first ears outside
+        last ears' outside' after
     pub read : first.left ≡ [] → seat_between last
-        ≡ after_reads (event_rules paging) (seat_between first) (turn_reads (turns_of (paging_on coming) through.runs.runs.past))
-    pub given : GivesReads (coming ears) (coming ears') (turn_reads (turns_of (paging_on coming) through.runs.runs.past))
+        ≡ after_reads (event_rules paging) (seat_between first) (paged_reads coming through.runs.runs.past)
+    pub given : GivesReads (coming ears) (coming ears') (paged_reads coming through.runs.runs.past)
 
   -- a run that stopped: the page was shown at each turn before, and the main screen was brought back, unless
   -- the terminal failed
@@ -74,7 +82,8 @@ module _ (W : Type 0) {H : Type 0} (coming : H → Coming) (size : Size) where
     pub opens : OpensPaging size before backend
     pub outside : Nothing
     pub outside' : Nothing
-    pub through : StopsThrough (paging_on coming) Fullscreen backend fault first ears outside last ears' outside' after
+    pub through : StopsThrough (paging_on coming) Fullscreen backend fault first ears outside
+        last ears' outside' after
 
 -- the columns and rows of a page
 abbrev pub page_size : Pager → Size
@@ -86,12 +95,13 @@ FillsScreen p t = (p.is_over ≡ true) ⊎ (page_size p ≡ size_of (shown_by t.
 
 module _ {W H : Type 0} where
   -- so it is now, and was at each turn of a run before
-  abbrev pub FillsAlong : List (Past Pager Never Never (OnGlass W) H Nothing) → Now Pager (OnGlass W) H Nothing → Type 0
+  abbrev pub FillsAlong : PagedTurns W H → Now Pager (OnGlass W) H Nothing → Type 0
   FillsAlong [] now = FillsScreen now.standing.state now.glass.terminal
-  FillsAlong (p ∷ earlier) now = FillsScreen now.standing.state now.glass.terminal × FillsAlong earlier p.before
+  FillsAlong (p ∷ earlier) now =
+      FillsScreen now.standing.state now.glass.terminal × FillsAlong earlier p.before
 
   -- the terminal has each size that the turns of a run told
-  abbrev pub TakesAlong : List (Past Pager Never Never (OnGlass W) H Nothing) → Now Pager (OnGlass W) H Nothing → Type 0
+  abbrev pub TakesAlong : PagedTurns W H → Now Pager (OnGlass W) H Nothing → Type 0
   TakesAlong [] now = ⊤
   TakesAlong (p ∷ earlier) now = IfSome (turn_size p.before.standing p.turn)
       (λ z. size_of (shown_by now.glass.terminal.backend) ≡ record { width = z.0; height = z.1 })
