@@ -16,18 +16,9 @@ less-most true n = omega arith
 less-most false n = omega arith
 
 -- a bar takes one of a breadth of two at least
-bar-leaves : (o : ScrollbarVisibility) (length room breadth : ℕ) → 0 < breadth → 0 < breadth - one_if (has_bar o length room breadth)
+bar-leaves : (o : ScrollbarVisibility) (length room breadth : ℕ) → 0 < breadth
+    → 0 < breadth - one_if (has_bar o length room breadth)
 bar-leaves o length room breadth some = grind (arith, nat_tests)
-
-bar-taken : (o : ScrollbarVisibility) (length room breadth : ℕ) → has_bar o length room breadth ≡ true → 1 < breadth
-bar-taken o length room breadth e = grind (arith, nat_tests)
-
--- with less room a bar is wanted all the more
-bar-less : (o : ScrollbarVisibility) (length less room breadth : ℕ) → less ≤ room → has_bar o length room breadth ≡ true
-    → has_bar o length less breadth ≡ true
-bar-less Automatic length less room breadth le e = grind (arith, nat_tests)
-bar-less Always length less room breadth le e = e
-bar-less Never length less room breadth le e = e
 
 pub view-inside : (v : ScrollView) (r : Rect) → IsInside (view_area v r) r
 view-inside v r p has =
@@ -54,34 +45,6 @@ shown-inside c r p has =
 none-taken : (n : ℕ) → n - one_if false ≡ n
 none-taken n = omega arith
 
-settles-without : (o u : ScrollbarVisibility) (height room_down width room_across : ℕ) (right : Bool) → has_bar u width room_across room_down ≡ false
-    → has_bar o height room_down room_across ≡ right
-    → has_bar o height room_down room_across ≡ has_bar o height (room_down - one_if (has_bar u width (room_across - one_if
-    (has_bar o height room_down room_across)) room_down)) room_across
-settles-without o u height room_down width room_across true e is =
-    is ∙ sym (bar-less o height (room_down - one_if (has_bar u width (room_across - one_if
-    (has_bar o height room_down room_across)) room_down)) room_down room_across (less-most _ room_down) is)
-settles-without o u height room_down width room_across false e is =
-    let same : has_bar u width (room_across - one_if (has_bar o height room_down room_across)) room_down ≡ false =
-    rw is (rw (none-taken room_across) e) in
-    rw same (rw (none-taken room_down) refl)
-
--- whether a bar stands agrees with the room that the other one leaves
-bar-settles : (o u : ScrollbarVisibility) (height room_down width room_across : ℕ) (below : Bool) → has_bar u width room_across room_down ≡ below
-    → has_bar o height (room_down - one_if below) room_across
-    ≡ has_bar o height (room_down - one_if (has_bar u width (room_across - one_if (has_bar o height (room_down - one_if below) room_across)) room_down)) room_across
-bar-settles o u height room_down width room_across true e =
-    let right = has_bar o height (room_down - one_if true) room_across in
-    let still : has_bar u width (room_across - one_if right) room_down ≡ true =
-    bar-less u width (room_across - one_if right) room_across room_down (less-most right room_across) e in
-    rw still refl
-bar-settles o u height room_down width room_across false e =
-    rw none-taken (settles-without o u height room_down width room_across (has_bar o height room_down room_across) e refl)
-
-pub vertical-settles : (v : ScrollView) (r : Rect)
-    → has_vertical v r ≡ has_bar v.vertical_scrollbar_visibility v.content.area.height (view_area v r).height r.width
-vertical-settles v r = bar-settles v.vertical_scrollbar_visibility v.horizontal_scrollbar_visibility v.content.area.height r.height v.content.area.width r.width _ refl
-
 pub stand-apart : (v : ScrollView) (r : Rect) → IsBoxArea r → StandApart v r
 stand-apart v r box =
     let wide = box.columns in let high = box.rows in let a = box.across in let d = box.down in
@@ -106,7 +69,8 @@ stand-apart v r box =
     }
 
 -- a content that is no larger than an area takes no bar
-no-bar : (o : ScrollbarVisibility) (length room breadth : ℕ) → (o ≡ Always → ⊥) → length ≤ room → has_bar o length room breadth ≡ false
+no-bar : (o : ScrollbarVisibility) (length room breadth : ℕ) → (o ≡ Always → ⊥) → length ≤ room
+    → has_bar o length room breadth ≡ false
 no-bar Automatic length room breadth off le = grind (arith, nat_tests)
 no-bar Always length room breadth off le = absurd (off refl)
 no-bar Never length room breadth off le = refl
@@ -157,7 +121,8 @@ module _ (c : BufferData) (view : Rect) (q : Position) (edges : EdgesFit c.area)
   at-whole : (w : ℕ) → w ≤ view.width → q.x + w ≤ c.area.x + c.area.width → at.x + w ≤ view.x + (shown_area c view).width
   at-whole w room ends = let l = has.left in omega arith
 
-pub can-be-seen : (v : ScrollView) (r : Rect) (q : Position) → EdgesFit v.content.area → IsBoxArea r → HasPosition v.content.area q
+pub can-be-seen : (v : ScrollView) (r : Rect) (q : Position) → EdgesFit v.content.area → IsBoxArea r
+    → HasPosition v.content.area q
     → CanBeSeen v r q
 can-be-seen v r q edges box has =
     let view = view_area v r in
@@ -170,5 +135,3 @@ can-be-seen v r q edges box has =
       is = at-is v.content view q edges some has;
       whole = at-whole v.content view q edges some has;
     }
-
-pub ruleset place_steps = (view-inside)

@@ -113,14 +113,6 @@ module _ (v : ScrollView) (s : ScrollViewState) (area part : Rect) (old mid new 
         });
       }
 
-pub render-none : (v : ScrollView) (s : ScrollViewState) (area : Rect) (old : BufferData)
-    → ((intersected area old.area).width ≡ 0) ⊎ ((intersected area old.area).height ≡ 0) → RendersScrollView v s s area old old
-render-none v s area old none = record {
-  within = same-within area old old refl;
-  kept = λ _. refl;
-  shown = OnPart-none (ShowsScrollView v s s) area old none;
-}
-
 -- what a rendering shows
 module _ (v : ScrollView) (s t : ScrollViewState) (area : Rect) (old new : BufferData) (is : RendersScrollView v s t area old new) where
   abbrev r : Rect

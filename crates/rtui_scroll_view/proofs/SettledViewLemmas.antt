@@ -41,7 +41,8 @@ skipped-or : (t : Bool) {u : Bool} → u ≡ t → (u ≡ true) ⊎ (u ≡ false
 skipped-or true e = inl e
 skipped-or false e = inr e
 
-choice-or : (n m : ℕ) (a b : Cell) → ((m ≤ n) × ((if nat_lt n m then a else b) ≡ b)) ⊎ ((n < m) × ((if nat_lt n m then a else b) ≡ a))
+choice-or : (n m : ℕ) (a b : Cell)
+    → ((m ≤ n) × ((if nat_lt n m then a else b) ≡ b)) ⊎ ((n < m) × ((if nat_lt n m then a else b) ≡ a))
 choice-or n m a b = grind (arith, nat_tests)
 
 -- the content's cell, if it ends within the view, and else a blank
@@ -61,7 +62,8 @@ bar-if-plain true o s bar old new plain is =
     (with_track-each IsOneColumn bar is.bar (new-takes-one o is.bar is.is_new))) plain is.painted
 bar-if-plain false o s bar old new plain is = rw is plain
 
-bars-plain : (v : ScrollView) (offset : Position) (r : Rect) (old mid : BufferData) → IsPlainFrom 0 old → PaintsBars v offset r old mid
+bars-plain : (v : ScrollView) (offset : Position) (r : Rect) (old mid : BufferData) → IsPlainFrom 0 old
+    → PaintsBars v offset r old mid
     → IsPlainFrom 0 mid
 bars-plain v offset r old mid plain is =
     bar-if-plain (has_horizontal v r) _ _ (horizontal_bar r (view_area v r)) is.between mid
@@ -112,7 +114,8 @@ bars-keep v offset r old mid box is p own plain =
     (bar-if-keeps (has_vertical v r) _ _ (vertical_bar r (view_area v r)) old is.between is.first p own plain)
 
 -- a plain content keeps cells plain
-content-plain : (content : BufferData) (offset : Position) (view : Rect) (mid new : BufferData) → IsPlainFrom 0 content → IsPlainFrom 0 mid
+content-plain : (content : BufferData) (offset : Position) (view : Rect) (mid new : BufferData) → IsPlainFrom 0 content
+    → IsPlainFrom 0 mid
     → ((p : Position) → HasPosition view p → HasPosition content.area (content_position content offset view p))
     → ShowsContent content offset view mid new → IsPlainFrom 0 new
 content-plain content offset view mid new plain_content plain there is = λ p in_new le.
@@ -281,7 +284,8 @@ record LiesIn (a b : Rect) : Type 0 where
   top : b.y ≤ a.y
   bottom : a.y + a.height ≤ b.y + b.height
 
-part-lies : (area own : Rect) → 0 < (intersected area own).width → 0 < (intersected area own).height → LiesIn (intersected area own) own
+part-lies : (area own : Rect) → 0 < (intersected area own).width → 0 < (intersected area own).height
+    → LiesIn (intersected area own) own
 part-lies area own wide high = record { left = omega arith; right = omega arith; top = omega arith; bottom = omega arith }
 
 view-lies : (v : ScrollView) (q own : Rect) → LiesIn q own → LiesIn (shown_area v.content (view_area v q)) own
@@ -307,9 +311,11 @@ record SeenIn (content : BufferData) (offset place p : Position) (view : Rect) :
   last : shown_offset content view offset ≡ offset
   there : HasPosition (shown_area content view) place
   is : content_position content offset (shown_area content view) place ≡ p
-  whole : (w : ℕ) → w ≤ view.width → p.x + w ≤ content.area.x + content.area.width → place.x + w ≤ view.x + (shown_area content view).width
+  whole : (w : ℕ) → w ≤ view.width → p.x + w ≤ content.area.x + content.area.width
+      → place.x + w ≤ view.x + (shown_area content view).width
 
-seen-in : (content : BufferData) (q : Rect) (p : Position) → content.area.width ≤ q.width → content.area.height ≤ q.height → IsBoxArea q
+seen-in : (content : BufferData) (q : Rect) (p : Position) → content.area.width ≤ q.width → content.area.height ≤ q.height
+    → IsBoxArea q
     → HasPosition content.area p → SeenIn content (record { x = 0; y = 0 })
     (record { x = q.x + (p.x - content.area.x); y = q.y + (p.y - content.area.y) }) p q
 seen-in content q p wide high box has =
@@ -328,7 +334,8 @@ seen-in content q p wide high box has =
     }
 
 -- where a content that is no larger than the area can be seen
-seen-whole : (v : ScrollView) (q : Rect) (p : Position) → FitsWhole v q → v.content.area.width ≤ q.width → v.content.area.height ≤ q.height
+seen-whole : (v : ScrollView) (q : Rect) (p : Position) → FitsWhole v q → v.content.area.width ≤ q.width
+    → v.content.area.height ≤ q.height
     → IsBoxArea q → HasPosition v.content.area p → CanBeSeen v q p
 seen-whole v q p fits wide high box has =
     let zero : Position = record { x = 0; y = 0 } in
@@ -485,7 +492,8 @@ module _ (v : ScrollView) (s t : ScrollViewState) (area : Rect) (old new : Buffe
       (ends-within v.content q settled has)
 
   -- a content that is no larger than the area shows from its first cell on
-  pub shows-fitting : (q : Position) → ¬ (v.vertical_scrollbar_visibility ≡ Always) → ¬ (v.horizontal_scrollbar_visibility ≡ Always)
+  pub shows-fitting : (q : Position) → ¬ (v.vertical_scrollbar_visibility ≡ Always)
+      → ¬ (v.horizontal_scrollbar_visibility ≡ Always)
       → v.content.area.width ≤ r.width → v.content.area.height ≤ r.height → IsSettledBuffer v.content → HasPosition v.content.area q
       → cell_in new (record { x = r.x + (q.x - v.content.area.x); y = r.y + (q.y - v.content.area.y) }) ≡ cell_in v.content q
   unfolding seen-whole

@@ -17,19 +17,6 @@ module _ (content : BufferData) (offset : Position) (area : Rect) (p q : Positio
       let y : q.y ≡ content.area.y + offset.y + (p.y - area.y) = omega arith in
       λ i. record { x = x i; y = y i }
 
-  source-has : HasPosition content.area (content_position content offset area p) → HasPosition content.area q
-  source-has has =
-      let l = has.left in let r = has.right in let t = has.top in let b = has.bottom in let ex = is.x in let ey = is.y in
-      record { left = omega arith; right = omega arith; top = omega arith; bottom = omega arith }
-
--- where the content has none, the cell stays
-pub window-none : (w : Window) (p q : Position) (c : Cell) → IsSource w.content.now w.offset w.area p q
-    → ¬ (HasPosition w.content.now.area q) → window_cell w p c ≡ c
-window-none w p q c is off =
-    let none = position-false w.content.now.area (content_position w.content.now w.offset w.area p)
-    (λ has. off (source-has w.content.now w.offset w.area p q is has)) in
-    rw none refl
-
 pub window-some : (w : Window) (p q : Position) (c : Cell) → IsSource w.content.now w.offset w.area p q
     → HasPosition w.content.now.area q → window_cell w p c ≡ shown_cell w.content.now w.offset w.area p
 window-some w p q c is has =
@@ -43,7 +30,8 @@ pub source-cell : (w : Window) (p q : Position) → IsSource w.content.now w.off
 source-cell w p q is has = ap (cell_in w.content.now) (source-is w.content.now w.offset w.area p q is has)
 
 -- what is cut is a blank
-pub cut-blank : (w : Window) (p q : Position) (c : Cell) → IsSource w.content.now w.offset w.area p q → HasPosition w.content.now.area q
+pub cut-blank : (w : Window) (p q : Position) (c : Cell) → IsSource w.content.now w.offset w.area p q
+    → HasPosition w.content.now.area q
     → nat_lt (w.area.x + w.area.width) (p.x + width_of (cell_in w.content.now q)) ≡ true
     → styled_blank (cell_in w.content.now q) ≡ window_cell w p c
 cut-blank w p q c is has cut =
@@ -63,7 +51,8 @@ module _ (content : BufferData) (offset : Position) (view : Rect) (edges : Edges
       let l = has.left in let r = has.right in let t = has.top in let b = has.bottom in
       record { left = omega arith; right = omega arith; top = omega arith; bottom = omega arith }
 
-  window-shows : (w : Window) → w.content.now ≡ content → w.offset ≡ offset → w.area ≡ shown_area content view → (p : Position) (c : Cell)
+  window-shows : (w : Window) → w.content.now ≡ content → w.offset ≡ offset → w.area ≡ shown_area content view
+      → (p : Position) (c : Cell)
       → HasPosition (shown_area content view) p → window_cell w p c ≡ shown_cell content offset (shown_area content view) p
   window-shows w e1 e2 e3 p c has =
       let there = position-true content.area (content_position content offset (shown_area content view) p) (in-content p has) in
@@ -80,7 +69,8 @@ module _ (content : BufferData) (offset : Position) (view : Rect) (edges : Edges
   }
   shows-ok (Err e) w old new e1 e2 e3 is = tt
 
-  pub light-window : (w : Window) (old : BufferData) → w.content.now ≡ content → w.offset ≡ offset → w.area ≡ shown_area content view
+  pub light-window : (w : Window) (old : BufferData) → w.content.now ≡ content → w.offset ≡ offset
+      → w.area ≡ shown_area content view
       → HasShortCells content offset view old → AreLight (IsLightWindow w) w.area old
   light-window w old e1 e2 e3 short = λ p own here.
       let there : HasPosition (shown_area content view) p = subst (λ a. HasPosition a p) e3 here in
