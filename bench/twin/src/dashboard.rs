@@ -15,8 +15,8 @@ const FOX: &str = "the quick brown fox jumps over the lazy dog and runs away fro
 
 static NAMES: [&str; 24] = [
     "rtui_geometry", "rtui_layout", "rtui_style", "rtui_palette", "rtui_symbols", "rtui_merge", "rtui_cell", "rtui_text", "rtui_drawing",
-    "ratatui_acts", "rtui_diff", "rtui_buffer", "rtui_widgets", "rtui_canvas", "rtui_backend", "rtui_viewport", "rtui_insert",
-    "rtui_terminal", "ratatui_core", "ratatui_ansi", "rtui_boxes", "rtui_meters", "rtui_list", "ratatui_widgets",
+    "ratatui_acts", "rtui_diff", "rtui_buffer", "rtui_widgets", "widget_canvas", "rtui_backend", "rtui_viewport", "rtui_insert",
+    "rtui_terminal", "ratatui_core", "ratatui_ansi", "widget_boxes", "widget_meters", "widget_list", "ratatui_widgets",
 ];
 
 fn framed(title: &str) -> Block<'_> {

@@ -6,9 +6,9 @@ use ratatui_core::layout::{Constraint, Layout, Rect, SplitArea, SplitInto};
 use ratatui_core::style::{Style, Stylize};
 use ratatui_core::terminal::Frame;
 use ratatui_core::text::Line;
-use rtui_area::{AreaView, TextAreaWidget};
-use rtui_field::{Input, cursor_position};
 use std::alloc::AllocError;
+use widget_area::{AreaView, TextAreaWidget};
+use widget_field::{Input, cursor_position};
 
 // What is shown, and where the view of the text is.
 #[derive(Drop)]

@@ -5,12 +5,12 @@ use ratatui_core::style::{Style, Stylize};
 use ratatui_core::terminal::Frame;
 use ratatui_core::text::{Span, Text};
 use ratatui_widgets::Block;
-use rtui_calendar::{CalendarEventStore, Monthly};
-use rtui_popup::Popup;
-use rtui_scroll_view::{ScrollView, ScrollViewState};
-use rtui_throbber::{ASCII, Throbber, ThrobberState};
-use rtui_tree::{Tree, TreeItem, TreeState};
 use std::alloc::{AllocError, Global};
+use widget_calendar::{CalendarEventStore, Monthly};
+use widget_popup::Popup;
+use widget_scroll_view::{ScrollView, ScrollViewState};
+use widget_throbber::{ASCII, Throbber, ThrobberState};
+use widget_tree::{Tree, TreeItem, TreeState};
 
 /// Draws the calendar of a month, of which a day has a style of its own.
 pub fn calendar(alloc: Global, frame: &mut Frame<'_>, date: Date) -> Result<(), AllocError> {

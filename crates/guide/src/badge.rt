@@ -5,10 +5,10 @@ use ratatui_core::layout::Rect;
 use ratatui_core::style::Style;
 use ratatui_core::text::Line;
 use ratatui_core::widgets::Widget;
-use rtui_boxes::Block;
 use rtui_drawing::{put_line, put_style};
 use rtui_inside::{DrawInside, render_inside};
 use std::alloc::AllocError;
+use widget_boxes::Block;
 
 /// A line on a colour, in a box if there is one.
 #[derive(Drop)]

@@ -5,10 +5,10 @@ use ratatui_core::layout::Rect;
 use ratatui_core::style::Style;
 use ratatui_core::text::Line;
 use ratatui_core::widgets::StatefulWidget;
-use rtui_boxes::Block;
 use rtui_drawing::{Cut, put_line, put_style};
 use rtui_inside::{DrawStateInside, render_state_inside};
 use std::alloc::AllocError;
+use widget_boxes::Block;
 
 /// A bar in a box, which is a column longer at each rendering, and a line on it. Its state is how
 /// many columns it has.

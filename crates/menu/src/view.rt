@@ -6,8 +6,8 @@ use ratatui_core::style::{Style, Stylize};
 use ratatui_core::terminal::Frame;
 use ratatui_core::text::{Line, Text};
 use ratatui_widgets::{Block, Clear, List, ListItem, Paragraph, Wrap};
-use rtui_field::{Input, cursor_position};
 use std::alloc::{AllocError, Global};
+use widget_field::{Input, cursor_position};
 
 impl Menu {
     pub fn draw(&mut self, frame: &mut Frame<'_>) -> Result<(), AllocError> {

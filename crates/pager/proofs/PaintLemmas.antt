@@ -10,8 +10,8 @@ use Rattle.ratatui_core.specs.Buffer.{BufferData, HasRow, IsReadyAt, IsReadyFrom
 use Rattle.ratatui_core.specs.Buffer.{columns, pieces_at, room_at, text_pieces, position_of}
 use Rattle.ratatui_core.proofs.{BufferLemmas.within-wider, BufferLemmas.ready-row}
 use Rattle.ratatui_core.proofs.{BufferLemmas.ready-plain, WidgetLemmas.OnPart-clipped}
-use Rattle.rtui_boxes.specs.Boxes.{IsBoxArea}
-use Rattle.rtui_boxes.proofs.PaintLemmas.{part-has_row, part-right, room-is}
+use Rattle.widget_boxes.specs.Boxes.{IsBoxArea}
+use Rattle.widget_boxes.proofs.PaintLemmas.{part-has_row, part-right, room-is}
 use Rattle.pager.specs.declared.view.View.{View}
 use Rattle.pager.specs.declared.styles.Run.{Run}
 use Rattle.pager.specs.Symbols.{LineSymbol, Reach, line_symbol, style_at, reach_after, symbols_from, is_in_view, symbols_in_view}

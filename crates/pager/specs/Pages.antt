@@ -7,7 +7,7 @@ use Rattle.ratatui_core.specs.{Layout.Rect, Layout.EdgesFit, Style.Style, Style.
 use Rattle.ratatui_core.specs.Buffer.{BufferData, PaintsPieces, IsPlainFrom, IsSettledBuffer, columns}
 use Rattle.ratatui_core.specs.Buffer.{text_pieces, position_of}
 use Rattle.ratatui_core.specs.Widgets.{ChangesWithin, OnPart}
-use Rattle.rtui_boxes.specs.Titles.{InTurn}
+use Rattle.widget_boxes.specs.Titles.{InTurn}
 use Rattle.pager.specs.Symbols.{LineSymbol, reversed, line_symbols, symbols_in_view, is_in_view}
 use Rattle.pager.specs.Places.{breaking, number_columns, stride, page_rows, page_place, places_after}
 use Rattle.pager.specs.Places.{rows_of_line}

@@ -4,7 +4,7 @@ ghost use Rattle.std.specs.Prelude.{◌≡◌, ◌+◌, ◌-◌, ◌<◌, ◌≤
 ghost use Rattle.ratatui_core.specs.Layout.{IsInside};
 ghost use Rattle.ratatui_core.specs.Buffer.{IsReadyAt, IsReadyFrom, IsSettledBuffer};
 ghost use Rattle.ratatui_core.specs.Widgets.{ChangesWithin};
-ghost use Rattle.rtui_boxes.specs.Boxes.{IsBoxArea};
+ghost use Rattle.widget_boxes.specs.Boxes.{IsBoxArea};
 ghost use Rattle.pager.specs.Pages.{view_at, line_number, PaintsNumber, PaintsNumberIf, PaintsLine, PaintsLineAt};
 ghost use Rattle.pager.specs.Pages.{PaintsTextRow, PaintsRowIn, PaintsPageRows, view_from, PaintsPage};
 

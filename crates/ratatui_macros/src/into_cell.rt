@@ -3,13 +3,13 @@
 ghost use Rattle.std.specs.Prelude.{◌≡◌, [], ◌∷◌, ⊤, IfOk, IsOk};
 ghost use Rattle.std.specs.String.{string_bytes};
 ghost use Rattle.ratatui_core.specs.Text.{line_of, text_of};
-ghost use Rattle.rtui_table.specs.Rows.{raw_cell};
-ghost use Rattle.rtui_table.specs.declared.cell.Cell.{Cell as CellData};
+ghost use Rattle.widget_table.specs.Rows.{raw_cell};
+ghost use Rattle.widget_table.specs.declared.cell.Cell.{Cell as CellData};
 ghost use Rattle.ratatui_macros.specs.Cells.{plain_cell};
 
 use ratatui_core::text::{Line, Span, Text};
-use rtui_table::Cell;
 use std::alloc::{AllocError, Global};
+use widget_table::Cell;
 
 /// What becomes a cell of a table: a cell, and a text, a line, a span or a plain text, in a cell
 /// without a style of its own.

@@ -1,7 +1,7 @@
 //! Lines, texts, rows, constraints and layouts as lists of their parts, by macros named as those of
 //! the crate `ratatui-macros`.
 //!
-//! It stands on `ratatui_core` and `rtui_table`. What takes memory is told first of what, as `vec!`
+//! It stands on `ratatui_core` and `widget_table`. What takes memory is told first of what, as `vec!`
 //! is, and answers a `Result`: `line![in alloc; "press ", "q".bold(), " to end"]?`. The traits
 //! [`IntoSpan`], [`IntoLine`] and [`IntoCell`] say what may stand in such a list and what becomes
 //! of it; a macro only calls [`with_room`] once and [`with_span`], [`with_line`] or [`with_cell`]

@@ -1,12 +1,12 @@
 //! Rows of a table, cell by cell.
 
 ghost use Rattle.std.specs.Prelude.{◌≡◌, ℕ, ◌+◌, ◌++◌, [], ◌∷◌, IfOk, IsOk};
-ghost use Rattle.rtui_table.specs.Rows.{IsNewRow};
+ghost use Rattle.widget_table.specs.Rows.{IsNewRow};
 ghost use Rattle.ratatui_macros.specs.Made.{HasRoomLeft, IsMadeBy};
 
 use crate::into_cell::IntoCell;
-use rtui_table::{Cell, Row};
 use std::alloc::AllocError;
+use widget_table::{Cell, Row};
 
 /// A row of a table of these cells, each a cell, a text, a line, a span, a `&str` or a `String`: a
 /// `Result<Row, AllocError>`. An empty list takes no memory.

@@ -7,7 +7,7 @@ use Rattle.std.proofs.lemmas.Nat.{and_le_l}
 use Rattle.bitflags.proofs.OnLiterals.{bitflags_on_literals}
 use Rattle.bitflags.specs.Text.{flag_piece, read_text}
 use Rattle.bitflags.specs.declared.parser.ParseError.{ParseError}
-use Rattle.rtui_boxes.specs.Borders.{border_table}
+use Rattle.widget_boxes.specs.Borders.{border_table}
 use Rattle.rtui_style.specs.Modifier.{modifier_table}
 use Rattle.ratatui_serde.specs.Flags.{flags_text, ReadsFlags}
 

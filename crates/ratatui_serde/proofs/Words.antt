@@ -9,7 +9,7 @@ use Rattle.bitflags.specs.Sets.{Row}
 use Rattle.rtui_style.specs.{declared.color.Color.Color, Color.color_or_error}
 use Rattle.bitflags.specs.Text.{bits_result, flag_piece, read_text}
 use Rattle.bitflags.specs.declared.parser.ParseError.{ParseError}
-use Rattle.rtui_boxes.specs.{declared.borders.Borders.Borders, Borders.border_table, Borders.sides_of}
+use Rattle.widget_boxes.specs.{declared.borders.Borders.Borders, Borders.border_table, Borders.sides_of}
 use Rattle.rtui_style.specs.{declared.Modifier.Modifier, Modifier.bits_of, Modifier.modifier_table}
 use Rattle.ratatui_serde.specs.Flags.{with_part, has_flag, names_in, with_names, with_stray}
 use Rattle.ratatui_serde.specs.Flags.{ReadsFlags, ReadsSides}

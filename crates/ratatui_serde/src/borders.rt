@@ -1,8 +1,8 @@
 //! Sides and kinds of borders as texts.
 
 ghost use Rattle.std.specs.Prelude.{◌≡◌, [], ◌∷◌, IfOk};
-ghost use Rattle.rtui_boxes.specs.Borders.{border_table, sides_of};
-ghost use Rattle.rtui_boxes.specs.Names.{kind_name};
+ghost use Rattle.widget_boxes.specs.Borders.{border_table, sides_of};
+ghost use Rattle.widget_boxes.specs.Names.{kind_name};
 ghost use Rattle.serde.specs.Event.{text, unit_variant};
 ghost use Rattle.serde.specs.declared.name.Case.{Case};
 ghost use Rattle.ratatui_serde.specs.Events.{ReadsText};
@@ -13,11 +13,11 @@ use crate::setting::Setting;
 use arrayvec::ArrayString;
 use bitflags::Flags;
 use bitflags::parser::{self, ParseError};
-use rtui_boxes::{BorderType, Borders};
 use serde::{Case, Deserializer, Format, Serializer};
 use std::alloc::Global;
 use std::fmt;
 use std::str::FromStr;
+use widget_boxes::{BorderType, Borders};
 
 // The names of sides, with bars between.
 pub(crate) fn side_words(borders: Borders) -> Result<Words, fmt::Error>

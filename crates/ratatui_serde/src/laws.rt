@@ -2,15 +2,15 @@
 //! caller's proof its law.
 
 ghost use Rattle.std.specs.Prelude.{◌≡◌, ◌<◌, Some, true};
-ghost use Rattle.rtui_boxes.specs.Borders.{border_table, sides_of};
-ghost use Rattle.rtui_boxes.specs.Names.{kind_name};
+ghost use Rattle.widget_boxes.specs.Borders.{border_table, sides_of};
+ghost use Rattle.widget_boxes.specs.Names.{kind_name};
 ghost use Rattle.rtui_style.specs.Color.{color_of, color_text};
 ghost use Rattle.rtui_style.specs.Modifier.{all_modifiers, bits_of, has_all, modifier_table};
 ghost use Rattle.ratatui_serde.specs.Flags.{flags_text, ReadsFlags, ReadsSides};
 
-use rtui_boxes::{BorderType, Borders};
 use rtui_style::laws::printed_color_is_read;
 use rtui_style::{Color, Modifier};
+use widget_boxes::{BorderType, Borders};
 
 /// The text that a colour is written as is read as that colour.
 pub fn colors_are_read_back(color: Color)

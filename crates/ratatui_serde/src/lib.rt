@@ -23,7 +23,7 @@
 //! [`Constraint`](rtui_layout::Constraint), member by member: a step of a `Deserializer` says only
 //! what it read itself.
 //!
-//! It stands on `rtui_style`, `rtui_layout`, `rtui_boxes` and `serde`.
+//! It stands on `rtui_style`, `rtui_layout`, `widget_boxes` and `serde`.
 #![tactic(auto)]
 
 mod borders;

@@ -1,7 +1,7 @@
 //! Sets as texts, printed and read without serde.
 
 ghost use Rattle.std.specs.Prelude.{Some, IfOk};
-ghost use Rattle.rtui_boxes.specs.Borders.{border_table, sides_of};
+ghost use Rattle.widget_boxes.specs.Borders.{border_table, sides_of};
 ghost use Rattle.rtui_style.specs.Modifier.{bits_of, modifier_table};
 ghost use Rattle.ratatui_serde.specs.Flags.{flags_text, ReadsFlags, ReadsSides};
 
@@ -9,10 +9,10 @@ use crate::borders::{side_words, sides};
 use crate::colors::modifier_words;
 use crate::setting::Serde;
 use bitflags::parser::{self, ParseError};
-use rtui_boxes::Borders;
 use rtui_style::Modifier;
 use std::fmt;
 use std::str::FromStr;
+use widget_boxes::Borders;
 
 /// The names with bars between, as serde writes them.
 impl fmt::Display for Serde<Modifier> {

@@ -4,8 +4,8 @@ use bitflags::Flags;
 use ratatui_core::buffer::{Buffer, CellWidth};
 use ratatui_core::layout::Position;
 use ratatui_core::style::Modifier;
-use rtui_area::AreaView;
 use std::alloc::{AllocError, Global};
+use widget_area::AreaView;
 
 // What a cell's style is shown as: a reversed one, an underlined one, or another.
 fn mark_of(modifier: Modifier) -> &'static str {

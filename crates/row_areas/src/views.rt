@@ -6,10 +6,10 @@ use ratatui_core::buffer::Buffer;
 use ratatui_core::layout::Rect;
 use ratatui_core::style::{Style, Stylize};
 use ratatui_core::widgets::StatefulWidget;
-use rtui_area::{AreaView, TextAreaWidget};
-use rtui_boxes::Block;
 use std::alloc::{AllocError, Global};
 use text_area::{Extent, Move, TextArea};
+use widget_area::{AreaView, TextAreaWidget};
+use widget_boxes::Block;
 
 // A row as it is written.
 #[derive(Drop)]

@@ -5,9 +5,9 @@ use crate::styles::style_of;
 use jiff::civil::Date;
 use ratatui_core::layout::Rect;
 use ratatui_core::widgets::Widget;
-use rtui_boxes::Block;
-use rtui_calendar::{CalendarEventStore, Monthly};
 use std::alloc::{AllocError, Global};
+use widget_boxes::Block;
+use widget_calendar::{CalendarEventStore, Monthly};
 
 // A row as it is written.
 #[derive(Drop)]

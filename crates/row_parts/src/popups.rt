@@ -6,9 +6,9 @@ use ratatui_core::layout::Rect;
 use ratatui_core::style::{Color, Style};
 use ratatui_core::text::{Line, Text};
 use ratatui_core::widgets::Widget;
-use rtui_boxes::{Block, Borders, Padding};
-use rtui_popup::Popup;
 use std::alloc::{AllocError, Global};
+use widget_boxes::{Block, Borders, Padding};
+use widget_popup::Popup;
 
 // The lines of a row.
 fn lines_of<'a>(alloc: Global, lines: &'a str) -> Result<Text<'a>, AllocError> {

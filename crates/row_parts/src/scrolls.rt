@@ -6,8 +6,8 @@ use ratatui_core::layout::{Position, Size};
 use ratatui_core::style::{Color, Style};
 use ratatui_core::text::{Line, Text};
 use ratatui_core::widgets::StatefulWidget;
-use rtui_scroll_view::{ScrollView, ScrollViewState, ScrollbarVisibility};
 use std::alloc::{AllocError, Global};
+use widget_scroll_view::{ScrollView, ScrollViewState, ScrollbarVisibility};
 
 // Two numbers, with a comma between them.
 fn pair(text: &str) -> (u16, u16) {

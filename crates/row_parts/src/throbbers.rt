@@ -5,10 +5,10 @@ use ratatui_core::buffer::Buffer;
 use ratatui_core::style::{Color, Style};
 use ratatui_core::text::Span;
 use ratatui_core::widgets::StatefulWidget;
-use rtui_throbber::{
+use std::alloc::{AllocError, Global};
+use widget_throbber::{
     ARROW, ASCII, BOX_DRAWING, BRAILLE_EIGHT, BRAILLE_SIX, Set, Throbber, ThrobberState, WhichUse,
 };
-use std::alloc::{AllocError, Global};
 
 // A set without symbols.
 const NONE: Set = Set {

@@ -5,9 +5,9 @@ use ratatui_core::buffer::Buffer;
 use ratatui_core::style::{Color, Style};
 use ratatui_core::text::Line;
 use ratatui_core::widgets::StatefulWidget;
-use rtui_boxes::Block;
-use rtui_tree::{Tree, TreeItem, TreeState};
 use std::alloc::{AllocError, Global};
+use widget_boxes::Block;
+use widget_tree::{Tree, TreeItem, TreeState};
 
 // The depth of an item and its text, which begins with it: `1 lib.rt`.
 fn parts_of(item: &str) -> (u16, &str) {

@@ -6,11 +6,11 @@ use ratatui_core::layout::{Direction, Rect};
 use ratatui_core::style::{Modifier, Style};
 use ratatui_core::text::{Line, Span};
 use ratatui_core::widgets::Widget;
-use rtui_bars::{Bar, BarChart, BarGroup};
-use rtui_boxes::Block;
-use rtui_sparkline::{RenderDirection, Sparkline, SparklineBar};
-use rtui_tabs::Tabs;
 use std::alloc::{AllocError, Global};
+use widget_bars::{Bar, BarChart, BarGroup};
+use widget_boxes::Block;
+use widget_sparkline::{RenderDirection, Sparkline, SparklineBar};
+use widget_tabs::Tabs;
 
 // The titles that texts between bars say.
 fn titles_of<'a>(alloc: Global, texts: &'a str) -> Result<Vec<Line<'a>>, AllocError> {

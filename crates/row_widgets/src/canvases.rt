@@ -6,9 +6,9 @@ use ratatui_core::buffer::Buffer;
 use ratatui_core::layout::Rect;
 use ratatui_core::text;
 use ratatui_core::widgets::Widget;
-use rtui_boxes::Block;
-use rtui_canvas::{Canvas, Drawing, Label, Line, Points, Rectangle};
 use std::alloc::{AllocError, Global};
+use widget_boxes::Block;
+use widget_canvas::{Canvas, Drawing, Label, Line, Points, Rectangle};
 
 // A word of a text, from 0 on.
 fn word(text: &str, index: usize) -> &str {

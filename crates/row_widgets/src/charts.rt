@@ -7,9 +7,9 @@ use ratatui_core::layout::{Constraint, HorizontalAlignment, Rect};
 use ratatui_core::style::Style;
 use ratatui_core::text::Line;
 use ratatui_core::widgets::Widget;
-use rtui_boxes::Block;
-use rtui_chart::{Axis, Chart, Dataset, GraphType};
 use std::alloc::{AllocError, Global};
+use widget_boxes::Block;
+use widget_chart::{Axis, Chart, Dataset, GraphType};
 
 // The lines that a text says, between commas; none if it is empty.
 fn lines_of<'a>(alloc: Global, text: &'a str) -> Result<Vec<Line<'a>>, AllocError> {

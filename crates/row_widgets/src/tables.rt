@@ -6,9 +6,9 @@ use ratatui_core::layout::{Constraint, Flex, Rect};
 use ratatui_core::style::{Modifier, Style};
 use ratatui_core::text::{Line, Text};
 use ratatui_core::widgets::StatefulWidget;
-use rtui_list::HighlightSpacing;
-use rtui_table::{Cell, Row, Table, TableState};
 use std::alloc::{AllocError, Global};
+use widget_list::HighlightSpacing;
+use widget_table::{Cell, Row, Table, TableState};
 
 // The width that a word says, as `l5`, `p30`, `m3`, `M8`, `r1/3` or `f1`.
 fn width_of(word: &str) -> Constraint {

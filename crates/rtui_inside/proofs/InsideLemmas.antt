@@ -10,10 +10,10 @@ use Rattle.rtui_drawing.specs.declared.cut.Cut.TheVariants.{Rows}
 use Rattle.rtui_drawing.specs.Drawings.{Drawing, DrawsAll, IsDone, IsStopped, IsRowIn, IsPartOf}
 use Rattle.rtui_drawing.proofs.Laws.{IsNarrowDrawing}
 use Rattle.rtui_drawing.proofs.DrawingLemmas.{done-within, done-short, draws-plain}
-use Rattle.rtui_boxes.specs.declared.block.Block.{Block}
-use Rattle.rtui_boxes.specs.{Boxes.IsBoxArea, Boxes.IsNarrowBox, Framed.FramesInside, Framed.inner_if}
-use Rattle.rtui_boxes.proofs.FrameLemmas.{frame-filled, frame-within, frame-inner}
-use Rattle.rtui_boxes.proofs.{InnerLemmas.plain-inside, PaintLemmas.part-has_row, PaintLemmas.part-starts, PaintLemmas.part-right}
+use Rattle.widget_boxes.specs.declared.block.Block.{Block}
+use Rattle.widget_boxes.specs.{Boxes.IsBoxArea, Boxes.IsNarrowBox, Framed.FramesInside, Framed.inner_if}
+use Rattle.widget_boxes.proofs.FrameLemmas.{frame-filled, frame-within, frame-inner}
+use Rattle.widget_boxes.proofs.{InnerLemmas.plain-inside, PaintLemmas.part-has_row, PaintLemmas.part-starts, PaintLemmas.part-right}
 use Rattle.rtui_inside.specs.Inside.{DrawsInside, LeavesInside, IsShortInside, DrawsState, DrawsStateInside}
 
 module _ {A : Type 0} (style : Style) (o : Option Block) (area inner : Rect) (old framed new : BufferData)

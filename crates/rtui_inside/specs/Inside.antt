@@ -1,8 +1,8 @@
 -- What is drawn inside a style and a box.
 use Rattle.std.specs.Prelude.{◌≡◌, Option}
 use Rattle.ratatui_core.specs.{Layout.Rect, Layout.intersected, Style.Style, Buffer.BufferData}
-use Rattle.rtui_boxes.specs.{declared.block.Block.Block, Framed.RendersInFrame, Framed.RendersStateInFrame}
-use Rattle.rtui_boxes.specs.{Framed.IsShortFrame, Framed.inner_if}
+use Rattle.widget_boxes.specs.{declared.block.Block.Block, Framed.RendersInFrame, Framed.RendersStateInFrame}
+use Rattle.widget_boxes.specs.{Framed.IsShortFrame, Framed.inner_if}
 use Rattle.rtui_drawing.specs.Drawings.{Drawing, DrawsAll, IsStopped, IsShortDrawing}
 
 -- a style and a box over the part of an area that a buffer has, and inside, if there are cells, a drawing

@@ -4,14 +4,14 @@ ghost use Rattle.std.specs.Prelude.{◌≡◌, IsOk, OnOk, OnErr};
 ghost use Rattle.ratatui_core.specs.Layout.{Rect, IsInside};
 ghost use Rattle.ratatui_core.specs.Widgets.{ChangesWithin};
 ghost use Rattle.rtui_drawing.specs.Drawings.{Drawing, IsDone};
-ghost use Rattle.rtui_boxes.specs.Boxes.{IsBoxArea};
+ghost use Rattle.widget_boxes.specs.Boxes.{IsBoxArea};
 ghost use Rattle.rtui_inside.specs.Inside.{DrawsStateInside, LeavesInside, IsShortInside};
 
 use ratatui_core::buffer::Buffer;
 use ratatui_core::layout::Rect;
 use ratatui_core::style::Style;
-use rtui_boxes::{Block, render_frame};
 use std::alloc::AllocError;
+use widget_boxes::{Block, render_frame};
 
 /// What draws a state in an area that has cells, and leads to the next state.
 pub trait DrawStateInside {

@@ -46,7 +46,7 @@ static CRATES: [[&str; 3]; 8] = [
     ["rtui_text", "spans, lines and texts", "187"],
     ["rtui_buffer", "painting", "116"],
     ["rtui_terminal", "draws, resizes, insertions", "83"],
-    ["rtui_table", "this table: 表", "75"],
+    ["widget_table", "this table: 表", "75"],
     ["ratatui_input", "keys", "93"],
     ["ratatui_ansi", "escape sequences", "104"],
 ];

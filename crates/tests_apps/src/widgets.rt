@@ -10,9 +10,9 @@ use ratatui_core::layout::Rect;
 use ratatui_core::style::{Color, Style};
 use ratatui_core::text::Line;
 use ratatui_core::widgets::{StatefulWidget, Widget};
-use rtui_boxes::Block;
 use std::alloc::{AllocError, Global};
 use std::test::Fail;
+use widget_boxes::Block;
 
 // Whether a buffer has these symbols, row after row, and so many green cells.
 fn has(alloc: Global, buffer: &Buffer, symbols: &str, green: usize) -> Result<bool, AllocError> {

@@ -2,11 +2,11 @@
 
 use ratatui_core::layout::Constraint;
 use ratatui_core::text::Line;
-use rtui_bars::{Bar, BarChart};
-use rtui_list::{List, ListItem};
-use rtui_table::{Cell, Row, Table};
-use rtui_tabs::Tabs;
 use std::alloc::AllocError;
+use widget_bars::{Bar, BarChart};
+use widget_list::{List, ListItem};
+use widget_table::{Cell, Row, Table};
+use widget_tabs::Tabs;
 
 #[test]
 fn a_list(rt: HostRuntime) -> Result<(), AllocError> {

@@ -6,11 +6,11 @@ use ratatui_core::style::{Color, Style, Stylize};
 use ratatui_core::text::{Span, ToText};
 use ratatui_core::widgets::Widget;
 use ratatui_macros::{constraint, constraints, horizontal, line, row, span, text, vertical};
-use rtui_bars::BarChart;
-use rtui_list::List;
-use rtui_table::{Row, Table};
-use rtui_tabs::Tabs;
 use std::alloc::AllocError;
+use widget_bars::BarChart;
+use widget_list::List;
+use widget_table::{Row, Table};
+use widget_tabs::Tabs;
 
 #[test]
 fn parts(rt: HostRuntime) -> Result<(), AllocError> {

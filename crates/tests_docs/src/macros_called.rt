@@ -4,8 +4,8 @@ use ratatui_core::layout::{Constraint, Rect, SplitInto};
 use ratatui_core::style::{Color, Stylize};
 use ratatui_core::text::{Line, Span, Text};
 use ratatui_macros::{constraints, horizontal, line, row, span, text, vertical};
-use rtui_table::{Cell, Row};
 use std::alloc::AllocError;
+use widget_table::{Cell, Row};
 
 #[test]
 fn a_line_of_parts(rt: HostRuntime) -> Result<(), AllocError> {

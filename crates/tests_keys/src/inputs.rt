@@ -6,11 +6,11 @@ use ratatui_core::layout::{Position, Rect};
 use ratatui_core::style::Style;
 use ratatui_core::terminal::{Frame, Terminal};
 use ratatui_core::widgets::StatefulWidget;
-use rtui_boxes::Block;
-use rtui_field::{Input, cursor_position};
 use std::alloc::{AllocError, Global};
 use std::test::Fail;
 use text_field::{Reach, TextField};
+use widget_boxes::Block;
+use widget_field::{Input, cursor_position};
 
 // Whether these are the symbols of a row, one after the other.
 fn row_is(buffer: &Buffer, y: u16, symbols: &str) -> bool {

@@ -1,12 +1,12 @@
 //! Paragraphs and boxes.
 use crate::outcome::{Cases, LONG, Outcome, judged};
-use rtui_boxes::Block;
 use rtui_buffer::Buffer;
 use rtui_geometry::Rect;
-use rtui_paragraph::{Paragraph, Wrap};
 use rtui_text::Line;
 use rtui_widgets::Widget;
 use std::alloc::{AllocError, Global};
+use widget_boxes::Block;
+use widget_paragraph::{Paragraph, Wrap};
 
 // A text of two lines, of which no symbol takes memory.
 const SHORT: &str = "The コン\nfox";

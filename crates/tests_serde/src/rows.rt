@@ -2,10 +2,10 @@
 
 use bitflags::Flags;
 use ratatui_serde::{Serde, Setting};
-use rtui_boxes::{BorderType, Borders};
 use rtui_layout::Constraint;
 use rtui_style::{Color, Modifier, Style};
 use std::alloc::{AllocError, Global};
+use widget_boxes::{BorderType, Borders};
 
 // Whether a value is written as this JSON, and read from it.
 fn is_row<T: Setting + PartialEq>(alloc: Global, value: T, json: &str) -> bool {

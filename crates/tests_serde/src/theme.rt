@@ -1,11 +1,11 @@
 //! A theme in TOML.
 
 use ratatui_serde::Serde;
-use rtui_boxes::{BorderType, Borders};
 use rtui_layout::Constraint;
 use rtui_style::{Color, Modifier, Style};
 use serde::{Deserialize, Serialize};
 use std::test::Fail;
+use widget_boxes::{BorderType, Borders};
 
 #[derive(Drop, Serialize, Deserialize)]
 struct Theme {

@@ -1,5 +1,5 @@
 use Rattle.std.proofs.Common.{◌+◌, arith}
-use Rattle.rtui_boxes.proofs.BoxLemmas.{inside-within}
+use Rattle.widget_boxes.proofs.BoxLemmas.{inside-within}
 use Rattle.pager.proofs.PaintLemmas.{part-ready, part-later, numbers-fit}
 use Rattle.pager.proofs.page.paint_number_if.Goals as goal
 

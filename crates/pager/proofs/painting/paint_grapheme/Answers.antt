@@ -1,6 +1,6 @@
 use Rattle.std.proofs.Common.{◌≡◌, ◌+◌, ◌-◌, min, arith, subst}
 use Rattle.ratatui_core.specs.Buffer.{IsReadyAt}
-use Rattle.rtui_boxes.proofs.BoxLemmas.{inside-within}
+use Rattle.widget_boxes.proofs.BoxLemmas.{inside-within}
 use Rattle.pager.proofs.PaintLemmas.{part-later}
 use Rattle.pager.proofs.painting.paint_grapheme.Goals as goal
 

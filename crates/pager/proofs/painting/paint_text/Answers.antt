@@ -1,7 +1,7 @@
 use Rattle.std.proofs.Common.{◌≡◌, ◌+◌, arith, Ok, subst, ap, ◌∙◌}
 use Rattle.ratatui_core.specs.Buffer.{pieces_at, columns, IsReadyAt}
 use Rattle.ratatui_core.proofs.{BufferLemmas.text-keeps, BufferLemmas.put-ready}
-use Rattle.rtui_boxes.proofs.PaintLemmas.{part-has_row, part-starts, part-right, paints-within}
+use Rattle.widget_boxes.proofs.PaintLemmas.{part-has_row, part-starts, part-right, paints-within}
 use Rattle.pager.proofs.PaintLemmas.{text-painted, text-columns}
 use Rattle.pager.proofs.painting.paint_text.Goals as goal
 

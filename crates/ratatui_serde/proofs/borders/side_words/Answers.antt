@@ -1,6 +1,6 @@
 use Rattle.std.proofs.Common.{◌∙◌, ap}
 use Rattle.bitflags.specs.Sets.{known_bits, known_from, without}
-use Rattle.rtui_boxes.specs.Borders.{border_table, sides_of}
+use Rattle.widget_boxes.specs.Borders.{border_table, sides_of}
 use Rattle.ratatui_serde.specs.Flags.{with_names, with_stray}
 use Rattle.ratatui_serde.proofs.borders.side_words.Goals as goal
 

@@ -1,7 +1,7 @@
 use Rattle.std.proofs.Common.{◌≡◌, ◌∙◌, ap, sym, inl, inr, codes, rules, refl, IfOk}
 use Rattle.bitflags.proofs.OnLiterals.{bitflags_on_literals}
 use Rattle.bitflags.proofs.HexFacts.{reads_hex}
-use Rattle.rtui_boxes.specs.Borders.{border_table, sides_of}
+use Rattle.widget_boxes.specs.Borders.{border_table, sides_of}
 use Rattle.ratatui_serde.proofs.Words.{reads-sides}
 use Rattle.ratatui_serde.proofs.borders.sides.Goals as goal
 

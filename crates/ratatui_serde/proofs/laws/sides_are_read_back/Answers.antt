@@ -1,5 +1,5 @@
 use Rattle.std.proofs.Common.{inl}
-use Rattle.rtui_boxes.specs.Borders.{sides_of}
+use Rattle.widget_boxes.specs.Borders.{sides_of}
 use Rattle.ratatui_serde.proofs.ReadBack.{sides-read-back}
 use Rattle.ratatui_serde.proofs.laws.sides_are_read_back.Goals as goal
 

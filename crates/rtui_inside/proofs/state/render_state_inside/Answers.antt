@@ -1,4 +1,4 @@
-use Rattle.rtui_boxes.proofs.FrameLemmas.{frame-own}
+use Rattle.widget_boxes.proofs.FrameLemmas.{frame-own}
 use Rattle.rtui_inside.proofs.InsideLemmas.{filled-area, filled-err, filled-left, filled-short, filled-state}
 use Rattle.rtui_inside.proofs.state.render_state_inside.Goals as goal
 

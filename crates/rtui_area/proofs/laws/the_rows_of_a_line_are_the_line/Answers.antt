@@ -1,5 +1,0 @@
-use Rattle.rtui_area.proofs.WrapLaws.{rows-whole}
-use Rattle.rtui_area.proofs.laws.the_rows_of_a_line_are_the_line.Goals as goal
-
-pub returns : goal.returns
-returns c = rows-whole

@@ -1,5 +1,0 @@
-use Rattle.rtui_area.proofs.WrapLemmas.{wrapped-stays}
-use Rattle.rtui_area.proofs.laws.the_wrapped_view_stays_if_it_can.Goals as goal
-
-pub returns : goal.returns
-returns c = wrapped-stays

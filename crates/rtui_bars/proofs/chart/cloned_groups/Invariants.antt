@@ -1,7 +1,0 @@
-use Rattle.std.proofs.Common.{◌≡◌, take, true}
-use Rattle.std.specs.Cmp.Lexicographic.{pointwise}
-use Rattle.rtui_bars.specs.contracts.group.BarGroupPartialEq.TheImpl.{eq-value}
-use Rattle.rtui_bars.proofs.chart.cloned_groups.Given as goal
-
-abbrev pub invariant-loop-group : goal.invariant-loop-group
-invariant-loop-group l = pointwise eq-value.it (take l.group-index l.groups) l.cloned.items ≡ true

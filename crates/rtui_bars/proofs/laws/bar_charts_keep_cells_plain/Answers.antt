@@ -1,5 +1,0 @@
-use Rattle.rtui_bars.proofs.NarrowChartLemmas.{chart-plain}
-use Rattle.rtui_bars.proofs.laws.bar_charts_keep_cells_plain.Goals as goal
-
-pub returns : goal.returns
-returns c = chart-plain

@@ -1,5 +1,0 @@
-use Rattle.rtui_calendar.proofs.PlaceLemmas.{column-weekday}
-use Rattle.rtui_calendar.proofs.laws.columns_are_weekdays.Goals as goal
-
-pub returns : goal.returns
-returns c = column-weekday

@@ -1,6 +1,0 @@
-use Rattle.rtui_boxes.proofs.CloneLemmas.{block-same}
-use Rattle.rtui_field.specs.contracts.input.InputEq.TheImpl.Laws.{laws-law}
-use Rattle.rtui_field.proofs.input.Input.clone.Goals as goal
-
-pub returns : goal.returns
-returns c = rw (block-same _ _ c.in_ok-cloned_block.ensures) (laws-law.refl c.args.self.now)

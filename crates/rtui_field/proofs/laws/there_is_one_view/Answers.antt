@@ -1,5 +1,0 @@
-use Rattle.rtui_field.proofs.ViewLemmas.{view-one}
-use Rattle.rtui_field.proofs.laws.there_is_one_view.Goals as goal
-
-pub returns : goal.returns
-returns c = view-one

@@ -1,5 +1,0 @@
-use Rattle.rtui_meters.proofs.WholeLemmas.{full-columns, full-cells}
-use Rattle.rtui_meters.proofs.laws.full_gauges_are_filled.Goals as goal
-
-pub returns : goal.returns
-returns c = record { columns = full-columns; cells = full-cells }

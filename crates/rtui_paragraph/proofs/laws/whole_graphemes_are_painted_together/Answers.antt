@@ -1,5 +1,0 @@
-use Rattle.rtui_paragraph.proofs.RowsLemmas.{whole-together}
-use Rattle.rtui_paragraph.proofs.laws.whole_graphemes_are_painted_together.Goals as goal
-
-pub returns : goal.returns
-returns c = whole-together

@@ -1,7 +1,0 @@
-use Rattle.rtui_boxes.proofs.CloneLemmas.{block-same}
-use Rattle.rtui_paragraph.specs.contracts.paragraph.ParagraphEq.TheImpl.Laws.{laws-law}
-use Rattle.rtui_paragraph.proofs.paragraph.Paragraph.clone.Goals as goal
-
-pub returns : goal.returns
-returns c =
-    rw (block-same _ _ c.in_ok-cloned_block.ensures, c.in_ok-clone.ensures.value) (laws-law.refl c.args.self.now)

@@ -1,5 +1,0 @@
-use Rattle.rtui_popup.proofs.PopupLemmas.{popup-plain}
-use Rattle.rtui_popup.proofs.laws.popups_keep_cells_plain.Goals as goal
-
-pub returns : goal.returns
-returns c = popup-plain

@@ -1,5 +1,0 @@
-use Rattle.rtui_scroll_view.proofs.SettledViewLemmas.{view-plain}
-use Rattle.rtui_scroll_view.proofs.laws.scroll_views_keep_cells_plain.Goals as goal
-
-pub returns : goal.returns
-returns c = view-plain

@@ -1,5 +1,0 @@
-use Rattle.rtui_scrollbar.proofs.NarrowBarLemmas.{plain-scrollbar}
-use Rattle.rtui_scrollbar.proofs.laws.scroll_bars_keep_cells_plain.Goals as goal
-
-pub returns : goal.returns
-returns c = plain-scrollbar

@@ -1,6 +1,0 @@
-use Rattle.std.proofs.Common.{◌≡◌, take, map}
-use Rattle.rtui_table.specs.Rows.{raw_cell}
-use Rattle.rtui_table.proofs.row.raw_cells.Given as goal
-
-abbrev pub invariant-loop-text : goal.invariant-loop-text
-invariant-loop-text l = l.cells.items ≡ map (λ text. raw_cell text.now) (take l.text-index l.texts)

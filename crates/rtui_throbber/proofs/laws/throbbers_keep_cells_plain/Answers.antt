@@ -1,6 +1,0 @@
-use Rattle.std.proofs.Common.{codes}
-use Rattle.rtui_throbber.proofs.NarrowLemmas.{blank-printable, throbber-plain}
-use Rattle.rtui_throbber.proofs.laws.throbbers_keep_cells_plain.Goals as goal
-
-pub returns : goal.returns
-returns c = throbber-plain (c.printable_graphemes_take_one_column.ensures.text (codes " ") blank-printable)

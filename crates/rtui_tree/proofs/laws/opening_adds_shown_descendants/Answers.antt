@@ -1,8 +1,0 @@
-use Rattle.rtui_tree.proofs.LawLemmas.{opening-adds, closing-hides}
-use Rattle.rtui_tree.proofs.laws.opening_adds_shown_descendants.Goals as goal
-
-pub returns-clause-opening : goal.returns-clause-opening
-returns-clause-opening c = opening-adds
-
-pub returns-clause-closing : goal.returns-clause-closing
-returns-clause-closing c = closing-hides

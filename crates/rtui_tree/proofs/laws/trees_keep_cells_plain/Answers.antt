@@ -1,5 +1,0 @@
-use Rattle.rtui_tree.proofs.NarrowTreeLemmas.{tree-plain}
-use Rattle.rtui_tree.proofs.laws.trees_keep_cells_plain.Goals as goal
-
-pub returns : goal.returns
-returns c = tree-plain

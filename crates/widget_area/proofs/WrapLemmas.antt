@@ -1,0 +1,182 @@
+-- Rows of wrapped lines, counted and drawn.
+use Rattle.std.proofs.Common.{◌≡◌, ℕ, zero, suc, ◌+◌, ◌-◌, ◌%◌, ◌<◌, ◌≤◌, nat_le, nat_lt, true, false, List, [], ◌∷◌, length, refl, arith}
+use Rattle.std.proofs.Common.{Result, Bool, cond, ◌==◌, min}
+use Rattle.std.proofs.lemmas.{Bool.Decides.nat_tests, List.Sums.sum_by-append}
+use Rattle.std.specs.declared.alloc.AllocError.{AllocError}
+use Rattle.ratatui_core.specs.{Layout.Rect, Buffer.BufferData}
+use Rattle.rtui_drawing.specs.Cuts.{cut_from}
+use Rattle.rtui_drawing.specs.declared.cut.Cut.TheVariants.{After, Rows}
+use Rattle.rtui_drawing.specs.Drawings.{nothing, over, ◌before◌, draw_if, put_style, DrawsAll, IsDone}
+use Rattle.rtui_drawing.proofs.DrawingLemmas.{done-in}
+use Rattle.text_area.specs.Extents.{is_feed}
+use Rattle.text_area.specs.Lines.{feeds}
+use Rattle.text_area.specs.Areas.{area_text, area_before, area_after}
+use Rattle.widget_area.specs.declared.plan.Plan.{Plan}
+use Rattle.widget_area.specs.declared.view.AreaView.{AreaView}
+use Rattle.widget_area.specs.declared.widget.TextAreaWidget.{TextAreaWidget}
+use Rattle.widget_area.specs.Columns.{columns_of_grapheme, past}
+use Rattle.widget_area.specs.Wraps.{wrapped_line_rows, row_past, wrapped_place_at, former_row}
+use Rattle.widget_area.specs.Windows.{window_start, cursor_row, cursor_part, base_line, rows_above_cursor, first_shown_row, wrapped_place}
+use Rattle.widget_area.specs.TextAreas.{grapheme_drawing, number_drawing, wrapped_row, turned, row_after_line}
+use Rattle.widget_area.specs.TextAreas.{row_style_drawing, first_number_drawing}
+use Rattle.widget_area.specs.TextAreas.{wrapped_grapheme_drawing, wrapped_graphemes_drawing, wrapped_line_drawing, wrapped_lines_drawing}
+
+-- the cursor's line is one of the text
+pub cursor-within : (w : TextAreaWidget) → cursor_row w ≤ feeds (area_text w.text.now)
+cursor-within w =
+    let all : feeds (area_text w.text.now) ≡ feeds (area_before w.text.now) + feeds (area_after w.text.now) =
+    sum_by-append (λ b. cond (is_feed b) 1 0) (area_before w.text.now) (area_after w.text.now) in
+    omega (arith, all)
+
+-- the next line is counted, and none is left
+pub row-next : (w : TextAreaWidget) (stride row i end : ℕ) → i < end
+    → row_past w stride row i (end - i) ≡ row_past w stride (past row (wrapped_line_rows w stride i)) (i + 1) (end - (i + 1))
+row-next w stride row i end lt = let more : end - i ≡ suc (end - (i + 1)) = omega arith in rw more refl
+
+pub row-end : (w : TextAreaWidget) (stride row i end : ℕ) → end ≤ i → row_past w stride row i (end - i) ≡ row
+row-end w stride row i end le = let none : end - i ≡ 0 = omega arith in rw none refl
+
+-- a row stands in a line, or in a later one
+pub wrapped_place_at-here : (w : TextAreaWidget) (stride row i end : ℕ) → i < end → row < wrapped_line_rows w stride i
+    → wrapped_place_at w stride row i (end - i) ≡ (i, row)
+wrapped_place_at-here w stride row i end lt here =
+    let more : end - i ≡ suc (end - (i + 1)) = omega arith in
+    let test : nat_lt row (wrapped_line_rows w stride i) ≡ true = grind (arith, nat_tests) in rw (more, test) refl
+
+pub wrapped_place_at-next : (w : TextAreaWidget) (stride row i end : ℕ) → i < end → wrapped_line_rows w stride i ≤ row
+    → wrapped_place_at w stride row i (end - i) ≡ wrapped_place_at w stride (row - wrapped_line_rows w stride i) (i + 1) (end - (i + 1))
+wrapped_place_at-next w stride row i end lt later =
+    let more : end - i ≡ suc (end - (i + 1)) = omega arith in
+    let test : nat_lt row (wrapped_line_rows w stride i) ≡ false = grind (arith, nat_tests) in rw (more, test) refl
+
+pub wrapped_place_at-end : (w : TextAreaWidget) (stride row i end : ℕ) → end ≤ i
+    → wrapped_place_at w stride row i (end - i) ≡ (i, row)
+wrapped_place_at-end w stride row i end le = let none : end - i ≡ 0 = omega arith in rw none refl
+
+-- a grapheme in its row
+pub wrapped-drawn : {A : Type 0} (w : TextAreaWidget) (p q : Plan) (r line part : Rect) (begin column byte row : ℕ) (g : List ℕ)
+    (result : Result A AllocError) (old new : BufferData)
+    → row ≡ wrapped_row p begin column → p.above ≤ row → line ≡ cut_from (Rows (row - p.above) 1) r
+    → part ≡ cut_from (After p.numbers) line → q ≡ turned p column
+    → IsDone (grapheme_drawing w q part.width column byte g) part result old new
+    → IsDone (wrapped_grapheme_drawing w p r.width begin column byte g) r result old new
+wrapped-drawn w p q r line part begin column byte row g result old new row_is le line_is part_is q_is done =
+    let test : nat_le p.above row ≡ true = grind (arith, nat_tests) in
+    let inner : IsDone (over (After p.numbers) (grapheme_drawing w q part.width column byte g)) line result old new =
+    done-in (After p.numbers) part result done part_is in
+    let all : IsDone (draw_if (nat_le p.above row) (over (Rows (row - p.above) 1)
+    (over (After p.numbers) (grapheme_drawing w q part.width column byte g)))) r result old new =
+    rw test (done-in (Rows (row - p.above) 1) line result inner line_is) in
+    rw (part_is, line_is, q_is, row_is) at all
+
+-- above the view there is none
+pub wrapped-hidden : (w : TextAreaWidget) (p : Plan) (width begin column byte row : ℕ) (g : List ℕ)
+    → row ≡ wrapped_row p begin column → row < p.above → wrapped_grapheme_drawing w p width begin column byte g ≡ nothing
+wrapped-hidden w p width begin column byte row g row_is lt =
+    let test : nat_le p.above (wrapped_row p begin column) ≡ false = grind (arith, nat_tests) in rw test refl
+
+-- the next grapheme
+pub wrapped-next : (w : TextAreaWidget) (p : Plan) (r : Rect) (begin column byte : ℕ) (g : List ℕ) (gs left : List (List ℕ))
+    → left ≡ g ∷ gs → wrapped_row p begin column - p.above < r.height
+    → wrapped_graphemes_drawing w p r begin column byte left ≡ (wrapped_grapheme_drawing w p r.width begin column byte g
+    before wrapped_graphemes_drawing w p r begin (past column (columns_of_grapheme w.tab column g)) (past byte (length g)) gs)
+wrapped-next w p r begin column byte g gs left is lt =
+    let test : nat_lt (wrapped_row p begin column - p.above) r.height ≡ true = grind (arith, nat_tests) in rw (is, test) refl
+
+-- nothing is left after the last row
+pub wrapped-end : (w : TextAreaWidget) (p : Plan) (r : Rect) (begin column byte : ℕ) (gs : List (List ℕ))
+    → r.height ≤ wrapped_row p begin column - p.above → wrapped_graphemes_drawing w p r begin column byte gs ≡ nothing
+wrapped-end w p r begin column byte [] le = refl
+wrapped-end w p r begin column byte (g ∷ gs) le =
+    let test : nat_lt (wrapped_row p begin column - p.above) r.height ≡ false = grind (arith, nat_tests) in rw test refl
+
+-- the style of a line's rows
+pub style-drawn : (w : TextAreaWidget) (p : Plan) (r part : Rect) (begin i y rows : ℕ) (is_lit : Bool) (old new : BufferData)
+    → y ≡ begin - p.above → rows ≡ min (row_after_line w p begin i - p.above - y) r.height → is_lit ≡ (i == p.row)
+    → part ≡ cut_from (Rows y rows) r → DrawsAll (draw_if is_lit (put_style w.cursor_line_style)) part old new
+    → DrawsAll (row_style_drawing w p r begin i) r old new
+style-drawn w p r part begin i y rows is_lit old new y_is rows_is lit part_is drawn =
+    rw (part_is, rows_is, y_is, lit) at drawn
+
+-- the number of a line, in its first row
+pub number-shown : {A : Type 0} (w : TextAreaWidget) (p : Plan) (r row : Rect) (begin i : ℕ) (result : Result A AllocError)
+    (old new : BufferData) → p.above ≤ begin → row ≡ cut_from (Rows (begin - p.above) 1) r
+    → IsDone (number_drawing w p row.width i) row result old new
+    → IsDone (first_number_drawing w p r.width begin i) r result old new
+number-shown w p r row begin i result old new le row_is done =
+    let test : nat_le p.above begin ≡ true = grind (arith, nat_tests) in
+    let inner : IsDone (over (Rows (begin - p.above) 1) (number_drawing w p row.width i)) r result old new =
+    done-in (Rows (begin - p.above) 1) row result done row_is in
+    rw test (rw row_is at inner)
+
+pub number-hidden : (w : TextAreaWidget) (p : Plan) (width begin i : ℕ) → begin < p.above
+    → first_number_drawing w p width begin i ≡ nothing
+number-hidden w p width begin i lt =
+    let test : nat_le p.above begin ≡ false = grind (arith, nat_tests) in rw test refl
+
+-- the next line
+pub lines-next : (w : TextAreaWidget) (p : Plan) (r : Rect) (begin i k : ℕ) → k < r.height → i ≤ feeds (area_text w.text.now)
+    → begin - p.above < r.height
+    → wrapped_lines_drawing w p r begin i (r.height - k) ≡ (wrapped_line_drawing w p r begin i
+    before wrapped_lines_drawing w p r (row_after_line w p begin i) (i + 1) (r.height - (k + 1)))
+lines-next w p r begin i k lt le there =
+    let more : r.height - k ≡ suc (r.height - (k + 1)) = omega arith in
+    let one : nat_le i (feeds (area_text w.text.now)) ≡ true = grind (arith, nat_tests) in
+    let two : nat_lt (begin - p.above) r.height ≡ true = grind (arith, nat_tests) in rw (more, one, two) refl
+
+-- no line is left after the last one, none below the view, and none after so many
+pub lines-none : (w : TextAreaWidget) (p : Plan) (r : Rect) (begin i n : ℕ) → feeds (area_text w.text.now) < i
+    → wrapped_lines_drawing w p r begin i n ≡ nothing
+lines-none w p r begin i zero lt = refl
+lines-none w p r begin i (suc n) lt =
+    let one : nat_le i (feeds (area_text w.text.now)) ≡ false = grind (arith, nat_tests) in rw one refl
+
+pub lines-below : (w : TextAreaWidget) (p : Plan) (r : Rect) (begin i n : ℕ) → i ≤ feeds (area_text w.text.now)
+    → r.height ≤ begin - p.above → wrapped_lines_drawing w p r begin i n ≡ nothing
+lines-below w p r begin i zero within le = refl
+lines-below w p r begin i (suc n) within le =
+    let one : nat_le i (feeds (area_text w.text.now)) ≡ true = grind (arith, nat_tests) in
+    let two : nat_lt (begin - p.above) r.height ≡ false = grind (arith, nat_tests) in rw (one, two) refl
+
+pub lines-end : (w : TextAreaWidget) (p : Plan) (r : Rect) (begin i k : ℕ) → r.height ≤ k
+    → wrapped_lines_drawing w p r begin i (r.height - k) ≡ nothing
+lines-end w p r begin i k le = let none : r.height - k ≡ 0 = omega arith in rw none refl
+
+-- a window stays if its place is in it
+window-stays : (first place room : ℕ) → first ≤ place → place < first + room → window_start first place room ≡ first
+window-stays first place room le lt = omega (arith, le, lt)
+
+wrapped_place_at-stays : (w : TextAreaWidget) (stride row i n : ℕ) → row < wrapped_line_rows w stride i
+    → wrapped_place_at w stride row i n ≡ (i, row)
+wrapped_place_at-stays w stride row i zero lt = refl
+wrapped_place_at-stays w stride row i (suc n) lt =
+    let test : nat_lt row (wrapped_line_rows w stride i) ≡ true = grind (arith, nat_tests) in rw test refl
+
+pub wrapped-stays : (w : TextAreaWidget) (v : AreaView) (stride height : ℕ) → v.top ≤ cursor_row w
+    → cursor_row w < v.top + height → v.row < wrapped_line_rows w stride v.top → v.row ≤ rows_above_cursor w stride v.top
+    → rows_above_cursor w stride v.top < v.row + height → wrapped_place w v stride height ≡ (v.top, v.row)
+wrapped-stays w v stride height top bottom row above below =
+    let line : base_line w v height ≡ v.top = window-stays v.top (cursor_row w) height top bottom in
+    let same : (v.top == v.top) ≡ true = grind (arith, nat_tests) in
+    let former : former_row v v.top (rows_above_cursor w stride v.top) ≡ v.row = rw same refl in
+    let first : first_shown_row w v stride v.top height ≡ v.row =
+    rw former (window-stays v.row (rows_above_cursor w stride v.top) height above below) in
+    rw (line, first) (wrapped_place_at-stays w stride v.row v.top (cursor_row w - v.top) row)
+
+-- the view as it is computed
+pub place-is : (w : TextAreaWidget) (v : AreaView) (stride height row part line rows cursor former first : ℕ) (place : ℕ × ℕ)
+    → row ≡ cursor_row w → part ≡ cursor_part w stride → line ≡ window_start v.top row height
+    → rows ≡ row_past w stride 0 line (row - line) → cursor ≡ past rows part
+    → former ≡ former_row v line cursor → first ≡ window_start former cursor height
+    → place ≡ wrapped_place_at w stride first line (row - line) → place ≡ wrapped_place w v stride height
+place-is w v stride height row part line rows cursor former first place row_is part_is line_is rows_is cursor_is former_is
+    first_is place_is =
+    rw (first_is, former_is, cursor_is, rows_is, line_is, row_is, part_is) at place_is
+
+pub y-is : (w : TextAreaWidget) (v : AreaView) (stride height row part line rows cursor former first y : ℕ)
+    → row ≡ cursor_row w → part ≡ cursor_part w stride → line ≡ window_start v.top row height
+    → rows ≡ row_past w stride 0 line (row - line) → cursor ≡ past rows part
+    → former ≡ former_row v line cursor → first ≡ window_start former cursor height → y ≡ cursor - first
+    → y ≡ rows_above_cursor w stride (base_line w v height) - first_shown_row w v stride (base_line w v height) height
+y-is w v stride height row part line rows cursor former first y row_is part_is line_is rows_is cursor_is former_is first_is y_is =
+    rw (first_is, former_is, cursor_is, rows_is, line_is, row_is, part_is) at y_is

@@ -1,0 +1,42 @@
+//! Laws of lists that are no single call's clause.
+
+ghost use Rattle.std.specs.Prelude.{◌≡◌, ℕ, ◌+◌, ◌<◌, ◌≤◌, Some, IfSome};
+ghost use Rattle.ratatui_core.specs.Layout.{Rect};
+ghost use Rattle.ratatui_core.specs.Buffer.{BufferData, IsPlainFrom};
+ghost use Rattle.widget_boxes.specs.Boxes.{IsNarrowBox};
+ghost use Rattle.widget_list.specs.declared.list.List.{List as ListData};
+ghost use Rattle.widget_list.specs.declared.state.ListState.{ListState};
+ghost use Rattle.widget_list.specs.declared.list.HighlightSpacing.{HighlightSpacing};
+ghost use Rattle.widget_list.specs.declared.list.HighlightSpacing.TheVariants.{WhenSelected};
+ghost use Rattle.widget_list.specs.declared.list.ListDirection.{ListDirection};
+ghost use Rattle.widget_list.specs.declared.list.ListDirection.TheVariants.{TopToBottom};
+ghost use Rattle.widget_list.specs.Items.{HasNarrowItems, RendersList, ShowsList};
+ghost use Rattle.widget_list.specs.Windows.{Fit};
+
+use crate::list::{HighlightSpacing, ListDirection};
+
+/// A list whose texts and whose symbol take one column for each grapheme leaves a buffer of plain
+/// cells one of plain cells, if it has no box or a narrow one; so a screen can show it. Under a
+/// highlight a wide grapheme's second column is no blank any more.
+pub fn lists_keep_cells_plain()
+    ensures { (l : ListData) (s t : ListState) (area : Rect) (old new : BufferData)
+        → IfSome l.block IsNarrowBox → HasNarrowItems l → IsPlainFrom 0 old
+        → RendersList l s t area old new → IsPlainFrom 0 new }
+{}
+
+/// The selected item is shown if its rows fit: it is one of those from the state's offset on.
+pub fn selected_items_are_shown()
+    ensures { (l : ListData) (s t : ListState) (r : Rect) (old new : BufferData) (selected : ℕ)
+        → t.selected ≡ Some selected → Fit l.items.items r.height selected (selected + 1)
+        → (shows : ShowsList l s t r old new)
+        → (t.offset ≤ selected) × (selected < t.offset + shows.count) }
+{}
+
+/// A list stands from above, and has columns for its highlight symbol if an item is selected,
+/// unless it is told otherwise.
+pub fn lists_have_these_defaults()
+    ensures direction { (d : ListDirection) → ⟦<ListDirection as Default>⟧.is_default d
+        → d ≡ TopToBottom }
+    ensures spacing { (h : HighlightSpacing) → ⟦<HighlightSpacing as Default>⟧.is_default h
+        → h ≡ WhenSelected }
+{}

@@ -1,0 +1,19 @@
+//! A list of items, of which one may be selected.
+//!
+//! It stands on `ratatui_core` and `widget_boxes`. `specs/Windows` says which items are shown,
+//! `specs/States` what selecting one makes of a state, and `specs/Items` what an item looks like
+//! and what a list makes of a buffer and of its state.
+#![tactic(auto)]
+
+mod fresh;
+mod item;
+pub mod laws;
+mod list;
+mod names;
+mod state;
+mod styled;
+mod window;
+
+pub use item::ListItem;
+pub use list::{HighlightSpacing, List, ListDirection};
+pub use state::ListState;

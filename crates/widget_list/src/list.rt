@@ -1,0 +1,555 @@
+//! A list of items.
+
+ghost use Rattle.std.specs.Prelude.{◌≡◌, ◌==◌, ◌≤◌, ◌<◌, ◌+◌, if◌then◌else◌, Some, OnOk, OnErr, IsOk, IfOk};
+ghost use Rattle.std.specs.Prelude.{length, IfSome, true, map, List as Sequence};
+ghost use Rattle.std.specs.Iterator.{IsFinite, Drains};
+ghost use Rattle.ratatui_core.specs.Layout.{IsInside};
+ghost use Rattle.ratatui_core.specs.Widgets.{ChangesWithin};
+ghost use Rattle.ratatui_core.specs.Buffer.{IsStyled};
+ghost use Rattle.widget_boxes.specs.Boxes.{IsBoxArea};
+ghost use Rattle.widget_boxes.specs.Titles.{DoesIf};
+ghost use Rattle.widget_boxes.specs.Lines.{RendersIfLine, IsShortTitle};
+ghost use Rattle.widget_list.specs.Windows.{Fit};
+ghost use Rattle.widget_list.specs.Items.{is_marked, has_mark_columns, mark_width, item_part};
+ghost use Rattle.widget_list.specs.Items.{MarksRow, MarksRows, RendersItem, ShowsItems, ShowsList};
+ghost use Rattle.widget_list.specs.Items.{IsNewList, IsShortItem, HasShortItems, raw_item};
+ghost use Rattle.widget_list.specs.declared.item.ListItem.{ListItem as ItemData};
+
+use crate::item::ListItem;
+use crate::state::ListState;
+use crate::window::{count_from, offset_for};
+use ratatui_core::buffer::{Buffer, Cell, CellChange, change_area};
+use ratatui_core::layout::{Position, Rect};
+use ratatui_core::style::Style;
+use ratatui_core::text::Line;
+use ratatui_core::widgets::{StatefulWidget, Widget};
+use std::alloc::{AllocError, Global};
+use widget_boxes::{Block, cloned_block, cloned_line, render_frame};
+
+/// From where the items stand one after the other.
+#[derive(Debug, Default, Clone, Copy, PartialEq, Eq, Hash)]
+pub enum ListDirection {
+    /// From above.
+    #[default]
+    TopToBottom,
+    /// From below.
+    BottomToTop,
+}
+
+/// When the columns of the highlight symbol stay free beside the other items.
+#[derive(Debug, Default, Clone, Copy, PartialEq, Eq, Hash)]
+pub enum HighlightSpacing {
+    /// Always.
+    Always,
+    /// If an item is selected.
+    #[default]
+    WhenSelected,
+    /// Never; the symbol isn't shown either.
+    Never,
+}
+
+impl HighlightSpacing {
+    // Whether the columns stay free.
+    fn has_columns(&self, is_selected: bool) -> bool
+        ensures { result ≡ has_mark_columns self.now is_selected }
+    {
+        match self {
+            HighlightSpacing::Always => true,
+            HighlightSpacing::WhenSelected => is_selected,
+            HighlightSpacing::Never => false,
+        }
+    }
+}
+
+/// Items one below the other, of which one may be selected: the one that a state says.
+///
+/// ```
+/// let list = List::new(items)
+///     .highlight_symbol(Line::raw(alloc, "> ")?)
+///     .highlight_style(Style::new().bg(Color::Blue));
+/// StatefulWidget::render(&list, area, buf, &mut state)?;
+/// ```
+#[derive(Debug, PartialEq, Eq, Drop)]
+pub struct List<'a> {
+    block: Option<Block<'a>>,
+    items: Vec<ListItem<'a>>,
+    pub(crate) style: Style,
+    direction: ListDirection,
+    highlight_style: Style,
+    highlight_symbol: Option<Line<'a>>,
+    repeat_highlight_symbol: bool,
+    highlight_spacing: HighlightSpacing,
+    scroll_padding: usize,
+}
+
+impl<'a> List<'a> {
+    /// Makes a list of items, without box, styles and highlight symbol; takes no memory.
+    pub fn new(items: Vec<ListItem<'a>>) -> List<'a>
+        ensures { IsNewList items.entry.items result }
+    {
+        List {
+            block: None,
+            items,
+            style: Style::new(),
+            direction: ListDirection::TopToBottom,
+            highlight_style: Style::new(),
+            highlight_symbol: None,
+            repeat_highlight_symbol: false,
+            highlight_spacing: HighlightSpacing::WhenSelected,
+            scroll_padding: 0,
+        }
+    }
+
+    /// Makes a list of plain texts, an item each, as [`ListItem::raw`] makes it.
+    ///
+    /// ```
+    /// let list = List::raw(alloc, &["one", "two"])?;
+    /// ```
+    ///
+    /// # Errors
+    ///
+    /// `AllocError` if memory is refused.
+    pub fn raw(alloc: Global, texts: &[&'a str]) -> Result<List<'a>, AllocError>
+        ensures { let items = map (λ text. raw_item text.now) texts.now in
+            IfOk result (IsNewList items) }
+    {
+        Ok(List::new(raw_items(alloc, texts)?))
+    }
+
+    /// Makes a list of the items that an iterator gives, an array among them.
+    ///
+    /// # Conditions
+    ///
+    /// The iterator comes to an end, and `next` may be called on it until then.
+    ///
+    /// # Errors
+    ///
+    /// `AllocError` if memory is refused.
+    pub fn try_from_iter<I>(alloc: Global, items: I) -> Result<List<'a>, AllocError>
+    where
+        I: IntoIterator<Item = ListItem<'a>>,
+        requires { (it : I.IntoIter) → I.into_iter_gives items it
+            → I.IntoIter.can_next it × IsFinite (I.IntoIter.remaining it) }
+        ensures { IfOk result (λ made. (it : I.IntoIter) × (given : Sequence ItemData)
+            × I.into_iter_gives items it × Drains I.IntoIter.next_gives it given
+            × IsNewList given made) }
+    {
+        Ok(List::new(Vec::from_iter(alloc, items)?))
+    }
+
+    /// Sets the items of the list.
+    pub fn items(mut self, items: Vec<ListItem<'a>>) -> List<'a>
+        ensures { result ≡ record self.entry { items = items.entry } }
+    {
+        self.items = items;
+        self
+    }
+
+    /// Puts the list in a box.
+    pub fn block(mut self, block: Block<'a>) -> List<'a>
+        ensures { result ≡ record self.entry { block = Some block.entry } }
+    {
+        self.block = Some(block);
+        self
+    }
+
+    /// Sets the style of the list.
+    pub fn style(mut self, style: Style) -> List<'a>
+        ensures { result ≡ record self.entry { style = style } }
+    {
+        self.style = style;
+        self
+    }
+
+    /// Sets the direction of the list: from above or from below.
+    pub fn direction(mut self, direction: ListDirection) -> List<'a>
+        ensures { result ≡ record self.entry { direction = direction } }
+    {
+        self.direction = direction;
+        self
+    }
+
+    /// Sets the style of the selected item.
+    pub fn highlight_style(mut self, style: Style) -> List<'a>
+        ensures { result ≡ record self.entry { highlight_style = style } }
+    {
+        self.highlight_style = style;
+        self
+    }
+
+    /// Sets the symbol before the selected item, in the symbol's own styles over the item's and the
+    /// highlight's.
+    pub fn highlight_symbol(mut self, symbol: Line<'a>) -> List<'a>
+        ensures { result ≡ record self.entry { highlight_symbol = Some symbol.entry } }
+    {
+        self.highlight_symbol = Some(symbol);
+        self
+    }
+
+    /// Sets whether the symbol stands before each line of the selected item, or before the first
+    /// one.
+    pub fn repeat_highlight_symbol(mut self, repeat: bool) -> List<'a>
+        ensures { result ≡ record self.entry { repeat_highlight_symbol = repeat } }
+    {
+        self.repeat_highlight_symbol = repeat;
+        self
+    }
+
+    /// Sets when the columns of the symbol stay free.
+    pub fn highlight_spacing(mut self, spacing: HighlightSpacing) -> List<'a>
+        ensures { result ≡ record self.entry { highlight_spacing = spacing } }
+    {
+        self.highlight_spacing = spacing;
+        self
+    }
+
+    /// Sets how many items before and after the selected one are in view, if they fit.
+    pub fn scroll_padding(mut self, padding: usize) -> List<'a>
+        ensures { result ≡ record self.entry { scroll_padding = padding } }
+    {
+        self.scroll_padding = padding;
+        self
+    }
+
+    /// Makes an equal list.
+    ///
+    /// # Errors
+    ///
+    /// `AllocError` if memory is refused.
+    pub fn clone(&self, alloc: Global) -> Result<List<'a>, AllocError>
+        ensures { let same = ⟦<List<'a> as PartialEq>⟧.eq in
+            IfOk result (λ list. same self.now list ≡ true) }
+    {
+        Ok(List {
+            block: cloned_block(alloc, &self.block)?,
+            items: cloned_items(alloc, self.items.as_slice())?,
+            style: self.style,
+            direction: self.direction,
+            highlight_style: self.highlight_style,
+            highlight_symbol: cloned_line(alloc, &self.highlight_symbol)?,
+            repeat_highlight_symbol: self.repeat_highlight_symbol,
+            highlight_spacing: self.highlight_spacing,
+            scroll_padding: self.scroll_padding,
+        })
+    }
+
+    /// Returns how many items there are.
+    pub fn len(&self) -> usize
+        ensures { result ≡ length self.now.items.items }
+    {
+        self.items.len()
+    }
+
+    /// Returns whether there are none.
+    pub fn is_empty(&self) -> bool
+        ensures { result ≡ (length self.now.items.items == 0) }
+    {
+        self.items.is_empty()
+    }
+
+    // Where an item stands that takes so many rows, after so many others.
+    fn item_part(&self, inner: Rect, used: u16, rows: u16) -> Rect
+        requires some { IsBoxArea inner }
+        requires fits { used + rows ≤ inner.height }
+        ensures { result ≡ item_part self.now.direction inner used rows }
+    {
+        let y = match self.direction {
+            ListDirection::TopToBottom => inner.y + used,
+            ListDirection::BottomToTop => inner.y + (inner.height - used - rows),
+        };
+        Rect {
+            y,
+            height: rows,
+            ..inner
+        }
+    }
+
+    // How many columns of a part the symbol takes.
+    fn mark_width(&self, part: Rect) -> u16
+        ensures value { result ≡ mark_width self.now.highlight_symbol part }
+        ensures within { result ≤ part.width }
+    {
+        match &self.highlight_symbol {
+            Some(symbol) => symbol.width().min(usize::from(part.width)) as u16,
+            None => 0,
+        }
+    }
+
+    // Whether the symbol stands in a row of an item.
+    fn is_marked(&self, is_selected: bool, j: u16) -> bool
+        ensures { result ≡ is_marked self.now is_selected j }
+    {
+        is_selected && (j == 0 || self.repeat_highlight_symbol)
+    }
+
+    // Renders the symbol over an area, if there is one.
+    fn render_symbol(&self, area: Rect, buf: &mut Buffer) -> Result<(), AllocError>
+        ensures within { ChangesWithin area buf.old buf.new }
+        ensures ok { OnOk result
+            (RendersIfLine self.now.highlight_symbol area buf.old buf.new) }
+        ensures short { IfSome self.now.highlight_symbol IsShortTitle → IsOk result }
+    {
+        if let Some(symbol) = &self.highlight_symbol {
+            symbol.render(area, buf)?;
+        }
+        Ok(())
+    }
+
+    // Renders the symbol in a row of the selected item, or blanks in its columns.
+    fn render_mark(&self, is_marked: bool, row: Rect, buf: &mut Buffer) -> Result<(), AllocError>
+        ensures within { ChangesWithin row buf.old buf.new }
+        ensures ok { OnOk result
+            (MarksRow self.now.highlight_symbol is_marked row buf.old buf.new) }
+        ensures short { IfSome self.now.highlight_symbol IsShortTitle → IsOk result }
+    {
+        let columns = Rect {
+            width: self.mark_width(row),
+            ..row
+        };
+        if is_marked {
+            return self.render_symbol(columns, buf);
+        }
+        change_area(buf, columns, &Blank)
+    }
+
+    // How many columns the symbol takes, if they stay free.
+    fn mark_columns(&self, has_columns: bool, part: Rect) -> u16
+        ensures value { let width = mark_width self.now.highlight_symbol part in
+            result ≡ (if has_columns then width else 0) }
+        ensures within { result ≤ part.width }
+    {
+        if has_columns {
+            self.mark_width(part)
+        } else {
+            0
+        }
+    }
+
+    // Renders the symbol or blanks in each row of an item, if their columns stay free.
+    fn render_marks_if(
+        &self,
+        has_columns: bool,
+        is_selected: bool,
+        part: Rect,
+        buf: &mut Buffer,
+    ) -> Result<(), AllocError>
+        requires down { part.y + part.height ≤ 65535 }
+        ensures within { ChangesWithin part buf.old buf.new }
+        ensures ok { OnOk result
+            (DoesIf has_columns (MarksRows self.now is_selected part) buf.old buf.new) }
+        ensures short { IfSome self.now.highlight_symbol IsShortTitle → IsOk result }
+    {
+        if !has_columns {
+            return Ok(());
+        }
+        self.render_marks(is_selected, part, buf)
+    }
+
+    // Lays the highlight's style over the selected item.
+    fn highlight_if(&self, is_selected: bool, part: Rect, buf: &mut Buffer)
+        ensures within { ChangesWithin part buf.old buf.new }
+        ensures styled { DoesIf is_selected (IsStyled part self.now.highlight_style) buf.old buf.new }
+    {
+        if is_selected {
+            buf.set_style(part, self.highlight_style);
+        }
+    }
+
+    // Renders the symbol or blanks in each row of an item.
+    fn render_marks(
+        &self,
+        is_selected: bool,
+        part: Rect,
+        buf: &mut Buffer,
+    ) -> Result<(), AllocError>
+        requires down { part.y + part.height ≤ 65535 }
+        ensures within { ChangesWithin part buf.old buf.new }
+        ensures ok { OnOk result (MarksRows self.now is_selected part buf.old buf.new) }
+        ensures short { IfSome self.now.highlight_symbol IsShortTitle → IsOk result }
+    {
+        for j in 0..part.height {
+            let is_marked = self.is_marked(is_selected, j);
+            let row = Rect {
+                y: part.y + j,
+                height: 1,
+                ..part
+            };
+            self.render_mark(is_marked, row, buf)?;
+        }
+        Ok(())
+    }
+
+    // Renders an item: its style, its text beside the symbol's columns, the highlight, and over it
+    // the symbol.
+    fn render_item(
+        &self,
+        item: &ListItem<'a>,
+        is_selected: bool,
+        has_columns: bool,
+        part: Rect,
+        buf: &mut Buffer,
+    ) -> Result<(), AllocError>
+        requires across { part.x + part.width ≤ 65535 }
+        requires down { part.y + part.height ≤ 65535 }
+        ensures within { ChangesWithin part buf.old buf.new }
+        ensures ok { OnOk result
+            (RendersItem self.now item.now is_selected has_columns part buf.old buf.new) }
+        ensures short { let symbol = self.now.highlight_symbol in
+            IfSome symbol IsShortTitle → IsShortItem item.now → IsOk result }
+    {
+        buf.set_style(part, self.style.patch(item.style));
+        let mark = self.mark_columns(has_columns, part);
+        let text = Rect {
+            x: part.x + mark,
+            width: part.width - mark,
+            ..part
+        };
+        (&item.content).render(text, buf)?;
+        self.highlight_if(is_selected, part, buf);
+        self.render_marks_if(has_columns, is_selected, part, buf)?;
+        Ok(())
+    }
+
+    // Renders so many items from one on.
+    fn render_items(
+        &self,
+        selected: Option<usize>,
+        offset: usize,
+        count: usize,
+        inner: Rect,
+        buf: &mut Buffer,
+    ) -> Result<(), AllocError>
+        requires some { IsBoxArea inner }
+        requires inside { IsInside inner buf.old.area }
+        requires items { offset + count ≤ length self.now.items.items }
+        requires fits { Fit self.now.items.items inner.height offset (offset + count) }
+        ensures within { ChangesWithin inner buf.old buf.new }
+        ensures ok { OnOk result
+            (ShowsItems self.now selected offset count inner buf.old buf.new) }
+        ensures short { HasShortItems self.now → IsOk result }
+    {
+        let has_columns = self.highlight_spacing.has_columns(selected.is_some());
+        let items = self.items.as_slice();
+        let mut used = 0;
+        for k in 0..count {
+            let item = &items[offset + k];
+            let rows = item.height() as u16;
+            let part = self.item_part(inner, used, rows);
+            let is_selected = selected == Some(offset + k);
+            self.render_item(item, is_selected, has_columns, part, buf)?;
+            used += rows;
+        }
+        Ok(())
+    }
+
+    // Renders what is shown of the items, of which there are some, and brings the state up to date.
+    fn render_list(
+        &self,
+        inner: Rect,
+        buf: &mut Buffer,
+        state: &mut ListState,
+    ) -> Result<(), AllocError>
+        requires some { IsBoxArea inner }
+        requires inside { IsInside inner buf.old.area }
+        ensures within { ChangesWithin inner buf.old buf.new }
+        ensures ok { OnOk result
+            (ShowsList self.now state.old state.new inner buf.old buf.new) }
+        ensures left { OnErr result (state.new ≡ state.old) }
+        ensures short { HasShortItems self.now → IsOk result }
+    {
+        let items = self.items.as_slice();
+        if items.is_empty() {
+            state.select(None);
+            return Ok(());
+        }
+        let height = usize::from(inner.height);
+        let last = items.len() - 1;
+        let selected = state.selected.map(|index| index.min(last));
+        let offset = offset_for(items, self.scroll_padding, selected, state.offset, height);
+        let count = count_from(items, offset, height);
+        self.render_items(selected, offset, count, inner, buf)?;
+        state.selected = selected;
+        state.offset = offset;
+        Ok(())
+    }
+}
+
+// An item for each text.
+fn raw_items<'a>(alloc: Global, texts: &[&'a str]) -> Result<Vec<ListItem<'a>>, AllocError>
+    ensures { IfOk result (λ made. made.items ≡ map (λ text. raw_item text.now) texts.now) }
+{
+    let mut items = Vec::with_capacity(alloc, texts.len())?;
+    for text in texts {
+        items.push(ListItem::raw(alloc, text)?)?;
+    }
+    Ok(items)
+}
+
+// Equal items.
+fn cloned_items<'a>(alloc: Global, items: &[ListItem<'a>]) -> Result<Vec<ListItem<'a>>, AllocError>
+    ensures { IfOk result (λ cloned. cloned.items ≡ items.now) }
+{
+    let mut cloned = Vec::with_capacity(alloc, items.len())?;
+    for item in items {
+        cloned.push(item.clone(alloc)?)?;
+    }
+    Ok(cloned)
+}
+
+// A blank in the style that stands there.
+#[derive(Drop)]
+struct Blank;
+
+impl CellChange for Blank {
+    ghost use Rattle.std.specs.Prelude.{⊤};
+    ghost use Rattle.widget_list.specs.Items.{left_blank};
+
+    ghost made = { λ _ _. left_blank };
+
+    ghost is_light = { λ _ _ _. ⊤ };
+
+    fn change(&self, alloc: Global, position: Position, cell: &mut Cell) -> Result<(), AllocError> {
+        let _ = position;
+        cell.set_symbol(alloc, " ")
+    }
+}
+
+/// Over the area, as far as the buffer has it: the style, the box, and inside the items from the
+/// state's first one on, as many as fit whole. The state's selection is at most the last item, and
+/// its first item such that the selected one is in view. A refused list leaves its state as it was.
+impl<'b, 'a> StatefulWidget for &'b List<'a> {
+    type State = ListState;
+
+    ghost use Rattle.std.specs.Prelude.{◌≡◌};
+    ghost use Rattle.widget_list.specs.Items.{RendersList, IsShortList};
+
+    ghost renders = { λ list. RendersList list.now };
+
+    ghost leaves = { λ _ old new _ _ _. new ≡ old };
+
+    ghost is_short = { λ list _ _. IsShortList list.now };
+
+    fn render(self, area: Rect, buf: &mut Buffer, state: &mut ListState) -> Result<(), AllocError> {
+        let Some(inner) = render_frame(self.style, &self.block, area, buf)? else {
+            return Ok(());
+        };
+        self.render_list(inner, buf, state)
+    }
+}
+
+impl<'a> StatefulWidget for List<'a> {
+    type State = ListState;
+
+    ghost use Rattle.std.specs.Prelude.{◌≡◌};
+    ghost use Rattle.widget_list.specs.Items.{RendersList, IsShortList};
+
+    ghost renders = { RendersList };
+
+    ghost leaves = { λ _ old new _ _ _. new ≡ old };
+
+    ghost is_short = { λ list _ _. IsShortList list };
+
+    fn render(self, area: Rect, buf: &mut Buffer, state: &mut ListState) -> Result<(), AllocError> {
+        StatefulWidget::render(&self, area, buf, state)
+    }
+}

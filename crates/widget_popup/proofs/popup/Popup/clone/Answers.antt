@@ -1,0 +1,7 @@
+use Rattle.widget_boxes.proofs.CloneLemmas.{block-same}
+use Rattle.widget_popup.specs.contracts.popup.PopupEq.TheImpl.Laws.{laws-law}
+use Rattle.widget_popup.proofs.popup.Popup.clone.Goals as goal
+
+pub returns : goal.returns
+returns c =
+    rw (block-same _ _ c.in_ok-cloned_block.ensures, c.in_ok-clone.ensures.value) (laws-law.refl c.args.self.now)

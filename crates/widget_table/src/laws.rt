@@ -1,0 +1,34 @@
+//! Laws of tables that are no single call's clause.
+
+ghost use Rattle.std.specs.Prelude.{◌≡◌, ℕ, ◌≤◌, ◌<◌, Some, IfSome};
+ghost use Rattle.ratatui_core.specs.Layout.{Rect};
+ghost use Rattle.ratatui_core.specs.Buffer.{BufferData, IsPlainFrom};
+ghost use Rattle.widget_boxes.specs.Boxes.{IsNarrowBox};
+ghost use Rattle.widget_table.specs.declared.table.Table.{Table as TableData};
+ghost use Rattle.widget_table.specs.declared.state.TableState.{TableState};
+ghost use Rattle.widget_table.specs.Rows.{IsInView, rows_area, upper_at, cells_at};
+ghost use Rattle.widget_table.specs.Tables.{HasNarrowRows, RendersTable, ShowsTable, IsShownWhole};
+
+/// A table whose texts and whose symbol take one column for each grapheme leaves a buffer of plain
+/// cells one of plain cells, if it has no box or a narrow one; so a screen can show it. Under a
+/// highlight a wide grapheme's second column is no blank any more.
+pub fn tables_keep_cells_plain()
+    ensures { (t : TableData) (s u : TableState) (area : Rect) (old new : BufferData)
+        → IfSome t.block IsNarrowBox → HasNarrowRows t → IsPlainFrom 0 old
+        → RendersTable t s u area old new → IsPlainFrom 0 new }
+{}
+
+/// The selected row is in view from the state's first one on, if the rows' area has room for it with
+/// its upper margin; and then it is shown with all rows of its cells.
+pub fn selected_rows_are_shown()
+    ensures view { (t : TableData) (s u : TableState) (r : Rect) (old new : BufferData)
+        → (selected : ℕ) → let height = (rows_area t.header t.footer r).height in
+        u.selected ≡ Some selected → upper_at t.rows.items selected ≤ height
+        → ShowsTable t s u r old new
+        → (u.offset ≤ selected) × IsInView t.rows.items height u.offset selected }
+    ensures whole { (t : TableData) (s u : TableState) (r : Rect) (old new : BufferData)
+        → (selected : ℕ) → let rows = rows_area t.header t.footer r in
+        u.selected ≡ Some selected → upper_at t.rows.items selected ≤ rows.height
+        → 0 < cells_at t.rows.items selected → ShowsTable t s u r old new
+        → IsShownWhole t u rows selected }
+{}
