@@ -1,6 +1,7 @@
 -- How a terminal reads bytes: text, and the sequences by their standard names.
 use Rattle.std.specs.Prelude.{ℕ, ◌+◌, ◌-◌, ◌*◌, ◌==◌, ◌&&◌, ◌||◌, not, nat_le, Bool, true, false}
 use Rattle.std.specs.Prelude.{if◌then◌else◌, List, [], ◌∷◌, ◌++◌, length}
+use Rattle.std.specs.Str.{byte}
 use Rattle.ansi_model.specs.{Sgr.inks, Sgr.are_known, Sgr.most_parameters, Sgr.Awaits.Nothing}
 use Rattle.ansi_model.specs.Emulator.{Emulator, Phase, if_so, unsure, rested, cursor_moved, returned}
 use Rattle.ansi_model.specs.Emulator.{cursor_shown, with_modes, holding, with_sgr, erased, with_region}
@@ -72,16 +73,16 @@ performs_XTWINOPS _ t = unsure t
 -- XTWINOPS
 abbrev pub performs : List ℕ → ℕ → Emulator → Emulator
 performs parameters final t =
-    if final == 72 then performs_CUP parameters t
-    else (if final == 109 then performs_SGR parameters t
-    else (if final == 74 then performs_ED parameters t else (if final == 75 then performs_EL parameters t
-    else (if final == 114 then performs_DECSTBM parameters t else
-    (if final == 77 then performs_DL parameters t
-    else (if final == 76 then performs_IL parameters t
-    else (if final == 104 then performs_mode true parameters t else
-    (if final == 108 then performs_mode false parameters t
-    else (if final == 110 then performs_DSR parameters t else
-    (if final == 116 then performs_XTWINOPS parameters t else unsure t))))))))))
+    if final == byte "H" then performs_CUP parameters t
+    else (if final == byte "m" then performs_SGR parameters t
+    else (if final == byte "J" then performs_ED parameters t else (if final == byte "K" then performs_EL parameters t
+    else (if final == byte "r" then performs_DECSTBM parameters t else
+    (if final == byte "M" then performs_DL parameters t
+    else (if final == byte "L" then performs_IL parameters t
+    else (if final == byte "h" then performs_mode true parameters t else
+    (if final == byte "l" then performs_mode false parameters t
+    else (if final == byte "n" then performs_DSR parameters t else
+    (if final == byte "t" then performs_XTWINOPS parameters t else unsure t))))))))))
 
 -- modes that change nothing on the screen: what is told of the mouse (1000, 1002, 1003, 1006), of the focus
 -- (1004) and of the window's size (2048), and how a paste is (2004)
@@ -103,11 +104,11 @@ sets_mode on m t =
 -- a sequence with the mark `?`: h sets, l resets
 abbrev pub performs_marked : List ℕ → ℕ → Emulator → Emulator
 performs_marked (m ∷ []) final t =
-    if final == 104 then sets_mode true m t else (if final == 108 then sets_mode false m t else unsure t)
+    if final == byte "h" then sets_mode true m t else (if final == byte "l" then sets_mode false m t else unsure t)
 performs_marked _ final t = unsure t
 
 abbrev pub is_digit : ℕ → Bool
-is_digit b = nat_le 48 b && nat_le b 57
+is_digit b = nat_le (byte "0") b && nat_le b (byte "9")
 
 -- a byte of a text: no control character of ASCII
 abbrev pub is_text : ℕ → Bool
@@ -116,59 +117,59 @@ is_text b = nat_le 32 b && not (b == 127)
 -- one more byte of a sequence: a digit, a semicolon, a blank, or the byte that names it
 abbrev pub reads_sequence : Bool → List ℕ → ℕ → ℕ → Emulator → Emulator
 reads_sequence mark done n b t =
-    if is_digit b then record t { phase = Sequence mark done (n * 10 + (b - 48)) }
-    else (if b == 59 then record t { phase = Sequence mark (done ++ n ∷ []) 0 }
+    if is_digit b then record t { phase = Sequence mark done (n * 10 + (b - byte "0")) }
+    else (if b == byte ";" then record t { phase = Sequence mark (done ++ n ∷ []) 0 }
     else (if mark then performs_marked (done ++ n ∷ []) b (record t { phase = Ground })
-    else (if b == 32 then record t { phase = Spaced (done ++ n ∷ []) } else performs (done ++ n ∷ []) b
+    else (if b == byte " " then record t { phase = Spaced (done ++ n ∷ []) } else performs (done ++ n ∷ []) b
     (record t { phase = Ground }))))
 
 -- the byte that names a sequence with a blank: q DECSCUSR
 abbrev pub reads_spaced : List ℕ → ℕ → Emulator → Emulator
 reads_spaced parameters b t =
-    if b == 113 then performs_DECSCUSR parameters (record t { phase = Ground }) else unsure
+    if b == byte "q" then performs_DECSCUSR parameters (record t { phase = Ground }) else unsure
     (record t { phase = Ground })
 
 -- kitty's keyboard protocol, after its mark: digits, and u, which ends it
 abbrev pub reads_keyed : ℕ → Emulator → Emulator
 reads_keyed b t =
-    if is_digit b then t else (if b == 117 then record t { phase = Ground } else unsure
+    if is_digit b then t else (if b == byte "u" then record t { phase = Ground } else unsure
     (record t { phase = Ground }))
 
 -- the marks of kitty's keyboard protocol: > puts flags on a stack, < takes some off it
 abbrev pub is_key_mark : ℕ → Bool
-is_key_mark b = (b == 60) || (b == 62)
+is_key_mark b = (b == byte "<") || (b == byte ">")
 
 -- after ESC: [ opens a sequence, ] a string for the operating system, as a window's title, \ ends one, ( sets
 -- the letters of G0, ) those of G1, * those of G2, % the coding, } gives bytes above ASCII the letters of G2,
 -- which a terminal of UTF-8 doesn't look at
 abbrev pub reads_escape : ℕ → Emulator → Emulator
 reads_escape b t =
-    if b == 91 then record t { phase = Opened }
-    else (if b == 93 then record t { phase = Told }
-    else (if b == 92 then record t { phase = Ground }
-    else (if b == 40 then record t { phase = Letters }
-    else (if (b == 41) || (b == 42) then record t { phase = OtherLetters }
-    else (if b == 125 then record t { phase = Ground } else
-    (if b == 37 then record t { phase = Coding } else unsure t))))))
+    if b == byte "[" then record t { phase = Opened }
+    else (if b == byte "]" then record t { phase = Told }
+    else (if b == byte "\\" then record t { phase = Ground }
+    else (if b == byte "(" then record t { phase = Letters }
+    else (if (b == byte ")") || (b == byte "*") then record t { phase = OtherLetters }
+    else (if b == byte "}" then record t { phase = Ground } else
+    (if b == byte "%" then record t { phase = Coding } else unsure t))))))
 
 -- the letters of G0: B is ASCII, 0 lines
 abbrev pub reads_letters : ℕ → Emulator → Emulator
 reads_letters b t =
-    if b == 66 then record t { phase = Ground; modes = record t.modes { lettered = false } }
-    else (if b == 48 then record t {
+    if b == byte "B" then record t { phase = Ground; modes = record t.modes { lettered = false } }
+    else (if b == byte "0" then record t {
       phase = Ground;
       modes = record t.modes { lettered = true };
     } else unsure t)
 
 -- the letters of G1 and G2, which nothing is printed by: B is ASCII
 abbrev pub reads_other_letters : ℕ → Emulator → Emulator
-reads_other_letters b t = if b == 66 then record t { phase = Ground } else unsure t
+reads_other_letters b t = if b == byte "B" then record t { phase = Ground } else unsure t
 
 -- the coding: G is UTF-8, @ isn't
 abbrev pub reads_coding : ℕ → Emulator → Emulator
 reads_coding b t =
-    if b == 71 then record t { phase = Ground; modes = record t.modes { coded = false } }
-    else (if b == 64 then record t { phase = Ground; modes = record t.modes { coded = true } } else unsure t)
+    if b == byte "G" then record t { phase = Ground; modes = record t.modes { coded = false } }
+    else (if b == byte "@" then record t { phase = Ground; modes = record t.modes { coded = true } } else unsure t)
 
 -- a string for the operating system changes nothing on the screen; ESC ends it, and terminals differ on
 -- control characters in it
@@ -194,7 +195,7 @@ reads_in (Switching alternate) b t = t
 reads_in (Spaced parameters) b t = reads_spaced parameters b t
 reads_in Keyed b t = reads_keyed b t
 reads_in Opened b t =
-    if b == 63 then record t { phase = Sequence true [] 0 }
+    if b == byte "?" then record t { phase = Sequence true [] 0 }
     else (if is_key_mark b then record t { phase = Keyed } else reads_sequence false [] 0 b t)
 reads_in (Sequence mark done n) b t = reads_sequence mark done n b t
 

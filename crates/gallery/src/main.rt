@@ -1,16 +1,23 @@
 //! A picture of each widget, as docs/WIDGETS.md shows them: its name, and the rows of a small screen.
+//! After them two recipes of docs/USING.md: a list with its state, drawn on a backend of one's own
+//! after the selection moved down three times, in two rows, and how often it was drawn.
 #![tactic(auto)]
 
 mod apart;
 mod bars;
 mod boxes;
 mod charts;
+mod counting;
 mod lists;
+mod menu;
 mod meters;
 
+use crate::counting::Counting;
+use crate::menu::draw_menu;
 use jiff::civil::Date;
 use ratatui_core::backend::TestBackend;
 use ratatui_core::terminal::{Frame, Terminal};
+use ratatui_widgets::ListState;
 use std::alloc::{AllocError, Global};
 
 // A widget, by its name.
@@ -120,9 +127,25 @@ fn show(rt: &HostRuntime, picture: Picture, width: u16, height: u16) -> anyhow::
     Ok(())
 }
 
+// Draws a list three times, and prints the last screen.
+fn show_menu(rt: &HostRuntime) -> anyhow::Result<()> {
+    let alloc = rt.alloc();
+    let backend = Counting::new(TestBackend::new(alloc, 12, 2)?);
+    let mut terminal = Terminal::new(alloc, backend)?;
+    let mut state = ListState::default();
+    for _ in 0..3 {
+        state.select_next();
+        draw_menu(alloc, &mut terminal, &mut state)?;
+    }
+    let backend = terminal.backend();
+    backend.inner().write_to(&mut rt.stdout())?;
+    println!(rt; "{} draws", backend.draws())?;
+    Ok(())
+}
+
 fn main(rt: HostRuntime) -> anyhow::Result<()> {
     for (picture, width, height) in PICTURES {
         show(&rt, picture, width, height)?;
     }
-    Ok(())
+    show_menu(&rt)
 }

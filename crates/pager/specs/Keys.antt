@@ -1,6 +1,7 @@
 -- The tables of the keys: what each asks for while a text is read, and while a search is typed.
 use Rattle.std.specs.Prelude.{◌≡◌, ℕ, Bool, true, false, ◌-◌, ◌==◌, ◌||◌, ◌&&◌, nat_le, if◌then◌else◌}
 use Rattle.std.specs.Prelude.{Option, Some, None}
+use Rattle.std.specs.Str.{byte}
 use Rattle.ratatui_events.specs.declared.event.Event.{Event}
 use Rattle.ratatui_events.specs.declared.event.Event.TheVariants.{Key, Mouse, Pasted}
 use Rattle.ratatui_events.specs.declared.key.KeyEvent.{KeyEvent}
@@ -25,47 +26,47 @@ use Rattle.pager.specs.declared.answer.Answer.TheVariants.{Add, Erase, Search, C
 -- characters of moves: j, k, the blank and f, b, d, u, g, G, and p and the sign of per cent
 abbrev pub move_command : ℕ → Command
 move_command c =
-    if c == 106 then Down
-    else if c == 107 then Up
-    else if (c == 32) || (c == 102) then PageDown
-    else if c == 98 then PageUp
-    else if c == 100 then HalfDown
-    else if c == 117 then HalfUp
-    else if c == 103 then ToStart
-    else if c == 71 then ToEnd
-    else if (c == 112) || (c == 37) then ToPart
+    if c == byte "j" then Down
+    else if c == byte "k" then Up
+    else if (c == byte " ") || (c == byte "f") then PageDown
+    else if c == byte "b" then PageUp
+    else if c == byte "d" then HalfDown
+    else if c == byte "u" then HalfUp
+    else if c == byte "g" then ToStart
+    else if c == byte "G" then ToEnd
+    else if (c == byte "p") || (c == byte "%") then ToPart
     else Nothing
 
 -- a character: q, a slash, a question mark, n, N, the ampersand, l, w, h, the equals sign, m, an apostrophe,
 -- a colon, a digit, or a move
 abbrev pub character_command : ℕ → Command
 character_command c =
-    if c == 113 then Quit
-    else if c == 47 then Ask false
-    else if c == 63 then Ask true
-    else if c == 110 then Next
-    else if c == 78 then Previous
-    else if c == 38 then Filter
-    else if c == 108 then Numbers
-    else if c == 119 then Wrap
-    else if c == 104 then Help
-    else if c == 61 then Details
-    else if c == 109 then Mark
-    else if c == 39 then ToMark
-    else if c == 58 then Turn
-    else if nat_le 48 c && nat_le c 57 then Digit (c - 48)
+    if c == byte "q" then Quit
+    else if c == byte "/" then Ask false
+    else if c == byte "?" then Ask true
+    else if c == byte "n" then Next
+    else if c == byte "N" then Previous
+    else if c == byte "&" then Filter
+    else if c == byte "l" then Numbers
+    else if c == byte "w" then Wrap
+    else if c == byte "h" then Help
+    else if c == byte "=" then Details
+    else if c == byte "m" then Mark
+    else if c == byte "'" then ToMark
+    else if c == byte ":" then Turn
+    else if nat_le (byte "0") c && nat_le c (byte "9") then Digit (c - byte "0")
     else move_command c
 
 -- a character with Control: c, d, u, f, b, e, y
 abbrev pub control_character_command : ℕ → Command
 control_character_command c =
-    if c == 99 then Quit
-    else if c == 100 then HalfDown
-    else if c == 117 then HalfUp
-    else if c == 102 then PageDown
-    else if c == 98 then PageUp
-    else if c == 101 then Down
-    else if c == 121 then Up
+    if c == byte "c" then Quit
+    else if c == byte "d" then HalfDown
+    else if c == byte "u" then HalfUp
+    else if c == byte "f" then PageDown
+    else if c == byte "b" then PageUp
+    else if c == byte "e" then Down
+    else if c == byte "y" then Up
     else Nothing
 
 abbrev pub control_command : KeyCode → Command
@@ -119,7 +120,7 @@ code_answer _ = Ignore
 
 -- c with Control
 abbrev pub control_answer : KeyCode → Answer
-control_answer (key.Char c) = if c == 99 then Cancel else Ignore
+control_answer (key.Char c) = if c == byte "c" then Cancel else Ignore
 control_answer _ = Ignore
 
 abbrev pub kind_answer : KeyEventKind → KeyEvent → Answer
@@ -150,9 +151,9 @@ pub record IsControlC (k : KeyEvent) : Type 0 where
 -- where a character's mark is kept: the apostrophe's, then those of a to z, then those of A to Z
 abbrev pub mark_index : ℕ → Option ℕ
 mark_index c =
-    if c == 39 then Some 0
-    else if nat_le 97 c && nat_le c 122 then Some (c - 96)
-    else if nat_le 65 c && nat_le c 90 then Some (c - 38)
+    if c == byte "'" then Some 0
+    else if nat_le (byte "a") c && nat_le c (byte "z") then Some (c - 96)
+    else if nat_le (byte "A") c && nat_le c (byte "Z") then Some (c - 38)
     else None
 
 abbrev pub code_mark : KeyCode → Option ℕ
@@ -167,9 +168,9 @@ event_mark _ = None
 -- the text that a key turns to after a colon, or the end
 abbrev pub code_ending : KeyCode → Option Ending
 code_ending (key.Char c) =
-    if c == 110 then Some ending.Next
-    else if c == 112 then Some ending.Previous
-    else if c == 113 then Some ending.Quit
+    if c == byte "n" then Some ending.Next
+    else if c == byte "p" then Some ending.Previous
+    else if c == byte "q" then Some ending.Quit
     else None
 code_ending _ = None
 

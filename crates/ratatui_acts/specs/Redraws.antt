@@ -1,5 +1,6 @@
 -- The key that draws all anew.
 use Rattle.std.specs.Prelude.{◌==◌, ◌&&◌, ◌||◌, Bool, false, List, [], ◌∷◌}
+use Rattle.std.specs.Str.{byte}
 use Rattle.ratatui_events.specs.declared.event.Event.{Event}
 use Rattle.ratatui_events.specs.declared.event.Event.TheVariants.{Key}
 use Rattle.ratatui_events.specs.declared.key.KeyCode.{KeyCode}
@@ -8,7 +9,7 @@ use Rattle.ratatui_events.specs.Key.{modifier_bits}
 
 -- the letter l
 abbrev pub is_l : KeyCode → Bool
-is_l (Char code) = code == 108
+is_l (Char code) = code == byte "l"
 is_l _ = false
 
 -- Ctrl+L, and no other key held

@@ -1,6 +1,7 @@
 -- A number that keys change, and how it is painted.
 use Rattle.std.specs.Prelude.{ℕ, ◌+◌, ◌-◌, ◌==◌, min, true, if◌then◌else◌}
 use Rattle.std.specs.Fmt.{decimal}
+use Rattle.std.specs.Str.{byte}
 use Rattle.ratatui_core.specs.{Layout.Rect, Buffer.BufferData}
 use Rattle.ratatui_events.specs.declared.event.Event.{Event}
 use Rattle.ratatui_events.specs.declared.event.Event.TheVariants.{Key}
@@ -14,9 +15,9 @@ use Rattle.ratatui_app.specs.Lines.{PaintsFirstLine}
 -- + and - change the number, and q ends
 abbrev pub counter_by_character : ℕ → Counter → Counter
 counter_by_character code c =
-    if code == 43 then record c { count = min (c.count + 1) 255 }
-    else (if code == 45 then record c { count = c.count - 1 }
-    else (if code == 113 then record c { is_over = true } else c))
+    if code == byte "+" then record c { count = min (c.count + 1) 255 }
+    else (if code == byte "-" then record c { count = c.count - 1 }
+    else (if code == byte "q" then record c { is_over = true } else c))
 
 abbrev pub counter_by_code : KeyCode → Counter → Counter
 counter_by_code (Char code) c = counter_by_character code c

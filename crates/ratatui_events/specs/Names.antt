@@ -3,6 +3,7 @@ use Rattle.std.specs.Prelude.{ℕ, ◌-◌, ◌==◌, ◌&&◌, ◌||◌, List, 
 use Rattle.std.specs.Prelude.{if◌then◌else◌}
 use Rattle.std.specs.Int.RustNames.{bit_and}
 use Rattle.std.specs.Fmt.{decimal}
+use Rattle.std.specs.Str.{byte}
 use Rattle.ratatui_events.specs.declared.key.MediaKeyCode.{MediaKeyCode}
 use Rattle.ratatui_events.specs.declared.key.MediaKeyCode.TheVariants as media
 use Rattle.ratatui_events.specs.declared.key.ModifierKeyCode.{ModifierKeyCode}
@@ -76,7 +77,7 @@ code_name (code.Char c) = []
 -- a function key's number in decimal, a character itself, a blank by its name
 abbrev pub code_text : KeyCode → List ℕ
 code_text (code.F number) = codes "F" ++ decimal number
-code_text (code.Char c) = if c == 32 then codes "Space" else encode_utf8 c
+code_text (code.Char c) = if c == byte " " then codes "Space" else encode_utf8 c
 code_text code = code_name code
 
 -- a name where the set has all these bits
@@ -91,7 +92,7 @@ modifiers_text held =
 
 -- a small ASCII letter as a capital one
 abbrev pub upper : ℕ → ℕ
-upper c = if nat_le 97 c && nat_le c 122 then c - 32 else c
+upper c = if nat_le (byte "a") c && nat_le c (byte "z") then c - 32 else c
 
 -- the key as it is written beside what is held
 abbrev pub code_beside : KeyCode → KeyModifiers → KeyCode

@@ -8,6 +8,7 @@ use Rattle.std.specs.Char.Unicode.Uppercase.{is_uppercase}
 use Rattle.std.specs.Str.{chars}
 use Rattle.std.specs.Cmp.Lexicographic.{pointwise}
 use Rattle.std.specs.Option.{option_map}
+use Rattle.std.specs.Str.{byte}
 use Rattle.ratatui_events.specs.Key.{held, pressed}
 use Rattle.ratatui_events.specs.Names.{code_name, key_text}
 use Rattle.ratatui_events.specs.declared.key.KeyEvent.{KeyEvent}
@@ -30,14 +31,14 @@ named_code text = code_among NAMED text
 
 -- the digit that a byte writes, from a least one on
 abbrev pub is_digit_from : ℕ → ℕ → Bool
-is_digit_from least b = nat_le least b && nat_le b 57
+is_digit_from least b = nat_le least b && nat_le b (byte "9")
 
 -- the function key that F and one or two digits write, of which the first is no 0
 abbrev pub function_code : List ℕ → Option KeyCode
-function_code (f ∷ b ∷ []) = if (f == 70) && is_digit_from 49 b then Some (F (b - 48)) else None
+function_code (f ∷ b ∷ []) = if (f == byte "F") && is_digit_from (byte "1") b then Some (F (b - byte "0")) else None
 function_code (f ∷ a ∷ b ∷ []) =
-    if (f == 70) && (is_digit_from 49 a && is_digit_from 48 b)
-    then Some (F ((a - 48) * 10 + (b - 48))) else None
+    if (f == byte "F") && (is_digit_from (byte "1") a && is_digit_from (byte "0") b)
+    then Some (F ((a - byte "0") * 10 + (b - byte "0"))) else None
 function_code _ = None
 
 -- the character of a list of one

@@ -4,9 +4,10 @@ use Rattle.std.specs.Prelude.{List, [], ◌∷◌, ◌++◌, length, drop, codes
 use Rattle.std.specs.Option.{option_and_then, option_map_or}
 use Rattle.std.specs.List.{list_all, list_any, slice_split, starts_with}
 use Rattle.std.specs.Str.{bytes_eq}
+use Rattle.std.specs.Str.{byte}
 
 abbrev pub is_slash : ℕ → Bool
-is_slash b = b == 47
+is_slash b = b == byte "/"
 
 -- what stands in no name
 abbrev pub is_unnamed : ℕ → Bool

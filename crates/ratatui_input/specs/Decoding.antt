@@ -3,6 +3,7 @@ use Rattle.std.specs.Prelude.{ℕ, ◌+◌, ◌-◌, ◌*◌, ◌^◌, ◌==◌,
 use Rattle.std.specs.Prelude.{None, List, [], ◌∷◌, ◌++◌, nat_le, nat_lt, if◌then◌else◌}
 use Rattle.std.specs.Int.RustNames.{bit_and}
 use Rattle.std.specs.Char.{is_control}
+use Rattle.std.specs.Str.{byte}
 use Rattle.ratatui_events.specs.Key.{held, pressed}
 use Rattle.ratatui_input.specs.Keys.{typed_key, control_key, with_alt, scalar_at}
 use Rattle.ratatui_input.specs.Sequences.{sequence_event, pushed, no_numbers, from_mouse, single_event}
@@ -60,18 +61,18 @@ unfoldable pub first : ℕ → Bool → Next
 first b is_alt =
     if b == 27 then More Escape
     else (if nat_le b 31 || (b == 127) then Whole (with_alt (control_key b) is_alt)
-    else (if lies_in 32 126 b then Whole (with_alt (typed_key b) is_alt)
+    else (if lies_in (byte " ") (byte "~") b then Whole (with_alt (typed_key b) is_alt)
     else beginning (begun b is_alt) is_alt))
 
 -- whether a byte after ESC opens a string of the terminal: P, X, ], ^ and _ do
 abbrev pub opens_string : ℕ → Bool
-opens_string b = (b == 80) || ((b == 88) || lies_in 93 95 b)
+opens_string b = (b == byte "P") || ((b == byte "X") || lies_in (byte "]") (byte "_") b)
 
 unfoldable pub after_escape : ℕ → Next
 after_escape b =
     if b == 27 then Apart
-    else (if b == 91 then More Bracket
-    else (if b == 79 then More (Single 0)
+    else (if b == byte "[" then More Bracket
+    else (if b == byte "O" then More (Single 0)
     else (if opens_string b then More (Opened b)
     else first b true)))
 
@@ -80,24 +81,24 @@ going_on (Some longer) = More (Numbers longer)
 going_on None = Apart
 
 unfoldable pub in_sequence : Sequence → ℕ → Next
-in_sequence s b = if lies_in 64 126 b then Whole (sequence_event s b) else going_on (pushed s b)
+in_sequence s b = if lies_in (byte "@") (byte "~") b then Whole (sequence_event s b) else going_on (pushed s b)
 
 unfoldable pub after_bracket : ℕ → Next
 after_bracket b =
-    if b == 91 then More Function
-    else (if b == 77 then More Click
-    else (if b == 60 then More (Numbers from_mouse)
+    if b == byte "[" then More Function
+    else (if b == byte "M" then More Click
+    else (if b == byte "<" then More (Numbers from_mouse)
     else in_sequence no_numbers b))
 
 unfoldable pub after_single : ℕ → ℕ → Next
 after_single number b =
-    if lies_in 48 57 b then More (Single (min (number * 10 + bit_and b 15) (2 ^ 32 - 1)))
-    else (if lies_in 64 126 b then Whole (single_event number b) else Apart)
+    if lies_in (byte "0") (byte "9") b then More (Single (min (number * 10 + bit_and b 15) (2 ^ 32 - 1)))
+    else (if lies_in (byte "@") (byte "~") b then Whole (single_event number b) else Apart)
 
 unfoldable pub after_function : ℕ → Next
 after_function b =
-    if lies_in 65 69 b then Whole (with_alt (pressed (F (b - 64)) (held 0)) false)
-    else (if lies_in 64 126 b then Whole Unknown else Apart)
+    if lies_in (byte "A") (byte "E") b then Whole (with_alt (pressed (F (b - 64)) (held 0)) false)
+    else (if lies_in (byte "@") (byte "~") b then Whole Unknown else Apart)
 
 abbrev pub scalar_event : Option ℕ → Bool → Event
 scalar_event None is_alt = Unknown
@@ -126,11 +127,11 @@ after_click b next = if nat_lt b 32 then Apart else next
 
 -- whether a byte stands in a string: control characters don't
 abbrev pub may_be_in_string : ℕ → Bool
-may_be_in_string b = lies_in 32 126 b || nat_le 128 b
+may_be_in_string b = lies_in (byte " ") (byte "~") b || nat_le 128 b
 
 -- a string of the terminal: what opens it, text, and its end, which is ESC \ or, after ESC ], also BEL
 unfoldable pub after_opened : ℕ → ℕ → Next
-after_opened opener b = if may_be_in_string b then More (Text (opener == 93) 0) else Apart
+after_opened opener b = if may_be_in_string b then More (Text (opener == byte "]") 0) else Apart
 
 unfoldable pub in_text : Bool → ℕ → Next
 in_text has_bell b =
@@ -140,7 +141,7 @@ in_text has_bell b =
     else Apart))
 
 unfoldable pub after_text : ℕ → Next
-after_text b = if b == 92 then Whole Unknown else Apart
+after_text b = if b == byte "\\" then Whole Unknown else Apart
 
 -- what a byte makes of what has come
 unfoldable pub stepped : State → ℕ → Next

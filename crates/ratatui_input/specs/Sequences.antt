@@ -4,6 +4,7 @@ use Rattle.std.specs.Prelude.{Option, Some, None, nat_le, nat_lt, if◌then◌el
 use Rattle.std.specs.Int.RustNames.{bit_and}
 use Rattle.ratatui_events.specs.Key.{held, locks, key_of_kind}
 use Rattle.std.specs.Char.Unicode.Uppercase.{is_uppercase}
+use Rattle.std.specs.Str.{byte}
 use Rattle.ratatui_input.specs.Keys.{letter_key, number_key, code_key, tab_key, plain_character, scalar_at}
 use Rattle.ratatui_input.specs.Mouse.{mouse_event}
 use Rattle.ratatui_events.specs.declared.event.Event.{Event}
@@ -41,15 +42,15 @@ digit_pushed s b =
 -- the sequence with a byte that doesn't end it; none where no such byte stands in a sequence
 unfoldable pub pushed : Sequence → ℕ → Option Sequence
 pushed s b =
-    if nat_le 48 b && nat_le b 57 then Some (digit_pushed s b)
-    else (if b == 59 then Some (record s {
+    if nat_le (byte "0") b && nat_le b (byte "9") then Some (digit_pushed s b)
+    else (if b == byte ";" then Some (record s {
       numbers = if nat_lt s.numbers 3 then s.numbers + 1
           else 3;
       parts = 0;
       third = if s.numbers == 1 then 0 else s.third;
     })
-    else (if b == 58 then Some (record s { parts = if nat_lt s.parts 2 then s.parts + 1 else 2 })
-    else (if (nat_le 32 b && nat_le b 47) || (nat_le 60 b && nat_le b 63)
+    else (if b == byte ":" then Some (record s { parts = if nat_lt s.parts 2 then s.parts + 1 else 2 })
+    else (if (nat_le (byte " ") b && nat_le b (byte "/")) || (nat_le (byte "<") b && nat_le b (byte "?"))
     then Some (record s { source = Other })
     else None)))
 
@@ -135,20 +136,20 @@ position_event s = if nat_le s.first 65535 && nat_le s.second 65535
 
 unfoldable pub keys_event : Sequence → ℕ → Event
 keys_event s b =
-    if b == 126 then tilde_event s
-    else (if b == 117 then code_event s
-    else (if b == 116 then size_event s
-    else (if (b == 82) && ((s.numbers == 1) && (if s.first == 1 then false else true)) then position_event s
-    else (if b == 77 then (if nat_le 2 s.numbers && nat_le 32 s.first
+    if b == byte "~" then tilde_event s
+    else (if b == byte "u" then code_event s
+    else (if b == byte "t" then size_event s
+    else (if (b == byte "R") && ((s.numbers == 1) && (if s.first == 1 then false else true)) then position_event s
+    else (if b == byte "M" then (if nat_le 2 s.numbers && nat_le 32 s.first
     then mouse_event (s.first - 32) s.second s.third false else Unknown)
-    else (if (b == 73) && (s.numbers == 0) then FocusGained
-    else (if (b == 79) && (s.numbers == 0) then FocusLost
+    else (if (b == byte "I") && (s.numbers == 0) then FocusGained
+    else (if (b == byte "O") && (s.numbers == 0) then FocusLost
     else letter_event s b))))))
 
 unfoldable pub pointer_event : Sequence → ℕ → Event
 pointer_event s b =
-    if s.numbers == 2 then (if b == 77 then mouse_event s.first s.second s.third false
-    else (if b == 109 then mouse_event s.first s.second s.third true else Unknown))
+    if s.numbers == 2 then (if b == byte "M" then mouse_event s.first s.second s.third false
+    else (if b == byte "m" then mouse_event s.first s.second s.third true else Unknown))
     else Unknown
 
 abbrev pub source_event : Source → Sequence → ℕ → Event

@@ -1,6 +1,7 @@
 -- Names of files, of which the one that is selected can be removed, after a question.
 use Rattle.std.specs.Prelude.{ℕ, ◌+◌, ◌-◌, ◌==◌, ◌++◌, min, nat_lt, Bool, true, false, if◌then◌else◌}
 use Rattle.std.specs.Prelude.{List, [], length, remove, slice_get, codes, Option, None, unwrap_or}
+use Rattle.std.specs.Str.{byte}
 use Rattle.ratatui_events.specs.declared.event.Event.{Event}
 use Rattle.ratatui_events.specs.declared.event.Event.TheVariants.{Key}
 use Rattle.ratatui_events.specs.declared.key.KeyCode.{KeyCode}
@@ -19,11 +20,11 @@ selected_name s = slice_get s.names s.selected
 -- asked so, y removes, and each other character takes the question back
 abbrev pub remover_by_character : ℕ → Phase → Remover → Remover
 remover_by_character code Looking s =
-    if code == 106 then record s { selected = min (s.selected + 1) (length s.names - 1) }
-    else (if code == 107 then record s { selected = s.selected - 1 }
-    else (if code == 100 then record s { phase = Asking }
-    else (if code == 113 then record s { phase = Over } else s)))
-remover_by_character code Asking s = if code == 121 then record s { phase = Removing } else record s { phase = Looking }
+    if code == byte "j" then record s { selected = min (s.selected + 1) (length s.names - 1) }
+    else (if code == byte "k" then record s { selected = s.selected - 1 }
+    else (if code == byte "d" then record s { phase = Asking }
+    else (if code == byte "q" then record s { phase = Over } else s)))
+remover_by_character code Asking s = if code == byte "y" then record s { phase = Removing } else record s { phase = Looking }
 remover_by_character code Removing s = record s { phase = Looking }
 remover_by_character code Over s = s
 

@@ -3,11 +3,12 @@ use Rattle.std.specs.Prelude.{ℕ, ◌&&◌, ◌==◌, Bool, nat_lt, nat_le, Lis
 use Rattle.std.specs.Prelude.{if◌then◌else◌}
 use Rattle.std.specs.{Char.is_ascii_digit, List.list_all, List.before_first, List.after_first}
 use Rattle.std.specs.{Str.Parse.digits_value}
+use Rattle.std.specs.Str.{byte}
 use Rattle.rtui_geometry.specs.declared.size.Size.{Size}
 
 -- the blank between two words
 abbrev pub is_space : ℕ → Bool
-is_space b = b == 32
+is_space b = b == byte " "
 
 -- the first word of a text
 abbrev pub first_word : List ℕ → List ℕ

@@ -2,6 +2,7 @@
 use Rattle.std.specs.Prelude.{ℕ, ◌+◌, ◌-◌, ◌/◌, ◌^◌, ◌==◌, min, not, true, if◌then◌else◌, List}
 use Rattle.std.specs.Fmt.{decimal}
 use Rattle.std.specs.Duration.{as_nanos}
+use Rattle.std.specs.Str.{byte}
 use Rattle.ratatui_events.specs.declared.event.Event.{Event}
 use Rattle.ratatui_events.specs.declared.event.Event.TheVariants.{Key}
 use Rattle.ratatui_events.specs.declared.key.KeyCode.{KeyCode}
@@ -13,9 +14,9 @@ use Rattle.stopwatch.specs.declared.watch.Stopwatch.{Stopwatch}
 -- the blank stops it and lets it go on, r begins anew, and q ends
 abbrev pub watch_by_character : ℕ → Stopwatch → Stopwatch
 watch_by_character code w =
-    if code == 32 then record w { is_running = not w.is_running }
-    else (if code == 114 then record w { nanos = 0 }
-    else (if code == 113 then record w { is_over = true } else w))
+    if code == byte " " then record w { is_running = not w.is_running }
+    else (if code == byte "r" then record w { nanos = 0 }
+    else (if code == byte "q" then record w { is_over = true } else w))
 
 abbrev pub watch_by_code : KeyCode → Stopwatch → Stopwatch
 watch_by_code (Char code) w = watch_by_character code w

@@ -1,5 +1,6 @@
 -- How far a cursor goes in a text, in bytes.
 use Rattle.std.specs.Prelude.{ℕ, ◌+◌, ◌==◌, Bool, true, not, List, [], ◌∷◌, length, drop, reverse, take_while}
+use Rattle.std.specs.Str.{byte}
 use Rattle.unicode_segmentation.specs.Grapheme.{graphemes}
 use Rattle.text_field.specs.declared.reach.Reach.{Reach}
 use Rattle.text_field.specs.declared.reach.Reach.TheVariants.{Grapheme, Word, All}
@@ -17,7 +18,7 @@ last_text (g ∷ h ∷ gs) = last_text (h ∷ gs)
 
 -- a blank
 abbrev pub is_blank : ℕ → Bool
-is_blank b = b == 32
+is_blank b = b == byte " "
 
 -- how many bytes a text begins with that are blanks
 abbrev pub blanks_len : List ℕ → ℕ
