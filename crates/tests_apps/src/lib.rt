@@ -1,7 +1,8 @@
 //! Tests of what stands on `ratatui_core`, which no row of text can say: areas divided by each
 //! call, drawings, widgets on a buffer, small and large ones, the examples of `guide` on a screen in
 //! memory, one of them under another name, which is proved as it stands, logs that are read and
-//! written by what fails, and what programs tell.
+//! written by what fails, what programs tell, and settings in files: what is written, and what is
+//! read.
 #![tactic(auto)]
 
 #[cfg(test)]
@@ -22,7 +23,13 @@ mod large;
 mod logs;
 #[cfg(test)]
 mod printing;
+#[cfg(test)]
+mod setting_rows;
+#[cfg(test)]
+mod settings;
 mod tag;
+#[cfg(test)]
+mod theme;
 #[cfg(test)]
 mod widgets;
 

@@ -1,4 +1,4 @@
-//! The examples of doc comments.
+//! Settings in files: the examples of doc comments.
 
 use ratatui_serde::Serde;
 use rtui_layout::Constraint;
