@@ -28,8 +28,12 @@ fn decodes(alloc: Global, size: Size, text: &str) -> Done {
     Ok(Some((size.count, events)))
 }
 
-// Has an application hear a key, unless it is over, and shows it.
-fn hear(glass: &mut OnGlass<Memory>, seat: &mut Seat<Counter>, key: &[u8]) -> Result<(), AllocError>
+// Has an application hear a read, unless it is over, and shows it.
+fn hear(
+    glass: &mut OnGlass<Memory>,
+    seat: &mut Seat<Counter>,
+    read: &[u8],
+) -> Result<(), AllocError>
     requires { StandsOnGlass (PaintsCounter seat.old.state) no_cursor glass.old.terminal }
     ensures { OnOk result (StandsOnGlass (PaintsCounter seat.new.state) no_cursor
         glass.new.terminal) }
@@ -37,7 +41,7 @@ fn hear(glass: &mut OnGlass<Memory>, seat: &mut Seat<Counter>, key: &[u8]) -> Re
     if seat.state().is_over {
         return Ok(());
     }
-    let pieces = [key];
+    let pieces = [read];
     let Ok(told) = seat.turn(&mut Pieces::new(&pieces), &mut Nothing, glass) else {
         return Err(AllocError);
     };
@@ -47,9 +51,10 @@ fn hear(glass: &mut OnGlass<Memory>, seat: &mut Seat<Counter>, key: &[u8]) -> Re
     Ok(())
 }
 
-// A key heard by an application each round, which counts up and down, from the key's byte to the
-// bytes that are sent: how many those were, and the last count.
-fn frames(alloc: Global, size: Size) -> Done {
+// A read heard by an application each round, which counts up and down, from the read's bytes to the
+// bytes that are sent: how many those were, and the last count. The reads are two and two in turns;
+// an empty one is a tick.
+fn frames(alloc: Global, size: Size, reads: [&str; 2]) -> Done {
     let screen = ScreenSize::new(size.width, size.height);
     let Ok(backend) = AnsiBackend::new(alloc, Memory::new(alloc), screen) else {
         return Err(AllocError);
@@ -68,9 +73,10 @@ fn frames(alloc: Global, size: Size) -> Done {
         return Err(AllocError);
     };
     let before = glass.terminal().backend().writer().flushed();
+    let [first, second] = reads;
     for round in 0..size.count {
-        let key = if round % 4 < 2 { "+" } else { "-" };
-        hear(&mut glass, &mut seat, key.as_bytes())?;
+        let read = if round % 4 < 2 { first } else { second };
+        hear(&mut glass, &mut seat, read.as_bytes())?;
     }
     let after = glass.terminal().backend().writer().flushed();
     Ok(Some((after.wrapping_sub(before), u64::from(seat.state().count))))
@@ -117,7 +123,8 @@ pub fn run(alloc: Global, name: &str, size: Size) -> Done {
         "keys_text" => decodes(alloc, size, "the quick brown fox jumps over "),
         "keys_arrows" => decodes(alloc, size, "\u{1b}[A\u{1b}[B\u{1b}[1;5C"),
         "keys_mouse" => decodes(alloc, size, "\u{1b}[<0;12;34M\u{1b}[<35;13;34m"),
-        "app_keys" => frames(alloc, size),
+        "app_keys" => frames(alloc, size, ["+", "-"]),
+        "app_ticks" => frames(alloc, size, ["", ""]),
         "split_3" => splits::<3>(size, &row(alloc, 3)?),
         "split_8" => splits::<8>(size, &row(alloc, 8)?),
         "split_20" => splits::<20>(size, &row(alloc, 20)?),

@@ -26,8 +26,8 @@ module _ (k : KeyEvent) (is : IsControlC k) where
 
   answer-of : (kind : KeyEventKind) → is_press_kind kind ≡ true → kind_answer kind k ≡ Cancel
   answer-of Release released = cc
-  answer-of Press pressed = rw held (ap control_answer is.code)
-  answer-of Repeat pressed = rw held (ap control_answer is.code)
+  answer-of Press pressed = rw held (ap (λ c. control_answer c (Key k)) is.code)
+  answer-of Repeat pressed = rw held (ap (λ c. control_answer c (Key k)) is.code)
 
   no-mark : event_mark (Key k) ≡ None
   no-mark = ap (λ b. if b then None else code_mark k.code) held

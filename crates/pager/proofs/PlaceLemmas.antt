@@ -1,8 +1,8 @@
 -- The place lies in the text, whatever comes.
 use Rattle.std.proofs.Common.{◌≡◌, ℕ, ◌-◌, ◌==◌, ◌&&◌, ◌||◌, Bool, true, false, not, nat_lt, if◌then◌else◌, List, [], length}
-use Rattle.std.proofs.Common.{take, encode_utf8, Option, Some, None, refl, arith}
+use Rattle.std.proofs.Common.{Option, Some, None, refl, arith}
 use Rattle.std.proofs.lemmas.Bool.Decides.{nat_tests}
-use Rattle.std.specs.List.{flat_map}
+use Rattle.text_field.specs.{Field.FieldData, Field.field_text, Keys.edited}
 use Rattle.ratatui_core.specs.Layout.{Size}
 use Rattle.ratatui_events.specs.declared.event.Event.{Event}
 use Rattle.ratatui_reads.specs.Reads.{size_in}
@@ -10,7 +10,7 @@ use Rattle.pager.specs.declared.pager.Pager.{Pager}
 use Rattle.pager.specs.declared.pager.Mode.{Mode}
 use Rattle.pager.specs.declared.pager.Mode.TheVariants.{Reading, Asking, Filtering, Marking, Returning, Turning, Helping}
 use Rattle.pager.specs.declared.answer.Answer.{Answer}
-use Rattle.pager.specs.declared.answer.Answer.TheVariants.{Add, Erase, Search, Cancel, Ignore}
+use Rattle.pager.specs.declared.answer.Answer.TheVariants.{Change, Search, Cancel, Ignore}
 use Rattle.pager.specs.declared.command.Command.{Command}
 use Rattle.pager.specs.declared.command.Command.TheVariants.{Nothing, Digit, Down, Up, PageDown, PageUp, HalfDown, HalfUp}
 use Rattle.pager.specs.declared.command.Command.TheVariants.{WheelDown, WheelUp}
@@ -22,7 +22,7 @@ use Rattle.pager.specs.declared.place.Place.{Place}
 use Rattle.pager.specs.Places.{IsInText, text_place, last_page, is_before, at_place}
 use Rattle.pager.specs.Moves.{started, found_at, sought_before, sought_from, before_found, after_found, sought_on, after_move}
 use Rattle.pager.specs.Moves.{obeyed, with_pattern, answered, acted, updated_by, updated, with_mark, letter_marked, marked_line, gone_back}
-use Rattle.pager.specs.Moves.{sought_first, all_lines, relined, with_lines, taken_in, has_text, turned_to}
+use Rattle.pager.specs.Moves.{sought_first, all_lines, relined, with_lines, taken_in, has_text, turned_to, has_typed, gives_up}
 use Rattle.pager.specs.Keys.{event_command, event_answer, event_mark, event_ending, is_press}
 use Rattle.pager.specs.declared.pager.Ending.{Ending}
 
@@ -122,13 +122,13 @@ pattern-if true pattern p is = is
 pattern-if false pattern p is = is
 
 sought-in : (p : Pager) → IsInText p → IsInText (sought_first (with_pattern p))
-sought-in p is = sought_first-if (with_pattern p).is_back (with_pattern p) (pattern-if (nat_lt 0 (length p.typed))
-    (flat_map encode_utf8 p.typed) p is)
+sought-in p is = sought_first-if (with_pattern p).is_back (with_pattern p)
+    (pattern-if (has_typed p) (field_text p.typed) p is)
 
-erased-if : (b : Bool) (typed : List ℕ) (p : Pager) → IsInText p
-    → IsInText (if b then record p { typed = typed } else record p { mode = Reading })
-erased-if true typed p is = is
-erased-if false typed p is = is
+edited-if : (b : Bool) (typed : FieldData) (p : Pager) → IsInText p
+    → IsInText (if b then record p { mode = Reading } else record p { typed = typed })
+edited-if true typed p is = is
+edited-if false typed p is = is
 
 -- other lines, before the page of the first one is shown
 abbrev fresh : Option (List (List ℕ)) → List ℕ → List (List ℕ) → Pager → Pager
@@ -148,8 +148,8 @@ filtered-if true numbers p is =
 filtered-if false numbers p is = placed-in (text_place 0 0) (fresh None [] (all_lines p) p)
 
 taken-in : (mode : Mode) (p : Pager) → IsInText p → IsInText (taken_in mode p)
-taken-in Filtering p is = filtered-if (nat_lt 0 (length p.typed))
-    (matching (flat_map encode_utf8 p.typed) (all_lines p) (length (all_lines p))) p is
+taken-in Filtering p is = filtered-if (has_typed p)
+    (matching (field_text p.typed) (all_lines p) (length (all_lines p))) p is
 taken-in Reading p is = sought-in p is
 taken-in Asking p is = sought-in p is
 taken-in Marking p is = sought-in p is
@@ -158,8 +158,7 @@ taken-in Turning p is = sought-in p is
 taken-in Helping p is = sought-in p is
 
 answered-in : (answer : Answer) (p : Pager) → IsInText p → IsInText (answered answer p)
-answered-in (Add c) p is = is
-answered-in Erase p is = erased-if (nat_lt 0 (length p.typed)) (take (length p.typed - 1) p.typed) p is
+answered-in (Change edit) p is = edited-if (gives_up edit p) (edited edit p.typed) p is
 answered-in Search p is = taken-in p.mode p is
 answered-in Cancel p is = is
 answered-in Ignore p is = is

@@ -1,7 +1,7 @@
 -- The size of the page, whatever comes.
 use Rattle.std.proofs.Common.{◌≡◌, ◌⊎◌, ℕ, ◌-◌, Bool, true, false, not, nat_lt, if◌then◌else◌, List, [], ◌∷◌, length, inl, inr}
-use Rattle.std.proofs.Common.{take, encode_utf8, Option, Some, None, IfSome, refl, ap, sym, subst, ◌∙◌, rules}
-use Rattle.std.specs.List.{flat_map}
+use Rattle.std.proofs.Common.{Option, Some, None, IfSome, refl, ap, sym, subst, ◌∙◌, rules}
+use Rattle.text_field.specs.{Field.FieldData, Field.field_text, Keys.edited}
 use Rattle.ratatui_core.specs.{Layout.Size, Backend.size_of, Terminal.TerminalData}
 use Rattle.ratatui_ansi.specs.Backend.{BackendState, shown_by}
 use Rattle.ratatui_events.specs.declared.event.Event.{Event}
@@ -18,7 +18,7 @@ use Rattle.pager.specs.declared.pager.Pager.{Pager}
 use Rattle.pager.specs.declared.pager.Mode.{Mode}
 use Rattle.pager.specs.declared.pager.Mode.TheVariants.{Reading, Asking, Filtering, Marking, Returning, Turning, Helping}
 use Rattle.pager.specs.declared.answer.Answer.{Answer}
-use Rattle.pager.specs.declared.answer.Answer.TheVariants.{Add, Erase, Search, Cancel, Ignore}
+use Rattle.pager.specs.declared.answer.Answer.TheVariants.{Change, Search, Cancel, Ignore}
 use Rattle.pager.specs.declared.command.Command.{Command}
 use Rattle.pager.specs.declared.command.Command.TheVariants.{Nothing, Digit, Down, Up, PageDown, PageUp, HalfDown, HalfUp}
 use Rattle.pager.specs.declared.command.Command.TheVariants.{WheelDown, WheelUp}
@@ -27,7 +27,7 @@ use Rattle.pager.specs.declared.command.Command.TheVariants.{Help, Quit, ToPart,
 use Rattle.pager.specs.Search.{next_match, last_match, matching}
 use Rattle.pager.specs.Moves.{found_at, sought_before, sought_from, before_found, after_found, sought_on, obeyed, with_pattern}
 use Rattle.pager.specs.Moves.{answered, acted, updated_by, updated, letter_marked, marked_line, gone_back}
-use Rattle.pager.specs.Moves.{sought_first, all_lines, relined, with_lines, taken_in, has_text, turned_to}
+use Rattle.pager.specs.Moves.{sought_first, all_lines, relined, with_lines, taken_in, has_text, turned_to, has_typed, gives_up}
 use Rattle.pager.specs.declared.pager.Ending.{Ending}
 use Rattle.pager.specs.Keys.{event_command, event_answer, event_mark, event_ending, is_press}
 use Rattle.pager.proofs.ShowLemmas.{asks-nothing}
@@ -80,10 +80,10 @@ pattern-same : (b : Bool) (pattern : List ℕ) (p : Pager)
 pattern-same true pattern p = refl
 pattern-same false pattern p = refl
 
-erased-same : (b : Bool) (typed : List ℕ) (p : Pager)
-    → page_size (if b then record p { typed = typed } else record p { mode = Reading }) ≡ page_size p
-erased-same true typed p = refl
-erased-same false typed p = refl
+edited-same : (b : Bool) (typed : FieldData) (p : Pager)
+    → page_size (if b then record p { mode = Reading } else record p { typed = typed }) ≡ page_size p
+edited-same true typed p = refl
+edited-same false typed p = refl
 
 filtered-same : (b : Bool) (numbers : List ℕ) (p : Pager)
     → page_size (if b then with_lines numbers p else relined None [] (all_lines p) p) ≡ page_size p
@@ -92,11 +92,11 @@ filtered-same false numbers p = refl
 
 sought_first-same : (p : Pager) → page_size (sought_first (with_pattern p)) ≡ page_size p
 sought_first-same p = first-same (with_pattern p).is_back (with_pattern p)
-    ∙ pattern-same (nat_lt 0 (length p.typed)) (flat_map encode_utf8 p.typed) p
+    ∙ pattern-same (has_typed p) (field_text p.typed) p
 
 taken-same : (mode : Mode) (p : Pager) → page_size (taken_in mode p) ≡ page_size p
-taken-same Filtering p = filtered-same (nat_lt 0 (length p.typed))
-    (matching (flat_map encode_utf8 p.typed) (all_lines p) (length (all_lines p))) p
+taken-same Filtering p = filtered-same (has_typed p)
+    (matching (field_text p.typed) (all_lines p) (length (all_lines p))) p
 taken-same Reading p = sought_first-same p
 taken-same Asking p = sought_first-same p
 taken-same Marking p = sought_first-same p
@@ -105,8 +105,7 @@ taken-same Turning p = sought_first-same p
 taken-same Helping p = sought_first-same p
 
 answered-same : (answer : Answer) (p : Pager) → page_size (answered answer p) ≡ page_size p
-answered-same (Add c) p = refl
-answered-same Erase p = erased-same (nat_lt 0 (length p.typed)) (take (length p.typed - 1) p.typed) p
+answered-same (Change edit) p = edited-same (gives_up edit p) (edited edit p.typed) p
 answered-same Search p = taken-same p.mode p
 answered-same Cancel p = refl
 answered-same Ignore p = refl

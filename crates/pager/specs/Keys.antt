@@ -21,7 +21,9 @@ use Rattle.pager.specs.declared.command.Command.TheVariants.{Details, Mark, ToMa
 use Rattle.pager.specs.declared.pager.Ending.{Ending}
 use Rattle.pager.specs.declared.pager.Ending.TheVariants as ending
 use Rattle.pager.specs.declared.answer.Answer.{Answer}
-use Rattle.pager.specs.declared.answer.Answer.TheVariants.{Add, Erase, Search, Cancel, Ignore}
+use Rattle.pager.specs.declared.answer.Answer.TheVariants.{Change, Search, Cancel, Ignore}
+use Rattle.text_field.specs.declared.keys.Edit.{Edit}
+use Rattle.text_field.specs.Keys.{edit_of}
 
 -- characters of moves: j, k, the blank and f, b, d, u, g, G, and p and the sign of per cent
 abbrev pub move_command : ℕ → Command
@@ -110,28 +112,32 @@ event_command (Key k) = kind_command k.kind k
 event_command (Mouse m) = mouse_command m.kind
 event_command _ = Nothing
 
--- a key while a search is typed
-abbrev pub code_answer : KeyCode → Answer
-code_answer (key.Char c) = Add c
-code_answer key.Backspace = Erase
-code_answer key.Enter = Search
-code_answer key.Esc = Cancel
-code_answer _ = Ignore
+-- what a field of text makes of an event, if it is for one
+abbrev pub edit_answer : Option Edit → Answer
+edit_answer None = Ignore
+edit_answer (Some edit) = Change edit
 
--- c with Control
-abbrev pub control_answer : KeyCode → Answer
-control_answer (key.Char c) = if c == byte "c" then Cancel else Ignore
-control_answer _ = Ignore
+-- while a search is typed: Enter, Esc, and Ctrl+C; the other events are for the field
+abbrev pub code_answer : KeyCode → Event → Answer
+code_answer key.Enter event = Search
+code_answer key.Esc event = Cancel
+code_answer _ event = edit_answer (edit_of event)
+
+abbrev pub control_answer : KeyCode → Event → Answer
+control_answer (key.Char c) event = if c == byte "c" then Cancel else edit_answer (edit_of event)
+control_answer _ event = edit_answer (edit_of event)
+
+abbrev pub key_answer : KeyEvent → Event → Answer
+key_answer k event = if has_control_key k then control_answer k.code event else code_answer k.code event
 
 abbrev pub kind_answer : KeyEventKind → KeyEvent → Answer
 kind_answer Release k = Ignore
-kind_answer _ k = if has_control_key k then control_answer k.code else code_answer k.code
+kind_answer _ k = key_answer k (Key k)
 
--- what an event asks for while a search is typed
+-- what an event asks for while a search is typed; a key that is let go asks for nothing
 abbrev pub event_answer : Event → Answer
 event_answer (Key k) = kind_answer k.kind k
-event_answer (Pasted c) = Add c
-event_answer _ = Ignore
+event_answer event = edit_answer (edit_of event)
 
 abbrev pub is_press_kind : KeyEventKind → Bool
 is_press_kind Release = false

@@ -1,11 +1,13 @@
 -- What each event makes of a pager: its place, its search, and what it shows.
 use Rattle.std.specs.Prelude.{ℕ, Bool, true, false, not, ◌+◌, ◌-◌, ◌*◌, ◌/◌, ◌==◌, nat_lt, min, max}
-use Rattle.std.specs.Prelude.{if◌then◌else◌, List, [], ◌∷◌, ◌++◌, length, take, encode_utf8, Option, Some}
-use Rattle.std.specs.Prelude.{None, ◌^◌, replicate, slice_get, slice_set, unwrap_or}
-use Rattle.std.specs.List.{flat_map}
+use Rattle.std.specs.Prelude.{if◌then◌else◌, List, [], length, Option, Some, None, ◌^◌, replicate}
+use Rattle.std.specs.Prelude.{slice_get, slice_set, unwrap_or}
 use Rattle.ratatui_core.specs.Layout.{Size}
 use Rattle.ratatui_events.specs.declared.event.Event.{Event}
 use Rattle.ratatui_reads.specs.Reads.{size_in}
+use Rattle.text_field.specs.{Field.FieldData, Field.field_text, Field.new_field, Keys.edited}
+use Rattle.text_field.specs.declared.keys.Edit.{Edit}
+use Rattle.text_field.specs.declared.keys.Edit.TheVariants.{DeleteLeft}
 use Rattle.pager.specs.declared.pager.Pager.{Pager}
 use Rattle.pager.specs.declared.pager.Mode.{Mode}
 use Rattle.pager.specs.declared.pager.Mode.TheVariants.{Reading, Asking, Filtering, Marking, Returning, Turning, Helping}
@@ -13,7 +15,7 @@ use Rattle.pager.specs.declared.pager.Note.TheVariants.{Range, Bytes, Missing}
 use Rattle.pager.specs.declared.pager.Ending.{Ending}
 use Rattle.pager.specs.declared.pager.Ending.TheVariants as ending
 use Rattle.pager.specs.declared.answer.Answer.{Answer}
-use Rattle.pager.specs.declared.answer.Answer.TheVariants.{Add, Erase, Search, Cancel, Ignore}
+use Rattle.pager.specs.declared.answer.Answer.TheVariants.{Change, Search, Cancel, Ignore}
 use Rattle.pager.specs.declared.command.Command.{Command}
 use Rattle.pager.specs.declared.command.Command.TheVariants.{Digit, Down, Up, PageDown, PageUp}
 use Rattle.pager.specs.declared.command.Command.TheVariants.{HalfDown, HalfUp, WheelDown, WheelUp}
@@ -23,6 +25,10 @@ use Rattle.pager.specs.declared.command.Command.TheVariants.{Details, Mark, ToMa
 use Rattle.pager.specs.Keys.{event_command, event_answer, event_mark, event_ending, is_press}
 use Rattle.pager.specs.Search.{next_match, last_match, matching, picked}
 use Rattle.pager.specs.Places.{text_place, page_rows, at_place, place_after, place_before}
+
+-- a line in which nothing is typed, of at most 80 characters
+abbrev pub empty_line : FieldData
+empty_line = record new_field { limit = Some 80 }
 
 -- at the first line
 abbrev pub started : List (List ℕ) → List ℕ → List ℕ → Size → Pager
@@ -42,7 +48,7 @@ started lines name pattern size = record {
   has_numbers = false;
   mode = Reading;
   is_back = false;
-  typed = [];
+  typed = empty_line;
   pattern = pattern;
   found = None;
   marks = replicate 53 None;
@@ -140,11 +146,11 @@ sought_on is_back p =
 
 -- a search is typed
 abbrev pub asked : Bool → Pager → Pager
-asked is_back p = record p { mode = Asking; is_back = is_back; typed = [] }
+asked is_back p = record p { mode = Asking; is_back = is_back; typed = empty_line }
 
 -- a filter is typed
 abbrev pub filter_asked : Pager → Pager
-filter_asked p = record p { mode = Filtering; typed = [] }
+filter_asked p = record p { mode = Filtering; typed = empty_line }
 
 -- what a command makes of a pager: each but a digit takes the number, and each move ends a search
 abbrev pub obeyed : Command → Pager → Pager
@@ -159,19 +165,23 @@ obeyed ToMark p = record p { number = 0; note = Range; mode = Returning }
 obeyed Turn p = record p { number = 0; note = Range; mode = Turning }
 obeyed command p = record (after_move command p) { number = 0; found = None; note = Range }
 
--- a character more of what is sought, of at most 80
-abbrev pub with_character : ℕ → List ℕ → List ℕ
-with_character c cs = if nat_lt (length cs) 80 then cs ++ c ∷ [] else cs
+-- whether something is typed
+abbrev pub has_typed : Pager → Bool
+has_typed p = nat_lt 0 (length (field_text p.typed))
 
--- one less; before the first one the search is given up
-abbrev pub with_one_less : Pager → Pager
-with_one_less p =
-    if nat_lt 0 (length p.typed) then record p { typed = take (length p.typed - 1) p.typed }
-    else record p { mode = Reading }
+-- an edit that deletes to the left where nothing is typed gives the search up
+abbrev pub gives_up : Edit → Pager → Bool
+gives_up (DeleteLeft reach) p = not (has_typed p)
+gives_up _ p = false
+
+-- what is typed is edited
+abbrev pub with_edit : Edit → Pager → Pager
+with_edit edit p =
+    if gives_up edit p then record p { mode = Reading } else record p { typed = edited edit p.typed }
 
 -- what is sought is what was typed, or, if that is nothing, what was sought last
 abbrev pub with_pattern : Pager → Pager
-with_pattern p = if nat_lt 0 (length p.typed) then record p { pattern = flat_map encode_utf8 p.typed } else p
+with_pattern p = if has_typed p then record p { pattern = field_text p.typed } else p
 
 -- from the first line of the page on, or before it
 abbrev pub sought_first : Pager → Pager
@@ -199,8 +209,8 @@ with_lines numbers p = relined (Some (all_lines p)) numbers (picked (all_lines p
 -- only the lines that have what was typed; all of them if that is nothing
 abbrev pub filtered : Pager → Pager
 filtered p =
-    if nat_lt 0 (length p.typed) then
-    with_lines (matching (flat_map encode_utf8 p.typed) (all_lines p) (length (all_lines p))) p
+    if has_typed p then
+    with_lines (matching (field_text p.typed) (all_lines p) (length (all_lines p))) p
     else relined None [] (all_lines p) p
 
 -- what was typed is taken: for a filter, or for a search
@@ -210,8 +220,7 @@ taken_in _ p = sought_first (with_pattern p)
 
 -- what an answer makes of a pager of which a search or a filter is asked
 abbrev pub answered : Answer → Pager → Pager
-answered (Add c) p = record p { typed = with_character c p.typed }
-answered Erase p = with_one_less p
+answered (Change edit) p = with_edit edit p
 answered Search p = record (taken_in p.mode p) { mode = Reading }
 answered Cancel p = record p { mode = Reading }
 answered Ignore p = p

@@ -1,13 +1,14 @@
 -- What a pager paints: lines in rows, and the status in the last one.
 use Rattle.std.specs.Prelude.{◌≡◌, ◌<◌, ℕ, zero, suc, ◌+◌, ◌-◌, ◌*◌, ◌/◌, ◌==◌, true}
 use Rattle.std.specs.Prelude.{min, if◌then◌else◌, List, [], ◌∷◌, ◌++◌, length, Option, Some, None, map}
-use Rattle.std.specs.Prelude.{unwrap_or, slice_get, slice_index_or, is_some, codes, encode_utf8, ◌^◌}
-use Rattle.std.specs.{Fmt.decimal, List.flat_map}
-use Rattle.ratatui_core.specs.{Layout.Rect, Layout.EdgesFit, Style.Style, Style.new_style}
+use Rattle.std.specs.Prelude.{unwrap_or, slice_get, slice_index_or, is_some, codes, ◌^◌, nat_lt, ◌&&◌}
+use Rattle.std.specs.Fmt.{decimal}
+use Rattle.ratatui_core.specs.{Layout.Rect, Layout.Position, Layout.EdgesFit, Style.Style, Style.new_style}
 use Rattle.ratatui_core.specs.Buffer.{BufferData, PaintsPieces, IsPlainFrom, IsSettledBuffer, columns}
-use Rattle.ratatui_core.specs.Buffer.{text_pieces, position_of}
+use Rattle.ratatui_core.specs.Buffer.{text_pieces, position_of, text_columns}
 use Rattle.ratatui_core.specs.Widgets.{ChangesWithin, OnPart}
 use Rattle.widget_boxes.specs.Titles.{InTurn}
+use Rattle.text_field.specs.Field.{field_text}
 use Rattle.pager.specs.Symbols.{LineSymbol, reversed, line_symbols, symbols_in_view, is_in_view}
 use Rattle.pager.specs.Places.{breaking, number_columns, stride, page_rows, page_place, places_after}
 use Rattle.pager.specs.Places.{rows_of_line}
@@ -178,8 +179,8 @@ first_part Helping p = codes "keys"
 
 abbrev pub second_part : Mode → Pager → List ℕ
 second_part Reading p = note_text p.note p
-second_part Asking p = flat_map encode_utf8 p.typed
-second_part Filtering p = flat_map encode_utf8 p.typed
+second_part Asking p = field_text p.typed
+second_part Filtering p = field_text p.typed
 second_part Marking p = codes ": a letter"
 second_part Returning p = codes ": a letter, or ' for where the last jump began"
 second_part Turning p = codes " n for the next text, p for the one before, q for the end"
@@ -192,6 +193,25 @@ PaintsStatus p r y =
     let used = columns (text_pieces r.width reversed first) in
     InTurn (PaintsText r.x y r.width reversed first)
     (PaintsText (r.x + used) y (r.width - used) reversed (second_part p.mode p))
+
+-- where the cursor stands while something is typed: in the last row, after the column of the first part and
+-- after what is typed before it, if the row goes so far
+abbrev pub typing_cursor : List ℕ → Rect → Option Position
+typing_cursor before r =
+    if nat_lt 0 r.height && nat_lt (text_columns before) (r.width - 1) then Some (record {
+      x = min (r.x + (text_columns before + 1)) 65535;
+      y = min (r.y + (r.height - 1)) 65535;
+    })
+    else None
+
+abbrev pub mode_cursor : Mode → Pager → Rect → Option Position
+mode_cursor Asking p r = typing_cursor p.typed.before r
+mode_cursor Filtering p r = typing_cursor p.typed.before r
+mode_cursor _ p r = None
+
+-- the cursor of a page over an area, if it is shown
+abbrev pub page_cursor : Pager → Rect → Option Position
+page_cursor p r = mode_cursor p.mode p r
 
 -- ---- the page
 

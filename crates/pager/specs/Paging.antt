@@ -17,9 +17,9 @@ use Rattle.ratatui_acts.specs.Turns.{ActingRules, Standing, turn_size}
 use Rattle.ratatui_acts.specs.Runs.{Ground, Now, Past, turns_of}
 use Rattle.ratatui_acts.specs.Reading.{seat_between, event_rules, turn_reads}
 use Rattle.ratatui_app.specs.declared.on_glass.OnGlass.{OnGlass}
-use Rattle.ratatui_app.specs.{Glass.no_cursor, Runs.on_glass, Runs.RunsThrough, Runs.StopsThrough}
+use Rattle.ratatui_app.specs.{Runs.on_glass, Runs.RunsThrough, Runs.StopsThrough}
 use Rattle.pager.specs.declared.pager.Pager.{Pager}
-use Rattle.pager.specs.{Moves.updated, Pages.PaintsPager}
+use Rattle.pager.specs.{Moves.updated, Pages.PaintsPager, Pages.page_cursor}
 
 -- events move a pager, and nothing else does
 unfoldable pub paged_after : {R : Type 0} → Pager → Message R → Pager
@@ -35,7 +35,7 @@ paging = record { updated = paged_after; asked = λ _. None; is_over = λ p. p.i
 abbrev pub paging_on : {W H : Type 0} → (H → Coming)
     → Ground Pager Never Never (OnGlass W) (TerminalError AnsiError) H Nothing
 paging_on coming =
-    on_glass paging PaintsPager (λ _. no_cursor) (GivesUntimed coming) (FailsToGive coming) (λ _ _ _ _. ⊥)
+    on_glass paging PaintsPager page_cursor (GivesUntimed coming) (FailsToGive coming) (λ _ _ _ _. ⊥)
 
 -- the alternate screen of a terminal of this size, after bytes that its writer held before, was opened and
 -- made blank, and the terminal was told to tell of the mouse and of new sizes

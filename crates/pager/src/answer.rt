@@ -2,20 +2,22 @@
 //! the help.
 
 ghost use Rattle.std.specs.Prelude.{◌≡◌, ◌<◌, IfSome};
-ghost use Rattle.pager.specs.Keys.{code_answer, control_answer, kind_answer, event_answer, is_press_kind};
+ghost use Rattle.ratatui_events.specs.declared.event.Event.TheVariants.{Key};
+ghost use Rattle.text_field.specs.Keys.{edit_of};
+ghost use Rattle.pager.specs.Keys.{edit_answer, code_answer, control_answer, key_answer, kind_answer, event_answer};
+ghost use Rattle.pager.specs.Keys.{is_press_kind};
 ghost use Rattle.pager.specs.Keys.{is_press, mark_index, code_mark, event_mark, code_ending, event_ending};
 
 use crate::command::has_control_key;
 use crate::pager::Ending;
 use ratatui_events::{Event, KeyCode, KeyEvent, KeyEventKind};
+use text_field::{Edit, edit_of};
 
 /// What is made of a search that is typed.
 #[derive(Debug, Clone, Copy, PartialEq, Eq)]
 pub enum Answer {
-    /// Another character.
-    Add(char),
-    /// One character less.
-    Erase,
+    /// What is typed is edited.
+    Change(Edit),
     /// The search begins.
     Search,
     /// The search is given up.
@@ -24,53 +26,58 @@ pub enum Answer {
     Ignore,
 }
 
+// What an event asks of a field of text.
+fn edit_answer(event: &Event) -> Answer
+    ensures { result ≡ edit_answer (edit_of event.now) }
+{
+    match edit_of(event) {
+        Some(edit) => Answer::Change(edit),
+        None => Answer::Ignore,
+    }
+}
+
 // What a key asks for with Control.
-fn control_answer(code: KeyCode) -> Answer
-    ensures { result ≡ control_answer code }
+fn control_answer(code: KeyCode, event: &Event) -> Answer
+    ensures { result ≡ control_answer code event.now }
 {
     match code {
         KeyCode::Char('c') => Answer::Cancel,
-        _ => Answer::Ignore,
+        _ => edit_answer(event),
     }
 }
 
 // What a key asks for without Control.
-fn code_answer(code: KeyCode) -> Answer
-    ensures { result ≡ code_answer code }
+fn code_answer(code: KeyCode, event: &Event) -> Answer
+    ensures { result ≡ code_answer code event.now }
 {
     match code {
-        KeyCode::Char(character) => Answer::Add(character),
-        KeyCode::Backspace => Answer::Erase,
         KeyCode::Enter => Answer::Search,
         KeyCode::Esc => Answer::Cancel,
-        _ => Answer::Ignore,
+        _ => edit_answer(event),
     }
 }
 
-// What a key asks for: nothing when it is let go.
-fn key_answer(key: KeyEvent) -> Answer
-    ensures { result ≡ kind_answer key.kind key }
+// What a key asks for.
+fn key_answer(key: KeyEvent, event: &Event) -> Answer
+    ensures { result ≡ key_answer key event.now }
 {
-    match key.kind {
-        KeyEventKind::Release => Answer::Ignore,
-        _ => {
-            if has_control_key(key) {
-                control_answer(key.code)
-            } else {
-                code_answer(key.code)
-            }
-        }
+    if has_control_key(key) {
+        control_answer(key.code, event)
+    } else {
+        code_answer(key.code, event)
     }
 }
 
-/// Returns what an event asks for.
+/// Returns what an event asks for: nothing if it is a key that is let go.
 pub fn answer_of(event: Event) -> Answer
     ensures { result ≡ event_answer event }
 {
     match event {
-        Event::Key(key) => key_answer(key),
-        Event::Pasted(character) => Answer::Add(character),
-        _ => Answer::Ignore,
+        Event::Key(key) => match key.kind {
+            KeyEventKind::Release => Answer::Ignore,
+            _ => key_answer(key, &event),
+        },
+        _ => edit_answer(&event),
     }
 }
 

@@ -57,12 +57,11 @@ impl<'a> Pager<'a> {
         ensures ok { OnOk result (self.new ≡ filtered self.old) }
         ensures err { OnErr result (self.new ≡ self.old) }
     {
-        if self.typed.is_empty() {
+        if !self.has_typed() {
             self.show_all();
             return Ok(());
         }
-        let pattern = self.typed.to_text(self.document.allocator())?;
-        let numbers = self.all_lines().matching(pattern.as_str())?;
+        let numbers = self.all_lines().matching(self.typed.text())?;
         let lines = self.all_lines().picked(&numbers)?;
         self.pick(numbers, lines);
         Ok(())

@@ -38,5 +38,4 @@ pub use parting::parted;
 pub use place::Place;
 pub use showing::show;
 pub use styles::{Run, Styles};
-pub use typing::Typing;
 pub use view::View;

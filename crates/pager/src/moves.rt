@@ -7,7 +7,7 @@ ghost use Rattle.pager.specs.Moves.{jumped_to, part_line, after_move, asked, fil
 use crate::command::Command;
 use crate::pager::{Mode, Note, Pager};
 use crate::place::Place;
-use crate::typing::Typing;
+use crate::typing::empty_line;
 
 impl<'a> Pager<'a> {
     // Half of the rows of a page.
@@ -150,7 +150,7 @@ impl<'a> Pager<'a> {
     {
         self.mode = Mode::Asking;
         self.is_back = is_back;
-        self.typed = Typing::new();
+        self.typed = empty_line(self.document.allocator());
     }
 
     // Lets a filter be typed.
@@ -158,7 +158,7 @@ impl<'a> Pager<'a> {
         ensures { self.new ≡ filter_asked self.old }
     {
         self.mode = Mode::Filtering;
-        self.typed = Typing::new();
+        self.typed = empty_line(self.document.allocator());
     }
 
     // Takes the next key for a mark or a text.

@@ -12,6 +12,7 @@ use crate::help::help_text;
 use crate::pager::{Mode, Pager};
 use crate::painting::{paint_line, paint_text};
 use crate::place::Place;
+use crate::typing::typing_cursor;
 use crate::view::View;
 use itoa::Buffer as Digits;
 use ratatui_app::Application;
@@ -223,13 +224,12 @@ impl<'a> Pager<'a> {
 }
 
 impl<'a> Application for Pager<'a> {
-    ghost use Rattle.pager.specs.Pages.{PaintsPager};
-    ghost use Rattle.ratatui_app.specs.Glass.{no_cursor};
+    ghost use Rattle.pager.specs.Pages.{PaintsPager, page_cursor};
     ghost use Rattle.pager.specs.PageLemmas.{pages-settled};
 
     ghost paints = { PaintsPager };
 
-    ghost cursor = { λ _. no_cursor };
+    ghost cursor = { page_cursor };
 
     fn paint(&self, area: Rect, buf: &mut Buffer) -> Result<(), AllocError> {
         let Some(part) = buf.part(area) else {
@@ -238,8 +238,11 @@ impl<'a> Application for Pager<'a> {
         self.paint_page(part, buf)
     }
 
-    fn cursor(&self, _area: Rect) -> Option<Position> {
-        None
+    fn cursor(&self, area: Rect) -> Option<Position> {
+        match self.mode {
+            Mode::Asking | Mode::Filtering => typing_cursor(self.typed.before(), area),
+            _ => None,
+        }
     }
 
     ghost is_settled = { pages-settled };

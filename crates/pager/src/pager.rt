@@ -1,7 +1,7 @@
 //! The state of a pager.
 
 ghost use Rattle.std.specs.Prelude.{◌≡◌, false, None, IfOk, OnOk, OnErr};
-ghost use Rattle.pager.specs.Moves.{started, with_one_less, taken_in, answered, has_text, acted, updated};
+ghost use Rattle.pager.specs.Moves.{started, taken_in, answered, has_text, acted, updated};
 ghost use Rattle.pager.specs.Inner.{at_told_size};
 ghost use Rattle.pager.specs.Paging.{paged_after};
 
@@ -10,12 +10,13 @@ use crate::command::command_of;
 use crate::document::{Document, Numbers};
 use crate::own_text::OwnText;
 use crate::styles::Styles;
-use crate::typing::Typing;
+use crate::typing::empty_line;
 use ratatui_acts::{Acts, Message, Never};
 use ratatui_core::layout::Size;
 use ratatui_events::Event;
 use ratatui_reads::size_in;
 use std::alloc::AllocError;
+use text_field::TextField;
 
 /// What keys are taken for.
 #[derive(Debug, Clone, Copy, PartialEq, Eq)]
@@ -91,7 +92,7 @@ pub struct Pager<'a> {
     /// Whether the last search goes back.
     pub(crate) is_back: bool,
     /// What is typed of the next search.
-    pub(crate) typed: Typing,
+    pub(crate) typed: TextField,
     /// What is sought, and the line in which it was found last, unless the place was left since.
     pub(crate) pattern: OwnText,
     pub(crate) found: Option<u32>,
@@ -130,7 +131,7 @@ impl<'a> Pager<'a> {
             has_numbers: false,
             mode: Mode::Reading,
             is_back: false,
-            typed: Typing::new(),
+            typed: empty_line(alloc),
             pattern,
             found: None,
             marks: [None; MARKS],
@@ -178,17 +179,6 @@ impl<'a> Pager<'a> {
         }
     }
 
-    // One character of the search less; before the first one the search is given up.
-    fn erase(&mut self)
-        ensures { self.new ≡ with_one_less self.old }
-    {
-        if self.typed.is_empty() {
-            self.mode = Mode::Reading;
-        } else {
-            self.typed.pop();
-        }
-    }
-
     // Takes what was typed, for a filter or for a search.
     fn take_typed(&mut self) -> Result<(), AllocError>
         ensures ok { OnOk result (self.new ≡ taken_in self.old.mode self.old) }
@@ -206,8 +196,7 @@ impl<'a> Pager<'a> {
         ensures err { OnErr result (self.new ≡ self.old) }
     {
         match answer {
-            Answer::Add(character) => self.typed.push(character),
-            Answer::Erase => self.erase(),
+            Answer::Change(edit) => self.edit(edit)?,
             Answer::Search => {
                 self.take_typed()?;
                 self.mode = Mode::Reading;
@@ -303,7 +292,7 @@ impl<'a> Pager<'a> {
         }
     }
 
-    // Takes an event. Only the beginning of a search and a filter take memory.
+    // Takes an event. Only what is typed takes memory, and a search and a filter that begin.
     fn hear(&mut self, event: Event) -> Result<(), AllocError>
         ensures ok { OnOk result (self.new ≡ updated self.old event) }
         ensures err { OnErr result (self.new ≡ self.old) }

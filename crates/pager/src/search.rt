@@ -5,6 +5,7 @@ ghost use Rattle.pager.specs.Search.{has_capital, occurs, has_match, numbered_li
 ghost use Rattle.pager.specs.Moves.{found_at, sought_from, sought_before, after_found, before_found};
 ghost use Rattle.pager.specs.Moves.{sought_on, with_pattern, sought_first};
 
+use crate::own_text::OwnText;
 use crate::pager::{Note, Pager};
 use crate::symbols::{begins_in_any_case, has_capital};
 use std::alloc::AllocError;
@@ -149,10 +150,10 @@ impl<'a> Pager<'a> {
         ensures ok { OnOk result (self.new ≡ with_pattern self.old) }
         ensures err { OnErr result (self.new ≡ self.old) }
     {
-        if self.typed.is_empty() {
-            return Ok(());
+        if self.has_typed() {
+            let text = String::from_str(self.document.allocator(), self.typed.text())?;
+            self.pattern = OwnText::new(text);
         }
-        self.pattern = self.typed.to_text(self.document.allocator())?;
         Ok(())
     }
 

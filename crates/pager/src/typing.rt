@@ -1,76 +1,67 @@
-//! What is typed of a search.
+//! What is typed of a search or of a filter.
 
-ghost use Rattle.std.specs.Prelude.{◌≡◌, ◌-◌, [], length, take, encode_utf8, IsTrue, ◌↔◌, IfOk};
-ghost use Rattle.std.specs.List.{flat_map};
-ghost use Rattle.pager.specs.Moves.{with_character};
+ghost use Rattle.std.specs.Prelude.{◌≡◌, OnOk, OnErr};
+ghost use Rattle.pager.specs.Moves.{empty_line, has_typed, gives_up, with_edit};
+ghost use Rattle.pager.specs.Pages.{typing_cursor};
 
-use crate::own_text::OwnText;
-use arrayvec::ArrayVec;
+use crate::pager::{Mode, Pager};
+use ratatui_core::layout::{Position, Rect};
+use ratatui_core::text::Span;
 use std::alloc::{AllocError, Global};
-use std::marker::Model;
+use text_field::{Edit, TextField};
 
 /// How many characters may be typed.
 const MOST: usize = 80;
 
-/// The characters that were typed, at most 80.
-#[derive(Drop)]
-pub struct Typing {
-    characters: ArrayVec<char, MOST>,
+// A line in which nothing is typed.
+pub(crate) fn empty_line(alloc: Global) -> TextField
+    ensures { result ≡ empty_line }
+{
+    TextField::new(alloc).with_limit(MOST)
 }
 
-impl Model for Typing {
-    ghost use Rattle.std.specs.Prelude.{ℕ, List};
-
-    ghost Value = { List ℕ };
-
-    ghost view = { λ typing. typing.characters.items };
+// Where the cursor stands in the last row of an area: after one column, and after what is typed
+// before it.
+pub(crate) fn typing_cursor(before: &str, area: Rect) -> Option<Position>
+    ensures { result ≡ typing_cursor before.now area }
+{
+    let columns = Span::raw(before).width();
+    if area.height == 0 || columns >= usize::from(area.width.saturating_sub(1)) {
+        return None;
+    }
+    Some(Position {
+        x: area.x.saturating_add(columns as u16 + 1),
+        y: area.y.saturating_add(area.height - 1),
+    })
 }
 
-impl Typing {
-    /// Makes a line without a character.
-    pub fn new() -> Typing
-        ensures { result ≡ [] }
+impl Pager<'_> {
+    // Whether something is typed.
+    pub(crate) fn has_typed(&self) -> bool
+        ensures { result ≡ has_typed self.now }
     {
-        Typing {
-            characters: ArrayVec::new(),
+        !self.typed.text().is_empty()
+    }
+
+    // Whether an edit gives the search up.
+    fn gives_up(&self, edit: Edit) -> bool
+        ensures { result ≡ gives_up edit self.now }
+    {
+        match edit {
+            Edit::DeleteLeft(_) => !self.has_typed(),
+            _ => false,
         }
     }
 
-    /// Returns whether no character was typed.
-    pub fn is_empty(&self) -> bool
-        ensures { IsTrue result ↔ (length self.now ≡ 0) }
+    // Edits what is typed; where nothing is typed, a deletion to the left gives the search up.
+    pub(crate) fn edit(&mut self, edit: Edit) -> Result<(), AllocError>
+        ensures ok { OnOk result (self.new ≡ with_edit edit self.old) }
+        ensures err { OnErr result (self.new ≡ self.old) }
     {
-        self.characters.is_empty()
-    }
-
-    /// Adds a character, unless there are 80.
-    pub fn push(&mut self, character: char)
-        ensures { self.new ≡ with_character character self.old }
-    {
-        if !self.characters.is_full() {
-            self.characters.push(character);
+        if self.gives_up(edit) {
+            self.mode = Mode::Reading;
+            return Ok(());
         }
-    }
-
-    /// Takes the last character away, if there is one.
-    pub fn pop(&mut self)
-        ensures { self.new ≡ take (length self.old - 1) self.old }
-    {
-        self.characters.pop();
-    }
-
-    /// Returns the characters as a text.
-    ///
-    /// # Errors
-    ///
-    /// `AllocError` if memory is refused.
-    pub fn to_text(&self, alloc: Global) -> Result<OwnText, AllocError>
-        ensures { IfOk result (λ text. text ≡ flat_map encode_utf8 self.now) }
-    {
-        let mut text = String::new(alloc);
-        for character in self.characters.as_slice() {
-            text.push(*character)?;
-        }
-        Ok(OwnText::new(text))
+        self.typed.apply(edit)
     }
 }

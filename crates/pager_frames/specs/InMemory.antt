@@ -2,9 +2,9 @@
 use Rattle.std.specs.Prelude.{true}
 use Rattle.ratatui_core.specs.Backend.{TestBackend, TestError, screen_of, failures_of, HasOnlyPut}
 use Rattle.ratatui_core.specs.Terminal.{TerminalData}
-use Rattle.ratatui_app.specs.{Glass.no_cursor, Showing.Device, Showing.ShowsPage}
+use Rattle.ratatui_app.specs.Showing.{Device, ShowsPage}
 use Rattle.pager.specs.declared.pager.Pager.{Pager}
-use Rattle.pager.specs.Pages.{PaintsPager}
+use Rattle.pager.specs.Pages.{PaintsPager, page_cursor}
 
 -- a screen in memory, as a backend has it
 abbrev pub in_memory : Device TestBackend TestError
@@ -17,4 +17,4 @@ in_memory = record {
 
 -- such a screen shows the page
 abbrev pub ShowsInMemory : Pager → TerminalData TestBackend → Type 0
-ShowsInMemory p t = ShowsPage in_memory (PaintsPager p) no_cursor t
+ShowsInMemory p t = ShowsPage in_memory (PaintsPager p) (page_cursor p) t
