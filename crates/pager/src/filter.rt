@@ -1,6 +1,8 @@
 //! Lines that are shown, and others that are hidden.
 
-ghost use Rattle.std.specs.Prelude.{◌≡◌, ◌≤◌, None, [], length, OnOk, OnErr};
+ghost use Rattle.std.specs.Prelude.{◌≡◌, ◌<◌, ◌≤◌, ◌^◌, None, [], length, IfOk, OnOk, OnErr};
+ghost use Rattle.text_field.specs.Field.{field_text};
+ghost use Rattle.pager.specs.Search.{matching};
 ghost use Rattle.pager.specs.Moves.{all_lines, relined, with_lines, filtered};
 
 use crate::document::{Document, Numbers};
@@ -52,6 +54,16 @@ impl<'a> Pager<'a> {
         self.begin_again();
     }
 
+    // The numbers of the lines that have what was typed.
+    fn matching(&self) -> Result<Numbers, AllocError>
+        ensures numbers { let lines = all_lines self.now in IfOk result (λ numbers.
+            numbers ≡ matching (field_text self.now.typed) lines (length lines)) }
+        ensures count { IfOk result (λ numbers. length numbers < 2 ^ 32) }
+    {
+        let pattern = self.typed.text();
+        self.all_lines().matching(pattern)
+    }
+
     // Shows only the lines that have what was typed, or all if that is nothing.
     pub(crate) fn filter(&mut self) -> Result<(), AllocError>
         ensures ok { OnOk result (self.new ≡ filtered self.old) }
@@ -61,7 +73,7 @@ impl<'a> Pager<'a> {
             self.show_all();
             return Ok(());
         }
-        let numbers = self.all_lines().matching(self.typed.text())?;
+        let numbers = self.matching()?;
         let lines = self.all_lines().picked(&numbers)?;
         self.pick(numbers, lines);
         Ok(())

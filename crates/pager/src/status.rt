@@ -153,6 +153,29 @@ impl<'a> Pager<'a> {
         }
     }
 
+    // Paints what is typed of a search.
+    fn paint_typed(
+        &self,
+        room: u16,
+        x: u16,
+        y: u16,
+        part: Rect,
+        buf: &mut Buffer,
+    ) -> Result<u16, AllocError>
+        requires some { IsBoxArea part }
+        requires inside { IsInside part buf.old.area }
+        requires left { part.x ≤ x }
+        requires right { x + room ≤ part.x + part.width }
+        requires top { part.y ≤ y }
+        requires bottom { y < part.y + part.height }
+        ensures within { ChangesWithin part buf.old buf.new }
+        ensures ok { OnOk result (PaintsText x y room reversed
+            (second_part Mode.Asking self.now) buf.old buf.new) }
+        ensures ready { IsReadyAt x y buf.old → IfOk result (λ end. IsReadyAt end y buf.new) }
+    {
+        paint_text(self.typed.text(), room, reversed(), x, y, part, buf)
+    }
+
     // Paints the second part of the status.
     fn paint_second(
         &self,
@@ -175,9 +198,7 @@ impl<'a> Pager<'a> {
     {
         match self.mode {
             Mode::Reading => self.paint_note(room, x, y, part, buf),
-            Mode::Asking | Mode::Filtering => {
-                paint_text(self.typed.text(), room, reversed(), x, y, part, buf)
-            }
+            Mode::Asking | Mode::Filtering => self.paint_typed(room, x, y, part, buf),
             Mode::Marking => paint_text(": a letter", room, reversed(), x, y, part, buf),
             Mode::Returning => {
                 let awaited = ": a letter, or ' for where the last jump began";
