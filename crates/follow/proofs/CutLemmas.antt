@@ -1,5 +1,5 @@
 -- A text that goes on has the graphemes of its front, but for the last one, which may go on.
-use Rattle.std.proofs.Common.{◌≡◌, ℕ, zero, suc, ◌-◌, ◌<◌, ◌≤◌, ◌==◌, ◌||◌, Bool, true, false, if◌then◌else◌, List, [], ◌∷◌, ◌++◌, map}
+use Rattle.std.proofs.Common.{◌≡◌, ℕ, zero, suc, ◌-◌, ◌<◌, ◌≤◌, ◌==◌, Bool, true, false, if◌then◌else◌, List, [], ◌∷◌, ◌++◌, map}
 use Rattle.std.proofs.Common.{refl, sym, ap, subst, ◌∙◌, arith, inl, inr}
 use Rattle.std.proofs.lemmas.{Bool.false≢true, Bool.cases_lt, Bool.Decides.nat_tests, Str.chars-append}
 use Rattle.std.specs.Str.{chars, IsUtf8}
@@ -32,7 +32,7 @@ alike-next c false (p ∷ (p2 ∷ ps)) [] alike = absurd alike
 alike-next c false (p ∷ (p2 ∷ ps)) (q ∷ qs) alike = (ap (λ piece. (c ∷ []) ++ piece) alike.0, alike.1)
 
 -- the rule reads one character after a place
-same-break : (last : ℕ) (before : List ℕ) (next : ℕ) (after more : List ℕ)
+pub same-break : (last : ℕ) (before : List ℕ) (next : ℕ) (after more : List ℕ)
     → is_grapheme_break true (last ∷ before) (next ∷ after) ≡ is_grapheme_break true (last ∷ before) (next ∷ more)
 unfolding is_grapheme_break
 same-break last before next after more = refl

@@ -1,5 +1,5 @@
 -- A front of a line as it is shown, where it looks like all of it.
-use Rattle.std.proofs.Common.{◌≡◌, ℕ, ◌<◌, true, List, [], ◌++◌, length, take, drop, Result, Ok, Err, OnOk, IsUtf8, inl, inr}
+use Rattle.std.proofs.Common.{◌≡◌, ℕ, ◌<◌, true, List, ◌++◌, length, take, drop, Result, Ok, Err, OnOk, IsUtf8, inl, inr}
 use Rattle.std.proofs.Common.{sym, ap, subst, ◌∙◌, append-nil}
 use Rattle.unicode_segmentation.specs.Grapheme.{graphemes}
 use Rattle.rtui_text.specs.Printable.{ArePrintable, IsPrintableFront, singles}

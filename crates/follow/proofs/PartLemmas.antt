@@ -1,10 +1,9 @@
 -- A control character but a line break parts a text: the graphemes on both sides of it are those of two texts.
-use Rattle.std.proofs.Common.{◌≡◌, ℕ, zero, suc, ◌<◌, ◌≤◌, ◌==◌, ◌&&◌, ◌||◌, not, nat_le, nat_lt, Bool, true, false, if◌then◌else◌}
-use Rattle.std.proofs.Common.{List, [], ◌∷◌, ◌++◌, map, length, unwrap_or, lit<, encode_utf8, encode_utf8_all, refl, sym, ap, subst, ◌∙◌, arith, eqb-true, append-nil}
+use Rattle.std.proofs.Common.{◌≡◌, ℕ, zero, suc, ◌<◌, ◌==◌, ◌&&◌, ◌||◌, not, Bool, true, false, if◌then◌else◌}
+use Rattle.std.proofs.Common.{List, [], ◌∷◌, ◌++◌, map, length, unwrap_or, lit<, encode_utf8, encode_utf8_all, refl, ap, ◌∙◌, arith, eqb-true, append-nil}
 use Rattle.std.proofs.lemmas.{Bool.false≢true, Bool.Decides.nat_tests, List.map-append, Str.encode_ascii, Str.chars-append, Str.chars-IsAscii}
 use Rattle.std.proofs.lemmas.Str.{IsUtf8-from_ascii}
 use Rattle.std.specs.Str.{chars, IsAscii, IsUtf8}
-use Rattle.std.proofs.Math.Bool.{and-false}
 use Rattle.ucd_table.proofs.Facts.{Stepped-below}
 use Rattle.ucd_breaks.specs.GraphemeClusterBreak.{grapheme_cluster_break, grapheme_cluster_break_number}
 use Rattle.ucd_breaks.specs.declared.GraphemeClusterBreak.{GraphemeClusterBreak}
@@ -20,11 +19,12 @@ use Rattle.ucd_derived.proofs.IndicConjunctBreakLemmas.{indic_conjunct_break_ste
 use Rattle.ucd_emoji.specs.Binary.{is_extended_pictographic}
 use Rattle.ucd_emoji.proofs.{Computing.ucd_emoji, BinaryLemmas.is_extended_pictographic_stepped}
 use Rattle.unicode_segmentation.specs.Segments.{prepend, cut, segments}
-use Rattle.unicode_segmentation.specs.Grapheme.{break_by_pair, ends_in_linker, joins_conjunct, is_extend, is_zwj, is_regional}
+use Rattle.unicode_segmentation.specs.Grapheme.{break_by_pair, ends_in_linker, joins_conjunct, is_extend, is_regional}
 use Rattle.unicode_segmentation.specs.Grapheme.{ends_in_pictograph, joins_emoji, ends_in_half_flag, joins_flag, is_grapheme_break}
 use Rattle.unicode_segmentation.specs.Grapheme.{graphemes}
 use Rattle.ratatui_core.specs.Text.{has_control}
 use Rattle.follow.specs.Inner.{is_parting}
+use Rattle.follow.proofs.CutLemmas.{same-break}
 
 -- ---- what the tables say of such a character
 
@@ -142,11 +142,6 @@ module _ (c : ℕ) (parts : is_parting c ≡ true) where
   end_breaks : (x : ℕ) (before : List ℕ) → is_grapheme_break true (x ∷ before) [] ≡ true
   unfolding is_grapheme_break
   end_breaks x before = refl
-
-  same-break : (x : ℕ) (before : List ℕ) (next : ℕ) (after others : List ℕ)
-      → is_grapheme_break true (x ∷ before) (next ∷ after) ≡ is_grapheme_break true (x ∷ before) (next ∷ others)
-  unfolding is_grapheme_break
-  same-break x before next after others = refl
 
   some-cut : (before : List ℕ) (x : ℕ) (cs : List ℕ) → 0 < length (cut (is_grapheme_break true) before (x ∷ cs) [])
   unfolding cut

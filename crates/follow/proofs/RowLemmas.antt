@@ -1,9 +1,9 @@
 -- Texts that look alike in a row are shown alike.
-use Rattle.std.proofs.Common.{◌≡◌, ℕ, ◌≤◌, List, Result, Ok, Err, OnOk, IfErr}
-use Rattle.std.proofs.Common.{refl, sym, ap, subst, ◌∙◌, arith, inl, inr}
-use Rattle.ratatui_core.specs.{Layout.Rect, Backend.Screen, Style.new_style}
-use Rattle.ratatui_core.specs.Buffer.{BufferData, Look, Piece, kept, piece_of, room_at, PaintsPieces}
-use Rattle.ratatui_core.specs.Terminal.{FillsRow, InsertsRow, IsOverRow, IsRowOf, TerminalData}
+use Rattle.std.proofs.Common.{◌≡◌, ℕ, List, Result, Ok, Err, OnOk, IfErr}
+use Rattle.std.proofs.Common.{sym, ap, subst, ◌∙◌, arith, inl, inr}
+use Rattle.ratatui_core.specs.{Layout.Rect, Backend.Screen}
+use Rattle.ratatui_core.specs.Buffer.{BufferData, Look, room_at}
+use Rattle.ratatui_core.specs.Terminal.{FillsRow, InsertsRow, IsRowOf, TerminalData}
 use Rattle.ratatui_core.specs.Terminal.{inserted_area, TerminalError, Backend, Memory, Area, Closure}
 use Rattle.ratatui_core.specs.Widgets.{RendersStr}
 use Rattle.logview.specs.{Views.IsFollowing, Views.PushesLine, Views.RefusesPush, declared.view.LogView.LogView}

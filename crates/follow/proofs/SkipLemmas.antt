@@ -1,14 +1,13 @@
 -- Of control characters in a row one is enough.
-use Rattle.std.proofs.Common.{◌≡◌, ℕ, ◌==◌, ◌||◌, Bool, true, false, List, [], ◌∷◌, ◌++◌, filter, nat_lt, IsUtf8}
-use Rattle.std.proofs.Common.{refl, sym, ap, subst, ◌∙◌, arith, append_assoc}
-use Rattle.std.proofs.lemmas.{Bool.false≢true, Bool.Decides.nat_tests}
+use Rattle.std.proofs.Common.{◌≡◌, ℕ, true, false, List, [], ◌∷◌, ◌++◌, filter, IsUtf8}
+use Rattle.std.proofs.Common.{refl, sym, ap, ◌∙◌, append_assoc}
+use Rattle.std.proofs.lemmas.{Bool.false≢true}
 use Rattle.std.proofs.lemmas.{List.Elements.filter-append, Str.IsUtf8-nil}
 use Rattle.std.specs.List.{flat_map}
 use Rattle.unicode_segmentation.specs.Grapheme.{graphemes}
 use Rattle.unicode_segmentation.proofs.TextLemmas.{IsUtf8-before}
 use Rattle.rtui_text.proofs.GraphemeLemmas.{graphemes-empty}
 use Rattle.ratatui_core.specs.Buffer.{painted_width, has_painted_width}
-use Rattle.ratatui_core.specs.Text.{has_control}
 use Rattle.follow.specs.Lines.{shown_grapheme}
 use Rattle.follow.specs.Inner.{is_part, is_parting, EndsParted, painted_graphemes}
 use Rattle.follow.proofs.PartLemmas.{parting-control, one-utf8, graphemes-parts}

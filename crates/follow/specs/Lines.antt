@@ -1,5 +1,5 @@
 -- Lines as a terminal shows them, and a view of all that was read.
-use Rattle.std.specs.Prelude.{◌≡◌, ℕ, ◌+◌, ◌-◌, ◌<◌, ◌≤◌, ◌==◌, ◌||◌, Bool, true}
+use Rattle.std.specs.Prelude.{◌≡◌, ℕ, ◌-◌, ◌<◌, ◌≤◌, ◌==◌, ◌||◌, Bool, true}
 use Rattle.std.specs.Prelude.{if◌then◌else◌, List, [], ◌∷◌, ◌++◌, length, replicate, encode_utf8}
 use Rattle.std.specs.{List.flat_map, Io.BufRead.take_through, Io.BufRead.drop_through}
 use Rattle.unicode_segmentation.specs.Grapheme.{graphemes}

@@ -1,4 +1,4 @@
-use Rattle.std.proofs.Common.{◌≡◌, sym, ap, subst, ◌∙◌}
+use Rattle.std.proofs.Common.{sym, ap, subst, ◌∙◌}
 use Rattle.ratatui_core.specs.Layout.{Rect}
 use Rattle.ratatui_ansi.specs.{Backend.shown_by, Refusals.StopsSending}
 use Rattle.follow.specs.Lines.{LookAlike, shown_line}

@@ -1,9 +1,9 @@
-use Rattle.std.proofs.Common.{◌≡◌, ◌∷◌, ◌++◌, string_bytes, true, inr, rules}
+use Rattle.std.proofs.Common.{◌≡◌, ◌∷◌, string_bytes, true, inr, rules}
 use Rattle.std.proofs.lemmas.{Str.IsUtf8-string_bytes}
 use Rattle.std.specs.List.{flat_map}
 use Rattle.unicode_segmentation.specs.Iter.{graphemes_left}
-use Rattle.follow.specs.Lines.{shown_grapheme, shown_line}
-use Rattle.follow.specs.Inner.{is_part, fills_row, painted_graphemes}
+use Rattle.follow.specs.Lines.{shown_grapheme}
+use Rattle.follow.specs.Inner.{is_part}
 use Rattle.follow.proofs.SkipLemmas.{ends-parted, skip-turn, push-turn}
 use Rattle.follow.proofs.shown.push_graphemes.Goals as goal
 
