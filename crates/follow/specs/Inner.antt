@@ -1,8 +1,9 @@
 -- Words that only private contracts use: they follow the code.
-use Rattle.std.specs.Prelude.{◌≡◌, ℕ, List, ◌++◌, map, ◌+◌, ◌<◌, Bool, true, false, Option, Some}
-use Rattle.std.specs.Prelude.{[], length}
+use Rattle.std.specs.Prelude.{◌≡◌, ◌⊎◌, ℕ, List, [], ◌∷◌, ◌++◌, map, length, filter, Option, Some}
+use Rattle.std.specs.Prelude.{◌+◌, ◌-◌, ◌<◌, ◌==◌, ◌||◌, ◌&&◌, nat_le, Bool, true, false}
 use Rattle.std.specs.Io.BufRead.{take_through}
-use Rattle.ratatui_core.specs.Layout.{Size}
+use Rattle.unicode_segmentation.specs.Grapheme.{graphemes}
+use Rattle.ratatui_core.specs.{Layout.Size, Buffer.painted_width, Buffer.has_painted_width}
 use Rattle.ratatui_ansi.specs.{Backend.BackendState, Backend.shown_by}
 use Rattle.ratatui_ansi.specs.{declared.error.AnsiError.AnsiError}
 use Rattle.ratatui_ansi.specs.Refusals.{StopsSending}
@@ -61,3 +62,36 @@ MovesOn text true left v w = (0 < length (take_through 10 text)) × (left ≡ So
     × (w.count ≡ counted (v.count + 1))
     × (IsFollowing shown_by v → PushesLine shown_by (shown_line (take_through 10 text)) v w)
 MovesOn text false left v w = (text ≡ []) × (left ≡ Some []) × (w ≡ v)
+
+-- of these graphemes those before one take so many columns
+abbrev pub fills_row : ℕ → List (List ℕ) → Bool
+fills_row columns [] = false
+fills_row columns (g ∷ gs) = (columns == 0) || fills_row (columns - painted_width g) gs
+
+-- a control character of ASCII but a line break
+abbrev pub is_parting : ℕ → Bool
+is_parting c = nat_le c 9 || (c == 11) || (c == 12) || (nat_le 14 c && nat_le c 31) || (c == 127)
+
+-- a grapheme that is one
+abbrev pub is_part : List ℕ → Bool
+is_part [] = false
+is_part (c ∷ []) = is_parting c
+is_part (c ∷ (d ∷ cs)) = false
+
+-- a text ends with one
+pub record EndsParted (text : List ℕ) : Type 0 where
+  pub front : List ℕ
+  pub last : ℕ
+  pub parts : is_parting last ≡ true
+  pub is : text ≡ front ++ last ∷ []
+
+-- the graphemes of a text that are painted where there is room
+abbrev pub painted_graphemes : List ℕ → List (List ℕ)
+painted_graphemes text = filter has_painted_width (graphemes true text)
+
+-- a text that goes on as a whole one looks, and either ends as that does, or has graphemes that fill a row
+-- before its last one
+pub record IsFrontInRow (columns : ℕ) (whole text : List ℕ) : Type 0 where
+  pub rest : List ℕ
+  pub alike : painted_graphemes (text ++ rest) ≡ painted_graphemes whole
+  pub full : (rest ≡ []) ⊎ (fills_row columns (graphemes true text) ≡ true)

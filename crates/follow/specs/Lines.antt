@@ -1,9 +1,9 @@
 -- Lines as a terminal shows them, and a view of all that was read.
-use Rattle.std.specs.Prelude.{◌≡◌, ℕ, ◌+◌, ◌-◌, ◌<◌, ◌==◌, ◌||◌, Bool, true}
+use Rattle.std.specs.Prelude.{◌≡◌, ℕ, ◌-◌, ◌<◌, ◌≤◌, ◌==◌, ◌||◌, Bool, true}
 use Rattle.std.specs.Prelude.{if◌then◌else◌, List, [], ◌∷◌, ◌++◌, length, replicate, encode_utf8}
 use Rattle.std.specs.{List.flat_map, Io.BufRead.take_through, Io.BufRead.drop_through}
 use Rattle.unicode_segmentation.specs.Grapheme.{graphemes}
-use Rattle.ratatui_core.specs.{Buffer.text_width, Text.has_control}
+use Rattle.ratatui_core.specs.{Buffer.text_width, Buffer.kept, Text.has_control}
 use Rattle.ansi_model.specs.Symbols.{is_printed}
 
 -- no cell shows a grapheme: it has a control character or no columns
@@ -21,6 +21,10 @@ shown_grapheme g = if is_unpainted g || is_printed g then g else replacement (te
 -- a line as it is shown
 abbrev pub shown_line : List ℕ → List ℕ
 shown_line line = flat_map shown_grapheme (graphemes true line)
+
+-- two texts look alike in so many columns: the same graphemes of them are painted there, and in fewer columns
+abbrev pub LookAlike : ℕ → List ℕ → List ℕ → Type 0
+LookAlike columns s t = (room : ℕ) → room ≤ columns → kept room (graphemes true s) ≡ kept room (graphemes true t)
 
 -- a text, cut after each line break
 abbrev pub AreLinesOf : List ℕ → List (List ℕ) → Type 0

@@ -1,16 +1,19 @@
 //! Shows a text line by line above a status line of a terminal, as it comes.
 //!
 //! [`follow`] reads to the end, sends escape sequences for a terminal of a given size, and gives
-//! the terminal back. What a line's row is, and what a push leaves on the screen, is `logview`'s;
-//! that the bytes show that screen is `ratatui_ansi`'s. `specs/Lines` says how a line is shown,
-//! `specs/Ends` why the text isn't shown to its end. The program `follow_program` follows its
-//! standard input.
+//! the terminal back. A line is read whole, and looked at as far as its row shows it ([`show_line`]).
+//! What a line's row is, and what a push leaves on the screen, is `logview`'s; that the bytes show
+//! that screen is `ratatui_ansi`'s. `specs/Lines` says how a line is shown, `specs/Ends` why the
+//! text isn't shown to its end. The program `follow_program` follows its standard input.
 #![tactic(auto)]
 
-ghost use Rattle.std.specs.Prelude.{◌≡◌, [], Some, IfOk, IfErr, IfSome, OnOk};
+ghost use Rattle.std.specs.Prelude.{◌≡◌, ◌+◌, [], Some, IfOk, IfErr, IfSome, OnOk};
 ghost use Rattle.std.specs.Io.KnownBytes.{Appends};
 ghost use Rattle.ratatui_ansi.specs.Backend.{shown_by, IsAlwaysKnown};
-ghost use Rattle.logview.specs.Views.{IsViewOf};
+ghost use Rattle.ratatui_ansi.specs.Refusals.{StopsSending};
+ghost use Rattle.logview.specs.Rows.{counted};
+ghost use Rattle.logview.specs.Views.{IsFollowing, IsViewOf, PushesLine, RefusesPush};
+ghost use Rattle.follow.specs.Lines.{shown_line};
 ghost use Rattle.follow.specs.Inner.{MovesOn, ShowsInput};
 ghost use Rattle.follow.specs.Shown.{FollowsText};
 ghost use Rattle.follow.specs.Ends.{EndsBy};
@@ -22,12 +25,34 @@ mod shown;
 use ansi_model::leaving;
 pub use error::FollowError;
 use logview::LogView;
-use ratatui_ansi::AnsiBackend;
+use ratatui_ansi::{AnsiBackend, AnsiError};
 use ratatui_core::terminal::TerminalError;
 use rtui_geometry::Size;
-pub use shown::push_shown;
+pub use shown::show_line;
 use std::alloc::Global;
 use std::io::{self, BufRead, Write};
+
+// Shows a line in a row of its own, of which `shown` holds what the row shows.
+fn push_row<W: Write + Drop>(
+    view: &mut LogView<AnsiBackend<W>>,
+    shown: &mut String,
+    line: &str,
+) -> Result<(), TerminalError<AnsiError>>
+    ensures pushed { IsFollowing shown_by view.old
+        → OnOk result (PushesLine shown_by (shown_line line.now) view.old view.new) }
+    ensures count { OnOk result (view.new.count ≡ counted (view.old.count + 1)) }
+    ensures refused { IsFollowing shown_by view.old
+        → IfErr result (RefusesPush shown_by StopsSending (shown_line line.now)
+        view.old view.new) }
+    ensures calls { OnOk result
+        (view.new.terminal.backend.failures ≡ view.old.terminal.backend.failures) }
+{
+    let columns = view.terminal().viewport_area().width;
+    let Ok(()) = show_line(shown, line, columns) else {
+        return Err(TerminalError::Memory);
+    };
+    view.push(shown.as_str())
+}
 
 // Shows one more line of a reader; answers whether there was one.
 fn push_line<R: BufRead, W: Write + Drop>(
@@ -45,7 +70,6 @@ fn push_line<R: BufRead, W: Write + Drop>(
         (view.new.terminal.backend.failures ≡ view.old.terminal.backend.failures) }
 {
     line.clear();
-    shown.clear();
     let count = match reader.read_line(line) {
         Ok(count) => count,
         Err(error) => return Err(FollowError::Read(error)),
@@ -53,8 +77,7 @@ fn push_line<R: BufRead, W: Write + Drop>(
     if count == 0 {
         return Ok(false);
     }
-    push_shown(shown, line.as_str())?;
-    view.push(shown.as_str())?;
+    push_row(view, shown, line.as_str())?;
     Ok(true)
 }
 

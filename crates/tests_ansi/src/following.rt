@@ -3,7 +3,7 @@
 use crate::tearing::Tearing;
 use follow::{FollowError, follow};
 use rtui_geometry::Size;
-use std::alloc::Global;
+use std::alloc::{AllocError, Global};
 use std::io::{self, BufReader, ErrorKind, Read};
 use std::test::Fail;
 
@@ -91,6 +91,31 @@ fn shows_what_cannot_be_sent_as_replaced(rt: HostRuntime) {
     let replaced = sent(rt.alloc(), "a\u{605}x\n");
     assert!(rt; replaced.as_slice() == sent(rt.alloc(), "a\u{fffd}\n").as_slice());
     assert!(rt; replaced.as_slice() != sent(rt.alloc(), "a\n").as_slice());
+}
+
+// A text, and then another one so many times.
+fn repeated(alloc: Global, first: &str, text: &str, count: usize) -> Result<String, AllocError> {
+    let mut all = String::from_str(alloc, first)?;
+    for _ in 0..count {
+        all.push_str(text)?;
+    }
+    Ok(all)
+}
+
+// Whether a long line, a text and then another one many times, is shown as a short line is.
+fn is_shown_as(alloc: Global, first: &str, text: &str, short: &str) -> Result<bool, AllocError> {
+    let long = repeated(alloc, first, text, 200_000)?;
+    Ok(sent(alloc, long.as_str()).as_slice() == sent(alloc, short).as_slice())
+}
+
+#[test]
+fn a_long_line_is_shown_as_far_as_it_fits(rt: HostRuntime) -> Result<(), Fail> {
+    let alloc = rt.alloc();
+    assert!(rt; is_shown_as(alloc, "", "x", "xxxxxxxx")?);
+    assert!(rt; is_shown_as(alloc, "a", "コ", "aコココ")?);
+    assert!(rt; is_shown_as(alloc, "\u{605}x", "é", "\u{fffd}ééééééé")?);
+    assert!(rt; is_shown_as(alloc, "one", "\0", "one")?);
+    Ok(())
 }
 
 #[test]
