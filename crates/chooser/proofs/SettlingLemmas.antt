@@ -1,6 +1,6 @@
 -- The state of a chooser is settled, and its frame is that of the state.
 use Rattle.std.proofs.Common.{◌≡◌, ◌==◌, ◌||◌, ◌<◌, ℕ, Bool, true, false, if◌then◌else◌, List, [], ◌∷◌, length, Some, None}
-use Rattle.std.proofs.Common.{Result, Ok, Err, OnOk, refl, sym, ap, subst, ◌∙◌, arith}
+use Rattle.std.proofs.Common.{Result, Ok, Err, OnOk, refl, ap, subst, ◌∙◌, arith}
 use Rattle.std.specs.declared.alloc.Global.{Global}
 use Rattle.ratatui_core.specs.{Layout.Rect, Layout.Size, Layout.intersected, Buffer.BufferData}
 use Rattle.ratatui_reads.specs.Reads.{size_in}

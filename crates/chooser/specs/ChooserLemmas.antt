@@ -1,14 +1,13 @@
 -- What is painted of planets can be shown.
-use Rattle.std.proofs.Common.{◌≡◌, ℕ, zero, suc, ◌<◌, ◌==◌, ◌&&◌, nat_le, nat_lt, Bool, true, false, List, [], ◌∷◌, All, codes}
-use Rattle.std.proofs.Common.{map, length, None, IfSome, refl, sym, ap, subst, ◌∙◌, arith}
+use Rattle.std.proofs.Common.{◌≡◌, ℕ, zero, suc, ◌==◌, ◌&&◌, nat_le, nat_lt, Bool, true, false, List, [], ◌∷◌, All}
+use Rattle.std.proofs.Common.{map, length, refl, sym, ap, subst, ◌∙◌, arith}
 use Rattle.std.specs.{List.list_all, Str.Lines.lines, Str.Lines.lines_of_parts}
 use Rattle.std.proofs.lemmas.{Bool.and_parts, List.Elements.All-nil, List.Elements.All-cons, List.Splits.slice_split_none}
 use Rattle.std.proofs.lemmas.Bool.Decides.{nat_tests}
 use Rattle.ratatui_core.specs.{Layout.EdgesFit, Buffer.BufferData, Buffer.IsEmptied, Buffer.IsSettledBuffer}
-use Rattle.ratatui_core.specs.Text.{ArePrintable, TakesOneColumn, EachLineGrapheme, EachTextGrapheme, SpanData, LineData}
+use Rattle.ratatui_core.specs.Text.{ArePrintable, TakesOneColumn, EachLineGrapheme, EachTextGrapheme, SpanData}
 use Rattle.ratatui_core.specs.Text.{unstyled, line_of, raw_line}
 use Rattle.rtui_widgets.proofs.{PlainLemmas.plain-emptied, PlainLemmas.settled-plain, PrintableTextLemmas.spans-narrow}
-use Rattle.widget_boxes.specs.Boxes.{IsNarrowBox}
 use Rattle.widget_list.specs.{declared.list.List.List as ListData, declared.item.ListItem.ListItem}
 use Rattle.widget_list.specs.{Items.HasNarrowItems, Items.raw_item}
 use Rattle.widget_list.proofs.NarrowListLemmas.{list-plain}

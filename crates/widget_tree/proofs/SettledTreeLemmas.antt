@@ -1,5 +1,5 @@
 -- A tree whose state is settled leaves it as it is.
-use Rattle.std.proofs.Common.{◌≡◌, ℕ, ◌+◌, ◌-◌, ◌<◌, ◌≤◌, ◌==◌, ◌||◌, ⊎_elim, inl, inr, Bool, true, false, List, Option, Some}
+use Rattle.std.proofs.Common.{◌≡◌, ℕ, ◌-◌, ◌<◌, ◌==◌, ◌||◌, ⊎_elim, inl, inr, Bool, true, false, List, Option, Some}
 use Rattle.std.proofs.Common.{None, slice_get, length, refl, sym, ap, subst, ◌∙◌, arith}
 use Rattle.std.proofs.lemmas.Bool.{cases_Bool, false≢true}
 use Rattle.std.proofs.lemmas.Bool.Decides.{nat_tests}
@@ -12,7 +12,7 @@ use Rattle.widget_tree.specs.declared.{state.TreeState.TreeState, tree.Tree.Tree
 use Rattle.widget_tree.specs.Depths.{shows_node, shown_nodes, first_node, last_node}
 use Rattle.widget_tree.specs.Rows.{row_start, scrolled_to, offset_for}
 use Rattle.widget_tree.specs.TreeStates.{tree_depths, opened_of}
-use Rattle.widget_tree.specs.Trees.{next_tree_state, settled_tree, tree_drawing, node_rows_drawing, RendersTree}
+use Rattle.widget_tree.specs.Trees.{next_tree_state, settled_tree, node_rows_drawing, RendersTree}
 use Rattle.widget_tree.proofs.ShownLemmas.{shown-from, in-here}
 use Rattle.widget_tree.proofs.ScrollLemmas.{start-first, start-last, offset-none, offset-shown, offset-hidden}
 use Rattle.widget_tree.proofs.LawLemmas.{first-of-shown, last-of-shown, last-nothing, scrolled-shows, scroll-stays}
