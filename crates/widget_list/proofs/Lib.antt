@@ -2,3 +2,5 @@ pub mod WindowLemmas
 pub mod ItemLemmas
 pub mod NarrowListLemmas
 pub mod ShownLemmas
+pub mod SettledLemmas
+pub mod SettledFrameLemmas

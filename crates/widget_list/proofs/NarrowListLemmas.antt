@@ -117,7 +117,7 @@ shown-plain l s t r old new narrow plain is =
     (has_mark_columns l.highlight_spacing (is_some t.selected)) before after
     (nth-narrow l.items.items (t.offset + k) _ (All-nil (EachLineGrapheme TakesOneColumn)) narrow.items) was made)
     (over-all old plain)))
-    (λ (le : length l.items.items ≤ 0). rw (is.no_items (empty-list l.items.items le)).0 plain)
+    (λ (le : length l.items.items ≤ 0). rw (is.no_items (empty-list l.items.items le)) plain)
     (cases_lt 0 (length l.items.items))
 
 pub list-plain : (l : ListData) (s t : ListState) (area : Rect) (old new : BufferData) → IfSome l.block IsNarrowBox

@@ -95,8 +95,8 @@ shows-selected : (items : List ListItem) (l : ListData) (s t : ListState) (r : R
     → (shows : ShowsList l s t r old new)
     → (t.offset ≤ selected) × (selected < t.offset + shows.count)
 shows-selected items l s t r old new selected same chosen some fit shows =
-    let least = cut-least (last_item l.items.items) s.selected selected (sym (shows.selected some) ∙ chosen) in
-    let keeps = rw chosen at (shows.offset some) in
+    let least = cut-least (last_item l.items.items) s.selected selected (sym (shows.state.selected some) ∙ chosen) in
+    let keeps = rw chosen at (shows.state.offset some) in
     let around = kept-around l.items.items r.height l.scroll_padding selected keeps.padding (omega arith) fit keeps.is_padding in
     shown-from l.items.items r.height selected _ _ _ t.offset around keeps.scrolled shows.count (shows.is_count some)
 
@@ -109,7 +109,7 @@ selected-shown l s t r old new selected chosen fit shows = by-items l.items.item
   where
     by-items : (items : List ListItem) → l.items.items ≡ items → (t.offset ≤ selected) × (selected < t.offset + shows.count)
     by-items [] same =
-        let none : t.selected ≡ None = ap (λ (x : ListState). x.selected) ((shows.no_items same).1) in
+        let none : t.selected ≡ None = ap (λ (x : ListState). x.selected) (shows.state.no_items same) in
         let no : Some selected ≡ None = sym chosen ∙ none in absurd (cc)
     by-items (item ∷ items) same =
         shows-selected (item ∷ items) l s t r old new selected same chosen

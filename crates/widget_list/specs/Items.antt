@@ -143,14 +143,19 @@ pub record HasNarrowItems (l : ListData) : Type 0 where
   pub symbol : IfSome l.highlight_symbol (EachLineGrapheme TakesOneColumn)
   pub items : All (λ item. EachTextGrapheme TakesOneColumn item.content) l.items.items
 
--- The items of a list over an area, from the state's first one on, as many as fit whole. The selection is at
--- most the last item, and the first item is such that the selected one is in view. Without items nothing is
--- shown or selected.
-pub record ShowsList (l : ListData) (s t : ListState) (r : Rect) (old new : BufferData) : Type 0 where
-  pub no_items : l.items.items ≡ [] → (new ≡ old) × (t ≡ record { offset = 0; selected = None })
+-- The state after a list was shown in so many rows: the selection is at most the last item, and the first item
+-- is such that the selected one is in view. Without items nothing is selected.
+pub record IsNextListState (l : ListData) (height : ℕ) (s t : ListState) : Type 0 where
+  pub no_items : l.items.items ≡ [] → t ≡ record { offset = 0; selected = None }
   pub selected : 0 < length l.items.items → t.selected ≡ at_most (last_item l.items.items) s.selected
   pub offset : 0 < length l.items.items
-      → IsOffset l.items.items r.height l.scroll_padding t.selected s.offset t.offset
+      → IsOffset l.items.items height l.scroll_padding t.selected s.offset t.offset
+
+-- the items of a list over an area, from the next state's first one on, as many as fit whole; without items
+-- nothing is shown
+pub record ShowsList (l : ListData) (s t : ListState) (r : Rect) (old new : BufferData) : Type 0 where
+  pub state : IsNextListState l r.height s t
+  pub no_items : l.items.items ≡ [] → new ≡ old
   pub count : ℕ
   pub is_count : 0 < length l.items.items → IsCount l.items.items r.height t.offset count
   pub shown : 0 < length l.items.items → ShowsItems l t.selected t.offset count r old new

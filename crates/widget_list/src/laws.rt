@@ -1,7 +1,7 @@
 //! Laws of lists that are no single call's clause.
 
 ghost use Rattle.std.specs.Prelude.{◌≡◌, ℕ, ◌+◌, ◌<◌, ◌≤◌, Some, IfSome};
-ghost use Rattle.ratatui_core.specs.Layout.{Rect};
+ghost use Rattle.ratatui_core.specs.Layout.{Rect, intersected};
 ghost use Rattle.ratatui_core.specs.Buffer.{BufferData, IsPlainFrom};
 ghost use Rattle.widget_boxes.specs.Boxes.{IsNarrowBox};
 ghost use Rattle.widget_list.specs.declared.list.List.{List as ListData};
@@ -11,6 +11,7 @@ ghost use Rattle.widget_list.specs.declared.list.HighlightSpacing.TheVariants.{W
 ghost use Rattle.widget_list.specs.declared.list.ListDirection.{ListDirection};
 ghost use Rattle.widget_list.specs.declared.list.ListDirection.TheVariants.{TopToBottom};
 ghost use Rattle.widget_list.specs.Items.{HasNarrowItems, RendersList, ShowsList};
+ghost use Rattle.widget_list.specs.Settled.{SettlesList, settled_list};
 ghost use Rattle.widget_list.specs.Windows.{Fit};
 
 use crate::list::{HighlightSpacing, ListDirection};
@@ -30,6 +31,27 @@ pub fn selected_items_are_shown()
         → t.selected ≡ Some selected → Fit l.items.items r.height selected (selected + 1)
         → (shows : ShowsList l s t r old new)
         → (t.offset ≤ selected) × (selected < t.offset + shows.count) }
+{}
+
+/// What a rendering leaves in a state is what settling makes of it, in the part of the area that
+/// the buffer has; and that is one state.
+pub fn renderings_settle_the_state()
+    ensures leaves { (l : ListData) (s t : ListState) (area : Rect) (old new : BufferData)
+        → RendersList l s t area old new → SettlesList l (intersected area old.area) s t }
+    ensures one { (l : ListData) (s t : ListState) (area : Rect) → SettlesList l area s t
+        → t ≡ settled_list l area s }
+{}
+
+/// Settling twice is settling once; and a rendering of a state that was settled in its area leaves
+/// it as it is, and shows what a rendering of the state before shows.
+pub fn settled_states_stay()
+    ensures twice { (l : ListData) (s : ListState) (area : Rect)
+        → settled_list l area (settled_list l area s) ≡ settled_list l area s }
+    ensures stays { (l : ListData) (s t u : ListState) (area : Rect) (old new : BufferData)
+        → SettlesList l (intersected area old.area) s t → RendersList l t u area old new → u ≡ t }
+    ensures shown { (l : ListData) (s t u : ListState) (area : Rect) (old new : BufferData)
+        → SettlesList l (intersected area old.area) s t → RendersList l s u area old new
+        → RendersList l t t area old new }
 {}
 
 /// A list stands from above, and has columns for its highlight symbol if an item is selected,

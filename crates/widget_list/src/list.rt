@@ -13,6 +13,8 @@ ghost use Rattle.widget_list.specs.Windows.{Fit};
 ghost use Rattle.widget_list.specs.Items.{is_marked, has_mark_columns, mark_width, item_part};
 ghost use Rattle.widget_list.specs.Items.{MarksRow, MarksRows, RendersItem, ShowsItems, ShowsList};
 ghost use Rattle.widget_list.specs.Items.{IsNewList, IsShortItem, HasShortItems, raw_item};
+ghost use Rattle.widget_list.specs.Items.{IsNextListState};
+ghost use Rattle.widget_list.specs.Settled.{SettlesList, settled_list};
 ghost use Rattle.widget_list.specs.declared.item.ListItem.{ListItem as ItemData};
 
 use crate::item::ListItem;
@@ -24,7 +26,7 @@ use ratatui_core::style::Style;
 use ratatui_core::text::Line;
 use ratatui_core::widgets::{StatefulWidget, Widget};
 use std::alloc::{AllocError, Global};
-use widget_boxes::{Block, cloned_block, cloned_line, render_frame};
+use widget_boxes::{Block, cloned_block, cloned_line, inner_if, render_frame};
 
 /// From where the items stand one after the other.
 #[derive(Debug, Default, Clone, Copy, PartialEq, Eq, Hash)]
@@ -247,6 +249,45 @@ impl<'a> List<'a> {
         self.items.is_empty()
     }
 
+    /// Brings a state up to date as a rendering over an area does, and draws nothing: the selection
+    /// is at most the last item, and the first item such that the selected one is in view. The area
+    /// is the part that a buffer has of what the list is rendered over; without cells inside the
+    /// box the state stays. It takes no memory.
+    ///
+    /// ```
+    /// list.settle(self.area, &mut self.list);
+    /// ```
+    pub fn settle(&self, area: Rect, state: &mut ListState)
+        ensures leaves { SettlesList self.now area state.old state.new }
+        ensures value { state.new ≡ settled_list self.now area state.old }
+    {
+        let inner = inner_if(&self.block, area);
+        if !inner.is_empty() {
+            *state = self.next_state(*state, inner.height);
+        }
+    }
+
+    // The state after the list is shown in so many rows.
+    fn next_state(&self, state: ListState, height: u16) -> ListState
+        ensures next { IsNextListState self.now height state result }
+        ensures inside { result.offset ≤ length self.now.items.items }
+    {
+        let items = self.items.as_slice();
+        if items.is_empty() {
+            return ListState {
+                offset: 0,
+                selected: None,
+            };
+        }
+        let height = usize::from(height);
+        let last = items.len() - 1;
+        let selected = state.selected.map(|index| index.min(last));
+        ListState {
+            offset: offset_for(items, self.scroll_padding, selected, state.offset, height),
+            selected,
+        }
+    }
+
     // Where an item stands that takes so many rows, after so many others.
     fn item_part(&self, inner: Rect, used: u16, rows: u16) -> Rect
         requires some { IsBoxArea inner }
@@ -457,19 +498,15 @@ impl<'a> List<'a> {
         ensures left { OnErr result (state.new ≡ state.old) }
         ensures short { HasShortItems self.now → IsOk result }
     {
+        let next = self.next_state(*state, inner.height);
         let items = self.items.as_slice();
         if items.is_empty() {
-            state.select(None);
+            *state = next;
             return Ok(());
         }
-        let height = usize::from(inner.height);
-        let last = items.len() - 1;
-        let selected = state.selected.map(|index| index.min(last));
-        let offset = offset_for(items, self.scroll_padding, selected, state.offset, height);
-        let count = count_from(items, offset, height);
-        self.render_items(selected, offset, count, inner, buf)?;
-        state.selected = selected;
-        state.offset = offset;
+        let count = count_from(items, next.offset, usize::from(inner.height));
+        self.render_items(next.selected, next.offset, count, inner, buf)?;
+        *state = next;
         Ok(())
     }
 }

@@ -4,3 +4,4 @@ pub mod WindowLemmas
 pub mod BarLemmas
 pub mod ScrollViewLemmas
 pub mod SettledViewLemmas
+pub mod SettledStateLemmas

@@ -1,5 +1,5 @@
 -- What a scroll view makes of a buffer.
-use Rattle.std.specs.Prelude.{◌≡◌, ◌⊎◌, ℕ, ◌+◌, ◌-◌, ◌<◌, ◌≤◌, false, nat_lt, max, if◌then◌else◌, Some, None}
+use Rattle.std.specs.Prelude.{◌≡◌, ◌⊎◌, ℕ, ◌+◌, ◌-◌, ◌<◌, ◌≤◌, ◌==◌, ◌||◌, false, nat_lt, max, if◌then◌else◌, Some, None}
 use Rattle.ratatui_core.specs.Layout.{Rect, Position, Size, HasPosition, EdgesFit, intersected}
 use Rattle.ratatui_core.specs.Buffer.{BufferData, Cell, cell_in, width_of, styled, style_of, empty_cell}
 use Rattle.ratatui_core.specs.Buffer.{ChangesEach, IsEmptied, IsShort, symbol_text, is_skipped, IsSettledBuffer, IsPlainOver}
@@ -77,6 +77,10 @@ abbrev pub rendered_state : ScrollView → Rect → ScrollViewState → ScrollVi
 rendered_state v r s =
     let view = view_area v r in
     state_after v.content view (shown_offset v.content view s.offset)
+
+-- the same over any area; without cells the state stays
+abbrev pub settled_view : ScrollView → Rect → ScrollViewState → ScrollViewState
+settled_view v r s = if (r.width == 0) || (r.height == 0) then s else rendered_state v r s
 
 -- a view over an area: its bars, and what they leave shows the content from the new state's offset on. Where
 -- the content is smaller, all else is as before, and so is the corner between two bars.

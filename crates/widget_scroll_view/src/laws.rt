@@ -16,6 +16,7 @@ ghost use Rattle.widget_scroll_view.specs.Places.{has_bar, has_vertical, has_hor
 ghost use Rattle.widget_scroll_view.specs.Places.{vertical_bar, horizontal_bar, shown_offset, shown_area};
 ghost use Rattle.widget_scroll_view.specs.Places.{StandApart, CanBeSeen};
 ghost use Rattle.widget_scroll_view.specs.ScrollViews.{RendersScrollView, IsReadyOver, shown_cell, bar_state};
+ghost use Rattle.widget_scroll_view.specs.ScrollViews.{settled_view};
 
 use crate::scroll_view::ScrollbarVisibility;
 use crate::state::ScrollViewState;
@@ -108,6 +109,24 @@ pub fn thumbs_tell_where_the_ends_are()
 {
     thumbs_lie_on_their_tracks();
 }
+
+/// What a rendering leaves in a state is what settling makes of it, in the part of the area that
+/// the buffer has.
+pub fn renderings_settle_the_state()
+    ensures { (v : ScrollView) (s t : ScrollViewState) (area : Rect) (old new : BufferData)
+        → RendersScrollView v s t area old new → t ≡ settled_view v (intersected area old.area) s }
+{}
+
+/// Settling twice is settling once; and a rendering of a state that was settled in its area leaves
+/// it as it is, and shows what a rendering of the state before shows.
+pub fn settled_states_stay()
+    ensures twice { (v : ScrollView) (s : ScrollViewState) (area : Rect)
+        → settled_view v area (settled_view v area s) ≡ settled_view v area s }
+    ensures shown { (v : ScrollView) (s t : ScrollViewState) (area : Rect) (old new : BufferData)
+        → RendersScrollView v s t area old new
+        → let u = settled_view v (intersected area old.area) s in
+        RendersScrollView v u u area old new }
+{}
 
 /// A content of plain cells leaves a buffer of plain cells one of plain cells.
 pub fn scroll_views_keep_cells_plain()

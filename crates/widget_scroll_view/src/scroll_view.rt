@@ -13,7 +13,7 @@ ghost use Rattle.widget_scroll_view.specs.Places.{has_bar, has_vertical, has_hor
 ghost use Rattle.widget_scroll_view.specs.Places.{vertical_bar, horizontal_bar, shown_offset, shown_area};
 ghost use Rattle.widget_scroll_view.specs.ScrollViews.{IsNewScrollView, PaintsBar, PaintsBars};
 ghost use Rattle.widget_scroll_view.specs.ScrollViews.{ShowsContent, HasShortCells, bar_state};
-ghost use Rattle.widget_scroll_view.specs.ScrollViews.{with_track, state_after};
+ghost use Rattle.widget_scroll_view.specs.ScrollViews.{with_track, state_after, settled_view};
 ghost use Rattle.widget_scroll_view.specs.Contents.{LendsContent, KeepsVisibilities};
 
 use crate::state::ScrollViewState;
@@ -175,6 +175,19 @@ impl ScrollView {
         ensures short { W.is_short widget state.old area self.old.content → IsOk result }
     {
         widget.render(area, &mut self.content, state)
+    }
+
+    /// Brings a state up to date as a rendering over an area does, and draws nothing: the offset is
+    /// at most the one from which on the content's end is shown, and the state knows the sizes. The
+    /// area is the part that a buffer has of what the view is rendered over; without cells the
+    /// state stays. It takes no memory.
+    pub fn settle(&self, area: Rect, state: &mut ScrollViewState)
+        ensures { state.new ≡ settled_view self.now area state.old }
+    {
+        if !area.is_empty() {
+            let view = self.view_area(area);
+            *state = self.state_after(view, self.shown_offset(view, state.offset));
+        }
     }
 
     /// Returns what the bars leave of an area for the content.

@@ -89,7 +89,7 @@ view-moves rows height selected was least upper full first begins high whole at 
     }
 
 -- a row without its lower margin is no higher than with it
-upper-full : (rows : List Row) (k : ℕ) → upper_at rows k ≤ full_at rows k
+pub upper-full : (rows : List Row) (k : ℕ) → upper_at rows k ≤ full_at rows k
 upper-full [] k = omega arith
 upper-full (row ∷ rows) zero = omega arith
 upper-full (row ∷ rows) (suc k) = upper-full rows k

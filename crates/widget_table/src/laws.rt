@@ -1,12 +1,13 @@
 //! Laws of tables that are no single call's clause.
 
 ghost use Rattle.std.specs.Prelude.{◌≡◌, ℕ, ◌≤◌, ◌<◌, Some, IfSome};
-ghost use Rattle.ratatui_core.specs.Layout.{Rect};
+ghost use Rattle.ratatui_core.specs.Layout.{Rect, intersected};
 ghost use Rattle.ratatui_core.specs.Buffer.{BufferData, IsPlainFrom};
 ghost use Rattle.widget_boxes.specs.Boxes.{IsNarrowBox};
 ghost use Rattle.widget_table.specs.declared.table.Table.{Table as TableData};
 ghost use Rattle.widget_table.specs.declared.state.TableState.{TableState};
 ghost use Rattle.widget_table.specs.Rows.{IsInView, rows_area, upper_at, cells_at};
+ghost use Rattle.widget_table.specs.SettledTables.{SettlesTable, settled_table};
 ghost use Rattle.widget_table.specs.Tables.{HasNarrowRows, RendersTable, ShowsTable, IsShownWhole};
 
 /// A table whose texts and whose symbol take one column for each grapheme leaves a buffer of plain
@@ -31,4 +32,25 @@ pub fn selected_rows_are_shown()
         u.selected ≡ Some selected → upper_at t.rows.items selected ≤ rows.height
         → 0 < cells_at t.rows.items selected → ShowsTable t s u r old new
         → IsShownWhole t u rows selected }
+{}
+
+/// What a rendering leaves in a state is what settling makes of it, in the part of the area that
+/// the buffer has; and that is one state.
+pub fn renderings_settle_the_state()
+    ensures leaves { (t : TableData) (s u : TableState) (area : Rect) (old new : BufferData)
+        → RendersTable t s u area old new → SettlesTable t (intersected area old.area) s u }
+    ensures one { (t : TableData) (s u : TableState) (area : Rect) → SettlesTable t area s u
+        → u ≡ settled_table t area s }
+{}
+
+/// Settling twice is settling once; and a rendering of a state that was settled in its area leaves
+/// it as it is, and shows what a rendering of the state before shows.
+pub fn settled_states_stay()
+    ensures twice { (t : TableData) (s : TableState) (area : Rect)
+        → settled_table t area (settled_table t area s) ≡ settled_table t area s }
+    ensures stays { (t : TableData) (s u v : TableState) (area : Rect) (old new : BufferData)
+        → SettlesTable t (intersected area old.area) s u → RendersTable t u v area old new → v ≡ u }
+    ensures shown { (t : TableData) (s u v : TableState) (area : Rect) (old new : BufferData)
+        → SettlesTable t (intersected area old.area) s u → RendersTable t s v area old new
+        → RendersTable t u u area old new }
 {}

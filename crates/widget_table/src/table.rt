@@ -6,8 +6,9 @@ ghost use Rattle.std.specs.Cmp.Lexicographic.{pointwise};
 ghost use Rattle.ratatui_core.specs.Layout.{inner, IsSplit};
 ghost use Rattle.ratatui_core.specs.Widgets.{ChangesWithin};
 ghost use Rattle.widget_boxes.specs.Boxes.{IsBoxArea};
-ghost use Rattle.widget_table.specs.Rows.{height_if};
+ghost use Rattle.widget_table.specs.Rows.{height_if, rows_area};
 ghost use Rattle.widget_table.specs.Inner.{IsTableArea};
+ghost use Rattle.widget_table.specs.SettledTables.{SettlesTable, settled_table};
 ghost use Rattle.widget_table.specs.Tables.{IsNewTable, column_count, same_widths, layout_of, symbol_columns};
 ghost use Rattle.widget_table.specs.Tables.{AreColumns, IsNextState, ShowsTable, cells_if, within_count};
 ghost use Rattle.widget_table.specs.declared.row.Row.{Row as RowData};
@@ -22,7 +23,7 @@ use ratatui_core::style::Style;
 use ratatui_core::text::Text;
 use ratatui_core::widgets::StatefulWidget;
 use std::alloc::{AllocError, Global};
-use widget_boxes::{Block, cloned_block, render_frame};
+use widget_boxes::{Block, cloned_block, inner_if, render_frame};
 use widget_list::HighlightSpacing;
 
 /// Rows of cells in columns, with a header and a footer, of which a row and a column may be
@@ -234,6 +235,28 @@ impl<'a> Table<'a> {
             highlight_spacing: self.highlight_spacing,
             flex: self.flex,
         })
+    }
+
+    /// Brings a state up to date as a rendering over an area does, and draws nothing: the selection
+    /// is at most the last row and the last column, and the first row such that the selected one is
+    /// in view. The area is the part that a buffer has of what the table is rendered over; without
+    /// cells inside the box the state stays. It takes no memory.
+    pub fn settle(&self, area: Rect, state: &mut TableState)
+        ensures leaves { SettlesTable self.now area state.old state.new }
+        ensures value { state.new ≡ settled_table self.now area state.old }
+    {
+        let inner = inner_if(&self.block, area);
+        if !inner.is_empty() {
+            *state = self.next_state(*state, self.rows_height(inner));
+        }
+    }
+
+    // How many rows of an area the header and the footer leave.
+    fn rows_height(&self, area: Rect) -> u16
+        ensures { result ≡ (rows_area self.now.header self.now.footer area).height }
+    {
+        let left = usize::from(area.height).saturating_sub(height_if(&self.header));
+        left.saturating_sub(height_if(&self.footer)) as u16
     }
 
     // How many columns it has: as many as the row, header or footer of most cells has cells.

@@ -65,7 +65,7 @@ last-none-nil : {A : Type 0} (x : A) (xs : List A) → last_or (Some x) xs ≡ N
 last-none-nil x [] e = let no : Some x ≡ None = e in cc
 last-none-nil x (y ∷ xs) e = last-none-nil y xs e
 
-last-nothing : (p : ℕ → Bool) (a n : ℕ) → last_or None (filter p (range_with_len a n)) ≡ None → (j : ℕ) → a ≤ j → j < a + n
+pub last-nothing : (p : ℕ → Bool) (a n : ℕ) → last_or None (filter p (range_with_len a n)) ≡ None → (j : ℕ) → a ≤ j → j < a + n
     → p j ≡ false
 last-nothing p a zero e j from to = absurd (omega arith)
 last-nothing p a (suc n) e j from to =

@@ -9,3 +9,4 @@ pub mod LawLemmas
 pub mod RowLemmas
 pub mod DrawLemmas
 pub mod NarrowTreeLemmas
+pub mod SettledTreeLemmas

@@ -1,10 +1,10 @@
 -- What a tree draws.
-use Rattle.std.specs.Prelude.{◌≡◌, ℕ, ◌+◌, ◌-◌, ◌*◌, min, Bool, if◌then◌else◌, List, [], ◌∷◌, codes, encode_utf8_all}
+use Rattle.std.specs.Prelude.{◌≡◌, ℕ, ◌+◌, ◌-◌, ◌*◌, ◌==◌, ◌||◌, min, Bool, if◌then◌else◌, List, [], ◌∷◌, codes, encode_utf8_all}
 use Rattle.std.specs.Prelude.{Some, None, is_some, IfSome, All, ⊤}
 use Rattle.ratatui_core.specs.{Layout.Rect, Style.new_style}
 use Rattle.ratatui_core.specs.Text.{LineData, EachGrapheme, EachLineGrapheme, TakesOneColumn}
 use Rattle.ratatui_core.specs.Buffer.{BufferData, Cell, with_symbol, text_pieces, columns, text_columns}
-use Rattle.widget_boxes.specs.Boxes.{IsNarrowBox}
+use Rattle.widget_boxes.specs.{Boxes.IsNarrowBox, Framed.inner_if}
 use Rattle.rtui_drawing.specs.declared.cut.Cut.TheVariants.{First, After, Rows}
 use Rattle.rtui_drawing.specs.Drawings.{Drawing, nothing, over, ◌before◌, draw_if, put_style, put_pieces, put_line, put_change}
 use Rattle.rtui_inside.specs.Inside.{DrawsStateInside, LeavesInside, IsShortInside}
@@ -92,6 +92,12 @@ node_rows_drawing t s first r =
 abbrev pub next_tree_state : Tree → TreeState → Rect → TreeState
 next_tree_state t s r =
     record s { offset = offset_for (tree_depths t) (opened_of s) r.height s.offset s.selected }
+
+-- the same over an area with the tree's box; without cells inside the box the state stays
+abbrev pub settled_tree : Tree → Rect → TreeState → TreeState
+settled_tree t area s =
+    let r = inner_if t.block area in
+    if (r.width == 0) || (r.height == 0) then s else next_tree_state t s r
 
 -- the nodes that stand in the rows of an area
 abbrev pub drawn_nodes : Tree → TreeState → Rect → List ℕ

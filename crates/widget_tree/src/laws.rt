@@ -3,7 +3,7 @@
 ghost use Rattle.std.specs.Prelude.{◌≡◌, ℕ, ◌+◌, ◌<◌, ◌≤◌, Bool, true, false, ◌&&◌, not};
 ghost use Rattle.std.specs.Prelude.{List as Sequence, length, slice_get};
 ghost use Rattle.std.specs.Prelude.{Some, None, Option, IfSome};
-ghost use Rattle.ratatui_core.specs.Layout.{Rect};
+ghost use Rattle.ratatui_core.specs.Layout.{Rect, intersected};
 ghost use Rattle.ratatui_core.specs.Buffer.{BufferData, IsPlainFrom};
 ghost use Rattle.widget_tree.specs.declared.state.TreeState.{TreeState};
 ghost use Rattle.widget_tree.specs.declared.tree.Tree.{Tree};
@@ -12,7 +12,7 @@ ghost use Rattle.widget_tree.specs.Depths.{shows_node, shown_nodes, first_node};
 ghost use Rattle.widget_tree.specs.Moves.{MarksOnly, node_below, node_above};
 ghost use Rattle.widget_tree.specs.Rows.{scrolled_to};
 ghost use Rattle.widget_tree.specs.TreeStates.{tree_depths, opened_of};
-ghost use Rattle.widget_tree.specs.Trees.{drawn_nodes, IsNarrowTree, RendersTree};
+ghost use Rattle.widget_tree.specs.Trees.{drawn_nodes, settled_tree, IsNarrowTree, RendersTree};
 
 /// A node without a parent is always shown, and if all nodes are closed no other one is.
 pub fn closed_trees_show_their_roots()
@@ -74,6 +74,23 @@ pub fn selected_nodes_stand_in_a_row()
     ensures { (t : Tree) (s : TreeState) (r : Rect) (k : ℕ) → 0 < r.height → s.selected ≡ Some k
         → shows_node (tree_depths t) (opened_of s) k ≡ true
         → (y : ℕ) × (y < r.height) × (slice_get (drawn_nodes t s r) y ≡ Some k) }
+{}
+
+/// What a rendering leaves in a state is what settling makes of it, in the part of the area that
+/// the buffer has.
+pub fn renderings_settle_the_state()
+    ensures { (t : Tree) (s s' : TreeState) (area : Rect) (old new : BufferData)
+        → RendersTree t s s' area old new → s' ≡ settled_tree t (intersected area old.area) s }
+{}
+
+/// Settling twice is settling once; and a rendering of a state that was settled in its area leaves
+/// it as it is, and shows what a rendering of the state before shows.
+pub fn settled_states_stay()
+    ensures twice { (t : Tree) (s : TreeState) (area : Rect)
+        → settled_tree t area (settled_tree t area s) ≡ settled_tree t area s }
+    ensures shown { (t : Tree) (s s' : TreeState) (area : Rect) (old new : BufferData)
+        → RendersTree t s s' area old new
+        → let u = settled_tree t (intersected area old.area) s in RendersTree t u u area old new }
 {}
 
 /// A tree whose texts and symbols take one column for each grapheme leaves a buffer of plain cells

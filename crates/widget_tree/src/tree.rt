@@ -6,11 +6,12 @@ ghost use Rattle.widget_boxes.specs.Boxes.{IsBoxArea};
 ghost use Rattle.rtui_drawing.specs.Drawings.{DrawsAll, IsDone, IsRowIn};
 ghost use Rattle.widget_tree.specs.Depths.{parent_of, has_children, shows_node};
 ghost use Rattle.widget_tree.specs.Nodes.{raw_node};
+ghost use Rattle.widget_tree.specs.Rows.{offset_for};
 ghost use Rattle.widget_tree.specs.TreeStates.{tree_depths, opened_of};
 ghost use Rattle.widget_tree.specs.Trees.{IsNewTree, mark_columns, indent_columns, node_symbol};
 ghost use Rattle.widget_tree.specs.Trees.{mark_drawing, left_drawing, node_label};
 ghost use Rattle.widget_tree.specs.Trees.{highlight_drawing, line_row_drawing, node_drawing};
-ghost use Rattle.widget_tree.specs.Trees.{node_rows_drawing};
+ghost use Rattle.widget_tree.specs.Trees.{node_rows_drawing, settled_tree};
 
 use crate::item::TreeItem;
 use crate::nodes::Nodes;
@@ -23,7 +24,7 @@ use ratatui_core::widgets::StatefulWidget;
 use rtui_drawing::{Cut, put_change, put_line, put_style, write};
 use rtui_inside::{DrawStateInside, render_state_inside};
 use std::alloc::{AllocError, Global};
-use widget_boxes::{Block, cloned_block};
+use widget_boxes::{Block, cloned_block, inner_if};
 
 /// Nodes one below the other, each in a row of its own. A node is shown if all its ancestors are
 /// opened, and stands two columns further right than what is one less deep, after a symbol that
@@ -195,6 +196,32 @@ impl<'a> Tree<'a> {
             node_closed_symbol: self.node_closed_symbol,
             node_no_children_symbol: self.node_no_children_symbol,
         })
+    }
+
+    /// Brings a state up to date as a rendering over an area does, and draws nothing: the first row
+    /// moves as little as it takes for the selected node to be in view, if that is shown. The area
+    /// is the part that a buffer has of what the tree is rendered over; without cells inside the
+    /// box the state stays. It takes no memory.
+    pub fn settle(&self, area: Rect, state: &mut TreeState)
+        ensures { state.new ≡ settled_tree self.now area state.old }
+    {
+        let inner = inner_if(&self.block, area);
+        if !inner.is_empty() {
+            state.offset = self.first_row(usize::from(inner.height), state);
+        }
+    }
+
+    // The node in the first one of so many rows, so that the selected one is in view.
+    fn first_row(&self, height: usize, state: &TreeState) -> usize
+        requires { 0 < height }
+        ensures value { let s = state.now in
+            result ≡ offset_for (tree_depths self.now) (opened_of s) height s.offset s.selected }
+        ensures shown { 0 < length self.now.nodes.items.items
+            → shows_node (tree_depths self.now) (opened_of state.now) result ≡ true }
+    {
+        let opened = state.opened.as_slice();
+        self.nodes
+            .offset_for(opened, height, state.offset, state.selected)
     }
 
     // How many columns of so many stay free for the highlight symbol.
@@ -419,11 +446,7 @@ impl<'a> DrawStateInside for Tree<'a> {
         buf: &mut Buffer,
         state: &mut TreeState,
     ) -> Result<(), AllocError> {
-        let opened = state.opened.as_slice();
-        let height = usize::from(inner.height);
-        let first = self
-            .nodes
-            .offset_for(opened, height, state.offset, state.selected);
+        let first = self.first_row(usize::from(inner.height), state);
         self.draw_rows(first, inner, buf, state)?;
         state.offset = first;
         Ok(())

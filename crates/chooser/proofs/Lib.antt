@@ -1,0 +1,2 @@
+pub mod SettlingLemmas
+pub mod RunLemmas

@@ -1,0 +1,26 @@
+//! What screens show. `tools/test --accept chooser` writes them anew.
+
+pub(crate) const FIRST: &[&str] = &["> Mercury  ", "  Venus    ", "  Earth    ", "  Mars     "];
+
+pub(crate) const SIXTH: &[&str] = &["  Earth    ", "  Mars     ", "  Jupiter  ", "> Saturn   "];
+
+pub(crate) const BACK: &[&str] = &["  Earth    ", "> Mars     ", "  Jupiter  ", "  Saturn   "];
+
+pub(crate) const LAST_BUT_ONE: &[&str] = &[
+    "  Jupiter  ",
+    "  Saturn   ",
+    "> Uranus   ",
+    "  Neptune  ",
+];
+
+pub(crate) const SECOND: &[&str] = &["  Mercury  ", "> Venus    ", "  Earth    ", "  Mars     "];
+
+pub(crate) const LOWER: &[&str] = &["  Earth    ", "> Mars     "];
+
+pub(crate) const HIGHER: &[&str] = &[
+    "  Earth    ",
+    "> Mars     ",
+    "  Jupiter  ",
+    "  Saturn   ",
+    "  Uranus   ",
+];
