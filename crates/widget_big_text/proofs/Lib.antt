@@ -1,0 +1,3 @@
+pub mod ChangeLemmas
+pub mod LetterLemmas
+pub mod NarrowLemmas
