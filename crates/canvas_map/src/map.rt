@@ -10,13 +10,13 @@ use crate::low::LOW;
 use rtui_dots::{Painter, Points, Shape};
 use rtui_style::Color;
 
-/// How many points a map has.
+/// How many points a map has, and so how fine its coasts are.
 #[derive(Debug, Default, Clone, Copy, PartialEq, Eq, Hash)]
 pub enum MapResolution {
-    /// About 1,250.
+    /// 1,335 points.
     #[default]
     Low,
-    /// About 5,000.
+    /// 5,007 points.
     High,
 }
 
@@ -26,7 +26,10 @@ pub enum MapResolution {
 /// ```
 /// let map = Map { resolution: MapResolution::High, color: Color::Green };
 /// let drawings = [Drawing::Points(map.points())];
-/// Canvas::new(&drawings).x_bounds([-18000, 18000]).y_bounds([-9000, 9000])
+/// let canvas = Canvas::new()
+///     .x_bounds([-18000, 18000])
+///     .y_bounds([-9000, 9000])
+///     .paint(&drawings);
 /// ```
 #[derive(Debug, Default, Clone, Copy, PartialEq, Eq, Hash)]
 pub struct Map {

@@ -13,7 +13,7 @@ use Rattle.widget_big_text.specs.declared.big_text.BigText.{BigText}
 use Rattle.widget_big_text.specs.declared.pixel_size.PixelSize.{PixelSize}
 use Rattle.widget_big_text.specs.declared.pixel_size.PixelSize.TheVariants.{Full, HalfHeight, HalfWidth, Quadrant}
 use Rattle.widget_big_text.specs.Glyphs.{glyph_of, letter_columns, letter_rows}
-use Rattle.widget_big_text.specs.BigTexts.{letter_cell, cell_of_letter, letters_of, line_start, cell_of_line, lines_cell}
+use Rattle.widget_big_text.specs.BigTexts.{big_letter_cell, cell_of_letter, letters_of, line_start, cell_of_line, lines_cell}
 use Rattle.widget_big_text.specs.Inner.{letters_over, line_over}
 use Rattle.widget_big_text.proofs.ChangeLemmas.{Changes-as, Changes-kept, Changes-beside, Changes-below, Changes-after}
 
@@ -42,14 +42,14 @@ module _ {A B : Type 0} (f : Option A → ℕ → B) (n : ℕ) (x : A) (xs : Lis
 -- a letter, and those after it
 pub letters-next : (size : PixelSize) (g : GraphemeData) (gs : List GraphemeData) (r : Rect) (old mid new : BufferData)
     → let n = letter_columns size in let first = cut_from (First n) r in let rest = cut_from (After n) r in
-    ChangesEach first (letter_cell size (glyph_of g.symbol) g.style first) old mid
+    ChangesEach first (big_letter_cell size (glyph_of g.symbol) g.style first) old mid
     → ChangesEach rest (letters_over size gs rest) mid new → ChangesEach r (letters_over size (g ∷ gs) r) old new
 letters-next size g gs r old mid new one others =
     let n = letter_columns size in
     let first = cut_from (First n) r in
     let rest = cut_from (After n) r in
     Changes-beside n r (letters_over size (g ∷ gs) r) old mid new
-    (Changes-as first (letter_cell size (glyph_of g.symbol) g.style first) (letters_over size (g ∷ gs) r) old mid (λ p c here.
+    (Changes-as first (big_letter_cell size (glyph_of g.symbol) g.style first) (letters_over size (g ∷ gs) r) old mid (λ p c here.
     let l = here.left in let e = here.right in
     sym (at-first (λ o x. cell_of_letter size o x (p.y - r.y) c) n g gs (p.x - r.x) (omega arith))) one)
     (Changes-as rest (letters_over size gs rest) (letters_over size (g ∷ gs) r) mid new (λ p c here.
@@ -60,7 +60,7 @@ letters-next size g gs r old mid new one others =
 -- the same, where the parts and the number of columns have names
 pub letters-step : (size : PixelSize) (g : GraphemeData) (gs : List GraphemeData) (n : ℕ) (r first rest : Rect)
     (old mid new : BufferData) → n ≡ letter_columns size → first ≡ cut_from (First n) r → rest ≡ cut_from (After n) r
-    → ChangesEach first (letter_cell size (glyph_of g.symbol) g.style first) old mid
+    → ChangesEach first (big_letter_cell size (glyph_of g.symbol) g.style first) old mid
     → ChangesEach rest (letters_over size gs rest) mid new → ChangesEach r (letters_over size (g ∷ gs) r) old new
 letters-step size g gs n r first rest old mid new columns one two drawn others =
     letters-next size g gs r old mid new (rw (one, columns) at drawn) (rw (two, columns) at others)

@@ -14,7 +14,7 @@ use Rattle.widget_big_text.specs.declared.letter.TheConstants.{QUADRANTS}
 use Rattle.widget_big_text.specs.declared.big_text.BigText.{BigText}
 use Rattle.widget_big_text.specs.declared.pixel_size.PixelSize.{PixelSize}
 use Rattle.widget_big_text.specs.Glyphs.{glyph_of, letter_columns, letter_rows, shows_quarter, quarters_shown, letter_mark}
-use Rattle.widget_big_text.specs.BigTexts.{marked, cell_of_letter, letters_cell, letters_of, line_start, cell_of_line}
+use Rattle.widget_big_text.specs.BigTexts.{showing_letter, cell_of_letter, letters_cell, letters_of, line_start, cell_of_line}
 use Rattle.widget_big_text.specs.BigTexts.{big_text_drawing, RendersBigText}
 
 abbrev are_narrow : List ℕ → Bool
@@ -47,7 +47,7 @@ mark-narrow size rows x y =
     (bit-small _) (bit-small _) (bit-small _) (bit-small _))
 
 marked-plain : (size : PixelSize) (rows : List ℕ) (style : Style) (x y : ℕ) (c : Cell) → IsPlain c
-    → IsPlain (marked size rows style x y c)
+    → IsPlain (showing_letter size rows style x y c)
 marked-plain size rows style x y c is =
     plain-styled style (with_symbol (encode_utf8 (letter_mark size rows x y)) c)
     (plain-with_symbol (encode_utf8 (letter_mark size rows x y)) c is (mark-narrow size rows x y))

@@ -25,12 +25,12 @@ pub record IsNewBigText (lines : List LineData) (t : BigText) : Type 0 where
 
 -- a cell of a letter, so many columns and rows from its corner: the symbol that shows its pixels, and over the
 -- cell the letter's style
-abbrev pub marked : PixelSize → List ℕ → Style → ℕ → ℕ → Cell → Cell
-marked size rows style x y c = styled style (with_symbol (encode_utf8 (letter_mark size rows x y)) c)
+abbrev pub showing_letter : PixelSize → List ℕ → Style → ℕ → ℕ → Cell → Cell
+showing_letter size rows style x y c = styled style (with_symbol (encode_utf8 (letter_mark size rows x y)) c)
 
 -- the same of a letter at the corner of an area
-abbrev pub letter_cell : PixelSize → List ℕ → Style → Rect → Position → Cell → Cell
-letter_cell size rows style r p = marked size rows style (p.x - r.x) (p.y - r.y)
+abbrev pub big_letter_cell : PixelSize → List ℕ → Style → Rect → Position → Cell → Cell
+big_letter_cell size rows style r p = showing_letter size rows style (p.x - r.x) (p.y - r.y)
 
 -- the letters of a line, each a grapheme in its style
 abbrev pub letters_of : BigText → LineData → List GraphemeData
@@ -39,7 +39,7 @@ letters_of t line = line_graphemes (patch t.style line.style) line.spans
 -- a cell of a letter, if there is one; else it stays
 abbrev pub cell_of_letter : PixelSize → Option GraphemeData → ℕ → ℕ → Cell → Cell
 cell_of_letter size None x y c = c
-cell_of_letter size (Some g) x y c = marked size (glyph_of g.symbol) g.style x y c
+cell_of_letter size (Some g) x y c = showing_letter size (glyph_of g.symbol) g.style x y c
 
 -- a cell so many columns and rows from where letters begin, one beside the other
 abbrev pub letters_cell : PixelSize → List GraphemeData → ℕ → ℕ → Cell → Cell

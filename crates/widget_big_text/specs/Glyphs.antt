@@ -1,5 +1,5 @@
 -- The pixels of letters, and the symbols of cells that show some of them.
-use Rattle.std.specs.Prelude.{ℕ, ◌+◌, ◌-◌, ◌*◌, ◌/◌, ◌%◌, ◌^◌, ◌==◌, ◌&&◌, nat_lt, Bool, List}
+use Rattle.std.specs.Prelude.{ℕ, ◌+◌, ◌-◌, ◌*◌, ◌/◌, ◌%◌, ◌^◌, ◌==◌, ◌&&◌, nat_lt, Bool, true, false, List}
 use Rattle.std.specs.Prelude.{Option, Some, None, replicate, slice_get, slice_index}
 use Rattle.std.specs.Prelude.{slice_index_or, if◌then◌else◌}
 use Rattle.widget_big_text.specs.declared.font.TheConstants.{GLYPHS}
@@ -61,3 +61,22 @@ quarters_shown size rows x y =
 -- the symbol whose quarters are filled so
 abbrev pub letter_mark : PixelSize → List ℕ → ℕ → ℕ → ℕ
 letter_mark size rows x y = slice_index QUADRANTS (quarters_shown size rows x y)
+
+-- the symbol that fills these quarters of a cell: upper left, upper right, lower left and lower right
+abbrev pub two_by_two : Bool → Bool → Bool → Bool → ℕ
+two_by_two false false false false = 0x20
+two_by_two true false false false = 0x2598
+two_by_two false true false false = 0x259D
+two_by_two true true false false = 0x2580
+two_by_two false false true false = 0x2596
+two_by_two true false true false = 0x258C
+two_by_two false true true false = 0x259E
+two_by_two true true true false = 0x259B
+two_by_two false false false true = 0x2597
+two_by_two true false false true = 0x259A
+two_by_two false true false true = 0x2590
+two_by_two true true false true = 0x259C
+two_by_two false false true true = 0x2584
+two_by_two true false true true = 0x2599
+two_by_two false true true true = 0x259F
+two_by_two true true true true = 0x2588

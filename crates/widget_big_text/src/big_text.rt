@@ -5,7 +5,7 @@ ghost use Rattle.ratatui_core.specs.Text.{raw_text};
 ghost use Rattle.ratatui_core.specs.Buffer.{ChangesEach};
 ghost use Rattle.ratatui_core.specs.declared.layout.HorizontalAlignment.TheVariants.{Left, Center, Right};
 ghost use Rattle.widget_big_text.specs.Glyphs.{glyph_of};
-ghost use Rattle.widget_big_text.specs.BigTexts.{IsNewBigText, letter_cell, letters_of, line_start, big_cell};
+ghost use Rattle.widget_big_text.specs.BigTexts.{IsNewBigText, big_letter_cell, letters_of, line_start, big_cell};
 ghost use Rattle.widget_big_text.specs.Inner.{letters_over, line_over, free_columns};
 
 use crate::font::glyph;
@@ -53,7 +53,8 @@ impl<'a> BigText<'a> {
         }
     }
 
-    /// Makes a big text of a plain text, a line for each of its lines, as [`new`](BigText::new) does.
+    /// Makes a big text of a plain text, a line for each of its lines, as [`new`](BigText::new)
+    /// does.
     ///
     /// # Errors
     ///
@@ -81,8 +82,8 @@ impl<'a> BigText<'a> {
         self
     }
 
-    /// Sets the style of the letters, which lies under that of a line and of a span; the box and what
-    /// is beside the letters keep theirs.
+    /// Sets the style of the letters, which lies under that of a line and of a span; the box and
+    /// what is beside the letters keep theirs.
     pub fn style(mut self, style: Style) -> BigText<'a>
         ensures { result ≡ record self.entry { style = style } }
     {
@@ -179,7 +180,7 @@ impl<'a> BigText<'a> {
         buf: &mut Buffer,
     ) -> Result<(), AllocError>
         ensures ok { let g = letter.now in
-            let f = letter_cell self.now.pixel_size (glyph_of g.symbol.now) g.style area in
+            let f = big_letter_cell self.now.pixel_size (glyph_of g.symbol.now) g.style area in
             OnOk result (ChangesEach area f buf.old buf.new) }
         ensures succeeds { IsOk result }
     {
@@ -212,7 +213,8 @@ impl<'a> BigText<'a> {
 
     // Draws a line, aligned as it says.
     fn draw_line(&self, line: &Line<'a>, area: Rect, buf: &mut Buffer) -> Result<(), AllocError>
-        ensures ok { OnOk result (ChangesEach area (line_over self.now line.now area) buf.old buf.new) }
+        ensures ok { let f = line_over self.now line.now area in
+            OnOk result (ChangesEach area f buf.old buf.new) }
         ensures succeeds { IsOk result }
     {
         let start = self.line_start(line, area.width);

@@ -55,9 +55,9 @@ impl Letter {
 
 impl CellChange for Letter {
     ghost use Rattle.std.specs.Prelude.{⊤};
-    ghost use Rattle.widget_big_text.specs.BigTexts.{letter_cell};
+    ghost use Rattle.widget_big_text.specs.BigTexts.{big_letter_cell};
 
-    ghost made = { λ l p. letter_cell l.size l.rows l.style l.area p };
+    ghost made = { λ l p. big_letter_cell l.size l.rows l.style l.area p };
 
     ghost is_light = { λ _ _ _. ⊤ };
 

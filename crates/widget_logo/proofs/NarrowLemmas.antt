@@ -9,7 +9,7 @@ use Rattle.ratatui_core.specs.Buffer.{BufferData, Cell, text_width, IsPlain, IsP
 use Rattle.ratatui_core.proofs.BufferLemmas.{plain-with_symbol, plain-changed}
 use Rattle.widget_logo.specs.declared.logo.Size.{Size as LogoSize}
 use Rattle.widget_logo.specs.declared.logo.Size.TheVariants.{Tiny, Small}
-use Rattle.widget_logo.specs.Logos.{logo_row, logo_character, with_character, logo_cell, RendersLogo}
+use Rattle.widget_logo.specs.Logos.{logo_row, logo_character, showing_character, logo_cell, RendersLogo}
 
 abbrev are_narrow : List ℕ → Bool
 are_narrow [] = true
@@ -32,7 +32,7 @@ row-narrow Small (suc zero) = refl
 row-narrow Small (suc (suc y)) = refl
 
 character-plain : (o : Option ℕ) (c : Cell) → IfSome o (λ c. text_width (encode_utf8 c) ≤ 1) → IsPlain c
-    → IsPlain (with_character o c)
+    → IsPlain (showing_character o c)
 character-plain None c narrow is = is
 character-plain (Some character) c narrow is = plain-with_symbol (encode_utf8 character) c is narrow
 

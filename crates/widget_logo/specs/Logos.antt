@@ -20,13 +20,13 @@ abbrev pub logo_character : LogoSize → ℕ → ℕ → Option ℕ
 logo_character size x y = slice_get (logo_row size y) x
 
 -- a cell with a character, if there is one
-abbrev pub with_character : Option ℕ → Cell → Cell
-with_character None c = c
-with_character (Some character) c = with_symbol (encode_utf8 character) c
+abbrev pub showing_character : Option ℕ → Cell → Cell
+showing_character None c = c
+showing_character (Some character) c = with_symbol (encode_utf8 character) c
 
 -- a cell of a logo at the corner of an area
 abbrev pub logo_cell : LogoSize → Rect → Position → Cell → Cell
-logo_cell size r p = with_character (logo_character size (p.x - r.x) (p.y - r.y))
+logo_cell size r p = showing_character (logo_character size (p.x - r.x) (p.y - r.y))
 
 -- A logo over the part of an area that a buffer has: a character in each of its cells. Nothing else changes.
 abbrev pub RendersLogo : LogoSize → Rect → BufferData → BufferData → Type 0
