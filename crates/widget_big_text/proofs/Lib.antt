@@ -1,0 +1,4 @@
+pub mod ChangeLemmas
+pub mod LetterLemmas
+pub mod NarrowLemmas
+pub mod PixelLemmas

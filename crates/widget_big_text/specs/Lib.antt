@@ -1,0 +1,3 @@
+pub mod Glyphs
+pub mod BigTexts
+pub mod Inner
