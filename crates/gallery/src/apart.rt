@@ -1,4 +1,5 @@
-//! A calendar, a popup, a throbber, a scroll view and a tree, which stand in crates of their own.
+//! A calendar, a popup, a throbber, a scroll view, a tree, a big text and a logo, which stand in
+//! crates of their own.
 use jiff::civil::Date;
 use ratatui_core::layout::{Position, Size};
 use ratatui_core::style::{Style, Stylize};
@@ -6,7 +7,9 @@ use ratatui_core::terminal::Frame;
 use ratatui_core::text::{Span, Text};
 use ratatui_widgets::Block;
 use std::alloc::{AllocError, Global};
+use widget_big_text::{BigText, PixelSize};
 use widget_calendar::{CalendarEventStore, Monthly};
+use widget_logo::RatatuiLogo;
 use widget_popup::Popup;
 use widget_scroll_view::{ScrollView, ScrollViewState};
 use widget_throbber::{ASCII, Throbber, ThrobberState};
@@ -67,4 +70,19 @@ pub fn tree(alloc: Global, frame: &mut Frame<'_>) -> Result<(), AllocError> {
     state.key_down(&tree);
     state.key_right(&tree)?;
     frame.render_stateful_widget(&tree, area, &mut state)
+}
+
+/// Draws a text in large letters.
+pub fn big_text(alloc: Global, frame: &mut Frame<'_>) -> Result<(), AllocError> {
+    let area = frame.area();
+    let text = BigText::raw(alloc, "Rattle")?
+        .pixel_size(PixelSize::Quadrant)
+        .cyan();
+    frame.render_widget(text, area)
+}
+
+/// Draws the logo.
+pub fn logo(frame: &mut Frame<'_>) -> Result<(), AllocError> {
+    let area = frame.area();
+    frame.render_widget(RatatuiLogo::small(), area)
 }

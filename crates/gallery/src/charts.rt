@@ -1,4 +1,5 @@
 //! Grids of dots.
+use canvas_map::{Map, MapResolution};
 use ratatui_core::style::{Color, Style};
 use ratatui_core::symbols::Marker;
 use ratatui_core::terminal::Frame;
@@ -28,6 +29,21 @@ pub fn canvas(frame: &mut Frame<'_>) -> Result<(), AllocError> {
     let canvas = Canvas::new()
         .x_bounds([0, 47])
         .y_bounds([0, 23])
+        .paint(&drawings);
+    frame.render_widget(canvas, area)
+}
+
+/// Draws the coasts of the world.
+pub fn map(frame: &mut Frame<'_>) -> Result<(), AllocError> {
+    let area = frame.area();
+    let map = Map {
+        resolution: MapResolution::High,
+        color: Color::Green,
+    };
+    let drawings = [Drawing::Points(map.points())];
+    let canvas = Canvas::new()
+        .x_bounds([-18000, 18000])
+        .y_bounds([-9000, 9000])
         .paint(&drawings);
     frame.render_widget(canvas, area)
 }

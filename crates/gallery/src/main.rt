@@ -41,6 +41,9 @@ enum Picture {
     Throbber,
     ScrollView,
     Tree,
+    BigText,
+    RatatuiLogo,
+    Map,
 }
 
 impl Picture {
@@ -64,6 +67,9 @@ impl Picture {
             Picture::Throbber => "Throbber",
             Picture::ScrollView => "ScrollView",
             Picture::Tree => "Tree",
+            Picture::BigText => "BigText",
+            Picture::RatatuiLogo => "RatatuiLogo",
+            Picture::Map => "Map",
         }
     }
 
@@ -91,12 +97,15 @@ impl Picture {
             Picture::Throbber => apart::throbber(frame),
             Picture::ScrollView => apart::scroll_view(alloc, frame),
             Picture::Tree => apart::tree(alloc, frame),
+            Picture::BigText => apart::big_text(alloc, frame),
+            Picture::RatatuiLogo => apart::logo(frame),
+            Picture::Map => charts::map(frame),
         }
     }
 }
 
 // Each widget, with the columns and rows of its picture.
-static PICTURES: [(Picture, u16, u16); 18] = [
+static PICTURES: [(Picture, u16, u16); 21] = [
     (Picture::Block, 24, 4),
     (Picture::Paragraph, 24, 4),
     (Picture::List, 24, 3),
@@ -115,6 +124,9 @@ static PICTURES: [(Picture, u16, u16); 18] = [
     (Picture::Throbber, 24, 1),
     (Picture::ScrollView, 24, 4),
     (Picture::Tree, 24, 3),
+    (Picture::BigText, 24, 4),
+    (Picture::RatatuiLogo, 27, 2),
+    (Picture::Map, 60, 15),
 ];
 
 // Draws a widget on a screen of its own, and prints its name and that screen.

@@ -1,5 +1,6 @@
 //! The program `row_parts`: reads rows, and prints a picture of each: a popup, a throbber, a scroll
-//! view, a tree or a calendar, what stands in each cell, and in which colour.
+//! view, a tree, a big text, a logo, a map or a calendar, what stands in each cell, and in which
+//! colour.
 //!
 //! `row_parts FILE..` reads files of rows. A row has the name of a widget, the size of a buffer,
 //! words and a text, with a tab between each two. In the text of a popup a slash ends a line; that
@@ -24,11 +25,20 @@
 //! `top`, `bottom`, and `to:X,Y`. A row of a calendar begins with a date: the crate `row_months` says
 //! what it has.
 //!
+//! In a big text a slash ends a line; a line that begins with `<` or `>` is aligned so, one with `*`
+//! is green behind its letters, and one with `_` has green letters. Its words are `half-height`,
+//! `half-width`, `quadrant`, `center`, `right`, `red`, its background, and `box`. A logo has the word
+//! `small`, and a map `high`, `dots` in place of Braille, and `in:LEFT,RIGHT,BOTTOM,TOP`, in degrees;
+//! both have no text.
+//!
 //! A picture has the buffer's rows between bars, in which letters stood before, and beside them a
 //! letter for each cell's colour: a capital for the background, else one for the foreground, or a
 //! dot. A line `# NAME` begins a group.
 #![tactic(auto)]
 
+mod big_texts;
+mod logos;
+mod maps;
 mod pictures;
 mod popups;
 mod rows;
@@ -48,6 +58,9 @@ fn shown(alloc: Global, row: &Row<'_>) -> Result<String, AllocError> {
         "popup" => popups::render(alloc, row, &mut buffer)?,
         "throbber" => throbbers::render(alloc, row, &mut buffer)?,
         "scroll" => scrolls::render(alloc, row, &mut buffer)?,
+        "big" => big_texts::render(alloc, row, &mut buffer)?,
+        "logo" => logos::render(alloc, row, &mut buffer)?,
+        "map" => maps::render(alloc, row, &mut buffer)?,
         "tree" => trees::render(alloc, row, &mut buffer)?,
         _ => String::from_str(alloc, "no such widget")?,
     };
