@@ -1,5 +1,10 @@
-//! The program `row_widgets`: for each line of standard input, as `paragraph 10 5 wrap=trim | The
-//! quick brown fox`, the rows that the widget leaves on an empty buffer of this size, between bars.
+//! The program `row_widgets`: reads rows, and prints a picture of each: what a widget draws.
+//!
+//! `row_widgets FILE..` reads files of rows. Those of `widgets.rows` are said here; the crate
+//! `row_parts` says what the rows of other files are.
+//!
+//! For a row as `paragraph 10 5 wrap=trim | The quick brown fox` it prints the rows that the widget
+//! leaves on an empty buffer of this size, between bars.
 //! In options `_` stands for a blank. A line that says no case is passed over: `# ..` tells whose
 //! answers those after it are.
 //!
@@ -39,9 +44,10 @@ mod tables;
 mod widgets;
 
 use std::alloc::Global;
-use std::io::{self, BufRead, BufWriter, Write};
+use std::io::{self, BufWriter, Write};
+use std::{env, fs};
 
-// Answers one line.
+// Prints a row, and what the widget leaves, if it says one.
 fn answer<W: Write>(alloc: Global, line: &str, writer: &mut W) -> io::Result<()> {
     let Some(case) = cases::case_of(line) else {
         return Ok(());
@@ -51,25 +57,30 @@ fn answer<W: Write>(alloc: Global, line: &str, writer: &mut W) -> io::Result<()>
     writer.write_all(shown.as_bytes())
 }
 
-// Answers each line of a reader.
-fn answer_all<R: BufRead, W: Write>(
-    alloc: Global,
-    reader: &mut R,
-    writer: &mut W,
-) -> io::Result<()> {
-    let mut line = String::new(alloc);
-    for _ in 0..u64::MAX {
-        line.clear();
-        if reader.read_line(&mut line)? == 0 {
-            return writer.flush();
-        }
-        answer(alloc, line.trim_end_matches("\n"), writer)?;
+// Prints the pictures of these rows.
+fn answer_all(rt: &HostRuntime, text: &str) -> io::Result<()> {
+    let mut writer = BufWriter::new(rt.alloc(), io::writer(rt))?;
+    for line in text.lines() {
+        answer(rt.alloc(), line, &mut writer)?;
     }
     writer.flush()
 }
 
+// Prints the pictures of the rows of a file.
+fn print_file(rt: &HostRuntime, name: &str) -> io::Result<()> {
+    let text = fs::read_to_string(rt, name)?;
+    if name == "widgets.rows" {
+        return answer_all(rt, text.as_str());
+    }
+    for line in text.lines() {
+        row_parts::print_row(rt, line)?;
+    }
+    Ok(())
+}
+
 fn main(rt: HostRuntime) -> io::Result<()> {
-    let mut reader = rt.reader();
-    let mut writer = BufWriter::new(rt.alloc(), io::writer(&rt))?;
-    answer_all(rt.alloc(), &mut reader, &mut writer)
+    for word in env::args(&rt)?.skip(1) {
+        print_file(&rt, word.as_str())?;
+    }
+    Ok(())
 }

@@ -1,11 +1,10 @@
-//! The program `row_parts`: reads rows, and prints a picture of each: a popup, a throbber, a scroll
-//! view, a tree, a big text, a logo, a map or a calendar, what stands in each cell, and in which
-//! colour.
+//! Rows of widgets of crates of their own, and a picture of each: what stands in each cell, and in
+//! which colour.
 //!
-//! `row_parts FILE..` reads files of rows. A row has the name of a widget, the size of a buffer,
-//! words and a text, with a tab between each two. In the text of a popup a slash ends a line; that
-//! of a throbber is its label; in that of a tree a slash ends an item, which begins with its depth
-//! (`1 lib.rt`; after a star its line is green). `-` is no word, and no line, item or label.
+//! A row has the name of a widget, the size of a buffer, words and a text, with a tab between each
+//! two. In the text of a popup a slash ends a line; that of a throbber is its label; in that of a
+//! tree a slash ends an item, which begins with its depth (`1 lib.rt`; after a star its line is
+//! green). `-` is no word, and no line, item or label.
 //!
 //! A word for all is `at:X,Y,WIDTH,HEIGHT`, the area in place of the whole buffer, and one for
 //! popups and throbbers `red` or `blue`, the background of the widget. A popup's are `box`,
@@ -49,7 +48,7 @@ mod trees;
 use crate::pictures::picture;
 use crate::rows::Row;
 use std::alloc::{AllocError, Global};
-use std::{env, fs, io};
+use std::io;
 
 // The picture of a row.
 fn shown(alloc: Global, row: &Row<'_>) -> Result<String, AllocError> {
@@ -68,8 +67,8 @@ fn shown(alloc: Global, row: &Row<'_>) -> Result<String, AllocError> {
     format!(in alloc; "{said}\n{rows}")
 }
 
-// Prints a row, and its picture.
-fn print_row(rt: &HostRuntime, line: &str) -> io::Result<()> {
+/// Prints a row of text, and its picture.
+pub fn print_row(rt: &HostRuntime, line: &str) -> io::Result<()> {
     println!(rt; "{line}")?;
     if let Some(picture) = row_months::picture(rt.alloc(), line)? {
         return print!(rt; "{picture}");
@@ -77,22 +76,6 @@ fn print_row(rt: &HostRuntime, line: &str) -> io::Result<()> {
     if let Some(row) = Row::read(line) {
         let shown = shown(rt.alloc(), &row)?;
         println!(rt; "{shown}")?;
-    }
-    Ok(())
-}
-
-// Prints the rows of a file.
-fn print_file(rt: &HostRuntime, name: &str) -> io::Result<()> {
-    let text = fs::read_to_string(rt, name)?;
-    for line in text.lines() {
-        print_row(rt, line)?;
-    }
-    Ok(())
-}
-
-fn main(rt: HostRuntime) -> io::Result<()> {
-    for word in env::args(&rt)?.skip(1) {
-        print_file(&rt, word.as_str())?;
     }
     Ok(())
 }
