@@ -1,5 +1,7 @@
 //! Tests of states that are settled: what stands in them is what a rendering leaves.
 
+ghost use Rattle.ratatui_core.specs.Layout.{EdgesFit};
+
 use ratatui_core::buffer::Buffer;
 use ratatui_core::layout::{Position, Rect, Size};
 use ratatui_core::widgets::StatefulWidget;
@@ -12,7 +14,9 @@ use widget_table::{Row, Table, TableState};
 use widget_tree::{Tree, TreeState};
 
 // An area of eight columns and so many rows.
-fn rows(height: u16) -> Rect {
+fn rows(height: u16) -> Rect
+    ensures { EdgesFit result }
+{
     Rect::new(2, 1, 8, height)
 }
 
