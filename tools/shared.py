@@ -6,7 +6,7 @@ import sys
 
 TOP = os.path.dirname(os.path.dirname(os.path.abspath(__file__)))
 # The files of `crates/vectors` whose rows aren't calls of ratatui_core.
-OTHER_ROWS = ("split.rows", "split_cases.rows", "keys.rows", "files.rows", "areas.rows", "views.rows")
+OTHER_ROWS = ("split.rows", "split_cases.rows", "keys.rows", "files.rows", "areas.rows", "views.rows", "fields.rows", "graphemes.rows")
 
 
 def refuse(why):

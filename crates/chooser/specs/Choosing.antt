@@ -1,5 +1,6 @@
 -- Planets, of which one is chosen: what is told, and what is shown.
 use Rattle.std.specs.Prelude.{◌≡◌, ℕ, ◌==◌, if◌then◌else◌, true, false, List, [], ◌∷◌, map, codes, Option, Some, None}
+use Rattle.std.specs.Str.{byte}
 use Rattle.std.specs.declared.alloc.Global.{Global}
 use Rattle.ratatui_core.specs.{Layout.Rect, Layout.Size, Text.raw_line, Buffer.BufferData}
 use Rattle.ratatui_events.specs.declared.event.Event.{Event}
@@ -47,9 +48,9 @@ chooser_at_size (Some (columns, rows)) c = record c { area = record c.area { wid
 -- j and k choose the next one and the one before, and q ends
 abbrev pub chooser_by_character : ℕ → Chooser → Chooser
 chooser_by_character code c =
-    if code == 106 then record c { list = selecting (Some (next_of c.list.selected)) c.list }
-    else (if code == 107 then record c { list = selecting (Some (previous_of c.list.selected)) c.list }
-    else (if code == 113 then record c { is_over = true } else c))
+    if code == byte "j" then record c { list = selecting (Some (next_of c.list.selected)) c.list }
+    else (if code == byte "k" then record c { list = selecting (Some (previous_of c.list.selected)) c.list }
+    else (if code == byte "q" then record c { is_over = true } else c))
 
 abbrev pub chooser_by_code : KeyCode → Chooser → Chooser
 chooser_by_code (Char code) c = chooser_by_character code c

@@ -9,8 +9,15 @@ use Rattle.unicode_segmentation.proofs.TextLemmas.{IsUtf8-before}
 use Rattle.rtui_text.proofs.GraphemeLemmas.{graphemes-empty}
 use Rattle.ratatui_core.specs.Buffer.{painted_width, has_painted_width}
 use Rattle.follow.specs.Lines.{shown_grapheme}
-use Rattle.follow.specs.Inner.{is_part, is_parting, EndsParted, painted_graphemes}
+use Rattle.follow.specs.Inner.{is_part, is_parting, painted_graphemes}
 use Rattle.follow.proofs.PartLemmas.{parting-control, one-utf8, graphemes-parts}
+
+-- a text ends with a character that parts
+pub record EndsParted (text : List ℕ) : Type 0 where
+  pub front : List ℕ
+  pub last : ℕ
+  pub parts : is_parting last ≡ true
+  pub is : text ≡ front ++ last ∷ []
 
 module _ (c : ℕ) (parts : is_parting c ≡ true) where
   unpainted : has_painted_width (c ∷ []) ≡ false

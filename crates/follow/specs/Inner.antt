@@ -78,13 +78,6 @@ is_part [] = false
 is_part (c ∷ []) = is_parting c
 is_part (c ∷ (d ∷ cs)) = false
 
--- a text ends with one
-pub record EndsParted (text : List ℕ) : Type 0 where
-  pub front : List ℕ
-  pub last : ℕ
-  pub parts : is_parting last ≡ true
-  pub is : text ≡ front ++ last ∷ []
-
 -- the graphemes of a text that are painted where there is room
 abbrev pub painted_graphemes : List ℕ → List (List ℕ)
 painted_graphemes text = filter has_painted_width (graphemes true text)

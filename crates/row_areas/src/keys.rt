@@ -1,7 +1,8 @@
 //! Rows of keys: a text, words, and the text that they make of it.
 
+use crate::edits::Edits;
 use crate::escapes::unescaped;
-use crate::words::act;
+use crate::fields::{Typing, typing_of};
 use std::alloc::{AllocError, Global};
 use text_area::{Extent, Move, TextArea};
 
@@ -24,59 +25,72 @@ fn parts_of(text: &str) -> (&str, &str) {
     }
 }
 
-// Whether an area has a text with a mark.
-fn is_marked(alloc: Global, area: &TextArea, text: &str) -> Result<bool, AllocError> {
+// Whether a text with a cursor is the one that stands here with a mark.
+fn is_marked<E: Edits>(alloc: Global, edited: &E, text: &str) -> Result<bool, AllocError> {
     let (before, after) = parts_of(text);
     let before = unescaped(alloc, before)?;
     let after = unescaped(alloc, after)?;
-    Ok(area.before() == before.as_str() && area.after() == after.as_str())
+    Ok(edited.before() == before.as_str() && edited.after() == after.as_str())
 }
 
-// Does a word; if memory is refused, the area has to be as it was, and the word is done once more.
-fn insist(alloc: Global, area: &mut TextArea, word: &str) -> Result<bool, AllocError> {
-    let before = String::from_str(alloc, area.before())?;
-    let after = String::from_str(alloc, area.after())?;
-    let undoes = area.can_undo();
-    let redoes = area.can_redo();
-    if let Ok(done) = act(alloc, area, word) {
+// Does a word; if memory is refused, all has to be as it was, and the word is done once more.
+fn insist<E: Edits>(alloc: Global, edited: &mut E, word: &str) -> Result<bool, AllocError> {
+    let before = String::from_str(alloc, edited.before())?;
+    let after = String::from_str(alloc, edited.after())?;
+    let undoes = edited.can_undo();
+    let redoes = edited.can_redo();
+    if let Ok(done) = edited.act(alloc, word) {
         return Ok(done);
     }
-    let same = area.before() == before.as_str() && area.after() == after.as_str();
-    if !same || area.can_undo() != undoes || area.can_redo() != redoes {
+    let same = edited.before() == before.as_str() && edited.after() == after.as_str();
+    if !same || edited.can_undo() != undoes || edited.can_redo() != redoes {
         return Ok(false);
     }
-    act(alloc, area, word)
+    edited.act(alloc, word)
 }
 
-// Does words with a blank between each two; answers whether each was done.
-fn insist_all(alloc: Global, area: &mut TextArea, words: &str) -> Result<bool, AllocError> {
+// Does words with a blank between each two, and answers whether each was done and made this text.
+fn makes<E: Edits>(
+    alloc: Global,
+    edited: &mut E,
+    words: &str,
+    wanted: &str,
+) -> Result<bool, AllocError> {
     for word in words.split(' ') {
-        if !insist(alloc, area, word)? {
+        if !insist(alloc, edited, word)? {
             return Ok(false);
         }
     }
-    Ok(true)
+    is_marked(alloc, edited, wanted)
 }
 
-// Whether words make of a text another one.
-fn makes(alloc: Global, text: &str, words: &str, wanted: &str) -> Result<bool, AllocError> {
+// The three parts of a row.
+fn row_parts(row: &str) -> Option<(&str, &str, &str)> {
+    let (text, rest) = row.split_once('\t')?;
+    let (words, wanted) = rest.split_once('\t')?;
+    Some((text, words, wanted))
+}
+
+// Whether a row of an area holds.
+pub(crate) fn holds(alloc: Global, row: &str) -> Result<bool, AllocError> {
+    let Some((text, words, wanted)) = row_parts(row) else {
+        return Ok(false);
+    };
     let (before, after) = parts_of(text);
     let before = unescaped(alloc, before)?;
     let after = unescaped(alloc, after)?;
     let mut area = area_of(alloc, before.as_str(), after.as_str())?;
-    if !insist_all(alloc, &mut area, words)? {
-        return Ok(false);
-    }
-    is_marked(alloc, &area, wanted)
+    makes(alloc, &mut area, words, wanted)
 }
 
-// Whether a row holds.
-pub(crate) fn holds(alloc: Global, row: &str) -> Result<bool, AllocError> {
-    let Some((text, rest)) = row.split_once('\t') else {
+// Whether a row of a field holds.
+pub(crate) fn holds_of_field(alloc: Global, row: &str) -> Result<bool, AllocError> {
+    let Some((text, words, wanted)) = row_parts(row) else {
         return Ok(false);
     };
-    let Some((words, wanted)) = rest.split_once('\t') else {
-        return Ok(false);
-    };
-    makes(alloc, text, words, wanted)
+    let (before, after) = parts_of(text);
+    let before = unescaped(alloc, before)?;
+    let after = unescaped(alloc, after)?;
+    let mut typing: Typing = typing_of(alloc, before.as_str(), after.as_str())?;
+    makes(alloc, &mut typing, words, wanted)
 }

@@ -1,5 +1,6 @@
 //! Words: what is done to an area.
 
+use crate::edits::Edits;
 use crate::escapes::unescaped;
 use ratatui_events::{Event, KeyEvent};
 use std::alloc::{AllocError, Global};
@@ -86,7 +87,7 @@ fn act_plainly(area: &mut TextArea, word: &str) -> Result<bool, AllocError> {
 }
 
 // Does a word, and answers whether it was done.
-pub(crate) fn act(alloc: Global, area: &mut TextArea, word: &str) -> Result<bool, AllocError> {
+fn act(alloc: Global, area: &mut TextArea, word: &str) -> Result<bool, AllocError> {
     let Some((name, text)) = word.split_once(':') else {
         return act_plainly(area, word);
     };
@@ -98,5 +99,27 @@ pub(crate) fn act(alloc: Global, area: &mut TextArea, word: &str) -> Result<bool
         "line" => Ok(go_to(area, text)),
         "steps" => Ok(keep_steps(area, text)),
         _ => Ok(false),
+    }
+}
+
+impl Edits for TextArea {
+    fn before(&self) -> &str {
+        self.before()
+    }
+
+    fn after(&self) -> &str {
+        self.after()
+    }
+
+    fn can_undo(&self) -> bool {
+        self.can_undo()
+    }
+
+    fn can_redo(&self) -> bool {
+        self.can_redo()
+    }
+
+    fn act(&mut self, alloc: Global, word: &str) -> Result<bool, AllocError> {
+        act(alloc, self, word)
     }
 }

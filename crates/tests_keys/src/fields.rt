@@ -1,7 +1,7 @@
-//! What else is done to a field: each call that takes memory is made once.
+//! Calls of a field and of its history, each once; the rows of `vectors` say what keys do.
 
-use ratatui_events::{Event, KeyCode, KeyEvent, KeyModifiers};
-use std::alloc::{AllocError, Global};
+use ratatui_events::Event;
+use std::alloc::AllocError;
 use text_field::{Edit, History, Reach, TextField};
 
 #[test]
@@ -24,19 +24,6 @@ fn a_field_is_typed_into(rt: HostRuntime) -> Result<(), AllocError> {
     assert!(rt; field.before() == "worlk");
     field.apply(Edit::Insert(','))?;
     assert!(rt; field.text() == "worlk,hello ");
-    Ok(())
-}
-
-#[test]
-fn control_characters_are_left_out(rt: HostRuntime) -> Result<(), AllocError> {
-    let alloc = rt.alloc();
-    let mut field = TextField::new(alloc);
-    field.insert_str("a\r\nb\tc\u{7f}")?;
-    assert!(rt; field.text() == "abc");
-    field.insert('\n')?;
-    assert!(rt; field.text() == "abc");
-    field.set_text("d\u{1b}e")?;
-    assert!(rt; field.text() == "de");
     Ok(())
 }
 
@@ -71,28 +58,12 @@ fn a_field_tells_what_it_takes(rt: HostRuntime) -> Result<(), AllocError> {
 }
 
 #[test]
-fn a_limit_is_kept(rt: HostRuntime) -> Result<(), AllocError> {
-    let alloc = rt.alloc();
-    let mut field = TextField::new(alloc).with_limit(4);
-    assert!(rt; field.limit() == Some(4));
-    field.insert_str("äöüßxyz")?;
-    assert!(rt; field.text() == "äöüß");
-    field.insert('q')?;
-    assert!(rt; field.text() == "äöüß");
-    field.delete_left(Reach::Grapheme);
-    field.insert('q')?;
-    assert!(rt; field.text() == "äöüq");
-    field.set_text("12345")?;
-    assert!(rt; field.text() == "1234");
-    Ok(())
-}
-
-#[test]
 fn a_field_is_set_cleared_and_cloned(rt: HostRuntime) -> Result<(), AllocError> {
     let alloc = rt.alloc();
-    let mut field = TextField::new(alloc);
+    let mut field = TextField::new(alloc).with_limit(7);
     assert!(rt; field.is_empty());
-    field.set_text("one two")?;
+    assert!(rt; field.limit() == Some(7));
+    field.set_text("one two three")?;
     assert!(rt; field.before() == "one two");
     field.kill_left(Reach::Word)?;
     let copy = field.clone(alloc)?;
@@ -101,65 +72,6 @@ fn a_field_is_set_cleared_and_cloned(rt: HostRuntime) -> Result<(), AllocError> 
     assert!(rt; field.killed() == "two");
     assert!(rt; copy.before() == "one ");
     assert!(rt; copy.killed() == "two");
-    Ok(())
-}
-
-// Undoes, redoes and edits by letters: `u`, `r`, and any other one is typed.
-fn play(alloc: Global, letters: &str, most: usize) -> Result<TextField, AllocError> {
-    let mut field = TextField::new(alloc);
-    let mut history = History::new(alloc, most);
-    for letter in letters.chars() {
-        let event = Event::Pasted(letter);
-        if letter == 'r' {
-            history.redo(&mut field)?;
-        } else if letter == 'u' {
-            history.undo(&mut field)?;
-        } else {
-            history.handle(&mut field, &event)?;
-        }
-    }
-    Ok(field)
-}
-
-// Whether a field has this text in the end.
-fn plays(alloc: Global, letters: &str, most: usize, text: &str) -> bool {
-    match play(alloc, letters, most) {
-        Ok(field) => field.before() == text && field.after() == "",
-        Err(_) => false,
-    }
-}
-
-#[test]
-fn edits_are_undone_and_redone(rt: HostRuntime) -> Result<(), AllocError> {
-    let alloc = rt.alloc();
-    assert!(rt; plays(alloc, "abc", 9, "abc"));
-    assert!(rt; plays(alloc, "abcu", 9, "ab"));
-    assert!(rt; plays(alloc, "abcuu", 9, "a"));
-    assert!(rt; plays(alloc, "abcuur", 9, "ab"));
-    assert!(rt; plays(alloc, "abcuurr", 9, "abc"));
-    assert!(rt; plays(alloc, "abcuurrr", 9, "abc"));
-    // Nothing before the first step, and nothing to redo after an edit.
-    assert!(rt; plays(alloc, "abuuu", 9, ""));
-    assert!(rt; plays(alloc, "abuxr", 9, "ax"));
-    // Two steps at most are kept, or none.
-    assert!(rt; plays(alloc, "abcduuu", 2, "ab"));
-    assert!(rt; plays(alloc, "abcuuurr", 2, "abc"));
-    assert!(rt; plays(alloc, "abu", 0, "ab"));
-    Ok(())
-}
-
-#[test]
-fn a_history_undoes(rt: HostRuntime) -> Result<(), AllocError> {
-    let alloc = rt.alloc();
-    let mut field = TextField::new(alloc);
-    let mut history = History::new(alloc, 100);
-    let undo = Event::Key(KeyEvent::new(KeyCode::Char('z'), KeyModifiers::CONTROL));
-    for event in [Event::Pasted('a'), Event::Pasted('b'), undo] {
-        if !history.handle(&mut field, &event)? && event == undo {
-            history.undo(&mut field)?;
-        }
-    }
-    assert!(rt; field.text() == "a");
     Ok(())
 }
 

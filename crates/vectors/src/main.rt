@@ -54,7 +54,9 @@ fn check_file(rt: &HostRuntime, name: &str) -> io::Result<usize> {
         "keys.rows" => row_keys::check(rt, text),
         "split.rows" | "split_cases.rows" => row_splits::check(rt, name, text),
         "files.rows" => row_files::check(rt, text, FOLDER),
-        "areas.rows" | "views.rows" => row_areas::check(rt, name, text),
+        "areas.rows" | "fields.rows" | "graphemes.rows" | "views.rows" => {
+            row_areas::check(rt, name, text)
+        }
         _ => check_calls(rt, rt.alloc(), name, text),
     }
 }

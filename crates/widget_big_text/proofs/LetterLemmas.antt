@@ -3,7 +3,7 @@ use Rattle.std.proofs.Common.{◌≡◌, ℕ, suc, ◌+◌, ◌-◌, ◌*◌, �
 use Rattle.std.proofs.Common.{Option, length, drop, Some, slice_get, refl, sym, ap, ◌∙◌, arith}
 use Rattle.std.proofs.Math.ListN.{get_or}
 use Rattle.std.proofs.lemmas.{Bool.Decides.nat_tests, List.drop_more}
-use Rattle.std.proofs.Math.Nat.{div-eq_of_lt, mod-eq_of_lt, add-div_right, add-mod_right, suc-mul}
+use Rattle.std.proofs.Math.Nat.{div-eq_of_lt, mod-eq_of_lt, add-div_right, add-mod_right}
 use Rattle.ratatui_core.specs.Layout.{Rect}
 use Rattle.ratatui_core.specs.Text.{LineData, GraphemeData}
 use Rattle.ratatui_core.specs.Buffer.{BufferData, ChangesEach}
@@ -126,7 +126,3 @@ lines-step t k n line r first rest old mid new lt is rows one two drawn others =
 -- no lines
 pub lines-end : (t : BigText) (r : Rect) (s : BufferData) → ChangesEach r (lines_cell t [] r) s s
 lines-end t r s = Changes-kept r (lines_cell t [] r) s (λ p c here. refl)
-
--- what is free after one letter more
-pub free-next : (free n count : ℕ) → free - suc count * n ≡ free - n - count * n
-free-next free n count = rw (suc-mul count n) (omega arith)

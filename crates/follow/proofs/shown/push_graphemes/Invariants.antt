@@ -2,7 +2,8 @@ use Rattle.std.proofs.Common.{◌≡◌, ◌++◌, true, string_bytes}
 use Rattle.std.specs.List.{flat_map}
 use Rattle.unicode_segmentation.specs.Iter.{graphemes_left}
 use Rattle.follow.specs.Lines.{shown_grapheme, shown_line}
-use Rattle.follow.specs.Inner.{painted_graphemes, EndsParted}
+use Rattle.follow.specs.Inner.{painted_graphemes}
+use Rattle.follow.proofs.SkipLemmas.{EndsParted}
 use Rattle.follow.proofs.shown.push_graphemes.Given as goal
 
 abbrev pub invariant-loop-grapheme : goal.invariant-loop-grapheme
