@@ -3,11 +3,11 @@
 //!
 //! `vectors FILE..` reads files of rows. It prints for each file how many rows hold, or each row
 //! that doesn't with both answers, and then ends with status 1. `data/README.md` says what a row
-//! is; those of `keys.rows`, `split.rows`, `split_cases.rows`, `files.rows`, `areas.rows` and
-//! `views.rows` are read by the crates `row_keys`, `row_splits`, `row_files` and `row_areas`, which
-//! say what they are. For a number in place of a file it makes so many requests for memory of its
-//! own, and says which of them is refused, if one is: so `tools/refusals` chooses the request that
-//! is refused.
+//! is; those of `keys.rows`, `split.rows`, `split_cases.rows`, `files.rows`, `areas.rows`,
+//! `fields.rows`, `graphemes.rows` and `views.rows` are read by the crates `row_keys`, `row_splits`,
+//! `row_files` and `row_areas`, which say what they are. For a number in place of a file it makes so
+//! many requests for memory of its own, and says which of them is refused, if one is: so
+//! `tools/refusals` chooses the request that is refused.
 #![tactic(auto)]
 
 mod rows;
