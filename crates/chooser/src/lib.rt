@@ -9,10 +9,6 @@ mod chooser;
 mod from_blank;
 pub mod laws;
 mod planets;
-#[cfg(test)]
-mod runs;
-#[cfg(test)]
-mod screens;
 
 pub use chooser::Chooser;
 pub use from_blank::choose_from_blank;

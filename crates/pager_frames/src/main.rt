@@ -7,11 +7,11 @@
 //! another colour.
 //!
 //! After a line `--` stand fewer reads, in which each kind of key is. It plays them cut at random
-//! places, and compares the last screen; and with each read and each call of the screen failing in
-//! turn, and counts the faults that were told. With wrong words, or if a screen is another one, the
-//! status is 1. With a number as a fourth word it only shows these reads as bytes for a terminal
-//! while one request for memory is refused, and prints what came of it: `tools/refusals` has each
-//! request refused.
+//! places, and compares the last screen; and with each read, and each call of the screen in the first
+//! ones, failing in turn, and counts the faults that were told. With wrong words, or if a screen is
+//! another one, the status is 1. With a number as a fourth word it only shows these reads as bytes
+//! for a terminal while one request for memory is refused, and prints what came of it:
+//! `tools/refusals` has each request refused.
 #![tactic(auto)]
 
 mod frames;

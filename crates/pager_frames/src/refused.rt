@@ -11,7 +11,7 @@ use std::alloc::Global;
 use std::io::{self, ErrorKind, Write};
 
 /// The request of the program that is refused.
-const LAST: usize = 3000;
+const LAST: usize = 20_000;
 
 /// How long the bytes are that are looked for.
 const KEPT: usize = 8;

@@ -11,8 +11,8 @@ use ratatui_core::backend::TestBackend;
 use ratatui_core::terminal::Viewport;
 use std::io;
 
-/// Each call of a writer in so many reads is made to fail, one in each recording.
-const READS: usize = 10;
+/// Each call of a screen or of a writer in so many reads is made to fail, one in each recording.
+const READS: usize = 13;
 
 /// How many times a recording is cut.
 const CUTS: u32 = 10;
@@ -94,11 +94,11 @@ fn told_reads(stage: Stage<'_>, recording: &Recording) -> Option<(usize, usize)>
 }
 
 // How many calls of the screen that fail, one in each recording, are told as such, and how many do:
-// each call that the recording leads to.
+// each call that its first reads lead to.
 fn told_calls(stage: Stage<'_>, recording: &Recording) -> Option<(u64, u64)> {
     let mut told = 0u64;
     for calls in 0..1000u64 {
-        let mut player = Player::new(recording, None, usize::MAX);
+        let mut player = Player::new(recording, None, READS);
         let (_, fault) = played(stage, &mut player, Some(calls))?;
         match fault {
             "draw" => told = told.saturating_add(1),

@@ -1,10 +1,12 @@
 //! Tests of what reads keys: readers that give bytes in pieces and fail between them, counters run
 //! over such pieces and at a line that is watched, reads that a clock times, names that are removed,
-//! a page of the pager, and what keys make of text fields and areas.
+//! planets that are chosen, a page of the pager, and what keys make of text fields and areas.
 #![tactic(auto)]
 
 #[cfg(test)]
 mod area;
+#[cfg(test)]
+mod choosers;
 #[cfg(test)]
 mod clocks;
 #[cfg(test)]
@@ -21,6 +23,8 @@ mod pages;
 mod readers;
 #[cfg(test)]
 mod removers;
+#[cfg(test)]
+mod screens;
 #[cfg(test)]
 mod sizes;
 #[cfg(test)]

@@ -1,7 +1,7 @@
-//! Screens after reads that are known.
+//! Screens of a chooser of planets, after reads that are known.
 
-use crate::chooser::Chooser;
 use crate::screens;
+use chooser::Chooser;
 use ratatui_acts::{Nothing, Seat, run};
 use ratatui_app::OnScreen;
 use ratatui_core::backend::TestBackend;

@@ -1,4 +1,4 @@
-//! What screens show. `tools/test --accept chooser` writes them anew.
+//! What screens show. `tools/test --accept tests_keys` writes them anew.
 
 pub(crate) const FIRST: &[&str] = &["> Mercury  ", "  Venus    ", "  Earth    ", "  Mars     "];
 
