@@ -13,8 +13,8 @@ use Rattle.rtui_drawing.specs.Drawings.{Drawing, over, draw_if, put_style, IsSho
 use Rattle.widget_list.specs.{declared.list.List.List as ListData, declared.list.ListDirection.ListDirection}
 use Rattle.widget_list.specs.declared.list.ListDirection.TheVariants.{TopToBottom, BottomToTop}
 use Rattle.widget_list.specs.{declared.item.ListItem.ListItem, Windows.item_rows, Windows.rows_before, Windows.Fit}
-use Rattle.widget_list.specs.Items.{item_cut, mark_drawing, marks_drawing, is_marked, item_drawing, items_drawing, list_drawing}
-use Rattle.widget_list.specs.Items.{is_selected_at, mark_columns, at_most, IsShortItem, HasShortItems}
+use Rattle.widget_list.specs.Items.{item_cut, symbol_or_blanks, marks_drawing, is_marked, item_drawing, items_drawing, list_drawing}
+use Rattle.widget_list.specs.Items.{is_selected_at, free_columns, at_most, IsShortItem, HasShortItems}
 use Rattle.widget_list.proofs.WindowLemmas.{rows-next, rows-grow}
 
 -- one row more
@@ -60,7 +60,7 @@ if-short own false d r short = tt
 
 module _ (s : BufferData) (l : ListData) (short : IfSome l.highlight_symbol IsShortTitle) where
   mark-short : (symbol : Option LineData) (t : Bool) (r : Rect) → IfSome symbol IsShortTitle
-      → IsShortDrawing s.area (mark_drawing symbol t) r
+      → IsShortDrawing s.area (symbol_or_blanks symbol t) r
   mark-short symbol false r short = λ p c. tt
   mark-short None true r short = tt
   mark-short (Some line) true r short = short r s
@@ -88,7 +88,7 @@ module _ (s : BufferData) (l : ListData) (short : IfSome l.highlight_symbol IsSh
       → IsShortDrawing s.area (items_drawing l selected r k used items) r
   items-short selected r k used [] all = tt
   items-short selected r k used (i ∷ items) all = (
-    item-short (is_selected_at selected k) (mark_columns l (is_some selected) r) i _ (All-head IsShortItem i items all),
+    item-short (is_selected_at selected k) (free_columns l (is_some selected) r) i _ (All-head IsShortItem i items all),
     items-short selected r (k + 1) (used + item_rows i) items (All-tail IsShortItem i items all),
   )
 

@@ -49,8 +49,8 @@ abbrev pub mark_width : Option LineData → Rect → ℕ
 mark_width symbol r = min (columns_of_mark symbol) r.width
 
 -- how many stay free for it
-abbrev pub mark_columns : ListData → Bool → Rect → ℕ
-mark_columns l is_selected r =
+abbrev pub free_columns : ListData → Bool → Rect → ℕ
+free_columns l is_selected r =
     if has_mark_columns l.highlight_spacing is_selected then mark_width l.highlight_symbol r else 0
 
 -- where an item stands that takes so many rows, after others that take so many
@@ -63,10 +63,10 @@ abbrev pub left_blank : Cell → Cell
 left_blank = with_symbol (codes " ")
 
 -- in a symbol's columns of a row the symbol, in its own styles over what stands there, or blanks
-abbrev pub mark_drawing : Option LineData → Bool → Drawing
-mark_drawing symbol false = put_change (λ _. left_blank) (λ _ _. ⊤)
-mark_drawing None true = nothing
-mark_drawing (Some line) true = put_line line
+abbrev pub symbol_or_blanks : Option LineData → Bool → Drawing
+symbol_or_blanks symbol false = put_change (λ _. left_blank) (λ _ _. ⊤)
+symbol_or_blanks None true = nothing
+symbol_or_blanks (Some line) true = put_line line
 
 -- the symbol stands in a row of an item: in the first one of the selected one, or in each
 abbrev pub is_marked : ListData → Bool → ℕ → Bool
@@ -76,12 +76,12 @@ is_marked l is_selected j = is_selected && ((j == 0) || l.repeat_highlight_symbo
 abbrev pub marks_drawing : ListData → Bool → ℕ → ℕ → Drawing
 marks_drawing l is_selected j zero = nothing
 marks_drawing l is_selected j (suc more) =
-    over (Rows j 1) (mark_drawing l.highlight_symbol (is_marked l is_selected j))
+    over (Rows j 1) (symbol_or_blanks l.highlight_symbol (is_marked l is_selected j))
     before marks_drawing l is_selected (j + 1) more
 
 -- over an item of so many rows: the highlight if it is selected, and the symbol in its columns
-abbrev pub highlight_drawing : ListData → Bool → ℕ → ℕ → Drawing
-highlight_drawing l is_selected n rows =
+abbrev pub highlight_and_symbol : ListData → Bool → ℕ → ℕ → Drawing
+highlight_and_symbol l is_selected n rows =
     draw_if is_selected (put_style l.highlight_style)
     before draw_if (nat_lt 0 n) (over (First n) (marks_drawing l is_selected 0 rows))
 
@@ -90,7 +90,7 @@ abbrev pub item_drawing : ListData → Bool → ℕ → ListItem → Drawing
 item_drawing l is_selected n i =
     put_style (patch l.style i.style)
     before over (After n) (put_text i.content)
-    before highlight_drawing l is_selected n (item_rows i)
+    before highlight_and_symbol l is_selected n (item_rows i)
 
 -- the number is the one that is selected
 abbrev pub is_selected_at : Option ℕ → ℕ → Bool
@@ -102,7 +102,7 @@ abbrev pub items_drawing : ListData → Option ℕ → Rect → ℕ → ℕ → 
 items_drawing l selected r k used [] = nothing
 items_drawing l selected r k used (i ∷ items) =
     over (item_cut l.direction r used (item_rows i))
-    (item_drawing l (is_selected_at selected k) (mark_columns l (is_some selected) r) i)
+    (item_drawing l (is_selected_at selected k) (free_columns l (is_some selected) r) i)
     before items_drawing l selected r (k + 1) (used + item_rows i) items
 
 -- so many items from one on

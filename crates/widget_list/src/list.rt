@@ -6,8 +6,8 @@ ghost use Rattle.std.specs.Iterator.{IsFinite, Drains};
 ghost use Rattle.ratatui_core.specs.Widgets.{ChangesWithin};
 ghost use Rattle.rtui_drawing.specs.Drawings.{draw_if, put_style, DrawsAll, IsDone};
 ghost use Rattle.widget_list.specs.Windows.{item_rows, Fit};
-ghost use Rattle.widget_list.specs.Items.{is_marked, has_mark_columns, mark_columns, item_cut, mark_drawing};
-ghost use Rattle.widget_list.specs.Items.{marks_drawing, highlight_drawing, item_drawing, list_drawing, ShowsList};
+ghost use Rattle.widget_list.specs.Items.{is_marked, has_mark_columns, free_columns, item_cut, symbol_or_blanks};
+ghost use Rattle.widget_list.specs.Items.{marks_drawing, highlight_and_symbol, item_drawing, list_drawing, ShowsList};
 ghost use Rattle.widget_list.specs.Items.{IsNewList, HasShortItems, raw_item, IsNextListState};
 ghost use Rattle.widget_list.specs.Settled.{SettlesList, settled_list};
 ghost use Rattle.widget_list.specs.declared.item.ListItem.{ListItem as ItemData};
@@ -298,8 +298,8 @@ impl<'a> List<'a> {
     }
 
     // How many columns stay free for the symbol.
-    fn mark_columns(&self, is_selected: bool, area: Rect) -> u16
-        ensures { result ≡ mark_columns self.now is_selected area }
+    fn free_columns(&self, is_selected: bool, area: Rect) -> u16
+        ensures { result ≡ free_columns self.now is_selected area }
     {
         let has_columns = self.highlight_spacing.has_columns(is_selected);
         match &self.highlight_symbol {
@@ -317,7 +317,7 @@ impl<'a> List<'a> {
 
     // Draws the symbol in its columns of a row of the selected item, or blanks.
     fn draw_mark(&self, is_marked: bool, row: Rect, buf: &mut Buffer) -> Result<(), AllocError>
-        ensures { let d = mark_drawing self.now.highlight_symbol is_marked in
+        ensures { let d = symbol_or_blanks self.now.highlight_symbol is_marked in
             IsDone d row result buf.old buf.new }
     {
         if !is_marked {
@@ -364,7 +364,7 @@ impl<'a> List<'a> {
         part: Rect,
         buf: &mut Buffer,
     ) -> Result<(), AllocError>
-        ensures { let d = highlight_drawing self.now is_selected mark part.height in
+        ensures { let d = highlight_and_symbol self.now is_selected mark part.height in
             IsDone d part result buf.old buf.new }
     {
         self.highlight_if(is_selected, part, buf);
@@ -407,7 +407,7 @@ impl<'a> List<'a> {
         ensures { let d = list_drawing self.now selected offset count inner in
             IsDone d inner result buf.old buf.new }
     {
-        let mark = self.mark_columns(selected.is_some(), inner);
+        let mark = self.free_columns(selected.is_some(), inner);
         let items = self.items.as_slice();
         let mut used = 0;
         for k in offset..offset + count {

@@ -19,7 +19,7 @@ use Rattle.widget_scrollbar.specs.{declared.scrollbar.state.ScrollbarState.Scrol
 use Rattle.widget_scrollbar.specs.{declared.scrollbar.ScrollbarOrientation.ScrollbarOrientation}
 use Rattle.widget_scrollbar.specs.declared.scrollbar.ScrollbarOrientation.TheVariants.{VerticalRight, VerticalLeft}
 use Rattle.widget_scrollbar.specs.declared.scrollbar.ScrollbarOrientation.TheVariants.{HorizontalBottom, HorizontalTop}
-use Rattle.widget_scrollbar.specs.Scrollbars.{bar_cut, bar_area, bar_length, is_upright, track_length, mark_of, marks_of, marked}
+use Rattle.widget_scrollbar.specs.Scrollbars.{side_cut, bar_area, bar_length, is_upright, track_length, mark_of, marks_of, marked}
 use Rattle.widget_scrollbar.specs.Scrollbars.{marked_cell, position_on_bar, place_on_bar, bar_symbols, PaintsIfSymbol, PaintsMarks}
 use Rattle.widget_scrollbar.specs.Scrollbars.{IsOneColumn, IfSymbol, EachSymbol, MarksBar, RendersScrollbar}
 use Rattle.widget_scrollbar.specs.Inner.{StandsIn}
@@ -88,7 +88,7 @@ bar-fits HorizontalTop r box = let h = box.rows in let d = box.down in record { 
 pub bar-stands : (b : Scrollbar) (s : ScrollbarState) (r : Rect) → IsBoxArea r
     → StandsIn (marks_of b s r) (bar_length b.orientation r) r
 bar-stands b s r box = λ k lt.
-    cut-inside (bar_cut b.orientation r) r (position_on_bar (marks_of b s r) k)
+    cut-inside (side_cut b.orientation r) r (position_on_bar (marks_of b s r) k)
     (stands-has (is_upright b.orientation) (bar_area b.orientation r) (bar_length b.orientation r) k
     (bar-fits b.orientation r box) (bar-is b.orientation r box) lt)
 

@@ -86,14 +86,14 @@ pub record HasSymbols (o : ScrollbarOrientation) (old new : Scrollbar) : Type 0 
   pub value : new ≡ record (with_bar_symbols set old) { orientation = o }
 
 -- where a bar stands: the row or the column at its side of an area
-abbrev pub bar_cut : ScrollbarOrientation → Rect → Cut
-bar_cut VerticalRight r = Last 1
-bar_cut VerticalLeft r = First 1
-bar_cut HorizontalBottom r = Rows (r.height - 1) 1
-bar_cut HorizontalTop r = Rows 0 1
+abbrev pub side_cut : ScrollbarOrientation → Rect → Cut
+side_cut VerticalRight r = Last 1
+side_cut VerticalLeft r = First 1
+side_cut HorizontalBottom r = Rows (r.height - 1) 1
+side_cut HorizontalTop r = Rows 0 1
 
 abbrev pub bar_area : ScrollbarOrientation → Rect → Rect
-bar_area o r = cut_from (bar_cut o r) r
+bar_area o r = cut_from (side_cut o r) r
 
 -- how many cells it has
 abbrev pub bar_length : ScrollbarOrientation → Rect → ℕ

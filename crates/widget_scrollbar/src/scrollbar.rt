@@ -7,7 +7,7 @@ ghost use Rattle.ratatui_core.specs.Widgets.{ChangesWithin};
 ghost use Rattle.widget_boxes.specs.Boxes.{IsBoxArea};
 ghost use Rattle.widget_scrollbar.specs.declared.scrollbar.ScrollbarOrientation.TheVariants.{VerticalRight};
 ghost use Rattle.widget_scrollbar.specs.Scrollbars.{IsNewScrollbar, HasSymbols, IsSetFor, with_bar_symbols};
-ghost use Rattle.widget_scrollbar.specs.Scrollbars.{is_upright, bar_cut, bar_length};
+ghost use Rattle.widget_scrollbar.specs.Scrollbars.{is_upright, side_cut, bar_length};
 ghost use Rattle.widget_scrollbar.specs.Scrollbars.{track_length, marks_of, mark_of, position_on_bar};
 ghost use Rattle.widget_scrollbar.specs.Scrollbars.{PaintsSymbolIn, PaintsMark, PaintsMarks, EachSymbol};
 ghost use Rattle.widget_scrollbar.specs.Inner.{StandsIn};
@@ -212,8 +212,8 @@ impl<'a> Scrollbar<'a> {
     }
 
     // Where the bar stands: the row or the column at its side of an area.
-    fn bar_cut(&self, area: Rect) -> Cut
-        ensures { result ≡ bar_cut self.now.orientation area }
+    fn side_cut(&self, area: Rect) -> Cut
+        ensures { result ≡ side_cut self.now.orientation area }
     {
         match self.orientation {
             ScrollbarOrientation::VerticalRight => Cut::Last(1),
@@ -263,7 +263,7 @@ impl<'a> Scrollbar<'a> {
         let (thumb, length) = state.thumb(track, self.length(area));
         Marks {
             is_vertical: self.orientation.is_vertical(),
-            area: self.bar_cut(area).of(area),
+            area: self.side_cut(area).of(area),
             track: begin,
             thumb: begin + thumb,
             after_thumb: begin + thumb + length,
