@@ -14,7 +14,7 @@ use Rattle.widget_list.specs.{declared.list.List.List as ListData, declared.list
 use Rattle.widget_list.specs.declared.list.ListDirection.TheVariants.{TopToBottom, BottomToTop}
 use Rattle.widget_list.specs.{declared.item.ListItem.ListItem, Windows.item_rows, Windows.rows_before, Windows.Fit}
 use Rattle.widget_list.specs.Items.{item_cut, symbol_or_blanks, marks_drawing, is_marked, item_drawing, items_drawing, list_drawing}
-use Rattle.widget_list.specs.Items.{is_selected_at, free_columns, at_most, IsShortItem, HasShortItems}
+use Rattle.widget_list.specs.Items.{is_selected_at, columns_kept_free, at_most, IsShortItem, HasShortItems}
 use Rattle.widget_list.proofs.WindowLemmas.{rows-next, rows-grow}
 
 -- one row more
@@ -88,7 +88,7 @@ module _ (s : BufferData) (l : ListData) (short : IfSome l.highlight_symbol IsSh
       → IsShortDrawing s.area (items_drawing l selected r k used items) r
   items-short selected r k used [] all = tt
   items-short selected r k used (i ∷ items) all = (
-    item-short (is_selected_at selected k) (free_columns l (is_some selected) r) i _ (All-head IsShortItem i items all),
+    item-short (is_selected_at selected k) (columns_kept_free l (is_some selected) r) i _ (All-head IsShortItem i items all),
     items-short selected r (k + 1) (used + item_rows i) items (All-tail IsShortItem i items all),
   )
 

@@ -14,7 +14,7 @@ use Rattle.rtui_drawing.proofs.{Laws.IsNarrowDrawing, DrawingLemmas.if-narrow, D
 use Rattle.widget_list.specs.{declared.list.List.List as ListData, declared.item.ListItem.ListItem}
 use Rattle.widget_list.specs.{declared.state.ListState.ListState, Windows.item_rows}
 use Rattle.widget_list.specs.Items.{symbol_or_blanks, marks_drawing, is_marked, item_drawing, items_drawing, list_drawing}
-use Rattle.widget_list.specs.Items.{is_selected_at, free_columns, HasNarrowItems, ShowsList, RendersList}
+use Rattle.widget_list.specs.Items.{is_selected_at, columns_kept_free, HasNarrowItems, ShowsList, RendersList}
 
 mark-narrow : (symbol : Option LineData) (t : Bool) → IfSome symbol (EachLineGrapheme TakesOneColumn)
     → IsNarrowDrawing (symbol_or_blanks symbol t)
@@ -50,7 +50,7 @@ module _ (l : ListData) (narrow : HasNarrowItems l) where
       → IsNarrowDrawing (items_drawing l selected r k used items)
   items-narrow selected r k used [] all = tt
   items-narrow selected r k used (i ∷ items) all = (
-    item-narrow (is_selected_at selected k) (free_columns l (is_some selected) r) i (All-head IsNarrowItem i items all),
+    item-narrow (is_selected_at selected k) (columns_kept_free l (is_some selected) r) i (All-head IsNarrowItem i items all),
     items-narrow selected r (k + 1) (used + item_rows i) items (All-tail IsNarrowItem i items all),
   )
 

@@ -49,8 +49,8 @@ abbrev pub mark_width : Option LineData → Rect → ℕ
 mark_width symbol r = min (columns_of_mark symbol) r.width
 
 -- how many stay free for it
-abbrev pub free_columns : ListData → Bool → Rect → ℕ
-free_columns l is_selected r =
+abbrev pub columns_kept_free : ListData → Bool → Rect → ℕ
+columns_kept_free l is_selected r =
     if has_mark_columns l.highlight_spacing is_selected then mark_width l.highlight_symbol r else 0
 
 -- where an item stands that takes so many rows, after others that take so many
@@ -102,7 +102,7 @@ abbrev pub items_drawing : ListData → Option ℕ → Rect → ℕ → ℕ → 
 items_drawing l selected r k used [] = nothing
 items_drawing l selected r k used (i ∷ items) =
     over (item_cut l.direction r used (item_rows i))
-    (item_drawing l (is_selected_at selected k) (free_columns l (is_some selected) r) i)
+    (item_drawing l (is_selected_at selected k) (columns_kept_free l (is_some selected) r) i)
     before items_drawing l selected r (k + 1) (used + item_rows i) items
 
 -- so many items from one on

@@ -6,7 +6,7 @@ ghost use Rattle.std.specs.Iterator.{IsFinite, Drains};
 ghost use Rattle.ratatui_core.specs.Widgets.{ChangesWithin};
 ghost use Rattle.rtui_drawing.specs.Drawings.{draw_if, put_style, DrawsAll, IsDone};
 ghost use Rattle.widget_list.specs.Windows.{item_rows, Fit};
-ghost use Rattle.widget_list.specs.Items.{is_marked, has_mark_columns, free_columns, item_cut, symbol_or_blanks};
+ghost use Rattle.widget_list.specs.Items.{is_marked, has_mark_columns, columns_kept_free, item_cut, symbol_or_blanks};
 ghost use Rattle.widget_list.specs.Items.{marks_drawing, highlight_and_symbol, item_drawing, list_drawing, ShowsList};
 ghost use Rattle.widget_list.specs.Items.{IsNewList, HasShortItems, raw_item, IsNextListState};
 ghost use Rattle.widget_list.specs.Settled.{SettlesList, settled_list};
@@ -298,8 +298,8 @@ impl<'a> List<'a> {
     }
 
     // How many columns stay free for the symbol.
-    fn free_columns(&self, is_selected: bool, area: Rect) -> u16
-        ensures { result ≡ free_columns self.now is_selected area }
+    fn columns_kept_free(&self, is_selected: bool, area: Rect) -> u16
+        ensures { result ≡ columns_kept_free self.now is_selected area }
     {
         let has_columns = self.highlight_spacing.has_columns(is_selected);
         match &self.highlight_symbol {
@@ -407,7 +407,7 @@ impl<'a> List<'a> {
         ensures { let d = list_drawing self.now selected offset count inner in
             IsDone d inner result buf.old buf.new }
     {
-        let mark = self.free_columns(selected.is_some(), inner);
+        let mark = self.columns_kept_free(selected.is_some(), inner);
         let items = self.items.as_slice();
         let mut used = 0;
         for k in offset..offset + count {

@@ -40,7 +40,7 @@ returns-in_err-draw_item c =
     let cut = item_cut c.args.self.now.direction c.args.inner c.loop-k.used c.height-rows.result in
     let selected = c.eq.ensures ∙ selected-by c.args.selected c.loop-k.k in
     continues-stop _ c.from_residual.ensures.0 (rw next at c.loop-k.invariant.rest)
-    (rw (c.height-rows.ensures, c.free_columns-mark.ensures, c.is_some.ensures, selected) at
+    (rw (c.height-rows.ensures, c.columns_kept_free-mark.ensures, c.is_some.ensures, selected) at
     (done-in cut (cut_from cut c.args.inner) _ (rw (c.of-part.ensures, c.item_cut.ensures) at c.in_err-draw_item.ensures) refl))
 
 pub loop-k-preserved : goal.loop-k-preserved
@@ -55,7 +55,7 @@ loop-k-preserved c =
     record {
       used = omega (arith, more, c.height-rows.ensures);
       rest = rw c.height-rows.ensures (continues-next (rw next at c.loop-k.invariant.rest)
-          (rw (c.height-rows.ensures, c.free_columns-mark.ensures, c.is_some.ensures, selected) at
+          (rw (c.height-rows.ensures, c.columns_kept_free-mark.ensures, c.is_some.ensures, selected) at
           (done-in cut (cut_from cut c.args.inner) _ (rw (c.of-part.ensures, c.item_cut.ensures) at c.in_ok-draw_item.ensures) refl)));
     }
 
