@@ -10,7 +10,8 @@ use Rattle.widget_list.specs.{declared.list.List.List as ListData, declared.item
 use Rattle.widget_list.specs.{declared.state.ListState.ListState}
 use Rattle.widget_list.specs.Items.{RendersList}
 use Rattle.widget_list.specs.Settled.{settled_inside, next_list_state, settled_list}
-use Rattle.widget_list.proofs.SettledLemmas.{next-twice, first-state-stays, settles-one, rendering-settles}
+use Rattle.widget_list.proofs.SettledLemmas.{next-twice, first-state-stays, list-leads}
+use Rattle.widget_list.proofs.SettledFrameLemmas.{settles-one, rendering-settles}
 use Rattle.chooser.specs.declared.chooser.Chooser.{Chooser}
 use Rattle.chooser.specs.Choosing.{planet_items, IsPlanetList, new_chooser, settled_chooser, chooser_after, chooser_by_event, chooser_at_size}
 use Rattle.chooser.specs.Choosing.{PaintsPlanets, ShowsPlanets}
@@ -69,8 +70,8 @@ pub frame-of-state : (c : Chooser) (area : Rect) (old new : BufferData) → sett
 frame-of-state c area old new settled at paints =
     let l = paints.list in
     let left : paints.after ≡ settled_list l (intersected area old.area) c.list =
-    settles-one l (intersected area old.area) c.list paints.after
-    (rendering-settles l c.list paints.after area old new paints.renders) in
+    settles-one l.style l.block (list-leads l) (intersected area old.area) c.list paints.after
+    (rendering-settles l.style l.block (list-leads l) c.list paints.after area old new paints.renders) in
     let same : paints.after ≡ c.list =
     left ∙ ap (λ a. settled_list l a c.list) at ∙ planets-settle l c.area c.list paints.is_list
     ∙ ap (λ (d : Chooser). d.list) settled in

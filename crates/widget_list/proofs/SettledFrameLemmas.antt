@@ -93,3 +93,46 @@ settled-again o g area s t again is = record {
   none = λ _. refl;
   inside = λ wide high. again (inner_if o area) (is.inside wide high);
 }
+
+-- what a widget shows leads to a next state, which is one state and its own next one; and what it shows of a
+-- state it shows of the next one
+pub record LeadsOn {S : Type 0} (f : S → S → Rect → BufferData → BufferData → Type 0) (g : Rect → S → S → Type 0)
+    (next : Rect → S → S) : Type 0 where
+  pub leads : (s t : S) (r : Rect) (a b : BufferData) → f s t r a b → g r s t
+  pub one : (s t : S) (r : Rect) → g r s t → t ≡ next r s
+  pub made : (s : S) (r : Rect) → g r s (next r s)
+  pub again : (s t : S) (r : Rect) → g r s t → g r t t
+  pub shown : (s t : S) (r : Rect) (a b : BufferData) → f s t r a b → f t t r a b
+
+module _ {S : Type 0} (style : Style) (o : Option Block) {f : S → S → Rect → BufferData → BufferData → Type 0}
+    {g : Rect → S → S → Type 0} {next : Rect → S → S} (on : LeadsOn f g next) where
+  pub settles-one : (area : Rect) (s t : S) → SettlesInside o g area s t → t ≡ settled_inside o next area s
+  settles-one area s t = settled-one o g next area s t (λ r. on.one s t r)
+
+  again-one : (area : Rect) (s t : S) → SettlesInside o g area s t → t ≡ settled_inside o next area t
+  again-one area s t is = settles-one area t t (settled-again o g area s t (λ r. on.again s t r) is)
+
+  -- settling twice is settling once
+  pub settled-twice : (area : Rect) (s : S) → settled_inside o next area (settled_inside o next area s) ≡ settled_inside o next area s
+  settled-twice area s = sym (again-one area s (settled_inside o next area s) (settled-is o g next area s (λ r. on.made s r)))
+
+  -- what a rendering leaves is settled
+  pub rendering-settles : (s t : S) (area : Rect) (old new : BufferData) → RendersStateInFrame style o f s t area old new
+      → SettlesInside o g (intersected area old.area) s t
+  rendering-settles s t area old new = frame-settles style o f g s t area old new (λ r a b. on.leads s t r a b)
+
+  -- a rendering of a settled state leaves it
+  pub settled-stays : (s t u : S) (area : Rect) (old new : BufferData) → SettlesInside o g (intersected area old.area) s t
+      → RendersStateInFrame style o f t u area old new → u ≡ t
+  settled-stays s t u area old new is renders =
+      let part = intersected area old.area in
+      settles-one part t u (rendering-settles t u area old new renders) ∙ sym (again-one part s t is)
+
+  -- and it shows what a rendering of the state before shows
+  pub settled-shows : (s t u : S) (area : Rect) (old new : BufferData) → SettlesInside o g (intersected area old.area) s t
+      → RendersStateInFrame style o f s u area old new → RendersStateInFrame style o f t t area old new
+  settled-shows s t u area old new is renders =
+      let part = intersected area old.area in
+      let same : u ≡ t = settles-one part s u (rendering-settles s u area old new renders) ∙ sym (settles-one part s t is) in
+      subst (λ (v : S). RendersStateInFrame style o f v v area old new) same
+      (frame-settled style o f g s u area old new (λ r a b. on.shown s u r a b) renders)

@@ -1,5 +1,5 @@
 -- The selected item is one of those that are shown.
-use Rattle.std.proofs.Common.{◌≡◌, ℕ, zero, suc, ◌+◌, ◌-◌, ◌<◌, ◌≤◌, ⊎_elim, inl, inr, min, List, [], ◌∷◌, length, Option, Some}
+use Rattle.std.proofs.Common.{◌≡◌, ℕ, zero, suc, ◌+◌, ◌-◌, ◌<◌, ◌≤◌, ⊎_elim, min, List, [], ◌∷◌, length, Option, Some}
 use Rattle.std.proofs.Common.{None, refl, sym, ap, ◌∙◌, arith}
 use Rattle.std.proofs.lemmas.Bool.{cases_lt}
 use Rattle.ratatui_core.specs.{Layout.Rect, Buffer.BufferData}
@@ -8,7 +8,7 @@ use Rattle.widget_list.specs.{declared.state.ListState.ListState}
 use Rattle.widget_list.specs.Windows.{rows_before, Fit, IsCount, IsPadding, IsScrolled, first_kept, last_kept}
 use Rattle.widget_list.specs.Windows.{last_item}
 use Rattle.widget_list.specs.Items.{ShowsList, at_most}
-use Rattle.widget_list.proofs.WindowLemmas.{rows-grow}
+use Rattle.widget_list.proofs.{WindowLemmas.rows-grow, SettledLemmas.begins-early, SettledLemmas.begins-over}
 
 -- an item lies among others, which all fit
 record IsAround (items : List ListItem) (height selected first last : ℕ) : Type 0 where
@@ -21,45 +21,20 @@ module _ (items : List ListItem) (height selected first last was begins : ℕ) (
     (scrolled : IsScrolled items height first last was begins) where
   begins-before : begins ≤ selected
   begins-before =
-      let before = around.before in let fits = around.fits in
-      ⊎_elim (λ (far : last < was). let e = scrolled.up (inl far) in omega arith)
-      (λ (near : was ≤ last).
-      ⊎_elim
-      (λ (lacks : rows_before items was + height < rows_before items (last + 1)).
-      let is = scrolled.down near lacks in
-      ⊎_elim
-      (λ (late : selected < begins).
-      ⊎_elim
-      (λ (here : selected < was). let le = rows-grow items first was (omega arith) in omega arith)
-      (λ (there : was ≤ selected). let no = is.nearest selected there late in let le = rows-grow items first selected before in
-      omega arith)
-      (cases_lt selected was))
-      (λ (least : begins ≤ selected). least)
-      (cases_lt selected begins))
-      (λ (is_fit : rows_before items (last + 1) ≤ rows_before items was + height). let e = scrolled.up (inr is_fit) in
-      omega arith)
-      (cases_lt (rows_before items was + height) (rows_before items (last + 1))))
-      (cases_lt last was)
+      let before = around.before in
+      let early = begins-early items height first last was begins (let after = around.after in omega arith) (λ _. around.fits) scrolled in
+      omega arith
 
   fits-from : Fit items height begins (last + 1)
   fits-from =
       let before = around.before in let after = around.after in let fits = around.fits in
-      ⊎_elim (λ (far : last < was). let e = scrolled.up (inl far) in let same : begins ≡ first = omega arith in rw same fits)
-      (λ (near : was ≤ last).
+      let order : first ≤ last = omega arith in
       ⊎_elim
-      (λ (lacks : rows_before items was + height < rows_before items (last + 1)).
-      let is = scrolled.down near lacks in
-      ⊎_elim is.fits
-      (λ (end : last ≤ begins).
-      let least = begins-before in let le = rows-grow items first begins (omega arith) in omega arith)
-      (cases_lt begins last))
-      (λ (is_fit : rows_before items (last + 1) ≤ rows_before items was + height).
-      let e = scrolled.up (inr is_fit) in
-      ⊎_elim (λ (less : first < was). let same : begins ≡ first = omega arith in rw same fits)
-      (λ (more : was ≤ first). let same : begins ≡ was = omega arith in rw same is_fit)
-      (cases_lt first was))
-      (cases_lt (rows_before items was + height) (rows_before items (last + 1))))
-      (cases_lt last was)
+      (λ (over : rows_before items begins + height < rows_before items (last + 1)).
+      let at = begins-over items height first last was begins order (λ _. fits) scrolled over in
+      let grow = rows-grow items first begins (omega arith) in absurd (omega arith))
+      (λ (fit : rows_before items (last + 1) ≤ rows_before items begins + height). fit)
+      (cases_lt (rows_before items begins + height) (rows_before items (last + 1)))
 
   shown-from : (count : ℕ) → IsCount items height begins count → (begins ≤ selected) × (selected < begins + count)
   shown-from count is =
@@ -98,7 +73,7 @@ shows-selected items l s t r old new selected same chosen some fit shows =
     let least = cut-least (last_item l.items.items) s.selected selected (sym (shows.state.selected some) ∙ chosen) in
     let keeps = rw chosen at (shows.state.offset some) in
     let around = kept-around l.items.items r.height l.scroll_padding selected keeps.padding (omega arith) fit keeps.is_padding in
-    shown-from l.items.items r.height selected _ _ _ t.offset around keeps.scrolled shows.count (shows.is_count some)
+    shown-from l.items.items r.height selected _ _ _ t.offset around keeps.scrolled shows.count shows.is_count
 
 -- the selected item is shown, if it fits
 pub selected-shown : (l : ListData) (s t : ListState) (r : Rect) (old new : BufferData) (selected : ℕ)

@@ -1,20 +1,22 @@
 -- What a list makes of a buffer and of its state.
-use Rattle.std.specs.Prelude.{◌≡◌, ℕ, Bool, true, false, ◌+◌, ◌-◌, ◌<◌, ◌==◌, ◌&&◌, ◌||◌, min, List, []}
-use Rattle.std.specs.Prelude.{length, codes, Option, Some, None, IfSome}
-use Rattle.std.specs.Prelude.{is_some, if◌then◌else◌, slice_index_or, All}
+use Rattle.std.specs.Prelude.{◌≡◌, ℕ, zero, suc, Bool, true, false, ◌+◌, ◌-◌, ◌<◌, ◌==◌, ◌&&◌, ◌||◌, ⊤, nat_lt, min}
+use Rattle.std.specs.Prelude.{List, [], ◌∷◌, length, take, drop, codes, Option, Some, None, IfSome, is_some}
+use Rattle.std.specs.Prelude.{if◌then◌else◌, All}
 use Rattle.ratatui_core.specs.{Layout.Rect, Style.new_style, Style.patch}
-use Rattle.ratatui_core.specs.Text.{LineData, raw_text, text_of, line_width, TakesOneColumn, EachLineGrapheme}
+use Rattle.ratatui_core.specs.Text.{LineData, raw_text, line_width, TakesOneColumn, EachLineGrapheme}
 use Rattle.ratatui_core.specs.Text.{EachTextGrapheme}
-use Rattle.ratatui_core.specs.Buffer.{BufferData, Cell, with_symbol, IsStyled, ChangesEach, MakesParts}
-use Rattle.ratatui_core.specs.Widgets.{RendersText, RendersShortText}
-use Rattle.widget_boxes.specs.Framed.{RendersStateInFrame, IsShortFrame}
-use Rattle.widget_boxes.specs.{Titles.DoesIf, Lines.RendersIfLine, Lines.IsShortTitle}
+use Rattle.ratatui_core.specs.{Buffer.BufferData, Buffer.Cell, Buffer.with_symbol, Widgets.RendersShortText}
+use Rattle.widget_boxes.specs.{Framed.RendersStateInFrame, Framed.IsShortFrame, Lines.IsShortTitle}
+use Rattle.rtui_drawing.specs.declared.cut.Cut.{Cut}
+use Rattle.rtui_drawing.specs.declared.cut.Cut.TheVariants.{First, After, Rows}
+use Rattle.rtui_drawing.specs.Drawings.{Drawing, nothing, over, ◌before◌, draw_if, put_style, put_line, put_text}
+use Rattle.rtui_drawing.specs.Drawings.{put_change, DrawsAll}
 use Rattle.widget_list.specs.{declared.list.List.List as ListData, declared.list.ListDirection.ListDirection}
 use Rattle.widget_list.specs.declared.list.ListDirection.TheVariants.{TopToBottom, BottomToTop}
 use Rattle.widget_list.specs.declared.list.HighlightSpacing.{HighlightSpacing}
 use Rattle.widget_list.specs.declared.list.HighlightSpacing.TheVariants.{Always, WhenSelected, Never}
 use Rattle.widget_list.specs.{declared.item.ListItem.ListItem, declared.state.ListState.ListState}
-use Rattle.widget_list.specs.Windows.{item_rows, rows_before, IsCount, IsOffset, last_item}
+use Rattle.widget_list.specs.Windows.{item_rows, IsCount, IsOffset, last_item}
 
 -- an item of a plain text, without a style of its own
 abbrev pub raw_item : List ℕ → ListItem
@@ -46,78 +48,67 @@ columns_of_mark (Some line) = line_width line.spans
 abbrev pub mark_width : Option LineData → Rect → ℕ
 mark_width symbol r = min (columns_of_mark symbol) r.width
 
--- these columns
-abbrev pub mark_part : Option LineData → Rect → Rect
-mark_part symbol r = record r { width = mark_width symbol r }
+-- how many stay free for it
+abbrev pub columns_kept_free : ListData → Bool → Rect → ℕ
+columns_kept_free l is_selected r =
+    if has_mark_columns l.highlight_spacing is_selected then mark_width l.highlight_symbol r else 0
 
 -- where an item stands that takes so many rows, after others that take so many
-abbrev pub item_part : ListDirection → Rect → ℕ → ℕ → Rect
-item_part TopToBottom r used rows = record r { y = r.y + used; height = rows }
-item_part BottomToTop r used rows = record r { y = r.y + (r.height - used - rows); height = rows }
-
--- a part without its first columns
-abbrev pub without_columns : ℕ → Rect → Rect
-without_columns n r = record r { x = r.x + n; width = r.width - n }
-
--- a row of a part
-abbrev pub part_row : Rect → ℕ → Rect
-part_row r j = record r { y = r.y + j; height = 1 }
+abbrev pub item_cut : ListDirection → Rect → ℕ → ℕ → Cut
+item_cut TopToBottom r used rows = Rows used rows
+item_cut BottomToTop r used rows = Rows (r.height - used - rows) rows
 
 -- a cell with a blank, in the style that it has
 abbrev pub left_blank : Cell → Cell
 left_blank = with_symbol (codes " ")
 
 -- in a symbol's columns of a row the symbol, in its own styles over what stands there, or blanks
-abbrev pub MarksRow : Option LineData → Bool → Rect → BufferData → BufferData → Type 0
-MarksRow symbol true r = RendersIfLine symbol (mark_part symbol r)
-MarksRow symbol false r = ChangesEach (mark_part symbol r) (λ _. left_blank)
+abbrev pub symbol_or_blanks : Option LineData → Bool → Drawing
+symbol_or_blanks symbol false = put_change (λ _. left_blank) (λ _ _. ⊤)
+symbol_or_blanks None true = nothing
+symbol_or_blanks (Some line) true = put_line line
 
 -- the symbol stands in a row of an item: in the first one of the selected one, or in each
 abbrev pub is_marked : ListData → Bool → ℕ → Bool
 is_marked l is_selected j = is_selected && ((j == 0) || l.repeat_highlight_symbol)
 
--- the symbol or blanks in each row of an item
-abbrev pub MarksRows : ListData → Bool → Rect → BufferData → BufferData → Type 0
-MarksRows l is_selected r = MakesParts r.height (part_row r)
-    (λ j. MarksRow l.highlight_symbol (is_marked l is_selected j) (part_row r j))
+-- the symbol or blanks in so many rows of an item, from one on
+abbrev pub marks_drawing : ListData → Bool → ℕ → ℕ → Drawing
+marks_drawing l is_selected j zero = nothing
+marks_drawing l is_selected j (suc more) =
+    over (Rows j 1) (symbol_or_blanks l.highlight_symbol (is_marked l is_selected j))
+    before marks_drawing l is_selected (j + 1) more
 
--- An item over its part: its style over the list's, its text beside the symbol's columns, the highlight if it
--- is selected, and over it the symbol.
-pub record RendersItem (l : ListData) (i : ListItem) (is_selected has_columns : Bool) (r : Rect)
-    (old new : BufferData) : Type 0 where
-  pub laid : BufferData
-  pub texted : BufferData
-  pub lit : BufferData
-  pub style : IsStyled r (patch l.style i.style) old laid
-  pub text : RendersText i.content
-      (without_columns (if has_columns then mark_width l.highlight_symbol r else 0) r) laid texted
-  pub highlight : DoesIf is_selected (IsStyled r l.highlight_style) texted lit
-  pub marks : DoesIf has_columns (MarksRows l is_selected r) lit new
+-- over an item of so many rows: the highlight if it is selected, and the symbol in its columns
+abbrev pub highlight_and_symbol : ListData → Bool → ℕ → ℕ → Drawing
+highlight_and_symbol l is_selected n rows =
+    draw_if is_selected (put_style l.highlight_style)
+    before draw_if (nat_lt 0 n) (over (First n) (marks_drawing l is_selected 0 rows))
+
+-- an item beside so many columns of the symbol: its style over the list's, its text, and what stands over it
+abbrev pub item_drawing : ListData → Bool → ℕ → ListItem → Drawing
+item_drawing l is_selected n i =
+    put_style (patch l.style i.style)
+    before over (After n) (put_text i.content)
+    before highlight_and_symbol l is_selected n (item_rows i)
 
 -- the number is the one that is selected
 abbrev pub is_selected_at : Option ℕ → ℕ → Bool
 is_selected_at None k = false
 is_selected_at (Some selected) k = selected == k
 
-abbrev pub nth_item : ListData → ℕ → ListItem
-nth_item l k = slice_index_or l.items.items k (record { content = text_of []; style = new_style })
+-- items one after the other, the first of them of this number, after others that take so many rows
+abbrev pub items_drawing : ListData → Option ℕ → Rect → ℕ → ℕ → List ListItem → Drawing
+items_drawing l selected r k used [] = nothing
+items_drawing l selected r k used (i ∷ items) =
+    over (item_cut l.direction r used (item_rows i))
+    (item_drawing l (is_selected_at selected k) (columns_kept_free l (is_some selected) r) i)
+    before items_drawing l selected r (k + 1) (used + item_rows i) items
 
--- where an item stands in a list that begins with another one
-abbrev pub part_of_item : ListData → Rect → ℕ → ℕ → Rect
-part_of_item l r offset k =
-    item_part l.direction r (rows_before l.items.items (offset + k) - rows_before l.items.items offset)
-    (item_rows (nth_item l (offset + k)))
-
--- how an item of it is shown, counted from there
-abbrev pub shown_as : ListData → Option ℕ → ℕ → Rect → ℕ → BufferData → BufferData → Type 0
-shown_as l selected offset r k =
-    RendersItem l (nth_item l (offset + k)) (is_selected_at selected (offset + k))
-    (has_mark_columns l.highlight_spacing (is_some selected)) (part_of_item l r offset k)
-
--- so many items from one on, each over its part, apart from each other; all else is as before
-abbrev pub ShowsItems : ListData → Option ℕ → ℕ → ℕ → Rect → BufferData → BufferData → Type 0
-ShowsItems l selected offset count r = MakesParts count (part_of_item l r offset)
-    (shown_as l selected offset r)
+-- so many items from one on
+abbrev pub list_drawing : ListData → Option ℕ → ℕ → ℕ → Rect → Drawing
+list_drawing l selected offset count r =
+    items_drawing l selected r offset 0 (take count (drop offset l.items.items))
 
 -- a number, but at most another one
 abbrev pub at_most : ℕ → Option ℕ → Option ℕ
@@ -151,14 +142,12 @@ pub record IsNextListState (l : ListData) (height : ℕ) (s t : ListState) : Typ
   pub offset : 0 < length l.items.items
       → IsOffset l.items.items height l.scroll_padding t.selected s.offset t.offset
 
--- the items of a list over an area, from the next state's first one on, as many as fit whole; without items
--- nothing is shown
+-- the items of a list over an area, from the next state's first one on, as many as fit whole
 pub record ShowsList (l : ListData) (s t : ListState) (r : Rect) (old new : BufferData) : Type 0 where
   pub state : IsNextListState l r.height s t
-  pub no_items : l.items.items ≡ [] → new ≡ old
   pub count : ℕ
-  pub is_count : 0 < length l.items.items → IsCount l.items.items r.height t.offset count
-  pub shown : 0 < length l.items.items → ShowsItems l t.selected t.offset count r old new
+  pub is_count : IsCount l.items.items r.height t.offset count
+  pub drawn : DrawsAll (list_drawing l t.selected t.offset count r) r old new
 
 -- a list in its style and its box, over the part of an area that a buffer has
 abbrev pub RendersList : ListData → ListState → ListState → Rect → BufferData → BufferData → Type 0

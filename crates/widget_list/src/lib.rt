@@ -1,7 +1,7 @@
 //! A list of items, of which one may be selected.
 //!
-//! It stands on `ratatui_core` and `widget_boxes`. `specs/Windows` says which items are shown,
-//! `specs/States` what selecting one makes of a state, and `specs/Items` what an item looks like
+//! It stands on `widget_boxes` and `rtui_drawing`. `specs/Windows` says which items are shown,
+//! `specs/States` what selecting one makes of a state, and `specs/Items` what is drawn of an item
 //! and what a list makes of a buffer and of its state.
 #![tactic(auto)]
 

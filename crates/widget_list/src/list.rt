@@ -1,30 +1,26 @@
 //! A list of items.
 
-ghost use Rattle.std.specs.Prelude.{◌≡◌, ◌==◌, ◌≤◌, ◌<◌, ◌+◌, if◌then◌else◌, Some, OnOk, OnErr, IsOk, IfOk};
-ghost use Rattle.std.specs.Prelude.{length, IfSome, true, map, List as Sequence};
+ghost use Rattle.std.specs.Prelude.{◌≡◌, ◌==◌, ◌≤◌, ◌+◌, Some, OnOk, OnErr, IsOk, IfOk, length, true, map};
+ghost use Rattle.std.specs.Prelude.{List as Sequence};
 ghost use Rattle.std.specs.Iterator.{IsFinite, Drains};
-ghost use Rattle.ratatui_core.specs.Layout.{IsInside};
 ghost use Rattle.ratatui_core.specs.Widgets.{ChangesWithin};
-ghost use Rattle.ratatui_core.specs.Buffer.{IsStyled};
-ghost use Rattle.widget_boxes.specs.Boxes.{IsBoxArea};
-ghost use Rattle.widget_boxes.specs.Titles.{DoesIf};
-ghost use Rattle.widget_boxes.specs.Lines.{RendersIfLine, IsShortTitle};
-ghost use Rattle.widget_list.specs.Windows.{Fit};
-ghost use Rattle.widget_list.specs.Items.{is_marked, has_mark_columns, mark_width, item_part};
-ghost use Rattle.widget_list.specs.Items.{MarksRow, MarksRows, RendersItem, ShowsItems, ShowsList};
-ghost use Rattle.widget_list.specs.Items.{IsNewList, IsShortItem, HasShortItems, raw_item};
-ghost use Rattle.widget_list.specs.Items.{IsNextListState};
+ghost use Rattle.rtui_drawing.specs.Drawings.{draw_if, put_style, DrawsAll, IsDone};
+ghost use Rattle.widget_list.specs.Windows.{item_rows, Fit};
+ghost use Rattle.widget_list.specs.Items.{is_marked, has_mark_columns, columns_kept_free, item_cut, symbol_or_blanks};
+ghost use Rattle.widget_list.specs.Items.{marks_drawing, highlight_and_symbol, item_drawing, list_drawing, ShowsList};
+ghost use Rattle.widget_list.specs.Items.{IsNewList, HasShortItems, raw_item, IsNextListState};
 ghost use Rattle.widget_list.specs.Settled.{SettlesList, settled_list};
 ghost use Rattle.widget_list.specs.declared.item.ListItem.{ListItem as ItemData};
 
 use crate::item::ListItem;
 use crate::state::ListState;
 use crate::window::{count_from, offset_for};
-use ratatui_core::buffer::{Buffer, Cell, CellChange, change_area};
+use ratatui_core::buffer::{Buffer, Cell, CellChange};
 use ratatui_core::layout::{Position, Rect};
 use ratatui_core::style::Style;
 use ratatui_core::text::Line;
-use ratatui_core::widgets::{StatefulWidget, Widget};
+use ratatui_core::widgets::StatefulWidget;
+use rtui_drawing::{Cut, put_change, put_line, put_style, put_text};
 use std::alloc::{AllocError, Global};
 use widget_boxes::{Block, cloned_block, cloned_line, inner_if, render_frame};
 
@@ -289,30 +285,26 @@ impl<'a> List<'a> {
     }
 
     // Where an item stands that takes so many rows, after so many others.
-    fn item_part(&self, inner: Rect, used: u16, rows: u16) -> Rect
-        requires some { IsBoxArea inner }
-        requires fits { used + rows ≤ inner.height }
-        ensures { result ≡ item_part self.now.direction inner used rows }
+    fn item_cut(&self, inner: Rect, used: u16, rows: u16) -> Cut
+        ensures { result ≡ item_cut self.now.direction inner used rows }
     {
-        let y = match self.direction {
-            ListDirection::TopToBottom => inner.y + used,
-            ListDirection::BottomToTop => inner.y + (inner.height - used - rows),
-        };
-        Rect {
-            y,
-            height: rows,
-            ..inner
+        match self.direction {
+            ListDirection::TopToBottom => Cut::Rows(used, rows),
+            ListDirection::BottomToTop => {
+                let above = inner.height.saturating_sub(used).saturating_sub(rows);
+                Cut::Rows(above, rows)
+            }
         }
     }
 
-    // How many columns of a part the symbol takes.
-    fn mark_width(&self, part: Rect) -> u16
-        ensures value { result ≡ mark_width self.now.highlight_symbol part }
-        ensures within { result ≤ part.width }
+    // How many columns stay free for the symbol.
+    fn columns_kept_free(&self, is_selected: bool, area: Rect) -> u16
+        ensures { result ≡ columns_kept_free self.now is_selected area }
     {
+        let has_columns = self.highlight_spacing.has_columns(is_selected);
         match &self.highlight_symbol {
-            Some(symbol) => symbol.width().min(usize::from(part.width)) as u16,
-            None => 0,
+            Some(symbol) if has_columns => symbol.width().min(usize::from(area.width)) as u16,
+            _ => 0,
         }
     }
 
@@ -323,136 +315,86 @@ impl<'a> List<'a> {
         is_selected && (j == 0 || self.repeat_highlight_symbol)
     }
 
-    // Renders the symbol over an area, if there is one.
-    fn render_symbol(&self, area: Rect, buf: &mut Buffer) -> Result<(), AllocError>
-        ensures within { ChangesWithin area buf.old buf.new }
-        ensures ok { OnOk result
-            (RendersIfLine self.now.highlight_symbol area buf.old buf.new) }
-        ensures short { IfSome self.now.highlight_symbol IsShortTitle → IsOk result }
+    // Draws the symbol in its columns of a row of the selected item, or blanks.
+    fn draw_mark(&self, is_marked: bool, row: Rect, buf: &mut Buffer) -> Result<(), AllocError>
+        ensures { let d = symbol_or_blanks self.now.highlight_symbol is_marked in
+            IsDone d row result buf.old buf.new }
     {
-        if let Some(symbol) = &self.highlight_symbol {
-            symbol.render(area, buf)?;
+        if !is_marked {
+            return put_change(&Blank, row, buf);
         }
-        Ok(())
-    }
-
-    // Renders the symbol in a row of the selected item, or blanks in its columns.
-    fn render_mark(&self, is_marked: bool, row: Rect, buf: &mut Buffer) -> Result<(), AllocError>
-        ensures within { ChangesWithin row buf.old buf.new }
-        ensures ok { OnOk result
-            (MarksRow self.now.highlight_symbol is_marked row buf.old buf.new) }
-        ensures short { IfSome self.now.highlight_symbol IsShortTitle → IsOk result }
-    {
-        let columns = Rect {
-            width: self.mark_width(row),
-            ..row
-        };
-        if is_marked {
-            return self.render_symbol(columns, buf);
-        }
-        change_area(buf, columns, &Blank)
-    }
-
-    // How many columns the symbol takes, if they stay free.
-    fn mark_columns(&self, has_columns: bool, part: Rect) -> u16
-        ensures value { let width = mark_width self.now.highlight_symbol part in
-            result ≡ (if has_columns then width else 0) }
-        ensures within { result ≤ part.width }
-    {
-        if has_columns {
-            self.mark_width(part)
-        } else {
-            0
+        match &self.highlight_symbol {
+            Some(symbol) => put_line(symbol, row, buf),
+            None => Ok(()),
         }
     }
 
-    // Renders the symbol or blanks in each row of an item, if their columns stay free.
-    fn render_marks_if(
+    // Draws the symbol or blanks in its columns of each row of an item.
+    fn draw_marks(
         &self,
-        has_columns: bool,
         is_selected: bool,
-        part: Rect,
+        columns: Rect,
         buf: &mut Buffer,
     ) -> Result<(), AllocError>
-        requires down { part.y + part.height ≤ 65535 }
-        ensures within { ChangesWithin part buf.old buf.new }
-        ensures ok { OnOk result
-            (DoesIf has_columns (MarksRows self.now is_selected part) buf.old buf.new) }
-        ensures short { IfSome self.now.highlight_symbol IsShortTitle → IsOk result }
+        ensures { let d = marks_drawing self.now is_selected 0 columns.height in
+            IsDone d columns result buf.old buf.new }
     {
-        if !has_columns {
-            return Ok(());
+        for j in 0..columns.height {
+            let is_marked = self.is_marked(is_selected, j);
+            self.draw_mark(is_marked, Cut::Rows(j, 1).of(columns), buf)?;
         }
-        self.render_marks(is_selected, part, buf)
+        Ok(())
     }
 
     // Lays the highlight's style over the selected item.
     fn highlight_if(&self, is_selected: bool, part: Rect, buf: &mut Buffer)
-        ensures within { ChangesWithin part buf.old buf.new }
-        ensures styled { DoesIf is_selected (IsStyled part self.now.highlight_style) buf.old buf.new }
+        ensures { let d = draw_if is_selected (put_style self.now.highlight_style) in
+            DrawsAll d part buf.old buf.new }
     {
         if is_selected {
-            buf.set_style(part, self.highlight_style);
+            put_style(self.highlight_style, part, buf);
         }
     }
 
-    // Renders the symbol or blanks in each row of an item.
-    fn render_marks(
+    // Draws what stands over the text of an item: the highlight if it is selected, and the symbol.
+    fn draw_highlight(
         &self,
         is_selected: bool,
+        mark: u16,
         part: Rect,
         buf: &mut Buffer,
     ) -> Result<(), AllocError>
-        requires down { part.y + part.height ≤ 65535 }
-        ensures within { ChangesWithin part buf.old buf.new }
-        ensures ok { OnOk result (MarksRows self.now is_selected part buf.old buf.new) }
-        ensures short { IfSome self.now.highlight_symbol IsShortTitle → IsOk result }
+        ensures { let d = highlight_and_symbol self.now is_selected mark part.height in
+            IsDone d part result buf.old buf.new }
     {
-        for j in 0..part.height {
-            let is_marked = self.is_marked(is_selected, j);
-            let row = Rect {
-                y: part.y + j,
-                height: 1,
-                ..part
-            };
-            self.render_mark(is_marked, row, buf)?;
+        self.highlight_if(is_selected, part, buf);
+        if mark == 0 {
+            return Ok(());
         }
-        Ok(())
+        self.draw_marks(is_selected, Cut::First(mark).of(part), buf)
     }
 
-    // Renders an item: its style, its text beside the symbol's columns, the highlight, and over it
-    // the symbol.
-    fn render_item(
+    // Draws an item beside so many columns of the symbol.
+    #[tactic(auto, using(rtui_drawing::proofs::DrawingLemmas::drawing_steps))]
+    fn draw_item(
         &self,
         item: &ListItem<'a>,
         is_selected: bool,
-        has_columns: bool,
+        mark: u16,
         part: Rect,
         buf: &mut Buffer,
     ) -> Result<(), AllocError>
-        requires across { part.x + part.width ≤ 65535 }
-        requires down { part.y + part.height ≤ 65535 }
-        ensures within { ChangesWithin part buf.old buf.new }
-        ensures ok { OnOk result
-            (RendersItem self.now item.now is_selected has_columns part buf.old buf.new) }
-        ensures short { let symbol = self.now.highlight_symbol in
-            IfSome symbol IsShortTitle → IsShortItem item.now → IsOk result }
+        requires { part.height ≡ item_rows item.now }
+        ensures { let d = item_drawing self.now is_selected mark item.now in
+            IsDone d part result buf.old buf.new }
     {
-        buf.set_style(part, self.style.patch(item.style));
-        let mark = self.mark_columns(has_columns, part);
-        let text = Rect {
-            x: part.x + mark,
-            width: part.width - mark,
-            ..part
-        };
-        (&item.content).render(text, buf)?;
-        self.highlight_if(is_selected, part, buf);
-        self.render_marks_if(has_columns, is_selected, part, buf)?;
-        Ok(())
+        put_style(self.style.patch(item.style), part, buf);
+        put_text(&item.content, Cut::After(mark).of(part), buf)?;
+        self.draw_highlight(is_selected, mark, part, buf)
     }
 
-    // Renders so many items from one on.
-    fn render_items(
+    // Draws so many items from one on, which fit.
+    fn draw_items(
         &self,
         selected: Option<usize>,
         offset: usize,
@@ -460,38 +402,31 @@ impl<'a> List<'a> {
         inner: Rect,
         buf: &mut Buffer,
     ) -> Result<(), AllocError>
-        requires some { IsBoxArea inner }
-        requires inside { IsInside inner buf.old.area }
         requires items { offset + count ≤ length self.now.items.items }
         requires fits { Fit self.now.items.items inner.height offset (offset + count) }
-        ensures within { ChangesWithin inner buf.old buf.new }
-        ensures ok { OnOk result
-            (ShowsItems self.now selected offset count inner buf.old buf.new) }
-        ensures short { HasShortItems self.now → IsOk result }
+        ensures { let d = list_drawing self.now selected offset count inner in
+            IsDone d inner result buf.old buf.new }
     {
-        let has_columns = self.highlight_spacing.has_columns(selected.is_some());
+        let mark = self.columns_kept_free(selected.is_some(), inner);
         let items = self.items.as_slice();
         let mut used = 0;
-        for k in 0..count {
-            let item = &items[offset + k];
+        for k in offset..offset + count {
+            let item = &items[k];
             let rows = item.height() as u16;
-            let part = self.item_part(inner, used, rows);
-            let is_selected = selected == Some(offset + k);
-            self.render_item(item, is_selected, has_columns, part, buf)?;
+            let part = self.item_cut(inner, used, rows).of(inner);
+            self.draw_item(item, selected == Some(k), mark, part, buf)?;
             used += rows;
         }
         Ok(())
     }
 
-    // Renders what is shown of the items, of which there are some, and brings the state up to date.
-    fn render_list(
+    // Draws what is shown of the items, and brings the state up to date.
+    fn draw_list(
         &self,
         inner: Rect,
         buf: &mut Buffer,
         state: &mut ListState,
     ) -> Result<(), AllocError>
-        requires some { IsBoxArea inner }
-        requires inside { IsInside inner buf.old.area }
         ensures within { ChangesWithin inner buf.old buf.new }
         ensures ok { OnOk result
             (ShowsList self.now state.old state.new inner buf.old buf.new) }
@@ -499,13 +434,12 @@ impl<'a> List<'a> {
         ensures short { HasShortItems self.now → IsOk result }
     {
         let next = self.next_state(*state, inner.height);
-        let items = self.items.as_slice();
-        if items.is_empty() {
-            *state = next;
-            return Ok(());
-        }
-        let count = count_from(items, next.offset, usize::from(inner.height));
-        self.render_items(next.selected, next.offset, count, inner, buf)?;
+        let count = count_from(
+            self.items.as_slice(),
+            next.offset,
+            usize::from(inner.height),
+        );
+        self.draw_items(next.selected, next.offset, count, inner, buf)?;
         *state = next;
         Ok(())
     }
@@ -570,7 +504,7 @@ impl<'b, 'a> StatefulWidget for &'b List<'a> {
         let Some(inner) = render_frame(self.style, &self.block, area, buf)? else {
             return Ok(());
         };
-        self.render_list(inner, buf, state)
+        self.draw_list(inner, buf, state)
     }
 }
 

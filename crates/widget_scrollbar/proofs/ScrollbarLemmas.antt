@@ -4,7 +4,7 @@ use Rattle.std.proofs.Common.{if◌then◌else◌, nat_lt, List, [], ◌∷◌, 
 use Rattle.std.proofs.Common.{Err, OnOk}
 use Rattle.std.proofs.lemmas.{Bool.cases_lt}
 use Rattle.std.specs.{declared.alloc.AllocError.AllocError, Borrow.Bor}
-use Rattle.ratatui_core.specs.Layout.{Rect, Position, HasPosition, IsInside}
+use Rattle.ratatui_core.specs.Layout.{Rect, Position, HasPosition, IsInside, EdgesFit}
 use Rattle.ratatui_core.specs.Style.{Style}
 use Rattle.ratatui_core.specs.Buffer.{BufferData, Cell, Piece, piece_of, columns, PaintsPieces, pieces_at, painted_width, cell_in}
 use Rattle.ratatui_core.specs.Buffer.{room_at, right_by, ChangesEach}
@@ -12,13 +12,14 @@ use Rattle.ratatui_core.specs.{Widgets.ChangesWithin, Widgets.IsClipped}
 use Rattle.ratatui_core.proofs.BufferLemmas.{within-wider, grapheme-piece, PaintsByColumns-paints}
 use Rattle.ratatui_core.proofs.WidgetLemmas.{OnPart-clipped}
 use Rattle.widget_boxes.specs.{Boxes.IsBoxArea}
+use Rattle.rtui_drawing.proofs.DrawingLemmas.{cut-inside}
 use Rattle.widget_boxes.proofs.{PaintLemmas.part-has_row, BoxLemmas.box-area}
 use Rattle.widget_scrollbar.specs.{declared.scrollbar.Scrollbar.Scrollbar, declared.scrollbar.Marks.Marks}
 use Rattle.widget_scrollbar.specs.{declared.scrollbar.state.ScrollbarState.ScrollbarState}
 use Rattle.widget_scrollbar.specs.{declared.scrollbar.ScrollbarOrientation.ScrollbarOrientation}
 use Rattle.widget_scrollbar.specs.declared.scrollbar.ScrollbarOrientation.TheVariants.{VerticalRight, VerticalLeft}
 use Rattle.widget_scrollbar.specs.declared.scrollbar.ScrollbarOrientation.TheVariants.{HorizontalBottom, HorizontalTop}
-use Rattle.widget_scrollbar.specs.Scrollbars.{bar_area, bar_length, is_upright, track_length, mark_of, marks_of, marked}
+use Rattle.widget_scrollbar.specs.Scrollbars.{side_cut, bar_area, bar_length, is_upright, track_length, mark_of, marks_of, marked}
 use Rattle.widget_scrollbar.specs.Scrollbars.{marked_cell, position_on_bar, place_on_bar, bar_symbols, PaintsIfSymbol, PaintsMarks}
 use Rattle.widget_scrollbar.specs.Scrollbars.{IsOneColumn, IfSymbol, EachSymbol, MarksBar, RendersScrollbar}
 use Rattle.widget_scrollbar.specs.Inner.{StandsIn}
@@ -56,10 +57,10 @@ stands-apart : (t : Bool) (a : Rect) (k j : ℕ) → stands_at t a k ≡ stands_
 stands-apart true a k j e = let y = ap (λ (p : Position). p.y) e in omega arith
 stands-apart false a k j e = let x = ap (λ (p : Position). p.x) e in omega arith
 
-stands-has : (t : Bool) (a : Rect) (n k : ℕ) → IsBoxArea a → IsBar t a n → k < n → HasPosition a (stands_at t a k)
-stands-has true a n k box is lt = let w = is.0 in let h = is.1 in let x = box.across in let y = box.down in
+stands-has : (t : Bool) (a : Rect) (n k : ℕ) → EdgesFit a → IsBar t a n → k < n → HasPosition a (stands_at t a k)
+stands-has true a n k fit is lt = let w = is.0 in let h = is.1 in let x = fit.right in let y = fit.bottom in
     record { left = omega arith; right = omega arith; top = omega arith; bottom = omega arith }
-stands-has false a n k box is lt = let h = is.0 in let w = is.1 in let x = box.across in let y = box.down in
+stands-has false a n k fit is lt = let h = is.0 in let w = is.1 in let x = fit.right in let y = fit.bottom in
     record { left = omega arith; right = omega arith; top = omega arith; bottom = omega arith }
 
 stands-there : (t : Bool) (a : Rect) (n : ℕ) (p : Position) → IsBar t a n → HasPosition a p
@@ -72,47 +73,24 @@ stands-there false a n p is h =
     (same-position _ p (omega arith) (omega arith), omega arith)
 
 -- a bar at its side of a part
-bar-is : (o : ScrollbarOrientation) (r : Rect) → IsBar (is_upright o) (bar_area o r) (bar_length o r)
-bar-is VerticalRight r = (refl, refl)
-bar-is VerticalLeft r = (refl, refl)
-bar-is HorizontalBottom r = (refl, refl)
-bar-is HorizontalTop r = (refl, refl)
+bar-is : (o : ScrollbarOrientation) (r : Rect) → IsBoxArea r → IsBar (is_upright o) (bar_area o r) (bar_length o r)
+bar-is VerticalRight r box = let w = box.columns in (omega arith, refl)
+bar-is VerticalLeft r box = let w = box.columns in (omega arith, refl)
+bar-is HorizontalBottom r box = let h = box.rows in (omega arith, refl)
+bar-is HorizontalTop r box = let h = box.rows in (omega arith, refl)
 
-bar-box : (o : ScrollbarOrientation) (r : Rect) → IsBoxArea r → IsBoxArea (bar_area o r)
-bar-box VerticalRight r box = let w = box.columns in let h = box.rows in let a = box.across in let d = box.down in
-    record { columns = lit< tt; rows = h; across = omega arith; down = omega arith }
-bar-box VerticalLeft r box = let w = box.columns in let h = box.rows in let a = box.across in let d = box.down in
-    record { columns = lit< tt; rows = h; across = omega arith; down = omega arith }
-bar-box HorizontalBottom r box = let w = box.columns in let h = box.rows in let a = box.across in let d = box.down in
-    record { columns = w; rows = lit< tt; across = omega arith; down = omega arith }
-bar-box HorizontalTop r box = let w = box.columns in let h = box.rows in let a = box.across in let d = box.down in
-    record { columns = w; rows = lit< tt; across = omega arith; down = omega arith }
-
--- a bar lies at its side of a part
-bar-inside : (o : ScrollbarOrientation) (r : Rect) → IsBoxArea r → IsInside (bar_area o r) r
-bar-inside VerticalRight r box p h =
-    let a = box.across in let d = box.down in let wide = box.columns in let high = box.rows in let left = h.left in
-    let right = h.right in let top = h.top in let bottom = h.bottom in
-    record { left = omega arith; right = omega arith; top = omega arith; bottom = omega arith }
-bar-inside VerticalLeft r box p h =
-    let a = box.across in let d = box.down in let wide = box.columns in let high = box.rows in let left = h.left in
-    let right = h.right in let top = h.top in let bottom = h.bottom in
-    record { left = omega arith; right = omega arith; top = omega arith; bottom = omega arith }
-bar-inside HorizontalBottom r box p h =
-    let a = box.across in let d = box.down in let wide = box.columns in let high = box.rows in let left = h.left in
-    let right = h.right in let top = h.top in let bottom = h.bottom in
-    record { left = omega arith; right = omega arith; top = omega arith; bottom = omega arith }
-bar-inside HorizontalTop r box p h =
-    let a = box.across in let d = box.down in let wide = box.columns in let high = box.rows in let left = h.left in
-    let right = h.right in let top = h.top in let bottom = h.bottom in
-    record { left = omega arith; right = omega arith; top = omega arith; bottom = omega arith }
+bar-fits : (o : ScrollbarOrientation) (r : Rect) → IsBoxArea r → EdgesFit (bar_area o r)
+bar-fits VerticalRight r box = let w = box.columns in let a = box.across in record { right = omega arith; bottom = box.down }
+bar-fits VerticalLeft r box = let w = box.columns in let a = box.across in record { right = omega arith; bottom = box.down }
+bar-fits HorizontalBottom r box = let h = box.rows in let d = box.down in record { right = box.across; bottom = omega arith }
+bar-fits HorizontalTop r box = let h = box.rows in let d = box.down in record { right = box.across; bottom = omega arith }
 
 pub bar-stands : (b : Scrollbar) (s : ScrollbarState) (r : Rect) → IsBoxArea r
     → StandsIn (marks_of b s r) (bar_length b.orientation r) r
 bar-stands b s r box = λ k lt.
-    bar-inside b.orientation r box (position_on_bar (marks_of b s r) k)
+    cut-inside (side_cut b.orientation r) r (position_on_bar (marks_of b s r) k)
     (stands-has (is_upright b.orientation) (bar_area b.orientation r) (bar_length b.orientation r) k
-    (bar-box b.orientation r box) (bar-is b.orientation r) lt)
+    (bar-fits b.orientation r box) (bar-is b.orientation r box) lt)
 
 -- a symbol of one column changes its own cell alone
 record ChangesOne (p : Position) (f : Cell → Cell) (old new : BufferData) : Type 0 where
@@ -202,7 +180,7 @@ module _ (m : Marks) (r : Rect) (box : IsBoxArea r) (one : EachSymbol IsOneColum
             step.rest p (rw was.area h) (λ e. off n (omega arith) (sym e)) ∙ was.rest p h (λ k lt e. off k (omega arith) e);
       }
 
-  marks-cells : (n : ℕ) (old new : BufferData) → IsBoxArea m.area → IsBar m.is_vertical m.area n → HasMarks n old new
+  marks-cells : (n : ℕ) (old new : BufferData) → EdgesFit m.area → IsBar m.is_vertical m.area n → HasMarks n old new
       → ChangesEach m.area (marked_cell m) old new
   marks-cells n old new own is has = record {
     area = has.area;
@@ -232,7 +210,7 @@ bar-renders (Ok v) b s area part old new clip some track within painted = record
         let box = box-area area old.area part clip in
         let m = marks_of b s part in
         let n = bar_length b.orientation part in
-        marks-cells m part box one n old new (bar-box b.orientation part box) (bar-is b.orientation part)
+        marks-cells m part box one n old new (bar-fits b.orientation part box) (bar-is b.orientation part box)
         (marks-one m part box one n old new clip.of_own (bar-stands b s part box) painted);
   });
 }

@@ -9,7 +9,9 @@ use Rattle.ratatui_core.specs.Buffer.{BufferData, Cell, styled, with_symbol, Cha
 use Rattle.ratatui_core.specs.Buffer.{PaintsPieces, pieces_at, IsOneGrapheme}
 use Rattle.ratatui_core.specs.Text.{has_control}
 use Rattle.ratatui_core.specs.Widgets.{ChangesWithin, OnPart}
-use Rattle.widget_boxes.specs.{Boxes.last_column, Boxes.last_row, Titles.InTurn}
+use Rattle.widget_boxes.specs.{Titles.InTurn}
+use Rattle.rtui_drawing.specs.{Cuts.cut_from, declared.cut.Cut.Cut}
+use Rattle.rtui_drawing.specs.declared.cut.Cut.TheVariants.{First, Last, Rows}
 use Rattle.widget_scrollbar.specs.{declared.scrollbar.Scrollbar.Scrollbar, declared.scrollbar.Marks.Marks}
 use Rattle.widget_scrollbar.specs.{declared.scrollbar.state.ScrollbarState.ScrollbarState}
 use Rattle.widget_scrollbar.specs.declared.scrollbar.state.ScrollDirection.{ScrollDirection}
@@ -84,11 +86,14 @@ pub record HasSymbols (o : ScrollbarOrientation) (old new : Scrollbar) : Type 0 
   pub value : new ≡ record (with_bar_symbols set old) { orientation = o }
 
 -- where a bar stands: the row or the column at its side of an area
+abbrev pub side_cut : ScrollbarOrientation → Rect → Cut
+side_cut VerticalRight r = Last 1
+side_cut VerticalLeft r = First 1
+side_cut HorizontalBottom r = Rows (r.height - 1) 1
+side_cut HorizontalTop r = Rows 0 1
+
 abbrev pub bar_area : ScrollbarOrientation → Rect → Rect
-bar_area VerticalRight r = record r { x = last_column r; width = 1 }
-bar_area VerticalLeft r = record r { width = 1 }
-bar_area HorizontalBottom r = record r { y = last_row r; height = 1 }
-bar_area HorizontalTop r = record r { height = 1 }
+bar_area o r = cut_from (side_cut o r) r
 
 -- how many cells it has
 abbrev pub bar_length : ScrollbarOrientation → Rect → ℕ

@@ -7,7 +7,7 @@ ghost use Rattle.ratatui_core.specs.Widgets.{ChangesWithin};
 ghost use Rattle.widget_boxes.specs.Boxes.{IsBoxArea};
 ghost use Rattle.widget_scrollbar.specs.declared.scrollbar.ScrollbarOrientation.TheVariants.{VerticalRight};
 ghost use Rattle.widget_scrollbar.specs.Scrollbars.{IsNewScrollbar, HasSymbols, IsSetFor, with_bar_symbols};
-ghost use Rattle.widget_scrollbar.specs.Scrollbars.{is_upright, bar_area, bar_length};
+ghost use Rattle.widget_scrollbar.specs.Scrollbars.{is_upright, side_cut, bar_length};
 ghost use Rattle.widget_scrollbar.specs.Scrollbars.{track_length, marks_of, mark_of, position_on_bar};
 ghost use Rattle.widget_scrollbar.specs.Scrollbars.{PaintsSymbolIn, PaintsMark, PaintsMarks, EachSymbol};
 ghost use Rattle.widget_scrollbar.specs.Inner.{StandsIn};
@@ -19,6 +19,7 @@ use ratatui_core::layout::{Position, Rect};
 use ratatui_core::style::Style;
 use ratatui_core::symbols::scrollbar::{DOUBLE_HORIZONTAL, DOUBLE_VERTICAL, Set};
 use ratatui_core::widgets::StatefulWidget;
+use rtui_drawing::Cut;
 pub use state::{ScrollDirection, ScrollbarState};
 use std::alloc::{AllocError, Global};
 
@@ -211,23 +212,14 @@ impl<'a> Scrollbar<'a> {
     }
 
     // Where the bar stands: the row or the column at its side of an area.
-    fn bar_area(&self, area: Rect) -> Rect
-        requires { IsBoxArea area }
-        ensures { result ≡ bar_area self.now.orientation area }
+    fn side_cut(&self, area: Rect) -> Cut
+        ensures { result ≡ side_cut self.now.orientation area }
     {
         match self.orientation {
-            ScrollbarOrientation::VerticalRight => Rect {
-                x: area.x + (area.width - 1),
-                width: 1,
-                ..area
-            },
-            ScrollbarOrientation::VerticalLeft => Rect { width: 1, ..area },
-            ScrollbarOrientation::HorizontalBottom => Rect {
-                y: area.y + (area.height - 1),
-                height: 1,
-                ..area
-            },
-            ScrollbarOrientation::HorizontalTop => Rect { height: 1, ..area },
+            ScrollbarOrientation::VerticalRight => Cut::Last(1),
+            ScrollbarOrientation::VerticalLeft => Cut::First(1),
+            ScrollbarOrientation::HorizontalBottom => Cut::Rows(area.height.saturating_sub(1), 1),
+            ScrollbarOrientation::HorizontalTop => Cut::Rows(0, 1),
         }
     }
 
@@ -263,8 +255,7 @@ impl<'a> Scrollbar<'a> {
 
     // The marks of the bar over an area.
     fn marks(&self, state: &ScrollbarState, area: Rect) -> Marks<'a>
-        requires some { IsBoxArea area }
-        requires track { 0 < track_length self.now (bar_length self.now.orientation area) }
+        requires { 0 < track_length self.now (bar_length self.now.orientation area) }
         ensures { result ≡ marks_of self.now state.now area }
     {
         let track = self.track_length(area);
@@ -272,7 +263,7 @@ impl<'a> Scrollbar<'a> {
         let (thumb, length) = state.thumb(track, self.length(area));
         Marks {
             is_vertical: self.orientation.is_vertical(),
-            area: self.bar_area(area),
+            area: self.side_cut(area).of(area),
             track: begin,
             thumb: begin + thumb,
             after_thumb: begin + thumb + length,

@@ -1,5 +1,5 @@
 -- What a table draws, and what it makes of its state.
-use Rattle.std.specs.Prelude.{◌≡◌, ℕ, Bool, true, false, ◌/◌, ◌==◌, nat_lt, not, zero, suc, min, max, List, []}
+use Rattle.std.specs.Prelude.{◌≡◌, ℕ, Bool, true, false, ◌+◌, ◌-◌, ◌/◌, ◌==◌, nat_lt, not, zero, suc, min, max, List, []}
 use Rattle.std.specs.Prelude.{◌∷◌, length, drop, replicate, Option, Some, None, is_some, if◌then◌else◌}
 use Rattle.std.specs.Prelude.{slice_get, All, IfSome}
 use Rattle.std.specs.{Option.option_or}
@@ -14,7 +14,7 @@ use Rattle.ratatui_core.specs.Text.{TakesOneColumn, EachTextGrapheme}
 use Rattle.widget_boxes.specs.{Framed.RendersStateInFrame}
 use Rattle.rtui_drawing.specs.declared.cut.Cut.TheVariants.{First, Within}
 use Rattle.rtui_drawing.specs.Drawings.{Drawing, nothing, over, ◌before◌, draw_if, put_style, put_text, DrawsAll}
-use Rattle.widget_list.specs.Items.{has_mark_columns, without_columns, is_selected_at}
+use Rattle.widget_list.specs.Items.{has_mark_columns, is_selected_at}
 use Rattle.widget_list.specs.declared.list.HighlightSpacing.TheVariants.{WhenSelected}
 use Rattle.widget_table.specs.{declared.table.Table.Table as TableData, declared.cell.Cell.Cell}
 use Rattle.widget_table.specs.{declared.row.Row.Row, declared.state.TableState.TableState}
@@ -84,6 +84,10 @@ abbrev pub symbol_columns : TableData → Bool → Rect → ℕ
 symbol_columns t is_selected r =
     if has_mark_columns t.highlight_spacing is_selected then min (symbol_width t.highlight_symbol) r.width
     else 0
+
+-- an area without its first columns
+abbrev pub without_columns : ℕ → Rect → Rect
+without_columns n r = record r { x = r.x + n; width = r.width - n }
 
 -- the columns of a table over an area: they share what so many columns of the symbol leave
 abbrev pub AreColumns : TableData → ℕ → Rect → List Rect → Type 0

@@ -12,11 +12,11 @@ returns-in_default-clause-ok c =
 pub returns-clause-ok : goal.returns-clause-ok
 returns-clause-ok c =
     frame-filled c.args.self.now.style c.args.self.now.block c.args.area c.in-Some.inner c.args.buf.now c.render_frame.new.buf
-    c.render_list.new.buf (rw c.in-Some.is at c.in_ok-inner.ensures.inner) (ShowsList c.args.self.now)
-    c.args.state.now c.render_list.new.state c.render_list.result c.render_list.ensures.within c.render_list.ensures.ok
+    c.draw_list.new.buf (rw c.in-Some.is at c.in_ok-inner.ensures.inner) (ShowsList c.args.self.now)
+    c.args.state.now c.draw_list.new.state c.draw_list.result c.draw_list.ensures.within c.draw_list.ensures.ok
 
 pub returns-clause-err : goal.returns-clause-err
 returns-clause-err c =
-    holds_anyway c.render_list.result
+    holds_anyway c.draw_list.result
     (frame-within c.args.self.now.style c.args.self.now.block c.args.area c.in-Some.inner c.args.buf.now c.render_frame.new.buf
-    c.render_list.new.buf (rw c.in-Some.is at c.in_ok-inner.ensures.inner) c.render_list.ensures.within)
+    c.draw_list.new.buf (rw c.in-Some.is at c.in_ok-inner.ensures.inner) c.draw_list.ensures.within)
