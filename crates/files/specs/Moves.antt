@@ -1,0 +1,234 @@
+-- What each event and each answer makes of a browser.
+use Rattle.std.specs.Prelude.{ℕ, Bool, true, false, not, ◌+◌, ◌-◌, ◌/◌, ◌==◌, ◌&&◌, ◌||◌, min, max, nat_lt}
+use Rattle.std.specs.Prelude.{if◌then◌else◌, List, [], ◌∷◌, ◌++◌, length, Option, Some, None, slice_get, get_or}
+use Rattle.std.specs.Str.{byte}
+use Rattle.std.specs.Option.{option_map_or}
+use Rattle.std.specs.declared.alloc.Global.{Global}
+use Rattle.ratatui_core.specs.Layout.{Size}
+use Rattle.ratatui_events.specs.declared.event.Event.{Event}
+use Rattle.ratatui_reads.specs.Reads.{size_in}
+use Rattle.ratatui_acts.specs.declared.message.Message.{Message}
+use Rattle.ratatui_acts.specs.declared.message.Message.TheVariants as message
+use Rattle.text_field.specs.Field.{FieldData, new_field, typing, moved_left, moved_right}
+use Rattle.text_field.specs.{Reach.reach_left, Reach.reach_right, Keys.edited}
+use Rattle.text_field.specs.declared.reach.Reach.TheVariants.{Grapheme, Word, All}
+use Rattle.files.specs.declared.browser.Browser.{Browser}
+use Rattle.files.specs.declared.browser.Mode.{Mode}
+use Rattle.files.specs.declared.browser.Mode.TheVariants.{Looking, Listing, Entering, Leaving, Removing, Renaming}
+use Rattle.files.specs.declared.browser.Mode.TheVariants.{Making, Over}
+use Rattle.files.specs.declared.browser.Note.TheVariants.{Place, Failed, Narrow}
+use Rattle.files.specs.declared.keys.Wish.{Wish}
+use Rattle.files.specs.declared.keys.Wish.TheVariants as wish
+use Rattle.files.specs.declared.typing.Typing.{Typing}
+use Rattle.files.specs.declared.typing.Typing.TheVariants.{Change, Accept, Cancel, Ignore}
+use Rattle.files.specs.declared.list.Row.{Row}
+use Rattle.files.specs.declared.list.Listing.{Listing as ListingData}
+use Rattle.files.specs.declared.list.Outcome.{Outcome}
+use Rattle.files.specs.declared.list.Outcome.TheVariants as outcome
+use Rattle.files.specs.Keys.{event_wish, event_typing, is_input, is_yes}
+use Rattle.files.specs.Texts.{selected_text, column_in, fits}
+
+-- a browser that asks for the folder that all is in
+abbrev pub new_browser : Global → List ℕ → Size → Browser
+new_browser alloc title size = record {
+  alloc = alloc;
+  size = size;
+  title = title;
+  folder = [];
+  list = [];
+  unnamed = 0;
+  has_hidden = false;
+  selected = 0;
+  top = 0;
+  mode = Listing;
+  is_sure = false;
+  is_quiet = false;
+  seeks_typed = false;
+  note = Place;
+  typed = new_field;
+  column = 0;
+}
+
+-- ---- the selection
+
+-- how many rows the list has, between the title and the status
+abbrev pub list_rows : Browser → ℕ
+list_rows b = b.size.height - 2
+
+abbrev pub last_place : Browser → ℕ
+last_place b = length b.list - 1
+
+-- the entry that is selected stands in the rows, which move as little as they can
+abbrev pub settled : Browser → Browser
+settled b =
+    let first = min b.top (length b.list - list_rows b) in
+    record b { top = min (max first (b.selected + 1 - list_rows b)) b.selected }
+
+-- an entry is selected, or the last one
+abbrev pub selected_at : ℕ → Browser → Browser
+selected_at place b = settled (record b { selected = min place (last_place b) })
+
+abbrev pub moved : Wish → Browser → Browser
+moved wish.Down b = selected_at (b.selected + 1) b
+moved wish.Up b = selected_at (b.selected - 1) b
+moved wish.PageDown b = selected_at (b.selected + list_rows b) b
+moved wish.PageUp b = selected_at (b.selected - list_rows b) b
+moved wish.HalfDown b = selected_at (b.selected + list_rows b / 2) b
+moved wish.HalfUp b = selected_at (b.selected - list_rows b / 2) b
+moved wish.ToFirst b = selected_at 0 b
+moved wish.ToLast b = selected_at (last_place b) b
+moved _ b = b
+
+-- ---- wishes
+
+-- a folder is selected, or a link, which may lead to one
+abbrev pub may_enter : Row → Bool
+may_enter row = not row.is_leaf || row.is_link
+
+abbrev pub is_folder_selected : Browser → Bool
+is_folder_selected b = option_map_or may_enter (slice_get b.list b.selected) false
+
+-- the cursor stands behind a dot that isn't the first character
+abbrev pub is_behind_dot : List ℕ → Bool
+is_behind_dot before = nat_lt 1 (length before) && (get_or before (length before - 1) 0 == byte ".")
+
+abbrev pub follows_dot : FieldData → Bool
+follows_dot f = is_behind_dot f.before
+
+-- the cursor is brought before the last word, and before a dot that it follows; or else to the end
+abbrev pub before_dot : FieldData → FieldData
+before_dot f =
+    if follows_dot f then moved_left (reach_left Grapheme f.before) f
+    else moved_right (reach_right All f.after) f
+
+abbrev pub at_extension : FieldData → FieldData
+at_extension f = before_dot (moved_left (reach_left Word f.before) f)
+
+-- the name of the entry that is selected, typed
+abbrev pub selected_field : Browser → FieldData
+selected_field b = typing (selected_text b) new_field
+
+-- a name is typed
+abbrev pub typing_in : Mode → FieldData → Browser → Browser
+typing_in mode typed b = record b { mode = mode; typed = typed; column = column_in mode typed b }
+
+abbrev pub renaming : Browser → Browser
+renaming b = if length b.list == 0 then b else typing_in Renaming (at_extension (selected_field b)) b
+
+abbrev pub gone : Wish → Browser → Browser
+gone wish.Enter b = if is_folder_selected b then record b { mode = Entering } else b
+gone wish.Leave b = if nat_lt 0 (length b.folder) then record b { mode = Leaving } else b
+gone wish.Hidden b = record b { has_hidden = not b.has_hidden; mode = Listing }
+gone wish.Remove b = if nat_lt 0 (length b.list) then record b { mode = Removing } else b
+gone wish.Quit b = record b { mode = Over }
+gone other b = moved other b
+
+-- what a wish makes of it, without its note
+abbrev pub granted : Wish → Browser → Browser
+granted wish.Rename b = renaming b
+granted wish.Make b = typing_in Making new_field b
+granted other b = gone other b
+
+abbrev pub wished : Wish → Browser → Browser
+wished w b = record (granted w b) { note = Place }
+
+-- ---- questions
+
+-- a yes: it counts only if the last read found nothing while the question was shown, and if the screen has
+-- columns for all of it
+abbrev pub confirmed : Browser → Browser
+confirmed b =
+    if not b.is_quiet then b
+    else if fits b.size.width b then record b { is_sure = true }
+    else record b { mode = Looking; note = Narrow }
+
+abbrev pub typed_into : Typing → Browser → Browser
+typed_into (Change edit) b = typing_in b.mode (edited edit b.typed) b
+typed_into Accept b = confirmed b
+typed_into Cancel b = record b { mode = Looking }
+typed_into Ignore b = b
+
+abbrev pub acted : Mode → Event → Browser → Browser
+acted Looking event b = wished (event_wish event) b
+acted Removing event b = if is_yes event then confirmed b else record b { mode = Looking }
+acted Renaming event b = typed_into (event_typing event) b
+acted Making event b = typed_into (event_typing event) b
+acted _ event b = b
+
+-- ---- what is told
+
+-- the screen has another size
+abbrev pub at_size : ℕ × ℕ → Browser → Browser
+at_size size b = settled (record b {
+  is_quiet = b.is_quiet && (b.size.width == size.0) && (b.size.height == size.1);
+  size = record { width = size.0; height = size.1 };
+})
+
+abbrev pub at_told_size : Option (ℕ × ℕ) → Browser → Browser
+at_told_size (Some size) b = at_size size b
+at_told_size None b = b
+
+-- what is typed acts, and then what is shown is new
+abbrev pub told : Event → Browser → Browser
+told event b =
+    if is_input event then record (acted b.mode event b) { is_quiet = false } else at_told_size (size_in event) b
+
+-- ---- answers
+
+-- the name of what was done was typed
+abbrev pub names_typed : Mode → Bool
+names_typed Renaming = true
+names_typed Making = true
+names_typed _ = false
+
+-- what stands in a folder is shown
+abbrev pub listed : ListingData → Browser → Browser
+listed l b = selected_at l.place (record b {
+  folder = l.folder;
+  list = l.rows;
+  unnamed = l.unnamed;
+  seeks_typed = false;
+  mode = Looking;
+})
+
+-- what is done leads to the folder anew, and what failed to its reason
+abbrev pub outcome_taken : Outcome → Browser → Browser
+outcome_taken (outcome.Listed l) b = listed l b
+outcome_taken outcome.Done b = record b { mode = Listing; seeks_typed = names_typed b.mode }
+outcome_taken (outcome.Failed failure) b =
+    record b { mode = Looking; seeks_typed = false; note = Failed b.mode failure }
+
+abbrev pub answered : Outcome → Browser → Browser
+answered o b = record (outcome_taken o b) { is_sure = false }
+
+unfoldable pub after_message : Browser → Message Outcome → Browser
+after_message b (message.Event event) = told event b
+after_message b (message.Tick passed) = record b { is_quiet = true }
+after_message b (message.Answer o) = answered o b
+
+-- ---- what is asked for
+
+-- something is asked for: a folder that is listed, or a change that was answered by yes
+abbrev pub asks_in : Mode → Bool → Bool
+asks_in Listing sure = true
+asks_in Entering sure = true
+asks_in Leaving sure = true
+asks_in Removing sure = sure
+asks_in Renaming sure = sure
+asks_in Making sure = sure
+asks_in Looking sure = false
+asks_in Over sure = false
+
+abbrev pub asks : Browser → Bool
+asks b = asks_in b.mode b.is_sure
+
+-- what is asked for is told by the browser itself
+abbrev pub asked_by : Browser → Option Browser
+asked_by b = if asks b then Some b else None
+
+abbrev pub is_over_mode : Mode → Bool
+is_over_mode Over = true
+is_over_mode _ = false
+
+abbrev pub is_over : Browser → Bool
+is_over b = is_over_mode b.mode

@@ -1,0 +1,203 @@
+//! What is outside of a browser: it lists folders, and changes what the screen names.
+
+ghost use Rattle.std.specs.Prelude.{◌≡◌, ◌≤◌, Some, IfOk, IfSome};
+ghost use Rattle.ratatui_core.specs.Buffer.{text_columns};
+ghost use Rattle.ratatui_app.specs.Glass.{StandsOnGlass};
+ghost use Rattle.files.specs.Texts.{status_text};
+ghost use Rattle.files.specs.Pages.{PaintsBrowser, browser_cursor};
+ghost use Rattle.files.specs.Questions.{change_in};
+ghost use Rattle.files.specs.Doing.{IsAbove, Lists, TellsListing, TellsChange, Listed, Changed};
+
+use crate::browser::{Browser, Mode};
+use crate::list::{Listing, Outcome};
+use crate::sorting::{place_of, sorted};
+use ratatui_acts::Outside;
+use ratatui_app::OnGlass;
+use ratatui_files::{Answer, Command, Failure, Path, Performs};
+use std::alloc::{AllocError, Global};
+use std::io::{self, Write};
+
+/// What does to files what a browser asks for.
+#[derive(Drop)]
+pub struct Hands<P> {
+    alloc: Global,
+    files: P,
+}
+
+// A path's folder and its name there.
+fn parted(path: &str) -> (&str, &str) {
+    match path.rsplit_once('/') {
+        Some(parts) => parts,
+        None => ("", path),
+    }
+}
+
+// The folder above a folder.
+fn above(alloc: Global, folder: &Path) -> Result<Option<Path>, AllocError>
+    ensures { IfOk result (λ path. IfSome path (IsAbove folder.now)) }
+{
+    let (text, name) = parted(folder.as_str());
+    let Some(path) = Path::new(String::from_str(alloc, text)?) else {
+        return Ok(None);
+    };
+    let Some(same) = path.entry(alloc, name)? else {
+        return Ok(None);
+    };
+    if same.as_str() == folder.as_str() {
+        Ok(Some(path))
+    } else {
+        Ok(None)
+    }
+}
+
+// The folder that a browser asks for.
+fn folder_of(alloc: Global, browser: &Browser) -> Result<Option<Path>, AllocError>
+    ensures { IfOk result (λ path. IfSome path (Lists browser.now.mode browser.now)) }
+{
+    match browser.mode {
+        Mode::Listing => Ok(Some(browser.folder.copy(alloc)?)),
+        Mode::Entering => browser.folder.entry(alloc, browser.selected_text()),
+        Mode::Leaving => above(alloc, &browser.folder),
+        _ => Ok(None),
+    }
+}
+
+// The name of the entry that is to be selected, and the place if there is none of that name.
+fn sought(browser: &Browser) -> (&str, usize) {
+    match browser.mode {
+        Mode::Leaving => (parted(browser.folder.as_str()).1, 0),
+        Mode::Listing if browser.seeks_typed => (browser.typed.text(), browser.selected),
+        Mode::Listing => (browser.selected_text(), browser.selected),
+        _ => ("", 0),
+    }
+}
+
+// What was answered of a folder that was to be listed.
+fn listed(
+    alloc: Global,
+    browser: &Browser,
+    folder: Path,
+    answer: Answer,
+) -> Result<Outcome, AllocError>
+    ensures { IfOk result (TellsListing browser.now.has_hidden folder answer) }
+{
+    match answer {
+        Answer::Listed(entries, unnamed) => {
+            let rows = sorted(alloc, entries, browser.has_hidden)?;
+            let (name, other) = sought(browser);
+            let place = place_of(&rows, name, other);
+            Ok(Outcome::Listed(Listing {
+                folder,
+                rows,
+                unnamed,
+                place,
+            }))
+        }
+        Answer::Failed(failure) => Ok(Outcome::Failed(failure)),
+        _ => Ok(Outcome::Failed(Failure::Other)),
+    }
+}
+
+// What was answered of a change.
+fn changed(answer: Answer) -> Outcome
+    ensures { TellsChange answer result }
+{
+    match answer {
+        Answer::Done => Outcome::Done,
+        Answer::Failed(failure) => Outcome::Failed(failure),
+        _ => Outcome::Failed(Failure::Other),
+    }
+}
+
+impl<P: Performs + Drop> Hands<P> {
+    /// Takes what does commands to files.
+    pub fn new(alloc: Global, files: P) -> Hands<P>
+        ensures { result.files ≡ files }
+    {
+        Hands { alloc, files }
+    }
+
+    /// Lends what does commands to files.
+    pub fn files(&self) -> &P
+        ensures { result.now ≡ self.now.files }
+    {
+        &self.files
+    }
+
+    // Changes files. Nobody can ask for that but where each terminal that has read what was sent
+    // shows a browser whose question names what is changed, and has columns for all of it.
+    fn touch<W: Write + Drop>(
+        &mut self,
+        _glass: &OnGlass<W>,
+        _browser: &Browser,
+        command: &Command,
+    ) -> Answer
+        requires shown { StandsOnGlass (PaintsBrowser _browser.now) (browser_cursor _browser.now)
+            _glass.now.terminal }
+        requires named { change_in _browser.now.mode _browser.now ≡ Some command.now }
+        requires whole { text_columns (status_text _browser.now)
+            ≤ _glass.now.terminal.viewport_area.width }
+        ensures { P.does self.old.files command.now result self.new.files }
+    {
+        self.files.perform(command)
+    }
+
+    // Changes what the question names, if the glass has columns for all of it.
+    fn change<W: Write + Drop>(&mut self, glass: &OnGlass<W>, browser: &Browser) -> Outcome
+        requires shown { StandsOnGlass (PaintsBrowser browser.now) (browser_cursor browser.now)
+            glass.now.terminal }
+        ensures { Changed P.does (change_in browser.now.mode browser.now)
+            self.old.files result self.new.files }
+    {
+        let Ok(wanted) = browser.change() else {
+            return Outcome::Failed(Failure::Memory);
+        };
+        let Some(command) = wanted else {
+            return Outcome::Failed(Failure::BadName);
+        };
+        let width = glass.terminal().viewport_area().width;
+        match browser.fits(width) {
+            Ok(true) => changed(self.touch(glass, browser, &command)),
+            Ok(false) => Outcome::Failed(Failure::NotAllowed),
+            Err(_) => Outcome::Failed(Failure::Memory),
+        }
+    }
+
+    // Lists the folder that a browser asks for.
+    fn list(&mut self, browser: &Browser) -> Outcome
+        ensures { Listed P.does browser.now self.old.files result self.new.files }
+    {
+        let Ok(wanted) = folder_of(self.alloc, browser) else {
+            return Outcome::Failed(Failure::Memory);
+        };
+        let Some(folder) = wanted else {
+            return Outcome::Failed(Failure::BadName);
+        };
+        let Ok(copy) = folder.copy(self.alloc) else {
+            return Outcome::Failed(Failure::Memory);
+        };
+        let answer = self.files.perform(&Command::List(copy));
+        match listed(self.alloc, browser, folder, answer) {
+            Ok(outcome) => outcome,
+            Err(_) => Outcome::Failed(Failure::Memory),
+        }
+    }
+}
+
+impl<P: Performs + Drop, W: Write + Drop> Outside<Browser, OnGlass<W>> for Hands<P> {
+    ghost use Rattle.files.specs.Doing.{Does};
+
+    ghost answers = { λ before b outcome after. Does P.does b before.files outcome after.files };
+
+    fn perform(
+        &mut self,
+        glass: &OnGlass<W>,
+        state: &Browser,
+        _command: &Browser,
+    ) -> io::Result<Outcome> {
+        match state.mode {
+            Mode::Listing | Mode::Entering | Mode::Leaving => Ok(self.list(state)),
+            _ => Ok(self.change(glass, state)),
+        }
+    }
+}

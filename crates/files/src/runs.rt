@@ -1,0 +1,1 @@
+//! Screens after keys that are known.
