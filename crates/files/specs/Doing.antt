@@ -7,6 +7,8 @@ use Rattle.ratatui_files.specs.declared.answer.Answer.{Answer}
 use Rattle.ratatui_files.specs.declared.answer.Answer.TheVariants as answer
 use Rattle.ratatui_files.specs.declared.answer.Failure.{Failure}
 use Rattle.ratatui_files.specs.declared.answer.Failure.TheVariants as failure
+use Rattle.std.specs.declared.cmp.Ordering.{Ordering}
+use Rattle.files.specs.declared.list.Row.{Row}
 use Rattle.files.specs.declared.list.Listing.{Listing as ListingData}
 use Rattle.files.specs.declared.list.Outcome.{Outcome}
 use Rattle.files.specs.declared.list.Outcome.TheVariants as outcome
@@ -32,11 +34,11 @@ Lists Leaving b path = IsAbove b.folder path
 Lists _ b path = ⊥
 
 -- a folder was listed with this answer: it is told in order, or why it wasn't
-abbrev pub TellsListing : Bool → List ℕ → Answer → Outcome → Type 0
-TellsListing hidden folder (answer.Listed entries unnamed) (outcome.Listed l) =
-    (l.folder ≡ folder) × (l.unnamed ≡ unnamed) × IsListOf hidden entries l.rows
-TellsListing hidden folder (answer.Failed why) o = o ≡ outcome.Failed why
-TellsListing hidden folder a o = o ≡ outcome.Failed failure.Other
+abbrev pub TellsListing : (Row → Row → Ordering) → Bool → List ℕ → Answer → Outcome → Type 0
+TellsListing cmp hidden folder (answer.Listed entries unnamed) (outcome.Listed l) =
+    (l.folder ≡ folder) × (l.unnamed ≡ unnamed) × IsListOf cmp hidden entries l.rows
+TellsListing cmp hidden folder (answer.Failed why) o = o ≡ outcome.Failed why
+TellsListing cmp hidden folder a o = o ≡ outcome.Failed failure.Other
 
 -- a change was done with this answer
 abbrev pub told_of : Answer → Outcome
@@ -50,7 +52,7 @@ pub record Refuses {P : Type 0} (files : P) (o : Outcome) (files' : P) : Type 0 
   pub tells : o ≡ outcome.Failed why
   pub kept : files' ≡ files
 
-module _ {P : Type 0} (does : P → Command → Answer → P → Type 0) where
+module _ {P : Type 0} (cmp : Row → Row → Ordering) (does : P → Command → Answer → P → Type 0) where
   -- a change was done, this one and no other, and what came of it is told; or nothing was done
   pub record Touches (command : Command) (files : P) (o : Outcome) (files' : P) : Type 0 where
     pub answer : Answer
@@ -67,7 +69,7 @@ module _ {P : Type 0} (does : P → Command → Answer → P → Type 0) where
     pub asked : Lists b.mode b folder
     pub answer : Answer
     pub done : does files (ListFolder folder) answer files'
-    pub tells : TellsListing b.has_hidden folder answer o ⊎ (o ≡ outcome.Failed failure.Memory)
+    pub tells : TellsListing cmp b.has_hidden folder answer o ⊎ (o ≡ outcome.Failed failure.Memory)
 
   abbrev pub Listed : Browser → P → Outcome → P → Type 0
   Listed b files o files' = Refuses files o files' ⊎ Looks b files o files'

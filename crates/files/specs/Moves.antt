@@ -1,5 +1,5 @@
 -- What each event and each answer makes of a browser.
-use Rattle.std.specs.Prelude.{ℕ, Bool, true, false, not, ◌+◌, ◌-◌, ◌/◌, ◌==◌, ◌&&◌, ◌||◌, min, max, nat_lt}
+use Rattle.std.specs.Prelude.{ℕ, zero, suc, Bool, true, false, not, ◌+◌, ◌-◌, ◌/◌, ◌==◌, ◌&&◌, ◌||◌, min, max, nat_lt}
 use Rattle.std.specs.Prelude.{if◌then◌else◌, List, [], ◌∷◌, ◌++◌, length, Option, Some, None, slice_get, get_or}
 use Rattle.std.specs.Str.{byte}
 use Rattle.std.specs.Option.{option_map_or}
@@ -11,7 +11,7 @@ use Rattle.ratatui_acts.specs.declared.message.Message.{Message}
 use Rattle.ratatui_acts.specs.declared.message.Message.TheVariants as message
 use Rattle.text_field.specs.Field.{FieldData, new_field, typing, moved_left, moved_right}
 use Rattle.text_field.specs.{Reach.reach_left, Reach.reach_right, Keys.edited}
-use Rattle.text_field.specs.declared.reach.Reach.TheVariants.{Grapheme, Word, All}
+use Rattle.text_field.specs.declared.reach.Reach.TheVariants.{Grapheme, All}
 use Rattle.files.specs.declared.browser.Browser.{Browser}
 use Rattle.files.specs.declared.browser.Mode.{Mode}
 use Rattle.files.specs.declared.browser.Mode.TheVariants.{Looking, Listing, Entering, Leaving, Removing, Renaming}
@@ -62,7 +62,7 @@ last_place b = length b.list - 1
 abbrev pub settled : Browser → Browser
 settled b =
     let first = min b.top (length b.list - list_rows b) in
-    record b { top = min (max first (b.selected + 1 - list_rows b)) b.selected }
+    record b { top = min (max first (b.selected - (list_rows b - 1))) b.selected }
 
 -- an entry is selected, or the last one
 abbrev pub selected_at : ℕ → Browser → Browser
@@ -95,14 +95,18 @@ is_behind_dot before = nat_lt 1 (length before) && (get_or before (length before
 abbrev pub follows_dot : FieldData → Bool
 follows_dot f = is_behind_dot f.before
 
--- the cursor is brought before the last word, and before a dot that it follows; or else to the end
-abbrev pub before_dot : FieldData → FieldData
-before_dot f =
-    if follows_dot f then moved_left (reach_left Grapheme f.before) f
-    else moved_right (reach_right All f.after) f
+-- the cursor before the dot that it comes to first on its way to the left, or at the start
+unfoldable pub to_dot : ℕ → FieldData → FieldData
+to_dot zero f = f
+to_dot (suc n) f =
+    let left = moved_left (reach_left Grapheme f.before) f in if follows_dot f then left else to_dot n left
+
+-- the cursor before the extension of a name at whose end it stands; without one it stays
+abbrev pub from_start : FieldData → FieldData
+from_start f = if length f.before == 0 then moved_right (reach_right All f.after) f else f
 
 abbrev pub at_extension : FieldData → FieldData
-at_extension f = before_dot (moved_left (reach_left Word f.before) f)
+at_extension f = from_start (to_dot (length f.before) f)
 
 -- the name of the entry that is selected, typed
 abbrev pub selected_field : Browser → FieldData
@@ -199,7 +203,7 @@ outcome_taken (outcome.Failed failure) b =
     record b { mode = Looking; seeks_typed = false; note = Failed b.mode failure }
 
 abbrev pub answered : Outcome → Browser → Browser
-answered o b = record (outcome_taken o b) { is_sure = false }
+answered o b = record (outcome_taken o b) { is_sure = false; is_quiet = false }
 
 unfoldable pub after_message : Browser → Message Outcome → Browser
 after_message b (message.Event event) = told event b

@@ -1,5 +1,5 @@
 -- Names as they are shown: each in its own way, so that none can be taken for another.
-use Rattle.std.specs.Prelude.{ℕ, Bool, not, ◌==◌, ◌&&◌, ◌/◌, ◌%◌, ◌^◌, ◌*◌, nat_lt, if◌then◌else◌}
+use Rattle.std.specs.Prelude.{ℕ, Bool, not, ◌==◌, ◌&&◌, ◌/◌, ◌%◌, nat_lt, if◌then◌else◌}
 use Rattle.std.specs.Prelude.{List, [], ◌∷◌, ◌++◌, codes, chars, encode_utf8}
 use Rattle.std.specs.{Str.byte, List.flat_map, Char.digit_char}
 use Rattle.ansi_model.specs.Symbols.{is_shown, has_columns}
@@ -9,17 +9,18 @@ use Rattle.ansi_model.specs.Symbols.{is_shown, has_columns}
 abbrev pub is_plain : ℕ → Bool
 is_plain c = not (c == byte "\\") && not (c == byte "\"") && is_shown c && has_columns c
 
--- the hexadecimal digit of a number before which so many others stand
-abbrev pub digit_at : ℕ → ℕ → List ℕ
-digit_at n place = digit_char (n / 16 ^ place % 16) ∷ []
+-- the last hexadecimal digit of a number
+abbrev pub last_digit : ℕ → List ℕ
+last_digit n = digit_char (n % 16) ∷ []
 
 -- what stands for a character: a backslash, x, and two digits, if it is below 256, as `\x1b`; or u and six digits
 abbrev pub escaped_low : ℕ → List ℕ
-escaped_low c = codes "\\x" ++ digit_at c 1 ++ digit_at c 0
+escaped_low c = codes "\\x" ++ last_digit (c / 16) ++ last_digit c
 
 abbrev pub escaped_high : ℕ → List ℕ
 escaped_high c =
-    codes "\\u" ++ digit_at c 5 ++ digit_at c 4 ++ digit_at c 3 ++ digit_at c 2 ++ digit_at c 1 ++ digit_at c 0
+    codes "\\u" ++ last_digit (c / 1048576) ++ last_digit (c / 65536) ++ last_digit (c / 4096) ++ last_digit (c / 256)
+    ++ last_digit (c / 16) ++ last_digit c
 
 abbrev pub shown_char : ℕ → List ℕ
 shown_char c =

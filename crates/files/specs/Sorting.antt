@@ -5,6 +5,7 @@ use Rattle.std.specs.{Str.byte, List.AllZip}
 use Rattle.ratatui_files.specs.declared.answer.Info.{Info}
 use Rattle.ratatui_files.specs.declared.answer.Kind.{Kind}
 use Rattle.ratatui_files.specs.declared.answer.Kind.TheVariants.{Folder, File, Link, Other}
+use Rattle.std.specs.declared.cmp.Ordering.{Ordering}
 use Rattle.files.specs.declared.list.Row.{Row}
 
 -- a name is hidden that begins with a dot
@@ -40,13 +41,16 @@ abbrev pub AreRowsOf : Bool → List Info → List Row → Type 0
 AreRowsOf hidden entries = AllZip IsRowOf (filter (λ info. is_listed hidden info.name) entries)
 
 -- a row more, if the entry is listed
-abbrev pub AddsIf : Bool → Info → List Row → List Row → Type 0
-AddsIf hidden info old new =
-    if is_listed hidden info.name then ((row : Row) × IsRowOf info row × (new ≡ old ++ row ∷ [])) else (new ≡ old)
+abbrev pub AddsBy : Bool → Info → List Row → List Row → Type 0
+AddsBy true info old new = (row : Row) × IsRowOf info row × (new ≡ old ++ row ∷ [])
+AddsBy false info old new = new ≡ old
 
--- the rows of the entries that are listed: each of them, in order, folders first and then by name
-pub record IsListOf (hidden : Bool) (entries : List Info) (list : List Row) : Type 0 where
+abbrev pub AddsIf : Bool → Info → List Row → List Row → Type 0
+AddsIf hidden info old new = AddsBy (is_listed hidden info.name) info old new
+
+-- the rows of the entries that are listed: each of them, in an order
+pub record IsListOf (cmp : Row → Row → Ordering) (hidden : Bool) (entries : List Info) (list : List Row) : Type 0 where
   pub rows : List Row
   pub are : AreRowsOf hidden entries rows
   pub all : IsPermutation rows list
-  pub ordered : IsSorted ⟦<Row as Ord>⟧.cmp list
+  pub ordered : IsSorted cmp list

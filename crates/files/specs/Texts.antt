@@ -1,5 +1,5 @@
 -- The texts that stand in the rows.
-use Rattle.std.specs.Prelude.{ℕ, Bool, true, false, ◌+◌, ◌-◌, ◌==◌, min, nat_lt, nat_le, if◌then◌else◌}
+use Rattle.std.specs.Prelude.{ℕ, Bool, true, false, ◌+◌, ◌-◌, ◌==◌, ◌^◌, min, nat_lt, nat_le, if◌then◌else◌}
 use Rattle.std.specs.Prelude.{List, [], ◌∷◌, ◌++◌, length, codes, Option, Some, None, slice_get, string_bytes}
 use Rattle.std.specs.{Option.option_map_or, Fmt.decimal, List.repeat}
 use Rattle.ratatui_core.specs.Buffer.{text_columns}
@@ -130,9 +130,9 @@ fits width b = nat_le (text_columns (status_text b)) width
 
 -- ---- the rows
 
--- the place of the entry in a row of the list
+-- the place of the entry in a row of the list; so many entries as a number has no more are nowhere
 abbrev pub place_in : ℕ → Browser → ℕ
-place_in k b = b.top + k - 1
+place_in k b = min (b.top + k) (2 ^ 64 - 1) - 1
 
 -- what stands in a row, of as many as there are: the status in the last one, the title in the first one, and
 -- entries between them

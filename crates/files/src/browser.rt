@@ -2,7 +2,7 @@
 
 ghost use Rattle.std.specs.Prelude.{◌≡◌, false, IfOk, OnOk, OnErr};
 ghost use Rattle.files.specs.Moves.{new_browser, acted, at_told_size, told, answered, after_message};
-ghost use Rattle.files.specs.Moves.{quiet, asks, asked_by};
+ghost use Rattle.files.specs.Moves.{asks, asked_by};
 
 use crate::keys::{is_input, is_yes, wish_of};
 use crate::list::{Outcome, Rows};
@@ -174,6 +174,7 @@ impl Browser {
             }
         }
         self.is_sure = false;
+        self.is_quiet = false;
     }
 
     /// Returns whether it asks for something.

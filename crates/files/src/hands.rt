@@ -9,7 +9,7 @@ ghost use Rattle.files.specs.Questions.{change_in};
 ghost use Rattle.files.specs.Doing.{IsAbove, Lists, TellsListing, TellsChange, Listed, Changed};
 
 use crate::browser::{Browser, Mode};
-use crate::list::{Listing, Outcome};
+use crate::list::{Listing, Outcome, Row};
 use crate::sorting::{place_of, sorted};
 use ratatui_acts::Outside;
 use ratatui_app::OnGlass;
@@ -79,7 +79,7 @@ fn listed(
     folder: Path,
     answer: Answer,
 ) -> Result<Outcome, AllocError>
-    ensures { IfOk result (TellsListing browser.now.has_hidden folder answer) }
+    ensures { IfOk result (TellsListing ⟦<Row as Ord>⟧.cmp browser.now.has_hidden folder answer) }
 {
     match answer {
         Answer::Listed(entries, unnamed) => {
@@ -146,7 +146,7 @@ impl<P: Performs + Drop> Hands<P> {
     fn change<W: Write + Drop>(&mut self, glass: &OnGlass<W>, browser: &Browser) -> Outcome
         requires shown { StandsOnGlass (PaintsBrowser browser.now) (browser_cursor browser.now)
             glass.now.terminal }
-        ensures { Changed P.does (change_in browser.now.mode browser.now)
+        ensures { Changed ⟦<Row as Ord>⟧.cmp P.does (change_in browser.now.mode browser.now)
             self.old.files result self.new.files }
     {
         let Ok(wanted) = browser.change() else {
@@ -165,7 +165,7 @@ impl<P: Performs + Drop> Hands<P> {
 
     // Lists the folder that a browser asks for.
     fn list(&mut self, browser: &Browser) -> Outcome
-        ensures { Listed P.does browser.now self.old.files result self.new.files }
+        ensures { Listed ⟦<Row as Ord>⟧.cmp P.does browser.now self.old.files result self.new.files }
     {
         let Ok(wanted) = folder_of(self.alloc, browser) else {
             return Outcome::Failed(Failure::Memory);
@@ -187,7 +187,7 @@ impl<P: Performs + Drop> Hands<P> {
 impl<P: Performs + Drop, W: Write + Drop> Outside<Browser, OnGlass<W>> for Hands<P> {
     ghost use Rattle.files.specs.Doing.{Does};
 
-    ghost answers = { λ before b outcome after. Does P.does b before.files outcome after.files };
+    ghost answers = { λ before b outcome after. Does ⟦<Row as Ord>⟧.cmp P.does b before.files outcome after.files };
 
     fn perform(
         &mut self,

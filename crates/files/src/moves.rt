@@ -1,9 +1,9 @@
 //! What is made of a wish, and of what is typed.
 
-ghost use Rattle.std.specs.Prelude.{◌≡◌, ◌&&◌, if◌then◌else◌, IfOk, OnOk, OnErr};
+ghost use Rattle.std.specs.Prelude.{◌≡◌, ◌+◌, ◌-◌, if◌then◌else◌, length, IfOk, OnOk, OnErr};
 ghost use Rattle.text_field.specs.Keys.{edited};
 ghost use Rattle.files.specs.Moves.{list_rows, last_place, settled, selected_at, moved, is_folder_selected};
-ghost use Rattle.files.specs.Moves.{follows_dot, at_extension, selected_field, typing_in, renaming, gone, wished};
+ghost use Rattle.files.specs.Moves.{follows_dot, to_dot, at_extension, selected_field, typing_in, renaming, gone, wished};
 ghost use Rattle.files.specs.Moves.{confirmed, typed_into, names_typed, listed};
 
 use crate::browser::{Browser, Mode, Note};
@@ -24,14 +24,26 @@ fn follows_dot(field: &TextField) -> bool
     }
 }
 
+// Brings the cursor to the left before the last dot that isn't the first character, or to the start.
+fn go_to_dot(field: &mut TextField)
+    ensures { field.new ≡ to_dot (length field.old.before) field.old }
+{
+    let count = field.before().len();
+    for _step in 0..count {
+        let is_behind = follows_dot(field);
+        field.move_left(Reach::Grapheme);
+        if is_behind {
+            return;
+        }
+    }
+}
+
 // Brings the cursor from the end of a name before its extension, if it has one.
 fn go_to_extension(field: &mut TextField)
     ensures { field.new ≡ at_extension field.old }
 {
-    field.move_left(Reach::Word);
-    if follows_dot(field) {
-        field.move_left(Reach::Grapheme);
-    } else {
+    go_to_dot(field);
+    if field.before().is_empty() {
         field.move_right(Reach::All);
     }
 }
@@ -57,7 +69,7 @@ impl Browser {
     {
         let rows = self.list_rows();
         let top = self.top.min(self.list.len().saturating_sub(rows));
-        let lowest = self.selected.saturating_add(1).saturating_sub(rows);
+        let lowest = self.selected.saturating_sub(rows.saturating_sub(1));
         self.top = top.max(lowest).min(self.selected);
     }
 
@@ -69,22 +81,38 @@ impl Browser {
         self.settle();
     }
 
+    // Selects the entry so many rows further.
+    fn go_down(&mut self, rows: usize)
+        ensures { self.new ≡ selected_at (self.old.selected + rows) self.old }
+    {
+        let last = self.last_place();
+        self.select(self.selected.saturating_add(rows).min(last));
+    }
+
+    // Selects the entry so many rows back.
+    fn go_up(&mut self, rows: usize)
+        ensures { self.new ≡ selected_at (self.old.selected - rows) self.old }
+    {
+        self.select(self.selected.saturating_sub(rows));
+    }
+
     // Selects another entry.
     fn move_by(&mut self, wish: Wish)
         ensures { self.new ≡ moved wish self.old }
     {
         let page = self.list_rows();
-        let half = page / 2;
-        let at = self.selected;
         match wish {
-            Wish::Down => self.select(at.saturating_add(1)),
-            Wish::Up => self.select(at.saturating_sub(1)),
-            Wish::PageDown => self.select(at.saturating_add(page)),
-            Wish::PageUp => self.select(at.saturating_sub(page)),
-            Wish::HalfDown => self.select(at.saturating_add(half)),
-            Wish::HalfUp => self.select(at.saturating_sub(half)),
+            Wish::Down => self.go_down(1),
+            Wish::Up => self.go_up(1),
+            Wish::PageDown => self.go_down(page),
+            Wish::PageUp => self.go_up(page),
+            Wish::HalfDown => self.go_down(page / 2),
+            Wish::HalfUp => self.go_up(page / 2),
             Wish::ToFirst => self.select(0),
-            Wish::ToLast => self.select(self.last_place()),
+            Wish::ToLast => {
+                let last = self.last_place();
+                self.select(last);
+            }
             _ => {}
         }
     }
@@ -146,13 +174,22 @@ impl Browser {
         ensures { self.new ≡ gone wish self.old }
     {
         match wish {
-            Wish::Enter => self.turn_if(self.is_folder_selected(), Mode::Entering),
-            Wish::Leave => self.turn_if(!self.folder.as_str().is_empty(), Mode::Leaving),
+            Wish::Enter => {
+                let may = self.is_folder_selected();
+                self.turn_if(may, Mode::Entering);
+            }
+            Wish::Leave => {
+                let may = !self.folder.as_str().is_empty();
+                self.turn_if(may, Mode::Leaving);
+            }
             Wish::Hidden => {
                 self.has_hidden = !self.has_hidden;
                 self.mode = Mode::Listing;
             }
-            Wish::Remove => self.turn_if(self.list.len() > 0, Mode::Removing),
+            Wish::Remove => {
+                let may = self.list.len() > 0;
+                self.turn_if(may, Mode::Removing);
+            }
             Wish::Quit => self.mode = Mode::Over,
             other => self.move_by(other),
         }

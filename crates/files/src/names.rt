@@ -1,9 +1,8 @@
 //! Names as they are shown.
 
-ghost use Rattle.std.specs.Prelude.{◌≡◌, ◌++◌, ◌<◌, OnOk, string_bytes};
-ghost use Rattle.std.specs.Char.{digit_char};
+ghost use Rattle.std.specs.Prelude.{◌≡◌, ◌++◌, OnOk, string_bytes};
 ghost use Rattle.ansi_model.specs.Symbols.{is_shown, has_columns};
-ghost use Rattle.files.specs.Names.{is_plain, digit_at, escaped_low, escaped_high, shown_char, shown_name};
+ghost use Rattle.files.specs.Names.{is_plain, last_digit, escaped_low, escaped_high, shown_char, shown_name};
 
 use ansi_model::is_plain as is_plain_char;
 use std::alloc::AllocError;
@@ -38,13 +37,11 @@ fn is_plain(c: char) -> bool
     c != '\\' && c != '"' && is_shown(c) && has_columns(c)
 }
 
-// Appends the hexadecimal digit of a number that stands before so many others.
-fn push_digit(text: &mut String, code: u32, place: u32) -> Result<(), AllocError>
-    requires { place < 8 }
-    ensures { OnOk result (string_bytes text.new ≡ string_bytes text.old ++ digit_at code place) }
+// Appends the last hexadecimal digit of a number.
+fn push_digit(text: &mut String, number: u32) -> Result<(), AllocError>
+    ensures { OnOk result (string_bytes text.new ≡ string_bytes text.old ++ last_digit number) }
 {
-    let digit = (code >> (4 * place)) & 15;
-    match char::from_digit(digit, 16) {
+    match char::from_digit(number % 16, 16) {
         Some(digit) => text.push(digit),
         None => Ok(()),
     }
@@ -55,8 +52,8 @@ fn push_low(text: &mut String, code: u32) -> Result<(), AllocError>
     ensures { OnOk result (string_bytes text.new ≡ string_bytes text.old ++ escaped_low code) }
 {
     text.push_str("\\x")?;
-    push_digit(text, code, 1)?;
-    push_digit(text, code, 0)
+    push_digit(text, code / 16)?;
+    push_digit(text, code)
 }
 
 // Appends what stands for another character.
@@ -64,12 +61,12 @@ fn push_high(text: &mut String, code: u32) -> Result<(), AllocError>
     ensures { OnOk result (string_bytes text.new ≡ string_bytes text.old ++ escaped_high code) }
 {
     text.push_str("\\u")?;
-    push_digit(text, code, 5)?;
-    push_digit(text, code, 4)?;
-    push_digit(text, code, 3)?;
-    push_digit(text, code, 2)?;
-    push_digit(text, code, 1)?;
-    push_digit(text, code, 0)
+    push_digit(text, code / 1048576)?;
+    push_digit(text, code / 65536)?;
+    push_digit(text, code / 4096)?;
+    push_digit(text, code / 256)?;
+    push_digit(text, code / 16)?;
+    push_digit(text, code)
 }
 
 // Appends what is shown for a character.

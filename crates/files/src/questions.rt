@@ -1,8 +1,7 @@
 //! What is done to files if a question is answered by yes.
 
-ghost use Rattle.std.specs.Prelude.{◌≡◌, Some, None, IfOk};
-ghost use Rattle.ratatui_files.specs.declared.command.Command.TheVariants.{MakeFolder};
-ghost use Rattle.files.specs.Questions.{removal, renaming_to, making_of, change_in};
+ghost use Rattle.std.specs.Prelude.{◌≡◌, IfOk};
+ghost use Rattle.files.specs.Questions.{removal, change_in};
 
 use crate::browser::{Browser, Mode};
 use crate::list::Row;

@@ -49,7 +49,7 @@ pub(crate) fn sorted(
     entries: Entries,
     has_hidden: bool,
 ) -> Result<Rows, AllocError>
-    ensures { IfOk result (IsListOf has_hidden entries) }
+    ensures { IfOk result (IsListOf ⟦<Row as Ord>⟧.cmp has_hidden entries) }
 {
     let mut rows = Vec::new(alloc);
     for info in entries.into_vec() {

@@ -1,6 +1,6 @@
 //! The texts that stand in the rows.
 
-ghost use Rattle.std.specs.Prelude.{◌≡◌, ◌++◌, [], OnOk, IfOk, string_bytes};
+ghost use Rattle.std.specs.Prelude.{◌≡◌, ◌++◌, ◌<◌, OnOk, IfOk, string_bytes};
 ghost use Rattle.ratatui_core.specs.Buffer.{text_columns};
 ghost use Rattle.files.specs.Texts.{failure_text, shown_row, size_text, beside, row_text, title_text, selected_text};
 ghost use Rattle.files.specs.Texts.{selected_shown, place_text, subject, note_text, prompt, status_text, column_in};

@@ -1,0 +1,3 @@
+pub mod PaintLemmas
+pub mod SortLemmas
+pub mod MoveLemmas
