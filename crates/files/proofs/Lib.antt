@@ -1,3 +1,6 @@
 pub mod PaintLemmas
 pub mod SortLemmas
 pub mod MoveLemmas
+pub mod NameLemmas
+pub mod LawLemmas
+pub mod QuestionLemmas

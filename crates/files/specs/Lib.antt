@@ -7,3 +7,4 @@ pub mod PageLemmas
 pub mod Questions
 pub mod Sorting
 pub mod Doing
+pub mod Laws
