@@ -24,7 +24,7 @@ use Rattle.files.specs.declared.list.Outcome.TheVariants as outcome
 use Rattle.files.specs.Keys.{event_wish, event_typing, is_input, is_yes}
 use Rattle.files.specs.Texts.{fits}
 use Rattle.files.specs.Moves.{settled, selected_at, last_place, list_rows, moved, gone, granted, wished, renaming, typing_in}
-use Rattle.files.specs.Moves.{confirmed, typed_into, acted, at_told_size, told, answered, after_message, new_browser}
+use Rattle.files.specs.Moves.{asks_in, confirmed, typed_into, acted, at_told_size, told, answered, after_message, new_browser}
 use Rattle.files.specs.Moves.{is_folder_selected}
 use Rattle.files.specs.Laws.{IsPlaced, ListsSame}
 
@@ -45,6 +45,7 @@ settled-little b above below full =
 
 -- a yes that counts
 pub record Counts (b c : Browser) : Type 0 where
+  pub may : asks_in b.mode true ≡ true
   pub quiet : b.is_quiet ≡ true
   pub whole : fits b.size.width b ≡ true
   pub is : c ≡ record b { is_sure = true }
@@ -142,36 +143,41 @@ wished-keeps w b = let k = granted-keeps w b in record {
   sure = inl (granted-sure w b);
 }
 
-confirmed-by : (quiet whole : Bool) (b : Browser) → b.is_quiet ≡ quiet → fits b.size.width b ≡ whole → Keeps b
+confirmed-by : (quiet whole : Bool) (b : Browser) → asks_in b.mode true ≡ true → b.is_quiet ≡ quiet
+    → fits b.size.width b ≡ whole → Keeps b
     (if not quiet then b else if whole then record b { is_sure = true } else record b { mode = Looking; note = Narrow })
-confirmed-by false whole b q w = keeps-it b
-confirmed-by true true b q w = record {
+confirmed-by false whole b may q w = keeps-it b
+confirmed-by true true b may q w = record {
   folder = refl;
   list = refl;
   unnamed = refl;
   placed = λ p. placed-same b _ refl refl refl refl p;
-  sure = inr (record { quiet = q; whole = w; is = refl });
+  sure = inr (record { may = may; quiet = q; whole = w; is = refl });
 }
-confirmed-by true false b q w = keeps-same b _ refl refl refl refl refl refl refl
+confirmed-by true false b may q w = keeps-same b _ refl refl refl refl refl refl refl
 
-confirmed-keeps : (b : Browser) → Keeps b (confirmed b)
-confirmed-keeps b = confirmed-by b.is_quiet (fits b.size.width b) b refl refl
+confirmed-keeps : (b : Browser) → asks_in b.mode true ≡ true → Keeps b (confirmed b)
+confirmed-keeps b may = confirmed-by b.is_quiet (fits b.size.width b) b may refl refl
 
-typed-keeps : (t : Typing) (b : Browser) → Keeps b (typed_into t b)
-typed-keeps (Change edit) b = keeps-typing b.mode _ b
-typed-keeps Accept b = confirmed-keeps b
-typed-keeps Cancel b = keeps-mode Looking b
-typed-keeps Ignore b = keeps-it b
+typed-keeps : (t : Typing) (b : Browser) → asks_in b.mode true ≡ true → Keeps b (typed_into t b)
+typed-keeps (Change edit) b may = keeps-typing b.mode _ b
+typed-keeps Accept b may = confirmed-keeps b may
+typed-keeps Cancel b may = keeps-mode Looking b
+typed-keeps Ignore b may = keeps-it b
 
-acted-keeps : (mode : Mode) (e : Event) (b : Browser) → Keeps b (acted mode e b)
-acted-keeps Looking e b = wished-keeps (event_wish e) b
-acted-keeps Removing e b = keeps-if (is_yes e) b _ _ (confirmed-keeps b) (keeps-mode Looking b)
-acted-keeps Renaming e b = typed-keeps (event_typing e) b
-acted-keeps Making e b = typed-keeps (event_typing e) b
-acted-keeps Listing e b = keeps-it b
-acted-keeps Entering e b = keeps-it b
-acted-keeps Leaving e b = keeps-it b
-acted-keeps Over e b = keeps-it b
+may-be : (mode : Mode) (b : Browser) → b.mode ≡ mode → asks_in mode true ≡ true → asks_in b.mode true ≡ true
+may-be mode b at may = ap (λ m. asks_in m true) at ∙ may
+
+acted-keeps : (mode : Mode) (e : Event) (b : Browser) → b.mode ≡ mode → Keeps b (acted mode e b)
+acted-keeps Looking e b at = wished-keeps (event_wish e) b
+acted-keeps Removing e b at =
+    keeps-if (is_yes e) b _ _ (confirmed-keeps b (may-be Removing b at refl)) (keeps-mode Looking b)
+acted-keeps Renaming e b at = typed-keeps (event_typing e) b (may-be Renaming b at refl)
+acted-keeps Making e b at = typed-keeps (event_typing e) b (may-be Making b at refl)
+acted-keeps Listing e b at = keeps-it b
+acted-keeps Entering e b at = keeps-it b
+acted-keeps Leaving e b at = keeps-it b
+acted-keeps Over e b at = keeps-it b
 
 -- ---- what is told
 
@@ -188,12 +194,12 @@ sized-placed (Some size) b p = settled-placed (record b {
 
 told-folder : (input : Bool) (e : Event) (b : Browser) → ListsSame b
     (if input then record (acted b.mode e b) { is_quiet = false } else at_told_size (size_in e) b)
-told-folder true e b = let k = acted-keeps b.mode e b in record { folder = k.folder; list = k.list; unnamed = k.unnamed }
+told-folder true e b = let k = acted-keeps b.mode e b refl in record { folder = k.folder; list = k.list; unnamed = k.unnamed }
 told-folder false e b = sized-folder (size_in e) b
 
 told-placed : (input : Bool) (e : Event) (b : Browser) → IsPlaced b → IsPlaced
     (if input then record (acted b.mode e b) { is_quiet = false } else at_told_size (size_in e) b)
-told-placed true e b p = placed-same (acted b.mode e b) _ refl refl refl refl ((acted-keeps b.mode e b).placed p)
+told-placed true e b p = placed-same (acted b.mode e b) _ refl refl refl refl ((acted-keeps b.mode e b refl).placed p)
 told-placed false e b p = sized-placed (size_in e) b p
 
 pub event-folder : (b : Browser) (e : Event) → ListsSame b (after_message b (message.Event e))
@@ -223,8 +229,9 @@ counted b = record b { is_sure = true; is_quiet = false }
 
 counts-by : (b c : Browser) → (c.is_sure ≡ b.is_sure) ⊎ Counts b c → b.is_sure ≡ false → c.is_sure ≡ true
     → (b.is_quiet ≡ true) × (fits b.size.width b ≡ true) × (record c { is_quiet = false } ≡ counted b)
+    × (asks_in b.mode true ≡ true)
 counts-by b c (inl same) unsure sure = let both : false ≡ true = sym unsure ∙ sym same ∙ sure in absurd (cc)
-counts-by b c (inr k) unsure sure = (k.quiet, k.whole, ap (λ (d : Browser). record d { is_quiet = false }) k.is)
+counts-by b c (inr k) unsure sure = (k.quiet, k.whole, ap (λ (d : Browser). record d { is_quiet = false }) k.is, k.may)
 
 sized-sure : (size : Option (ℕ × ℕ)) (b : Browser) → (at_told_size size b).is_sure ≡ b.is_sure
 sized-sure None b = refl
@@ -234,12 +241,14 @@ told-counts : (input : Bool) (e : Event) (b : Browser) → b.is_sure ≡ false
     → (if input then record (acted b.mode e b) { is_quiet = false } else at_told_size (size_in e) b).is_sure ≡ true
     → (b.is_quiet ≡ true) × (fits b.size.width b ≡ true)
     × ((if input then record (acted b.mode e b) { is_quiet = false } else at_told_size (size_in e) b) ≡ counted b)
-told-counts true e b unsure sure = counts-by b (acted b.mode e b) (acted-keeps b.mode e b).sure unsure sure
+    × (asks_in b.mode true ≡ true)
+told-counts true e b unsure sure = counts-by b (acted b.mode e b) (acted-keeps b.mode e b refl).sure unsure sure
 told-counts false e b unsure sure =
     let bad : false ≡ true = sym unsure ∙ sym (sized-sure (size_in e) b) ∙ sure in absurd (cc)
 
 pub yes-counts : (b : Browser) (e : Event) → b.is_sure ≡ false → (after_message b (message.Event e)).is_sure ≡ true
     → (b.is_quiet ≡ true) × (fits b.size.width b ≡ true) × (after_message b (message.Event e) ≡ counted b)
+    × (asks_in b.mode true ≡ true)
 unfolding after_message
 yes-counts b e unsure sure = told-counts (is_input e) e b unsure sure
 

@@ -4,3 +4,4 @@ pub mod MoveLemmas
 pub mod NameLemmas
 pub mod LawLemmas
 pub mod QuestionLemmas
+pub mod SoundLemmas

@@ -1,11 +1,15 @@
 -- What is known of browsers.
-use Rattle.std.specs.Prelude.{◌≡◌, ◌+◌, ◌<◌, ◌≤◌, ℕ, true, List, ◌++◌, codes, string_bytes}
+use Rattle.std.specs.Prelude.{◌≡◌, ◌⊎◌, false, ◌+◌, ◌<◌, ◌≤◌, ℕ, Bool, true, List, ◌++◌, codes, string_bytes}
 use Rattle.ratatui_files.specs.Paths.{path_in}
+use Rattle.ratatui_acts.specs.Turns.{ActingRules}
 use Rattle.files.specs.declared.list.Row.{Row}
+use Rattle.files.specs.declared.list.Outcome.{Outcome}
 use Rattle.files.specs.declared.browser.Browser.{Browser}
-use Rattle.files.specs.Moves.{last_place, list_rows}
+use Rattle.files.specs.declared.browser.Mode.{Mode}
+use Rattle.files.specs.declared.browser.Mode.TheVariants.{Removing, Renaming, Making}
+use Rattle.files.specs.Moves.{last_place, list_rows, asks, after_message, asked_by, is_over}
 use Rattle.files.specs.Names.{shown_name}
-use Rattle.files.specs.Texts.{shown_row, status_text}
+use Rattle.files.specs.Texts.{shown_row, status_text, fits}
 
 -- the selection is an entry of the list, unless that is empty, and stands in one of its rows, if there are some
 pub record IsPlaced (b : Browser) : Type 0 where
@@ -32,3 +36,18 @@ pub record AsksToRename (b : Browser) (from to : List ℕ) : Type 0 where
   pub from_is : from ≡ path_in b.folder (string_bytes row.name)
   pub to_is : to ≡ path_in b.folder name
   pub asks : status_text b ≡ (codes "rename \"" ++ shown_row row ++ codes "\" to \"") ++ shown_name name ++ codes "\""
+
+-- nothing is sure, or a question is that the screen shows whole
+abbrev pub IsSound : Browser → Type 0
+IsSound b = (b.is_sure ≡ false) ⊎ ((asks b ≡ true) × (fits b.size.width b ≡ true))
+
+-- browsing, as a state that acts
+abbrev pub browsing : ActingRules Browser Browser Outcome
+browsing = record { updated = after_message; asked = asked_by; is_over = is_over }
+
+-- a question is asked that changes something
+abbrev pub is_change : Mode → Bool
+is_change Removing = true
+is_change Renaming = true
+is_change Making = true
+is_change _ = false
