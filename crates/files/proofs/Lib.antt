@@ -5,3 +5,4 @@ pub mod NameLemmas
 pub mod LawLemmas
 pub mod QuestionLemmas
 pub mod SoundLemmas
+pub mod RunLemmas

@@ -1,6 +1,6 @@
 -- Texts painted in rows, and what may be painted after them.
 use Rattle.std.proofs.Common.{◌≡◌, ℕ, ◌+◌, ◌<◌, ◌≤◌, List, Result, Ok, Err, OnOk, OnErr}
-use Rattle.std.proofs.Common.{ap, ◌∙◌, subst, refl, arith, add-one}
+use Rattle.std.proofs.Common.{ap, ◌∙◌, subst, refl, arith, add-one, inl}
 use Rattle.std.specs.{declared.alloc.AllocError.AllocError}
 use Rattle.ratatui_core.specs.{Layout.Rect, Layout.IsInside, Style.Style, Widgets.ChangesWithin}
 use Rattle.ratatui_core.specs.{Widgets.IsClipped}
@@ -28,6 +28,14 @@ pub part-ready : (part : Rect) (y : ℕ) (s : BufferData) → IsBoxArea part →
 part-ready part y s box inside top bottom ready =
     let right = part-right part s.area part.x 0 box inside (omega arith) in
     ready-row part.x y s ready (part-has_row part s.area y box inside top bottom) (omega arith)
+
+-- where a row is painted, what is below it may be painted
+pub ready-below : (x y : ℕ) (s : BufferData) → IsReadyAt x y s → IsReadyFrom (y + 1) s
+ready-below x y s ready = record {
+  edges = ready.edges;
+  settled = ready.settled;
+  plain = λ p has below. ready.plain p has (inl (omega arith));
+}
 
 pub rows-none : (b : Browser) (r : Rect) (s : BufferData) → PaintsRows b r 0 s s
 unfolding PaintsRows

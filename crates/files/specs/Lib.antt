@@ -8,3 +8,4 @@ pub mod Questions
 pub mod Sorting
 pub mod Doing
 pub mod Laws
+pub mod RunLaws

@@ -4,7 +4,7 @@ ghost use Rattle.std.specs.Prelude.{◌≡◌, ◌+◌, ◌<◌, ◌≤◌, ℕ,
 ghost use Rattle.std.specs.Str.{IsUtf8};
 ghost use Rattle.std.specs.declared.alloc.Global.{Global as GlobalData};
 ghost use Rattle.std.specs.declared.time.Duration.{Duration};
-ghost use Rattle.ratatui_core.specs.Layout.{Size};
+ghost use Rattle.ratatui_core.specs.Layout.{Size as SizeData};
 ghost use Rattle.ratatui_events.specs.declared.event.Event.{Event};
 ghost use Rattle.ratatui_acts.specs.declared.message.Message.TheVariants as message;
 ghost use Rattle.ratatui_acts.specs.declared.message.Message.{Message};
@@ -18,7 +18,15 @@ ghost use Rattle.files.specs.Names.{shown_name};
 ghost use Rattle.files.specs.Texts.{fits};
 ghost use Rattle.files.specs.Moves.{new_browser, after_message, list_rows, settled};
 ghost use Rattle.files.specs.Questions.{change_in};
-ghost use Rattle.files.specs.Laws.{IsPlaced, ListsSame, AsksToRemove, AsksToRename};
+ghost use Rattle.ratatui_acts.specs.Runs.{Now, Past, HasRun};
+ghost use Rattle.ratatui_app.specs.declared.on_glass.OnGlass.{OnGlass};
+ghost use Rattle.files.specs.RunLaws.{browsing_on, AreNamed};
+ghost use Rattle.files.specs.Laws.{IsSound, IsPlaced, ListsSame, AsksToRemove, AsksToRename};
+
+use crate::browser::Browser;
+use ratatui_acts::{Hears, Outside};
+use ratatui_app::OnGlass;
+use std::io::Write;
 
 /// Names that are shown alike are the same.
 pub fn names_are_told_apart()
@@ -29,7 +37,7 @@ pub fn names_are_told_apart()
 /// The selection is always an entry of the list, unless that is empty, and stands in one of its
 /// rows; these move only if it wouldn't, or if blank rows would stand below the last entry.
 pub fn the_selection_is_in_its_rows()
-    ensures first { (alloc : GlobalData) (title : List ℕ) (size : Size)
+    ensures first { (alloc : GlobalData) (title : List ℕ) (size : SizeData)
         → IsPlaced (new_browser alloc title size) }
     ensures next { (b : Browser) (m : Message Outcome) → IsPlaced b → IsPlaced (after_message b m) }
     ensures little { (b : Browser) → b.top ≤ b.selected → b.selected < b.top + list_rows b
@@ -76,3 +84,18 @@ pub fn a_yes_counts_after_a_pause()
 {}
 
 // ---- runs
+
+/// Whatever a run did to files, it did while each terminal that had read what was sent until then
+/// showed the browser that asked for it; and where that changes something, the screen has columns
+/// for the whole question. A browser begins sound.
+pub fn things_are_changed_while_they_are_named<
+    W: Write + Drop,
+    H: Hears<Browser, OnGlass<W>>,
+    O: Outside<Browser, OnGlass<W>>,
+>()
+    ensures first { (alloc : GlobalData) (title : List ℕ) (size : SizeData)
+        → IsSound (new_browser alloc title size) }
+    ensures named { (begun now : Now Browser (OnGlass W) H O)
+        (past : List (Past Browser Browser Outcome (OnGlass W) H O)) → IsSound begun.standing.state
+        → HasRun (browsing_on H.gives H.fails O.answers) begun past now → AreNamed past }
+{}

@@ -1,7 +1,7 @@
 use Rattle.std.proofs.Common.{◌+◌}
 use Rattle.ratatui_core.specs.{Widgets.ChangesWithin, Buffer.IsReadyFrom}
 use Rattle.files.specs.Pages.{PaintsRows}
-use Rattle.files.proofs.page.Browser.paint_rows.Given as goal
+use Rattle.files.proofs.browser.Browser.paint_rows.Given as goal
 
 abbrev pub invariant-loop-k : goal.invariant-loop-k
 invariant-loop-k l = record {

@@ -2,7 +2,7 @@ use Rattle.std.proofs.Common.{arith, subst}
 use Rattle.ratatui_core.specs.Buffer.{IsReadyFrom}
 use Rattle.ratatui_core.proofs.{BufferLemmas.within-same, WidgetLemmas.within-then}
 use Rattle.files.proofs.PaintLemmas.{rows-none, rows-next}
-use Rattle.files.proofs.page.Browser.paint_rows.Goals as goal
+use Rattle.files.proofs.browser.Browser.paint_rows.Goals as goal
 
 pub loop-k-init : goal.loop-k-init
 loop-k-init c = record {
