@@ -6,7 +6,7 @@ ghost use Rattle.ratatui_app.specs.Glass.{StandsOnGlass};
 ghost use Rattle.files.specs.Texts.{status_text};
 ghost use Rattle.files.specs.Pages.{PaintsBrowser, browser_cursor};
 ghost use Rattle.files.specs.Questions.{change_in};
-ghost use Rattle.files.specs.Doing.{IsAbove, Lists, TellsListing, TellsChange, Listed, Changed};
+ghost use Rattle.files.specs.Doing.{IsAbove, Lists, TellsListing, told_of, Listed, Changed};
 
 use crate::browser::{Browser, Mode};
 use crate::list::{Listing, Outcome, Row};
@@ -100,7 +100,7 @@ fn listed(
 
 // What was answered of a change.
 fn changed(answer: Answer) -> Outcome
-    ensures { TellsChange answer result }
+    ensures { result ≡ told_of answer }
 {
     match answer {
         Answer::Done => Outcome::Done,
