@@ -1,5 +1,5 @@
 -- What is done to files for a browser.
-use Rattle.std.specs.Prelude.{◌≡◌, ◌⊎◌, ℕ, Bool, List, Option, Some, None, IsTrue}
+use Rattle.std.specs.Prelude.{◌≡◌, ◌⊎◌, ℕ, Bool, List, [], Option, Some, None, IsTrue}
 use Rattle.ratatui_files.specs.Paths.{is_name, path_in}
 use Rattle.ratatui_files.specs.declared.command.Command.{Command}
 use Rattle.ratatui_files.specs.declared.command.Command.TheVariants.{List as ListFolder}
@@ -16,29 +16,49 @@ use Rattle.files.specs.declared.browser.Browser.{Browser}
 use Rattle.files.specs.declared.browser.Mode.{Mode}
 use Rattle.files.specs.declared.browser.Mode.TheVariants.{Looking, Listing, Entering, Leaving, Removing, Renaming}
 use Rattle.files.specs.declared.browser.Mode.TheVariants.{Making, Over}
-use Rattle.files.specs.Texts.{selected_text}
+use Rattle.files.specs.declared.hands.Wanted.{Wanted}
+use Rattle.ratatui_files.specs.declared.answer.Info.{Info}
+use Rattle.files.specs.Texts.{selected_text, sought_text}
 use Rattle.files.specs.Questions.{named_path, change_in}
-use Rattle.files.specs.Sorting.{IsListOf}
+use Rattle.files.specs.Sorting.{IsListOf, IsPlaceOf}
 
--- a folder is in another one
-pub record IsAbove (folder above : List ℕ) : Type 0 where
-  pub name : List ℕ
-  pub is : folder ≡ path_in above name
-  pub named : IsTrue (is_name name)
+-- a folder is in the one that is wanted, by the name that is to be selected
+pub record IsAbove (folder : List ℕ) (w : Wanted) : Type 0 where
+  pub is : folder ≡ path_in w.folder w.name
+  pub named : IsTrue (is_name w.name)
+  pub other : w.other ≡ 0
+
+-- the folder that is shown is wanted, with the same entry selected, or the one whose name was typed
+pub record IsShown (b : Browser) (w : Wanted) : Type 0 where
+  pub folder : w.folder ≡ b.folder
+  pub name : w.name ≡ sought_text b
+  pub other : w.other ≡ b.selected
+
+-- the folder that is selected is wanted, with its first entry selected
+pub record IsSelected (b : Browser) (w : Wanted) : Type 0 where
+  pub folder : named_path b (selected_text b) ≡ Some w.folder
+  pub name : w.name ≡ []
+  pub other : w.other ≡ 0
 
 -- the folder that is asked for: the one that is shown, the one that is selected, or the one above
-abbrev pub Lists : Mode → Browser → List ℕ → Type 0
-Lists Listing b path = path ≡ b.folder
-Lists Entering b path = named_path b (selected_text b) ≡ Some path
-Lists Leaving b path = IsAbove b.folder path
-Lists _ b path = ⊥
+abbrev pub Lists : Mode → Browser → Wanted → Type 0
+Lists Listing b w = IsShown b w
+Lists Entering b w = IsSelected b w
+Lists Leaving b w = IsAbove b.folder w
+Lists _ b w = ⊥
 
 -- a folder was listed with this answer: it is told in order, or why it wasn't
-abbrev pub TellsListing : (Row → Row → Ordering) → Bool → List ℕ → Answer → Outcome → Type 0
-TellsListing cmp hidden folder (answer.Listed entries unnamed) (outcome.Listed l) =
-    (l.folder ≡ folder) × (l.unnamed ≡ unnamed) × IsListOf cmp hidden entries l.rows
-TellsListing cmp hidden folder (answer.Failed why) o = o ≡ outcome.Failed why
-TellsListing cmp hidden folder a o = o ≡ outcome.Failed failure.Other
+pub record TellsRows (cmp : Row → Row → Ordering) (hidden : Bool) (w : Wanted) (entries : List Info) (count : ℕ)
+    (l : ListingData) : Type 0 where
+  pub folder : l.folder ≡ w.folder
+  pub unnamed : l.unnamed ≡ count
+  pub rows : IsListOf cmp hidden entries l.rows
+  pub place : IsPlaceOf w.name w.other l.rows l.place
+
+abbrev pub TellsListing : (Row → Row → Ordering) → Bool → Wanted → Answer → Outcome → Type 0
+TellsListing cmp hidden w (answer.Listed entries unnamed) (outcome.Listed l) = TellsRows cmp hidden w entries unnamed l
+TellsListing cmp hidden w (answer.Failed why) o = o ≡ outcome.Failed why
+TellsListing cmp hidden w a o = o ≡ outcome.Failed failure.Other
 
 -- a change was done with this answer
 abbrev pub told_of : Answer → Outcome
@@ -65,11 +85,11 @@ module _ {P : Type 0} (cmp : Row → Row → Ordering) (does : P → Command →
 
   -- a folder that is asked for was listed, and what it holds is told; or memory was refused for that
   pub record Looks (b : Browser) (files : P) (o : Outcome) (files' : P) : Type 0 where
-    pub folder : List ℕ
-    pub asked : Lists b.mode b folder
+    pub wanted : Wanted
+    pub asked : Lists b.mode b wanted
     pub answer : Answer
-    pub done : does files (ListFolder folder) answer files'
-    pub tells : TellsListing cmp b.has_hidden folder answer o ⊎ (o ≡ outcome.Failed failure.Memory)
+    pub done : does files (ListFolder wanted.folder) answer files'
+    pub tells : TellsListing cmp b.has_hidden wanted answer o ⊎ (o ≡ outcome.Failed failure.Memory)
 
   abbrev pub Listed : Browser → P → Outcome → P → Type 0
   Listed b files o files' = Refuses files o files' ⊎ Looks b files o files'

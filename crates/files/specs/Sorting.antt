@@ -1,6 +1,6 @@
 -- The rows of a folder, in order.
-use Rattle.std.specs.Prelude.{◌≡◌, ℕ, Bool, true, false, not, ◌||◌, ◌==◌, List, [], ◌∷◌, ◌++◌, filter, get_or}
-use Rattle.std.specs.Prelude.{Option, Some, None, string_bytes, length, nat_lt, ◌&&◌, if◌then◌else◌, IsPermutation, IsSorted}
+use Rattle.std.specs.Prelude.{◌≡◌, ◌⊎◌, ℕ, Bool, true, false, not, ◌||◌, ◌==◌, List, [], ◌∷◌, ◌++◌, filter, slice_get}
+use Rattle.std.specs.Prelude.{Option, Some, None, string_bytes, IsPermutation, IsSorted}
 use Rattle.std.specs.{Str.byte, List.AllZip}
 use Rattle.ratatui_files.specs.declared.answer.Info.{Info}
 use Rattle.ratatui_files.specs.declared.answer.Kind.{Kind}
@@ -54,3 +54,13 @@ pub record IsListOf (cmp : Row → Row → Ordering) (hidden : Bool) (entries : 
   pub are : AreRowsOf hidden entries rows
   pub all : IsPermutation rows list
   pub ordered : IsSorted cmp list
+
+-- a row has a name
+abbrev pub HasName : List ℕ → Option Row → Type 0
+HasName name None = ⊥
+HasName name (Some row) = string_bytes row.name ≡ name
+
+-- the row of a name, or else another one
+abbrev pub IsPlaceOf : List ℕ → ℕ → List Row → ℕ → Type 0
+IsPlaceOf name other rows place = HasName name (slice_get rows place)
+    ⊎ ((place ≡ other) × ((k : ℕ) → HasName name (slice_get rows k) → ⊥))

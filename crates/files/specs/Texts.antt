@@ -55,6 +55,10 @@ title_text b = shown_name b.title ++ codes "/" ++ shown_name b.folder
 abbrev pub selected_text : Browser → List ℕ
 selected_text b = option_map_or (λ row. string_bytes row.name) (slice_get b.list b.selected) []
 
+-- the name that is to be selected once the folder is listed anew: the typed one, or the one that is selected
+abbrev pub sought_text : Browser → List ℕ
+sought_text b = if b.seeks_typed then field_text b.typed else selected_text b
+
 abbrev pub selected_shown : Browser → List ℕ
 selected_shown b = option_map_or shown_row (slice_get b.list b.selected) []
 

@@ -111,8 +111,7 @@ impl Browser {
         ensures { self.new ≡ at_told_size size self.old }
     {
         if let Some((width, height)) = size {
-            self.is_quiet =
-                self.is_quiet && self.size.width == width && self.size.height == height;
+            self.is_quiet = self.is_quiet && self.size.width == width && self.size.height == height;
             self.size = Size { width, height };
             self.settle();
         }

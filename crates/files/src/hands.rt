@@ -13,7 +13,7 @@ use crate::list::{Listing, Outcome, Row};
 use crate::sorting::{place_of, sorted};
 use ratatui_acts::Outside;
 use ratatui_app::OnGlass;
-use ratatui_files::{Answer, Command, Failure, Path, Performs};
+use ratatui_files::{Answer, Command, Failure, Path, Performs, Text};
 use std::alloc::{AllocError, Global};
 use std::io::{self, Write};
 
@@ -24,6 +24,15 @@ pub struct Hands<P> {
     files: P,
 }
 
+/// A folder that is to be listed, the name of the entry that is to be selected, and the row that is
+/// if there is none of that name.
+#[derive(Drop)]
+pub(crate) struct Wanted {
+    folder: Path,
+    name: Text,
+    other: usize,
+}
+
 // A path's folder and its name there.
 fn parted(path: &str) -> (&str, &str) {
     match path.rsplit_once('/') {
@@ -32,9 +41,9 @@ fn parted(path: &str) -> (&str, &str) {
     }
 }
 
-// The folder above a folder.
-fn above(alloc: Global, folder: &Path) -> Result<Option<Path>, AllocError>
-    ensures { IfOk result (λ path. IfSome path (IsAbove folder.now)) }
+// The folder above a folder, whose name is to be selected there.
+fn above(alloc: Global, folder: &Path) -> Result<Option<Wanted>, AllocError>
+    ensures { IfOk result (λ wanted. IfSome wanted (IsAbove folder.now)) }
 {
     let (text, name) = parted(folder.as_str());
     let Some(path) = Path::new(String::from_str(alloc, text)?) else {
@@ -43,51 +52,68 @@ fn above(alloc: Global, folder: &Path) -> Result<Option<Path>, AllocError>
     let Some(same) = path.entry(alloc, name)? else {
         return Ok(None);
     };
-    if same.as_str() == folder.as_str() {
-        Ok(Some(path))
-    } else {
-        Ok(None)
+    if same.as_str() != folder.as_str() {
+        return Ok(None);
     }
+    Ok(Some(Wanted {
+        folder: path,
+        name: Text::copy(alloc, name)?,
+        other: 0,
+    }))
+}
+
+// The folder that is selected.
+fn selected(alloc: Global, browser: &Browser) -> Result<Option<Wanted>, AllocError>
+    ensures { IfOk result (λ wanted. IfSome wanted (Lists Mode.Entering browser.now)) }
+{
+    match browser.folder.entry(alloc, browser.selected_text())? {
+        Some(folder) => Ok(Some(Wanted {
+            folder,
+            name: Text::copy(alloc, "")?,
+            other: 0,
+        })),
+        None => Ok(None),
+    }
+}
+
+// The folder that is shown.
+fn shown(alloc: Global, browser: &Browser) -> Result<Wanted, AllocError>
+    ensures { IfOk result (Lists Mode.Listing browser.now) }
+{
+    Ok(Wanted {
+        folder: browser.folder.copy(alloc)?,
+        name: Text::copy(alloc, browser.sought_text())?,
+        other: browser.selected,
+    })
 }
 
 // The folder that a browser asks for.
-fn folder_of(alloc: Global, browser: &Browser) -> Result<Option<Path>, AllocError>
-    ensures { IfOk result (λ path. IfSome path (Lists browser.now.mode browser.now)) }
+fn folder_for(alloc: Global, browser: &Browser) -> Result<Option<Wanted>, AllocError>
+    ensures { IfOk result (λ wanted. IfSome wanted (Lists browser.now.mode browser.now)) }
 {
     match browser.mode {
-        Mode::Listing => Ok(Some(browser.folder.copy(alloc)?)),
-        Mode::Entering => browser.folder.entry(alloc, browser.selected_text()),
+        Mode::Listing => Ok(Some(shown(alloc, browser)?)),
+        Mode::Entering => selected(alloc, browser),
         Mode::Leaving => above(alloc, &browser.folder),
         _ => Ok(None),
-    }
-}
-
-// The name of the entry that is to be selected, and the place if there is none of that name.
-fn sought(browser: &Browser) -> (&str, usize) {
-    match browser.mode {
-        Mode::Leaving => (parted(browser.folder.as_str()).1, 0),
-        Mode::Listing if browser.seeks_typed => (browser.typed.text(), browser.selected),
-        Mode::Listing => (browser.selected_text(), browser.selected),
-        _ => ("", 0),
     }
 }
 
 // What was answered of a folder that was to be listed.
 fn listed(
     alloc: Global,
-    browser: &Browser,
-    folder: Path,
+    has_hidden: bool,
+    wanted: Wanted,
     answer: Answer,
 ) -> Result<Outcome, AllocError>
-    ensures { IfOk result (TellsListing ⟦<Row as Ord>⟧.cmp browser.now.has_hidden folder answer) }
+    ensures { IfOk result (TellsListing ⟦<Row as Ord>⟧.cmp has_hidden wanted answer) }
 {
     match answer {
         Answer::Listed(entries, unnamed) => {
-            let rows = sorted(alloc, entries, browser.has_hidden)?;
-            let (name, other) = sought(browser);
-            let place = place_of(&rows, name, other);
+            let rows = sorted(alloc, entries, has_hidden)?;
+            let place = place_of(rows.as_slice(), wanted.name.as_str(), wanted.other);
             Ok(Outcome::Listed(Listing {
-                folder,
+                folder: wanted.folder,
                 rows,
                 unnamed,
                 place,
@@ -167,17 +193,17 @@ impl<P: Performs + Drop> Hands<P> {
     fn list(&mut self, browser: &Browser) -> Outcome
         ensures { Listed ⟦<Row as Ord>⟧.cmp P.does browser.now self.old.files result self.new.files }
     {
-        let Ok(wanted) = folder_of(self.alloc, browser) else {
+        let Ok(found) = folder_for(self.alloc, browser) else {
             return Outcome::Failed(Failure::Memory);
         };
-        let Some(folder) = wanted else {
+        let Some(wanted) = found else {
             return Outcome::Failed(Failure::BadName);
         };
-        let Ok(copy) = folder.copy(self.alloc) else {
+        let Ok(folder) = wanted.folder.copy(self.alloc) else {
             return Outcome::Failed(Failure::Memory);
         };
-        let answer = self.files.perform(&Command::List(copy));
-        match listed(self.alloc, browser, folder, answer) {
+        let answer = self.files.perform(&Command::List(folder));
+        match listed(self.alloc, browser.has_hidden, wanted, answer) {
             Ok(outcome) => outcome,
             Err(_) => Outcome::Failed(Failure::Memory),
         }

@@ -1,7 +1,7 @@
 //! Entries of a folder, in order.
 
 ghost use Rattle.std.specs.Prelude.{◌≡◌, IfOk, OnOk};
-ghost use Rattle.files.specs.Sorting.{is_listed, IsRowOf, AddsIf, IsListOf};
+ghost use Rattle.files.specs.Sorting.{is_listed, IsRowOf, AddsIf, IsListOf, IsPlaceOf};
 
 use crate::list::{Row, Rows};
 use ratatui_files::{Entries, Info, Kind};
@@ -19,7 +19,10 @@ fn row_of(info: Info) -> Row
     ensures { IsRowOf info result }
 {
     let Info {
-        name, kind, size, ..
+        name,
+        kind,
+        size,
+        ..
     } = info;
     let size = match kind {
         Kind::File => Some(size),
@@ -44,11 +47,7 @@ fn add(info: Info, has_hidden: bool, rows: &mut Vec<Row>) -> Result<(), AllocErr
 }
 
 /// Returns the rows of entries, in order.
-pub(crate) fn sorted(
-    alloc: Global,
-    entries: Entries,
-    has_hidden: bool,
-) -> Result<Rows, AllocError>
+pub(crate) fn sorted(alloc: Global, entries: Entries, has_hidden: bool) -> Result<Rows, AllocError>
     ensures { IfOk result (IsListOf ⟦<Row as Ord>⟧.cmp has_hidden entries) }
 {
     let mut rows = Vec::new(alloc);
@@ -60,9 +59,13 @@ pub(crate) fn sorted(
 }
 
 /// Returns the row of a name, from 0 on, or else another one.
-pub(crate) fn place_of(rows: &Rows, name: &str, other: usize) -> usize {
-    rows.as_slice()
-        .iter()
-        .position(|row| row.name.as_str() == name)
-        .unwrap_or(other)
+pub(crate) fn place_of(rows: &[Row], name: &str, other: usize) -> usize
+    ensures { IsPlaceOf name.now other rows.now result }
+{
+    for (place, row) in rows.iter().enumerate() {
+        if row.name.as_str() == name {
+            return place;
+        }
+    }
+    other
 }

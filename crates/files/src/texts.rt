@@ -2,7 +2,7 @@
 
 ghost use Rattle.std.specs.Prelude.{◌≡◌, ◌++◌, ◌<◌, OnOk, IfOk, string_bytes};
 ghost use Rattle.ratatui_core.specs.Buffer.{text_columns};
-ghost use Rattle.files.specs.Texts.{failure_text, shown_row, size_text, beside, row_text, title_text, selected_text};
+ghost use Rattle.files.specs.Texts.{failure_text, shown_row, size_text, beside, row_text, title_text, selected_text, sought_text};
 ghost use Rattle.files.specs.Texts.{selected_shown, place_text, subject, note_text, prompt, status_text, column_in};
 ghost use Rattle.files.specs.Texts.{fits, text_in, entry_at, place_in};
 
@@ -51,12 +51,7 @@ fn push_row(text: &mut String, row: &Row) -> Result<(), AllocError>
 }
 
 // Appends a size behind so many blanks that it ends in the last column, if there is room.
-fn push_size(
-    alloc: Global,
-    text: &mut String,
-    size: &str,
-    width: u16,
-) -> Result<(), AllocError>
+fn push_size(alloc: Global, text: &mut String, size: &str, width: u16) -> Result<(), AllocError>
     ensures { OnOk result (string_bytes text.new
         ≡ string_bytes text.old ++ beside width (string_bytes text.old) size.now) }
 {
@@ -93,6 +88,17 @@ impl Browser {
         match self.list.get(self.selected) {
             Some(row) => row.name.as_str(),
             None => "",
+        }
+    }
+
+    /// Returns the name that is to be selected once the folder is listed anew.
+    pub(crate) fn sought_text(&self) -> &str
+        ensures { result.now ≡ sought_text self.now }
+    {
+        if self.seeks_typed {
+            self.typed.text()
+        } else {
+            self.selected_text()
         }
     }
 

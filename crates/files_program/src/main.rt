@@ -12,7 +12,8 @@ use programs::{Stream, VERSION, is_terminal};
 use ratatui_acts::Seat;
 use ratatui_ansi::{AnsiBackend, size_told};
 use ratatui_app::run_and_leave;
-use ratatui_files::{OnDisk, Text};
+use ratatui_files::{Answer, Command, OnDisk, Path, Performs, Text};
+use std::alloc::Global;
 use std::env;
 use std::io::BufWriter;
 use std::process::ExitCode;
@@ -31,15 +32,25 @@ fn title(folder: &str) -> &str {
     folder.trim_end_matches('/')
 }
 
+// Whether a folder can be listed.
+fn look<P: Performs>(alloc: Global, files: &mut P) -> anyhow::Result<()> {
+    match files.perform(&Command::List(Path::root(alloc))) {
+        Answer::Failed(failure) => Err(failure.into()),
+        _ => Ok(()),
+    }
+}
+
 // Shows a folder, until `q`.
 fn show(rt: &HostRuntime, folder: &str) -> anyhow::Result<()> {
     let alloc = rt.alloc();
+    let mut files = OnDisk::new(rt, folder);
+    look(alloc, &mut files)?;
     let size = size_told(rt);
     let writer = BufWriter::new(alloc, rt.stdout())?;
-    let mut backend = AnsiBackend::new_on_alternate_screen(alloc, writer, size)?;
+    let backend = AnsiBackend::new_on_alternate_screen(alloc, writer, size)?;
     let browser = Browser::new(alloc, Text::copy(alloc, title(folder))?, size);
     let mut seat = Seat::new(alloc, browser);
-    let mut hands = Hands::new(alloc, OnDisk::new(rt, folder));
+    let mut hands = Hands::new(alloc, files);
     let has_ticks = is_terminal(rt, Stream::Input);
     run_and_leave(
         alloc,
@@ -58,7 +69,16 @@ fn start(rt: &HostRuntime) -> anyhow::Result<ExitCode> {
     match word.as_ref().map_or(".", |word| word.as_str()) {
         "--help" => print!(rt; "{HELP}")?,
         "--version" => println!(rt; "files {VERSION}")?,
-        folder => show(rt, folder)?,
+        folder => {
+            if is_terminal(rt, Stream::Input) && !is_terminal(rt, Stream::Output) {
+                eprintln!(rt; "files: standard output is no terminal")?;
+                return Ok(ExitCode::FAILURE);
+            }
+            if let Err(error) = show(rt, folder) {
+                eprintln!(rt; "files: {folder}: {error}")?;
+                return Ok(ExitCode::FAILURE);
+            }
+        }
     }
     Ok(ExitCode::SUCCESS)
 }
