@@ -16,6 +16,8 @@ mod page;
 mod questions;
 #[cfg(test)]
 mod runs;
+#[cfg(test)]
+mod screens;
 mod sorting;
 mod texts;
 mod typing;
