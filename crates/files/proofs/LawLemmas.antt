@@ -21,25 +21,25 @@ use Rattle.files.specs.declared.typing.Typing.{Typing}
 use Rattle.files.specs.declared.typing.Typing.TheVariants.{Change, Accept, Cancel, Ignore}
 use Rattle.files.specs.declared.list.Outcome.{Outcome}
 use Rattle.files.specs.declared.list.Outcome.TheVariants as outcome
-use Rattle.files.specs.Keys.{event_wish, event_typing, is_input, is_yes}
+use Rattle.files.specs.Keys.{event_wish, event_typing, is_input, says_yes}
 use Rattle.files.specs.Texts.{fits}
-use Rattle.files.specs.Moves.{settled, selected_at, last_place, list_rows, moved, gone, granted, wished, renaming, typing_in}
-use Rattle.files.specs.Moves.{asks_in, confirmed, typed_into, acted, at_told_size, told, answered, after_message, new_browser}
+use Rattle.files.specs.Moves.{scrolled_list, selected_at, last_row_place, list_rows, selection_moved, went, granted, wished, renaming, typing_in}
+use Rattle.files.specs.Moves.{asks_in, confirmed, typed_into, browsed, browser_at_told_size, told, outcome_told, browsed_after, new_browser}
 use Rattle.files.specs.Moves.{is_folder_selected}
 use Rattle.files.specs.Laws.{IsPlaced, ListsSame}
 
 -- ---- the selection
 
-pub settled-placed : (b : Browser) → b.selected ≤ last_place b → IsPlaced (settled b)
-settled-placed b within = record { within = within; above = omega arith; below = λ some. omega arith }
+pub scrolled_list-placed : (b : Browser) → b.selected ≤ last_row_place b → IsPlaced (scrolled_list b)
+scrolled_list-placed b within = record { within = within; above = omega arith; below = λ some. omega arith }
 
 pub selected-placed : (place : ℕ) (b : Browser) → IsPlaced (selected_at place b)
-selected-placed place b = settled-placed (record b { selected = min place (last_place b) }) (omega arith)
+selected-placed place b = scrolled_list-placed (record b { selected = min place (last_row_place b) }) (omega arith)
 
-pub settled-little : (b : Browser) → b.top ≤ b.selected → b.selected < b.top + list_rows b → b.top + list_rows b ≤ length b.list
-    → settled b ≡ b
-settled-little b above below full =
-    let same : (settled b).top ≡ b.top = omega arith in ap (λ t. record b { top = t }) same
+pub scrolled_list-little : (b : Browser) → b.top ≤ b.selected → b.selected < b.top + list_rows b → b.top + list_rows b ≤ length b.list
+    → scrolled_list b ≡ b
+scrolled_list-little b above below full =
+    let same : (scrolled_list b).top ≡ b.top = omega arith in ap (λ t. record b { top = t }) same
 
 -- ---- events
 
@@ -168,56 +168,56 @@ typed-keeps Ignore b may = keeps-it b
 may-be : (mode : Mode) (b : Browser) → b.mode ≡ mode → asks_in mode true ≡ true → asks_in b.mode true ≡ true
 may-be mode b at may = ap (λ m. asks_in m true) at ∙ may
 
-acted-keeps : (mode : Mode) (e : Event) (b : Browser) → b.mode ≡ mode → Keeps b (acted mode e b)
-acted-keeps Looking e b at = wished-keeps (event_wish e) b
-acted-keeps Removing e b at =
-    keeps-if (is_yes e) b _ _ (confirmed-keeps b (may-be Removing b at refl)) (keeps-mode Looking b)
-acted-keeps Renaming e b at = typed-keeps (event_typing e) b (may-be Renaming b at refl)
-acted-keeps Making e b at = typed-keeps (event_typing e) b (may-be Making b at refl)
-acted-keeps Listing e b at = keeps-it b
-acted-keeps Entering e b at = keeps-it b
-acted-keeps Leaving e b at = keeps-it b
-acted-keeps Over e b at = keeps-it b
+browsed-keeps : (mode : Mode) (e : Event) (b : Browser) → b.mode ≡ mode → Keeps b (browsed mode e b)
+browsed-keeps Looking e b at = wished-keeps (event_wish e) b
+browsed-keeps Removing e b at =
+    keeps-if (says_yes e) b _ _ (confirmed-keeps b (may-be Removing b at refl)) (keeps-mode Looking b)
+browsed-keeps Renaming e b at = typed-keeps (event_typing e) b (may-be Renaming b at refl)
+browsed-keeps Making e b at = typed-keeps (event_typing e) b (may-be Making b at refl)
+browsed-keeps Listing e b at = keeps-it b
+browsed-keeps Entering e b at = keeps-it b
+browsed-keeps Leaving e b at = keeps-it b
+browsed-keeps Over e b at = keeps-it b
 
 -- ---- what is told
 
-sized-folder : (size : Option (ℕ × ℕ)) (b : Browser) → ListsSame b (at_told_size size b)
+sized-folder : (size : Option (ℕ × ℕ)) (b : Browser) → ListsSame b (browser_at_told_size size b)
 sized-folder None b = record { folder = refl; list = refl; unnamed = refl }
 sized-folder (Some size) b = record { folder = refl; list = refl; unnamed = refl }
 
-sized-placed : (size : Option (ℕ × ℕ)) (b : Browser) → IsPlaced b → IsPlaced (at_told_size size b)
+sized-placed : (size : Option (ℕ × ℕ)) (b : Browser) → IsPlaced b → IsPlaced (browser_at_told_size size b)
 sized-placed None b p = p
-sized-placed (Some size) b p = settled-placed (record b {
+sized-placed (Some size) b p = scrolled_list-placed (record b {
   is_quiet = b.is_quiet && (b.size.width == size.0) && (b.size.height == size.1);
   size = record { width = size.0; height = size.1 };
 }) p.within
 
 told-folder : (input : Bool) (e : Event) (b : Browser) → ListsSame b
-    (if input then record (acted b.mode e b) { is_quiet = false } else at_told_size (size_in e) b)
-told-folder true e b = let k = acted-keeps b.mode e b refl in record { folder = k.folder; list = k.list; unnamed = k.unnamed }
+    (if input then record (browsed b.mode e b) { is_quiet = false } else browser_at_told_size (size_in e) b)
+told-folder true e b = let k = browsed-keeps b.mode e b refl in record { folder = k.folder; list = k.list; unnamed = k.unnamed }
 told-folder false e b = sized-folder (size_in e) b
 
 told-placed : (input : Bool) (e : Event) (b : Browser) → IsPlaced b → IsPlaced
-    (if input then record (acted b.mode e b) { is_quiet = false } else at_told_size (size_in e) b)
-told-placed true e b p = placed-same (acted b.mode e b) _ refl refl refl refl ((acted-keeps b.mode e b refl).placed p)
+    (if input then record (browsed b.mode e b) { is_quiet = false } else browser_at_told_size (size_in e) b)
+told-placed true e b p = placed-same (browsed b.mode e b) _ refl refl refl refl ((browsed-keeps b.mode e b refl).placed p)
 told-placed false e b p = sized-placed (size_in e) b p
 
-pub event-folder : (b : Browser) (e : Event) → ListsSame b (after_message b (message.Event e))
-unfolding after_message
+pub event-folder : (b : Browser) (e : Event) → ListsSame b (browsed_after b (message.Event e))
+unfolding browsed_after
 event-folder b e = told-folder (is_input e) e b
 
 pub placed-first : (alloc : Global) (title : List ℕ) (size : Size) → IsPlaced (new_browser alloc title size)
 placed-first alloc title size = record { within = omega arith; above = omega arith; below = λ some. omega arith }
 
-outcome-placed : (o : Outcome) (b : Browser) → IsPlaced b → IsPlaced (answered o b)
+outcome-placed : (o : Outcome) (b : Browser) → IsPlaced b → IsPlaced (outcome_told o b)
 outcome-placed (outcome.Listed l) b p =
     let c = record b { folder = l.folder; list = l.rows; unnamed = l.unnamed; seeks_typed = false; mode = Looking } in
     placed-same (selected_at l.place c) _ refl refl refl refl (selected-placed l.place c)
 outcome-placed outcome.Done b p = placed-same b _ refl refl refl refl p
 outcome-placed (outcome.Failed why) b p = placed-same b _ refl refl refl refl p
 
-pub placed-next : (b : Browser) (m : Message Outcome) → IsPlaced b → IsPlaced (after_message b m)
-unfolding after_message
+pub placed-next : (b : Browser) (m : Message Outcome) → IsPlaced b → IsPlaced (browsed_after b m)
+unfolding browsed_after
 placed-next b (message.Event e) p = told-placed (is_input e) e b p
 placed-next b (message.Tick passed) p = placed-same b _ refl refl refl refl p
 placed-next b (message.Answer o) p = outcome-placed o b p
@@ -233,23 +233,23 @@ counts-by : (b c : Browser) → (c.is_sure ≡ b.is_sure) ⊎ Counts b c → b.i
 counts-by b c (inl same) unsure sure = let both : false ≡ true = sym unsure ∙ sym same ∙ sure in absurd (cc)
 counts-by b c (inr k) unsure sure = (k.quiet, k.whole, ap (λ (d : Browser). record d { is_quiet = false }) k.is, k.may)
 
-sized-sure : (size : Option (ℕ × ℕ)) (b : Browser) → (at_told_size size b).is_sure ≡ b.is_sure
+sized-sure : (size : Option (ℕ × ℕ)) (b : Browser) → (browser_at_told_size size b).is_sure ≡ b.is_sure
 sized-sure None b = refl
 sized-sure (Some size) b = refl
 
 told-counts : (input : Bool) (e : Event) (b : Browser) → b.is_sure ≡ false
-    → (if input then record (acted b.mode e b) { is_quiet = false } else at_told_size (size_in e) b).is_sure ≡ true
+    → (if input then record (browsed b.mode e b) { is_quiet = false } else browser_at_told_size (size_in e) b).is_sure ≡ true
     → (b.is_quiet ≡ true) × (fits b.size.width b ≡ true)
-    × ((if input then record (acted b.mode e b) { is_quiet = false } else at_told_size (size_in e) b) ≡ counted b)
+    × ((if input then record (browsed b.mode e b) { is_quiet = false } else browser_at_told_size (size_in e) b) ≡ counted b)
     × (asks_in b.mode true ≡ true)
-told-counts true e b unsure sure = counts-by b (acted b.mode e b) (acted-keeps b.mode e b refl).sure unsure sure
+told-counts true e b unsure sure = counts-by b (browsed b.mode e b) (browsed-keeps b.mode e b refl).sure unsure sure
 told-counts false e b unsure sure =
     let bad : false ≡ true = sym unsure ∙ sym (sized-sure (size_in e) b) ∙ sure in absurd (cc)
 
-pub yes-counts : (b : Browser) (e : Event) → b.is_sure ≡ false → (after_message b (message.Event e)).is_sure ≡ true
-    → (b.is_quiet ≡ true) × (fits b.size.width b ≡ true) × (after_message b (message.Event e) ≡ counted b)
+pub yes-counts : (b : Browser) (e : Event) → b.is_sure ≡ false → (browsed_after b (message.Event e)).is_sure ≡ true
+    → (b.is_quiet ≡ true) × (fits b.size.width b ≡ true) × (browsed_after b (message.Event e) ≡ counted b)
     × (asks_in b.mode true ≡ true)
-unfolding after_message
+unfolding browsed_after
 yes-counts b e unsure sure = told-counts (is_input e) e b unsure sure
 
 size-by : (q w h : Bool) → (q && w && h) ≡ true → (q ≡ true) × (w ≡ true) × (h ≡ true)
@@ -264,23 +264,23 @@ same-size s size w h =
     let a : size.0 ≡ s.width = grind (arith, nat_tests) in let b : size.1 ≡ s.height = grind (arith, nat_tests) in
     ap (λ (x : ℕ). record { width = x; height = size.1 }) a ∙ ap (λ (y : ℕ). record { width = s.width; height = y }) b
 
-sized-quiet : (size : Option (ℕ × ℕ)) (b : Browser) → (at_told_size size b).is_quiet ≡ true
-    → (b.is_quiet ≡ true) × ((at_told_size size b).size ≡ b.size) × ((at_told_size size b).is_sure ≡ b.is_sure)
+sized-quiet : (size : Option (ℕ × ℕ)) (b : Browser) → (browser_at_told_size size b).is_quiet ≡ true
+    → (b.is_quiet ≡ true) × ((browser_at_told_size size b).size ≡ b.size) × ((browser_at_told_size size b).is_sure ≡ b.is_sure)
 sized-quiet None b is = (is, refl, refl)
 sized-quiet (Some size) b is =
     let all = size-by b.is_quiet (b.size.width == size.0) (b.size.height == size.1) is in
     (all.0, same-size b.size size all.1 all.2, refl)
 
 told-quiet : (input : Bool) (e : Event) (b : Browser)
-    → (if input then record (acted b.mode e b) { is_quiet = false } else at_told_size (size_in e) b).is_quiet ≡ true
+    → (if input then record (browsed b.mode e b) { is_quiet = false } else browser_at_told_size (size_in e) b).is_quiet ≡ true
     → (b.is_quiet ≡ true)
-    × ((if input then record (acted b.mode e b) { is_quiet = false } else at_told_size (size_in e) b).size ≡ b.size)
-    × ((if input then record (acted b.mode e b) { is_quiet = false } else at_told_size (size_in e) b).is_sure ≡ b.is_sure)
+    × ((if input then record (browsed b.mode e b) { is_quiet = false } else browser_at_told_size (size_in e) b).size ≡ b.size)
+    × ((if input then record (browsed b.mode e b) { is_quiet = false } else browser_at_told_size (size_in e) b).is_sure ≡ b.is_sure)
 told-quiet true e b is = absurd (cc)
 told-quiet false e b is = sized-quiet (size_in e) b is
 
-pub quiet-stays : (b : Browser) (e : Event) → (after_message b (message.Event e)).is_quiet ≡ true
-    → (b.is_quiet ≡ true) × ((after_message b (message.Event e)).size ≡ b.size)
-    × ((after_message b (message.Event e)).is_sure ≡ b.is_sure)
-unfolding after_message
+pub quiet-stays : (b : Browser) (e : Event) → (browsed_after b (message.Event e)).is_quiet ≡ true
+    → (b.is_quiet ≡ true) × ((browsed_after b (message.Event e)).size ≡ b.size)
+    × ((browsed_after b (message.Event e)).is_sure ≡ b.is_sure)
+unfolding browsed_after
 quiet-stays b e is = told-quiet (is_input e) e b is

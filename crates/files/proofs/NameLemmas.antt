@@ -5,7 +5,7 @@ use Rattle.std.specs.{Str.byte, Str.IsUtf8, List.flat_map, Char.digit_char, Char
 use Rattle.std.proofs.Math.Utf8.{scalar, scalars, scalar_cases}
 use Rattle.std.proofs.lemmas.{Str.encode_ascii, Str.encode_same, Str.length-encode, Str.len_utf8_bounds, Str.encodes-chars, Str.scalars-chars}
 use Rattle.std.proofs.lemmas.{Bool.Decides.nat_tests, List.length-append}
-use Rattle.files.specs.Names.{is_plain, last_digit, escaped_low, escaped_high, shown_char, shown_name}
+use Rattle.files.specs.Names.{is_plain, last_hex_digit, escaped_low, escaped_high, shown_name_char, shown_name}
 
 -- ---- digits
 
@@ -81,7 +81,7 @@ piece-by false false false true c d r t cp dp cl dl cs ds same = absurd (low-hig
 piece-by false false false false c d r t cp dp cl dl cs ds same = high-same c d r t cs ds same
 
 -- what is shown of a text tells its first character, and what is shown of the others
-pub piece-same : (c d : ℕ) (r t : List ℕ) → scalar c ≡ true → scalar d ≡ true → shown_char c ++ r ≡ shown_char d ++ t
+pub piece-same : (c d : ℕ) (r t : List ℕ) → scalar c ≡ true → scalar d ≡ true → shown_name_char c ++ r ≡ shown_name_char d ++ t
     → (c ≡ d) × (r ≡ t)
 piece-same c d r t cs ds same =
     let one = shown-by (is_plain c) (nat_lt c 256) c in let two = shown-by (is_plain d) (nat_lt d 256) d in
@@ -93,7 +93,7 @@ some-by true l c = omega (arith, length-encode c, (len_utf8_bounds c).0)
 some-by false true c = omega arith
 some-by false false c = omega arith
 
-some-shown : (c : ℕ) → 0 < length (shown_char c)
+some-shown : (c : ℕ) → 0 < length (shown_name_char c)
 some-shown c = rw (shown-by (is_plain c) (nat_lt c 256) c) (some-by (is_plain c) (nat_lt c 256) c)
 
 both : (a b : Bool) → (a && b) ≡ true → (a ≡ true) × (b ≡ true)
@@ -101,19 +101,19 @@ both true true is = (refl, refl)
 both true false is = absurd (cc)
 both false b is = absurd (cc)
 
-none-shown : (d : ℕ) (rest : List ℕ) → [] ≡ shown_char d ++ rest → ⊥
+none-shown : (d : ℕ) (rest : List ℕ) → [] ≡ shown_name_char d ++ rest → ⊥
 none-shown d rest same =
-    let long = some-shown d in omega (arith, ap length same, length-append (shown_char d) rest)
+    let long = some-shown d in omega (arith, ap length same, length-append (shown_name_char d) rest)
 
 -- ---- names
 
-lists-same : (cs ds : List ℕ) → scalars cs ≡ true → scalars ds ≡ true → flat_map shown_char cs ≡ flat_map shown_char ds → cs ≡ ds
+lists-same : (cs ds : List ℕ) → scalars cs ≡ true → scalars ds ≡ true → flat_map shown_name_char cs ≡ flat_map shown_name_char ds → cs ≡ ds
 lists-same [] [] c d same = refl
-lists-same [] (e ∷ ds) c d same = absurd (none-shown e (flat_map shown_char ds) same)
-lists-same (b ∷ cs) [] c d same = absurd (none-shown b (flat_map shown_char cs) (sym same))
+lists-same [] (e ∷ ds) c d same = absurd (none-shown e (flat_map shown_name_char ds) same)
+lists-same (b ∷ cs) [] c d same = absurd (none-shown b (flat_map shown_name_char cs) (sym same))
 lists-same (b ∷ cs) (e ∷ ds) c d same =
     let one = both (scalar b) (scalars cs) c in let two = both (scalar e) (scalars ds) d in
-    let it = piece-same b e (flat_map shown_char cs) (flat_map shown_char ds) one.0 two.0 same in
+    let it = piece-same b e (flat_map shown_name_char cs) (flat_map shown_name_char ds) one.0 two.0 same in
     ap (λ x. x ∷ cs) it.0 ∙ ap (λ xs. e ∷ xs) (lists-same cs ds one.1 two.1 it.1)
 
 pub names-same : (a b : List ℕ) → IsUtf8 a → IsUtf8 b → shown_name a ≡ shown_name b → a ≡ b

@@ -11,7 +11,7 @@ use Rattle.ratatui_core.proofs.{BufferLemmas.ready-plain, WidgetLemmas.OnPart-cl
 use Rattle.widget_boxes.specs.Boxes.{IsBoxArea}
 use Rattle.widget_boxes.proofs.PaintLemmas.{part-has_row, part-right, room-is}
 use Rattle.files.specs.declared.browser.Browser.{Browser}
-use Rattle.files.specs.Pages.{PaintsRow, PaintsRows, PaintsAllRows, PaintsBrowser}
+use Rattle.files.specs.Pages.{PaintsListRow, PaintsFirstRows, PaintsAllRows, PaintsBrowser}
 
 -- a text painted in columns that its row has
 pub text-painted : (x y m n : ℕ) (style : Style) (text : List ℕ) (old new : BufferData) → m ≡ n
@@ -37,13 +37,13 @@ ready-below x y s ready = record {
   plain = λ p has below. ready.plain p has (inl (omega arith));
 }
 
-pub rows-none : (b : Browser) (r : Rect) (s : BufferData) → PaintsRows b r 0 s s
-unfolding PaintsRows
+pub rows-none : (b : Browser) (r : Rect) (s : BufferData) → PaintsFirstRows b r 0 s s
+unfolding PaintsFirstRows
 rows-none b r s = refl
 
-pub rows-next : (b : Browser) (r : Rect) (k : ℕ) (old mid new : BufferData) → PaintsRows b r k old mid
-    → PaintsRow b r k mid new → PaintsRows b r (k + 1) old new
-unfolding PaintsRows
+pub rows-next : (b : Browser) (r : Rect) (k : ℕ) (old mid new : BufferData) → PaintsFirstRows b r k old mid
+    → PaintsListRow b r k mid new → PaintsFirstRows b r (k + 1) old new
+unfolding PaintsFirstRows
 rows-next b r k old mid new before row = rw add-one (record { between = mid; first = before; second = row })
 
 pub browser-ok : {A : Type 0} (r : Result A AllocError) (b : Browser) (area part : Rect) (old new : BufferData)

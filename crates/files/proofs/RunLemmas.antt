@@ -9,7 +9,7 @@ use Rattle.ratatui_app.specs.declared.on_glass.OnGlass.{OnGlass}
 use Rattle.files.specs.declared.browser.Browser.{Browser}
 use Rattle.files.specs.declared.list.Outcome.{Outcome}
 use Rattle.files.specs.Laws.{IsSound}
-use Rattle.files.specs.RunLaws.{NamesWhatIsDone, NamesTurn, browsing_on, AreNamed}
+use Rattle.files.specs.RunLaws.{NamesWhatIsDone, NamesTurn, browsing_on, WereOnTheGlass}
 use Rattle.files.proofs.SoundLemmas.{turn-sound, asked-self, asked-whole}
 
 module _ {W H O : Type 0} (gives : H → ℕ → List ℕ → Duration → H → Type 0) (fails : H → H → Type 0)
@@ -27,7 +27,7 @@ module _ {W H O : Type 0} (gives : H → ℕ → List ℕ → Duration → H →
   -- and the browser stays sound
   pub record IsNamed (now : Now Browser (OnGlass W) H O) (past : List (Past Browser Browser Outcome (OnGlass W) H O)) : Type 0 where
     pub sound : IsSound now.standing.state
-    pub named : AreNamed past
+    pub named : WereOnTheGlass past
 
   pub run-named : (begun now : Now Browser (OnGlass W) H O) (past : List (Past Browser Browser Outcome (OnGlass W) H O))
       → IsSound begun.standing.state → HasRun at_glass begun past now → IsNamed now past

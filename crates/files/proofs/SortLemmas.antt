@@ -8,9 +8,9 @@ use Rattle.std.proofs.lemmas.{List.Elements.filter-append, List.append-nil, Slic
 use Rattle.std.proofs.lemmas.{Option.slice_get_read, Option.slice_get_within}
 use Rattle.ratatui_files.specs.declared.answer.Info.{Info}
 use Rattle.files.specs.declared.list.Row.{Row}
-use Rattle.files.specs.Sorting.{IsRowOf, is_listed, AreRowsOf, AddsBy, AddsIf, HasName, IsPlaceOf}
+use Rattle.files.specs.Sorting.{IsRowFor, is_listed, AreRowsFor, AddsBy, AddsIf, HasName, IsPlaceOf}
 
-pub adds-row : (hidden : Bool) (info : Info) (row : Row) (old new : List Row) → is_listed hidden info.name ≡ true → IsRowOf info row
+pub adds-row : (hidden : Bool) (info : Info) (row : Row) (old new : List Row) → is_listed hidden info.name ≡ true → IsRowFor info row
     → new ≡ old ++ row ∷ [] → AddsIf hidden info old new
 adds-row hidden info row old new is of made =
     subst (λ b. AddsBy b info old new) (sym is) (row, of, made)
@@ -26,17 +26,17 @@ zip-push R [] (z ∷ ys) x y all here = absurd all
 zip-push R (z ∷ xs) [] x y all here = absurd all
 zip-push R (z ∷ xs) (w ∷ ys) x y all here = (all.0, zip-push R xs ys x y all.1 here)
 
-step-by : (test : Bool) (info : Info) (xs : List Info) (rows new : List Row) → AllZip IsRowOf xs rows → AddsBy test info rows new
-    → AllZip IsRowOf (xs ++ filter (λ _. test) (info ∷ [])) new
+step-by : (test : Bool) (info : Info) (xs : List Info) (rows new : List Row) → AllZip IsRowFor xs rows → AddsBy test info rows new
+    → AllZip IsRowFor (xs ++ filter (λ _. test) (info ∷ [])) new
 step-by true info xs rows new all adds =
-    subst (λ ys. AllZip IsRowOf (xs ++ info ∷ []) ys) (sym adds.2) (zip-push IsRowOf xs rows info adds.0 all adds.1)
+    subst (λ ys. AllZip IsRowFor (xs ++ info ∷ []) ys) (sym adds.2) (zip-push IsRowFor xs rows info adds.0 all adds.1)
 step-by false info xs rows new all adds =
-    subst (λ ys. AllZip IsRowOf (xs ++ []) ys) (sym adds) (subst (λ ys. AllZip IsRowOf ys rows) (sym (append-nil xs)) all)
+    subst (λ ys. AllZip IsRowFor (xs ++ []) ys) (sym adds) (subst (λ ys. AllZip IsRowFor ys rows) (sym (append-nil xs)) all)
 
-pub rows-step : (hidden : Bool) (xs : List Info) (info : Info) (rows new : List Row) → AreRowsOf hidden xs rows
-    → AddsIf hidden info rows new → AreRowsOf hidden (xs ++ info ∷ []) new
+pub rows-step : (hidden : Bool) (xs : List Info) (info : Info) (rows new : List Row) → AreRowsFor hidden xs rows
+    → AddsIf hidden info rows new → AreRowsFor hidden (xs ++ info ∷ []) new
 rows-step hidden xs info rows new all adds =
-    subst (λ ys. AllZip IsRowOf ys new) (sym (filter-append (λ i. is_listed hidden i.name) xs (info ∷ [])))
+    subst (λ ys. AllZip IsRowFor ys new) (sym (filter-append (λ i. is_listed hidden i.name) xs (info ∷ [])))
     (step-by (is_listed hidden info.name) info (filter (λ i. is_listed hidden i.name) xs) rows new all adds)
 
 -- ---- the row of a name

@@ -16,8 +16,8 @@ use Rattle.files.specs.declared.browser.Mode.TheVariants.{Making, Over}
 use Rattle.files.specs.declared.list.Outcome.{Outcome}
 use Rattle.files.specs.declared.browser.Note.{Note}
 use Rattle.files.specs.declared.browser.Note.TheVariants.{Place, Failed, Narrow}
-use Rattle.files.specs.Texts.{fits, subject, note_text, failure_text, status_in}
-use Rattle.files.specs.Moves.{asks, asks_in, asked_by, is_over, after_message, answered}
+use Rattle.files.specs.Texts.{fits, subject, note_told, failure_text, status_in}
+use Rattle.files.specs.Moves.{asks, asks_in, browser_asked, is_over, browsed_after, outcome_told}
 use Rattle.files.specs.Laws.{IsSound, browsing, is_change}
 use Rattle.files.proofs.LawLemmas.{yes-counts, counted}
 
@@ -36,7 +36,7 @@ subject-flags Renaming s q b = refl
 subject-flags Making s q b = refl
 subject-flags Over s q b = refl
 
-note-flags : (n : Note) (s q : Bool) (b : Browser) → note_text n (flagged s q b) ≡ note_text n b
+note-flags : (n : Note) (s q : Bool) (b : Browser) → note_told n (flagged s q b) ≡ note_told n b
 note-flags Place s q b = refl
 note-flags (Failed m why) s q b = ap (λ text. text ++ codes ": " ++ failure_text why) (subject-flags m s q b)
 note-flags Narrow s q b = refl
@@ -68,21 +68,21 @@ or-false false b is = is
 unsure : (b : Browser) → waits browsing b ≡ false → IsSound b → b.is_sure ≡ false
 unsure b off (inl is) = is
 unsure b off (inr is) =
-    let quiet = asks-if (asks b) b (or-false (is_over b) (is_some (asked_by b)) off) in
+    let quiet = asks-if (asks b) b (or-false (is_over b) (is_some (browser_asked b)) off) in
     let bad : true ≡ false = sym is.0 ∙ quiet in absurd (cc)
 
 counted-sound : (b : Browser) → asks_in b.mode true ≡ true → fits b.size.width b ≡ true → IsSound (counted b)
 counted-sound b may whole = inr (may, fits-flags true false b whole)
 
-sound-by : (sure : Bool) (b : Browser) (e : Event) → b.is_sure ≡ false → (after_message b (message.Event e)).is_sure ≡ sure
-    → IsSound (after_message b (message.Event e))
+sound-by : (sure : Bool) (b : Browser) (e : Event) → b.is_sure ≡ false → (browsed_after b (message.Event e)).is_sure ≡ sure
+    → IsSound (browsed_after b (message.Event e))
 sound-by false b e none is = inl is
 sound-by true b e none is =
     let k = yes-counts b e none is in
     subst (λ (c : Browser). IsSound c) (sym k.2) (counted-sound b k.3 k.1)
 
-event-sound : (b : Browser) (e : Event) → waits browsing b ≡ false → IsSound b → IsSound (after_message b (message.Event e))
-event-sound b e off is = sound-by (after_message b (message.Event e)).is_sure b e (unsure b off is) refl
+event-sound : (b : Browser) (e : Event) → waits browsing b ≡ false → IsSound b → IsSound (browsed_after b (message.Event e))
+event-sound b e off is = sound-by (browsed_after b (message.Event e)).is_sure b e (unsure b off is) refl
 
 sound-if : (w : Bool) (one two : Standing Browser) → (w ≡ true → IsSound one.state) → (w ≡ false → IsSound two.state)
     → IsSound (if w then one else two).state
@@ -93,11 +93,11 @@ taking-sound : (d : Decoder) (events : List Event) (b : Browser) → IsSound b �
 taking-sound d [] b is = is
 taking-sound d (e ∷ es) b is =
     sound-if (waits browsing b) (record { decoder = d; left = e ∷ es; state = b })
-    (taking browsing d es (after_message b (message.Event e))) (λ on. is)
-    (λ off. taking-sound d es (after_message b (message.Event e)) (event-sound b e off is))
+    (taking browsing d es (browsed_after b (message.Event e))) (λ on. is)
+    (λ off. taking-sound d es (browsed_after b (message.Event e)) (event-sound b e off is))
 
-tick-sound : (b : Browser) (passed : Duration) → IsSound b → IsSound (after_message b (message.Tick passed))
-unfolding after_message
+tick-sound : (b : Browser) (passed : Duration) → IsSound b → IsSound (browsed_after b (message.Tick passed))
+unfolding browsed_after
 tick-sound b passed (inl is) = inl is
 tick-sound b passed (inr is) = inr (is.0, fits-flags b.is_sure true b is.1)
 
@@ -105,8 +105,8 @@ ticked-sound : (bytes : List ℕ) (passed : Duration) (b : Browser) → IsSound 
 ticked-sound [] passed b is = tick-sound b passed is
 ticked-sound (c ∷ bytes) passed b is = is
 
-answer-sound : (b : Browser) (o : Outcome) → IsSound (after_message b (message.Answer o))
-unfolding after_message
+answer-sound : (b : Browser) (o : Outcome) → IsSound (browsed_after b (message.Answer o))
+unfolding browsed_after
 answer-sound b o = inl refl
 
 pub turn-sound : (b : Standing Browser) (turn : Turn Browser Outcome) → IsSound b.state
@@ -115,14 +115,14 @@ turn-sound b (Came bytes passed) is =
     taking-sound (told_by b.decoder bytes).1 (b.left ++ (told_by b.decoder bytes).0) (ticked browsing bytes passed b.state)
     (ticked-sound bytes passed b.state is)
 turn-sound b (Done c o) is =
-    taking-sound b.decoder b.left (after_message b.state (message.Answer o)) (answer-sound b.state o)
+    taking-sound b.decoder b.left (browsed_after b.state (message.Answer o)) (answer-sound b.state o)
 
 self-by : (a : Bool) (b c : Browser) → (if a then Some b else None) ≡ Some c → b ≡ c
 self-by true b c is = cc
 self-by false b c is = absurd (cc)
 
 -- what is asked for is told by the state itself
-pub asked-self : (b c : Browser) → asked_by b ≡ Some c → b ≡ c
+pub asked-self : (b c : Browser) → browser_asked b ≡ Some c → b ≡ c
 asked-self b c is = self-by (asks b) b c is
 
 asks-true : (a : Bool) (b c : Browser) → (if a then Some b else None) ≡ Some c → a ≡ true
@@ -140,7 +140,7 @@ sure-in Leaving sure change is = absurd (cc)
 sure-in Over sure change is = absurd (cc)
 
 -- where a change is asked for, the screen has columns for the question
-pub asked-whole : (b c : Browser) → IsSound b → asked_by b ≡ Some c → is_change b.mode ≡ true → fits b.size.width b ≡ true
+pub asked-whole : (b c : Browser) → IsSound b → browser_asked b ≡ Some c → is_change b.mode ≡ true → fits b.size.width b ≡ true
 asked-whole b c (inl is) asked change =
     let on : b.is_sure ≡ true = sure-in b.mode b.is_sure change (asks-true (asks b) b c asked) in
     let bad : true ≡ false = sym on ∙ is in absurd (cc)

@@ -29,21 +29,21 @@ pub record IsAbove (folder : List ℕ) (w : Wanted) : Type 0 where
   pub other : w.other ≡ 0
 
 -- the folder that is shown is wanted, with the same entry selected, or the one whose name was typed
-pub record IsShown (b : Browser) (w : Wanted) : Type 0 where
+pub record WantsShown (b : Browser) (w : Wanted) : Type 0 where
   pub folder : w.folder ≡ b.folder
   pub name : w.name ≡ sought_text b
   pub other : w.other ≡ b.selected
 
 -- the folder that is selected is wanted, with its first entry selected
-pub record IsSelected (b : Browser) (w : Wanted) : Type 0 where
+pub record WantsSelected (b : Browser) (w : Wanted) : Type 0 where
   pub folder : named_path b (selected_text b) ≡ Some w.folder
   pub name : w.name ≡ []
   pub other : w.other ≡ 0
 
 -- the folder that is asked for: the one that is shown, the one that is selected, or the one above
 abbrev pub Lists : Mode → Browser → Wanted → Type 0
-Lists Listing b w = IsShown b w
-Lists Entering b w = IsSelected b w
+Lists Listing b w = WantsShown b w
+Lists Entering b w = WantsSelected b w
 Lists Leaving b w = IsAbove b.folder w
 Lists _ b w = ⊥
 
@@ -67,7 +67,7 @@ told_of (answer.Failed why) = outcome.Failed why
 told_of _ = outcome.Failed failure.Other
 
 -- nothing was done to files, and a reason is told
-pub record Refuses {P : Type 0} (files : P) (o : Outcome) (files' : P) : Type 0 where
+pub record DoesNothing {P : Type 0} (files : P) (o : Outcome) (files' : P) : Type 0 where
   pub why : Failure
   pub tells : o ≡ outcome.Failed why
   pub kept : files' ≡ files
@@ -80,8 +80,8 @@ module _ {P : Type 0} (cmp : Row → Row → Ordering) (does : P → Command →
     pub tells : o ≡ told_of answer
 
   abbrev pub Changed : Option Command → P → Outcome → P → Type 0
-  Changed None files o files' = Refuses files o files'
-  Changed (Some command) files o files' = Refuses files o files' ⊎ Touches command files o files'
+  Changed None files o files' = DoesNothing files o files'
+  Changed (Some command) files o files' = DoesNothing files o files' ⊎ Touches command files o files'
 
   -- a folder that is asked for was listed, and what it holds is told; or memory was refused for that
   pub record Looks (b : Browser) (files : P) (o : Outcome) (files' : P) : Type 0 where
@@ -92,7 +92,7 @@ module _ {P : Type 0} (cmp : Row → Row → Ordering) (does : P → Command →
     pub tells : TellsListing cmp b.has_hidden wanted answer o ⊎ (o ≡ outcome.Failed failure.Memory)
 
   abbrev pub Listed : Browser → P → Outcome → P → Type 0
-  Listed b files o files' = Refuses files o files' ⊎ Looks b files o files'
+  Listed b files o files' = DoesNothing files o files' ⊎ Looks b files o files'
 
   abbrev pub DoesIn : Mode → Browser → P → Outcome → P → Type 0
   DoesIn Listing b files o files' = Listed b files o files'
@@ -101,5 +101,5 @@ module _ {P : Type 0} (cmp : Row → Row → Ordering) (does : P → Command →
   DoesIn mode b files o files' = Changed (change_in mode b) files o files'
 
   -- what a browser asks for was done
-  abbrev pub Does : Browser → P → Outcome → P → Type 0
-  Does b = DoesIn b.mode b
+  abbrev pub DoesAsked : Browser → P → Outcome → P → Type 0
+  DoesAsked b = DoesIn b.mode b

@@ -63,13 +63,13 @@ code_wish key.End = ToLast
 code_wish _ = Nothing
 
 -- Control is held, and nothing else
-abbrev pub has_control_key : KeyEvent → Bool
-has_control_key k = modifier_bits k.modifiers == 4
+abbrev pub holds_control : KeyEvent → Bool
+holds_control k = modifier_bits k.modifiers == 4
 
 -- a key with what is held beside it; let go it asks for nothing
 abbrev pub kind_wish : KeyEventKind → KeyEvent → Wish
 kind_wish Release k = Nothing
-kind_wish _ k = if has_control_key k then control_wish k.code else code_wish k.code
+kind_wish _ k = if holds_control k then control_wish k.code else code_wish k.code
 
 -- what an event asks for while an entry is selected
 abbrev pub event_wish : Event → Wish
@@ -77,12 +77,12 @@ event_wish (Key k) = kind_wish k.kind k
 event_wish _ = Nothing
 
 -- an event that a person typed or pasted
-abbrev pub is_press_kind : KeyEventKind → Bool
-is_press_kind Release = false
-is_press_kind _ = true
+abbrev pub is_down_kind : KeyEventKind → Bool
+is_down_kind Release = false
+is_down_kind _ = true
 
 abbrev pub is_input : Event → Bool
-is_input (Key k) = is_press_kind k.kind
+is_input (Key k) = is_down_kind k.kind
 is_input (Pasted c) = true
 is_input _ = false
 
@@ -91,9 +91,9 @@ abbrev pub is_yes_code : KeyCode → Bool
 is_yes_code (key.Char c) = c == byte "y"
 is_yes_code _ = false
 
-abbrev pub is_yes : Event → Bool
-is_yes (Key k) = not (has_control_key k) && is_yes_code k.code
-is_yes _ = false
+abbrev pub says_yes : Event → Bool
+says_yes (Key k) = not (holds_control k) && is_yes_code k.code
+says_yes _ = false
 
 -- what a field of text makes of an event, if it is for one
 abbrev pub edit_typing : Option Edit → Typing
@@ -111,5 +111,5 @@ control_typing (key.Char c) event = if c == byte "c" then Cancel else edit_typin
 control_typing _ event = edit_typing (edit_of event)
 
 abbrev pub event_typing : Event → Typing
-event_typing (Key k) = if has_control_key k then control_typing k.code (Key k) else code_typing k.code (Key k)
+event_typing (Key k) = if holds_control k then control_typing k.code (Key k) else code_typing k.code (Key k)
 event_typing event = edit_typing (edit_of event)

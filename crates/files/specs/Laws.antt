@@ -7,13 +7,13 @@ use Rattle.files.specs.declared.list.Outcome.{Outcome}
 use Rattle.files.specs.declared.browser.Browser.{Browser}
 use Rattle.files.specs.declared.browser.Mode.{Mode}
 use Rattle.files.specs.declared.browser.Mode.TheVariants.{Removing, Renaming, Making}
-use Rattle.files.specs.Moves.{last_place, list_rows, asks, after_message, asked_by, is_over}
+use Rattle.files.specs.Moves.{last_row_place, list_rows, asks, browsed_after, browser_asked, is_over}
 use Rattle.files.specs.Names.{shown_name}
-use Rattle.files.specs.Texts.{shown_row, status_text, fits}
+use Rattle.files.specs.Texts.{shown_row, status_told, fits}
 
 -- the selection is an entry of the list, unless that is empty, and stands in one of its rows, if there are some
 pub record IsPlaced (b : Browser) : Type 0 where
-  pub within : b.selected ≤ last_place b
+  pub within : b.selected ≤ last_row_place b
   pub above : b.top ≤ b.selected
   pub below : 0 < list_rows b → b.selected < b.top + list_rows b
 
@@ -27,7 +27,7 @@ pub record ListsSame (b c : Browser) : Type 0 where
 pub record AsksToRemove (b : Browser) (path : List ℕ) : Type 0 where
   pub row : Row
   pub path_is : path ≡ path_in b.folder (string_bytes row.name)
-  pub asks : status_text b ≡ codes "remove \"" ++ shown_row row ++ codes "\"? y/n"
+  pub asks : status_told b ≡ codes "remove \"" ++ shown_row row ++ codes "\"? y/n"
 
 -- the status asks for another name of the entry of a path: that of another path
 pub record AsksToRename (b : Browser) (from to : List ℕ) : Type 0 where
@@ -35,7 +35,7 @@ pub record AsksToRename (b : Browser) (from to : List ℕ) : Type 0 where
   pub name : List ℕ
   pub from_is : from ≡ path_in b.folder (string_bytes row.name)
   pub to_is : to ≡ path_in b.folder name
-  pub asks : status_text b ≡ (codes "rename \"" ++ shown_row row ++ codes "\" to \"") ++ shown_name name ++ codes "\""
+  pub asks : status_told b ≡ (codes "rename \"" ++ shown_row row ++ codes "\" to \"") ++ shown_name name ++ codes "\""
 
 -- nothing is sure, or a question is that the screen shows whole
 abbrev pub IsSound : Browser → Type 0
@@ -43,7 +43,7 @@ IsSound b = (b.is_sure ≡ false) ⊎ ((asks b ≡ true) × (fits b.size.width b
 
 -- browsing, as a state that acts
 abbrev pub browsing : ActingRules Browser Browser Outcome
-browsing = record { updated = after_message; asked = asked_by; is_over = is_over }
+browsing = record { updated = browsed_after; asked = browser_asked; is_over = is_over }
 
 -- a question is asked that changes something
 abbrev pub is_change : Mode → Bool

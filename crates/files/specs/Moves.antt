@@ -25,7 +25,7 @@ use Rattle.files.specs.declared.list.Row.{Row}
 use Rattle.files.specs.declared.list.Listing.{Listing as ListingData}
 use Rattle.files.specs.declared.list.Outcome.{Outcome}
 use Rattle.files.specs.declared.list.Outcome.TheVariants as outcome
-use Rattle.files.specs.Keys.{event_wish, event_typing, is_input, is_yes}
+use Rattle.files.specs.Keys.{event_wish, event_typing, is_input, says_yes}
 use Rattle.files.specs.Texts.{selected_text, column_in, fits}
 
 -- a browser that asks for the folder that all is in
@@ -55,29 +55,29 @@ new_browser alloc title size = record {
 abbrev pub list_rows : Browser → ℕ
 list_rows b = b.size.height - 2
 
-abbrev pub last_place : Browser → ℕ
-last_place b = length b.list - 1
+abbrev pub last_row_place : Browser → ℕ
+last_row_place b = length b.list - 1
 
 -- the entry that is selected stands in the rows, which move as little as they can
-abbrev pub settled : Browser → Browser
-settled b =
+abbrev pub scrolled_list : Browser → Browser
+scrolled_list b =
     let first = min b.top (length b.list - list_rows b) in
     record b { top = min (max first (b.selected - (list_rows b - 1))) b.selected }
 
 -- an entry is selected, or the last one
 abbrev pub selected_at : ℕ → Browser → Browser
-selected_at place b = settled (record b { selected = min place (last_place b) })
+selected_at place b = scrolled_list (record b { selected = min place (last_row_place b) })
 
-abbrev pub moved : Wish → Browser → Browser
-moved wish.Down b = selected_at (b.selected + 1) b
-moved wish.Up b = selected_at (b.selected - 1) b
-moved wish.PageDown b = selected_at (b.selected + list_rows b) b
-moved wish.PageUp b = selected_at (b.selected - list_rows b) b
-moved wish.HalfDown b = selected_at (b.selected + list_rows b / 2) b
-moved wish.HalfUp b = selected_at (b.selected - list_rows b / 2) b
-moved wish.ToFirst b = selected_at 0 b
-moved wish.ToLast b = selected_at (last_place b) b
-moved _ b = b
+abbrev pub selection_moved : Wish → Browser → Browser
+selection_moved wish.Down b = selected_at (b.selected + 1) b
+selection_moved wish.Up b = selected_at (b.selected - 1) b
+selection_moved wish.PageDown b = selected_at (b.selected + list_rows b) b
+selection_moved wish.PageUp b = selected_at (b.selected - list_rows b) b
+selection_moved wish.HalfDown b = selected_at (b.selected + list_rows b / 2) b
+selection_moved wish.HalfUp b = selected_at (b.selected - list_rows b / 2) b
+selection_moved wish.ToFirst b = selected_at 0 b
+selection_moved wish.ToLast b = selected_at (last_row_place b) b
+selection_moved _ b = b
 
 -- ---- wishes
 
@@ -119,19 +119,19 @@ typing_in mode typed b = record b { mode = mode; typed = typed; column = column_
 abbrev pub renaming : Browser → Browser
 renaming b = if length b.list == 0 then b else typing_in Renaming (at_extension (selected_field b)) b
 
-abbrev pub gone : Wish → Browser → Browser
-gone wish.Enter b = if is_folder_selected b then record b { mode = Entering } else b
-gone wish.Leave b = if nat_lt 0 (length b.folder) then record b { mode = Leaving } else b
-gone wish.Hidden b = record b { has_hidden = not b.has_hidden; mode = Listing }
-gone wish.Remove b = if nat_lt 0 (length b.list) then record b { mode = Removing } else b
-gone wish.Quit b = record b { mode = Over }
-gone other b = moved other b
+abbrev pub went : Wish → Browser → Browser
+went wish.Enter b = if is_folder_selected b then record b { mode = Entering } else b
+went wish.Leave b = if nat_lt 0 (length b.folder) then record b { mode = Leaving } else b
+went wish.Hidden b = record b { has_hidden = not b.has_hidden; mode = Listing }
+went wish.Remove b = if nat_lt 0 (length b.list) then record b { mode = Removing } else b
+went wish.Quit b = record b { mode = Over }
+went other b = selection_moved other b
 
 -- what a wish makes of it, without its note
 abbrev pub granted : Wish → Browser → Browser
 granted wish.Rename b = renaming b
 granted wish.Make b = typing_in Making new_field b
-granted other b = gone other b
+granted other b = went other b
 
 abbrev pub wished : Wish → Browser → Browser
 wished w b = record (granted w b) { note = Place }
@@ -152,30 +152,30 @@ typed_into Accept b = confirmed b
 typed_into Cancel b = record b { mode = Looking }
 typed_into Ignore b = b
 
-abbrev pub acted : Mode → Event → Browser → Browser
-acted Looking event b = wished (event_wish event) b
-acted Removing event b = if is_yes event then confirmed b else record b { mode = Looking }
-acted Renaming event b = typed_into (event_typing event) b
-acted Making event b = typed_into (event_typing event) b
-acted _ event b = b
+abbrev pub browsed : Mode → Event → Browser → Browser
+browsed Looking event b = wished (event_wish event) b
+browsed Removing event b = if says_yes event then confirmed b else record b { mode = Looking }
+browsed Renaming event b = typed_into (event_typing event) b
+browsed Making event b = typed_into (event_typing event) b
+browsed _ event b = b
 
 -- ---- what is told
 
 -- the screen has another size
-abbrev pub at_size : ℕ × ℕ → Browser → Browser
-at_size size b = settled (record b {
+abbrev pub browser_at_size : ℕ × ℕ → Browser → Browser
+browser_at_size size b = scrolled_list (record b {
   is_quiet = b.is_quiet && (b.size.width == size.0) && (b.size.height == size.1);
   size = record { width = size.0; height = size.1 };
 })
 
-abbrev pub at_told_size : Option (ℕ × ℕ) → Browser → Browser
-at_told_size (Some size) b = at_size size b
-at_told_size None b = b
+abbrev pub browser_at_told_size : Option (ℕ × ℕ) → Browser → Browser
+browser_at_told_size (Some size) b = browser_at_size size b
+browser_at_told_size None b = b
 
 -- what is typed acts, and then what is shown is new
 abbrev pub told : Event → Browser → Browser
 told event b =
-    if is_input event then record (acted b.mode event b) { is_quiet = false } else at_told_size (size_in event) b
+    if is_input event then record (browsed b.mode event b) { is_quiet = false } else browser_at_told_size (size_in event) b
 
 -- ---- answers
 
@@ -186,8 +186,8 @@ names_typed Making = true
 names_typed _ = false
 
 -- what stands in a folder is shown
-abbrev pub listed : ListingData → Browser → Browser
-listed l b = selected_at l.place (record b {
+abbrev pub listing_shown : ListingData → Browser → Browser
+listing_shown l b = selected_at l.place (record b {
   folder = l.folder;
   list = l.rows;
   unnamed = l.unnamed;
@@ -197,18 +197,18 @@ listed l b = selected_at l.place (record b {
 
 -- what is done leads to the folder anew, and what failed to its reason
 abbrev pub outcome_taken : Outcome → Browser → Browser
-outcome_taken (outcome.Listed l) b = listed l b
+outcome_taken (outcome.Listed l) b = listing_shown l b
 outcome_taken outcome.Done b = record b { mode = Listing; seeks_typed = names_typed b.mode }
 outcome_taken (outcome.Failed failure) b =
     record b { mode = Looking; seeks_typed = false; note = Failed b.mode failure }
 
-abbrev pub answered : Outcome → Browser → Browser
-answered o b = record (outcome_taken o b) { is_sure = false; is_quiet = false }
+abbrev pub outcome_told : Outcome → Browser → Browser
+outcome_told o b = record (outcome_taken o b) { is_sure = false; is_quiet = false }
 
-unfoldable pub after_message : Browser → Message Outcome → Browser
-after_message b (message.Event event) = told event b
-after_message b (message.Tick passed) = record b { is_quiet = true }
-after_message b (message.Answer o) = answered o b
+unfoldable pub browsed_after : Browser → Message Outcome → Browser
+browsed_after b (message.Event event) = told event b
+browsed_after b (message.Tick passed) = record b { is_quiet = true }
+browsed_after b (message.Answer o) = outcome_told o b
 
 -- ---- what is asked for
 
@@ -227,8 +227,8 @@ abbrev pub asks : Browser → Bool
 asks b = asks_in b.mode b.is_sure
 
 -- what is asked for is told by the browser itself
-abbrev pub asked_by : Browser → Option Browser
-asked_by b = if asks b then Some b else None
+abbrev pub browser_asked : Browser → Option Browser
+browser_asked b = if asks b then Some b else None
 
 abbrev pub is_over_mode : Mode → Bool
 is_over_mode Over = true

@@ -32,6 +32,6 @@ module _ {W H O : Type 0} where
   browsing_on = on_glass browsing PaintsBrowser browser_cursor
 
   -- so it was at each turn
-  abbrev pub AreNamed : List (Past Browser Browser Outcome (OnGlass W) H O) → Type 0
-  AreNamed [] = Unit {0}
-  AreNamed (p ∷ earlier) = NamesTurn p.before.glass p.turn × AreNamed earlier
+  abbrev pub WereOnTheGlass : List (Past Browser Browser Outcome (OnGlass W) H O) → Type 0
+  WereOnTheGlass [] = Unit {0}
+  WereOnTheGlass (p ∷ earlier) = NamesTurn p.before.glass p.turn × WereOnTheGlass earlier

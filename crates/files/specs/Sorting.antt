@@ -30,19 +30,19 @@ told_size File size = Some size
 told_size _ size = None
 
 -- what is told of an entry in its row
-pub record IsRowOf (info : Info) (row : Row) : Type 0 where
+pub record IsRowFor (info : Info) (row : Row) : Type 0 where
   pub leaf : row.is_leaf ≡ is_no_folder info.kind
   pub name : string_bytes row.name ≡ info.name
   pub link : row.is_link ≡ is_a_link info.kind
   pub size : row.size ≡ told_size info.kind info.size
 
 -- the rows of entries that are listed
-abbrev pub AreRowsOf : Bool → List Info → List Row → Type 0
-AreRowsOf hidden entries = AllZip IsRowOf (filter (λ info. is_listed hidden info.name) entries)
+abbrev pub AreRowsFor : Bool → List Info → List Row → Type 0
+AreRowsFor hidden entries = AllZip IsRowFor (filter (λ info. is_listed hidden info.name) entries)
 
 -- a row more, if the entry is listed
 abbrev pub AddsBy : Bool → Info → List Row → List Row → Type 0
-AddsBy true info old new = (row : Row) × IsRowOf info row × (new ≡ old ++ row ∷ [])
+AddsBy true info old new = (row : Row) × IsRowFor info row × (new ≡ old ++ row ∷ [])
 AddsBy false info old new = new ≡ old
 
 abbrev pub AddsIf : Bool → Info → List Row → List Row → Type 0
@@ -51,7 +51,7 @@ AddsIf hidden info old new = AddsBy (is_listed hidden info.name) info old new
 -- the rows of the entries that are listed: each of them, in an order
 pub record IsListOf (cmp : Row → Row → Ordering) (hidden : Bool) (entries : List Info) (list : List Row) : Type 0 where
   pub rows : List Row
-  pub are : AreRowsOf hidden entries rows
+  pub are : AreRowsFor hidden entries rows
   pub all : IsPermutation rows list
   pub ordered : IsSorted cmp list
 

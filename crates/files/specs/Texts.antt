@@ -26,22 +26,22 @@ abbrev pub shown_row : Row → List ℕ
 shown_row row = shown_name (string_bytes row.name) ++ kind_mark row.is_leaf row.is_link
 
 -- the size of a file, in bytes
-abbrev pub size_text : Option ℕ → List ℕ
-size_text (Some size) = decimal size
-size_text None = []
+abbrev pub file_size_text : Option ℕ → List ℕ
+file_size_text (Some size) = decimal size
+file_size_text None = []
 
 -- a size behind so many blanks that it ends in the last column; nothing if there is no room
-abbrev pub beside : ℕ → List ℕ → List ℕ → List ℕ
-beside width text size =
+abbrev pub size_beside : ℕ → List ℕ → List ℕ → List ℕ
+size_beside width text size =
     let gap = width - (text_columns text + length size) in
     if gap == 0 then [] else repeat gap (codes " ") ++ size
 
-abbrev pub row_text : ℕ → Row → List ℕ
-row_text width row = shown_row row ++ beside width (shown_row row) (size_text row.size)
+abbrev pub row_told : ℕ → Row → List ℕ
+row_told width row = shown_row row ++ size_beside width (shown_row row) (file_size_text row.size)
 
 -- an entry in a row, if there is one
 abbrev pub entry_at : ℕ → ℕ → Browser → List ℕ
-entry_at width place b = option_map_or (row_text width) (slice_get b.list place) []
+entry_at width place b = option_map_or (row_told width) (slice_get b.list place) []
 
 -- ---- the title
 
@@ -67,8 +67,8 @@ abbrev pub unnamed_text : ℕ → List ℕ
 unnamed_text n = if nat_lt 0 n then codes ", and " ++ decimal n ++ codes " whose names are no texts" else []
 
 -- which entry is selected, of how many, as `3/120`
-abbrev pub place_text : Browser → List ℕ
-place_text b =
+abbrev pub place_told : Browser → List ℕ
+place_told b =
     decimal (min (b.selected + 1) (length b.list)) ++ codes "/" ++ decimal (length b.list) ++ unnamed_text b.unnamed
 
 -- why something wasn't done
@@ -97,10 +97,10 @@ subject Leaving b = codes "the folder above"
 subject _ b = codes "this folder"
 
 -- what is told while an entry is selected
-abbrev pub note_text : Note → Browser → List ℕ
-note_text Place b = place_text b
-note_text (Failed mode failure) b = subject mode b ++ codes ": " ++ failure_text failure
-note_text Narrow b = codes "the screen is too narrow for the question"
+abbrev pub note_told : Note → Browser → List ℕ
+note_told Place b = place_told b
+note_told (Failed mode failure) b = subject mode b ++ codes ": " ++ failure_text failure
+note_told Narrow b = codes "the screen is too narrow for the question"
 
 -- what stands before a name that is typed
 abbrev pub prompt : Mode → Browser → List ℕ
@@ -119,10 +119,10 @@ abbrev pub status_in : Mode → Browser → List ℕ
 status_in Removing b = removal_question b
 status_in Renaming b = name_question Renaming b
 status_in Making b = name_question Making b
-status_in _ b = note_text b.note b
+status_in _ b = note_told b.note b
 
-abbrev pub status_text : Browser → List ℕ
-status_text b = status_in b.mode b
+abbrev pub status_told : Browser → List ℕ
+status_told b = status_in b.mode b
 
 -- so many columns of the status stand before the cursor, with a name in the field
 abbrev pub column_in : Mode → FieldData → Browser → ℕ
@@ -130,18 +130,18 @@ column_in mode typed b = text_columns (prompt mode b ++ shown_name typed.before)
 
 -- so many columns show all that the last row tells
 abbrev pub fits : ℕ → Browser → Bool
-fits width b = nat_le (text_columns (status_text b)) width
+fits width b = nat_le (text_columns (status_told b)) width
 
 -- ---- the rows
 
 -- the place of the entry in a row of the list; so many entries as a number has no more are nowhere
-abbrev pub place_in : ℕ → Browser → ℕ
-place_in k b = min (b.top + k) (2 ^ 64 - 1) - 1
+abbrev pub place_in_row : ℕ → Browser → ℕ
+place_in_row k b = min (b.top + k) (2 ^ 64 - 1) - 1
 
 -- what stands in a row, of as many as there are: the status in the last one, the title in the first one, and
 -- entries between them
 abbrev pub text_in : ℕ → ℕ → ℕ → Browser → List ℕ
 text_in k width height b =
-    if k == height - 1 then status_text b
+    if k == height - 1 then status_told b
     else if k == 0 then title_text b
-    else entry_at width (place_in k b) b
+    else entry_at width (place_in_row k b) b

@@ -1,10 +1,10 @@
 //! The state of a file manager.
 
 ghost use Rattle.std.specs.Prelude.{◌≡◌, false, IfOk, OnOk, OnErr};
-ghost use Rattle.files.specs.Moves.{new_browser, acted, at_told_size, told, answered, after_message};
-ghost use Rattle.files.specs.Moves.{asks, asked_by};
+ghost use Rattle.files.specs.Moves.{new_browser, browsed, browser_at_told_size, told, outcome_told, browsed_after};
+ghost use Rattle.files.specs.Moves.{asks, browser_asked};
 
-use crate::keys::{is_input, is_yes, wish_of};
+use crate::keys::{is_input, says_yes, wish_of};
 use crate::list::{Outcome, Rows};
 use crate::typing::typing_of;
 use ratatui_acts::{Acts, Message};
@@ -108,7 +108,7 @@ impl Browser {
 
     // Takes a size that was told, if one was.
     fn take_size(&mut self, size: Option<(u16, u16)>)
-        ensures { self.new ≡ at_told_size size self.old }
+        ensures { self.new ≡ browser_at_told_size size self.old }
     {
         if let Some((width, height)) = size {
             self.is_quiet = self.is_quiet && self.size.width == width && self.size.height == height;
@@ -119,10 +119,10 @@ impl Browser {
 
     // Takes an answer to the question whether an entry is to be removed.
     fn take_answer(&mut self, event: Event) -> Result<(), AllocError>
-        ensures ok { OnOk result (self.new ≡ acted Mode.Removing event self.old) }
+        ensures ok { OnOk result (self.new ≡ browsed Mode.Removing event self.old) }
         ensures err { OnErr result (self.new ≡ self.old) }
     {
-        if is_yes(event) {
+        if says_yes(event) {
             return self.confirm();
         }
         self.mode = Mode::Looking;
@@ -131,7 +131,7 @@ impl Browser {
 
     // Takes what is typed or pasted.
     fn act(&mut self, event: Event) -> Result<(), AllocError>
-        ensures ok { OnOk result (self.new ≡ acted self.old.mode event self.old) }
+        ensures ok { OnOk result (self.new ≡ browsed self.old.mode event self.old) }
         ensures err { OnErr result (self.new ≡ self.old) }
     {
         match self.mode {
@@ -158,7 +158,7 @@ impl Browser {
 
     // Takes an answer.
     fn take_outcome(&mut self, outcome: Outcome)
-        ensures { self.new ≡ answered outcome self.old }
+        ensures { self.new ≡ outcome_told outcome self.old }
     {
         match outcome {
             Outcome::Listed(listing) => self.take_listing(listing),
@@ -195,14 +195,14 @@ impl Acts for Browser {
 
     type Answer = Outcome;
 
-    ghost updated = { after_message };
+    ghost updated = { browsed_after };
 
-    ghost asked = { asked_by };
+    ghost asked = { browser_asked };
 
     ghost is_over = { is_over };
 
     fn update(&mut self, message: Message<Outcome>) -> Result<bool, AllocError>
-        ensures ok { OnOk result (self.new ≡ after_message self.old message) }
+        ensures ok { OnOk result (self.new ≡ browsed_after self.old message) }
         ensures same { IfOk result (λ changed. changed ≡ false → self.new ≡ self.old) }
         ensures refused { OnErr result (self.new ≡ self.old) }
     {

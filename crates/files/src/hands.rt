@@ -3,7 +3,7 @@
 ghost use Rattle.std.specs.Prelude.{◌≡◌, ◌≤◌, Some, IfOk, IfSome};
 ghost use Rattle.ratatui_core.specs.Buffer.{text_columns};
 ghost use Rattle.ratatui_app.specs.Glass.{StandsOnGlass};
-ghost use Rattle.files.specs.Texts.{status_text};
+ghost use Rattle.files.specs.Texts.{status_told};
 ghost use Rattle.files.specs.Pages.{PaintsBrowser, browser_cursor};
 ghost use Rattle.files.specs.Questions.{change_in};
 ghost use Rattle.files.specs.Doing.{IsAbove, Lists, TellsListing, told_of, Listed, Changed};
@@ -100,7 +100,7 @@ fn folder_for(alloc: Global, browser: &Browser) -> Result<Option<Wanted>, AllocE
 }
 
 // What was answered of a folder that was to be listed.
-fn listed(
+fn listing_shown(
     alloc: Global,
     has_hidden: bool,
     wanted: Wanted,
@@ -161,7 +161,7 @@ impl<P: Performs + Drop> Hands<P> {
         requires shown { StandsOnGlass (PaintsBrowser _browser.now) (browser_cursor _browser.now)
             _glass.now.terminal }
         requires named { change_in _browser.now.mode _browser.now ≡ Some command.now }
-        requires whole { text_columns (status_text _browser.now)
+        requires whole { text_columns (status_told _browser.now)
             ≤ _glass.now.terminal.viewport_area.width }
         ensures { P.does self.old.files command.now result self.new.files }
     {
@@ -203,7 +203,7 @@ impl<P: Performs + Drop> Hands<P> {
             return Outcome::Failed(Failure::Memory);
         };
         let answer = self.files.perform(&Command::List(folder));
-        match listed(self.alloc, browser.has_hidden, wanted, answer) {
+        match listing_shown(self.alloc, browser.has_hidden, wanted, answer) {
             Ok(outcome) => outcome,
             Err(_) => Outcome::Failed(Failure::Memory),
         }
@@ -211,9 +211,9 @@ impl<P: Performs + Drop> Hands<P> {
 }
 
 impl<P: Performs + Drop, W: Write + Drop> Outside<Browser, OnGlass<W>> for Hands<P> {
-    ghost use Rattle.files.specs.Doing.{Does};
+    ghost use Rattle.files.specs.Doing.{DoesAsked};
 
-    ghost answers = { λ before b outcome after. Does ⟦<Row as Ord>⟧.cmp P.does b before.files outcome after.files };
+    ghost answers = { λ before b outcome after. DoesAsked ⟦<Row as Ord>⟧.cmp P.does b before.files outcome after.files };
 
     fn perform(
         &mut self,

@@ -3,7 +3,7 @@
 ghost use Rattle.std.specs.Prelude.{◌≡◌, ◌==◌};
 ghost use Rattle.ratatui_events.specs.Key.{modifier_bits};
 ghost use Rattle.files.specs.Keys.{character_wish, control_wish, code_wish, kind_wish, event_wish};
-ghost use Rattle.files.specs.Keys.{has_control_key, is_press_kind, is_input, is_yes_code, is_yes};
+ghost use Rattle.files.specs.Keys.{holds_control, is_down_kind, is_input, is_yes_code, says_yes};
 
 use ratatui_events::{Event, KeyCode, KeyEvent, KeyEventKind, KeyModifiers};
 
@@ -41,8 +41,8 @@ pub enum Wish {
 }
 
 // Whether Control is held, and nothing else.
-pub(crate) fn has_control_key(key: KeyEvent) -> bool
-    ensures { result ≡ has_control_key key }
+pub(crate) fn holds_control(key: KeyEvent) -> bool
+    ensures { result ≡ holds_control key }
 {
     key.modifiers == KeyModifiers::CONTROL
 }
@@ -104,7 +104,7 @@ fn key_wish(key: KeyEvent) -> Wish
     match key.kind {
         KeyEventKind::Release => Wish::Nothing,
         _ => {
-            if has_control_key(key) {
+            if holds_control(key) {
                 control_wish(key.code)
             } else {
                 code_wish(key.code)
@@ -124,8 +124,8 @@ pub fn wish_of(event: Event) -> Wish
 }
 
 // Whether a key of this kind goes down, or is held.
-fn is_press_kind(kind: KeyEventKind) -> bool
-    ensures { result ≡ is_press_kind kind }
+fn is_down_kind(kind: KeyEventKind) -> bool
+    ensures { result ≡ is_down_kind kind }
 {
     match kind {
         KeyEventKind::Release => false,
@@ -138,7 +138,7 @@ pub fn is_input(event: Event) -> bool
     ensures { result ≡ is_input event }
 {
     match event {
-        Event::Key(key) => is_press_kind(key.kind),
+        Event::Key(key) => is_down_kind(key.kind),
         Event::Pasted(_) => true,
         _ => false,
     }
@@ -155,11 +155,11 @@ fn is_yes_code(code: KeyCode) -> bool
 }
 
 /// Returns whether an event says yes to a question: the letter y.
-pub fn is_yes(event: Event) -> bool
-    ensures { result ≡ is_yes event }
+pub fn says_yes(event: Event) -> bool
+    ensures { result ≡ says_yes event }
 {
     match event {
-        Event::Key(key) => !has_control_key(key) && is_yes_code(key.code),
+        Event::Key(key) => !holds_control(key) && is_yes_code(key.code),
         _ => false,
     }
 }

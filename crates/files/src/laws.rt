@@ -16,11 +16,11 @@ ghost use Rattle.files.specs.declared.list.Outcome.{Outcome};
 ghost use Rattle.files.specs.declared.list.Outcome.TheVariants as outcome;
 ghost use Rattle.files.specs.Names.{shown_name};
 ghost use Rattle.files.specs.Texts.{fits};
-ghost use Rattle.files.specs.Moves.{new_browser, after_message, list_rows, settled};
+ghost use Rattle.files.specs.Moves.{new_browser, browsed_after, list_rows, scrolled_list};
 ghost use Rattle.files.specs.Questions.{change_in};
 ghost use Rattle.ratatui_acts.specs.Runs.{Now, Past, HasRun};
 ghost use Rattle.ratatui_app.specs.declared.on_glass.OnGlass.{OnGlass};
-ghost use Rattle.files.specs.RunLaws.{browsing_on, AreNamed};
+ghost use Rattle.files.specs.RunLaws.{browsing_on, WereOnTheGlass};
 ghost use Rattle.files.specs.Laws.{IsSound, IsPlaced, ListsSame, AsksToRemove, AsksToRename};
 
 use crate::browser::Browser;
@@ -39,22 +39,22 @@ pub fn names_are_told_apart()
 pub fn the_selection_is_in_its_rows()
     ensures first { (alloc : GlobalData) (title : List ℕ) (size : SizeData)
         → IsPlaced (new_browser alloc title size) }
-    ensures next { (b : Browser) (m : Message Outcome) → IsPlaced b → IsPlaced (after_message b m) }
+    ensures next { (b : Browser) (m : Message Outcome) → IsPlaced b → IsPlaced (browsed_after b m) }
     ensures little { (b : Browser) → b.top ≤ b.selected → b.selected < b.top + list_rows b
-        → b.top + list_rows b ≤ length b.list → settled b ≡ b }
+        → b.top + list_rows b ≤ length b.list → scrolled_list b ≡ b }
 {}
 
 /// What is listed is what was answered last of a folder; nothing else changes it.
 pub fn only_listings_change_the_list()
     ensures listed { (b : Browser) (l : Listing)
-        → let c = after_message b (message.Answer (outcome.Listed l)) in
+        → let c = browsed_after b (message.Answer (outcome.Listed l)) in
         (c.folder ≡ l.folder) × (c.list ≡ l.rows) × (c.unnamed ≡ l.unnamed) }
-    ensures event { (b : Browser) (e : Event) → ListsSame b (after_message b (message.Event e)) }
+    ensures event { (b : Browser) (e : Event) → ListsSame b (browsed_after b (message.Event e)) }
     ensures tick { (b : Browser) (passed : Duration)
-        → ListsSame b (after_message b (message.Tick passed)) }
-    ensures done { (b : Browser) → ListsSame b (after_message b (message.Answer outcome.Done)) }
+        → ListsSame b (browsed_after b (message.Tick passed)) }
+    ensures done { (b : Browser) → ListsSame b (browsed_after b (message.Answer outcome.Done)) }
     ensures failed { (b : Browser) (why : Failure)
-        → ListsSame b (after_message b (message.Answer (outcome.Failed why))) }
+        → ListsSame b (browsed_after b (message.Answer (outcome.Failed why))) }
 {}
 
 /// A question that removes or renames something names it, whole, and the name that it is given.
@@ -71,16 +71,16 @@ pub fn questions_name_what_they_change()
 /// screen has columns for all of it; and nothing else makes a question sure.
 pub fn a_yes_counts_after_a_pause()
     ensures counts { (b : Browser) (e : Event) → b.is_sure ≡ false
-        → (after_message b (message.Event e)).is_sure ≡ true
+        → (browsed_after b (message.Event e)).is_sure ≡ true
         → (b.is_quiet ≡ true) × (fits b.size.width b ≡ true)
-        × (after_message b (message.Event e) ≡ record b { is_sure = true; is_quiet = false }) }
+        × (browsed_after b (message.Event e) ≡ record b { is_sure = true; is_quiet = false }) }
     ensures asked { (b : Browser) (e : Event)
-        → (after_message b (message.Event e)).is_quiet ≡ true
-        → (b.is_quiet ≡ true) × ((after_message b (message.Event e)).size ≡ b.size)
-        × ((after_message b (message.Event e)).is_sure ≡ b.is_sure) }
+        → (browsed_after b (message.Event e)).is_quiet ≡ true
+        → (b.is_quiet ≡ true) × ((browsed_after b (message.Event e)).size ≡ b.size)
+        × ((browsed_after b (message.Event e)).is_sure ≡ b.is_sure) }
     ensures answered { (b : Browser) (o : Outcome)
-        → ((after_message b (message.Answer o)).is_quiet ≡ false)
-        × ((after_message b (message.Answer o)).is_sure ≡ false) }
+        → ((browsed_after b (message.Answer o)).is_quiet ≡ false)
+        × ((browsed_after b (message.Answer o)).is_sure ≡ false) }
 {}
 
 // ---- runs
@@ -97,5 +97,5 @@ pub fn things_are_changed_while_they_are_named<
         → IsSound (new_browser alloc title size) }
     ensures named { (begun now : Now Browser (OnGlass W) H O)
         (past : List (Past Browser Browser Outcome (OnGlass W) H O)) → IsSound begun.standing.state
-        → HasRun (browsing_on H.gives H.fails O.answers) begun past now → AreNamed past }
+        → HasRun (browsing_on H.gives H.fails O.answers) begun past now → WereOnTheGlass past }
 {}

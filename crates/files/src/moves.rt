@@ -2,9 +2,9 @@
 
 ghost use Rattle.std.specs.Prelude.{◌≡◌, ◌+◌, ◌-◌, if◌then◌else◌, length, IfOk, OnOk, OnErr};
 ghost use Rattle.text_field.specs.Keys.{edited};
-ghost use Rattle.files.specs.Moves.{list_rows, last_place, settled, selected_at, moved, is_folder_selected};
-ghost use Rattle.files.specs.Moves.{follows_dot, to_dot, at_extension, selected_field, typing_in, renaming, gone, wished};
-ghost use Rattle.files.specs.Moves.{confirmed, typed_into, names_typed, listed};
+ghost use Rattle.files.specs.Moves.{list_rows, last_row_place, scrolled_list, selected_at, selection_moved, is_folder_selected};
+ghost use Rattle.files.specs.Moves.{follows_dot, to_dot, at_extension, selected_field, typing_in, renaming, went, wished};
+ghost use Rattle.files.specs.Moves.{confirmed, typed_into, names_typed, listing_shown};
 
 use crate::browser::{Browser, Mode, Note};
 use crate::keys::Wish;
@@ -57,15 +57,15 @@ impl Browser {
     }
 
     // The place of the last entry.
-    fn last_place(&self) -> usize
-        ensures { result ≡ last_place self.now }
+    fn last_row_place(&self) -> usize
+        ensures { result ≡ last_row_place self.now }
     {
         self.list.len().saturating_sub(1)
     }
 
     // Brings the entry that is selected into the rows, which move as little as they can.
     pub(crate) fn settle(&mut self)
-        ensures { self.new ≡ settled self.old }
+        ensures { self.new ≡ scrolled_list self.old }
     {
         let rows = self.list_rows();
         let top = self.top.min(self.list.len().saturating_sub(rows));
@@ -77,7 +77,7 @@ impl Browser {
     fn select(&mut self, place: usize)
         ensures { self.new ≡ selected_at place self.old }
     {
-        self.selected = place.min(self.last_place());
+        self.selected = place.min(self.last_row_place());
         self.settle();
     }
 
@@ -85,7 +85,7 @@ impl Browser {
     fn go_down(&mut self, rows: usize)
         ensures { self.new ≡ selected_at (self.old.selected + rows) self.old }
     {
-        let last = self.last_place();
+        let last = self.last_row_place();
         self.select(self.selected.saturating_add(rows).min(last));
     }
 
@@ -98,7 +98,7 @@ impl Browser {
 
     // Selects another entry.
     fn move_by(&mut self, wish: Wish)
-        ensures { self.new ≡ moved wish self.old }
+        ensures { self.new ≡ selection_moved wish self.old }
     {
         let page = self.list_rows();
         match wish {
@@ -110,7 +110,7 @@ impl Browser {
             Wish::HalfUp => self.go_up(page / 2),
             Wish::ToFirst => self.select(0),
             Wish::ToLast => {
-                let last = self.last_place();
+                let last = self.last_row_place();
                 self.select(last);
             }
             _ => {}
@@ -171,7 +171,7 @@ impl Browser {
 
     // Does what is asked for that takes no memory.
     fn go(&mut self, wish: Wish)
-        ensures { self.new ≡ gone wish self.old }
+        ensures { self.new ≡ went wish self.old }
     {
         match wish {
             Wish::Enter => {
@@ -266,7 +266,7 @@ impl Browser {
 
     /// Takes what stands in a folder.
     pub(crate) fn take_listing(&mut self, listing: Listing)
-        ensures { self.new ≡ listed listing self.old }
+        ensures { self.new ≡ listing_shown listing self.old }
     {
         let Listing {
             folder,

@@ -2,7 +2,7 @@
 
 ghost use Rattle.std.specs.Prelude.{◌≡◌, ◌++◌, OnOk, string_bytes};
 ghost use Rattle.ansi_model.specs.Symbols.{is_shown, has_columns};
-ghost use Rattle.files.specs.Names.{is_plain, last_digit, escaped_low, escaped_high, shown_char, shown_name};
+ghost use Rattle.files.specs.Names.{is_plain, last_hex_digit, escaped_low, escaped_high, shown_name_char, shown_name};
 
 use ansi_model::is_plain as is_plain_char;
 use std::alloc::AllocError;
@@ -39,7 +39,7 @@ fn is_plain(c: char) -> bool
 
 // Appends the last hexadecimal digit of a number.
 fn push_digit(text: &mut String, number: u32) -> Result<(), AllocError>
-    ensures { OnOk result (string_bytes text.new ≡ string_bytes text.old ++ last_digit number) }
+    ensures { OnOk result (string_bytes text.new ≡ string_bytes text.old ++ last_hex_digit number) }
 {
     match char::from_digit(number % 16, 16) {
         Some(digit) => text.push(digit),
@@ -71,7 +71,7 @@ fn push_high(text: &mut String, code: u32) -> Result<(), AllocError>
 
 // Appends what is shown for a character.
 fn push_char(text: &mut String, c: char) -> Result<(), AllocError>
-    ensures { OnOk result (string_bytes text.new ≡ string_bytes text.old ++ shown_char c) }
+    ensures { OnOk result (string_bytes text.new ≡ string_bytes text.old ++ shown_name_char c) }
 {
     let code = c as u32;
     if is_plain(c) {

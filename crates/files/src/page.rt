@@ -5,7 +5,7 @@ ghost use Rattle.ratatui_core.specs.Layout.{IsInside};
 ghost use Rattle.ratatui_core.specs.Buffer.{IsReadyFrom};
 ghost use Rattle.ratatui_core.specs.Widgets.{ChangesWithin};
 ghost use Rattle.widget_boxes.specs.Boxes.{IsBoxArea};
-ghost use Rattle.files.specs.Pages.{style_in, PaintsText, PaintsRow, PaintsRows, typing_cursor};
+ghost use Rattle.files.specs.Pages.{style_in, PaintsRowText, PaintsListRow, PaintsFirstRows, cursor_at_column};
 
 use crate::browser::{Browser, Mode};
 use ratatui_app::Application;
@@ -27,7 +27,7 @@ fn paint_text(
     requires top { part.y ≤ y }
     requires bottom { y < part.y + part.height }
     ensures within { ChangesWithin part buf.old buf.new }
-    ensures ok { OnOk result (PaintsText part y style text.now buf.old buf.new) }
+    ensures ok { OnOk result (PaintsRowText part y style text.now buf.old buf.new) }
     ensures ready { IsReadyFrom y buf.old → OnOk result (IsReadyFrom (y + 1) buf.new) }
 {
     buf.set_stringn(part.x, y, text, usize::from(part.width), style)?;
@@ -35,8 +35,8 @@ fn paint_text(
 }
 
 // Where the cursor stands after so many columns of the last row, if the row goes so far.
-fn typing_cursor(column: usize, area: Rect) -> Option<Position>
-    ensures { result ≡ typing_cursor column area }
+fn cursor_at_column(column: usize, area: Rect) -> Option<Position>
+    ensures { result ≡ cursor_at_column column area }
 {
     if area.height == 0 || column >= usize::from(area.width) {
         return None;
@@ -57,7 +57,7 @@ impl Browser {
             Style::new()
         } else if k == 0 {
             Style::new().add_modifier(Modifier::BOLD)
-        } else if self.place_in(k) == self.selected {
+        } else if self.place_in_row(k) == self.selected {
             Style::new().add_modifier(Modifier::REVERSED)
         } else {
             Style::new()
@@ -70,7 +70,7 @@ impl Browser {
         requires inside { IsInside part buf.old.area }
         requires row { k < part.height }
         ensures within { ChangesWithin part buf.old buf.new }
-        ensures ok { OnOk result (PaintsRow self.now part k buf.old buf.new) }
+        ensures ok { OnOk result (PaintsListRow self.now part k buf.old buf.new) }
         ensures ready { IsReadyFrom (part.y + k) buf.old
             → OnOk result (IsReadyFrom (part.y + k + 1) buf.new) }
     {
@@ -84,7 +84,7 @@ impl Browser {
         requires some { IsBoxArea part }
         requires inside { IsInside part buf.old.area }
         ensures within { ChangesWithin part buf.old buf.new }
-        ensures ok { OnOk result (PaintsRows self.now part part.height buf.old buf.new) }
+        ensures ok { OnOk result (PaintsFirstRows self.now part part.height buf.old buf.new) }
         ensures ready { IsReadyFrom part.y buf.old
             → OnOk result (IsReadyFrom (part.y + part.height) buf.new) }
     {
@@ -112,7 +112,7 @@ impl Application for Browser {
 
     fn cursor(&self, area: Rect) -> Option<Position> {
         match self.mode {
-            Mode::Renaming | Mode::Making => typing_cursor(self.column, area),
+            Mode::Renaming | Mode::Making => cursor_at_column(self.column, area),
             _ => None,
         }
     }

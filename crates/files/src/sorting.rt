@@ -1,7 +1,7 @@
 //! Entries of a folder, in order.
 
 ghost use Rattle.std.specs.Prelude.{◌≡◌, IfOk, OnOk};
-ghost use Rattle.files.specs.Sorting.{is_listed, IsRowOf, AddsIf, IsListOf, IsPlaceOf};
+ghost use Rattle.files.specs.Sorting.{is_listed, IsRowFor, AddsIf, IsListOf, IsPlaceOf};
 
 use crate::list::{Row, Rows};
 use ratatui_files::{Entries, Info, Kind};
@@ -16,7 +16,7 @@ fn is_listed(has_hidden: bool, name: &str) -> bool
 
 // What is told of an entry in its row.
 fn row_of(info: Info) -> Row
-    ensures { IsRowOf info result }
+    ensures { IsRowFor info result }
 {
     let Info {
         name,

@@ -2,9 +2,9 @@
 
 ghost use Rattle.std.specs.Prelude.{◌≡◌, ◌++◌, ◌<◌, OnOk, IfOk, string_bytes};
 ghost use Rattle.ratatui_core.specs.Buffer.{text_columns};
-ghost use Rattle.files.specs.Texts.{failure_text, shown_row, size_text, beside, row_text, title_text, selected_text, sought_text};
-ghost use Rattle.files.specs.Texts.{selected_shown, place_text, subject, note_text, prompt, status_text, column_in};
-ghost use Rattle.files.specs.Texts.{fits, text_in, entry_at, place_in};
+ghost use Rattle.files.specs.Texts.{failure_text, shown_row, file_size_text, size_beside, row_told, title_text, selected_text, sought_text};
+ghost use Rattle.files.specs.Texts.{selected_shown, place_told, subject, note_told, prompt, status_told, column_in};
+ghost use Rattle.files.specs.Texts.{fits, text_in, entry_at, place_in_row};
 
 use crate::browser::{Browser, Mode, Note};
 use crate::list::Row;
@@ -53,7 +53,7 @@ fn push_row(text: &mut String, row: &Row) -> Result<(), AllocError>
 // Appends a size behind so many blanks that it ends in the last column, if there is room.
 fn push_size(alloc: Global, text: &mut String, size: &str, width: u16) -> Result<(), AllocError>
     ensures { OnOk result (string_bytes text.new
-        ≡ string_bytes text.old ++ beside width (string_bytes text.old) size.now) }
+        ≡ string_bytes text.old ++ size_beside width (string_bytes text.old) size.now) }
 {
     let used = Span::raw(text.as_str()).width().saturating_add(size.len());
     let gap = usize::from(width).saturating_sub(used);
@@ -66,8 +66,8 @@ fn push_size(alloc: Global, text: &mut String, size: &str, width: u16) -> Result
 }
 
 // An entry in a row of so many columns.
-fn row_text(alloc: Global, row: &Row, width: u16) -> Result<String, AllocError>
-    ensures { IfOk result (λ text. string_bytes text ≡ row_text width row.now) }
+fn row_told(alloc: Global, row: &Row, width: u16) -> Result<String, AllocError>
+    ensures { IfOk result (λ text. string_bytes text ≡ row_told width row.now) }
 {
     let mut text = String::new(alloc);
     push_row(&mut text, row)?;
@@ -127,7 +127,7 @@ impl Browser {
     // Appends which entry is selected, of how many, and how many more can't be named.
     fn push_place(&self, text: &mut String) -> Result<(), AllocError>
         ensures { OnOk result (string_bytes text.new
-            ≡ string_bytes text.old ++ place_text self.now) }
+            ≡ string_bytes text.old ++ place_told self.now) }
     {
         let mut digits = Digits::new();
         let count = self.list.len();
@@ -158,7 +158,7 @@ impl Browser {
     // Appends what is told while an entry is selected.
     fn push_note(&self, text: &mut String) -> Result<(), AllocError>
         ensures { OnOk result (string_bytes text.new
-            ≡ string_bytes text.old ++ note_text self.now.note self.now) }
+            ≡ string_bytes text.old ++ note_told self.now.note self.now) }
     {
         match self.note {
             Note::Place => self.push_place(text),
@@ -187,8 +187,8 @@ impl Browser {
     }
 
     /// Returns what the last row tells.
-    pub(crate) fn status_text(&self) -> Result<String, AllocError>
-        ensures { IfOk result (λ text. string_bytes text ≡ status_text self.now) }
+    pub(crate) fn status_told(&self) -> Result<String, AllocError>
+        ensures { IfOk result (λ text. string_bytes text ≡ status_told self.now) }
     {
         let mut text = String::new(self.alloc);
         match self.mode {
@@ -221,7 +221,7 @@ impl Browser {
     pub(crate) fn fits(&self, width: u16) -> Result<bool, AllocError>
         ensures { IfOk result (λ fits_it. fits_it ≡ fits width self.now) }
     {
-        let text = self.status_text()?;
+        let text = self.status_told()?;
         Ok(Span::raw(text.as_str()).width() <= usize::from(width))
     }
 
@@ -230,7 +230,7 @@ impl Browser {
         ensures { IfOk result (λ text. string_bytes text ≡ entry_at width place self.now) }
     {
         match self.list.get(place) {
-            Some(row) => row_text(self.alloc, row, width),
+            Some(row) => row_told(self.alloc, row, width),
             None => Ok(String::new(self.alloc)),
         }
     }
@@ -241,17 +241,17 @@ impl Browser {
         ensures { IfOk result (λ text. string_bytes text ≡ text_in k width height self.now) }
     {
         if k == height - 1 {
-            self.status_text()
+            self.status_told()
         } else if k == 0 {
             self.title_text()
         } else {
-            self.entry_text(self.place_in(k), width)
+            self.entry_text(self.place_in_row(k), width)
         }
     }
 
     // The place of the entry in a row of the list.
-    pub(crate) fn place_in(&self, k: u16) -> usize
-        ensures { result ≡ place_in k self.now }
+    pub(crate) fn place_in_row(&self, k: u16) -> usize
+        ensures { result ≡ place_in_row k self.now }
     {
         self.top.saturating_add(usize::from(k)).saturating_sub(1)
     }

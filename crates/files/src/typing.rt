@@ -4,7 +4,7 @@ ghost use Rattle.std.specs.Prelude.{◌≡◌};
 ghost use Rattle.text_field.specs.Keys.{edit_of};
 ghost use Rattle.files.specs.Keys.{edit_typing, code_typing, control_typing, event_typing};
 
-use crate::keys::has_control_key;
+use crate::keys::holds_control;
 use ratatui_events::{Event, KeyCode};
 use text_field::{Edit, edit_of};
 
@@ -58,7 +58,7 @@ pub fn typing_of(event: Event) -> Typing
 {
     match event {
         Event::Key(key) => {
-            if has_control_key(key) {
+            if holds_control(key) {
                 control_typing(key.code, &event)
             } else {
                 code_typing(key.code, &event)

@@ -1,5 +1,5 @@
 use Rattle.std.proofs.Common.{refl}
-use Rattle.files.specs.Moves.{after_message}
+use Rattle.files.specs.Moves.{browsed_after}
 use Rattle.files.proofs.LawLemmas.{yes-counts, quiet-stays}
 use Rattle.files.proofs.laws.a_yes_counts_after_a_pause.Goals as goal
 
@@ -10,5 +10,5 @@ pub returns-clause-asked : goal.returns-clause-asked
 returns-clause-asked c = quiet-stays
 
 pub returns-clause-answered : goal.returns-clause-answered
-unfolding after_message
+unfolding browsed_after
 returns-clause-answered c = λ b o. (refl, refl)

@@ -1,6 +1,6 @@
 use Rattle.std.proofs.Common.{subst, sym, ap, length, ◌∙◌}
 use Rattle.std.proofs.lemmas.{Iterator.Adapters.YieldsList-from_vec, Iterator.Consumers.YieldsList-end, List.map-id}
-use Rattle.files.specs.Sorting.{AreRowsOf}
+use Rattle.files.specs.Sorting.{AreRowsFor}
 use Rattle.files.proofs.SortLemmas.{rows-step}
 use Rattle.files.proofs.sorting.sorted.Goals as goal
 
@@ -16,7 +16,7 @@ returns c =
     c.loop-info.yielded c.loop-info.info-iterator c.loop-info.yielded_by _ c.next.new.self c.in-None.is c.next.ensures.steps in
     record {
       rows = c.loop-info.rows.items;
-      are = subst (λ es. AreRowsOf c.args.has_hidden es c.loop-info.rows.items) (sym (map-id c.loop-info.yielded) ∙ all.0)
+      are = subst (λ es. AreRowsFor c.args.has_hidden es c.loop-info.rows.items) (sym (map-id c.loop-info.yielded) ∙ all.0)
           c.loop-info.invariant;
       all = rw c.new.ensures c.in_ok-sort.ensures.permutation;
       ordered = rw c.new.ensures c.in_ok-sort.ensures.sorted;
