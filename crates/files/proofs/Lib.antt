@@ -6,3 +6,4 @@ pub mod LawLemmas
 pub mod QuestionLemmas
 pub mod SoundLemmas
 pub mod RunLemmas
+pub mod AskLemmas

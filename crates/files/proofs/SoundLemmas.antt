@@ -23,7 +23,7 @@ use Rattle.files.proofs.LawLemmas.{yes-counts, counted}
 
 -- ---- what the status tells depends on neither of two flags
 
-abbrev flagged : Bool → Bool → Browser → Browser
+abbrev pub flagged : Bool → Bool → Browser → Browser
 flagged sure quiet b = record b { is_sure = sure; is_quiet = quiet }
 
 subject-flags : (m : Mode) (s q : Bool) (b : Browser) → subject m (flagged s q b) ≡ subject m b
@@ -41,7 +41,7 @@ note-flags Place s q b = refl
 note-flags (Failed m why) s q b = ap (λ text. text ++ codes ": " ++ failure_text why) (subject-flags m s q b)
 note-flags Narrow s q b = refl
 
-status-flags : (m : Mode) (s q : Bool) (b : Browser) → status_in m (flagged s q b) ≡ status_in m b
+pub status-flags : (m : Mode) (s q : Bool) (b : Browser) → status_in m (flagged s q b) ≡ status_in m b
 status-flags Looking s q b = note-flags b.note s q b
 status-flags Listing s q b = note-flags b.note s q b
 status-flags Entering s q b = note-flags b.note s q b
@@ -65,7 +65,7 @@ or-false true b is = absurd (cc)
 or-false false b is = is
 
 -- a browser that doesn't wait asks for nothing, and so is sure of nothing
-unsure : (b : Browser) → waits browsing b ≡ false → IsSound b → b.is_sure ≡ false
+pub unsure : (b : Browser) → waits browsing b ≡ false → IsSound b → b.is_sure ≡ false
 unsure b off (inl is) = is
 unsure b off (inr is) =
     let quiet = asks-if (asks b) b (or-false (is_over b) (is_some (browser_asked b)) off) in
@@ -81,7 +81,7 @@ sound-by true b e none is =
     let k = yes-counts b e none is in
     subst (λ (c : Browser). IsSound c) (sym k.2) (counted-sound b k.3 k.1)
 
-event-sound : (b : Browser) (e : Event) → waits browsing b ≡ false → IsSound b → IsSound (browsed_after b (message.Event e))
+pub event-sound : (b : Browser) (e : Event) → waits browsing b ≡ false → IsSound b → IsSound (browsed_after b (message.Event e))
 event-sound b e off is = sound-by (browsed_after b (message.Event e)).is_sure b e (unsure b off is) refl
 
 sound-if : (w : Bool) (one two : Standing Browser) → (w ≡ true → IsSound one.state) → (w ≡ false → IsSound two.state)
@@ -101,11 +101,11 @@ unfolding browsed_after
 tick-sound b passed (inl is) = inl is
 tick-sound b passed (inr is) = inr (is.0, fits-flags b.is_sure true b is.1)
 
-ticked-sound : (bytes : List ℕ) (passed : Duration) (b : Browser) → IsSound b → IsSound (ticked browsing bytes passed b)
+pub ticked-sound : (bytes : List ℕ) (passed : Duration) (b : Browser) → IsSound b → IsSound (ticked browsing bytes passed b)
 ticked-sound [] passed b is = tick-sound b passed is
 ticked-sound (c ∷ bytes) passed b is = is
 
-answer-sound : (b : Browser) (o : Outcome) → IsSound (browsed_after b (message.Answer o))
+pub answer-sound : (b : Browser) (o : Outcome) → IsSound (browsed_after b (message.Answer o))
 unfolding browsed_after
 answer-sound b o = inl refl
 
@@ -125,11 +125,11 @@ self-by false b c is = absurd (cc)
 pub asked-self : (b c : Browser) → browser_asked b ≡ Some c → b ≡ c
 asked-self b c is = self-by (asks b) b c is
 
-asks-true : (a : Bool) (b c : Browser) → (if a then Some b else None) ≡ Some c → a ≡ true
+pub asks-true : (a : Bool) (b c : Browser) → (if a then Some b else None) ≡ Some c → a ≡ true
 asks-true true b c is = refl
 asks-true false b c is = absurd (cc)
 
-sure-in : (mode : Mode) (sure : Bool) → is_change mode ≡ true → asks_in mode sure ≡ true → sure ≡ true
+pub sure-in : (mode : Mode) (sure : Bool) → is_change mode ≡ true → asks_in mode sure ≡ true → sure ≡ true
 sure-in Removing sure change is = is
 sure-in Renaming sure change is = is
 sure-in Making sure change is = is

@@ -20,7 +20,7 @@ ghost use Rattle.files.specs.Moves.{new_browser, browsed_after, list_rows, scrol
 ghost use Rattle.files.specs.Questions.{change_in};
 ghost use Rattle.ratatui_acts.specs.Runs.{Now, Past, HasRun};
 ghost use Rattle.ratatui_app.specs.declared.on_glass.OnGlass.{OnGlass};
-ghost use Rattle.files.specs.RunLaws.{browsing_on, WereOnTheGlass};
+ghost use Rattle.files.specs.RunLaws.{browsing_on, WereOnTheGlass, WereAsked};
 ghost use Rattle.files.specs.Laws.{IsSound, IsPlaced, ListsSame, AsksToRemove, AsksToRename};
 
 use crate::browser::Browser;
@@ -98,4 +98,18 @@ pub fn things_are_changed_while_they_are_named<
     ensures named { (begun now : Now Browser (OnGlass W) H O)
         (past : List (Past Browser Browser Outcome (OnGlass W) H O)) → IsSound begun.standing.state
         → HasRun (browsing_on H.gives H.fails O.answers) begun past now → WereOnTheGlass past }
+{}
+
+/// Whatever a run changed, its question was answered by a key that was read after the question was
+/// on the glass: before, a read had found nothing while each terminal that had read what was sent
+/// until then showed that question, unanswered.
+pub fn questions_are_answered_after_they_are_shown<
+    W: Write + Drop,
+    H: Hears<Browser, OnGlass<W>>,
+    O: Outside<Browser, OnGlass<W>>,
+>()
+    ensures { (begun now : Now Browser (OnGlass W) H O)
+        (past : List (Past Browser Browser Outcome (OnGlass W) H O))
+        → begun.standing.state.is_sure ≡ false → begun.standing.state.is_quiet ≡ false
+        → HasRun (browsing_on H.gives H.fails O.answers) begun past now → WereAsked past }
 {}
