@@ -1,0 +1,286 @@
+-- What laws of browsers stand on.
+use Rattle.std.proofs.Common.{◌≡◌, ◌==◌, ◌&&◌, ◌||◌, ◌⊎◌, inl, inr, ℕ, ◌+◌, ◌-◌, ◌<◌, ◌≤◌, min, max, nat_lt, Bool, true, false, not}
+use Rattle.std.proofs.Common.{arith, rules, refl, sym, ap, ◌∙◌, subst, List, [], ◌∷◌, ◌++◌, length, Option, Some, None, if◌then◌else◌}
+use Rattle.std.specs.Prelude.{slice_get}
+use Rattle.std.specs.declared.alloc.Global.{Global}
+use Rattle.std.proofs.lemmas.Bool.Decides.{nat_tests}
+use Rattle.ratatui_core.specs.Layout.{Size}
+use Rattle.ratatui_events.specs.declared.event.Event.{Event}
+use Rattle.ratatui_reads.specs.Reads.{size_in}
+use Rattle.ratatui_acts.specs.declared.message.Message.{Message}
+use Rattle.ratatui_acts.specs.declared.message.Message.TheVariants as message
+use Rattle.text_field.specs.Field.{FieldData}
+use Rattle.files.specs.declared.browser.Browser.{Browser}
+use Rattle.files.specs.declared.browser.Mode.{Mode}
+use Rattle.files.specs.declared.browser.Mode.TheVariants.{Looking, Listing, Entering, Leaving, Removing, Renaming}
+use Rattle.files.specs.declared.browser.Mode.TheVariants.{Making, Over}
+use Rattle.files.specs.declared.browser.Note.TheVariants.{Narrow}
+use Rattle.files.specs.declared.keys.Wish.{Wish}
+use Rattle.files.specs.declared.keys.Wish.TheVariants as wish
+use Rattle.files.specs.declared.typing.Typing.{Typing}
+use Rattle.files.specs.declared.typing.Typing.TheVariants.{Change, Accept, Cancel, Ignore}
+use Rattle.files.specs.declared.list.Outcome.{Outcome}
+use Rattle.files.specs.declared.list.Outcome.TheVariants as outcome
+use Rattle.files.specs.Keys.{event_wish, event_typing, is_input, says_yes}
+use Rattle.files.specs.Texts.{fits}
+use Rattle.files.specs.Moves.{scrolled_list, selected_at, last_row_place, list_rows, selection_moved, went, granted, wished, renaming, typing_in}
+use Rattle.files.specs.Moves.{asks_in, confirmed, typed_into, browsed, browser_at_told_size, told, outcome_told, browsed_after, new_browser}
+use Rattle.files.specs.Moves.{is_folder_selected}
+use Rattle.files.specs.Laws.{IsPlaced, ListsSame}
+
+-- ---- the selection
+
+pub scrolled_list-placed : (b : Browser) → b.selected ≤ last_row_place b → IsPlaced (scrolled_list b)
+scrolled_list-placed b within = record { within = within; above = omega arith; below = λ some. omega arith }
+
+pub selected-placed : (place : ℕ) (b : Browser) → IsPlaced (selected_at place b)
+selected-placed place b = scrolled_list-placed (record b { selected = min place (last_row_place b) }) (omega arith)
+
+pub scrolled_list-little : (b : Browser) → b.top ≤ b.selected → b.selected < b.top + list_rows b → b.top + list_rows b ≤ length b.list
+    → scrolled_list b ≡ b
+scrolled_list-little b above below full =
+    let same : (scrolled_list b).top ≡ b.top = omega arith in ap (λ t. record b { top = t }) same
+
+-- ---- events
+
+-- a yes that counts
+pub record Counts (b c : Browser) : Type 0 where
+  pub may : asks_in b.mode true ≡ true
+  pub quiet : b.is_quiet ≡ true
+  pub whole : fits b.size.width b ≡ true
+  pub is : c ≡ record b { is_sure = true }
+
+-- what is typed keeps of a browser
+pub record Keeps (b c : Browser) : Type 0 where
+  pub folder : c.folder ≡ b.folder
+  pub list : c.list ≡ b.list
+  pub unnamed : c.unnamed ≡ b.unnamed
+  pub placed : IsPlaced b → IsPlaced c
+  pub sure : (c.is_sure ≡ b.is_sure) ⊎ Counts b c
+
+placed-same : (b c : Browser) → c.list ≡ b.list → c.size ≡ b.size → c.selected ≡ b.selected → c.top ≡ b.top → IsPlaced b
+    → IsPlaced c
+placed-same b c list size selected top p =
+    let count = ap length list in let height = ap (λ (s : Size). s.height) size in
+    let within = p.within in let above = p.above in let below = p.below in
+    record { within = omega arith; above = omega arith; below = λ some. omega (arith, below (omega arith)) }
+
+keeps-same : (b c : Browser) → c.folder ≡ b.folder → c.list ≡ b.list → c.unnamed ≡ b.unnamed → c.size ≡ b.size
+    → c.selected ≡ b.selected → c.top ≡ b.top → c.is_sure ≡ b.is_sure → Keeps b c
+keeps-same b c folder list unnamed size selected top sure = record {
+  folder = folder;
+  list = list;
+  unnamed = unnamed;
+  placed = placed-same b c list size selected top;
+  sure = inl sure;
+}
+
+keeps-selected : (place : ℕ) (b : Browser) → Keeps b (selected_at place b)
+keeps-selected place b = record {
+  folder = refl;
+  list = refl;
+  unnamed = refl;
+  placed = λ p. selected-placed place b;
+  sure = inl refl;
+}
+
+keeps-if : (test : Bool) (b c d : Browser) → Keeps b c → Keeps b d → Keeps b (if test then c else d)
+keeps-if true b c d one two = one
+keeps-if false b c d one two = two
+
+keeps-it : (b : Browser) → Keeps b b
+keeps-it b = keeps-same b b refl refl refl refl refl refl refl
+
+keeps-typing : (mode : Mode) (f : FieldData) (b : Browser) → Keeps b (typing_in mode f b)
+keeps-typing mode f b = keeps-same b _ refl refl refl refl refl refl refl
+
+keeps-mode : (mode : Mode) (b : Browser) → Keeps b (record b { mode = mode })
+keeps-mode mode b = keeps-same b _ refl refl refl refl refl refl refl
+
+granted-keeps : (w : Wish) (b : Browser) → Keeps b (granted w b)
+granted-keeps wish.Nothing b = keeps-it b
+granted-keeps wish.Down b = keeps-selected _ b
+granted-keeps wish.Up b = keeps-selected _ b
+granted-keeps wish.PageDown b = keeps-selected _ b
+granted-keeps wish.PageUp b = keeps-selected _ b
+granted-keeps wish.HalfDown b = keeps-selected _ b
+granted-keeps wish.HalfUp b = keeps-selected _ b
+granted-keeps wish.ToFirst b = keeps-selected _ b
+granted-keeps wish.ToLast b = keeps-selected _ b
+granted-keeps wish.Enter b = keeps-if (is_folder_selected b) b _ b (keeps-mode Entering b) (keeps-it b)
+granted-keeps wish.Leave b = keeps-if (nat_lt 0 (length b.folder)) b _ b (keeps-mode Leaving b) (keeps-it b)
+granted-keeps wish.Hidden b = keeps-same b _ refl refl refl refl refl refl refl
+granted-keeps wish.Rename b = keeps-if (length b.list == 0) b b _ (keeps-it b) (keeps-typing Renaming _ b)
+granted-keeps wish.Make b = keeps-typing Making _ b
+granted-keeps wish.Remove b = keeps-if (nat_lt 0 (length b.list)) b _ b (keeps-mode Removing b) (keeps-it b)
+granted-keeps wish.Quit b = keeps-mode Over b
+
+-- no wish makes a question sure
+granted-sure : (w : Wish) (b : Browser) → (granted w b).is_sure ≡ b.is_sure
+granted-sure wish.Nothing b = refl
+granted-sure wish.Down b = refl
+granted-sure wish.Up b = refl
+granted-sure wish.PageDown b = refl
+granted-sure wish.PageUp b = refl
+granted-sure wish.HalfDown b = refl
+granted-sure wish.HalfUp b = refl
+granted-sure wish.ToFirst b = refl
+granted-sure wish.ToLast b = refl
+granted-sure wish.Enter b = search rules
+granted-sure wish.Leave b = search rules
+granted-sure wish.Hidden b = refl
+granted-sure wish.Rename b = search rules
+granted-sure wish.Make b = refl
+granted-sure wish.Remove b = search rules
+granted-sure wish.Quit b = refl
+
+wished-keeps : (w : Wish) (b : Browser) → Keeps b (wished w b)
+wished-keeps w b = let k = granted-keeps w b in record {
+  folder = k.folder;
+  list = k.list;
+  unnamed = k.unnamed;
+  placed = λ p. placed-same (granted w b) _ refl refl refl refl (k.placed p);
+  sure = inl (granted-sure w b);
+}
+
+confirmed-by : (quiet whole : Bool) (b : Browser) → asks_in b.mode true ≡ true → b.is_quiet ≡ quiet
+    → fits b.size.width b ≡ whole → Keeps b
+    (if not quiet then b else if whole then record b { is_sure = true } else record b { mode = Looking; note = Narrow })
+confirmed-by false whole b may q w = keeps-it b
+confirmed-by true true b may q w = record {
+  folder = refl;
+  list = refl;
+  unnamed = refl;
+  placed = λ p. placed-same b _ refl refl refl refl p;
+  sure = inr (record { may = may; quiet = q; whole = w; is = refl });
+}
+confirmed-by true false b may q w = keeps-same b _ refl refl refl refl refl refl refl
+
+confirmed-keeps : (b : Browser) → asks_in b.mode true ≡ true → Keeps b (confirmed b)
+confirmed-keeps b may = confirmed-by b.is_quiet (fits b.size.width b) b may refl refl
+
+typed-keeps : (t : Typing) (b : Browser) → asks_in b.mode true ≡ true → Keeps b (typed_into t b)
+typed-keeps (Change edit) b may = keeps-typing b.mode _ b
+typed-keeps Accept b may = confirmed-keeps b may
+typed-keeps Cancel b may = keeps-mode Looking b
+typed-keeps Ignore b may = keeps-it b
+
+may-be : (mode : Mode) (b : Browser) → b.mode ≡ mode → asks_in mode true ≡ true → asks_in b.mode true ≡ true
+may-be mode b at may = ap (λ m. asks_in m true) at ∙ may
+
+browsed-keeps : (mode : Mode) (e : Event) (b : Browser) → b.mode ≡ mode → Keeps b (browsed mode e b)
+browsed-keeps Looking e b at = wished-keeps (event_wish e) b
+browsed-keeps Removing e b at =
+    keeps-if (says_yes e) b _ _ (confirmed-keeps b (may-be Removing b at refl)) (keeps-mode Looking b)
+browsed-keeps Renaming e b at = typed-keeps (event_typing e) b (may-be Renaming b at refl)
+browsed-keeps Making e b at = typed-keeps (event_typing e) b (may-be Making b at refl)
+browsed-keeps Listing e b at = keeps-it b
+browsed-keeps Entering e b at = keeps-it b
+browsed-keeps Leaving e b at = keeps-it b
+browsed-keeps Over e b at = keeps-it b
+
+-- ---- what is told
+
+sized-folder : (size : Option (ℕ × ℕ)) (b : Browser) → ListsSame b (browser_at_told_size size b)
+sized-folder None b = record { folder = refl; list = refl; unnamed = refl }
+sized-folder (Some size) b = record { folder = refl; list = refl; unnamed = refl }
+
+sized-placed : (size : Option (ℕ × ℕ)) (b : Browser) → IsPlaced b → IsPlaced (browser_at_told_size size b)
+sized-placed None b p = p
+sized-placed (Some size) b p = scrolled_list-placed (record b {
+  is_quiet = b.is_quiet && (b.size.width == size.0) && (b.size.height == size.1);
+  size = record { width = size.0; height = size.1 };
+}) p.within
+
+told-folder : (input : Bool) (e : Event) (b : Browser) → ListsSame b
+    (if input then record (browsed b.mode e b) { is_quiet = false } else browser_at_told_size (size_in e) b)
+told-folder true e b = let k = browsed-keeps b.mode e b refl in record { folder = k.folder; list = k.list; unnamed = k.unnamed }
+told-folder false e b = sized-folder (size_in e) b
+
+told-placed : (input : Bool) (e : Event) (b : Browser) → IsPlaced b → IsPlaced
+    (if input then record (browsed b.mode e b) { is_quiet = false } else browser_at_told_size (size_in e) b)
+told-placed true e b p = placed-same (browsed b.mode e b) _ refl refl refl refl ((browsed-keeps b.mode e b refl).placed p)
+told-placed false e b p = sized-placed (size_in e) b p
+
+pub event-folder : (b : Browser) (e : Event) → ListsSame b (browsed_after b (message.Event e))
+unfolding browsed_after
+event-folder b e = told-folder (is_input e) e b
+
+pub placed-first : (alloc : Global) (title : List ℕ) (size : Size) → IsPlaced (new_browser alloc title size)
+placed-first alloc title size = record { within = omega arith; above = omega arith; below = λ some. omega arith }
+
+outcome-placed : (o : Outcome) (b : Browser) → IsPlaced b → IsPlaced (outcome_told o b)
+outcome-placed (outcome.Listed l) b p =
+    let c = record b { folder = l.folder; list = l.rows; unnamed = l.unnamed; seeks_typed = false; mode = Looking } in
+    placed-same (selected_at l.place c) _ refl refl refl refl (selected-placed l.place c)
+outcome-placed outcome.Done b p = placed-same b _ refl refl refl refl p
+outcome-placed (outcome.Failed why) b p = placed-same b _ refl refl refl refl p
+
+pub placed-next : (b : Browser) (m : Message Outcome) → IsPlaced b → IsPlaced (browsed_after b m)
+unfolding browsed_after
+placed-next b (message.Event e) p = told-placed (is_input e) e b p
+placed-next b (message.Tick passed) p = placed-same b _ refl refl refl refl p
+placed-next b (message.Answer o) p = outcome-placed o b p
+
+-- ---- yes
+
+abbrev pub counted : Browser → Browser
+counted b = record b { is_sure = true; is_quiet = false }
+
+counts-by : (b c : Browser) → (c.is_sure ≡ b.is_sure) ⊎ Counts b c → b.is_sure ≡ false → c.is_sure ≡ true
+    → (b.is_quiet ≡ true) × (fits b.size.width b ≡ true) × (record c { is_quiet = false } ≡ counted b)
+    × (asks_in b.mode true ≡ true)
+counts-by b c (inl same) unsure sure = let both : false ≡ true = sym unsure ∙ sym same ∙ sure in absurd (cc)
+counts-by b c (inr k) unsure sure = (k.quiet, k.whole, ap (λ (d : Browser). record d { is_quiet = false }) k.is, k.may)
+
+sized-sure : (size : Option (ℕ × ℕ)) (b : Browser) → (browser_at_told_size size b).is_sure ≡ b.is_sure
+sized-sure None b = refl
+sized-sure (Some size) b = refl
+
+told-counts : (input : Bool) (e : Event) (b : Browser) → b.is_sure ≡ false
+    → (if input then record (browsed b.mode e b) { is_quiet = false } else browser_at_told_size (size_in e) b).is_sure ≡ true
+    → (b.is_quiet ≡ true) × (fits b.size.width b ≡ true)
+    × ((if input then record (browsed b.mode e b) { is_quiet = false } else browser_at_told_size (size_in e) b) ≡ counted b)
+    × (asks_in b.mode true ≡ true)
+told-counts true e b unsure sure = counts-by b (browsed b.mode e b) (browsed-keeps b.mode e b refl).sure unsure sure
+told-counts false e b unsure sure =
+    let bad : false ≡ true = sym unsure ∙ sym (sized-sure (size_in e) b) ∙ sure in absurd (cc)
+
+pub yes-counts : (b : Browser) (e : Event) → b.is_sure ≡ false → (browsed_after b (message.Event e)).is_sure ≡ true
+    → (b.is_quiet ≡ true) × (fits b.size.width b ≡ true) × (browsed_after b (message.Event e) ≡ counted b)
+    × (asks_in b.mode true ≡ true)
+unfolding browsed_after
+yes-counts b e unsure sure = told-counts (is_input e) e b unsure sure
+
+size-by : (q w h : Bool) → (q && w && h) ≡ true → (q ≡ true) × (w ≡ true) × (h ≡ true)
+size-by true true true is = (refl, refl, refl)
+size-by true true false is = absurd (cc)
+size-by true false h is = absurd (cc)
+size-by false w h is = absurd (cc)
+
+same-size : (s : Size) (size : ℕ × ℕ) → (s.width == size.0) ≡ true → (s.height == size.1) ≡ true
+    → record { width = size.0; height = size.1 } ≡ s
+same-size s size w h =
+    let a : size.0 ≡ s.width = grind (arith, nat_tests) in let b : size.1 ≡ s.height = grind (arith, nat_tests) in
+    ap (λ (x : ℕ). record { width = x; height = size.1 }) a ∙ ap (λ (y : ℕ). record { width = s.width; height = y }) b
+
+sized-quiet : (size : Option (ℕ × ℕ)) (b : Browser) → (browser_at_told_size size b).is_quiet ≡ true
+    → (b.is_quiet ≡ true) × ((browser_at_told_size size b).size ≡ b.size) × ((browser_at_told_size size b).is_sure ≡ b.is_sure)
+sized-quiet None b is = (is, refl, refl)
+sized-quiet (Some size) b is =
+    let all = size-by b.is_quiet (b.size.width == size.0) (b.size.height == size.1) is in
+    (all.0, same-size b.size size all.1 all.2, refl)
+
+told-quiet : (input : Bool) (e : Event) (b : Browser)
+    → (if input then record (browsed b.mode e b) { is_quiet = false } else browser_at_told_size (size_in e) b).is_quiet ≡ true
+    → (b.is_quiet ≡ true)
+    × ((if input then record (browsed b.mode e b) { is_quiet = false } else browser_at_told_size (size_in e) b).size ≡ b.size)
+    × ((if input then record (browsed b.mode e b) { is_quiet = false } else browser_at_told_size (size_in e) b).is_sure ≡ b.is_sure)
+told-quiet true e b is = absurd (cc)
+told-quiet false e b is = sized-quiet (size_in e) b is
+
+pub quiet-stays : (b : Browser) (e : Event) → (browsed_after b (message.Event e)).is_quiet ≡ true
+    → (b.is_quiet ≡ true) × ((browsed_after b (message.Event e)).size ≡ b.size)
+    × ((browsed_after b (message.Event e)).is_sure ≡ b.is_sure)
+unfolding browsed_after
+quiet-stays b e is = told-quiet (is_input e) e b is

@@ -1,0 +1,157 @@
+-- What questions name.
+use Rattle.std.proofs.Common.{◌≡◌, Bool, true, false, ℕ, List, [], ◌++◌, codes, Option, Some, None, if◌then◌else◌, refl, sym, ap, ◌∙◌}
+use Rattle.std.specs.Prelude.{slice_get, option_map, string_bytes}
+use Rattle.std.specs.Option.{option_and_then, option_map_or}
+use Rattle.text_field.specs.Field.{field_text}
+use Rattle.ratatui_files.specs.Paths.{is_name, path_in}
+use Rattle.ratatui_files.specs.declared.command.Command.{Command}
+use Rattle.ratatui_files.specs.declared.command.Command.TheVariants.{Rename, Remove, RemoveFolder, MakeFolder}
+use Rattle.files.specs.declared.list.Row.{Row}
+use Rattle.files.specs.declared.browser.Browser.{Browser}
+use Rattle.files.specs.declared.browser.Mode.{Mode}
+use Rattle.files.specs.declared.browser.Mode.TheVariants.{Looking, Listing, Entering, Leaving, Removing, Renaming}
+use Rattle.files.specs.declared.browser.Mode.TheVariants.{Making, Over}
+use Rattle.files.specs.Names.{shown_name}
+use Rattle.files.specs.Texts.{shown_row, selected_text, selected_shown, status_in}
+use Rattle.files.specs.Questions.{named_path, removal, removal_by, removal_in, change_in}
+use Rattle.files.specs.Laws.{AsksToRemove, AsksToRename}
+
+-- the path of a removal is that of the name
+removed-by : (leaf named : Bool) (path other : List ℕ)
+    → (option_map (removal_by leaf) (if named then Some path else None) ≡ Some (Remove other))
+    → other ≡ path
+removed-by true true path other is = cc
+removed-by false true path other is = absurd (cc)
+removed-by leaf false path other is = absurd (cc)
+
+emptied-by : (leaf named : Bool) (path other : List ℕ)
+    → (option_map (removal_by leaf) (if named then Some path else None) ≡ Some (RemoveFolder other))
+    → other ≡ path
+emptied-by true true path other is = absurd (cc)
+emptied-by false true path other is = cc
+emptied-by leaf false path other is = absurd (cc)
+
+file-of : (b : Browser) (o : Option Row) (path : List ℕ) → option_and_then (removal_in b) o ≡ Some (Remove path)
+    → (row : Row) × (o ≡ Some row) × (path ≡ path_in b.folder (string_bytes row.name))
+file-of b None path is = absurd (cc)
+file-of b (Some row) path is =
+    (row, refl, removed-by row.is_leaf (is_name (string_bytes row.name)) (path_in b.folder (string_bytes row.name)) path is)
+
+folder-of : (b : Browser) (o : Option Row) (path : List ℕ) → option_and_then (removal_in b) o ≡ Some (RemoveFolder path)
+    → (row : Row) × (o ≡ Some row) × (path ≡ path_in b.folder (string_bytes row.name))
+folder-of b None path is = absurd (cc)
+folder-of b (Some row) path is =
+    (row, refl, emptied-by row.is_leaf (is_name (string_bytes row.name)) (path_in b.folder (string_bytes row.name)) path is)
+
+-- a rename leads from a name to a name
+renamed-by : (one two : Bool) (a b from to : List ℕ)
+    → option_and_then (λ x. option_map (Rename x) (if two then Some b else None)) (if one then Some a else None)
+    ≡ Some (Rename from to) → (from ≡ a) × (to ≡ b) × (one ≡ true)
+renamed-by true true a b from to is = (cc, cc, refl)
+renamed-by true false a b from to is = absurd (cc)
+renamed-by false two a b from to is = absurd (cc)
+
+-- what has a name is an entry
+row-of : (b : Browser) (o : Option Row) → is_name (option_map_or (λ row. string_bytes row.name) o []) ≡ true
+    → (row : Row) × (o ≡ Some row)
+row-of b None is = absurd (cc)
+row-of b (Some row) is = (row, refl)
+
+shown-of : (b : Browser) (row : Row) → slice_get b.list b.selected ≡ Some row → selected_shown b ≡ shown_row row
+shown-of b row is = ap (λ o. option_map_or shown_row o []) is
+
+text-of : (b : Browser) (row : Row) → slice_get b.list b.selected ≡ Some row → selected_text b ≡ string_bytes row.name
+text-of b row is = ap (λ o. option_map_or (λ r. string_bytes r.name) o []) is
+
+-- neither a rename nor a new folder is a removal
+rename-not : (one two : Bool) (a b path : List ℕ)
+    → option_and_then (λ x. option_map (Rename x) (if two then Some b else None)) (if one then Some a else None)
+    ≡ Some (Remove path) → ⊥
+rename-not true true a b path is = absurd (cc)
+rename-not true false a b path is = absurd (cc)
+rename-not false two a b path is = absurd (cc)
+
+rename-no-folder : (one two : Bool) (a b path : List ℕ)
+    → option_and_then (λ x. option_map (Rename x) (if two then Some b else None)) (if one then Some a else None)
+    ≡ Some (RemoveFolder path) → ⊥
+rename-no-folder true true a b path is = absurd (cc)
+rename-no-folder true false a b path is = absurd (cc)
+rename-no-folder false two a b path is = absurd (cc)
+
+make-not : (one : Bool) (a path : List ℕ) → option_map MakeFolder (if one then Some a else None) ≡ Some (Remove path) → ⊥
+make-not true a path is = absurd (cc)
+make-not false a path is = absurd (cc)
+
+make-no-folder : (one : Bool) (a path : List ℕ) → option_map MakeFolder (if one then Some a else None) ≡ Some (RemoveFolder path) → ⊥
+make-no-folder true a path is = absurd (cc)
+make-no-folder false a path is = absurd (cc)
+
+make-no-rename : (one : Bool) (a from to : List ℕ) → option_map MakeFolder (if one then Some a else None) ≡ Some (Rename from to) → ⊥
+make-no-rename true a from to is = absurd (cc)
+make-no-rename false a from to is = absurd (cc)
+
+none-some : (c : Command) → None ≡ Some c → ⊥
+none-some c is = absurd (cc)
+
+asks-of : (b : Browser) (row : Row) → slice_get b.list b.selected ≡ Some row
+    → status_in Removing b ≡ codes "remove \"" ++ shown_row row ++ codes "\"? y/n"
+asks-of b row is = ap (λ shown. codes "remove \"" ++ shown ++ codes "\"? y/n") (shown-of b row is)
+
+pub asks-file : (mode : Mode) (b : Browser) (path : List ℕ) → b.mode ≡ mode → change_in mode b ≡ Some (Remove path)
+    → AsksToRemove b path
+asks-file Removing b path at is =
+    let it = file-of b (slice_get b.list b.selected) path is in
+    record { row = it.0; path_is = it.2; asks = ap (λ m. status_in m b) at ∙ asks-of b it.0 it.1 }
+asks-file Renaming b path at is = absurd (rename-not (is_name (selected_text b)) (is_name (field_text b.typed)) _ _ path is)
+asks-file Making b path at is = absurd (make-not (is_name (field_text b.typed)) _ path is)
+asks-file Looking b path at is = absurd (none-some _ is)
+asks-file Listing b path at is = absurd (none-some _ is)
+asks-file Entering b path at is = absurd (none-some _ is)
+asks-file Leaving b path at is = absurd (none-some _ is)
+asks-file Over b path at is = absurd (none-some _ is)
+
+pub asks-folder : (mode : Mode) (b : Browser) (path : List ℕ) → b.mode ≡ mode → change_in mode b ≡ Some (RemoveFolder path)
+    → AsksToRemove b path
+asks-folder Removing b path at is =
+    let it = folder-of b (slice_get b.list b.selected) path is in
+    record { row = it.0; path_is = it.2; asks = ap (λ m. status_in m b) at ∙ asks-of b it.0 it.1 }
+asks-folder Renaming b path at is =
+    absurd (rename-no-folder (is_name (selected_text b)) (is_name (field_text b.typed)) _ _ path is)
+asks-folder Making b path at is = absurd (make-no-folder (is_name (field_text b.typed)) _ path is)
+asks-folder Looking b path at is = absurd (none-some _ is)
+asks-folder Listing b path at is = absurd (none-some _ is)
+asks-folder Entering b path at is = absurd (none-some _ is)
+asks-folder Leaving b path at is = absurd (none-some _ is)
+asks-folder Over b path at is = absurd (none-some _ is)
+
+removal-by : (leaf named : Bool) (path from to : List ℕ)
+    → option_map (removal_by leaf) (if named then Some path else None) ≡ Some (Rename from to) → ⊥
+removal-by true true path from to is = absurd (cc)
+removal-by false true path from to is = absurd (cc)
+removal-by leaf false path from to is = absurd (cc)
+
+removal-no-rename : (b : Browser) (o : Option Row) (from to : List ℕ) → option_and_then (removal_in b) o ≡ Some (Rename from to) → ⊥
+removal-no-rename b None from to is = absurd (cc)
+removal-no-rename b (Some row) from to is = removal-by row.is_leaf (is_name (string_bytes row.name)) _ from to is
+
+pub asks-rename : (mode : Mode) (b : Browser) (from to : List ℕ) → b.mode ≡ mode → change_in mode b ≡ Some (Rename from to)
+    → AsksToRename b from to
+asks-rename Renaming b from to at is =
+    let it = renamed-by (is_name (selected_text b)) (is_name (field_text b.typed)) _ _ from to is in
+    let entry = row-of b (slice_get b.list b.selected) it.2 in
+    record {
+      row = entry.0;
+      name = field_text b.typed;
+      from_is = it.0 ∙ ap (path_in b.folder) (text-of b entry.0 entry.1);
+      to_is = it.1;
+      asks = ap (λ m. status_in m b) at
+          ∙ ap (λ shown. (codes "rename \"" ++ shown ++ codes "\" to \"") ++ shown_name (field_text b.typed) ++ codes "\"")
+          (shown-of b entry.0 entry.1);
+    }
+asks-rename Removing b from to at is = absurd (removal-no-rename b (slice_get b.list b.selected) from to is)
+asks-rename Making b from to at is = absurd (make-no-rename (is_name (field_text b.typed)) _ from to is)
+asks-rename Looking b from to at is = absurd (none-some _ is)
+asks-rename Listing b from to at is = absurd (none-some _ is)
+asks-rename Entering b from to at is = absurd (none-some _ is)
+asks-rename Leaving b from to at is = absurd (none-some _ is)
+asks-rename Over b from to at is = absurd (none-some _ is)

@@ -1,0 +1,12 @@
+use Rattle.std.proofs.Common.{refl}
+use Rattle.files.proofs.QuestionLemmas.{asks-file, asks-folder, asks-rename}
+use Rattle.files.proofs.laws.questions_name_what_they_change.Goals as goal
+
+pub returns-clause-file : goal.returns-clause-file
+returns-clause-file c = λ b path is. asks-file b.mode b path refl is
+
+pub returns-clause-folder : goal.returns-clause-folder
+returns-clause-folder c = λ b path is. asks-folder b.mode b path refl is
+
+pub returns-clause-renamed : goal.returns-clause-renamed
+returns-clause-renamed c = λ b from to is. asks-rename b.mode b from to refl is

@@ -1,0 +1,105 @@
+-- What is done to files for a browser.
+use Rattle.std.specs.Prelude.{◌≡◌, ◌⊎◌, ℕ, Bool, List, [], Option, Some, None, IsTrue}
+use Rattle.ratatui_files.specs.Paths.{is_name, path_in}
+use Rattle.ratatui_files.specs.declared.command.Command.{Command}
+use Rattle.ratatui_files.specs.declared.command.Command.TheVariants.{List as ListFolder}
+use Rattle.ratatui_files.specs.declared.answer.Answer.{Answer}
+use Rattle.ratatui_files.specs.declared.answer.Answer.TheVariants as answer
+use Rattle.ratatui_files.specs.declared.answer.Failure.{Failure}
+use Rattle.ratatui_files.specs.declared.answer.Failure.TheVariants as failure
+use Rattle.std.specs.declared.cmp.Ordering.{Ordering}
+use Rattle.files.specs.declared.list.Row.{Row}
+use Rattle.files.specs.declared.list.Listing.{Listing as ListingData}
+use Rattle.files.specs.declared.list.Outcome.{Outcome}
+use Rattle.files.specs.declared.list.Outcome.TheVariants as outcome
+use Rattle.files.specs.declared.browser.Browser.{Browser}
+use Rattle.files.specs.declared.browser.Mode.{Mode}
+use Rattle.files.specs.declared.browser.Mode.TheVariants.{Looking, Listing, Entering, Leaving, Removing, Renaming}
+use Rattle.files.specs.declared.browser.Mode.TheVariants.{Making, Over}
+use Rattle.files.specs.declared.hands.Wanted.{Wanted}
+use Rattle.ratatui_files.specs.declared.answer.Info.{Info}
+use Rattle.files.specs.Texts.{selected_text, sought_text}
+use Rattle.files.specs.Questions.{named_path, change_in}
+use Rattle.files.specs.Sorting.{IsListOf, IsPlaceOf}
+
+-- a folder is in the one that is wanted, by the name that is to be selected
+pub record IsAbove (folder : List ℕ) (w : Wanted) : Type 0 where
+  pub is : folder ≡ path_in w.folder w.name
+  pub named : IsTrue (is_name w.name)
+  pub other : w.other ≡ 0
+
+-- the folder that is shown is wanted, with the same entry selected, or the one whose name was typed
+pub record WantsShown (b : Browser) (w : Wanted) : Type 0 where
+  pub folder : w.folder ≡ b.folder
+  pub name : w.name ≡ sought_text b
+  pub other : w.other ≡ b.selected
+
+-- the folder that is selected is wanted, with its first entry selected
+pub record WantsSelected (b : Browser) (w : Wanted) : Type 0 where
+  pub folder : named_path b (selected_text b) ≡ Some w.folder
+  pub name : w.name ≡ []
+  pub other : w.other ≡ 0
+
+-- the folder that is asked for: the one that is shown, the one that is selected, or the one above
+abbrev pub Lists : Mode → Browser → Wanted → Type 0
+Lists Listing b w = WantsShown b w
+Lists Entering b w = WantsSelected b w
+Lists Leaving b w = IsAbove b.folder w
+Lists _ b w = ⊥
+
+-- a folder was listed with this answer: it is told in order, or why it wasn't
+pub record TellsRows (cmp : Row → Row → Ordering) (hidden : Bool) (w : Wanted) (entries : List Info) (count : ℕ)
+    (l : ListingData) : Type 0 where
+  pub folder : l.folder ≡ w.folder
+  pub unnamed : l.unnamed ≡ count
+  pub rows : IsListOf cmp hidden entries l.rows
+  pub place : IsPlaceOf w.name w.other l.rows l.place
+
+abbrev pub TellsListing : (Row → Row → Ordering) → Bool → Wanted → Answer → Outcome → Type 0
+TellsListing cmp hidden w (answer.Listed entries unnamed) (outcome.Listed l) = TellsRows cmp hidden w entries unnamed l
+TellsListing cmp hidden w (answer.Failed why) o = o ≡ outcome.Failed why
+TellsListing cmp hidden w a o = o ≡ outcome.Failed failure.Other
+
+-- a change was done with this answer
+abbrev pub told_of : Answer → Outcome
+told_of answer.Done = outcome.Done
+told_of (answer.Failed why) = outcome.Failed why
+told_of _ = outcome.Failed failure.Other
+
+-- nothing was done to files, and a reason is told
+pub record DoesNothing {P : Type 0} (files : P) (o : Outcome) (files' : P) : Type 0 where
+  pub why : Failure
+  pub tells : o ≡ outcome.Failed why
+  pub kept : files' ≡ files
+
+module _ {P : Type 0} (cmp : Row → Row → Ordering) (does : P → Command → Answer → P → Type 0) where
+  -- a change was done, this one and no other, and what came of it is told; or nothing was done
+  pub record Touches (command : Command) (files : P) (o : Outcome) (files' : P) : Type 0 where
+    pub answer : Answer
+    pub done : does files command answer files'
+    pub tells : o ≡ told_of answer
+
+  abbrev pub Changed : Option Command → P → Outcome → P → Type 0
+  Changed None files o files' = DoesNothing files o files'
+  Changed (Some command) files o files' = DoesNothing files o files' ⊎ Touches command files o files'
+
+  -- a folder that is asked for was listed, and what it holds is told; or memory was refused for that
+  pub record Looks (b : Browser) (files : P) (o : Outcome) (files' : P) : Type 0 where
+    pub wanted : Wanted
+    pub asked : Lists b.mode b wanted
+    pub answer : Answer
+    pub done : does files (ListFolder wanted.folder) answer files'
+    pub tells : TellsListing cmp b.has_hidden wanted answer o ⊎ (o ≡ outcome.Failed failure.Memory)
+
+  abbrev pub Listed : Browser → P → Outcome → P → Type 0
+  Listed b files o files' = DoesNothing files o files' ⊎ Looks b files o files'
+
+  abbrev pub DoesIn : Mode → Browser → P → Outcome → P → Type 0
+  DoesIn Listing b files o files' = Listed b files o files'
+  DoesIn Entering b files o files' = Listed b files o files'
+  DoesIn Leaving b files o files' = Listed b files o files'
+  DoesIn mode b files o files' = Changed (change_in mode b) files o files'
+
+  -- what a browser asks for was done
+  abbrev pub DoesAsked : Browser → P → Outcome → P → Type 0
+  DoesAsked b = DoesIn b.mode b

@@ -1,0 +1,115 @@
+-- The tables of the keys: what each asks for while an entry is selected, and while a name is typed.
+use Rattle.std.specs.Prelude.{ℕ, Bool, true, false, not, ◌==◌, ◌&&◌, if◌then◌else◌, Option, Some, None}
+use Rattle.std.specs.Str.{byte}
+use Rattle.ratatui_events.specs.declared.event.Event.{Event}
+use Rattle.ratatui_events.specs.declared.event.Event.TheVariants.{Key, Pasted}
+use Rattle.ratatui_events.specs.declared.key.KeyEvent.{KeyEvent}
+use Rattle.ratatui_events.specs.declared.key.KeyEventKind.{KeyEventKind}
+use Rattle.ratatui_events.specs.declared.key.KeyEventKind.TheVariants.{Release}
+use Rattle.ratatui_events.specs.declared.key.KeyCode.{KeyCode}
+use Rattle.ratatui_events.specs.declared.key.KeyCode.TheVariants as key
+use Rattle.ratatui_events.specs.Key.{modifier_bits}
+use Rattle.files.specs.declared.keys.Wish.{Wish}
+use Rattle.files.specs.declared.keys.Wish.TheVariants.{Nothing, Down, Up, PageDown, PageUp, HalfDown, HalfUp}
+use Rattle.files.specs.declared.keys.Wish.TheVariants.{ToFirst, ToLast, Enter, Leave, Hidden, Rename, Make}
+use Rattle.files.specs.declared.keys.Wish.TheVariants.{Remove, Quit}
+use Rattle.files.specs.declared.typing.Typing.{Typing}
+use Rattle.files.specs.declared.typing.Typing.TheVariants.{Change, Accept, Cancel, Ignore}
+use Rattle.text_field.specs.declared.keys.Edit.{Edit}
+use Rattle.text_field.specs.Keys.{edit_of}
+
+-- characters: j, k, g, G move; l enters a folder, h leaves it; the dot shows hidden entries; r, a and D rename,
+-- make a folder and remove; q ends
+abbrev pub character_wish : ℕ → Wish
+character_wish c =
+    if c == byte "j" then Down
+    else if c == byte "k" then Up
+    else if c == byte "g" then ToFirst
+    else if c == byte "G" then ToLast
+    else if c == byte "l" then Enter
+    else if c == byte "h" then Leave
+    else if c == byte "." then Hidden
+    else if c == byte "r" then Rename
+    else if c == byte "a" then Make
+    else if c == byte "D" then Remove
+    else if c == byte "q" then Quit
+    else Nothing
+
+-- a character with Control: d, u, c
+abbrev pub control_character_wish : ℕ → Wish
+control_character_wish c =
+    if c == byte "d" then HalfDown
+    else if c == byte "u" then HalfUp
+    else if c == byte "c" then Quit
+    else Nothing
+
+abbrev pub control_wish : KeyCode → Wish
+control_wish (key.Char c) = control_character_wish c
+control_wish _ = Nothing
+
+-- a key without Control
+abbrev pub code_wish : KeyCode → Wish
+code_wish (key.Char c) = character_wish c
+code_wish key.Enter = Enter
+code_wish key.Right = Enter
+code_wish key.Backspace = Leave
+code_wish key.Left = Leave
+code_wish key.Down = Down
+code_wish key.Up = Up
+code_wish key.PageDown = PageDown
+code_wish key.PageUp = PageUp
+code_wish key.Home = ToFirst
+code_wish key.End = ToLast
+code_wish _ = Nothing
+
+-- Control is held, and nothing else
+abbrev pub holds_control : KeyEvent → Bool
+holds_control k = modifier_bits k.modifiers == 4
+
+-- a key with what is held beside it; let go it asks for nothing
+abbrev pub kind_wish : KeyEventKind → KeyEvent → Wish
+kind_wish Release k = Nothing
+kind_wish _ k = if holds_control k then control_wish k.code else code_wish k.code
+
+-- what an event asks for while an entry is selected
+abbrev pub event_wish : Event → Wish
+event_wish (Key k) = kind_wish k.kind k
+event_wish _ = Nothing
+
+-- an event that a person typed or pasted
+abbrev pub is_down_kind : KeyEventKind → Bool
+is_down_kind Release = false
+is_down_kind _ = true
+
+abbrev pub is_input : Event → Bool
+is_input (Key k) = is_down_kind k.kind
+is_input (Pasted c) = true
+is_input _ = false
+
+-- yes to a question: the letter y
+abbrev pub is_yes_code : KeyCode → Bool
+is_yes_code (key.Char c) = c == byte "y"
+is_yes_code _ = false
+
+abbrev pub says_yes : Event → Bool
+says_yes (Key k) = not (holds_control k) && is_yes_code k.code
+says_yes _ = false
+
+-- what a field of text makes of an event, if it is for one
+abbrev pub edit_typing : Option Edit → Typing
+edit_typing None = Ignore
+edit_typing (Some edit) = Change edit
+
+-- while a name is typed: Enter, Esc, and Ctrl+C; the other events are for the field
+abbrev pub code_typing : KeyCode → Event → Typing
+code_typing key.Enter event = Accept
+code_typing key.Esc event = Cancel
+code_typing _ event = edit_typing (edit_of event)
+
+abbrev pub control_typing : KeyCode → Event → Typing
+control_typing (key.Char c) event = if c == byte "c" then Cancel else edit_typing (edit_of event)
+control_typing _ event = edit_typing (edit_of event)
+
+abbrev pub event_typing : Event → Typing
+event_typing (Key k) = if holds_control k then control_typing k.code (Key k) else code_typing k.code (Key k)
+event_typing event = edit_typing (edit_of event)

@@ -1,0 +1,53 @@
+-- What is known of browsers.
+use Rattle.std.specs.Prelude.{◌≡◌, ◌⊎◌, false, ◌+◌, ◌<◌, ◌≤◌, ℕ, Bool, true, List, ◌++◌, codes, string_bytes}
+use Rattle.ratatui_files.specs.Paths.{path_in}
+use Rattle.ratatui_acts.specs.Turns.{ActingRules}
+use Rattle.files.specs.declared.list.Row.{Row}
+use Rattle.files.specs.declared.list.Outcome.{Outcome}
+use Rattle.files.specs.declared.browser.Browser.{Browser}
+use Rattle.files.specs.declared.browser.Mode.{Mode}
+use Rattle.files.specs.declared.browser.Mode.TheVariants.{Removing, Renaming, Making}
+use Rattle.files.specs.Moves.{last_row_place, list_rows, asks, browsed_after, browser_asked, is_over}
+use Rattle.files.specs.Names.{shown_name}
+use Rattle.files.specs.Texts.{shown_row, status_told, fits}
+
+-- the selection is an entry of the list, unless that is empty, and stands in one of its rows, if there are some
+pub record IsPlaced (b : Browser) : Type 0 where
+  pub within : b.selected ≤ last_row_place b
+  pub above : b.top ≤ b.selected
+  pub below : 0 < list_rows b → b.selected < b.top + list_rows b
+
+-- the folder and its list are the same
+pub record ListsSame (b c : Browser) : Type 0 where
+  pub folder : c.folder ≡ b.folder
+  pub list : c.list ≡ b.list
+  pub unnamed : c.unnamed ≡ b.unnamed
+
+-- the status asks whether the entry of a path is to be removed
+pub record AsksToRemove (b : Browser) (path : List ℕ) : Type 0 where
+  pub row : Row
+  pub path_is : path ≡ path_in b.folder (string_bytes row.name)
+  pub asks : status_told b ≡ codes "remove \"" ++ shown_row row ++ codes "\"? y/n"
+
+-- the status asks for another name of the entry of a path: that of another path
+pub record AsksToRename (b : Browser) (from to : List ℕ) : Type 0 where
+  pub row : Row
+  pub name : List ℕ
+  pub from_is : from ≡ path_in b.folder (string_bytes row.name)
+  pub to_is : to ≡ path_in b.folder name
+  pub asks : status_told b ≡ (codes "rename \"" ++ shown_row row ++ codes "\" to \"") ++ shown_name name ++ codes "\""
+
+-- nothing is sure, or a question is that the screen shows whole
+abbrev pub IsSound : Browser → Type 0
+IsSound b = (b.is_sure ≡ false) ⊎ ((asks b ≡ true) × (fits b.size.width b ≡ true))
+
+-- browsing, as a state that acts
+abbrev pub browsing : ActingRules Browser Browser Outcome
+browsing = record { updated = browsed_after; asked = browser_asked; is_over = is_over }
+
+-- a question is asked that changes something
+abbrev pub is_change : Mode → Bool
+is_change Removing = true
+is_change Renaming = true
+is_change Making = true
+is_change _ = false

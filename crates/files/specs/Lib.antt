@@ -1,0 +1,11 @@
+pub mod Keys
+pub mod Names
+pub mod Texts
+pub mod Moves
+pub mod Pages
+pub mod PageLemmas
+pub mod Questions
+pub mod Sorting
+pub mod Doing
+pub mod Laws
+pub mod RunLaws

@@ -1,0 +1,238 @@
+-- What each event and each answer makes of a browser.
+use Rattle.std.specs.Prelude.{ℕ, zero, suc, Bool, true, false, not, ◌+◌, ◌-◌, ◌/◌, ◌==◌, ◌&&◌, ◌||◌, min, max, nat_lt}
+use Rattle.std.specs.Prelude.{if◌then◌else◌, List, [], ◌∷◌, ◌++◌, length, Option, Some, None, slice_get, get_or}
+use Rattle.std.specs.Str.{byte}
+use Rattle.std.specs.Option.{option_map_or}
+use Rattle.std.specs.declared.alloc.Global.{Global}
+use Rattle.ratatui_core.specs.Layout.{Size}
+use Rattle.ratatui_events.specs.declared.event.Event.{Event}
+use Rattle.ratatui_reads.specs.Reads.{size_in}
+use Rattle.ratatui_acts.specs.declared.message.Message.{Message}
+use Rattle.ratatui_acts.specs.declared.message.Message.TheVariants as message
+use Rattle.text_field.specs.Field.{FieldData, new_field, typing, moved_left, moved_right}
+use Rattle.text_field.specs.{Reach.reach_left, Reach.reach_right, Keys.edited}
+use Rattle.text_field.specs.declared.reach.Reach.TheVariants.{Grapheme, All}
+use Rattle.files.specs.declared.browser.Browser.{Browser}
+use Rattle.files.specs.declared.browser.Mode.{Mode}
+use Rattle.files.specs.declared.browser.Mode.TheVariants.{Looking, Listing, Entering, Leaving, Removing, Renaming}
+use Rattle.files.specs.declared.browser.Mode.TheVariants.{Making, Over}
+use Rattle.files.specs.declared.browser.Note.TheVariants.{Place, Failed, Narrow}
+use Rattle.files.specs.declared.keys.Wish.{Wish}
+use Rattle.files.specs.declared.keys.Wish.TheVariants as wish
+use Rattle.files.specs.declared.typing.Typing.{Typing}
+use Rattle.files.specs.declared.typing.Typing.TheVariants.{Change, Accept, Cancel, Ignore}
+use Rattle.files.specs.declared.list.Row.{Row}
+use Rattle.files.specs.declared.list.Listing.{Listing as ListingData}
+use Rattle.files.specs.declared.list.Outcome.{Outcome}
+use Rattle.files.specs.declared.list.Outcome.TheVariants as outcome
+use Rattle.files.specs.Keys.{event_wish, event_typing, is_input, says_yes}
+use Rattle.files.specs.Texts.{selected_text, column_in, fits}
+
+-- a browser that asks for the folder that all is in
+abbrev pub new_browser : Global → List ℕ → Size → Browser
+new_browser alloc title size = record {
+  alloc = alloc;
+  size = size;
+  title = title;
+  folder = [];
+  list = [];
+  unnamed = 0;
+  has_hidden = false;
+  selected = 0;
+  top = 0;
+  mode = Listing;
+  is_sure = false;
+  is_quiet = false;
+  seeks_typed = false;
+  note = Place;
+  typed = new_field;
+  column = 0;
+}
+
+-- ---- the selection
+
+-- how many rows the list has, between the title and the status
+abbrev pub list_rows : Browser → ℕ
+list_rows b = b.size.height - 2
+
+abbrev pub last_row_place : Browser → ℕ
+last_row_place b = length b.list - 1
+
+-- the entry that is selected stands in the rows, which move as little as they can
+abbrev pub scrolled_list : Browser → Browser
+scrolled_list b =
+    let first = min b.top (length b.list - list_rows b) in
+    record b { top = min (max first (b.selected - (list_rows b - 1))) b.selected }
+
+-- an entry is selected, or the last one
+abbrev pub selected_at : ℕ → Browser → Browser
+selected_at place b = scrolled_list (record b { selected = min place (last_row_place b) })
+
+abbrev pub selection_moved : Wish → Browser → Browser
+selection_moved wish.Down b = selected_at (b.selected + 1) b
+selection_moved wish.Up b = selected_at (b.selected - 1) b
+selection_moved wish.PageDown b = selected_at (b.selected + list_rows b) b
+selection_moved wish.PageUp b = selected_at (b.selected - list_rows b) b
+selection_moved wish.HalfDown b = selected_at (b.selected + list_rows b / 2) b
+selection_moved wish.HalfUp b = selected_at (b.selected - list_rows b / 2) b
+selection_moved wish.ToFirst b = selected_at 0 b
+selection_moved wish.ToLast b = selected_at (last_row_place b) b
+selection_moved _ b = b
+
+-- ---- wishes
+
+-- a folder is selected, or a link, which may lead to one
+abbrev pub may_enter : Row → Bool
+may_enter row = not row.is_leaf || row.is_link
+
+abbrev pub is_folder_selected : Browser → Bool
+is_folder_selected b = option_map_or may_enter (slice_get b.list b.selected) false
+
+-- the cursor stands behind a dot that isn't the first character
+abbrev pub is_behind_dot : List ℕ → Bool
+is_behind_dot before = nat_lt 1 (length before) && (get_or before (length before - 1) 0 == byte ".")
+
+abbrev pub follows_dot : FieldData → Bool
+follows_dot f = is_behind_dot f.before
+
+-- the cursor before the dot that it comes to first on its way to the left, or at the start
+unfoldable pub to_dot : ℕ → FieldData → FieldData
+to_dot zero f = f
+to_dot (suc n) f =
+    let left = moved_left (reach_left Grapheme f.before) f in if follows_dot f then left else to_dot n left
+
+-- the cursor before the extension of a name at whose end it stands; without one it stays
+abbrev pub from_start : FieldData → FieldData
+from_start f = if length f.before == 0 then moved_right (reach_right All f.after) f else f
+
+abbrev pub at_extension : FieldData → FieldData
+at_extension f = from_start (to_dot (length f.before) f)
+
+-- the name of the entry that is selected, typed
+abbrev pub selected_field : Browser → FieldData
+selected_field b = typing (selected_text b) new_field
+
+-- a name is typed
+abbrev pub typing_in : Mode → FieldData → Browser → Browser
+typing_in mode typed b = record b { mode = mode; typed = typed; column = column_in mode typed b }
+
+abbrev pub renaming : Browser → Browser
+renaming b = if length b.list == 0 then b else typing_in Renaming (at_extension (selected_field b)) b
+
+abbrev pub went : Wish → Browser → Browser
+went wish.Enter b = if is_folder_selected b then record b { mode = Entering } else b
+went wish.Leave b = if nat_lt 0 (length b.folder) then record b { mode = Leaving } else b
+went wish.Hidden b = record b { has_hidden = not b.has_hidden; mode = Listing }
+went wish.Remove b = if nat_lt 0 (length b.list) then record b { mode = Removing } else b
+went wish.Quit b = record b { mode = Over }
+went other b = selection_moved other b
+
+-- what a wish makes of it, without its note
+abbrev pub granted : Wish → Browser → Browser
+granted wish.Rename b = renaming b
+granted wish.Make b = typing_in Making new_field b
+granted other b = went other b
+
+abbrev pub wished : Wish → Browser → Browser
+wished w b = record (granted w b) { note = Place }
+
+-- ---- questions
+
+-- a yes: it counts only if the last read found nothing while the question was shown, and if the screen has
+-- columns for all of it
+abbrev pub confirmed : Browser → Browser
+confirmed b =
+    if not b.is_quiet then b
+    else if fits b.size.width b then record b { is_sure = true }
+    else record b { mode = Looking; note = Narrow }
+
+abbrev pub typed_into : Typing → Browser → Browser
+typed_into (Change edit) b = typing_in b.mode (edited edit b.typed) b
+typed_into Accept b = confirmed b
+typed_into Cancel b = record b { mode = Looking }
+typed_into Ignore b = b
+
+abbrev pub browsed : Mode → Event → Browser → Browser
+browsed Looking event b = wished (event_wish event) b
+browsed Removing event b = if says_yes event then confirmed b else record b { mode = Looking }
+browsed Renaming event b = typed_into (event_typing event) b
+browsed Making event b = typed_into (event_typing event) b
+browsed _ event b = b
+
+-- ---- what is told
+
+-- the screen has another size
+abbrev pub browser_at_size : ℕ × ℕ → Browser → Browser
+browser_at_size size b = scrolled_list (record b {
+  is_quiet = b.is_quiet && (b.size.width == size.0) && (b.size.height == size.1);
+  size = record { width = size.0; height = size.1 };
+})
+
+abbrev pub browser_at_told_size : Option (ℕ × ℕ) → Browser → Browser
+browser_at_told_size (Some size) b = browser_at_size size b
+browser_at_told_size None b = b
+
+-- what is typed acts, and then what is shown is new
+abbrev pub told : Event → Browser → Browser
+told event b =
+    if is_input event then record (browsed b.mode event b) { is_quiet = false } else browser_at_told_size (size_in event) b
+
+-- ---- answers
+
+-- the name of what was done was typed
+abbrev pub names_typed : Mode → Bool
+names_typed Renaming = true
+names_typed Making = true
+names_typed _ = false
+
+-- what stands in a folder is shown
+abbrev pub listing_shown : ListingData → Browser → Browser
+listing_shown l b = selected_at l.place (record b {
+  folder = l.folder;
+  list = l.rows;
+  unnamed = l.unnamed;
+  seeks_typed = false;
+  mode = Looking;
+})
+
+-- what is done leads to the folder anew, and what failed to its reason
+abbrev pub outcome_taken : Outcome → Browser → Browser
+outcome_taken (outcome.Listed l) b = listing_shown l b
+outcome_taken outcome.Done b = record b { mode = Listing; seeks_typed = names_typed b.mode }
+outcome_taken (outcome.Failed failure) b =
+    record b { mode = Looking; seeks_typed = false; note = Failed b.mode failure }
+
+abbrev pub outcome_told : Outcome → Browser → Browser
+outcome_told o b = record (outcome_taken o b) { is_sure = false; is_quiet = false }
+
+unfoldable pub browsed_after : Browser → Message Outcome → Browser
+browsed_after b (message.Event event) = told event b
+browsed_after b (message.Tick passed) = record b { is_quiet = true }
+browsed_after b (message.Answer o) = outcome_told o b
+
+-- ---- what is asked for
+
+-- something is asked for: a folder that is listed, or a change that was answered by yes
+abbrev pub asks_in : Mode → Bool → Bool
+asks_in Listing sure = true
+asks_in Entering sure = true
+asks_in Leaving sure = true
+asks_in Removing sure = sure
+asks_in Renaming sure = sure
+asks_in Making sure = sure
+asks_in Looking sure = false
+asks_in Over sure = false
+
+abbrev pub asks : Browser → Bool
+asks b = asks_in b.mode b.is_sure
+
+-- what is asked for is told by the browser itself
+abbrev pub browser_asked : Browser → Option Browser
+browser_asked b = if asks b then Some b else None
+
+abbrev pub is_over_mode : Mode → Bool
+is_over_mode Over = true
+is_over_mode _ = false
+
+abbrev pub is_over : Browser → Bool
+is_over b = is_over_mode b.mode

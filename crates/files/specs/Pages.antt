@@ -1,0 +1,69 @@
+-- What a browser paints: a text in each row.
+use Rattle.std.specs.Prelude.{◌≡◌, ℕ, zero, suc, ◌+◌, ◌-◌, ◌==◌, ◌&&◌, min, nat_lt, if◌then◌else◌}
+use Rattle.std.specs.Prelude.{List, Option, Some, None}
+use Rattle.ratatui_core.specs.{Layout.Rect, Layout.Position, Layout.EdgesFit, Style.Style, Style.new_style}
+use Rattle.ratatui_core.specs.Style.{with_modifier, modifier_of}
+use Rattle.ratatui_core.specs.Buffer.{BufferData, PaintsPieces, IsPlainFrom, IsSettledBuffer, text_pieces}
+use Rattle.ratatui_core.specs.Buffer.{position_of}
+use Rattle.ratatui_core.specs.Widgets.{ChangesWithin, OnPart}
+use Rattle.widget_boxes.specs.Titles.{InTurn}
+use Rattle.files.specs.declared.browser.Browser.{Browser}
+use Rattle.files.specs.declared.browser.Mode.{Mode}
+use Rattle.files.specs.declared.browser.Mode.TheVariants.{Renaming, Making}
+use Rattle.files.specs.Texts.{text_in, place_in_row}
+
+-- a text in a row, as far as the row goes
+abbrev pub PaintsRowText : Rect → ℕ → Style → List ℕ → BufferData → BufferData → Type 0
+PaintsRowText r y style text = PaintsPieces (position_of (r.x, y)) (text_pieces r.width style text)
+
+-- bold and reversed; 1 is `BOLD`, and 64 is `REVERSED`
+abbrev pub bold : Style
+bold = with_modifier (modifier_of 1) new_style
+
+abbrev pub reversed_row : Style
+reversed_row = with_modifier (modifier_of 64) new_style
+
+-- the title is bold, and the entry that is selected reversed
+abbrev pub style_in : ℕ → ℕ → Browser → Style
+style_in k height b =
+    if k == height - 1 then new_style
+    else if k == 0 then bold
+    else if place_in_row k b == b.selected then reversed_row
+    else new_style
+
+-- a row
+abbrev pub PaintsListRow : Browser → Rect → ℕ → BufferData → BufferData → Type 0
+PaintsListRow b r k = PaintsRowText r (r.y + k) (style_in k r.height b) (text_in k r.width r.height b)
+
+-- the first rows
+unfoldable pub PaintsFirstRows : Browser → Rect → ℕ → BufferData → BufferData → Type 0
+PaintsFirstRows b r zero old new = new ≡ old
+PaintsFirstRows b r (suc k) old new = InTurn (PaintsFirstRows b r k) (PaintsListRow b r k) old new
+
+abbrev pub PaintsAllRows : Browser → Rect → BufferData → BufferData → Type 0
+PaintsAllRows b r = PaintsFirstRows b r r.height
+
+-- a browser over the part of an area that a buffer has; of a buffer of plain cells comes one that a screen can
+-- show
+pub record PaintsBrowser (b : Browser) (area : Rect) (old new : BufferData) : Type 0 where
+  pub within : ChangesWithin area old new
+  pub page : OnPart (PaintsAllRows b) area old new
+  pub settled : EdgesFit old.area → IsPlainFrom 0 old → IsSettledBuffer new
+
+-- the cursor stands after so many columns of the last row, if the row goes so far
+abbrev pub cursor_at_column : ℕ → Rect → Option Position
+cursor_at_column column r =
+    if nat_lt 0 r.height && nat_lt column r.width then Some (record {
+      x = min (r.x + column) 65535;
+      y = min (r.y + (r.height - 1)) 65535;
+    })
+    else None
+
+abbrev pub cursor_in_mode : Mode → Browser → Rect → Option Position
+cursor_in_mode Renaming b r = cursor_at_column b.column r
+cursor_in_mode Making b r = cursor_at_column b.column r
+cursor_in_mode _ b r = None
+
+-- the cursor is shown while a name is typed
+abbrev pub browser_cursor : Browser → Rect → Option Position
+browser_cursor b r = cursor_in_mode b.mode b r

@@ -1,0 +1,37 @@
+-- What is done to files if a question is answered by yes.
+use Rattle.std.specs.Prelude.{ℕ, Bool, true, false, if◌then◌else◌, List, Option, Some, None, slice_get}
+use Rattle.std.specs.Prelude.{option_map, string_bytes}
+use Rattle.std.specs.Option.{option_and_then}
+use Rattle.text_field.specs.Field.{field_text}
+use Rattle.ratatui_files.specs.Paths.{is_name, path_in}
+use Rattle.ratatui_files.specs.declared.command.Command.{Command}
+use Rattle.ratatui_files.specs.declared.command.Command.TheVariants.{Rename, Remove, RemoveFolder, MakeFolder}
+use Rattle.files.specs.declared.list.Row.{Row}
+use Rattle.files.specs.declared.browser.Browser.{Browser}
+use Rattle.files.specs.declared.browser.Mode.{Mode}
+use Rattle.files.specs.declared.browser.Mode.TheVariants.{Removing, Renaming, Making}
+use Rattle.files.specs.Texts.{selected_text}
+
+-- the path of a name in the folder that is shown, if it can be one
+abbrev pub named_path : Browser → List ℕ → Option (List ℕ)
+named_path b name = if is_name name then Some (path_in b.folder name) else None
+
+-- the removal of what is at a path: a folder, or something else
+abbrev pub removal_by : Bool → List ℕ → Command
+removal_by true path = Remove path
+removal_by false path = RemoveFolder path
+
+abbrev pub removal : Row → List ℕ → Command
+removal row path = removal_by row.is_leaf path
+
+abbrev pub removal_in : Browser → Row → Option Command
+removal_in b row = option_map (removal row) (named_path b (string_bytes row.name))
+
+-- the change that a question is about
+abbrev pub change_in : Mode → Browser → Option Command
+change_in Removing b = option_and_then (removal_in b) (slice_get b.list b.selected)
+change_in Renaming b =
+    option_and_then (λ from. option_map (Rename from) (named_path b (field_text b.typed)))
+    (named_path b (selected_text b))
+change_in Making b = option_map MakeFolder (named_path b (field_text b.typed))
+change_in _ b = None

@@ -1,0 +1,65 @@
+-- What is known of runs of a browser on a terminal.
+use Rattle.std.specs.Prelude.{◌≡◌, ◌⊎◌, ℕ, true, false, List, [], ◌∷◌}
+use Rattle.std.specs.declared.time.Duration.{Duration}
+use Rattle.ratatui_core.specs.Terminal.{TerminalError}
+use Rattle.ratatui_ansi.specs.{declared.error.AnsiError.AnsiError}
+use Rattle.ratatui_acts.specs.Turns.{Turn, Came, Done}
+use Rattle.ratatui_acts.specs.Runs.{Past, Ground}
+use Rattle.ratatui_app.specs.Runs.{on_glass}
+use Rattle.ratatui_app.specs.Glass.{StandsOnGlass}
+use Rattle.ratatui_app.specs.declared.on_glass.OnGlass.{OnGlass}
+use Rattle.files.specs.declared.browser.Browser.{Browser}
+use Rattle.files.specs.declared.list.Outcome.{Outcome}
+use Rattle.files.specs.Texts.{fits, status_told}
+use Rattle.files.specs.Pages.{PaintsBrowser, browser_cursor}
+use Rattle.files.specs.Laws.{browsing, is_change}
+
+-- what a browser asks for is on the glass: each terminal that has read what was sent shows the browser; and if that
+-- is a change, its screen has columns for the whole question
+pub record NamesWhatIsDone {W : Type 0} (glass : OnGlass W) (b : Browser) : Type 0 where
+  pub shown : StandsOnGlass (PaintsBrowser b) (browser_cursor b) glass.terminal
+  pub whole : is_change b.mode ≡ true → fits b.size.width b ≡ true
+
+-- two browsers ask the same of a folder
+pub record AsksTheSame (b c : Browser) : Type 0 where
+  pub mode : b.mode ≡ c.mode
+  pub folder : b.folder ≡ c.folder
+  pub status : status_told b ≡ status_told c
+
+-- a turn at a glass: if something was done, that was on the glass
+abbrev pub NamesTurn : {W : Type 0} → OnGlass W → Turn Browser Outcome → Type 0
+NamesTurn glass (Came bytes passed) = Unit {0}
+NamesTurn glass (Done b o) = NamesWhatIsDone glass b
+
+module _ {W H O : Type 0} where
+  -- what a run of a browser stands on, on a terminal that is sent bytes
+  abbrev pub browsing_on : (H → ℕ → List ℕ → Duration → H → Type 0) → (H → H → Type 0) → (O → Browser → Outcome → O → Type 0)
+      → Ground Browser Browser Outcome (OnGlass W) (TerminalError AnsiError) H O
+  browsing_on = on_glass browsing PaintsBrowser browser_cursor
+
+  -- so it was at each turn
+  abbrev pub WereOnTheGlass : List (Past Browser Browser Outcome (OnGlass W) H O) → Type 0
+  WereOnTheGlass [] = Unit {0}
+  WereOnTheGlass (p ∷ earlier) = NamesTurn p.before.glass p.turn × WereOnTheGlass earlier
+
+  -- a turn was a read that found nothing while each terminal that had read what was sent showed this question, which
+  -- was not answered then
+  pub record StoodThere (b : Browser) (p : Past Browser Browser Outcome (OnGlass W) H O) : Type 0 where
+    pub passed : Duration
+    pub nothing : p.turn ≡ Came [] passed
+    pub shown : StandsOnGlass (PaintsBrowser p.before.standing.state) (browser_cursor p.before.standing.state) p.before.glass.terminal
+    pub unanswered : p.before.standing.state.is_sure ≡ false
+    pub same : AsksTheSame p.before.standing.state b
+
+  abbrev pub StoodBefore : Browser → List (Past Browser Browser Outcome (OnGlass W) H O) → Type 0
+  StoodBefore b [] = ⊥
+  StoodBefore b (p ∷ earlier) = StoodThere b p ⊎ StoodBefore b earlier
+
+  -- if a turn changed something, its question stood there before while a read found nothing
+  abbrev pub AskedTurn : List (Past Browser Browser Outcome (OnGlass W) H O) → Turn Browser Outcome → Type 0
+  AskedTurn earlier (Came bytes passed) = Unit {0}
+  AskedTurn earlier (Done b o) = is_change b.mode ≡ true → StoodBefore b earlier
+
+  abbrev pub WereAsked : List (Past Browser Browser Outcome (OnGlass W) H O) → Type 0
+  WereAsked [] = Unit {0}
+  WereAsked (p ∷ earlier) = AskedTurn earlier p.turn × WereAsked earlier

@@ -1,0 +1,147 @@
+-- The texts that stand in the rows.
+use Rattle.std.specs.Prelude.{ℕ, Bool, true, false, ◌+◌, ◌-◌, ◌==◌, ◌^◌, min, nat_lt, nat_le, if◌then◌else◌}
+use Rattle.std.specs.Prelude.{List, [], ◌∷◌, ◌++◌, length, codes, Option, Some, None, slice_get, string_bytes}
+use Rattle.std.specs.{Option.option_map_or, Fmt.decimal, List.repeat}
+use Rattle.ratatui_core.specs.Buffer.{text_columns}
+use Rattle.text_field.specs.Field.{FieldData, field_text}
+use Rattle.ratatui_files.specs.declared.answer.Failure.{Failure}
+use Rattle.ratatui_files.specs.declared.answer.Failure.TheVariants as failure
+use Rattle.files.specs.declared.list.Row.{Row}
+use Rattle.files.specs.declared.browser.Browser.{Browser}
+use Rattle.files.specs.declared.browser.Mode.{Mode}
+use Rattle.files.specs.declared.browser.Mode.TheVariants.{Entering, Leaving, Removing, Renaming, Making}
+use Rattle.files.specs.declared.browser.Note.{Note}
+use Rattle.files.specs.declared.browser.Note.TheVariants.{Place, Failed, Narrow}
+use Rattle.files.specs.Names.{shown_name}
+
+-- ---- the list
+
+-- what an entry is: a slash for a folder, and an at sign for a link
+abbrev pub kind_mark : Bool → Bool → List ℕ
+kind_mark false link = codes "/"
+kind_mark true true = codes "@"
+kind_mark true false = []
+
+abbrev pub shown_row : Row → List ℕ
+shown_row row = shown_name (string_bytes row.name) ++ kind_mark row.is_leaf row.is_link
+
+-- the size of a file, in bytes
+abbrev pub file_size_text : Option ℕ → List ℕ
+file_size_text (Some size) = decimal size
+file_size_text None = []
+
+-- a size behind so many blanks that it ends in the last column; nothing if there is no room
+abbrev pub size_beside : ℕ → List ℕ → List ℕ → List ℕ
+size_beside width text size =
+    let gap = width - (text_columns text + length size) in
+    if gap == 0 then [] else repeat gap (codes " ") ++ size
+
+abbrev pub row_told : ℕ → Row → List ℕ
+row_told width row = shown_row row ++ size_beside width (shown_row row) (file_size_text row.size)
+
+-- an entry in a row, if there is one
+abbrev pub entry_at : ℕ → ℕ → Browser → List ℕ
+entry_at width place b = option_map_or (row_told width) (slice_get b.list place) []
+
+-- ---- the title
+
+-- where the folder is
+abbrev pub title_text : Browser → List ℕ
+title_text b = shown_name b.title ++ codes "/" ++ shown_name b.folder
+
+-- ---- the status
+
+-- the entry that is selected: its name, and how it is shown
+abbrev pub selected_text : Browser → List ℕ
+selected_text b = option_map_or (λ row. string_bytes row.name) (slice_get b.list b.selected) []
+
+-- the name that is to be selected once the folder is listed anew: the typed one, or the one that is selected
+abbrev pub sought_text : Browser → List ℕ
+sought_text b = if b.seeks_typed then field_text b.typed else selected_text b
+
+abbrev pub selected_shown : Browser → List ℕ
+selected_shown b = option_map_or shown_row (slice_get b.list b.selected) []
+
+-- how many more entries there are, whose names are no texts
+abbrev pub unnamed_text : ℕ → List ℕ
+unnamed_text n = if nat_lt 0 n then codes ", and " ++ decimal n ++ codes " whose names are no texts" else []
+
+-- which entry is selected, of how many, as `3/120`
+abbrev pub place_told : Browser → List ℕ
+place_told b =
+    decimal (min (b.selected + 1) (length b.list)) ++ codes "/" ++ decimal (length b.list) ++ unnamed_text b.unnamed
+
+-- why something wasn't done
+abbrev pub failure_text : Failure → List ℕ
+failure_text failure.NotFound = codes "not found"
+failure_text failure.NotAllowed = codes "not allowed"
+failure_text failure.Exists = codes "it exists already"
+failure_text failure.Full = codes "no room is left"
+failure_text failure.NotEmpty = codes "the folder isn't empty"
+failure_text failure.NotAFolder = codes "not a folder"
+failure_text failure.IsAFolder = codes "a folder"
+failure_text failure.NotAFile = codes "not a file"
+failure_text failure.IntoItself = codes "it would lie in itself"
+failure_text failure.OtherDevice = codes "on another device"
+failure_text failure.BadName = codes "not a name"
+failure_text failure.Memory = codes "no memory"
+failure_text failure.Other = codes "the system refused"
+
+-- what it was that wasn't done
+abbrev pub subject : Mode → Browser → List ℕ
+subject Entering b = selected_shown b
+subject Removing b = selected_shown b
+subject Renaming b = selected_shown b
+subject Making b = shown_name (field_text b.typed)
+subject Leaving b = codes "the folder above"
+subject _ b = codes "this folder"
+
+-- what is told while an entry is selected
+abbrev pub note_told : Note → Browser → List ℕ
+note_told Place b = place_told b
+note_told (Failed mode failure) b = subject mode b ++ codes ": " ++ failure_text failure
+note_told Narrow b = codes "the screen is too narrow for the question"
+
+-- what stands before a name that is typed
+abbrev pub prompt : Mode → Browser → List ℕ
+prompt Renaming b = codes "rename \"" ++ selected_shown b ++ codes "\" to \""
+prompt _ b = codes "make the folder \""
+
+-- a question with a name that is typed, and the question whether an entry is to be removed
+abbrev pub name_question : Mode → Browser → List ℕ
+name_question mode b = prompt mode b ++ shown_name (field_text b.typed) ++ codes "\""
+
+abbrev pub removal_question : Browser → List ℕ
+removal_question b = codes "remove \"" ++ selected_shown b ++ codes "\"? y/n"
+
+-- what the last row tells
+abbrev pub status_in : Mode → Browser → List ℕ
+status_in Removing b = removal_question b
+status_in Renaming b = name_question Renaming b
+status_in Making b = name_question Making b
+status_in _ b = note_told b.note b
+
+abbrev pub status_told : Browser → List ℕ
+status_told b = status_in b.mode b
+
+-- so many columns of the status stand before the cursor, with a name in the field
+abbrev pub column_in : Mode → FieldData → Browser → ℕ
+column_in mode typed b = text_columns (prompt mode b ++ shown_name typed.before)
+
+-- so many columns show all that the last row tells
+abbrev pub fits : ℕ → Browser → Bool
+fits width b = nat_le (text_columns (status_told b)) width
+
+-- ---- the rows
+
+-- the place of the entry in a row of the list; so many entries as a number has no more are nowhere
+abbrev pub place_in_row : ℕ → Browser → ℕ
+place_in_row k b = min (b.top + k) (2 ^ 64 - 1) - 1
+
+-- what stands in a row, of as many as there are: the status in the last one, the title in the first one, and
+-- entries between them
+abbrev pub text_in : ℕ → ℕ → ℕ → Browser → List ℕ
+text_in k width height b =
+    if k == height - 1 then status_told b
+    else if k == 0 then title_text b
+    else entry_at width (place_in_row k b) b

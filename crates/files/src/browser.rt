@@ -1,0 +1,227 @@
+//! The state of a file manager.
+
+ghost use Rattle.std.specs.Prelude.{◌≡◌, false, IfOk, OnOk, OnErr};
+ghost use Rattle.files.specs.Moves.{new_browser, browsed, browser_at_told_size, told, outcome_told, browsed_after};
+ghost use Rattle.files.specs.Moves.{asks, browser_asked};
+
+use crate::keys::{is_input, says_yes, wish_of};
+use crate::list::{Outcome, Rows};
+use crate::typing::typing_of;
+use ratatui_acts::{Acts, Message};
+use ratatui_core::layout::Size;
+use ratatui_events::Event;
+use ratatui_files::{Failure, Path, Text};
+use ratatui_reads::size_in;
+use std::alloc::{AllocError, Global};
+use text_field::TextField;
+
+/// What keys are taken for, and what is being done.
+#[derive(Clone, Copy, PartialEq, Eq)]
+pub enum Mode {
+    /// Keys select an entry.
+    Looking,
+    /// The folder is listed anew.
+    Listing,
+    /// The folder that is selected is listed.
+    Entering,
+    /// The folder above is listed.
+    Leaving,
+    /// Keys say whether the entry is to be removed.
+    Removing,
+    /// Another name of the entry is typed.
+    Renaming,
+    /// The name of a new folder is typed.
+    Making,
+    /// Nothing more is done.
+    Over,
+}
+
+/// What the status tells while an entry is selected.
+#[derive(Clone, Copy, PartialEq, Eq)]
+pub enum Note {
+    /// Which entry is selected.
+    Place,
+    /// Why what was asked for last wasn't done.
+    Failed(Mode, Failure),
+    /// That the screen is too narrow for the question.
+    Narrow,
+}
+
+/// A folder in rows, of which one is selected. What it asks for is told by itself: it is a function
+/// of what it shows.
+#[derive(Drop)]
+pub struct Browser {
+    pub(crate) alloc: Global,
+    /// The columns and rows of the screen.
+    pub(crate) size: Size,
+    /// What the folder is called that all is in.
+    pub(crate) title: Text,
+    /// The folder that is shown.
+    pub(crate) folder: Path,
+    /// Its entries, as they were told last.
+    pub(crate) list: Rows,
+    /// How many more have names that are no texts.
+    pub(crate) unnamed: u64,
+    /// Whether entries are listed whose name begins with a dot.
+    pub(crate) has_hidden: bool,
+    /// The entry that is selected, and the one in the first row of the list.
+    pub(crate) selected: usize,
+    pub(crate) top: usize,
+    pub(crate) mode: Mode,
+    /// Whether what is asked was answered by yes, and is to be done.
+    pub(crate) is_sure: bool,
+    /// Whether the last read found nothing while all this was shown.
+    pub(crate) is_quiet: bool,
+    /// Whether the entry with the typed name is to be selected once the folder is listed.
+    pub(crate) seeks_typed: bool,
+    pub(crate) note: Note,
+    /// What is typed of a name, and how many columns of the status stand before its cursor.
+    pub(crate) typed: TextField,
+    pub(crate) column: usize,
+}
+
+impl Browser {
+    /// Makes a browser on a terminal of this size, which asks for the folder that all is in; that
+    /// is called so.
+    pub fn new(alloc: Global, title: Text, size: Size) -> Browser
+        ensures { result ≡ new_browser alloc title size }
+    {
+        Browser {
+            alloc,
+            size,
+            title,
+            folder: Path::root(alloc),
+            list: Rows::new(Vec::new(alloc)),
+            unnamed: 0,
+            has_hidden: false,
+            selected: 0,
+            top: 0,
+            mode: Mode::Listing,
+            is_sure: false,
+            is_quiet: false,
+            seeks_typed: false,
+            note: Note::Place,
+            typed: TextField::new(alloc),
+            column: 0,
+        }
+    }
+
+    // Takes a size that was told, if one was.
+    fn take_size(&mut self, size: Option<(u16, u16)>)
+        ensures { self.new ≡ browser_at_told_size size self.old }
+    {
+        if let Some((width, height)) = size {
+            self.is_quiet = self.is_quiet && self.size.width == width && self.size.height == height;
+            self.size = Size { width, height };
+            self.settle();
+        }
+    }
+
+    // Takes an answer to the question whether an entry is to be removed.
+    fn take_answer(&mut self, event: Event) -> Result<(), AllocError>
+        ensures ok { OnOk result (self.new ≡ browsed Mode.Removing event self.old) }
+        ensures err { OnErr result (self.new ≡ self.old) }
+    {
+        if says_yes(event) {
+            return self.confirm();
+        }
+        self.mode = Mode::Looking;
+        Ok(())
+    }
+
+    // Takes what is typed or pasted.
+    fn act(&mut self, event: Event) -> Result<(), AllocError>
+        ensures ok { OnOk result (self.new ≡ browsed self.old.mode event self.old) }
+        ensures err { OnErr result (self.new ≡ self.old) }
+    {
+        match self.mode {
+            Mode::Looking => self.obey(wish_of(event)),
+            Mode::Removing => self.take_answer(event),
+            Mode::Renaming | Mode::Making => self.take_typing(typing_of(event)),
+            Mode::Listing | Mode::Entering | Mode::Leaving | Mode::Over => Ok(()),
+        }
+    }
+
+    // Takes an event.
+    fn hear(&mut self, event: Event) -> Result<(), AllocError>
+        ensures ok { OnOk result (self.new ≡ told event self.old) }
+        ensures err { OnErr result (self.new ≡ self.old) }
+    {
+        if is_input(event) {
+            self.act(event)?;
+            self.is_quiet = false;
+        } else {
+            self.take_size(size_in(event));
+        }
+        Ok(())
+    }
+
+    // Takes an answer.
+    fn take_outcome(&mut self, outcome: Outcome)
+        ensures { self.new ≡ outcome_told outcome self.old }
+    {
+        match outcome {
+            Outcome::Listed(listing) => self.take_listing(listing),
+            Outcome::Done => {
+                self.seeks_typed = self.names_typed();
+                self.mode = Mode::Listing;
+            }
+            Outcome::Failed(failure) => {
+                self.seeks_typed = false;
+                self.note = Note::Failed(self.mode, failure);
+                self.mode = Mode::Looking;
+            }
+        }
+        self.is_sure = false;
+        self.is_quiet = false;
+    }
+
+    /// Returns whether it asks for something.
+    pub fn asks(&self) -> bool
+        ensures { result ≡ asks self.now }
+    {
+        match self.mode {
+            Mode::Listing | Mode::Entering | Mode::Leaving => true,
+            Mode::Removing | Mode::Renaming | Mode::Making => self.is_sure,
+            Mode::Looking | Mode::Over => false,
+        }
+    }
+}
+
+impl Acts for Browser {
+    ghost use Rattle.files.specs.Moves.{is_over};
+
+    type Command = Browser;
+
+    type Answer = Outcome;
+
+    ghost updated = { browsed_after };
+
+    ghost asked = { browser_asked };
+
+    ghost is_over = { is_over };
+
+    fn update(&mut self, message: Message<Outcome>) -> Result<bool, AllocError>
+        ensures ok { OnOk result (self.new ≡ browsed_after self.old message) }
+        ensures same { IfOk result (λ changed. changed ≡ false → self.new ≡ self.old) }
+        ensures refused { OnErr result (self.new ≡ self.old) }
+    {
+        match message {
+            Message::Event(event) => self.hear(event)?,
+            Message::Tick(_) => self.is_quiet = true,
+            Message::Answer(outcome) => self.take_outcome(outcome),
+        }
+        Ok(true)
+    }
+
+    fn asked(&self) -> Option<&Browser> {
+        if self.asks() { Some(self) } else { None }
+    }
+
+    fn is_over(&self) -> bool {
+        match self.mode {
+            Mode::Over => true,
+            _ => false,
+        }
+    }
+}

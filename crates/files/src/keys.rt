@@ -1,0 +1,165 @@
+//! What an event asks for while an entry is selected.
+
+ghost use Rattle.std.specs.Prelude.{◌≡◌, ◌==◌};
+ghost use Rattle.ratatui_events.specs.Key.{modifier_bits};
+ghost use Rattle.files.specs.Keys.{character_wish, control_wish, code_wish, kind_wish, event_wish};
+ghost use Rattle.files.specs.Keys.{holds_control, is_down_kind, is_input, is_yes_code, says_yes};
+
+use ratatui_events::{Event, KeyCode, KeyEvent, KeyEventKind, KeyModifiers};
+
+/// What a person asks for.
+#[derive(Debug, Clone, Copy, PartialEq, Eq)]
+pub enum Wish {
+    /// Nothing.
+    Nothing,
+    /// The next entry, or the one before.
+    Down,
+    Up,
+    /// The entry a page further, or a page back.
+    PageDown,
+    PageUp,
+    /// Half a page.
+    HalfDown,
+    HalfUp,
+    /// The first entry, or the last one.
+    ToFirst,
+    ToLast,
+    /// The folder that is selected.
+    Enter,
+    /// The folder above.
+    Leave,
+    /// Hidden entries too, or no longer.
+    Hidden,
+    /// Another name for the entry.
+    Rename,
+    /// A new folder.
+    Make,
+    /// That the entry be removed.
+    Remove,
+    /// The end.
+    Quit,
+}
+
+// Whether Control is held, and nothing else.
+pub(crate) fn holds_control(key: KeyEvent) -> bool
+    ensures { result ≡ holds_control key }
+{
+    key.modifiers == KeyModifiers::CONTROL
+}
+
+// What a character asks for.
+fn character_wish(code: char) -> Wish
+    ensures { result ≡ character_wish code }
+{
+    match code {
+        'j' => Wish::Down,
+        'k' => Wish::Up,
+        'g' => Wish::ToFirst,
+        'G' => Wish::ToLast,
+        'l' => Wish::Enter,
+        'h' => Wish::Leave,
+        '.' => Wish::Hidden,
+        'r' => Wish::Rename,
+        'a' => Wish::Make,
+        'D' => Wish::Remove,
+        'q' => Wish::Quit,
+        _ => Wish::Nothing,
+    }
+}
+
+// What a key asks for with Control.
+fn control_wish(code: KeyCode) -> Wish
+    ensures { result ≡ control_wish code }
+{
+    match code {
+        KeyCode::Char('d') => Wish::HalfDown,
+        KeyCode::Char('u') => Wish::HalfUp,
+        KeyCode::Char('c') => Wish::Quit,
+        _ => Wish::Nothing,
+    }
+}
+
+// What a key asks for without Control.
+fn code_wish(code: KeyCode) -> Wish
+    ensures { result ≡ code_wish code }
+{
+    match code {
+        KeyCode::Char(character) => character_wish(character),
+        KeyCode::Enter | KeyCode::Right => Wish::Enter,
+        KeyCode::Backspace | KeyCode::Left => Wish::Leave,
+        KeyCode::Down => Wish::Down,
+        KeyCode::Up => Wish::Up,
+        KeyCode::PageDown => Wish::PageDown,
+        KeyCode::PageUp => Wish::PageUp,
+        KeyCode::Home => Wish::ToFirst,
+        KeyCode::End => Wish::ToLast,
+        _ => Wish::Nothing,
+    }
+}
+
+// What a key asks for: nothing when it is let go.
+fn key_wish(key: KeyEvent) -> Wish
+    ensures { result ≡ kind_wish key.kind key }
+{
+    match key.kind {
+        KeyEventKind::Release => Wish::Nothing,
+        _ => {
+            if holds_control(key) {
+                control_wish(key.code)
+            } else {
+                code_wish(key.code)
+            }
+        }
+    }
+}
+
+/// Returns what an event asks for.
+pub fn wish_of(event: Event) -> Wish
+    ensures { result ≡ event_wish event }
+{
+    match event {
+        Event::Key(key) => key_wish(key),
+        _ => Wish::Nothing,
+    }
+}
+
+// Whether a key of this kind goes down, or is held.
+fn is_down_kind(kind: KeyEventKind) -> bool
+    ensures { result ≡ is_down_kind kind }
+{
+    match kind {
+        KeyEventKind::Release => false,
+        _ => true,
+    }
+}
+
+/// Returns whether an event is typed or pasted.
+pub fn is_input(event: Event) -> bool
+    ensures { result ≡ is_input event }
+{
+    match event {
+        Event::Key(key) => is_down_kind(key.kind),
+        Event::Pasted(_) => true,
+        _ => false,
+    }
+}
+
+// Whether a key is the letter y.
+fn is_yes_code(code: KeyCode) -> bool
+    ensures { result ≡ is_yes_code code }
+{
+    match code {
+        KeyCode::Char(code) => code == 'y',
+        _ => false,
+    }
+}
+
+/// Returns whether an event says yes to a question: the letter y.
+pub fn says_yes(event: Event) -> bool
+    ensures { result ≡ says_yes event }
+{
+    match event {
+        Event::Key(key) => !holds_control(key) && is_yes_code(key.code),
+        _ => false,
+    }
+}

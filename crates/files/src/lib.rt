@@ -1,0 +1,29 @@
+//! A file manager: a folder in rows, in which no file is touched but the one that the screen names.
+//!
+//! [`Browser`] is a state that acts: `specs/Keys` is the table of its keys, `specs/Moves` what each
+//! makes of it, `specs/Texts` and `specs/Pages` what stands in each row. [`Shown`] is what is outside
+//! of it: it changes files only while the glass shows, whole, the question that names them.
+#![tactic(auto)]
+
+mod browser;
+mod hands;
+mod keys;
+pub mod laws;
+mod list;
+mod moves;
+mod names;
+mod page;
+mod questions;
+#[cfg(test)]
+mod runs;
+#[cfg(test)]
+mod screens;
+mod sorting;
+mod texts;
+mod typing;
+
+pub use browser::{Browser, Mode, Note};
+pub use hands::Hands;
+pub use keys::Wish;
+pub use list::{Listing, Outcome, Row, Rows};
+pub use typing::Typing;

@@ -1,0 +1,89 @@
+//! The rows of a list, and what is answered.
+
+ghost use Rattle.std.specs.Prelude.{◌≡◌, length, option_map, slice_get};
+
+use ratatui_files::{Failure, Path};
+use std::marker::Model;
+
+/// A row of the list: what is told of an entry. Rows are in order if their fields are: folders
+/// first, then by name.
+#[derive(Drop, PartialEq, Eq, PartialOrd, Ord)]
+pub struct Row {
+    /// Whether it is no folder.
+    pub is_leaf: bool,
+    /// Its name.
+    pub name: String,
+    /// Whether it is a symbolic link.
+    pub is_link: bool,
+    /// How many bytes a file has.
+    pub size: Option<u64>,
+}
+
+/// Rows of a list.
+#[derive(Drop)]
+pub struct Rows {
+    rows: Vec<Row>,
+}
+
+impl Model for Rows {
+    ghost use Rattle.std.specs.Prelude.{List};
+    ghost use Rattle.files.specs.declared.list.Row.{Row};
+
+    ghost Value = { List Row };
+
+    ghost view = { λ rows. rows.rows.items };
+}
+
+impl Rows {
+    /// Takes these rows.
+    pub fn new(rows: Vec<Row>) -> Rows
+        ensures { result ≡ rows.items }
+    {
+        Rows { rows }
+    }
+
+    /// Returns how many there are.
+    pub fn len(&self) -> usize
+        ensures { result ≡ length self.now }
+    {
+        self.rows.len()
+    }
+
+    /// Returns one of them, if there are so many.
+    pub fn get(&self, index: usize) -> Option<&Row>
+        ensures { option_map (λ row. row.now) result ≡ slice_get self.now index }
+    {
+        self.rows.get(index)
+    }
+
+    /// Lends them as a slice.
+    pub fn as_slice(&self) -> &[Row]
+        ensures { result.now ≡ self.now }
+    {
+        self.rows.as_slice()
+    }
+}
+
+/// What stands in a folder.
+#[derive(Drop)]
+pub struct Listing {
+    /// The folder.
+    pub folder: Path,
+    /// Its entries, in order.
+    pub rows: Rows,
+    /// How many entries beside them have names that are no texts.
+    pub unnamed: u64,
+    /// The row that is to be selected, from 0 on; or else the last one.
+    pub place: usize,
+}
+
+/// What is answered.
+#[derive(Drop)]
+pub enum Outcome {
+    /// What stands in a folder.
+    Listed(Listing),
+    /// It was done.
+    Done,
+    /// It wasn't done, and nothing has changed.
+    Failed(Failure),
+}

@@ -1,0 +1,284 @@
+//! What is made of a wish, and of what is typed.
+
+ghost use Rattle.std.specs.Prelude.{◌≡◌, ◌+◌, ◌-◌, if◌then◌else◌, length, IfOk, OnOk, OnErr};
+ghost use Rattle.text_field.specs.Keys.{edited};
+ghost use Rattle.files.specs.Moves.{list_rows, last_row_place, scrolled_list, selected_at, selection_moved, is_folder_selected};
+ghost use Rattle.files.specs.Moves.{follows_dot, to_dot, at_extension, selected_field, typing_in, renaming, went, wished};
+ghost use Rattle.files.specs.Moves.{confirmed, typed_into, names_typed, listing_shown};
+
+use crate::browser::{Browser, Mode, Note};
+use crate::keys::Wish;
+use crate::list::Listing;
+use crate::typing::Typing;
+use std::alloc::AllocError;
+use text_field::{Edit, Reach, TextField};
+
+// Whether the cursor stands behind a dot that isn't the first character.
+fn follows_dot(field: &TextField) -> bool
+    ensures { result ≡ follows_dot field.now }
+{
+    let before = field.before().as_bytes();
+    match before.split_last() {
+        Some((last, front)) => *last == b'.' && !front.is_empty(),
+        None => false,
+    }
+}
+
+// Brings the cursor to the left before the last dot that isn't the first character, or to the start.
+fn go_to_dot(field: &mut TextField)
+    ensures { field.new ≡ to_dot (length field.old.before) field.old }
+{
+    let count = field.before().len();
+    for _step in 0..count {
+        let is_behind = follows_dot(field);
+        field.move_left(Reach::Grapheme);
+        if is_behind {
+            return;
+        }
+    }
+}
+
+// Brings the cursor from the end of a name before its extension, if it has one.
+fn go_to_extension(field: &mut TextField)
+    ensures { field.new ≡ at_extension field.old }
+{
+    go_to_dot(field);
+    if field.before().is_empty() {
+        field.move_right(Reach::All);
+    }
+}
+
+impl Browser {
+    // How many rows the list has.
+    pub(crate) fn list_rows(&self) -> usize
+        ensures { result ≡ list_rows self.now }
+    {
+        usize::from(self.size.height).saturating_sub(2)
+    }
+
+    // The place of the last entry.
+    fn last_row_place(&self) -> usize
+        ensures { result ≡ last_row_place self.now }
+    {
+        self.list.len().saturating_sub(1)
+    }
+
+    // Brings the entry that is selected into the rows, which move as little as they can.
+    pub(crate) fn settle(&mut self)
+        ensures { self.new ≡ scrolled_list self.old }
+    {
+        let rows = self.list_rows();
+        let top = self.top.min(self.list.len().saturating_sub(rows));
+        let lowest = self.selected.saturating_sub(rows.saturating_sub(1));
+        self.top = top.max(lowest).min(self.selected);
+    }
+
+    // Selects an entry, or the last one.
+    fn select(&mut self, place: usize)
+        ensures { self.new ≡ selected_at place self.old }
+    {
+        self.selected = place.min(self.last_row_place());
+        self.settle();
+    }
+
+    // Selects the entry so many rows further.
+    fn go_down(&mut self, rows: usize)
+        ensures { self.new ≡ selected_at (self.old.selected + rows) self.old }
+    {
+        let last = self.last_row_place();
+        self.select(self.selected.saturating_add(rows).min(last));
+    }
+
+    // Selects the entry so many rows back.
+    fn go_up(&mut self, rows: usize)
+        ensures { self.new ≡ selected_at (self.old.selected - rows) self.old }
+    {
+        self.select(self.selected.saturating_sub(rows));
+    }
+
+    // Selects another entry.
+    fn move_by(&mut self, wish: Wish)
+        ensures { self.new ≡ selection_moved wish self.old }
+    {
+        let page = self.list_rows();
+        match wish {
+            Wish::Down => self.go_down(1),
+            Wish::Up => self.go_up(1),
+            Wish::PageDown => self.go_down(page),
+            Wish::PageUp => self.go_up(page),
+            Wish::HalfDown => self.go_down(page / 2),
+            Wish::HalfUp => self.go_up(page / 2),
+            Wish::ToFirst => self.select(0),
+            Wish::ToLast => {
+                let last = self.last_row_place();
+                self.select(last);
+            }
+            _ => {}
+        }
+    }
+
+    // Whether a folder is selected, or a link, which may lead to one.
+    fn is_folder_selected(&self) -> bool
+        ensures { result ≡ is_folder_selected self.now }
+    {
+        match self.list.get(self.selected) {
+            Some(row) => !row.is_leaf || row.is_link,
+            None => false,
+        }
+    }
+
+    // The name of the entry that is selected, with the cursor before its extension.
+    fn selected_name(&self) -> Result<TextField, AllocError>
+        ensures { IfOk result (λ field. field ≡ at_extension (selected_field self.now)) }
+    {
+        let mut field = TextField::new(self.alloc);
+        field.set_text(self.selected_text())?;
+        go_to_extension(&mut field);
+        Ok(field)
+    }
+
+    // Begins to type a name, with this in the field.
+    fn begin(&mut self, mode: Mode, typed: TextField) -> Result<(), AllocError>
+        ensures ok { OnOk result (self.new ≡ typing_in mode typed self.old) }
+        ensures err { OnErr result (self.new ≡ self.old) }
+    {
+        self.column = self.column_in(mode, &typed)?;
+        self.typed = typed;
+        self.mode = mode;
+        Ok(())
+    }
+
+    // Begins to rename the entry that is selected, if there is one.
+    fn rename(&mut self) -> Result<(), AllocError>
+        ensures ok { OnOk result (self.new ≡ renaming self.old) }
+        ensures err { OnErr result (self.new ≡ self.old) }
+    {
+        if self.list.len() == 0 {
+            return Ok(());
+        }
+        let typed = self.selected_name()?;
+        self.begin(Mode::Renaming, typed)
+    }
+
+    // Turns to another mode, if a condition holds.
+    fn turn_if(&mut self, holds: bool, mode: Mode)
+        ensures { self.new ≡ (if holds then record self.old { mode = mode } else self.old) }
+    {
+        if holds {
+            self.mode = mode;
+        }
+    }
+
+    // Does what is asked for that takes no memory.
+    fn go(&mut self, wish: Wish)
+        ensures { self.new ≡ went wish self.old }
+    {
+        match wish {
+            Wish::Enter => {
+                let may = self.is_folder_selected();
+                self.turn_if(may, Mode::Entering);
+            }
+            Wish::Leave => {
+                let may = !self.folder.as_str().is_empty();
+                self.turn_if(may, Mode::Leaving);
+            }
+            Wish::Hidden => {
+                self.has_hidden = !self.has_hidden;
+                self.mode = Mode::Listing;
+            }
+            Wish::Remove => {
+                let may = self.list.len() > 0;
+                self.turn_if(may, Mode::Removing);
+            }
+            Wish::Quit => self.mode = Mode::Over,
+            other => self.move_by(other),
+        }
+    }
+
+    /// Does what is asked for.
+    pub(crate) fn obey(&mut self, wish: Wish) -> Result<(), AllocError>
+        ensures ok { OnOk result (self.new ≡ wished wish self.old) }
+        ensures err { OnErr result (self.new ≡ self.old) }
+    {
+        match wish {
+            Wish::Rename => self.rename()?,
+            Wish::Make => self.begin(Mode::Making, TextField::new(self.alloc))?,
+            other => self.go(other),
+        }
+        self.note = Note::Place;
+        Ok(())
+    }
+
+    // Edits what is typed.
+    fn edit(&mut self, edit: Edit) -> Result<(), AllocError>
+        ensures ok { OnOk result
+            (self.new ≡ typing_in self.old.mode (edited edit self.old.typed) self.old) }
+        ensures err { OnErr result (self.new ≡ self.old) }
+    {
+        let mut typed = self.typed.clone(self.alloc)?;
+        typed.apply(edit)?;
+        self.begin(self.mode, typed)
+    }
+
+    /// Takes a yes. It counts only if the last read found nothing while the question was shown, and
+    /// if the screen has columns for all of it.
+    pub(crate) fn confirm(&mut self) -> Result<(), AllocError>
+        ensures ok { OnOk result (self.new ≡ confirmed self.old) }
+        ensures err { OnErr result (self.new ≡ self.old) }
+    {
+        if !self.is_quiet {
+            return Ok(());
+        }
+        if self.fits(self.size.width)? {
+            self.is_sure = true;
+        } else {
+            self.mode = Mode::Looking;
+            self.note = Note::Narrow;
+        }
+        Ok(())
+    }
+
+    /// Does what is asked for while a name is typed.
+    pub(crate) fn take_typing(&mut self, typing: Typing) -> Result<(), AllocError>
+        ensures ok { OnOk result (self.new ≡ typed_into typing self.old) }
+        ensures err { OnErr result (self.new ≡ self.old) }
+    {
+        match typing {
+            Typing::Change(edit) => self.edit(edit),
+            Typing::Accept => self.confirm(),
+            Typing::Cancel => {
+                self.mode = Mode::Looking;
+                Ok(())
+            }
+            Typing::Ignore => Ok(()),
+        }
+    }
+
+    /// Returns whether a name is typed.
+    pub(crate) fn names_typed(&self) -> bool
+        ensures { result ≡ names_typed self.now.mode }
+    {
+        match self.mode {
+            Mode::Renaming | Mode::Making => true,
+            _ => false,
+        }
+    }
+
+    /// Takes what stands in a folder.
+    pub(crate) fn take_listing(&mut self, listing: Listing)
+        ensures { self.new ≡ listing_shown listing self.old }
+    {
+        let Listing {
+            folder,
+            rows,
+            unnamed,
+            place,
+        } = listing;
+        self.folder = folder;
+        self.list = rows;
+        self.unnamed = unnamed;
+        self.seeks_typed = false;
+        self.mode = Mode::Looking;
+        self.select(place);
+    }
+}

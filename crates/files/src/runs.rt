@@ -1,0 +1,118 @@
+//! What keys that are known make of a tree in memory.
+
+use crate::browser::Browser;
+use crate::hands::Hands;
+use crate::screens;
+use ratatui_acts::{Glass, Seat, Told, run};
+use ratatui_ansi::AnsiBackend;
+use ratatui_app::{OnGlass, OnScreen};
+use ratatui_core::backend::TestBackend;
+use ratatui_core::layout::Size;
+use ratatui_core::terminal::Viewport;
+use ratatui_files::{Bytes, Command, InMemory, Path, Performs, Text};
+use ratatui_reads::Pieces;
+use ratatui_test::assert_stored;
+use std::alloc::{AllocError, Global};
+use std::test::Fail;
+use std::time::Duration;
+
+// The path that a text is.
+fn path(alloc: Global, text: &str) -> Result<Path, AllocError> {
+    match Path::new(String::from_str(alloc, text)?) {
+        Some(path) => Ok(path),
+        None => Err(AllocError),
+    }
+}
+
+// A folder that is empty, and two files.
+fn tree(alloc: Global) -> Result<InMemory, AllocError> {
+    let mut tree = InMemory::new(alloc, Duration::ZERO);
+    let bytes = Bytes::copy(alloc, b"tea")?;
+    let _made = tree.perform(&Command::MakeFolder(path(alloc, "docs")?));
+    let _written = tree.perform(&Command::Write(path(alloc, "a.txt")?, bytes));
+    let bytes = Bytes::copy(alloc, b"apples")?;
+    let _written = tree.perform(&Command::Write(path(alloc, "b.txt")?, bytes));
+    Ok(tree)
+}
+
+// What reads make of the tree, and the screen of so many columns that shows it in the end.
+#[derive(Drop)]
+struct Played {
+    hands: Hands<InMemory>,
+    screen: OnScreen<TestBackend>,
+}
+
+// Plays reads on the tree, and shows the last state on a screen in memory.
+fn played(alloc: Global, width: u16, reads: &[&[u8]]) -> Result<Played, AllocError> {
+    let size = Size { width, height: 6 };
+    let Ok(backend) = AnsiBackend::new(alloc, Vec::new(alloc), size) else {
+        return Err(AllocError);
+    };
+    let Ok(mut glass) = OnGlass::begin(alloc, Viewport::Fullscreen, backend) else {
+        return Err(AllocError);
+    };
+    let title = Text::copy(alloc, "tree")?;
+    let mut seat = Seat::new(alloc, Browser::new(alloc, title, size));
+    let mut hands = Hands::new(alloc, tree(alloc)?);
+    let mut source = Pieces::new(reads);
+    match run(&mut source, &mut hands, true, &mut glass, &mut seat) {
+        Ok(()) => {}
+        Err(_) => return Err(AllocError),
+    }
+    let backend = TestBackend::new(alloc, width, size.height)?;
+    let Ok(mut screen) = OnScreen::begin(alloc, Viewport::Fullscreen, backend) else {
+        return Err(AllocError);
+    };
+    match screen.show(seat.state(), Told::first()) {
+        Ok(()) => Ok(Played { hands, screen }),
+        Err(_) => Err(AllocError),
+    }
+}
+
+// Whether something stands at a path.
+fn has(played: &Played, path: &str) -> bool {
+    played
+        .hands
+        .files()
+        .entries()
+        .iter()
+        .any(|entry| entry.path.as_str() == path)
+}
+
+#[test]
+fn removes_after_a_yes(rt: HostRuntime) -> Result<(), Fail> {
+    let end = played(rt.alloc(), 40, &[b"j", b"D", b"", b"y", b"q"])?;
+    assert!(rt; !has(&end, "a.txt"));
+    assert!(rt; has(&end, "b.txt"));
+    assert_stored!(rt; end.screen.terminal().backend(), screens::REMOVED);
+    Ok(())
+}
+
+#[test]
+fn takes_no_yes_that_was_typed_ahead(rt: HostRuntime) -> Result<(), Fail> {
+    let end = played(rt.alloc(), 40, &[b"jDy", b"y", b"", b"nq"])?;
+    assert!(rt; has(&end, "a.txt"));
+    Ok(())
+}
+
+#[test]
+fn takes_no_yes_to_what_is_cut(rt: HostRuntime) -> Result<(), Fail> {
+    let end = played(rt.alloc(), 18, &[b"jD", b"", b"y", b"q"])?;
+    assert!(rt; has(&end, "a.txt"));
+    assert_stored!(rt; end.screen.terminal().backend(), screens::NARROW);
+    Ok(())
+}
+
+#[test]
+fn renames_and_makes_folders(rt: HostRuntime) -> Result<(), Fail> {
+    let end = played(
+        rt.alloc(),
+        60,
+        &[b"jr", b"\x01n", b"", b"\r", b"anew", b"", b"\r", b"q"],
+    )?;
+    assert!(rt; has(&end, "na.txt"));
+    assert!(rt; !has(&end, "a.txt"));
+    assert!(rt; has(&end, "new"));
+    assert_stored!(rt; end.screen.terminal().backend(), screens::NAMED);
+    Ok(())
+}

@@ -1,0 +1,258 @@
+//! The texts that stand in the rows.
+
+ghost use Rattle.std.specs.Prelude.{◌≡◌, ◌++◌, ◌<◌, OnOk, IfOk, string_bytes};
+ghost use Rattle.ratatui_core.specs.Buffer.{text_columns};
+ghost use Rattle.files.specs.Texts.{failure_text, shown_row, file_size_text, size_beside, row_told, title_text, selected_text, sought_text};
+ghost use Rattle.files.specs.Texts.{selected_shown, place_told, subject, note_told, prompt, status_told, column_in};
+ghost use Rattle.files.specs.Texts.{fits, text_in, entry_at, place_in_row};
+
+use crate::browser::{Browser, Mode, Note};
+use crate::list::Row;
+use crate::names::push_name;
+use itoa::Buffer as Digits;
+use ratatui_core::text::Span;
+use ratatui_files::Failure;
+use std::alloc::{AllocError, Global};
+use text_field::TextField;
+
+// Why something wasn't done.
+fn failure_text(failure: Failure) -> &'static str
+    ensures { result.now ≡ failure_text failure }
+{
+    match failure {
+        Failure::NotFound => "not found",
+        Failure::NotAllowed => "not allowed",
+        Failure::Exists => "it exists already",
+        Failure::Full => "no room is left",
+        Failure::NotEmpty => "the folder isn't empty",
+        Failure::NotAFolder => "not a folder",
+        Failure::IsAFolder => "a folder",
+        Failure::NotAFile => "not a file",
+        Failure::IntoItself => "it would lie in itself",
+        Failure::OtherDevice => "on another device",
+        Failure::BadName => "not a name",
+        Failure::Memory => "no memory",
+        Failure::Other => "the system refused",
+    }
+}
+
+// Appends a name, and what it is: a slash for a folder, and an at sign for a link.
+fn push_row(text: &mut String, row: &Row) -> Result<(), AllocError>
+    ensures { OnOk result (string_bytes text.new ≡ string_bytes text.old ++ shown_row row.now) }
+{
+    push_name(text, row.name.as_str())?;
+    if !row.is_leaf {
+        text.push_str("/")
+    } else if row.is_link {
+        text.push_str("@")
+    } else {
+        Ok(())
+    }
+}
+
+// Appends a size behind so many blanks that it ends in the last column, if there is room.
+fn push_size(alloc: Global, text: &mut String, size: &str, width: u16) -> Result<(), AllocError>
+    ensures { OnOk result (string_bytes text.new
+        ≡ string_bytes text.old ++ size_beside width (string_bytes text.old) size.now) }
+{
+    let used = Span::raw(text.as_str()).width().saturating_add(size.len());
+    let gap = usize::from(width).saturating_sub(used);
+    if gap == 0 {
+        return Ok(());
+    }
+    let blanks = " ".repeat(alloc, gap)?;
+    text.push_str(blanks.as_str())?;
+    text.push_str(size)
+}
+
+// An entry in a row of so many columns.
+fn row_told(alloc: Global, row: &Row, width: u16) -> Result<String, AllocError>
+    ensures { IfOk result (λ text. string_bytes text ≡ row_told width row.now) }
+{
+    let mut text = String::new(alloc);
+    push_row(&mut text, row)?;
+    let mut digits = Digits::new();
+    let size = match row.size {
+        Some(size) => digits.format(size),
+        None => "",
+    };
+    push_size(alloc, &mut text, size, width)?;
+    Ok(text)
+}
+
+impl Browser {
+    // The name of the entry that is selected.
+    pub(crate) fn selected_text(&self) -> &str
+        ensures { result.now ≡ selected_text self.now }
+    {
+        match self.list.get(self.selected) {
+            Some(row) => row.name.as_str(),
+            None => "",
+        }
+    }
+
+    /// Returns the name that is to be selected once the folder is listed anew.
+    pub(crate) fn sought_text(&self) -> &str
+        ensures { result.now ≡ sought_text self.now }
+    {
+        if self.seeks_typed {
+            self.typed.text()
+        } else {
+            self.selected_text()
+        }
+    }
+
+    // Appends the entry that is selected.
+    fn push_selected(&self, text: &mut String) -> Result<(), AllocError>
+        ensures { OnOk result (string_bytes text.new
+            ≡ string_bytes text.old ++ selected_shown self.now) }
+    {
+        match self.list.get(self.selected) {
+            Some(row) => push_row(text, row),
+            None => Ok(()),
+        }
+    }
+
+    // Where the folder is.
+    fn title_text(&self) -> Result<String, AllocError>
+        ensures { IfOk result (λ text. string_bytes text ≡ title_text self.now) }
+    {
+        let mut text = String::new(self.alloc);
+        push_name(&mut text, self.title.as_str())?;
+        text.push_str("/")?;
+        push_name(&mut text, self.folder.as_str())?;
+        Ok(text)
+    }
+
+    // Appends which entry is selected, of how many, and how many more can't be named.
+    fn push_place(&self, text: &mut String) -> Result<(), AllocError>
+        ensures { OnOk result (string_bytes text.new
+            ≡ string_bytes text.old ++ place_told self.now) }
+    {
+        let mut digits = Digits::new();
+        let count = self.list.len();
+        text.push_str(digits.format(self.selected.saturating_add(1).min(count)))?;
+        text.push_str("/")?;
+        text.push_str(digits.format(count))?;
+        if self.unnamed > 0 {
+            text.push_str(", and ")?;
+            text.push_str(digits.format(self.unnamed))?;
+            text.push_str(" whose names are no texts")?;
+        }
+        Ok(())
+    }
+
+    // Appends what it was that wasn't done.
+    fn push_subject(&self, mode: Mode, text: &mut String) -> Result<(), AllocError>
+        ensures { OnOk result (string_bytes text.new
+            ≡ string_bytes text.old ++ subject mode self.now) }
+    {
+        match mode {
+            Mode::Entering | Mode::Removing | Mode::Renaming => self.push_selected(text),
+            Mode::Making => push_name(text, self.typed.text()),
+            Mode::Leaving => text.push_str("the folder above"),
+            _ => text.push_str("this folder"),
+        }
+    }
+
+    // Appends what is told while an entry is selected.
+    fn push_note(&self, text: &mut String) -> Result<(), AllocError>
+        ensures { OnOk result (string_bytes text.new
+            ≡ string_bytes text.old ++ note_told self.now.note self.now) }
+    {
+        match self.note {
+            Note::Place => self.push_place(text),
+            Note::Narrow => text.push_str("the screen is too narrow for the question"),
+            Note::Failed(mode, failure) => {
+                self.push_subject(mode, text)?;
+                text.push_str(": ")?;
+                text.push_str(failure_text(failure))
+            }
+        }
+    }
+
+    // Appends what stands before a name that is typed.
+    fn push_prompt(&self, mode: Mode, text: &mut String) -> Result<(), AllocError>
+        ensures { OnOk result (string_bytes text.new
+            ≡ string_bytes text.old ++ prompt mode self.now) }
+    {
+        match mode {
+            Mode::Renaming => {
+                text.push_str("rename \"")?;
+                self.push_selected(text)?;
+                text.push_str("\" to \"")
+            }
+            _ => text.push_str("make the folder \""),
+        }
+    }
+
+    /// Returns what the last row tells.
+    pub(crate) fn status_told(&self) -> Result<String, AllocError>
+        ensures { IfOk result (λ text. string_bytes text ≡ status_told self.now) }
+    {
+        let mut text = String::new(self.alloc);
+        match self.mode {
+            Mode::Removing => {
+                text.push_str("remove \"")?;
+                self.push_selected(&mut text)?;
+                text.push_str("\"? y/n")?;
+            }
+            Mode::Renaming | Mode::Making => {
+                self.push_prompt(self.mode, &mut text)?;
+                push_name(&mut text, self.typed.text())?;
+                text.push_str("\"")?;
+            }
+            _ => self.push_note(&mut text)?,
+        }
+        Ok(text)
+    }
+
+    /// Returns how many columns of the status stand before the cursor, with a name in the field.
+    pub(crate) fn column_in(&self, mode: Mode, typed: &TextField) -> Result<usize, AllocError>
+        ensures { IfOk result (λ column. column ≡ column_in mode typed.now self.now) }
+    {
+        let mut text = String::new(self.alloc);
+        self.push_prompt(mode, &mut text)?;
+        push_name(&mut text, typed.before())?;
+        Ok(Span::raw(text.as_str()).width())
+    }
+
+    /// Returns whether so many columns show all that the last row tells.
+    pub(crate) fn fits(&self, width: u16) -> Result<bool, AllocError>
+        ensures { IfOk result (λ fits_it. fits_it ≡ fits width self.now) }
+    {
+        let text = self.status_told()?;
+        Ok(Span::raw(text.as_str()).width() <= usize::from(width))
+    }
+
+    // The entry in a row of the list, if it shows one.
+    fn entry_text(&self, place: usize, width: u16) -> Result<String, AllocError>
+        ensures { IfOk result (λ text. string_bytes text ≡ entry_at width place self.now) }
+    {
+        match self.list.get(place) {
+            Some(row) => row_told(self.alloc, row, width),
+            None => Ok(String::new(self.alloc)),
+        }
+    }
+
+    /// Returns what stands in a row, of as many as there are.
+    pub(crate) fn text_in(&self, k: u16, width: u16, height: u16) -> Result<String, AllocError>
+        requires { k < height }
+        ensures { IfOk result (λ text. string_bytes text ≡ text_in k width height self.now) }
+    {
+        if k == height - 1 {
+            self.status_told()
+        } else if k == 0 {
+            self.title_text()
+        } else {
+            self.entry_text(self.place_in_row(k), width)
+        }
+    }
+
+    // The place of the entry in a row of the list.
+    pub(crate) fn place_in_row(&self, k: u16) -> usize
+        ensures { result ≡ place_in_row k self.now }
+    {
+        self.top.saturating_add(usize::from(k)).saturating_sub(1)
+    }
+}
