@@ -7,4 +7,6 @@ pub mod Moves
 pub mod Pages
 pub mod PageLemmas
 pub mod Paging
+pub mod Growing
+pub mod GrowingRuns
 pub mod Inner
