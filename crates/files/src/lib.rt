@@ -14,10 +14,6 @@ mod moves;
 mod names;
 mod page;
 mod questions;
-#[cfg(test)]
-mod runs;
-#[cfg(test)]
-mod screens;
 mod sorting;
 mod texts;
 mod typing;

@@ -6,6 +6,8 @@
 #[cfg(test)]
 mod area;
 #[cfg(test)]
+mod browsers;
+#[cfg(test)]
 mod choosers;
 #[cfg(test)]
 mod clocks;

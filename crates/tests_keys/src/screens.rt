@@ -24,3 +24,30 @@ pub(crate) const HIGHER: &[&str] = &[
     "  Saturn   ",
     "  Uranus   ",
 ];
+
+pub(crate) const REMOVED: &[&str] = &[
+    "tree/                                   ",
+    "docs/                                   ",
+    "b.txt                                  6",
+    "                                        ",
+    "                                        ",
+    "2/2                                     ",
+];
+
+pub(crate) const NARROW: &[&str] = &[
+    "tree/             ",
+    "docs/             ",
+    "a.txt            3",
+    "b.txt            6",
+    "                  ",
+    "2/3               ",
+];
+
+pub(crate) const NAMED: &[&str] = &[
+    "tree/                                                       ",
+    "docs/                                                       ",
+    "new/                                                        ",
+    "b.txt                                                      6",
+    "na.txt                                                     3",
+    "2/4                                                         ",
+];

@@ -1,8 +1,7 @@
-//! What keys that are known make of a tree in memory.
+//! What keys that are known make of a tree of files in memory.
 
-use crate::browser::Browser;
-use crate::hands::Hands;
 use crate::screens;
+use files::{Browser, Hands};
 use ratatui_acts::{Glass, Seat, Told, run};
 use ratatui_ansi::AnsiBackend;
 use ratatui_app::{OnGlass, OnScreen};
