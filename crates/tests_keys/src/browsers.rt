@@ -42,7 +42,7 @@ struct Played {
 }
 
 // Plays reads on the tree, and shows the last state on a screen in memory.
-fn played(alloc: Global, width: u16, reads: &[&[u8]]) -> Result<Played, AllocError> {
+fn play(alloc: Global, width: u16, reads: &[&[u8]]) -> Result<Played, AllocError> {
     let size = Size { width, height: 6 };
     let Ok(backend) = AnsiBackend::new(alloc, Vec::new(alloc), size) else {
         return Err(AllocError);
@@ -80,7 +80,7 @@ fn has(played: &Played, path: &str) -> bool {
 
 #[test]
 fn removes_after_a_yes(rt: HostRuntime) -> Result<(), Fail> {
-    let end = played(rt.alloc(), 40, &[b"j", b"D", b"", b"y", b"q"])?;
+    let end = play(rt.alloc(), 40, &[b"j", b"D", b"", b"y", b"q"])?;
     assert!(rt; !has(&end, "a.txt"));
     assert!(rt; has(&end, "b.txt"));
     assert_stored!(rt; end.screen.terminal().backend(), screens::REMOVED);
@@ -89,14 +89,14 @@ fn removes_after_a_yes(rt: HostRuntime) -> Result<(), Fail> {
 
 #[test]
 fn takes_no_yes_that_was_typed_ahead(rt: HostRuntime) -> Result<(), Fail> {
-    let end = played(rt.alloc(), 40, &[b"jDy", b"y", b"", b"nq"])?;
+    let end = play(rt.alloc(), 40, &[b"jDy", b"y", b"", b"nq"])?;
     assert!(rt; has(&end, "a.txt"));
     Ok(())
 }
 
 #[test]
 fn takes_no_yes_to_what_is_cut(rt: HostRuntime) -> Result<(), Fail> {
-    let end = played(rt.alloc(), 18, &[b"jD", b"", b"y", b"q"])?;
+    let end = play(rt.alloc(), 18, &[b"jD", b"", b"y", b"q"])?;
     assert!(rt; has(&end, "a.txt"));
     assert_stored!(rt; end.screen.terminal().backend(), screens::NARROW);
     Ok(())
@@ -104,7 +104,7 @@ fn takes_no_yes_to_what_is_cut(rt: HostRuntime) -> Result<(), Fail> {
 
 #[test]
 fn renames_and_makes_folders(rt: HostRuntime) -> Result<(), Fail> {
-    let end = played(
+    let end = play(
         rt.alloc(),
         60,
         &[b"jr", b"\x01n", b"", b"\r", b"anew", b"", b"\r", b"q"],
