@@ -7,4 +7,5 @@ pub mod Moves
 pub mod Pages
 pub mod PageLemmas
 pub mod Paging
+pub mod Growing
 pub mod Inner

@@ -34,6 +34,7 @@ empty_line = record new_field { limit = Some 80 }
 abbrev pub started : List (List ℕ) → List ℕ → List ℕ → Size → Pager
 started lines name pattern size = record {
   document = lines;
+  has_more = false;
   styles = [];
   whole = None;
   numbers = [];

@@ -136,12 +136,17 @@ per_cent p = if length p.document == 0 then 100 else last_shown p * 100 / length
 abbrev pub filter_text : Pager → List ℕ
 filter_text p = if is_some p.whole then codes " filtered" else []
 
+-- how many lines are known, as `/100 23%`; or, while more may come, `/100+`
+abbrev pub count_text : Pager → List ℕ
+count_text p =
+    codes "/" ++ decimal (length p.document)
+    ++ (if p.has_more then codes "+" else codes " " ++ decimal (per_cent p) ++ codes "%")
+
 -- the place, as ` 1-23/100 23%`, and ` filtered` where some lines are hidden
 abbrev pub place_text : Pager → List ℕ
 place_text p =
     codes " " ++ decimal (first_shown p) ++ codes "-" ++ decimal (last_shown p)
-    ++ codes "/" ++ decimal (length p.document)
-    ++ codes " " ++ decimal (per_cent p) ++ codes "%" ++ filter_text p
+    ++ count_text p ++ filter_text p
 
 -- how many bytes the first lines of a text take, with one for the end of each
 unfoldable pub bytes_before : List (List ℕ) → ℕ → ℕ

@@ -1,7 +1,7 @@
 //! A text by its lines.
 
 ghost use Rattle.std.specs.Prelude.{◌≡◌, ◌≤◌, ◌-◌, ◌^◌, [], length, map, min, slice_get, slice_index_or};
-ghost use Rattle.std.specs.Prelude.{◌<◌, ◌∷◌, ◌++◌, if◌then◌else◌, option_map, IfOk, OnOk};
+ghost use Rattle.std.specs.Prelude.{◌<◌, ◌∷◌, ◌++◌, if◌then◌else◌, option_map, take, IfOk, OnOk, OnErr};
 ghost use Rattle.std.specs.Str.Lines.{lines};
 ghost use Rattle.pager.specs.Search.{numbered_line, matching, picked};
 ghost use Rattle.pager.specs.Pages.{bytes_before};
@@ -94,6 +94,30 @@ impl<'a> Document<'a> {
             return Err(TextError::Lines);
         }
         Ok(Document { lines })
+    }
+
+    /// Appends the lines of a text.
+    ///
+    /// # Errors
+    ///
+    /// `AllocError` if memory is refused, or if there would be more than `u32::MAX` lines; nothing
+    /// has changed then.
+    pub fn extend(&mut self, text: &'a str) -> Result<(), AllocError>
+        ensures ok { OnOk result (self.new ≡ self.old ++ lines text.now) }
+        ensures err { OnErr result (self.new ≡ self.old) }
+    {
+        let more = collected(self.allocator(), text)?;
+        if more.len() > 0xffff_ffff - self.lines.len() {
+            return Err(AllocError);
+        }
+        self.lines.extend_from_slice(more.as_slice())
+    }
+
+    /// Keeps so many first lines.
+    pub fn truncate(&mut self, count: usize)
+        ensures { self.new ≡ take count self.old }
+    {
+        self.lines.truncate(count);
     }
 
     /// Returns what the list of lines takes its memory from.

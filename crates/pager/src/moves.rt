@@ -11,14 +11,14 @@ use crate::typing::empty_line;
 
 impl<'a> Pager<'a> {
     // Half of the rows of a page.
-    fn half_page(&self) -> u32
+    pub(crate) fn half_page(&self) -> u32
         ensures { result ≡ half_page self.now }
     {
         (self.page_rows() / 2).max(1)
     }
 
     // The number that was typed, or else another one.
-    fn or_number(&self, other: u32) -> u32
+    pub(crate) fn or_number(&self, other: u32) -> u32
         ensures { result ≡ or_number other self.now }
     {
         if self.number == 0 { other } else { self.number }

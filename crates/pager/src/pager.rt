@@ -67,6 +67,8 @@ pub(crate) const MARKS: usize = 53;
 pub struct Pager<'a> {
     /// The lines of the text.
     pub(crate) document: Document<'a>,
+    /// Whether lines may come after those that are known.
+    pub(crate) has_more: bool,
     /// The styles of all lines.
     pub(crate) styles: Styles,
     /// All lines while only some of them are shown, and the numbers of those that are.
@@ -117,6 +119,7 @@ impl<'a> Pager<'a> {
         let alloc = document.allocator();
         Pager {
             document,
+            has_more: false,
             styles: Styles::new(alloc),
             whole: None,
             numbers: Numbers::new(alloc),
@@ -293,7 +296,7 @@ impl<'a> Pager<'a> {
     }
 
     // Takes an event. Only what is typed takes memory, and a search and a filter that begin.
-    fn hear(&mut self, event: Event) -> Result<(), AllocError>
+    pub(crate) fn hear(&mut self, event: Event) -> Result<(), AllocError>
         ensures ok { OnOk result (self.new ≡ updated self.old event) }
         ensures err { OnErr result (self.new ≡ self.old) }
     {

@@ -46,36 +46,33 @@ pub(crate) fn has_match(pattern: &str, line: &str) -> bool
 }
 
 impl<'a> Pager<'a> {
-    // Whether a line has what is sought.
-    fn has_match(&self, line: u32) -> bool
-        ensures { result ≡ has_match self.now.pattern (numbered_line self.now.document line) }
+    // Whether a line has a text in it.
+    fn has_match(&self, pattern: &str, line: u32) -> bool
+        ensures { result ≡ has_match pattern.now (numbered_line self.now.document line) }
     {
-        has_match(
-            self.pattern.as_str(),
-            self.document.line_or_empty(u64::from(line)),
-        )
+        has_match(pattern, self.document.line_or_empty(u64::from(line)))
     }
 
-    // The first line from one on that has what is sought.
-    fn next_match(&self, from: u64) -> Option<u32>
-        ensures { result ≡ next_match self.now.pattern self.now.document from }
+    // The first line from one on that has a text in it.
+    pub(crate) fn next_match(&self, pattern: &str, from: u64) -> Option<u32>
+        ensures { result ≡ next_match pattern.now self.now.document from }
     {
         for line in from..u64::from(self.document.len()) {
-            if self.has_match(line as u32) {
+            if self.has_match(pattern, line as u32) {
                 return Some(line as u32);
             }
         }
         None
     }
 
-    // The last line before one that has what is sought.
-    fn last_match(&self, before: u32) -> Option<u32>
-        ensures { result ≡ last_match self.now.pattern self.now.document before }
+    // The last line before one that has a text in it.
+    pub(crate) fn last_match(&self, pattern: &str, before: u32) -> Option<u32>
+        ensures { result ≡ last_match pattern.now self.now.document before }
     {
         let mut line = before;
         while line > 0 {
             line -= 1;
-            if self.has_match(line) {
+            if self.has_match(pattern, line) {
                 return Some(line);
             }
         }
@@ -100,7 +97,7 @@ impl<'a> Pager<'a> {
     fn seek_from(&mut self, from: u64)
         ensures { self.new ≡ sought_from from self.old }
     {
-        let found = self.next_match(from);
+        let found = self.next_match(self.pattern.as_str(), from);
         self.go_to_found(found);
     }
 
@@ -108,12 +105,12 @@ impl<'a> Pager<'a> {
     fn seek_before(&mut self, before: u32)
         ensures { self.new ≡ sought_before before self.old }
     {
-        let found = self.last_match(before);
+        let found = self.last_match(self.pattern.as_str(), before);
         self.go_to_found(found);
     }
 
     // The line after the one that was found last, or after the first one of the page.
-    fn after_found(&self) -> u64
+    pub(crate) fn after_found(&self) -> u64
         ensures { result ≡ after_found self.now.found self.now.top }
     {
         match self.found {
@@ -123,7 +120,7 @@ impl<'a> Pager<'a> {
     }
 
     // The line that was found last, or the first one of the page.
-    fn before_found(&self) -> u32
+    pub(crate) fn before_found(&self) -> u32
         ensures { result ≡ before_found self.now.found self.now.top }
     {
         match self.found {
@@ -142,6 +139,17 @@ impl<'a> Pager<'a> {
         } else {
             let after = self.after_found();
             self.seek_from(after);
+        }
+    }
+
+    // What the search that is typed seeks.
+    pub(crate) fn next_pattern(&self) -> &str
+        ensures { result.now ≡ (with_pattern self.now).pattern }
+    {
+        if self.has_typed() {
+            self.typed.text()
+        } else {
+            self.pattern.as_str()
         }
     }
 

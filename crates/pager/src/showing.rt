@@ -4,10 +4,11 @@ ghost use Rattle.std.specs.Prelude.{IfOk, IfErr, OnOk};
 ghost use Rattle.ratatui_acts.specs.Seats.{seated};
 ghost use Rattle.pager.specs.Paging.{OpensPaging, IsPaged, StopsPaging};
 
+use crate::growing::Growing;
 use crate::pager::Pager;
-use ratatui_acts::{Nothing, Seat};
+use ratatui_acts::{Nothing, Outside, Seat};
 use ratatui_ansi::{AnsiBackend, AnsiError};
-use ratatui_app::{Left, run_and_leave};
+use ratatui_app::{Left, OnGlass, run_and_leave};
 use ratatui_core::layout::Size;
 use ratatui_core::terminal::TerminalError;
 use ratatui_reads::Source;
@@ -55,4 +56,31 @@ pub fn show<S: Source, W: Write + Drop>(
         Err(error) => return Err(TerminalError::Backend(error)),
     };
     run_and_leave(alloc, source, &mut Nothing, has_ticks, backend, seat)
+}
+
+/// Moves a pager of a text that grows as [`show`] does; the text's pieces come from outside.
+///
+/// # Errors
+///
+/// Those of [`show`], and the run stops where no piece can be given.
+pub fn show_growing<
+    'a,
+    S: Source,
+    O: Outside<Growing<'a>, OnGlass<W>>,
+    W: Write + Drop,
+>(
+    alloc: Global,
+    size: Size,
+    source: &mut S,
+    pieces: &mut O,
+    has_ticks: bool,
+    writer: W,
+    seat: &mut Seat<Growing<'a>>,
+) -> Result<Left<W>, TerminalError<AnsiError>>
+{
+    let backend = match open(alloc, size, writer) {
+        Ok(backend) => backend,
+        Err(error) => return Err(TerminalError::Backend(error)),
+    };
+    run_and_leave(alloc, source, pieces, has_ticks, backend, seat)
 }

@@ -6,8 +6,8 @@ ghost use Rattle.ratatui_core.specs.Buffer.{IsReadyAt, IsReadyFrom, IsSettledBuf
 ghost use Rattle.ratatui_core.specs.Widgets.{ChangesWithin};
 ghost use Rattle.widget_boxes.specs.Boxes.{IsBoxArea};
 ghost use Rattle.pager.specs.Symbols.{reversed};
-ghost use Rattle.pager.specs.Pages.{first_shown, last_shown, per_cent, filter_text, place_text, byte_count};
-ghost use Rattle.pager.specs.Pages.{details_text};
+ghost use Rattle.pager.specs.Pages.{first_shown, last_shown, per_cent, filter_text, count_text, place_text};
+ghost use Rattle.pager.specs.Pages.{byte_count, details_text};
 ghost use Rattle.pager.specs.Pages.{note_name, note_text, first_part, second_part, PaintsText, PaintsStatus};
 
 use crate::pager::{Mode, Note, Pager};
@@ -59,6 +59,25 @@ impl<'a> Pager<'a> {
         }
     }
 
+    // How many lines are known, and how many of a hundred parts of them end with the page.
+    fn count_text(&self) -> ArrayString<40>
+        ensures text { result.bytes ≡ count_text self.now }
+        ensures short { length result.bytes ≤ 40 }
+    {
+        let mut digits = Digits::new();
+        let mut text = ArrayString::new();
+        text.push_str("/");
+        text.push_str(digits.format(self.document.len()));
+        if self.has_more {
+            text.push_str("+");
+        } else {
+            text.push_str(" ");
+            text.push_str(digits.format(self.per_cent()));
+            text.push_str("%");
+        }
+        text
+    }
+
     // The place, as it is shown.
     fn place_text(&self) -> ArrayString<100>
         ensures { result.bytes ≡ place_text self.now }
@@ -69,11 +88,7 @@ impl<'a> Pager<'a> {
         text.push_str(digits.format(self.first_shown()));
         text.push_str("-");
         text.push_str(digits.format(self.last_shown()));
-        text.push_str("/");
-        text.push_str(digits.format(self.document.len()));
-        text.push_str(" ");
-        text.push_str(digits.format(self.per_cent()));
-        text.push_str("%");
+        text.push_str(self.count_text().as_str());
         text.push_str(self.filter_text());
         text
     }

@@ -1,6 +1,8 @@
 //! The styles of a text, line by line.
 
-ghost use Rattle.std.specs.Prelude.{◌≡◌, [], ◌∷◌, ◌++◌, option_map, slice_get, OnOk, OnErr};
+ghost use Rattle.std.specs.Prelude.{◌≡◌, [], ◌∷◌, ◌++◌, ◌-◌, length, replicate, take, option_map, slice_get};
+ghost use Rattle.std.specs.Prelude.{IfOk, OnOk, OnErr};
+ghost use Rattle.pager.specs.Growing.{more_styles};
 ghost use Rattle.pager.specs.Pages.{line_runs};
 
 use ratatui_core::style::Style;
@@ -57,6 +59,50 @@ impl Styles {
     {
         self.lines.push(Runs { runs })?;
         Ok(())
+    }
+
+    /// Returns how many lines have runs, which may be none, or stand before one that has.
+    pub fn len(&self) -> usize
+        ensures { result ≡ length self.now }
+    {
+        self.lines.len()
+    }
+
+    // As many lines without runs as are missing up to a count, and then these lines.
+    fn behind(&self, count: usize, more: Styles) -> Result<Styles, AllocError>
+        ensures { IfOk result (λ all. all ≡ replicate (count - length self.now) [] ++ more.entry) }
+    {
+        let alloc = *self.lines.allocator();
+        let mut all = Styles::new(alloc);
+        for _ in self.lines.len()..count {
+            all.push(Vec::new(alloc))?;
+        }
+        let mut lines = more.lines;
+        all.lines.append(&mut lines)?;
+        Ok(all)
+    }
+
+    /// Appends the runs of the lines that come after so many first ones.
+    ///
+    /// # Errors
+    ///
+    /// `AllocError` if memory is refused; nothing has changed then.
+    pub fn extend(&mut self, count: usize, more: Styles) -> Result<(), AllocError>
+        ensures ok { OnOk result (self.new ≡ more_styles count self.old more.entry) }
+        ensures err { OnErr result (self.new ≡ self.old) }
+    {
+        if more.lines.is_empty() {
+            return Ok(());
+        }
+        let mut all = self.behind(count, more)?;
+        self.lines.append(&mut all.lines)
+    }
+
+    /// Keeps the runs of so many first lines.
+    pub fn truncate(&mut self, count: usize)
+        ensures { self.new ≡ take count self.old }
+    {
+        self.lines.truncate(count);
     }
 
     // The runs of a line by its number, if it has any.

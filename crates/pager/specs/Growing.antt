@@ -1,0 +1,184 @@
+-- A text that comes piece by piece while it is shown: what each event needs of it, and what a piece makes of it.
+use Rattle.std.specs.Prelude.{ℕ, Bool, true, false, not, ◌+◌, ◌-◌, ◌*◌, ◌==◌, ◌&&◌, ◌||◌, nat_le, nat_lt, ◌^◌}
+use Rattle.std.specs.Prelude.{if◌then◌else◌, List, [], ◌∷◌, ◌++◌, length, replicate, Option, Some, None, is_some}
+use Rattle.std.specs.Prelude.{◌≡◌, ◌⊎◌, ⊤}
+use Rattle.std.specs.{Str.byte, Str.IsUtf8, Str.Lines.lines, Io.KnownBytes.prepend_known}
+use Rattle.ratatui_events.specs.declared.event.Event.{Event}
+use Rattle.ratatui_reads.specs.Reads.{size_in}
+use Rattle.ratatui_acts.specs.declared.message.Message.{Message}
+use Rattle.ratatui_acts.specs.declared.message.Message.TheVariants as message
+use Rattle.ratatui_acts.specs.Turns.{ActingRules}
+use Rattle.pager.specs.declared.pager.Pager.{Pager}
+use Rattle.pager.specs.declared.pager.Mode.{Mode}
+use Rattle.pager.specs.declared.pager.Mode.TheVariants.{Reading, Asking, Filtering, Returning}
+use Rattle.pager.specs.declared.answer.Answer.{Answer}
+use Rattle.pager.specs.declared.answer.Answer.TheVariants.{Search}
+use Rattle.pager.specs.declared.command.Command.{Command}
+use Rattle.pager.specs.declared.command.Command.TheVariants.{Down, PageDown, HalfDown, WheelDown, ToStart, ToEnd}
+use Rattle.pager.specs.declared.command.Command.TheVariants.{ToPart, Details, Next, Previous, Quit}
+use Rattle.pager.specs.declared.piece.{More.More, Piece.Piece}
+use Rattle.pager.specs.declared.growing.{Growing.Growing, Waiting.Waiting}
+use Rattle.pager.specs.declared.styles.Run.{Run}
+use Rattle.pager.specs.Keys.{event_command, event_answer, event_mark}
+use Rattle.pager.specs.Parted.{has_signs}
+use Rattle.pager.specs.Search.{next_match, last_match}
+use Rattle.pager.specs.Places.{page_rows}
+use Rattle.pager.specs.Moves.{or_number, half_page, after_found, before_found, with_pattern, marked_line, updated}
+
+-- ---- how many lines an event needs
+
+-- more lines than a text can have: whoever needs so many needs all
+abbrev pub every_line : ℕ
+every_line = 2 ^ 32
+
+-- the lines through the page that begins at a line, and one line after it
+abbrev pub lines_through : ℕ → Pager → ℕ
+lines_through line p = line + page_rows p + 1
+
+-- what the page needs that is shown
+abbrev pub page_needs : Pager → ℕ
+page_needs p = lines_through p.top p
+
+-- what a move needs by so many rows further, or by the number
+abbrev pub further_needs : ℕ → Pager → ℕ
+further_needs n p = lines_through (p.top + or_number n p) p
+
+-- what a search needs that finds a line, or else finds none
+abbrev pub match_needs : ℕ → Pager → Option ℕ → ℕ
+match_needs other p (Some k) = lines_through k p
+match_needs other p None = other
+
+-- a search back needs no line that isn't known; a search further needs twice as many as are known, unless it finds
+-- one of these
+abbrev pub search_needs : Bool → List ℕ → ℕ → Pager → ℕ
+search_needs true pattern k p = match_needs 0 p (last_match pattern p.document k)
+search_needs false pattern k p = match_needs (2 * length p.document + 1) p (next_match pattern p.document k)
+
+-- what a search needs that goes on
+abbrev pub next_needs : Bool → Pager → ℕ
+next_needs true p = search_needs true p.pattern (before_found p.found p.top) p
+next_needs false p = search_needs false p.pattern (after_found p.found p.top) p
+
+-- what a command needs: nothing to leave, and else at least the page
+abbrev pub command_needs : Command → Pager → ℕ
+command_needs Down p = further_needs 1 p
+command_needs PageDown p = further_needs (page_rows p) p
+command_needs HalfDown p = further_needs (half_page p) p
+command_needs WheelDown p = further_needs 3 p
+command_needs ToStart p = lines_through (or_number 1 p - 1) p
+command_needs ToEnd p = if p.number == 0 then every_line else lines_through (p.number - 1) p
+command_needs ToPart p = every_line
+command_needs Details p = every_line
+command_needs Next p = next_needs p.is_back p
+command_needs Previous p = next_needs (not p.is_back) p
+command_needs Quit p = 0
+command_needs _ p = page_needs p
+
+-- what is typed needs nothing, until a filter or a search is taken
+abbrev pub answer_needs : Mode → Answer → Pager → ℕ
+answer_needs Filtering Search p = every_line
+answer_needs _ Search p = search_needs p.is_back (with_pattern p).pattern p.top p
+answer_needs _ _ p = 0
+
+-- what a jump to a mark needs
+abbrev pub mark_needs : Pager → Option ℕ → ℕ
+mark_needs p (Some line) = lines_through line p
+mark_needs p None = 0
+
+abbrev pub mode_needs : Mode → Event → Pager → ℕ
+mode_needs Reading event p = command_needs (event_command event) p
+mode_needs Asking event p = answer_needs Asking (event_answer event) p
+mode_needs Filtering event p = answer_needs Filtering (event_answer event) p
+mode_needs Returning event p = mark_needs p (marked_line (event_mark event) p)
+mode_needs _ event p = 0
+
+-- a new size needs the page in it
+abbrev pub size_needs : Option (ℕ × ℕ) → Event → Pager → ℕ
+size_needs (Some size) event p = page_needs (record p { rows = size.1 })
+size_needs None event p = mode_needs p.mode event p
+
+-- how many lines must be known before an event can be taken
+abbrev pub event_needs : Pager → Event → ℕ
+event_needs p event = size_needs (size_in event) event p
+
+-- so many lines are known, or all
+abbrev pub knows : ℕ → Pager → Bool
+knows n p = not p.has_more || nat_le n (length p.document)
+
+-- ---- what a piece makes of a text
+
+-- the runs of styles of so many lines, and then those of more
+abbrev pub more_styles : ℕ → List (List Run) → List (List Run) → List (List Run)
+more_styles count styles [] = styles
+more_styles count styles (r ∷ rs) = styles ++ (replicate (count - length styles) [] ++ r ∷ rs)
+
+-- a pager that knows the lines of a piece, too
+abbrev pub grown : Piece → Pager → Pager
+grown piece p = record p {
+  document = p.document ++ lines piece.text.now;
+  styles = more_styles (length p.document) p.styles piece.styles;
+  has_more = not piece.is_last;
+}
+
+-- an event is taken if what it needs is known; else it waits
+abbrev pub heard : Event → Pager → Growing
+heard event p =
+    if knows (event_needs p event) p then record { pager = updated p event; waiting = None }
+    else record { pager = p; waiting = Some (record { event = event; lines = event_needs p event }) }
+
+-- an event that waits is looked at again once so many lines are known
+abbrev pub resumed : Option Waiting → Pager → Growing
+resumed (Some w) p = if knows w.lines p then heard w.event p else record { pager = p; waiting = Some w }
+resumed None p = record { pager = p; waiting = None }
+
+-- while an event waits no other one is taken
+abbrev pub told_event : Option Waiting → Event → Growing → Growing
+told_event (Some w) event g = g
+told_event None event g = heard event g.pager
+
+-- events move a pager, and pieces make its text grow
+unfoldable pub grown_after : Growing → Message Piece → Growing
+grown_after g (message.Event event) = told_event g.waiting event g
+grown_after g (message.Tick passed) = g
+grown_after g (message.Answer piece) = resumed g.waiting (grown piece g.pager)
+
+-- the next piece is asked for while an event waits, or the page needs more lines than are known
+abbrev pub asks_more : Growing → Bool
+asks_more g = g.pager.has_more && (is_some g.waiting || nat_lt (length g.pager.document) (page_needs g.pager))
+
+abbrev pub asked_of : Growing → Option More
+asked_of g = if asks_more g then Some (record {}) else None
+
+-- a pager of a text that grows, as a state that asks for pieces
+abbrev pub growing : ActingRules Growing More Piece
+growing = record { updated = grown_after; asked = asked_of; is_over = λ g. g.pager.is_over }
+
+-- ---- pieces of what a reader gives
+
+-- bytes are whole lines: there are none, or the last one is a line's end
+abbrev pub AreWholeLines : List ℕ → Type 0
+AreWholeLines raw = (raw ≡ []) ⊎ ((front : List ℕ) × (raw ≡ front ++ byte "\n" ∷ []))
+
+-- a piece of these bytes: they stand in it as they are, in no style, if they are UTF-8 without an escape or a
+-- backspace
+pub record IsPieceOf (raw : List ℕ) (piece : Piece) : Type 0 where
+  pub text : IsUtf8 raw → has_signs raw ≡ false → piece.text.now ≡ raw
+  pub plain : IsUtf8 raw → has_signs raw ≡ false → piece.styles ≡ []
+
+-- a piece of the first bytes, which are whole lines, unless none is left after them; and the last piece is all
+pub record GivesPiece (before : List ℕ) (piece : Piece) (after : List ℕ) : Type 0 where
+  pub raw : List ℕ
+  pub is : IsPieceOf raw piece
+  pub first : before ≡ raw ++ after
+  pub whole : piece.is_last ≡ false → AreWholeLines raw
+  pub all : piece.is_last ≡ true → after ≡ []
+
+-- what is still to be given: what was read and is kept, and then what a reader has left, if that is known
+abbrev pub to_come : List ℕ → Option (List ℕ) → Option (List ℕ)
+to_come rest left = prepend_known rest left
+
+-- so it is given, where bytes are known
+abbrev pub GivesKnownPiece : Option (List ℕ) → Piece → Option (List ℕ) → Type 0
+GivesKnownPiece None piece after = ⊤
+GivesKnownPiece (Some before) piece None = ⊥
+GivesKnownPiece (Some before) piece (Some after) = GivesPiece before piece after

@@ -1,0 +1,179 @@
+//! How many lines an event needs.
+
+ghost use Rattle.std.specs.Prelude.{◌≡◌, ◌<◌, ◌≤◌, ◌+◌, ◌^◌};
+ghost use Rattle.pager.specs.Moves.{with_pattern};
+ghost use Rattle.pager.specs.Growing.{lines_through, page_needs, further_needs, match_needs, search_needs};
+ghost use Rattle.pager.specs.Growing.{next_needs, command_needs, answer_needs, mark_needs, mode_needs};
+ghost use Rattle.pager.specs.Growing.{event_needs, knows};
+
+use crate::answer::{Answer, answer_of, mark_of};
+use crate::command::{Command, command_of};
+use crate::pager::{Mode, Pager};
+use ratatui_events::Event;
+use ratatui_reads::size_in;
+
+/// More lines than a text can have: whoever needs so many needs all.
+const EVERY_LINE: u64 = 1 << 32;
+
+impl<'a> Pager<'a> {
+    // The lines through the page that begins at a line, and one line after it.
+    fn lines_through(&self, line: u64) -> u64
+        requires { line < 9223372036854775808 }
+        ensures { result ≡ lines_through line self.now }
+    {
+        line + u64::from(self.page_rows()) + 1
+    }
+
+    // How many lines the page needs.
+    pub(crate) fn page_needs(&self) -> u64
+        ensures { result ≡ page_needs self.now }
+    {
+        self.lines_through(u64::from(self.top))
+    }
+
+    // How many lines a move needs by so many rows further, or by the number.
+    fn further_needs(&self, rows: u32) -> u64
+        ensures { result ≡ further_needs rows self.now }
+    {
+        self.lines_through(u64::from(self.top) + u64::from(self.or_number(rows)))
+    }
+
+    // How many lines a search needs that finds a line, or else finds none.
+    fn match_needs(&self, other: u64, found: Option<u32>) -> u64
+        ensures { result ≡ match_needs other self.now found }
+    {
+        match found {
+            Some(line) => self.lines_through(u64::from(line)),
+            None => other,
+        }
+    }
+
+    // How many lines a search needs back from a line.
+    fn back_needs(&self, pattern: &str, line: u32) -> u64
+        ensures { result ≡ search_needs true pattern.now line self.now }
+    {
+        let found = self.last_match(pattern, line);
+        self.match_needs(0, found)
+    }
+
+    // How many lines a search needs further from a line.
+    fn on_needs(&self, pattern: &str, line: u64) -> u64
+        ensures { result ≡ search_needs false pattern.now line self.now }
+    {
+        let found = self.next_match(pattern, line);
+        self.match_needs(2 * u64::from(self.document.len()) + 1, found)
+    }
+
+    // How many lines a search needs that goes on.
+    fn next_needs(&self, is_back: bool) -> u64
+        ensures { result ≡ next_needs is_back self.now }
+    {
+        if is_back {
+            self.back_needs(self.pattern.as_str(), self.before_found())
+        } else {
+            self.on_needs(self.pattern.as_str(), self.after_found())
+        }
+    }
+
+    // How many lines the search needs that is typed.
+    fn typed_needs(&self) -> u64
+        ensures { result ≡ search_needs self.now.is_back (with_pattern self.now).pattern
+            self.now.top self.now }
+    {
+        let pattern = self.next_pattern();
+        if self.is_back {
+            self.back_needs(pattern, self.top)
+        } else {
+            self.on_needs(pattern, u64::from(self.top))
+        }
+    }
+
+    // How many lines the way to the end needs, or to the line of the number.
+    fn end_needs(&self) -> u64
+        ensures { result ≡ command_needs Command.ToEnd self.now }
+    {
+        if self.number == 0 {
+            EVERY_LINE
+        } else {
+            self.lines_through(u64::from(self.number - 1))
+        }
+    }
+
+    // How many lines a command needs.
+    fn command_needs(&self, command: Command) -> u64
+        ensures { result ≡ command_needs command self.now }
+    {
+        match command {
+            Command::Down => self.further_needs(1),
+            Command::PageDown => self.further_needs(self.page_rows()),
+            Command::HalfDown => self.further_needs(self.half_page()),
+            Command::WheelDown => self.further_needs(3),
+            Command::ToStart => {
+                self.lines_through(u64::from(self.or_number(1).saturating_sub(1)))
+            }
+            Command::ToEnd => self.end_needs(),
+            Command::ToPart | Command::Details => EVERY_LINE,
+            Command::Next => self.next_needs(self.is_back),
+            Command::Previous => self.next_needs(!self.is_back),
+            Command::Quit => 0,
+            _ => self.page_needs(),
+        }
+    }
+
+    // How many lines an answer needs while a search or a filter is typed.
+    fn answer_needs(&self, answer: Answer) -> u64
+        ensures { result ≡ answer_needs self.now.mode answer self.now }
+    {
+        match (self.mode, answer) {
+            (Mode::Filtering, Answer::Search) => EVERY_LINE,
+            (_, Answer::Search) => self.typed_needs(),
+            _ => 0,
+        }
+    }
+
+    // How many lines a jump to a mark needs.
+    fn mark_needs(&self, line: Option<u32>) -> u64
+        ensures { result ≡ mark_needs self.now line }
+    {
+        match line {
+            Some(line) => self.lines_through(u64::from(line)),
+            None => 0,
+        }
+    }
+
+    // How many lines an event needs that tells no size.
+    fn mode_needs(&self, event: Event) -> u64
+        ensures { result ≡ mode_needs self.now.mode event self.now }
+    {
+        match self.mode {
+            Mode::Reading => self.command_needs(command_of(event)),
+            Mode::Asking | Mode::Filtering => self.answer_needs(answer_of(event)),
+            Mode::Returning => self.mark_needs(self.marked_line(mark_of(event))),
+            _ => 0,
+        }
+    }
+
+    // How many lines the page needs that begins where this one does, on so many rows.
+    fn size_needs(&self, rows: u16) -> u64
+        ensures { result ≡ page_needs (record self.now { rows = rows }) }
+    {
+        u64::from(self.top) + u64::from(rows.saturating_sub(1).max(1)) + 1
+    }
+
+    // How many lines must be known before an event can be taken.
+    pub(crate) fn event_needs(&self, event: Event) -> u64
+        ensures { result ≡ event_needs self.now event }
+    {
+        match size_in(event) {
+            Some((_, rows)) => self.size_needs(rows),
+            None => self.mode_needs(event),
+        }
+    }
+
+    // Whether so many lines are known, or all.
+    pub(crate) fn knows(&self, lines: u64) -> bool
+        ensures { result ≡ knows lines self.now }
+    {
+        !self.has_more || lines <= u64::from(self.document.len())
+    }
+}
