@@ -10,3 +10,8 @@ pub mod PastLemmas
 pub mod MeetLemmas
 pub mod BrokenLemmas
 pub mod LeaveLemmas
+pub mod LinesLemmas
+pub mod PieceLemmas
+pub mod GrowLemmas
+pub mod KnownLemmas
+pub mod NeedsLemmas

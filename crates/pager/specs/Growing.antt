@@ -1,5 +1,5 @@
 -- A text that comes piece by piece while it is shown: what each event needs of it, and what a piece makes of it.
-use Rattle.std.specs.Prelude.{ℕ, Bool, true, false, not, ◌+◌, ◌-◌, ◌*◌, ◌==◌, ◌&&◌, ◌||◌, nat_le, nat_lt, ◌^◌}
+use Rattle.std.specs.Prelude.{ℕ, Bool, true, false, not, ◌+◌, ◌-◌, ◌*◌, ◌==◌, ◌&&◌, ◌||◌, nat_le, nat_lt, max}
 use Rattle.std.specs.Prelude.{if◌then◌else◌, List, [], ◌∷◌, ◌++◌, length, replicate, Option, Some, None, is_some}
 use Rattle.std.specs.Prelude.{◌≡◌, ◌⊎◌, ⊤}
 use Rattle.std.specs.{Str.byte, Str.IsUtf8, Str.Lines.lines, Io.KnownBytes.prepend_known}
@@ -27,9 +27,9 @@ use Rattle.pager.specs.Moves.{or_number, half_page, after_found, before_found, w
 
 -- ---- how many lines an event needs
 
--- more lines than a text can have: whoever needs so many needs all
-abbrev pub every_line : ℕ
-every_line = 2 ^ 32
+-- one line more than are known: whoever needs so many needs all
+abbrev pub every_line : Pager → ℕ
+every_line p = length p.document + 1
 
 -- the lines through the page that begins at a line, and one line after it
 abbrev pub lines_through : ℕ → Pager → ℕ
@@ -48,10 +48,10 @@ abbrev pub match_needs : ℕ → Pager → Option ℕ → ℕ
 match_needs other p (Some k) = lines_through k p
 match_needs other p None = other
 
--- a search back needs no line that isn't known; a search further needs twice as many as are known, unless it finds
--- one of these
+-- a search back needs the lines before its first one; a search further needs twice as many as are known, unless it
+-- finds one of these
 abbrev pub search_needs : Bool → List ℕ → ℕ → Pager → ℕ
-search_needs true pattern k p = match_needs 0 p (last_match pattern p.document k)
+search_needs true pattern k p = max k (match_needs 0 p (last_match pattern p.document k))
 search_needs false pattern k p = match_needs (2 * length p.document + 1) p (next_match pattern p.document k)
 
 -- what a search needs that goes on
@@ -66,9 +66,9 @@ command_needs PageDown p = further_needs (page_rows p) p
 command_needs HalfDown p = further_needs (half_page p) p
 command_needs WheelDown p = further_needs 3 p
 command_needs ToStart p = lines_through (or_number 1 p - 1) p
-command_needs ToEnd p = if p.number == 0 then every_line else lines_through (p.number - 1) p
-command_needs ToPart p = every_line
-command_needs Details p = every_line
+command_needs ToEnd p = if p.number == 0 then every_line p else lines_through (p.number - 1) p
+command_needs ToPart p = every_line p
+command_needs Details p = every_line p
 command_needs Next p = next_needs p.is_back p
 command_needs Previous p = next_needs (not p.is_back) p
 command_needs Quit p = 0
@@ -76,7 +76,7 @@ command_needs _ p = page_needs p
 
 -- what is typed needs nothing, until a filter or a search is taken
 abbrev pub answer_needs : Mode → Answer → Pager → ℕ
-answer_needs Filtering Search p = every_line
+answer_needs Filtering Search p = every_line p
 answer_needs _ Search p = search_needs p.is_back (with_pattern p).pattern p.top p
 answer_needs _ _ p = 0
 
@@ -104,6 +104,11 @@ event_needs p event = size_needs (size_in event) event p
 -- so many lines are known, or all
 abbrev pub knows : ℕ → Pager → Bool
 knows n p = not p.has_more || nat_le n (length p.document)
+
+-- a pager that knows more lines, in these styles, after which more may come or not
+abbrev pub with_more : List (List ℕ) → List (List Run) → Bool → Pager → Pager
+with_more more styles has_more p =
+    record p { document = p.document ++ more; styles = styles; has_more = has_more }
 
 -- ---- what a piece makes of a text
 

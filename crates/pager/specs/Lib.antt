@@ -8,4 +8,5 @@ pub mod Pages
 pub mod PageLemmas
 pub mod Paging
 pub mod Growing
+pub mod GrowingRuns
 pub mod Inner

@@ -1,8 +1,8 @@
 //! How many lines an event needs.
 
-ghost use Rattle.std.specs.Prelude.{◌≡◌, ◌<◌, ◌≤◌, ◌+◌, ◌^◌};
+ghost use Rattle.std.specs.Prelude.{◌≡◌, ◌<◌, true, false};
 ghost use Rattle.pager.specs.Moves.{with_pattern};
-ghost use Rattle.pager.specs.Growing.{lines_through, page_needs, further_needs, match_needs, search_needs};
+ghost use Rattle.pager.specs.Growing.{every_line, lines_through, page_needs, further_needs, match_needs, search_needs};
 ghost use Rattle.pager.specs.Growing.{next_needs, command_needs, answer_needs, mark_needs, mode_needs};
 ghost use Rattle.pager.specs.Growing.{event_needs, knows};
 
@@ -12,10 +12,14 @@ use crate::pager::{Mode, Pager};
 use ratatui_events::Event;
 use ratatui_reads::size_in;
 
-/// More lines than a text can have: whoever needs so many needs all.
-const EVERY_LINE: u64 = 1 << 32;
-
 impl<'a> Pager<'a> {
+    // One line more than are known: whoever needs so many needs all.
+    fn every_line(&self) -> u64
+        ensures { result ≡ every_line self.now }
+    {
+        u64::from(self.document.len()) + 1
+    }
+
     // The lines through the page that begins at a line, and one line after it.
     fn lines_through(&self, line: u64) -> u64
         requires { line < 9223372036854775808 }
@@ -53,7 +57,7 @@ impl<'a> Pager<'a> {
         ensures { result ≡ search_needs true pattern.now line self.now }
     {
         let found = self.last_match(pattern, line);
-        self.match_needs(0, found)
+        self.match_needs(0, found).max(u64::from(line))
     }
 
     // How many lines a search needs further from a line.
@@ -93,7 +97,7 @@ impl<'a> Pager<'a> {
         ensures { result ≡ command_needs Command.ToEnd self.now }
     {
         if self.number == 0 {
-            EVERY_LINE
+            self.every_line()
         } else {
             self.lines_through(u64::from(self.number - 1))
         }
@@ -112,7 +116,7 @@ impl<'a> Pager<'a> {
                 self.lines_through(u64::from(self.or_number(1).saturating_sub(1)))
             }
             Command::ToEnd => self.end_needs(),
-            Command::ToPart | Command::Details => EVERY_LINE,
+            Command::ToPart | Command::Details => self.every_line(),
             Command::Next => self.next_needs(self.is_back),
             Command::Previous => self.next_needs(!self.is_back),
             Command::Quit => 0,
@@ -125,7 +129,7 @@ impl<'a> Pager<'a> {
         ensures { result ≡ answer_needs self.now.mode answer self.now }
     {
         match (self.mode, answer) {
-            (Mode::Filtering, Answer::Search) => EVERY_LINE,
+            (Mode::Filtering, Answer::Search) => self.every_line(),
             (_, Answer::Search) => self.typed_needs(),
             _ => 0,
         }

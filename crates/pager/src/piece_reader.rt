@@ -1,8 +1,9 @@
 //! Pieces of what a reader gives.
 
-ghost use Rattle.std.specs.Prelude.{◌≡◌, ◌≤◌, ◌++◌, true, false, length, take, IfOk, OnErr, Option, List, ℕ};
-ghost use Rattle.std.specs.Io.KnownBytes.{Consumes, IsAtEnd};
-ghost use Rattle.pager.specs.Growing.{AreWholeLines, IsPieceOf, GivesKnownPiece, to_come};
+ghost use Rattle.std.specs.Prelude.{◌≡◌, ◌≤◌, true, false, length, take, IfOk};
+ghost use Rattle.std.specs.Prelude.{◌<◌, drop, OnOk};
+ghost use Rattle.std.specs.Io.KnownBytes.{Keeps, IsAtEnd};
+ghost use Rattle.pager.specs.Growing.{AreWholeLines, IsPieceOf, GivesPiece, GivesKnownPiece, to_come};
 
 use crate::growing::Growing;
 use crate::piece::{More, Piece};
@@ -25,8 +26,6 @@ pub struct PieceReader<'a, R> {
     reader: R,
     // Whether no read waits, so that one can be made only to find out whether it is the last one.
     is_file: bool,
-    // Room for a read.
-    buf: Vec<u8>,
     // What was read after the last piece.
     rest: Vec<u8>,
 }
@@ -42,55 +41,61 @@ fn whole_lines(bytes: &[u8], from: usize) -> usize
     ensures most { result ≤ length bytes.now }
     ensures whole { AreWholeLines (take result bytes.now) }
 {
-    let mut end = bytes.len();
-    while end > from {
-        if bytes[end - 1] == b'\n' {
-            return end;
+    let end = bytes.len();
+    for back in 0..end - from {
+        if bytes[end - 1 - back] == b'\n' {
+            return end - back;
         }
-        end -= 1;
     }
     0
 }
 
 impl<'a, R: Read> PieceReader<'a, R> {
     /// Takes a reader. Of a file, whose reads never wait, the last piece is known to be it.
-    ///
-    /// # Errors
-    ///
-    /// `AllocError` if memory is refused.
     pub fn new(
         alloc: Global,
         arena: &'a Bump,
         reader: R,
         is_file: bool,
-    ) -> Result<PieceReader<'a, R>, AllocError>
-    where
-        R: Drop,
-        ensures { IfOk result (λ pieces. to_come pieces.rest (R.remaining pieces.reader)
-            ≡ R.remaining reader.entry) }
+    ) -> PieceReader<'a, R>
+        ensures { to_come result.rest.items (R.remaining result.reader) ≡ R.remaining reader }
     {
-        Ok(PieceReader {
+        PieceReader {
             alloc,
             arena,
             reader,
             is_file,
-            buf: Vec::from_elem(alloc, 0, MANY)?,
             rest: Vec::new(alloc),
-        })
+        }
     }
 
     // Reads once, and keeps what came. Answers how many bytes did.
-    fn read_once(&mut self, room: usize) -> io::Result<usize> {
-        let room = room.min(self.buf.len());
-        let count = self.reader.read(&mut self.buf[..room])?;
+    fn read_once(&mut self, room: usize) -> io::Result<usize>
+        requires { 0 < room }
+        ensures stays { OnOk result (Keeps
+            (to_come self.old.rest.items (R.remaining self.old.reader))
+            (to_come self.new.rest.items (R.remaining self.new.reader))) }
+        ensures end { IfOk result (λ count. count ≡ 0 → IsAtEnd (R.remaining self.new.reader)) }
+        ensures more { OnOk result (length self.old.rest.items ≤ length self.new.rest.items) }
+    {
+        let mut buf = Vec::from_elem(self.alloc, 0u8, room).map_err(no_memory)?;
+        let count = self.reader.read(buf.as_mut_slice())?;
         self.rest
-            .extend_from_slice(&self.buf[..count])
+            .extend_from_slice(&buf[..count])
             .map_err(no_memory)?;
         Ok(count)
     }
 
     // Reads, and keeps what came. Answers whether nothing more comes.
-    fn read_on(&mut self, room: usize) -> io::Result<bool> {
+    fn read_on(&mut self, room: usize) -> io::Result<bool>
+        requires { 0 < room }
+        ensures stays { OnOk result (Keeps
+            (to_come self.old.rest.items (R.remaining self.old.reader))
+            (to_come self.new.rest.items (R.remaining self.new.reader))) }
+        ensures end { IfOk result (λ is_end. is_end ≡ true
+            → IsAtEnd (R.remaining self.new.reader)) }
+        ensures more { OnOk result (length self.old.rest.items ≤ length self.new.rest.items) }
+    {
         let count = self.read_once(room)?;
         if count == 0 {
             return Ok(true);
@@ -98,11 +103,17 @@ impl<'a, R: Read> PieceReader<'a, R> {
         if !self.is_file || count == room {
             return Ok(false);
         }
-        Ok(self.read_once(room)? == 0)
+        let more = self.read_once(room)?;
+        Ok(more == 0)
     }
 
     // Takes so many first bytes from those that were read.
-    fn take_rest(&mut self, count: usize) -> Result<Vec<u8>, AllocError> {
+    fn take_rest(&mut self, count: usize) -> Result<Vec<u8>, AllocError>
+        requires { count ≤ length self.old.rest.items }
+        ensures first { IfOk result (λ first. first.items ≡ take count self.old.rest.items) }
+        ensures after { OnOk result (self.new.rest.items ≡ drop count self.old.rest.items) }
+        ensures reader { OnOk result (self.new.reader ≡ self.old.reader) }
+    {
         let after = Vec::from_slice(self.alloc, &self.rest[count..])?;
         let mut first = mem::replace(&mut self.rest, after);
         first.truncate(count);
@@ -110,7 +121,10 @@ impl<'a, R: Read> PieceReader<'a, R> {
     }
 
     // Makes a piece of bytes, in the arena.
-    fn piece_of(&self, bytes: Vec<u8>, is_last: bool) -> Result<Piece<'a>, AllocError> {
+    fn piece_of(&self, bytes: Vec<u8>, is_last: bool) -> Result<Piece<'a>, AllocError>
+        ensures is { IfOk result (IsPieceOf bytes.items) }
+        ensures last { IfOk result (λ piece. piece.is_last ≡ is_last) }
+    {
         let (text, styles) = parted_text(self.alloc, bytes)?;
         let arena: &'a Bump = self.arena;
         Ok(Piece {
@@ -120,22 +134,50 @@ impl<'a, R: Read> PieceReader<'a, R> {
         })
     }
 
+    // How many bytes the next piece has: the whole lines that were read, and at the end all.
+    fn count_for(&self, is_last: bool, from: usize) -> usize
+        requires { from ≤ length self.now.rest.items }
+        ensures most { result ≤ length self.now.rest.items }
+        ensures whole { is_last ≡ false → AreWholeLines (take result self.now.rest.items) }
+        ensures all { is_last ≡ true → result ≡ length self.now.rest.items }
+    {
+        if is_last {
+            self.rest.len()
+        } else {
+            whole_lines(self.rest.as_slice(), from)
+        }
+    }
+
+    // Gives a piece of what was read, if there is no line's end among so many first bytes of it.
+    fn cut(&mut self, is_last: bool, from: usize) -> Result<Piece<'a>, AllocError>
+        requires { from ≤ length self.old.rest.items }
+        ensures gives { IfOk result (λ piece.
+            GivesPiece self.old.rest.items piece self.new.rest.items) }
+        ensures last { IfOk result (λ piece. piece.is_last ≡ is_last) }
+        ensures reader { OnOk result (self.new.reader ≡ self.old.reader) }
+    {
+        let count = self.count_for(is_last, from);
+        let bytes = self.take_rest(count)?;
+        self.piece_of(bytes, is_last)
+    }
+
     /// Reads, and gives the whole lines that came, which may be none yet; at the end all that is
     /// left.
     ///
     /// # Errors
     ///
     /// If the reader fails, or memory is refused.
-    pub fn next_piece(&mut self, is_many: bool) -> io::Result<Piece<'a>> {
+    pub fn next_piece(&mut self, is_many: bool) -> io::Result<Piece<'a>>
+        ensures { IfOk result (λ piece. GivesKnownPiece
+            (to_come self.old.rest.items (R.remaining self.old.reader)) piece
+            (to_come self.new.rest.items (R.remaining self.new.reader))) }
+    {
         let from = self.rest.len();
         let is_last = self.read_on(if is_many { MANY } else { FEW })?;
-        let count = if is_last {
-            self.rest.len()
-        } else {
-            whole_lines(self.rest.as_slice(), from)
-        };
-        let bytes = self.take_rest(count).map_err(no_memory)?;
-        self.piece_of(bytes, is_last).map_err(no_memory)
+        match self.cut(is_last, from) {
+            Ok(piece) => Ok(piece),
+            Err(error) => Err(no_memory(error)),
+        }
     }
 }
 
@@ -143,8 +185,8 @@ impl<'a, G: Glass<Growing<'a>>, R: Read> Outside<Growing<'a>, G> for PieceReader
     ghost use Rattle.pager.specs.Growing.{GivesKnownPiece, to_come};
 
     ghost answers = { λ before _ piece after. GivesKnownPiece
-        (to_come before.rest (R.remaining before.reader)) piece
-        (to_come after.rest (R.remaining after.reader)) };
+        (to_come before.rest.items (R.remaining before.reader)) piece
+        (to_come after.rest.items (R.remaining after.reader)) };
 
     fn perform(
         &mut self,

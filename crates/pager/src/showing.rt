@@ -3,6 +3,7 @@
 ghost use Rattle.std.specs.Prelude.{IfOk, IfErr, OnOk};
 ghost use Rattle.ratatui_acts.specs.Seats.{seated};
 ghost use Rattle.pager.specs.Paging.{OpensPaging, IsPaged, StopsPaging};
+ghost use Rattle.pager.specs.GrowingRuns.{IsShownGrowing, StopsGrowing};
 
 use crate::growing::Growing;
 use crate::pager::Pager;
@@ -58,11 +59,14 @@ pub fn show<S: Source, W: Write + Drop>(
     run_and_leave(alloc, source, &mut Nothing, has_ticks, backend, seat)
 }
 
-/// Moves a pager of a text that grows as [`show`] does; the text's pieces come from outside.
+/// Moves a pager of a text that grows by what a source gives, as [`show`] does; the pieces of the
+/// text come from outside, where the page or an event needs more lines than are known. At each turn
+/// each terminal that has read what was sent shows the page that the reads and the pieces so far
+/// lead to.
 ///
 /// # Errors
 ///
-/// Those of [`show`], and the run stops where no piece can be given.
+/// Those of [`show`]. The run stops with `Fault::Outside` where no piece can be given.
 pub fn show_growing<
     'a,
     S: Source,
@@ -77,6 +81,12 @@ pub fn show_growing<
     writer: W,
     seat: &mut Seat<Growing<'a>>,
 ) -> Result<Left<W>, TerminalError<AnsiError>>
+    ensures shown { IfOk result (λ left. OnOk left.ended (IsShownGrowing W S.coming O.answers size
+        has_ticks (seated seat.old) source.old pieces.old (seated seat.new) source.new pieces.new
+        (W.contents writer) (W.contents left.writer))) }
+    ensures stops { IfOk result (λ left. IfErr left.ended (λ fault. StopsGrowing W S.coming
+        O.answers size fault (seated seat.old) source.old pieces.old (seated seat.new) source.new
+        pieces.new (W.contents writer) (W.contents left.writer))) }
 {
     let backend = match open(alloc, size, writer) {
         Ok(backend) => backend,

@@ -81,7 +81,7 @@ fn page<T: Read + Drop, R: Read>(
 ) -> Result<Ending, PagerError> {
     let alloc = rt.alloc();
     let arena = Bump::new(alloc);
-    let mut pieces = PieceReader::new(alloc, &arena, text, is_file).map_err(|_| PagerError::Memory)?;
+    let mut pieces = PieceReader::new(alloc, &arena, text, is_file);
     let begun = pieces.next_piece(false).map_err(PagerError::Read)?;
     let mut writer = BufWriter::new(alloc, io::writer(rt)).map_err(PagerError::Write)?;
     let size = size_for(rt, given, keys, has_ticks, &mut writer)?;
