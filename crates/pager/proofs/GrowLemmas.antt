@@ -1,11 +1,13 @@
 -- A text that is shown while it comes: what its runs were.
-use Rattle.std.proofs.Common.{◌≡◌, ℕ, Bool, List, [], ◌∷◌, ◌++◌, Option, refl, sym, ap, ◌∙◌, subst}
+use Rattle.std.proofs.Common.{◌≡◌, ℕ, Bool, List, [], ◌∷◌, ◌++◌, Option, refl, sym, ap, ◌∙◌, subst, append_assoc}
+use Rattle.std.proofs.lemmas.List.{append-nil}
+use Rattle.std.specs.Str.Lines.{lines}
 use Rattle.std.specs.declared.time.Duration.{Duration}
 use Rattle.ratatui_core.specs.{Layout.Size, Terminal.Fullscreen, Terminal.TerminalError}
 use Rattle.ratatui_ansi.specs.{Backend.BackendState, declared.error.AnsiError.AnsiError}
 use Rattle.ratatui_reads.specs.Sources.{Coming}
 use Rattle.ratatui_acts.specs.declared.fault.Fault.{Fault}
-use Rattle.ratatui_acts.specs.Turns.{Turn, Came, Done, Standing}
+use Rattle.ratatui_acts.specs.Turns.{Turn, Came, Done, Standing, after_turn}
 use Rattle.ratatui_acts.specs.Runs.{Now, Past, HasRun, IsTurn, turns_of}
 use Rattle.ratatui_acts.proofs.{ReadingLemmas.run-given, RunLemmas.run-makes}
 use Rattle.ratatui_app.specs.declared.on_glass.OnGlass.{OnGlass}
@@ -13,7 +15,10 @@ use Rattle.ratatui_app.specs.Runs.{RunsThrough, StopsThrough}
 use Rattle.pager.specs.declared.piece.{More.More, Piece.Piece}
 use Rattle.pager.specs.declared.growing.Growing.{Growing}
 use Rattle.pager.specs.Paging.{OpensPaging}
-use Rattle.pager.specs.GrowingRuns.{growing_on, turn_pieces, GivesPieces, IsShownGrowing, StopsGrowing}
+use Rattle.pager.specs.Moves.{all_lines}
+use Rattle.pager.specs.Growing.{growing, ShowsAll}
+use Rattle.pager.specs.GrowingRuns.{growing_on, turn_pieces, lines_of_pieces, GivesPieces, IsShownGrowing, StopsGrowing}
+use Rattle.pager.proofs.KnownLemmas.{Knows, came-knows, done-knows}
 
 -- the pieces of one turn more
 pieces-done : (ts : List (Turn More Piece)) (more : More) (piece : Piece)
@@ -55,6 +60,53 @@ module _ {W H O : Type 0} (coming : H → Coming) (answers : O → More → Piec
   run-pieces begun now (p ∷ earlier) is =
       turn-pieces begun p.before now (turns_of (growing_on coming answers) earlier) p.turn is.1
       (run-pieces begun p.before earlier is.0)
+
+  lines-append : (ps : List Piece) (piece : Piece)
+      → lines_of_pieces (ps ++ (piece ∷ [])) ≡ lines_of_pieces ps ++ lines piece.text.now
+  lines-append [] piece = append-nil (lines piece.text.now)
+  lines-append (p ∷ ps) piece =
+      ap (λ l. lines p.text.now ++ l) (lines-append ps piece)
+      ∙ sym (append_assoc (lines p.text.now) (lines_of_pieces ps) (lines piece.text.now))
+
+  turn-knows : (known : List (List ℕ)) (before now : Now Growing (OnGlass W) H O) (ts : List (Turn More Piece))
+      (t : Turn More Piece) → IsTurn (growing_on coming answers) before t now
+      → Knows (known ++ lines_of_pieces (turn_pieces ts)) before.standing.state.pager
+      → Knows (known ++ lines_of_pieces (turn_pieces (ts ++ (t ∷ [])))) now.standing.state.pager
+  turn-knows known before now ts (Came bytes passed) is knows =
+      subst (λ (b : Standing Growing). Knows (known ++ lines_of_pieces (turn_pieces (ts ++ (Came bytes passed ∷ [])))) b.state.pager)
+      (sym is.made)
+      (subst (λ (l : List Piece). Knows (known ++ lines_of_pieces l) (after_turn growing before.standing (Came bytes passed)).state.pager)
+      (sym (pieces-came ts bytes passed))
+      (came-knows _ before.standing bytes passed knows))
+  turn-knows known before now ts (Done more piece) is knows =
+      let so : List (List ℕ) = lines_of_pieces (turn_pieces ts) in
+      subst (λ (b : Standing Growing). Knows (known ++ lines_of_pieces (turn_pieces (ts ++ (Done more piece ∷ [])))) b.state.pager)
+      (sym is.made)
+      (subst (λ (l : List (List ℕ)). Knows l (after_turn growing before.standing (Done more piece)).state.pager)
+      (append_assoc known so (lines piece.text.now)
+      ∙ ap (λ l. known ++ l) (sym (lines-append (turn_pieces ts) piece) ∙ ap lines_of_pieces (sym (pieces-done ts more piece))))
+      (done-knows _ before.standing more piece is.wanted knows))
+
+  -- the lines that are known in a run
+  run-knows : (known : List (List ℕ)) (begun now : Now Growing (OnGlass W) H O)
+      (past : List (Past Growing More Piece (OnGlass W) H O)) → HasRun (growing_on coming answers) begun past now
+      → Knows known begun.standing.state.pager
+      → Knows (known ++ lines_of_pieces (turn_pieces (turns_of (growing_on coming answers) past))) now.standing.state.pager
+  run-knows known begun now [] is knows =
+      subst (λ (l : List (List ℕ)). Knows l now.standing.state.pager) (sym (append-nil known))
+      (subst (λ (n : Now Growing (OnGlass W) H O). Knows known n.standing.state.pager) (sym is) knows)
+  run-knows known begun now (p ∷ earlier) is knows =
+      turn-knows known p.before now (turns_of (growing_on coming answers) earlier) p.turn is.1
+      (run-knows known begun p.before earlier is.0 knows)
+
+  pub run-lines : (begun now : Now Growing (OnGlass W) H O)
+      (past : List (Past Growing More Piece (OnGlass W) H O)) → HasRun (growing_on coming answers) begun past now
+      → ShowsAll begun.standing.state.pager
+      → all_lines now.standing.state.pager
+      ≡ all_lines begun.standing.state.pager
+      ++ lines_of_pieces (turn_pieces (turns_of (growing_on coming answers) past))
+  run-lines begun now past has shows =
+      (run-knows (all_lines begun.standing.state.pager) begun now past has (record { all = refl; shows = shows })).all
 
   module _ (size : Size) (first : Standing Growing) (ears : H) (pieces : O) (last : Standing Growing) (ears' : H)
       (pieces' : O) (before after : Option (List ℕ)) (backend : BackendState W) where

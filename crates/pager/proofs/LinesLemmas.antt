@@ -1,8 +1,9 @@
 -- Lines of whole lines and of what comes after them.
-use Rattle.std.proofs.Common.{◌≡◌, ℕ, Bool, true, false, List, [], ◌∷◌, ◌++◌, length, refl, ap, sym, ◌∙◌, append_assoc, ◌==◌}
+use Rattle.std.proofs.Common.{◌≡◌, ℕ, Bool, true, false, List, [], ◌∷◌, ◌++◌, length, refl, ap, sym, ◌∙◌, append_assoc, ◌==◌, inl, inr}
 use Rattle.std.specs.List.{slice_split, onto_first}
-use Rattle.std.specs.Prelude.{if◌then◌else◌, map, ◌+◌, ◌≤◌}
+use Rattle.std.specs.Prelude.{if◌then◌else◌, map}
 use Rattle.std.specs.Str.Lines.{lines, lines_of_parts, strip_carriage_return}
+use Rattle.pager.specs.Growing.{AreWholeLines}
 
 
 abbrev parts : List ℕ → List (List ℕ)
@@ -69,3 +70,9 @@ pub lines-join : (front more : List ℕ) → lines ((front ++ 10 ∷ []) ++ more
 lines-join front more =
     ap lines (append_assoc front (10 ∷ []) more) ∙ lines-split front more (some-part more)
     ∙ sym (ap (λ l. l ++ lines more) (lines-split front [] (some-part []) ∙ append-none (map strip_carriage_return (parts front))))
+
+pub whole-lines : (front more : List ℕ) → AreWholeLines front → lines (front ++ more) ≡ lines front ++ lines more
+whole-lines front more (inl none) =
+    ap (λ l. lines (l ++ more)) none ∙ sym (ap (λ l. lines l ++ lines more) none)
+whole-lines front more (inr (before, is)) =
+    ap (λ l. lines (l ++ more)) is ∙ lines-join before more ∙ sym (ap (λ l. lines l ++ lines more) is)

@@ -1,6 +1,6 @@
 -- What an event needs is enough: lines that come later change nothing of what it does.
 use Rattle.std.proofs.Common.{◌≡◌, ℕ, zero, suc, ◌+◌, ◌-◌, ◌*◌, ◌<◌, ◌≤◌, ◌==◌, ◌||◌, ◌&&◌, Bool, true, false, not, nat_lt, max}
-use Rattle.std.proofs.Common.{if◌then◌else◌, List, [], ◌∷◌, ◌++◌, length, drop, Option, Some, None, refl, ap, sym, ◌∙◌, arith, length-append}
+use Rattle.std.proofs.Common.{if◌then◌else◌, List, [], ◌∷◌, ◌++◌, length, drop, Option, Some, None, refl, ap, sym, ◌∙◌, arith, length-append, is_some, rules}
 use Rattle.std.proofs.lemmas.Bool.Decides.{nat_tests}
 use Rattle.std.proofs.lemmas.List.{get_or_append_left}
 use Rattle.std.specs.List.{position_from}
@@ -40,8 +40,11 @@ use Rattle.pager.specs.Growing.{command_needs, answer_needs, mark_needs, mode_ne
 numbered-more : (xs ys : List (List ℕ)) (k : ℕ) → k < length xs → numbered_line (xs ++ ys) k ≡ numbered_line xs k
 numbered-more xs ys k lt = get_or_append_left xs ys [] k lt
 
+true-false : true ≡ false → ⊥
+true-false e = search rules
+
 none-some : {A : Type 0} (m : ℕ) → None ≡ Some m → A
-none-some m ()
+none-some m is = absurd (true-false (ap (λ (o : Option ℕ). is_some o) (sym is)))
 
 first-more : (t : List ℕ → Bool) (i : ℕ) (xs ys : List (List ℕ)) (m : ℕ) → position_from t i xs ≡ Some m
     → position_from t i (xs ++ ys) ≡ Some m

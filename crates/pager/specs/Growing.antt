@@ -110,6 +110,10 @@ abbrev pub with_more : List (List ℕ) → List (List Run) → Bool → Pager �
 with_more more styles has_more p =
     record p { document = p.document ++ more; styles = styles; has_more = has_more }
 
+-- no line is hidden while more may come
+abbrev pub ShowsAll : Pager → Type 0
+ShowsAll p = p.has_more ≡ true → p.whole ≡ None
+
 -- ---- what a piece makes of a text
 
 -- the runs of styles of so many lines, and then those of more

@@ -1,5 +1,5 @@
 -- A text that is shown while it comes: its runs.
-use Rattle.std.specs.Prelude.{◌≡◌, ◌++◌, ℕ, Bool, true, List, [], ◌∷◌, Option, None}
+use Rattle.std.specs.Prelude.{◌≡◌, ◌++◌, ℕ, Bool, List, [], ◌∷◌, Option}
 use Rattle.std.specs.Str.Lines.{lines}
 use Rattle.ratatui_core.specs.{Layout.Size, Terminal.TerminalError, Terminal.Fullscreen}
 use Rattle.ratatui_ansi.specs.{Backend.BackendState, declared.error.AnsiError.AnsiError}
@@ -13,7 +13,6 @@ use Rattle.ratatui_app.specs.declared.on_glass.OnGlass.{OnGlass}
 use Rattle.ratatui_app.specs.{Runs.on_glass, Runs.RunsThrough, Runs.StopsThrough}
 use Rattle.pager.specs.declared.piece.{More.More, Piece.Piece}
 use Rattle.pager.specs.declared.growing.Growing.{Growing}
-use Rattle.pager.specs.declared.pager.Pager.{Pager}
 use Rattle.pager.specs.{Pages.PaintsPager, Pages.page_cursor, Paging.OpensPaging, Growing.growing}
 
 -- what a run of a text that grows stands on, on a terminal that is sent bytes: what a source gives, how it fails, and
@@ -38,10 +37,6 @@ lines_of_pieces (p ∷ ps) = lines p.text.now ++ lines_of_pieces ps
 abbrev pub GivesPieces : {O : Type 0} → (O → More → Piece → O → Type 0) → O → List Piece → O → Type 0
 GivesPieces answers o [] o' = o' ≡ o
 GivesPieces {O} answers o (p ∷ ps) o' = (next : O) × answers o (record {}) p next × GivesPieces answers next ps o'
-
--- no line is hidden while more may come
-abbrev pub ShowsAll : Pager → Type 0
-ShowsAll p = p.has_more ≡ true → p.whole ≡ None
 
 module _ (W : Type 0) {H O : Type 0} (coming : H → Coming) (answers : O → More → Piece → O → Type 0) (size : Size) where
   -- a text was shown while it came, from beginning to end, on the alternate screen of a terminal of this size: the page

@@ -193,7 +193,7 @@ impl<'a> Acts for Growing<'a> {
     ghost is_over = { λ g. g.pager.is_over };
 
     fn update(&mut self, message: Message<Piece<'a>>) -> Result<bool, AllocError>
-        ensures ok { OnOk result (self.new ≡ grown_after self.old message) }
+        ensures ok { OnOk result (self.new ≡ grown_after self.old message.entry) }
         ensures same { IfOk result (λ changed. changed ≡ false → self.new ≡ self.old) }
         ensures refused { OnErr result (self.new ≡ self.old) }
     {

@@ -21,8 +21,19 @@ ghost use Rattle.pager.specs.declared.command.Command.TheVariants.{PageDown};
 ghost use Rattle.pager.specs.Paging.{paging_on, page_size, IsPaged, FillsScreen, FillsAlong, TakesAlong};
 ghost use Rattle.pager.specs.declared.pager.Pager.{Pager};
 
+ghost use Rattle.std.specs.Prelude.{◌++◌};
+ghost use Rattle.std.specs.Str.Lines.{lines};
+ghost use Rattle.ratatui_acts.specs.Runs.{turns_of};
+ghost use Rattle.pager.specs.declared.growing.Growing.{Growing as GrowingPager};
+ghost use Rattle.pager.specs.declared.piece.More.{More as AskedFor};
+ghost use Rattle.pager.specs.declared.piece.Piece.{Piece as GivenPiece};
+ghost use Rattle.pager.specs.Moves.{all_lines};
+ghost use Rattle.pager.specs.Growing.{event_needs, with_more, AreWholeLines, ShowsAll};
+ghost use Rattle.pager.specs.GrowingRuns.{growing_on, turn_pieces, lines_of_pieces};
+
+use crate::growing::Growing;
 use crate::pager::Pager;
-use ratatui_acts::Nothing;
+use ratatui_acts::{Nothing, Outside};
 use ratatui_acts::laws::each_turn_was_made_while_its_state_was_shown;
 use ratatui_app::OnGlass;
 use ratatui_reads::Source;
@@ -96,4 +107,36 @@ pub fn the_page_fills_the_screen<W: Write + Drop, S: Source>()
         (paged : IsPaged W S.coming size has_ticks first ears last ears' before after)
         → page_size first.state ≡ size
         → FillsScreen first.state paged.through.runs.runs.glass.terminal }
+{}
+
+/// What an event needs is enough: where so many lines are known, it does what it does where more
+/// lines are known, in whatever styles, and makes the same page.
+pub fn what_an_event_needs_is_enough()
+    ensures { (more : List (List ℕ)) (styles : List (List Run)) (has_more : Bool) (p : Pager)
+        (event : Event) → event_needs p event ≤ length p.document
+        → updated (with_more more styles has_more p) event
+        ≡ with_more more styles has_more (updated p event) }
+{}
+
+/// The lines of whole lines, and then those of what comes after them, are those of both together.
+pub fn lines_of_pieces_are_those_of_the_text()
+    ensures { (front after : List ℕ) → AreWholeLines front
+        → lines (front ++ after) ≡ lines front ++ lines after }
+{}
+
+/// Wherever a run of a text that grows stands, all lines that it knows are those that it knew at
+/// first, and then those of the pieces that came, in order: none is lost, and none comes twice.
+pub fn the_lines_are_those_of_the_pieces<
+    'a,
+    W: Write + Drop,
+    S: Source,
+    O: Outside<Growing<'a>, OnGlass<W>>,
+>()
+    ensures { (begun now : Now GrowingPager (OnGlass W) S O)
+        (past : List (Past GrowingPager AskedFor GivenPiece (OnGlass W) S O))
+        → HasRun (growing_on S.coming O.answers) begun past now
+        → ShowsAll begun.standing.state.pager
+        → all_lines now.standing.state.pager
+        ≡ all_lines begun.standing.state.pager
+        ++ lines_of_pieces (turn_pieces (turns_of (growing_on S.coming O.answers) past)) }
 {}

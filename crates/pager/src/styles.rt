@@ -38,6 +38,17 @@ impl Model for Styles {
     ghost view = { λ styles. map (λ line. line.runs.items) styles.lines.items };
 }
 
+// So many lines without runs.
+fn plain_lines(alloc: Global, count: usize) -> Result<Styles, AllocError>
+    ensures { IfOk result (λ all. all ≡ replicate count []) }
+{
+    let mut all = Styles::new(alloc);
+    for done in 0..count {
+        all.push(Vec::new(alloc))?;
+    }
+    Ok(all)
+}
+
 impl Styles {
     /// Makes styles in which no line has one.
     pub fn new(alloc: Global) -> Styles
@@ -70,13 +81,9 @@ impl Styles {
 
     // As many lines without runs as are missing up to a count, and then these lines.
     fn behind(&self, count: usize, more: Styles) -> Result<Styles, AllocError>
-        ensures { IfOk result (λ all. all ≡ replicate (count - length self.now) [] ++ more.entry) }
+        ensures { IfOk result (λ all. all ≡ replicate (count - length self.now) [] ++ more) }
     {
-        let alloc = *self.lines.allocator();
-        let mut all = Styles::new(alloc);
-        for _ in self.lines.len()..count {
-            all.push(Vec::new(alloc))?;
-        }
+        let mut all = plain_lines(*self.lines.allocator(), count.saturating_sub(self.lines.len()))?;
         let mut lines = more.lines;
         all.lines.append(&mut lines)?;
         Ok(all)
@@ -88,7 +95,7 @@ impl Styles {
     ///
     /// `AllocError` if memory is refused; nothing has changed then.
     pub fn extend(&mut self, count: usize, more: Styles) -> Result<(), AllocError>
-        ensures ok { OnOk result (self.new ≡ more_styles count self.old more.entry) }
+        ensures ok { OnOk result (self.new ≡ more_styles count self.old more) }
         ensures err { OnErr result (self.new ≡ self.old) }
     {
         if more.lines.is_empty() {
