@@ -33,7 +33,7 @@ pieces-came [] bytes passed = refl
 pieces-came (Came b p ∷ ts) bytes passed = pieces-came ts bytes passed
 pieces-came (Done m p ∷ ts) bytes passed = ap (λ l. p ∷ l) (pieces-came ts bytes passed)
 
-module _ {W H O : Type 0} (coming : H → Coming) (answers : O → More → Piece → O → Type 0) where
+module _ {O : Type 0} (answers : O → More → Piece → O → Type 0) where
   -- one piece more is given
   given-more : (o : O) (ps : List Piece) (mid : O) (piece : Piece) (o' : O) → GivesPieces answers o ps mid
       → answers mid (record {}) piece o' → GivesPieces answers o (ps ++ (piece ∷ [])) o'
@@ -42,6 +42,14 @@ module _ {W H O : Type 0} (coming : H → Coming) (answers : O → More → Piec
   given-more o (p ∷ ps) mid piece o' (next, first, rest) gives =
       (next, first, given-more next ps mid piece o' rest gives)
 
+lines-append : (ps : List Piece) (piece : Piece)
+    → lines_of_pieces (ps ++ (piece ∷ [])) ≡ lines_of_pieces ps ++ lines piece.text.now
+lines-append [] piece = append-nil (lines piece.text.now)
+lines-append (p ∷ ps) piece =
+    ap (λ l. lines p.text.now ++ l) (lines-append ps piece)
+    ∙ sym (append_assoc (lines p.text.now) (lines_of_pieces ps) (lines piece.text.now))
+
+module _ {W H O : Type 0} (coming : H → Coming) (answers : O → More → Piece → O → Type 0) where
   turn-pieces : (begun before now : Now Growing (OnGlass W) H O) (ts : List (Turn More Piece)) (t : Turn More Piece)
       → IsTurn (growing_on coming answers) before t now → GivesPieces answers begun.outside (turn_pieces ts) before.outside
       → GivesPieces answers begun.outside (turn_pieces (ts ++ (t ∷ []))) now.outside
@@ -50,7 +58,7 @@ module _ {W H O : Type 0} (coming : H → Coming) (answers : O → More → Piec
       (subst (λ (x : O). GivesPieces answers begun.outside (turn_pieces ts) x) (sym is.given.1) given)
   turn-pieces begun before now ts (Done more piece) is given =
       subst (λ (l : List Piece). GivesPieces answers begun.outside l now.outside) (sym (pieces-done ts more piece))
-      (given-more begun.outside (turn_pieces ts) before.outside piece now.outside given is.given.0)
+      (given-more answers begun.outside (turn_pieces ts) before.outside piece now.outside given is.given.0)
 
   -- the pieces of a run are those that were given
   pub run-pieces : (begun now : Now Growing (OnGlass W) H O)
@@ -60,13 +68,6 @@ module _ {W H O : Type 0} (coming : H → Coming) (answers : O → More → Piec
   run-pieces begun now (p ∷ earlier) is =
       turn-pieces begun p.before now (turns_of (growing_on coming answers) earlier) p.turn is.1
       (run-pieces begun p.before earlier is.0)
-
-  lines-append : (ps : List Piece) (piece : Piece)
-      → lines_of_pieces (ps ++ (piece ∷ [])) ≡ lines_of_pieces ps ++ lines piece.text.now
-  lines-append [] piece = append-nil (lines piece.text.now)
-  lines-append (p ∷ ps) piece =
-      ap (λ l. lines p.text.now ++ l) (lines-append ps piece)
-      ∙ sym (append_assoc (lines p.text.now) (lines_of_pieces ps) (lines piece.text.now))
 
   turn-knows : (known : List (List ℕ)) (before now : Now Growing (OnGlass W) H O) (ts : List (Turn More Piece))
       (t : Turn More Piece) → IsTurn (growing_on coming answers) before t now

@@ -138,8 +138,8 @@ by-text p q is = record {
 
 filtered-stays : (b : Bool) (numbers : List ℕ) (p : Pager) → (p.has_more ≡ true → ⊥)
     → Stays p (record (if b then with_lines numbers p else relined None [] (all_lines p) p) { mode = Reading })
-filtered-stays true numbers p no = record { all = refl; more = refl; whole = λ more. absurd (no more) }
-filtered-stays false numbers p no = record { all = refl; more = refl; whole = λ more. absurd (no more) }
+filtered-stays true numbers p never = record { all = refl; more = refl; whole = λ more. absurd (never more) }
+filtered-stays false numbers p never = record { all = refl; more = refl; whole = λ more. absurd (never more) }
 
 typed-text : (m : Mode) (answer : Answer) (p : Pager) → p.mode ≡ Asking → text_of (answered answer p) ≡ text_of p
 typed-text m (Change edit) p is = edited-text (gives_up edit p) (edited edit p.typed) p
@@ -194,12 +194,16 @@ stays-then p q r a b = record {
   whole = λ more. b.whole (a.more ∙ more) ∙ a.whole more;
 }
 
+-- one of two
+abbrev either : {A : Type 0} → Bool → A → A → A
+either b x y = if b then x else y
+
 heard-stays : (event : Event) (p : Pager) → Stays p (heard event p).pager
 heard-stays event p = by (knows (event_needs p event) p) refl
   where
     by : (b : Bool) → knows (event_needs p event) p ≡ b
-        → Stays p (if b then record { pager = updated p event; waiting = None }
-        else record { pager = p; waiting = Some (record { event = event; lines = event_needs p event }) }).pager
+        → Stays p (either {A = Growing} b (record { pager = updated p event; waiting = None })
+        (record { pager = p; waiting = Some (record { event = event; lines = event_needs p event }) })).pager
     by true is = sized-stays (size_in event) event p (known-enough (event_needs p event) p is)
     by false is = stays-same p
 
@@ -207,7 +211,7 @@ resumed-stays : (w : Option Waiting) (p : Pager) → Stays p (resumed w p).pager
 resumed-stays None p = stays-same p
 resumed-stays (Some w) p = by (knows w.lines p)
   where
-    by : (b : Bool) → Stays p (if b then heard w.event p else record { pager = p; waiting = Some w }).pager
+    by : (b : Bool) → Stays p (either {A = Growing} b (heard w.event p) (record { pager = p; waiting = Some w })).pager
     by true = heard-stays w.event p
     by false = stays-same p
 
@@ -222,13 +226,14 @@ event-stays g event = told-stays g.waiting event g
 -- events that are told one after the other
 pub taking-stays : (d : Decoder) (es : List Event) (g : Growing) → Stays g.pager (taking growing d es g).state.pager
 taking-stays d [] g = stays-same g.pager
-taking-stays d (e ∷ es) g = by (waits growing g)
+taking-stays d (e ∷ es) g = by (waits growing g) (taking-stays d es (grown_after g (message.Event e)))
   where
-    by : (b : Bool) → Stays g.pager (if b then record { decoder = d; left = e ∷ es; state = g }
-        else taking growing d es (grown_after g (message.Event e))).state.pager
-    by true = stays-same g.pager
-    by false = stays-then g.pager (grown_after g (message.Event e)).pager _ (event-stays g e)
-        (taking-stays d es (grown_after g (message.Event e)))
+    by : (b : Bool)
+        → Stays (grown_after g (message.Event e)).pager (taking growing d es (grown_after g (message.Event e))).state.pager
+        → Stays g.pager (either {A = Standing Growing} b (record { decoder = d; left = e ∷ es; state = g })
+        (taking growing d es (grown_after g (message.Event e)))).state.pager
+    by true rest = stays-same g.pager
+    by false rest = stays-then g.pager (grown_after g (message.Event e)).pager _ (event-stays g e) rest
 
 shows-on : (p q : Pager) → Stays p q → ShowsAll p → ShowsAll q
 shows-on p q stays shows more = stays.whole (sym stays.more ∙ more) ∙ shows (sym stays.more ∙ more)

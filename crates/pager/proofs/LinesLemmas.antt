@@ -5,7 +5,6 @@ use Rattle.std.specs.Prelude.{if◌then◌else◌, map}
 use Rattle.std.specs.Str.Lines.{lines, lines_of_parts, strip_carriage_return}
 use Rattle.pager.specs.Growing.{AreWholeLines}
 
-
 abbrev parts : List ℕ → List (List ℕ)
 parts = slice_split (λ b. b == 10)
 

@@ -1,6 +1,6 @@
 -- What an event needs is enough: lines that come later change nothing of what it does.
 use Rattle.std.proofs.Common.{◌≡◌, ℕ, zero, suc, ◌+◌, ◌-◌, ◌*◌, ◌<◌, ◌≤◌, ◌==◌, ◌||◌, ◌&&◌, Bool, true, false, not, nat_lt, max}
-use Rattle.std.proofs.Common.{if◌then◌else◌, List, [], ◌∷◌, ◌++◌, length, drop, Option, Some, None, refl, ap, sym, ◌∙◌, arith, length-append, is_some, rules}
+use Rattle.std.proofs.Common.{if◌then◌else◌, List, [], ◌∷◌, ◌++◌, length, drop, Option, Some, None, refl, ap, sym, ◌∙◌, arith, length-append, is_some, rules, subst}
 use Rattle.std.proofs.lemmas.Bool.Decides.{nat_tests}
 use Rattle.std.proofs.lemmas.List.{get_or_append_left}
 use Rattle.std.specs.List.{position_from}
@@ -49,12 +49,14 @@ none-some m is = absurd (true-false (ap (λ (o : Option ℕ). is_some o) (sym is
 first-more : (t : List ℕ → Bool) (i : ℕ) (xs ys : List (List ℕ)) (m : ℕ) → position_from t i xs ≡ Some m
     → position_from t i (xs ++ ys) ≡ Some m
 first-more t i [] ys m is = none-some m is
-first-more t i (x ∷ xs) ys m is = by (t x) is
+first-more t i (x ∷ xs) ys m is = by (t x) (λ e. first-more t (i + 1) xs ys m e) is
   where
-    by : (b : Bool) → (if b then Some i else position_from t (i + 1) xs) ≡ Some m
+    by : (b : Bool)
+        → (position_from t (i + 1) xs ≡ Some m → position_from t (i + 1) (xs ++ ys) ≡ Some m)
+        → (if b then Some i else position_from t (i + 1) xs) ≡ Some m
         → (if b then Some i else position_from t (i + 1) (xs ++ ys)) ≡ Some m
-    by true e = e
-    by false e = first-more t (i + 1) xs ys m e
+    by true rest e = e
+    by false rest e = rest e
 
 from-more : (t : List ℕ → Bool) (n i : ℕ) (xs ys : List (List ℕ)) (m : ℕ) → position_from t i (drop n xs) ≡ Some m
     → position_from t i (drop n (xs ++ ys)) ≡ Some m
@@ -256,7 +258,7 @@ module _ (more : List (List ℕ)) (styles : List (List Run)) (has_more : Bool) w
       by false le = jumped-on (p.number - 1) p le
 
   found-on : (o : Option ℕ) (p : Pager) → match_needs 0 p o ≤ length p.document → found_at o (on p) ≡ on (found_at o p)
-  found-on (Some k) p le = ap (λ x. record x { found = Some k; note = Range }) (jumped-on k p le)
+  found-on (Some k) p le = ap (λ (x : Pager). record x { found = Some k; note = Range }) (jumped-on k p le)
   found-on None p le = refl
 
   before-needs : (pattern : List ℕ) (k : ℕ) (p : Pager) → search_needs true pattern k p ≤ length p.document
@@ -290,8 +292,8 @@ module _ (more : List (List ℕ)) (styles : List (List Run)) (has_more : Bool) w
       → obeyed command (on p) ≡ on (obeyed command p)
   obeyed-on (Digit d) p le = refl
   obeyed-on (Ask is_back) p le = refl
-  obeyed-on Next p le = ap (λ x. record x { number = 0 }) (sought-on p.is_back p le)
-  obeyed-on Previous p le = ap (λ x. record x { number = 0 }) (sought-on (not p.is_back) p le)
+  obeyed-on Next p le = ap (λ (x : Pager). record x { number = 0 }) (sought-on p.is_back p le)
+  obeyed-on Previous p le = ap (λ (x : Pager). record x { number = 0 }) (sought-on (not p.is_back) p le)
   obeyed-on Nothing p le = refl
   obeyed-on Down p le = ap stopped (further-on 1 p le)
   obeyed-on PageDown p le = ap stopped (further-on (page_rows p) p le)
@@ -322,6 +324,17 @@ module _ (more : List (List ℕ)) (styles : List (List Run)) (has_more : Bool) w
   first-on true p le = before-needs p.pattern p.top p le
   first-on false p le = from-needs p.pattern p.top p le
 
+  match-same : (n : ℕ) (p : Pager) (pattern : List ℕ) (o : Option ℕ)
+      → match_needs n (record p { pattern = pattern }) o ≡ match_needs n p o
+  match-same n p pattern (Some k) = refl
+  match-same n p pattern None = refl
+
+  needs-same : (is_back : Bool) (k : ℕ) (p : Pager) (pattern : List ℕ)
+      → search_needs is_back pattern k (record p { pattern = pattern }) ≡ search_needs is_back pattern k p
+  needs-same true k p pattern = ap (max k) (match-same 0 p pattern (last_match pattern p.document k))
+  needs-same false k p pattern =
+      match-same (2 * length p.document + 1) p pattern (next_match pattern p.document k)
+
   searched-on : (p : Pager) → search_needs p.is_back (with_pattern p).pattern p.top p ≤ length p.document
       → sought_first (with_pattern (on p)) ≡ on (sought_first (with_pattern p))
   searched-on p le = by (has_typed p) le
@@ -330,7 +343,8 @@ module _ (more : List (List ℕ)) (styles : List (List Run)) (has_more : Bool) w
           → search_needs p.is_back (if b then record p { pattern = field_text p.typed } else p).pattern p.top p ≤ length p.document
           → sought_first (if b then record (on p) { pattern = field_text p.typed } else on p)
           ≡ on (sought_first (if b then record p { pattern = field_text p.typed } else p))
-      by true le = first-on p.is_back (record p { pattern = field_text p.typed }) le
+      by true le = first-on p.is_back (record p { pattern = field_text p.typed })
+          (subst (λ n. n ≤ length p.document) (sym (needs-same p.is_back p.top p (field_text p.typed))) le)
       by false le = first-on p.is_back p le
 
   gives-up-on : (e : Edit) (p : Pager) → gives_up e (on p) ≡ gives_up e p
@@ -358,9 +372,9 @@ module _ (more : List (List ℕ)) (styles : List (List Run)) (has_more : Bool) w
       → answered answer (on p) ≡ on (answered answer p)
   asked-on (Change e) p is le = edited-on e p
   asked-on Search p is le =
-      ap (λ m. record (taken_in m (on p)) { mode = Reading }) is
-      ∙ ap (λ x. record x { mode = Reading }) (searched-on p le)
-      ∙ sym (ap (λ m. on (record (taken_in m p) { mode = Reading })) is)
+      ap (λ (m : Mode). record (taken_in m (on p)) { mode = Reading }) is
+      ∙ ap (λ (x : Pager). record x { mode = Reading }) (searched-on p le)
+      ∙ sym (ap (λ (m : Mode). on (record (taken_in m p) { mode = Reading })) is)
   asked-on Cancel p is le = refl
   asked-on Ignore p is le = refl
 
@@ -383,7 +397,7 @@ module _ (more : List (List ℕ)) (styles : List (List Run)) (has_more : Bool) w
 
   returned-by : (b : Bool) (line : Option ℕ) (p : Pager) → mark_needs p line ≤ length p.document
       → (if b then gone_back line (on p) else on p) ≡ on (if b then gone_back line p else p)
-  returned-by true (Some line) p le = ap (λ x. record x { found = None; mode = Reading }) (jumped-on line p le)
+  returned-by true (Some line) p le = ap (λ (x : Pager). record x { found = None; mode = Reading }) (jumped-on line p le)
   returned-by true None p le = refl
   returned-by false line p le = refl
 

@@ -69,10 +69,10 @@ impl<'a> Pager<'a> {
     // Forgets what it came to know since.
     fn forget(&mut self, known: Known)
         ensures { self.new ≡ record self.old {
-            document = take known.lines self.old.document;
-            styles = take known.styles self.old.styles;
-            has_more = known.has_more;
-          } }
+          document = take known.lines self.old.document;
+          styles = take known.styles self.old.styles;
+          has_more = known.has_more;
+        } }
     {
         self.document.truncate(known.lines);
         self.styles.truncate(known.styles);

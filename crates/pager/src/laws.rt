@@ -20,7 +20,6 @@ ghost use Rattle.pager.specs.Places.{places_after, breaking, last_page, earlier,
 ghost use Rattle.pager.specs.declared.command.Command.TheVariants.{PageDown};
 ghost use Rattle.pager.specs.Paging.{paging_on, page_size, IsPaged, FillsScreen, FillsAlong, TakesAlong};
 ghost use Rattle.pager.specs.declared.pager.Pager.{Pager};
-
 ghost use Rattle.std.specs.Prelude.{◌++◌};
 ghost use Rattle.std.specs.Str.Lines.{lines};
 ghost use Rattle.ratatui_acts.specs.Runs.{turns_of};
@@ -33,8 +32,8 @@ ghost use Rattle.pager.specs.GrowingRuns.{growing_on, turn_pieces, lines_of_piec
 
 use crate::growing::Growing;
 use crate::pager::Pager;
-use ratatui_acts::{Nothing, Outside};
 use ratatui_acts::laws::each_turn_was_made_while_its_state_was_shown;
+use ratatui_acts::{Nothing, Outside};
 use ratatui_app::OnGlass;
 use ratatui_reads::Source;
 use std::io::Write;

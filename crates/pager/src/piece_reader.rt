@@ -16,6 +16,7 @@ use std::mem;
 
 /// How many bytes are read at once, while no event waits for more lines and while one does.
 const FEW: usize = 1 << 16;
+
 const MANY: usize = 1 << 20;
 
 /// What gives a text piece by piece, as it comes from a reader. The pieces stay in an arena.
@@ -52,12 +53,7 @@ fn whole_lines(bytes: &[u8], from: usize) -> usize
 
 impl<'a, R: Read> PieceReader<'a, R> {
     /// Takes a reader. Of a file, whose reads never wait, the last piece is known to be it.
-    pub fn new(
-        alloc: Global,
-        arena: &'a Bump,
-        reader: R,
-        is_file: bool,
-    ) -> PieceReader<'a, R>
+    pub fn new(alloc: Global, arena: &'a Bump, reader: R, is_file: bool) -> PieceReader<'a, R>
         ensures { to_come result.rest.items (R.remaining result.reader) ≡ R.remaining reader }
     {
         PieceReader {

@@ -67,12 +67,7 @@ pub fn show<S: Source, W: Write + Drop>(
 /// # Errors
 ///
 /// Those of [`show`]. The run stops with `Fault::Outside` where no piece can be given.
-pub fn show_growing<
-    'a,
-    S: Source,
-    O: Outside<Growing<'a>, OnGlass<W>>,
-    W: Write + Drop,
->(
+pub fn show_growing<'a, S: Source, O: Outside<Growing<'a>, OnGlass<W>>, W: Write + Drop>(
     alloc: Global,
     size: Size,
     source: &mut S,

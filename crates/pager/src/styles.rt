@@ -83,7 +83,10 @@ impl Styles {
     fn behind(&self, count: usize, more: Styles) -> Result<Styles, AllocError>
         ensures { IfOk result (λ all. all ≡ replicate (count - length self.now) [] ++ more) }
     {
-        let mut all = plain_lines(*self.lines.allocator(), count.saturating_sub(self.lines.len()))?;
+        let mut all = plain_lines(
+            *self.lines.allocator(),
+            count.saturating_sub(self.lines.len()),
+        )?;
         let mut lines = more.lines;
         all.lines.append(&mut lines)?;
         Ok(all)
