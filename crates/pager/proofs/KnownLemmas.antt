@@ -29,8 +29,8 @@ use Rattle.pager.specs.Moves.{answered, acted, updated_by, updated, letter_marke
 use Rattle.pager.specs.Moves.{sought_first, all_lines, relined, with_lines, taken_in, has_text, turned_to, has_typed, gives_up}
 use Rattle.pager.specs.declared.piece.{More.More, Piece.Piece}
 use Rattle.pager.specs.declared.growing.{Growing.Growing, Waiting.Waiting}
-use Rattle.pager.specs.Growing.{page_needs, answer_needs, mode_needs, size_needs, event_needs, knows, grown, heard, resumed}
-use Rattle.pager.specs.Growing.{told_event, grown_after, asked_of, growing, ShowsAll}
+use Rattle.pager.specs.Growing.{page_needs, answer_needs, mode_needs, size_needs, event_needs, knows, with_piece, heard, resumed}
+use Rattle.pager.specs.Growing.{heard_if_free, grown_after, asked_for_more, growing, ShowsAll}
 use Rattle.pager.specs.Keys.{event_command, event_answer, event_mark, event_ending, is_press}
 
 -- all lines, which of them are hidden, and whether more may come
@@ -215,7 +215,7 @@ resumed-stays (Some w) p = by (knows w.lines p)
     by true = heard-stays w.event p
     by false = stays-same p
 
-told-stays : (w : Option Waiting) (event : Event) (g : Growing) → Stays g.pager (told_event w event g).pager
+told-stays : (w : Option Waiting) (event : Event) (g : Growing) → Stays g.pager (heard_if_free w event g).pager
 told-stays (Some w) event g = stays-same g.pager
 told-stays None event g = heard-stays event g.pager
 
@@ -238,7 +238,7 @@ taking-stays d (e ∷ es) g = by (waits growing g) (taking-stays d es (grown_aft
 shows-on : (p q : Pager) → Stays p q → ShowsAll p → ShowsAll q
 shows-on p q stays shows more = stays.whole (sym stays.more ∙ more) ∙ shows (sym stays.more ∙ more)
 
-asks-more : (g : Growing) (more : More) → asked_of g ≡ Some more → g.pager.has_more ≡ true
+asks-more : (g : Growing) (more : More) → asked_for_more g ≡ Some more → g.pager.has_more ≡ true
 asks-more g more is = by g.pager.has_more (is_some g.waiting || nat_lt (length g.pager.document) (page_needs g.pager)) is
   where
     by : (a b : Bool) → (if a && b then Some (record {}) else None) ≡ Some more → a ≡ true
@@ -257,7 +257,7 @@ knows-on lines p q stays knows = record {
 }
 
 grown-knows : (known : List (List ℕ)) (piece : Piece) (p : Pager) → p.has_more ≡ true → Knows known p
-    → Knows (known ++ lines piece.text.now) (grown piece p)
+    → Knows (known ++ lines piece.text.now) (with_piece piece p)
 grown-knows known piece p more knows =
     let none = knows.shows more in record {
       all = ap (λ w. unwrap_or w (p.document ++ lines piece.text.now)) none
@@ -278,15 +278,15 @@ came-knows known b bytes passed knows =
     (knows-on known b.state.pager g.pager (ticked-stays bytes passed b.state) knows)
 
 answered-stays : (g : Growing) (piece : Piece)
-    → Stays (grown piece g.pager) (grown_after g (message.Answer piece)).pager
+    → Stays (with_piece piece g.pager) (grown_after g (message.Answer piece)).pager
 unfolding grown_after
-answered-stays g piece = resumed-stays g.waiting (grown piece g.pager)
+answered-stays g piece = resumed-stays g.waiting (with_piece piece g.pager)
 
 pub done-knows : (known : List (List ℕ)) (b : Standing Growing) (more : More) (piece : Piece)
-    → asked_of b.state ≡ Some more → Knows known b.state.pager
+    → asked_for_more b.state ≡ Some more → Knows known b.state.pager
     → Knows (known ++ lines piece.text.now) (after_turn growing b (Done more piece)).state.pager
 done-knows known b more piece asks knows =
     let g : Growing = grown_after b.state (message.Answer piece) in
     knows-on _ g.pager _ (taking-stays b.decoder b.left g)
-    (knows-on _ (grown piece b.state.pager) g.pager (answered-stays b.state piece)
+    (knows-on _ (with_piece piece b.state.pager) g.pager (answered-stays b.state piece)
     (grown-knows known piece b.state.pager (asks-more b.state more asks) knows))

@@ -122,8 +122,8 @@ more_styles count styles [] = styles
 more_styles count styles (r ∷ rs) = styles ++ (replicate (count - length styles) [] ++ r ∷ rs)
 
 -- a pager that knows the lines of a piece, too
-abbrev pub grown : Piece → Pager → Pager
-grown piece p = record p {
+abbrev pub with_piece : Piece → Pager → Pager
+with_piece piece p = record p {
   document = p.document ++ lines piece.text.now;
   styles = more_styles (length p.document) p.styles piece.styles;
   has_more = not piece.is_last;
@@ -141,26 +141,26 @@ resumed (Some w) p = if knows w.lines p then heard w.event p else record { pager
 resumed None p = record { pager = p; waiting = None }
 
 -- while an event waits no other one is taken
-abbrev pub told_event : Option Waiting → Event → Growing → Growing
-told_event (Some w) event g = g
-told_event None event g = heard event g.pager
+abbrev pub heard_if_free : Option Waiting → Event → Growing → Growing
+heard_if_free (Some w) event g = g
+heard_if_free None event g = heard event g.pager
 
 -- events move a pager, and pieces make its text grow
 unfoldable pub grown_after : Growing → Message Piece → Growing
-grown_after g (message.Event event) = told_event g.waiting event g
+grown_after g (message.Event event) = heard_if_free g.waiting event g
 grown_after g (message.Tick passed) = g
-grown_after g (message.Answer piece) = resumed g.waiting (grown piece g.pager)
+grown_after g (message.Answer piece) = resumed g.waiting (with_piece piece g.pager)
 
 -- the next piece is asked for while an event waits, or the page needs more lines than are known
 abbrev pub asks_more : Growing → Bool
 asks_more g = g.pager.has_more && (is_some g.waiting || nat_lt (length g.pager.document) (page_needs g.pager))
 
-abbrev pub asked_of : Growing → Option More
-asked_of g = if asks_more g then Some (record {}) else None
+abbrev pub asked_for_more : Growing → Option More
+asked_for_more g = if asks_more g then Some (record {}) else None
 
 -- a pager of a text that grows, as a state that asks for pieces
 abbrev pub growing : ActingRules Growing More Piece
-growing = record { updated = grown_after; asked = asked_of; is_over = λ g. g.pager.is_over }
+growing = record { updated = grown_after; asked = asked_for_more; is_over = λ g. g.pager.is_over }
 
 -- ---- pieces of what a reader gives
 

@@ -1,7 +1,7 @@
 //! A text that is shown while it comes.
 
 ghost use Rattle.std.specs.Prelude.{◌≡◌, false, None, length, take, is_some, IfOk, OnOk, OnErr};
-ghost use Rattle.pager.specs.Growing.{grown, heard, resumed, told_event, asks_more};
+ghost use Rattle.pager.specs.Growing.{with_piece, heard, resumed, heard_if_free, asks_more};
 
 use crate::pager::{Ending, Pager};
 use crate::piece::{More, Piece};
@@ -52,7 +52,7 @@ impl<'a> Pager<'a> {
 
     // Takes the lines of a piece.
     fn grow(&mut self, piece: Piece<'a>) -> Result<(), AllocError>
-        ensures ok { OnOk result (self.new ≡ grown piece.entry self.old) }
+        ensures ok { OnOk result (self.new ≡ with_piece piece.entry self.old) }
         ensures err { OnErr result (self.new ≡ self.old) }
     {
         let lines = self.document.len() as usize;
@@ -88,7 +88,7 @@ impl<'a> Growing<'a> {
     /// `AllocError` if memory is refused, or if the text has more than `u32::MAX` lines.
     pub fn new(mut pager: Pager<'a>, first: Piece<'a>) -> Result<Growing<'a>, AllocError>
         ensures { IfOk result (λ g.
-            g ≡ record { pager = grown first.entry pager.entry; waiting = None }) }
+            g ≡ record { pager = with_piece first.entry pager.entry; waiting = None }) }
     {
         pager.grow(first)?;
         Ok(Growing {
@@ -144,7 +144,7 @@ impl<'a> Growing<'a> {
 
     // Takes an event, unless one waits.
     fn take_event(&mut self, event: Event) -> Result<bool, AllocError>
-        ensures ok { OnOk result (self.new ≡ told_event self.old.waiting event self.old) }
+        ensures ok { OnOk result (self.new ≡ heard_if_free self.old.waiting event self.old) }
         ensures same { IfOk result (λ changed. changed ≡ false → self.new ≡ self.old) }
         ensures refused { OnErr result (self.new ≡ self.old) }
     {
@@ -158,7 +158,7 @@ impl<'a> Growing<'a> {
     // Takes a piece, and then the event that waits for it.
     fn take_piece(&mut self, piece: Piece<'a>) -> Result<(), AllocError>
         ensures ok { OnOk result
-            (self.new ≡ resumed self.old.waiting (grown piece.entry self.old.pager)) }
+            (self.new ≡ resumed self.old.waiting (with_piece piece.entry self.old.pager)) }
         ensures refused { OnErr result (self.new ≡ self.old) }
     {
         let known = self.pager.known();
@@ -184,11 +184,11 @@ impl<'a> Acts for Growing<'a> {
 
     type Answer = Piece<'a>;
 
-    ghost use Rattle.pager.specs.Growing.{grown_after, asked_of};
+    ghost use Rattle.pager.specs.Growing.{grown_after, asked_for_more};
 
     ghost updated = { grown_after };
 
-    ghost asked = { asked_of };
+    ghost asked = { asked_for_more };
 
     ghost is_over = { λ g. g.pager.is_over };
 

@@ -44,6 +44,6 @@ pub use parting::parted;
 pub use piece::{More, Piece};
 pub use piece_reader::PieceReader;
 pub use place::Place;
-pub use showing::{show, show_growing};
+pub use showing::{open, show, show_growing};
 pub use styles::{Run, Styles};
 pub use view::View;

@@ -16,8 +16,16 @@ use ratatui_reads::Source;
 use std::alloc::Global;
 use std::io::Write;
 
-// Opens the alternate screen of a terminal, which tells of the mouse and of new sizes from then on.
-fn open<W: Write + Drop>(alloc: Global, size: Size, writer: W) -> Result<AnsiBackend<W>, AnsiError>
+/// Opens the alternate screen of a terminal, which tells of the mouse and of new sizes from then on.
+///
+/// # Errors
+///
+/// If a send fails, or memory is refused.
+pub fn open<W: Write + Drop>(
+    alloc: Global,
+    size: Size,
+    writer: W,
+) -> Result<AnsiBackend<W>, AnsiError>
     ensures { IfOk result (OpensPaging size (W.contents writer)) }
 {
     let mut backend = AnsiBackend::new_on_alternate_screen(alloc, writer, size)?;
