@@ -29,7 +29,7 @@ use Rattle.pager.specs.Moves.{answered, acted, updated_by, updated, letter_marke
 use Rattle.pager.specs.Moves.{sought_first, all_lines, relined, with_lines, taken_in, has_text, turned_to, has_typed, gives_up}
 use Rattle.pager.specs.declared.piece.{More.More, Piece.Piece}
 use Rattle.pager.specs.declared.growing.{Growing.Growing, Waiting.Waiting}
-use Rattle.pager.specs.Growing.{page_needs, answer_needs, mode_needs, size_needs, event_needs, knows, with_piece, heard, resumed}
+use Rattle.pager.specs.Growing.{page_needs, answer_needs, mode_needs, size_needs, event_needs, knows, piece_known, heard, resumed}
 use Rattle.pager.specs.Growing.{heard_if_free, grown_after, asked_for_more, growing, ShowsAll}
 use Rattle.pager.specs.Keys.{event_command, event_answer, event_mark, event_ending, is_press}
 
@@ -257,7 +257,7 @@ knows-on lines p q stays knows = record {
 }
 
 grown-knows : (known : List (List ℕ)) (piece : Piece) (p : Pager) → p.has_more ≡ true → Knows known p
-    → Knows (known ++ lines piece.text.now) (with_piece piece p)
+    → Knows (known ++ lines piece.text.now) (piece_known piece p)
 grown-knows known piece p more knows =
     let none = knows.shows more in record {
       all = ap (λ w. unwrap_or w (p.document ++ lines piece.text.now)) none
@@ -278,9 +278,9 @@ came-knows known b bytes passed knows =
     (knows-on known b.state.pager g.pager (ticked-stays bytes passed b.state) knows)
 
 answered-stays : (g : Growing) (piece : Piece)
-    → Stays (with_piece piece g.pager) (grown_after g (message.Answer piece)).pager
+    → Stays (piece_known piece g.pager) (grown_after g (message.Answer piece)).pager
 unfolding grown_after
-answered-stays g piece = resumed-stays g.waiting (with_piece piece g.pager)
+answered-stays g piece = resumed-stays g.waiting (piece_known piece g.pager)
 
 pub done-knows : (known : List (List ℕ)) (b : Standing Growing) (more : More) (piece : Piece)
     → asked_for_more b.state ≡ Some more → Knows known b.state.pager
@@ -288,5 +288,5 @@ pub done-knows : (known : List (List ℕ)) (b : Standing Growing) (more : More) 
 done-knows known b more piece asks knows =
     let g : Growing = grown_after b.state (message.Answer piece) in
     knows-on _ g.pager _ (taking-stays b.decoder b.left g)
-    (knows-on _ (with_piece piece b.state.pager) g.pager (answered-stays b.state piece)
+    (knows-on _ (piece_known piece b.state.pager) g.pager (answered-stays b.state piece)
     (grown-knows known piece b.state.pager (asks-more b.state more asks) knows))

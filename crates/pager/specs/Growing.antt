@@ -122,8 +122,8 @@ more_styles count styles [] = styles
 more_styles count styles (r ∷ rs) = styles ++ (replicate (count - length styles) [] ++ r ∷ rs)
 
 -- a pager that knows the lines of a piece, too
-abbrev pub with_piece : Piece → Pager → Pager
-with_piece piece p = record p {
+abbrev pub piece_known : Piece → Pager → Pager
+piece_known piece p = record p {
   document = p.document ++ lines piece.text.now;
   styles = more_styles (length p.document) p.styles piece.styles;
   has_more = not piece.is_last;
@@ -149,7 +149,7 @@ heard_if_free None event g = heard event g.pager
 unfoldable pub grown_after : Growing → Message Piece → Growing
 grown_after g (message.Event event) = heard_if_free g.waiting event g
 grown_after g (message.Tick passed) = g
-grown_after g (message.Answer piece) = resumed g.waiting (with_piece piece g.pager)
+grown_after g (message.Answer piece) = resumed g.waiting (piece_known piece g.pager)
 
 -- the next piece is asked for while an event waits, or the page needs more lines than are known
 abbrev pub asks_more : Growing → Bool

@@ -1,7 +1,7 @@
 //! A text that is shown while it comes.
 
 ghost use Rattle.std.specs.Prelude.{◌≡◌, false, None, length, take, is_some, IfOk, OnOk, OnErr};
-ghost use Rattle.pager.specs.Growing.{with_piece, heard, resumed, heard_if_free, asks_more};
+ghost use Rattle.pager.specs.Growing.{piece_known, heard, resumed, heard_if_free, asks_more};
 
 use crate::pager::{Ending, Pager};
 use crate::piece::{More, Piece};
@@ -52,7 +52,7 @@ impl<'a> Pager<'a> {
 
     // Takes the lines of a piece.
     fn grow(&mut self, piece: Piece<'a>) -> Result<(), AllocError>
-        ensures ok { OnOk result (self.new ≡ with_piece piece.entry self.old) }
+        ensures ok { OnOk result (self.new ≡ piece_known piece.entry self.old) }
         ensures err { OnErr result (self.new ≡ self.old) }
     {
         let lines = self.document.len() as usize;
@@ -88,7 +88,7 @@ impl<'a> Growing<'a> {
     /// `AllocError` if memory is refused, or if the text has more than `u32::MAX` lines.
     pub fn new(mut pager: Pager<'a>, first: Piece<'a>) -> Result<Growing<'a>, AllocError>
         ensures { IfOk result (λ g.
-            g ≡ record { pager = with_piece first.entry pager.entry; waiting = None }) }
+            g ≡ record { pager = piece_known first.entry pager.entry; waiting = None }) }
     {
         pager.grow(first)?;
         Ok(Growing {
@@ -158,7 +158,7 @@ impl<'a> Growing<'a> {
     // Takes a piece, and then the event that waits for it.
     fn take_piece(&mut self, piece: Piece<'a>) -> Result<(), AllocError>
         ensures ok { OnOk result
-            (self.new ≡ resumed self.old.waiting (with_piece piece.entry self.old.pager)) }
+            (self.new ≡ resumed self.old.waiting (piece_known piece.entry self.old.pager)) }
         ensures refused { OnErr result (self.new ≡ self.old) }
     {
         let known = self.pager.known();
