@@ -1,7 +1,7 @@
 //! A file manager: a folder in rows, in which no file is touched but the one that the screen names.
 //!
 //! [`Browser`] is a state that acts: `specs/Keys` is the table of its keys, `specs/Moves` what each
-//! makes of it, `specs/Texts` and `specs/Pages` what stands in each row. [`Shown`] is what is outside
+//! makes of it, `specs/Texts` and `specs/Pages` what stands in each row. [`Hands`] is what is outside
 //! of it: it changes files only while the glass shows, whole, the question that names them.
 #![tactic(auto)]
 
