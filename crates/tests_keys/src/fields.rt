@@ -1,6 +1,6 @@
 //! Calls of a field and of its history, each once; the rows of `vectors` say what keys do.
 
-use ratatui_events::Event;
+use ratatui_events::{Event, KeyCode, KeyEvent, KeyModifiers};
 use std::alloc::AllocError;
 use text_field::{Edit, History, Reach, TextField};
 
@@ -72,6 +72,21 @@ fn a_field_is_set_cleared_and_cloned(rt: HostRuntime) -> Result<(), AllocError> 
     assert!(rt; field.killed() == "two");
     assert!(rt; copy.before() == "one ");
     assert!(rt; copy.killed() == "two");
+    Ok(())
+}
+
+#[test]
+fn a_history_undoes(rt: HostRuntime) -> Result<(), AllocError> {
+    let alloc = rt.alloc();
+    let mut field = TextField::new(alloc);
+    let mut history = History::new(alloc, 100);
+    let undo = Event::Key(KeyEvent::new(KeyCode::Char('z'), KeyModifiers::CONTROL));
+    for event in [Event::Pasted('a'), Event::Pasted('b'), undo] {
+        if !history.handle(&mut field, &event)? && event == undo {
+            history.undo(&mut field)?;
+        }
+    }
+    assert!(rt; field.text() == "a");
     Ok(())
 }
 
