@@ -26,6 +26,14 @@ pub enum PagerError {
 }
 
 impl PagerError {
+    /// Says why a run stopped: what is outside of it is the text alone.
+    pub fn ended(fault: Fault<TerminalError<AnsiError>>) -> PagerError {
+        match fault {
+            Fault::Outside(error) => PagerError::Read(error),
+            fault => PagerError::Run(fault),
+        }
+    }
+
     /// Tells it in one line of standard error.
     pub fn tell(self, rt: &HostRuntime, name: &str) -> io::Result<()> {
         match self {

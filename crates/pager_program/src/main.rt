@@ -15,17 +15,19 @@
 mod begin;
 mod error;
 mod size;
-mod text;
 mod words;
 
 use crate::begin::{taken, typed};
 use crate::error::PagerError;
 use crate::size::{Given, size_for};
-use crate::text::parted_text;
 use crate::words::{command, given_by, is_input};
-use pager::{Document, Ending, OwnText, Pager, show};
+use bumpalo::Bump;
+use pager::{Document, Ending, Growing, OwnText, Pager, PieceReader, open};
 use programs::{Stream, is_terminal};
 use ratatui_acts::Seat;
+use ratatui_app::run_and_leave;
+use ratatui_core::layout::Size;
+use ratatui_core::terminal::TerminalError;
 use std::alloc::{AllocError, Global};
 use std::io::{self, BufWriter, Read, Write};
 use std::process::ExitCode;
@@ -58,33 +60,101 @@ impl Place<'_> {
     }
 }
 
-// Shows a text, moved by keys that are typed first, and then by a reader's; how it is done with.
-fn page<R: Read>(
+// A pager at the first line of a text that is not begun.
+fn pager_for<'a>(alloc: Global, place: Place<'_>, size: Size) -> Result<Pager<'a>, PagerError> {
+    let document = Document::new(alloc, "").map_err(PagerError::Text)?;
+    let name = OwnText::new(place.title(alloc).map_err(|_| PagerError::Memory)?);
+    let pattern = OwnText::new(String::new(alloc));
+    Ok(Pager::new(document, name, pattern, size).between(place.has_previous(), place.has_next()))
+}
+
+// A pager of a text of which the first piece is read.
+fn begun<'a, T: Read>(
+    alloc: Global,
+    place: Place<'_>,
+    size: Size,
+    pieces: &mut PieceReader<'a, T>,
+) -> Result<Growing<'a>, PagerError> {
+    let first = pieces.next_piece(false).map_err(PagerError::Read)?;
+    let pager = pager_for(alloc, place, size)?;
+    Growing::new(pager, first).map_err(|_| PagerError::Memory)
+}
+
+// Shows a text while it comes, moved by what a reader gives; how it is done with.
+fn show_pieces<'a, T: Read, R: Read, W: Write + Drop>(
+    alloc: Global,
+    size: Size,
+    typed: &mut R,
+    pieces: &mut PieceReader<'a, T>,
+    has_ticks: bool,
+    writer: W,
+    seat: &mut Seat<Growing<'a>>,
+) -> Result<Ending, PagerError> {
+    let backend = match open(alloc, size, writer) {
+        Ok(backend) => backend,
+        Err(error) => return Err(PagerError::Terminal(TerminalError::Backend(error))),
+    };
+    let left = run_and_leave(alloc, typed, pieces, has_ticks, backend, seat).map_err(
+        PagerError::Terminal,
+    )?;
+    left.ended.map_err(PagerError::ended)?;
+    Ok(seat.state().ending())
+}
+
+// Shows a text as it comes into an arena, moved by what a reader gives; how it is done with.
+fn show_text<'a, T: Read + Drop, R: Read, W: Write + Drop>(
+    alloc: Global,
+    arena: &'a Bump,
+    place: Place<'_>,
+    text: T,
+    is_file: bool,
+    size: Size,
+    typed: &mut R,
+    has_ticks: bool,
+    writer: W,
+) -> Result<Ending, PagerError> {
+    let mut pieces = PieceReader::new(alloc, arena, text, is_file);
+    let growing = begun(alloc, place, size, &mut pieces)?;
+    let mut seat = Seat::new(alloc, growing);
+    show_pieces(
+        alloc,
+        size,
+        typed,
+        &mut pieces,
+        has_ticks,
+        writer,
+        &mut seat,
+    )
+}
+
+// Shows a text as it comes from a reader, moved by keys that are typed first, and then by another
+// reader's; how it is done with.
+fn page<T: Read + Drop, R: Read>(
     rt: &HostRuntime,
     place: Place<'_>,
-    bytes: Vec<u8>,
+    text: T,
+    is_file: bool,
     first: &str,
     keys: &mut R,
     has_ticks: bool,
     given: Given,
 ) -> Result<Ending, PagerError> {
     let alloc = rt.alloc();
-    let (text, styles) = parted_text(alloc, bytes).map_err(|_| PagerError::Memory)?;
-    let document = Document::new(alloc, text.as_str()).map_err(PagerError::Text)?;
-    let name = OwnText::new(place.title(alloc).map_err(|_| PagerError::Memory)?);
-    let pattern = OwnText::new(String::new(alloc));
+    let arena = Bump::new(alloc);
     let mut writer = BufWriter::new(alloc, io::writer(rt)).map_err(PagerError::Write)?;
     let size = size_for(rt, given, keys, has_ticks, &mut writer)?;
-    let pager = Pager::new(document, name, pattern, size)
-        .styled(styles)
-        .between(place.has_previous(), place.has_next());
-    let mut seat = Seat::new(alloc, pager);
     let mut typed = first.as_bytes().chain(keys);
-    let left = show(alloc, size, &mut typed, has_ticks, &mut writer, &mut seat).map_err(
-        PagerError::Terminal,
-    )?;
-    left.ended.map_err(PagerError::Run)?;
-    Ok(seat.state().ending())
+    show_text(
+        alloc,
+        &arena,
+        place,
+        text,
+        is_file,
+        size,
+        &mut typed,
+        has_ticks,
+        &mut writer,
+    )
 }
 
 // Copies a text to standard output.
@@ -101,9 +171,9 @@ fn page_file(
     first: &str,
     given: Given,
 ) -> Result<Ending, PagerError> {
-    let bytes = fs::read(rt, place.name).map_err(PagerError::Read)?;
     let has_ticks = is_terminal(rt, Stream::Input);
     if has_ticks && !is_terminal(rt, Stream::Output) {
+        let bytes = fs::read(rt, place.name).map_err(PagerError::Read)?;
         copy(rt, bytes.as_slice())?;
         return Ok(if place.has_next() {
             Ending::Next
@@ -111,7 +181,17 @@ fn page_file(
             Ending::Quit
         });
     }
-    page(rt, place, bytes, first, &mut rt.reader(), has_ticks, given)
+    let text = fs::open(rt, place.name).map_err(PagerError::Read)?;
+    page(
+        rt,
+        place,
+        text,
+        true,
+        first,
+        &mut rt.reader(),
+        has_ticks,
+        given,
+    )
 }
 
 // Shows files, from the first one on, until the reader is done with the pager.
@@ -148,15 +228,15 @@ fn page_input(rt: &HostRuntime, first: &str, given: Given) -> Result<(), PagerEr
         at: 0,
         count: 1,
     };
-    let mut bytes = Vec::new(rt.alloc());
-    rt.reader()
-        .read_to_end(&mut bytes)
-        .map_err(PagerError::Read)?;
     if !is_terminal(rt, Stream::Output) {
+        let mut bytes = Vec::new(rt.alloc());
+        rt.reader()
+            .read_to_end(&mut bytes)
+            .map_err(PagerError::Read)?;
         return copy(rt, bytes.as_slice());
     }
     let mut keys = fs::open(rt, "/dev/tty").map_err(PagerError::Keys)?;
-    page(rt, place, bytes, first, &mut keys, true, given)?;
+    page(rt, place, rt.reader(), false, first, &mut keys, true, given)?;
     Ok(())
 }
 
