@@ -41,6 +41,15 @@ struct Played {
     screen: OnScreen<TestBackend>,
 }
 
+// A screen in memory.
+fn begun(alloc: Global, size: Size) -> Result<OnScreen<TestBackend>, AllocError> {
+    let backend = TestBackend::new(alloc, size.width, size.height)?;
+    match OnScreen::begin(alloc, Viewport::Fullscreen, backend) {
+        Ok(screen) => Ok(screen),
+        Err(_) => Err(AllocError),
+    }
+}
+
 // Plays reads on the tree, and shows the last state on a screen in memory.
 fn play(alloc: Global, width: u16, reads: &[&[u8]]) -> Result<Played, AllocError> {
     let size = Size { width, height: 6 };
@@ -58,10 +67,7 @@ fn play(alloc: Global, width: u16, reads: &[&[u8]]) -> Result<Played, AllocError
         Ok(()) => {}
         Err(_) => return Err(AllocError),
     }
-    let backend = TestBackend::new(alloc, width, size.height)?;
-    let Ok(mut screen) = OnScreen::begin(alloc, Viewport::Fullscreen, backend) else {
-        return Err(AllocError);
-    };
+    let mut screen = begun(alloc, size)?;
     match screen.show(seat.state(), Told::first()) {
         Ok(()) => Ok(Played { hands, screen }),
         Err(_) => Err(AllocError),
