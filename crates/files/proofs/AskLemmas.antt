@@ -81,10 +81,6 @@ tick-same : (b : Browser) (passed : Duration) → AsksTheSame b (browsed_after b
 unfolding browsed_after
 tick-same b passed = flags-same b.is_sure true b
 
-tick-sure : (b : Browser) (passed : Duration) → (browsed_after b (message.Tick passed)).is_sure ≡ b.is_sure
-unfolding browsed_after
-tick-sure b passed = refl
-
 answer-calm : (b : Browser) (o : Outcome) → ((browsed_after b (message.Answer o)).is_quiet ≡ false)
     × ((browsed_after b (message.Answer o)).is_sure ≡ false)
 unfolding browsed_after

@@ -108,10 +108,6 @@ module _ (t : Breaking) (more : List (List ℕ)) where
       ap (next_place longer) (after-more n q (omega (arith, le)))
       ∙ next-more (places_after t n q) (omega (arith, le, far))
 
-  -- the row before, at a line that has one before it, or none
-  back-to : List ℕ → ℕ → Place
-  back-to l line = text_place line (rows_of_line t l - 1)
-
   previous-line : (line row : ℕ) → (previous_place t (text_place line row)).line ≤ line
   previous-line line row = by (nat_lt 0 row) (nat_lt 0 line)
     where

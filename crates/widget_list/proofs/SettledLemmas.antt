@@ -80,9 +80,6 @@ largest-made test (suc n) = largest-made-step test n (test (suc n)) refl (larges
 pub fit-test : (a b : ℕ) → a ≤ b → nat_le a b ≡ true
 fit-test a b le = grind (arith, nat_tests)
 
-pub over-test : (a b : ℕ) → b < a → nat_le a b ≡ false
-over-test a b lt = grind (arith, nat_tests)
-
 pub test-fit : (a b : ℕ) → nat_le a b ≡ true → a ≤ b
 test-fit a b is = grind (arith, nat_tests)
 
