@@ -5,7 +5,7 @@ use Rattle.std.specs.declared.alloc.AllocError.{AllocError}
 use Rattle.ratatui_core.specs.{Layout.Rect, Style.new_style, Text.LineData, Buffer.BufferData, Buffer.text_pieces, Buffer.columns}
 use Rattle.rtui_drawing.specs.{Cuts.cut_from, Drawings.Drawing, Drawings.IsDone, Drawings.DrawsAll, Drawings.IsRowIn}
 use Rattle.rtui_drawing.specs.Drawings.{put_pieces, put_line, put_style, over}
-use Rattle.rtui_drawing.specs.declared.cut.Cut.TheVariants.{First, After, Rows}
+use Rattle.rtui_drawing.specs.declared.cut.Cut.TheVariants.{After, Rows}
 use Rattle.rtui_drawing.proofs.Laws.{Continues}
 use Rattle.rtui_drawing.proofs.DrawingLemmas.{done-within, draws-within, done-all, done-then, draws-then, done-stop, done-in, continues-next, continues-stop, continues-end}
 use Rattle.widget_tree.specs.declared.{item.TreeItem.TreeItem, state.TreeState.TreeState, tree.Tree.Tree}
@@ -14,17 +14,6 @@ use Rattle.widget_tree.specs.Trees.{node_label, each_in_row, left_drawing, highl
 use Rattle.widget_tree.specs.Inner.{IsNext}
 use Rattle.widget_tree.specs.Depths.{shows_node}
 use Rattle.widget_tree.proofs.RowLemmas.{rows_left, rows-here, rows-next}
-
--- the first columns of a row of a buffer are a row of it
-pub row-first : (own row : Rect) (n : ℕ) → IsRowIn own row → IsRowIn own (cut_from (First n) row)
-row-first own row n is = let l = is.left in let r = is.right in let e = is.edge in record {
-  there = is.there;
-  left = is.left;
-  right = omega arith;
-  edge = omega arith;
-  down = is.down;
-  high = is.high;
-}
 
 -- and so are all but some of them
 pub row-rest : (own row : Rect) (n : ℕ) → n ≤ row.width → IsRowIn own row → IsRowIn own (cut_from (After n) row)

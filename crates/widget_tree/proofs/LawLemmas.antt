@@ -251,11 +251,6 @@ item-at p a (suc n) i lt =
               (m - get_or (filter p (range_with_len (a + 1) n)) i 0))) same_end;
         }
 
-pub shown-item : (ds : List ℕ) (os : List Bool) (a b i : ℕ) → a ≤ b → i < length (shown_nodes ds os a b)
-    → ItemAt (shows_node ds os) a (b - a) i (get_or (shown_nodes ds os a b) i 0)
-unfolding shown_nodes
-shown-item ds os a b i le lt = item-at (shows_node ds os) a (b - a) i lt
-
 -- from an item of those that are shown on there are as many as follow it
 pub record RowAt (ds : List ℕ) (os : List Bool) (a b i e : ℕ) : Type 0 where
   pub from : a ≤ e

@@ -1,6 +1,6 @@
 -- Parents and ends: from a node to the ones that are shown around it.
 use Rattle.std.proofs.Common.{◌≡◌, ℕ, ◌+◌, ◌<◌, ◌≤◌, ◌⊎◌, ⊎_elim, inl, inr, Bool, true, false, List, length}
-use Rattle.std.proofs.Common.{Some, None, refl, sym, ap, subst, arith}
+use Rattle.std.proofs.Common.{Some, None, sym, ap, subst, arith}
 use Rattle.std.proofs.lemmas.Bool.{cases_lt, cases_eq}
 use Rattle.std.proofs.lemmas.List.{get_or_past}
 use Rattle.widget_tree.specs.Depths.{is_ancestor, is_opened, shows_node, first_node, last_node}
@@ -58,20 +58,6 @@ pub record Climbs (ds : List ℕ) (os : List Bool) (k at stands : ℕ) : Type 0 
   pub is : (stands ≡ k) ⊎ (IsAncestor ds stands k × (is_opened os stands ≡ false))
   pub opened : (a : ℕ) → IsAncestor ds a stands → at ≤ a → is_opened os a ≡ true
 
-pub climbs-start : (ds : List ℕ) (os : List Bool) (k : ℕ) → Climbs ds os k k k
-climbs-start ds os k = record {
-  within = omega arith;
-  at_most = omega arith;
-  line = inl refl;
-  is = inl refl;
-  opened = λ a anc le. let before = anc.before in absurd (omega arith);
-}
-
--- the ancestors of a node on the way are the node's
-line-up : {ds : List ℕ} {k at p : ℕ} → (at ≡ k) ⊎ IsAncestor ds at k → IsAncestor ds p at → IsAncestor ds p k
-line-up {ds} {k} {at} {p} line anc =
-    ⊎_elim (λ (same : at ≡ k). subst (λ j. IsAncestor ds p j) same anc) (λ (up : IsAncestor ds at k). ancestor-then anc up) line
-
 line-down : {ds : List ℕ} {k at a : ℕ} → (at ≡ k) ⊎ IsAncestor ds at k → IsAncestor ds a k → a < at → IsAncestor ds a at
 line-down {ds} {k} {at} {a} line anc lt =
     ⊎_elim (λ (same : at ≡ k). subst (λ j. IsAncestor ds a j) (sym same) anc)
@@ -82,38 +68,6 @@ stands-up : {ds : List ℕ} (os : List Bool) {k s a : ℕ} → (s ≡ k) ⊎ (Is
 stands-up {ds} os {k} {s} {a} is anc =
     ⊎_elim (λ (same : s ≡ k). subst (λ j. IsAncestor ds a j) same anc)
     (λ (up : IsAncestor ds s k × (is_opened os s ≡ false)). ancestor-then anc up.0) is
-
-pub climbs-closed : {ds : List ℕ} {os : List Bool} {k at s up : ℕ} (p : ℕ) → Climbs ds os k at s → IsUp ds at up → p + 1 ≡ up
-    → is_opened os p ≡ false → Climbs ds os k p p
-climbs-closed {ds} {os} {k} {at} {s} {up} p is ups e closed =
-    let anc = line-up is.line (up-parent p ups e) in
-    let before = anc.before in
-    record {
-      within = omega arith;
-      at_most = omega arith;
-      line = inr anc;
-      is = inr ((anc, closed));
-      opened = λ a higher le. let earlier = higher.before in absurd (omega arith);
-    }
-
-pub climbs-opened : {ds : List ℕ} {os : List Bool} {k at s up : ℕ} (p : ℕ) → Climbs ds os k at s → IsUp ds at up → p + 1 ≡ up
-    → is_opened os p ≡ true → Climbs ds os k p s
-climbs-opened {ds} {os} {k} {at} {s} {up} p is ups e open_ =
-    let parent = up-parent p ups e in
-    let lt = parent.before in let le = is.within in
-    record {
-      within = omega arith;
-      at_most = is.at_most;
-      line = inr (line-up is.line parent);
-      is = is.is;
-      opened = λ a anc from.
-          ⊎_elim
-          (λ (lower : a < at).
-          let least = up-least ups (line-down is.line (stands-up os is.is anc) lower) in
-          let same : p ≡ a = omega arith in subst (λ j. is_opened os j ≡ true) same open_)
-          (λ (higher : at ≤ a). is.opened a anc higher)
-          (cases_lt a at);
-    }
 
 pub climbs-end : {ds : List ℕ} {os : List Bool} {k at s : ℕ} → k < length ds → Climbs ds os k at s → IsUp ds at 0
     → ShowsFor ds os k s

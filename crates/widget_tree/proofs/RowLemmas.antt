@@ -38,10 +38,6 @@ pub rows-past : (ds : List ℕ) (os : List Bool) (height y node : ℕ) → lengt
 rows-past ds os height y node past =
     ap (λ xs. take (height - y) xs) (in-none ds os node (length ds) past) ∙ take-none (height - y)
 
-pub rows-full : (ds : List ℕ) (os : List Bool) (height y node : ℕ) → height ≤ y → rows_left ds os height y node ≡ []
-rows-full ds os height y node full =
-    let none : height - y ≡ 0 = omega arith in ap (λ m. take m (shown_nodes ds os node (length ds))) none
-
 -- the selected node stands in one of them
 get-take : {A : Type 0} (xs : List A) (n y : ℕ) → y < n → slice_get (take n xs) y ≡ slice_get xs y
 get-take xs zero y lt = absurd (omega arith)
