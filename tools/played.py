@@ -12,10 +12,9 @@ import glob
 import hashlib
 import os
 import shutil
-import subprocess
 import tempfile
 
-from shared import TOP
+from shared import TOP, ran
 
 LINKER = """#!/bin/bash
 # Links, and keeps the program. If this fails then, rt try doesn't run it. rt try passes no variables on.
@@ -66,10 +65,10 @@ def kit():
     found = shutil.which("rt")
     if not found:
         raise NotBuilt("there is no rt: the Rattle kit's bin folder has to be in PATH")
-    ran = subprocess.run([found, "version"], stdout=subprocess.PIPE, stderr=subprocess.STDOUT, stdin=subprocess.DEVNULL, text=True)
-    if ran.returncode:
-        raise NotBuilt(f"rt version failed: {ran.stdout.strip()}")
-    return os.path.dirname(os.path.dirname(os.path.realpath(found))), ran.stdout.strip()
+    status, said = ran([found, "version"])
+    if status:
+        raise NotBuilt(f"rt version failed: {said.strip()}")
+    return os.path.dirname(os.path.dirname(os.path.realpath(found))), said.strip()
 
 
 def stamp(crate, version):
@@ -130,13 +129,11 @@ def put(program, crate, version):
 def build(crate, folder, version):
     """Builds a program with the kit of a folder, and keeps it."""
     with copied(folder, 1) as (rt, kept):
-        how = {"stdin": subprocess.DEVNULL, "stdout": subprocess.PIPE, "stderr": subprocess.STDOUT}
-        ran = subprocess.run([rt, "try", "--steps", "1", "--seconds", "1"], cwd=f"{TOP}/crates/{crate}", **how)
-        said = ran.stdout.decode(errors="replace")
+        status, said = ran([rt, "try", "--steps", "1", "--seconds", "1"], f"{TOP}/crates/{crate}")
         if not os.path.isfile(kept):
             if "run=ended" in said:
                 raise NotBuilt("this kit links in a way that isn't known here, so no program can be kept: rt try runs one, without keys")
-            raise Refused(said.strip() or f"rt try failed with status {ran.returncode}, and said nothing")
+            raise Refused(said.strip() or f"rt try failed with status {status}, and said nothing")
         put(kept, crate, version)
 
 
@@ -144,11 +141,10 @@ def tried(crate, *words):
     """What `rt try` said of a crate, and its status; a program is kept."""
     folder, version = kit()
     with copied(folder, 0) as (rt, kept):
-        how = {"stdin": subprocess.DEVNULL, "stdout": subprocess.PIPE, "stderr": subprocess.STDOUT, "text": True}
-        ran = subprocess.run([rt, "try", *words], cwd=f"{TOP}/crates/{crate}", **how)
+        told = ran([rt, "try", *words], f"{TOP}/crates/{crate}")
         if os.path.isfile(kept) and is_program(crate) and "--test" not in words:
             put(kept, crate, version)
-    return ran.returncode, ran.stdout
+    return told
 
 
 def is_program(crate):

@@ -2,11 +2,28 @@
 
 import os
 import signal
+import subprocess
 import sys
+import threading
 
 TOP = os.path.dirname(os.path.dirname(os.path.abspath(__file__)))
 # The files of `crates/vectors` whose rows aren't calls of ratatui_core.
 OTHER_ROWS = ("split.rows", "split_cases.rows", "keys.rows", "files.rows", "areas.rows", "views.rows", "fields.rows", "graphemes.rows")
+
+
+# The processor seconds of what `ran` ran in this thread.
+USED = threading.local()
+
+
+def ran(given, at=TOP):
+    """Runs a program in a folder, without input: its status, and what it said. Its processor seconds are added to `USED.seconds`."""
+    how = {"stdin": subprocess.DEVNULL, "stdout": subprocess.PIPE, "stderr": subprocess.STDOUT, "text": True, "errors": "replace"}
+    with subprocess.Popen(given, cwd=at, **how) as process:
+        said = process.stdout.read()
+        _, status, used = os.wait4(process.pid, 0)
+        process.returncode = os.waitstatus_to_exitcode(status)
+    USED.seconds = getattr(USED, "seconds", 0) + used.ru_utime + used.ru_stime
+    return process.returncode, said
 
 
 def refuse(why):
