@@ -9,7 +9,7 @@ use ratatui_widgets::Block;
 use std::alloc::{AllocError, Global};
 use widget_big_text::{BigText, PixelSize};
 use widget_calendar::{CalendarEventStore, Monthly};
-use widget_logo::{RatatuiLogo, RatatuiMascot};
+use widget_logo::{MascotEyeColor, RatatuiLogo, RatatuiMascot};
 use widget_popup::Popup;
 use widget_scroll_view::{ScrollView, ScrollViewState};
 use widget_throbber::{ASCII, Throbber, ThrobberState};
@@ -90,5 +90,5 @@ pub fn logo(frame: &mut Frame<'_>) -> Result<(), AllocError> {
 /// Draws the mascot.
 pub fn mascot(frame: &mut Frame<'_>) -> Result<(), AllocError> {
     let area = frame.area();
-    frame.render_widget(RatatuiMascot::new(), area)
+    frame.render_widget(RatatuiMascot::new().set_eye(MascotEyeColor::Red), area)
 }

@@ -135,6 +135,27 @@ fn labels_of<'a>(alloc: Global, texts: &'a str) -> Result<Vec<Label<'a>>, AllocE
     Ok(labels)
 }
 
+// Renders a canvas with these shapes and labels.
+fn render_canvas<'a>(
+    alloc: Global,
+    case: &Case<'a>,
+    shown: (&'a [Drawing<'a>], &'a [Label<'a>]),
+    area: Rect,
+    buffer: &mut Buffer,
+) -> Result<(), AllocError> {
+    let mut canvas = Canvas::new()
+        .x_bounds(case.bounds("x"))
+        .y_bounds(case.bounds("y"))
+        .marker(marker_of(case))
+        .background_color(paint_of(case.text("back")))
+        .paint(shown.0)
+        .print(shown.1);
+    if let Some(frame) = frame_of(alloc, case)? {
+        canvas = canvas.block(frame);
+    }
+    canvas.render(area, buffer)
+}
+
 /// Renders the canvas that a case says.
 pub fn canvas(
     alloc: Global,
@@ -143,17 +164,9 @@ pub fn canvas(
     buffer: &mut Buffer,
 ) -> Result<(), AllocError> {
     let points = all_points(alloc, case.texts)?;
+    let texts = String::from_str(alloc, case.texts)?;
     let drawings = drawings_of(alloc, case.texts, points.as_slice())?;
-    let labels = labels_of(alloc, case.texts)?;
-    let mut canvas = Canvas::new()
-        .x_bounds(case.bounds("x"))
-        .y_bounds(case.bounds("y"))
-        .marker(marker_of(case))
-        .background_color(paint_of(case.text("back")))
-        .paint(drawings.as_slice())
-        .print(labels.as_slice());
-    if let Some(frame) = frame_of(alloc, case)? {
-        canvas = canvas.block(frame);
-    }
-    canvas.render(area, buffer)
+    let labels = labels_of(alloc, texts.as_str())?;
+    let shown = (drawings.as_slice(), labels.as_slice());
+    render_canvas(alloc, case, shown, area, buffer)
 }

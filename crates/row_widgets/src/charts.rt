@@ -98,6 +98,27 @@ fn legend_of(case: &Case<'_>) -> Option<LegendPosition> {
     }
 }
 
+// The chart that a case says, of these points, without its box.
+fn chart_of<'a>(
+    alloc: Global,
+    case: &Case<'a>,
+    points: &'a [Vec<(i64, i64)>],
+) -> Result<Chart<'a>, AllocError> {
+    let datasets = datasets_of(alloc, case, points)?;
+    let x = axis_of(alloc, case, &X_AXIS)?;
+    let y = axis_of(alloc, case, &Y_AXIS)?;
+    let chart = Chart::new(datasets)
+        .x_axis(x)
+        .y_axis(y)
+        .style(case.style("style"))
+        .legend_position(legend_of(case));
+    let Some((columns, rows)) = pair_of(case.text("legend")) else {
+        return Ok(chart);
+    };
+    let most = |n: i64| Constraint::Length(n.clamp(0, 65535) as u16);
+    Ok(chart.hidden_legend_constraints((most(columns), most(rows))))
+}
+
 /// Renders the chart that a case says.
 pub fn chart(
     alloc: Global,
@@ -106,17 +127,7 @@ pub fn chart(
     buffer: &mut Buffer,
 ) -> Result<(), AllocError> {
     let points = all_points(alloc, case.texts)?;
-    let x = axis_of(alloc, case, &X_AXIS)?;
-    let y = axis_of(alloc, case, &Y_AXIS)?;
-    let mut chart = Chart::new(datasets_of(alloc, case, points.as_slice())?)
-        .x_axis(x)
-        .y_axis(y)
-        .style(case.style("style"))
-        .legend_position(legend_of(case));
-    if let Some((columns, rows)) = pair_of(case.text("legend")) {
-        let most = |n: i64| Constraint::Length(n.clamp(0, 65535) as u16);
-        chart = chart.hidden_legend_constraints((most(columns), most(rows)));
-    }
+    let mut chart = chart_of(alloc, case, points.as_slice())?;
     if let Some(frame) = frame_of(alloc, case)? {
         chart = chart.block(frame);
     }

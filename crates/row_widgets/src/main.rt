@@ -1,44 +1,52 @@
-//! The program `row_widgets`: reads cases of widgets with the picture that each should leave, and
+//! The program `row_widgets`: reads cases of widgets, each with the picture that it should leave,
 //! prints how many leave theirs, and both pictures of each that leaves another one.
 //!
-//! `row_widgets FILE..` reads files. Those that end in `.pictures` are said here; the crate `row_parts`
-//! says what the rows of other files are.
+//! `row_widgets FILE..` reads files. Those that end in `.pictures` are said here; the crate
+//! `row_parts` says what the rows of other files are.
 //!
-//! Blank lines part the cases. The first line of a case has, with a tab between each two, a widget,
-//! the size of a buffer, options, and texts after bars: `list 8x3 selected=1 symbol=> | one | two`
-//! (with tabs before the last bar's blanks). Its picture follows: of a list or a table the state that
-//! the widget leaves (the first item that is shown, the selected one, the selected column); then each
-//! row of the buffer, between bars, and under a row a line for each mark that some cell in it has:
-//! `f` the letters of foregrounds, `b` those of backgrounds, and a line for each modifier.
+//! Blank lines part the cases. The first line of a case has a widget, the size of a buffer, options,
+//! and texts after bars: `list 8x3 selected=1 symbol=> | one | two`, with tabs in place of the blanks
+//! before the first text. Its picture follows: of a list or a table the state that it leaves (the
+//! first item that is shown, the selected one, the selected column); then each row of the buffer,
+//! between bars, and under a row a line for each mark that a cell in it has: `f` the letters of
+//! foregrounds, `b` those of backgrounds, and one for each modifier.
 //!
 //! What begins with `#` says whose pictures the cases after it have. After each such group stands how
 //! many leave their picture, and how many don't.
 //!
-//! A style is written as signs: a small letter is a foreground, a capital a background (`k` black,
+//! A style is written as signs: a small letter is a foreground and a capital a background (`k` black,
 //! `r`, `g`, `y`, `b`, `m`, `c`, `w` white, `n` the terminal's own), `*` bold, `.` dim, `/` italic,
 //! `_` underlined, `^` reversed, `~` crossed out. In a line each `{r}` begins a span of this style. An
-//! item, a row, a cell, a bar, a label of a gauge and a divider may begin with a style, as `<rG>`. `\`
-//! parts the lines of an item or a cell.
+//! item, a row, a cell, a bar, a label of a gauge and a divider may begin with a style, as in `<rG>`.
+//! `\` parts the lines of an item or a cell, and `;` the cells of a row.
 //!
-//! Options of all: `in=X,Y,WIDTH,HEIGHT`, the area in place of the whole buffer; `ground`, the style of
-//! an `x` that stands in each cell before. Of all but boxes, scroll bars and `clear`: `box`, the style
-//! of the lines around, `inside`, that of the whole box, and `title`. Of all but canvases: `style`.
+//! Options of all are `in=X,Y,WIDTH,HEIGHT`, the area in place of the whole buffer, and `ground`, the
+//! style of an `x` that stands in each cell before; of all that may have a box `box`, the style of its
+//! lines, `inside`, its own, and `title`; and of most `style`. The others by widget:
 //!
-//! | widget | texts | options |
-//! |---|---|---|
-//! | `block` | titles | `borders` (of `tlrb`), `type`, `lines`, `titles` (styles), `align`, `at` (bottom), `places` (of each title), `padding` |
-//! | `clear` | - | - |
-//! | `paragraph` | lines | `wrap` (`trim` or `keep`), `align`, `scroll` (rows and columns) |
-//! | `list` | items | `selected`, `offset`, `symbol`, `repeat`, `marks` (when the symbol has its columns), `from` (bottom), `padding` (of scrolling), `highlight` |
-//! | `gauge` | - | `percent` or `ratio`, `label`, `bar` (its style), `unicode` |
-//! | `linegauge` | - | `percent` or `ratio`, `label`, `filled`, `unfilled`, `set` |
-//! | `tabs` | titles | `selected`, `divider`, `left`, `right` (paddings), `highlight` |
-//! | `table` | rows, `;` parts cells | `widths` (`l5,p30,m3,M8,r1/3,f1`), `header`, `footer`, `spacing`, `flex`, `selected`, `column`, `offset`, `symbol`, `marks`, `height`, `top`, `margin`, `highlight`, `columns`, `cells` (styles) |
-//! | `sparkline` | - | `data`, `max`, `set`, `from` (right), `absent`, `absents` (its style) |
-//! | `barchart` | `label=value=text`, or a group's label | `width`, `gap`, `groups` (the gap between groups), `max`, `direction`, `set`, `bars`, `values`, `labels` (styles) |
-//! | `scrollbar` | - | `side`, `content`, `position`, `seen`, `arrows` (no), `thumb`, `track`, `thumbs`, `tracks`, `begins`, `ends` (styles) |
-//! | `canvas` | `line r X Y X Y`, `rectangle r X Y WIDTH HEIGHT`, `circle r X Y RADIUS`, `points r X,Y X,Y`, `layer`, `print X Y TEXT` | `marker`, `x`, `y` (bounds), `back` (a colour) |
-//! | `chart` | `r X,Y X,Y`: a style and points | `marker`, `kind`, `x`, `y`, `xtitle`, `xlabels`, `xalign`, `xstyle`, the same of `y`, `names`, `legend` (how large it may be), `legendat` |
+//! - `block`: `borders` (of `tlrb`), `type`, `lines` and `titles` (styles), `align`, `at` (`bottom`),
+//!   `places` (of each title), `padding`; its texts are titles;
+//! - `clear`;
+//! - `paragraph`: `wrap` (`trim` or `keep`), `align`, `scroll` (rows and columns);
+//! - `list`: `selected`, `offset`, `symbol`, `repeat`, `marks` (when the symbol has its columns),
+//!   `from` (`bottom`), `padding` (of scrolling), `highlight`;
+//! - `table`: `widths` (as `l5,p30,m3,M8,r1/3,f1`), `header`, `footer`, `spacing`, `flex`, `selected`,
+//!   `column`, `offset`, `symbol`, `marks`, `height`, `top` and `margin` (of each row), `highlight`,
+//!   `columns` and `cells` (styles);
+//! - `gauge`: `percent` or `ratio`, `label`, `bar` (its style), `unicode`;
+//! - `linegauge`: `percent` or `ratio`, `label`, `filled`, `unfilled`, `set`;
+//! - `tabs`: `selected`, `divider`, `left` and `right` (paddings), `highlight`;
+//! - `sparkline`: `data`, `max`, `set`, `from` (`right`), `absent`, `absents` (its style);
+//! - `barchart`: `width`, `gap`, `groups` (the gap between groups), `max`, `direction`, `set`, `bars`,
+//!   `values` and `labels` (styles); its texts are `label=value` or `label=value=text`, and one
+//!   without `=` begins a group with this label;
+//! - `scrollbar`: `side`, `content`, `position`, `seen`, `arrows` (`no`), `thumb`, `track`, and the
+//!   styles `thumbs`, `tracks`, `begins`, `ends`;
+//! - `canvas`: `marker`, `x` and `y` (bounds), `back` (a colour); its texts are `line r X Y X Y`,
+//!   `rectangle r X Y WIDTH HEIGHT`, `circle r X Y RADIUS`, `points r X,Y X,Y`, `layer` and
+//!   `print X Y TEXT`;
+//! - `chart`: `marker`, `kind`, `x`, `xtitle`, `xlabels`, `xalign`, `xstyle`, the same of `y`,
+//!   `names`, `legend` (how large it may be), `legendat`; its texts are a style and points.
 #![tactic(auto)]
 
 mod bars;
