@@ -47,12 +47,12 @@ class Draw:
         """A selection, seldom past the end."""
         return f"selected={self.number(0, count if self.often(0.1) else max(count - 1, 0))}"
 
-    def around(self):
-        """A box around, an area, and what stands there before."""
+    def around(self, has_title=True):
+        """A box around, and what stands there before."""
         options = []
         if self.often(0.25):
             options.append("box=" + (self.style() if self.often(0.5) else ""))
-            options += self.styled("inside") + ([f"title={self.line()}"] if self.often(0.4) else [])
+            options += self.styled("inside") + ([f"title={self.line()}"] if has_title and self.often(0.4) else [])
         if self.often(0.1):
             options.append(f"ground={self.style()}")
         return options
@@ -170,7 +170,7 @@ class Draw:
                 "layer",
             ]))
         options = [self.marker(), across, up] + ([f"back={self.one('rgb')}"] if self.often(0.3) else [])
-        return options + self.around(), texts
+        return options + self.around(False), texts
 
     def axis(self, name, low, high):
         options = []

@@ -9,14 +9,19 @@ use ratatui_core::widgets::Widget;
 use std::alloc::{AllocError, Global};
 use widget_boxes::{Block, BorderType, Borders, Padding, TitlePosition};
 
+/// Returns the box around a widget that a case says, without a title.
+pub fn plain_frame(alloc: Global, case: &Case<'_>) -> Block<'static> {
+    Block::bordered(alloc)
+        .style(case.style("inside"))
+        .border_style(case.style("box"))
+}
+
 /// Returns the box around a widget that a case says, if there is one.
 pub fn frame_of<'a>(alloc: Global, case: &Case<'a>) -> Result<Option<Block<'a>>, AllocError> {
     if case.option("box").is_none() {
         return Ok(None);
     }
-    let frame = Block::bordered(alloc)
-        .style(case.style("inside"))
-        .border_style(case.style("box"));
+    let frame = plain_frame(alloc, case);
     match case.option("title") {
         Some(title) => Ok(Some(frame.title(line_of(alloc, title)?)?)),
         None => Ok(Some(frame)),

@@ -1,6 +1,6 @@
 //! The canvases of the cases.
 
-use crate::boxes::frame_of;
+use crate::boxes::plain_frame;
 use crate::cases::{Case, pair_of};
 use crate::looks::{color_of, line_of};
 use ratatui_core::buffer::Buffer;
@@ -138,22 +138,22 @@ fn labels_of<'a>(alloc: Global, texts: &'a str) -> Result<Vec<Label<'a>>, AllocE
 // Renders a canvas with these shapes and labels.
 fn render_canvas<'a>(
     alloc: Global,
-    case: &Case<'a>,
+    case: &Case<'_>,
     shown: (&'a [Drawing<'a>], &'a [Label<'a>]),
     area: Rect,
     buffer: &mut Buffer,
 ) -> Result<(), AllocError> {
-    let mut canvas = Canvas::new()
+    let canvas = Canvas::new()
         .x_bounds(case.bounds("x"))
         .y_bounds(case.bounds("y"))
         .marker(marker_of(case))
         .background_color(paint_of(case.text("back")))
         .paint(shown.0)
         .print(shown.1);
-    if let Some(frame) = frame_of(alloc, case)? {
-        canvas = canvas.block(frame);
+    match case.option("box") {
+        Some(_) => canvas.block(plain_frame(alloc, case)).render(area, buffer),
+        None => canvas.render(area, buffer),
     }
-    canvas.render(area, buffer)
 }
 
 /// Renders the canvas that a case says.

@@ -119,6 +119,46 @@ fn chart_of<'a>(
     Ok(chart.hidden_legend_constraints((most(columns), most(rows))))
 }
 
+// What a chart borrows: the texts of a case, and its points.
+#[derive(Drop)]
+struct Owned {
+    options: String,
+    texts: String,
+    points: Vec<Vec<(i64, i64)>>,
+}
+
+fn owned_of(alloc: Global, case: &Case<'_>) -> Result<Owned, AllocError> {
+    let options = String::from_str(alloc, case.options)?;
+    let texts = String::from_str(alloc, case.texts)?;
+    let points = all_points(alloc, case.texts)?;
+    Ok(Owned {
+        options,
+        texts,
+        points,
+    })
+}
+
+// Renders the chart that these texts and points say.
+fn render_chart(
+    alloc: Global,
+    owned: &Owned,
+    area: Rect,
+    buffer: &mut Buffer,
+) -> Result<(), AllocError> {
+    let case = Case {
+        kind: "chart",
+        width: 0,
+        height: 0,
+        options: owned.options.as_str(),
+        texts: owned.texts.as_str(),
+    };
+    let mut chart = chart_of(alloc, &case, owned.points.as_slice())?;
+    if let Some(frame) = frame_of(alloc, &case)? {
+        chart = chart.block(frame);
+    }
+    chart.render(area, buffer)
+}
+
 /// Renders the chart that a case says.
 pub fn chart(
     alloc: Global,
@@ -126,10 +166,5 @@ pub fn chart(
     area: Rect,
     buffer: &mut Buffer,
 ) -> Result<(), AllocError> {
-    let points = all_points(alloc, case.texts)?;
-    let mut chart = chart_of(alloc, case, points.as_slice())?;
-    if let Some(frame) = frame_of(alloc, case)? {
-        chart = chart.block(frame);
-    }
-    chart.render(area, buffer)
+    render_chart(alloc, &owned_of(alloc, case)?, area, buffer)
 }

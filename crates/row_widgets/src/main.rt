@@ -22,7 +22,8 @@
 //!
 //! Options of all are `in=X,Y,WIDTH,HEIGHT`, the area in place of the whole buffer, and `ground`, the
 //! style of an `x` that stands in each cell before; of all that may have a box `box`, the style of its
-//! lines, `inside`, its own, and `title`; and of most `style`. The others by widget:
+//! lines, `inside`, its own, and, but for canvases, `title`; and of most `style`. The others by
+//! widget:
 //!
 //! - `block`: `borders` (of `tlrb`), `type`, `lines` and `titles` (styles), `align`, `at` (`bottom`),
 //!   `places` (of each title), `padding`; its texts are titles;
