@@ -1,4 +1,4 @@
-//! A calendar, a popup, a throbber, a scroll view, a tree, a big text and a logo, which stand in
+//! A calendar, a popup, a throbber, a scroll view, a tree, a big text, a logo and a mascot, which stand in
 //! crates of their own.
 use jiff::civil::Date;
 use ratatui_core::layout::{Position, Size};
@@ -9,7 +9,7 @@ use ratatui_widgets::Block;
 use std::alloc::{AllocError, Global};
 use widget_big_text::{BigText, PixelSize};
 use widget_calendar::{CalendarEventStore, Monthly};
-use widget_logo::RatatuiLogo;
+use widget_logo::{MascotEyeColor, RatatuiLogo, RatatuiMascot};
 use widget_popup::Popup;
 use widget_scroll_view::{ScrollView, ScrollViewState};
 use widget_throbber::{ASCII, Throbber, ThrobberState};
@@ -85,4 +85,10 @@ pub fn big_text(alloc: Global, frame: &mut Frame<'_>) -> Result<(), AllocError> 
 pub fn logo(frame: &mut Frame<'_>) -> Result<(), AllocError> {
     let area = frame.area();
     frame.render_widget(RatatuiLogo::small(), area)
+}
+
+/// Draws the mascot.
+pub fn mascot(frame: &mut Frame<'_>) -> Result<(), AllocError> {
+    let area = frame.area();
+    frame.render_widget(RatatuiMascot::new().set_eye(MascotEyeColor::Red), area)
 }

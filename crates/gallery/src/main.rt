@@ -43,6 +43,7 @@ enum Picture {
     Tree,
     BigText,
     RatatuiLogo,
+    RatatuiMascot,
     Map,
 }
 
@@ -69,6 +70,7 @@ impl Picture {
             Picture::Tree => "Tree",
             Picture::BigText => "BigText",
             Picture::RatatuiLogo => "RatatuiLogo",
+            Picture::RatatuiMascot => "RatatuiMascot",
             Picture::Map => "Map",
         }
     }
@@ -99,13 +101,14 @@ impl Picture {
             Picture::Tree => apart::tree(alloc, frame),
             Picture::BigText => apart::big_text(alloc, frame),
             Picture::RatatuiLogo => apart::logo(frame),
+            Picture::RatatuiMascot => apart::mascot(frame),
             Picture::Map => charts::map(frame),
         }
     }
 }
 
 // Each widget, with the columns and rows of its picture.
-static PICTURES: [(Picture, u16, u16); 21] = [
+static PICTURES: [(Picture, u16, u16); 22] = [
     (Picture::Block, 24, 4),
     (Picture::Paragraph, 24, 4),
     (Picture::List, 24, 3),
@@ -126,6 +129,7 @@ static PICTURES: [(Picture, u16, u16); 21] = [
     (Picture::Tree, 24, 3),
     (Picture::BigText, 24, 4),
     (Picture::RatatuiLogo, 27, 2),
+    (Picture::RatatuiMascot, 32, 16),
     (Picture::Map, 60, 15),
 ];
 

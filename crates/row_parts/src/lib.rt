@@ -27,12 +27,13 @@
 //! In a big text a slash ends a line; a line that begins with `<` or `>` is aligned so, one with `*`
 //! is green behind its letters, and one with `_` has green letters. Its words are `half-height`,
 //! `half-width`, `quadrant`, `center`, `right`, `red`, its background, and `box`. A logo has the word
-//! `small`, and a map `high`, `dots` in place of Braille, and `in:LEFT,RIGHT,BOTTOM,TOP`, in degrees;
-//! both have no text.
+//! `small`, a mascot `red`, its eye, and a map `high`, `dots` in place of Braille, and
+//! `in:LEFT,RIGHT,BOTTOM,TOP`, in degrees; they have no text.
 //!
 //! A picture has the buffer's rows between bars, in which letters stood before, and beside them a
 //! letter for each cell's colour: a capital for the background, else one for the foreground, or a
-//! dot. A line `# NAME` begins a group.
+//! dot. The letters of a mascot are those of its dots, and `o` for a red eye. A line `# NAME` begins a
+//! group.
 #![tactic(auto)]
 
 mod big_texts;
@@ -59,6 +60,7 @@ fn shown(alloc: Global, row: &Row<'_>) -> Result<String, AllocError> {
         "scroll" => scrolls::render(alloc, row, &mut buffer)?,
         "big" => big_texts::render(alloc, row, &mut buffer)?,
         "logo" => logos::render(alloc, row, &mut buffer)?,
+        "mascot" => logos::render_mascot(alloc, row, &mut buffer)?,
         "map" => maps::render(alloc, row, &mut buffer)?,
         "tree" => trees::render(alloc, row, &mut buffer)?,
         _ => String::from_str(alloc, "no such widget")?,

@@ -5,8 +5,31 @@ use ratatui_core::layout::Position;
 use ratatui_core::style::Color;
 use std::alloc::{AllocError, Global};
 
+// The letter of a mascot's part, by its colour.
+fn part(color: Color) -> Option<char> {
+    match color {
+        Color::Indexed(252) => Some('r'),
+        Color::Indexed(231) => Some('h'),
+        Color::Indexed(236) => Some('e'),
+        Color::Indexed(196) => Some('o'),
+        Color::Indexed(232) => Some('s'),
+        Color::Indexed(237) => Some('b'),
+        Color::Indexed(248) => Some('c'),
+        _ => None,
+    }
+}
+
 // The letter of a cell's colour.
 fn letter(cell: &Cell) -> char {
+    match (part(cell.bg), part(cell.fg)) {
+        (Some(part), _) => part.to_ascii_uppercase(),
+        (None, Some(part)) => part,
+        (None, None) => named_letter(cell),
+    }
+}
+
+// The letter of a cell's colour, if it is no mascot's.
+fn named_letter(cell: &Cell) -> char {
     match (cell.bg, cell.fg) {
         (Color::Red, _) => 'R',
         (Color::Blue, _) => 'B',

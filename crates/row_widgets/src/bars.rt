@@ -1,38 +1,31 @@
 //! The tabs, sparklines and bar charts of the cases.
 
+use crate::boxes::frame_of;
 use crate::cases::Case;
+use crate::looks::{line_of, lines_of, span_of, styled_front};
 use ratatui_core::buffer::Buffer;
 use ratatui_core::layout::{Direction, Rect};
-use ratatui_core::style::{Modifier, Style};
-use ratatui_core::text::{Line, Span};
+use ratatui_core::symbols::bar;
+use ratatui_core::text::Line;
 use ratatui_core::widgets::Widget;
 use std::alloc::{AllocError, Global};
 use widget_bars::{Bar, BarChart, BarGroup};
-use widget_boxes::Block;
 use widget_sparkline::{RenderDirection, Sparkline, SparklineBar};
 use widget_tabs::Tabs;
 
-// The titles that texts between bars say.
-fn titles_of<'a>(alloc: Global, texts: &'a str) -> Result<Vec<Line<'a>>, AllocError> {
-    let mut titles = Vec::new(alloc);
-    for text in texts.split(" | ") {
-        titles.push(Line::raw(alloc, text)?)?;
-    }
-    Ok(titles)
-}
-
-// Tabs of these titles, with these texts between, before and after them.
-fn tabs_of<'a>(
-    alloc: Global,
-    titles: &'a str,
-    divider: &'a str,
-    left: &'a str,
-    right: &'a str,
-) -> Result<Tabs<'a>, AllocError> {
-    let left = Line::raw(alloc, left)?;
-    let right = Line::raw(alloc, right)?;
-    let tabs = Tabs::new(titles_of(alloc, titles)?);
-    Ok(tabs.divider(Span::raw(divider)).padding(left, right))
+// The tabs that a case says.
+fn tabs_of<'a>(alloc: Global, case: &Case<'a>) -> Result<Tabs<'a>, AllocError> {
+    let left = line_of(alloc, case.option("left").unwrap_or(" "))?;
+    let right = line_of(alloc, case.option("right").unwrap_or(" "))?;
+    let titles = lines_of(alloc, case.texts, " | ")?;
+    Ok(
+        Tabs::new(titles)
+            .padding(left, right)
+            .divider(span_of(case.option("divider").unwrap_or("│")))
+            .style(case.style("style"))
+            .highlight_style(case.style_or("highlight", "^"))
+            .select(case.number("selected")),
+    )
 }
 
 /// Renders the tabs that a case says.
@@ -42,37 +35,41 @@ pub fn tabs(
     area: Rect,
     buffer: &mut Buffer,
 ) -> Result<(), AllocError> {
-    let divider = case.text_or(alloc, "divider", "│")?;
-    let left = case.text_or(alloc, "left", " ")?;
-    let right = case.text_or(alloc, "right", " ")?;
-    let titles = String::from_str(alloc, case.texts)?;
-    let tabs = tabs_of(
-        alloc,
-        titles.as_str(),
-        divider.as_str(),
-        left.as_str(),
-        right.as_str(),
-    )?;
-    tabs.select(case.number("selected")).render(area, buffer)
+    let mut tabs = tabs_of(alloc, case)?;
+    if let Some(frame) = frame_of(alloc, case)? {
+        tabs = tabs.block(frame);
+    }
+    tabs.render(area, buffer)
 }
 
-// The style that an option says: bold, or none.
-fn style_of(case: &Case<'_>, name: &str) -> Style {
-    match case.option(name) {
-        Some("bold") => Style::new().add_modifier(Modifier::BOLD),
-        _ => Style::new(),
+// The bar that a word says, with a style in front; what is no number is an absent value.
+fn sparkline_bar_of(word: &str) -> SparklineBar {
+    let (style, value) = styled_front(word);
+    let bar = SparklineBar::new(value.parse().ok());
+    if word.starts_with("<") {
+        bar.style(Some(style))
+    } else {
+        bar
     }
 }
 
-// The bars that an option says, between commas; what is no number is an absent value.
-fn bars_of(alloc: Global, case: &Case<'_>) -> Result<Vec<SparklineBar>, AllocError> {
+// The bars that an option says, between commas.
+fn sparkline_bars_of(alloc: Global, case: &Case<'_>) -> Result<Vec<SparklineBar>, AllocError> {
     let mut bars = Vec::new(alloc);
     if let Some(words) = case.option("data") {
         for word in words.split(",") {
-            bars.push(SparklineBar::new(word.parse().ok()))?;
+            bars.push(sparkline_bar_of(word))?;
         }
     }
     Ok(bars)
+}
+
+// The symbols of bars that a case says.
+fn set_of(case: &Case<'_>) -> bar::Set<'static> {
+    match case.text("set") {
+        "three" => bar::THREE_LEVELS,
+        _ => bar::NINE_LEVELS,
+    }
 }
 
 /// Renders the sparkline that a case says.
@@ -82,20 +79,43 @@ pub fn sparkline(
     area: Rect,
     buffer: &mut Buffer,
 ) -> Result<(), AllocError> {
-    let absent = case.text_or(alloc, "absent", " ")?;
-    let mut sparkline = Sparkline::new(bars_of(alloc, case)?).absent_value_symbol(absent.as_str());
+    let mut sparkline = Sparkline::new(sparkline_bars_of(alloc, case)?)
+        .style(case.style("style"))
+        .bar_set(set_of(case))
+        .absent_value_symbol(case.option("absent").unwrap_or(" "))
+        .absent_value_style(case.style("absents"));
     if let Some(max) = case.number("max") {
         sparkline = sparkline.max(max as u64);
     }
-    if case.option("from") == Some("right") {
+    if case.text("from") == "right" {
         sparkline = sparkline.direction(RenderDirection::RightToLeft);
     }
-    if case.option("box").is_some() {
-        sparkline = sparkline.block(Block::bordered(alloc));
+    if let Some(frame) = frame_of(alloc, case)? {
+        sparkline = sparkline.block(frame);
     }
-    sparkline
-        .style(style_of(case, "style"))
-        .render(area, buffer)
+    sparkline.render(area, buffer)
+}
+
+// The bar that a text says: its label, its value and, after another `=`, the text of its value.
+fn bar_of<'a>(label: Option<Line<'a>>, value: &'a str) -> Bar<'a> {
+    let (style, value) = styled_front(value);
+    let (value, text) = value.split_once("=").unwrap_or((value, ""));
+    let mut bar = Bar::new(value.parse().unwrap_or(0)).style(style);
+    if let Some(label) = label {
+        bar = bar.label(label);
+    }
+    if !text.is_empty() {
+        bar = bar.text_value(text);
+    }
+    bar
+}
+
+// The label of a bar, if it isn't empty.
+fn label_of<'a>(alloc: Global, text: &'a str) -> Result<Option<Line<'a>>, AllocError> {
+    if text.is_empty() {
+        return Ok(None);
+    }
+    Ok(Some(line_of(alloc, text)?))
 }
 
 // The groups of bars that texts between bars say, as `a=3 | b=5`; a text without `=` begins a group
@@ -105,17 +125,18 @@ fn groups_of<'a>(alloc: Global, texts: &'a str) -> Result<Vec<BarGroup<'a>>, All
     let mut group = BarGroup::new(Vec::new(alloc));
     let mut bars = Vec::new(alloc);
     for text in texts.split(" | ") {
-        match text.split_once("=") {
-            Some((label, value)) => {
-                let value = value.parse().unwrap_or(0);
-                bars.push(Bar::with_label(Line::raw(alloc, label)?, value))?;
+        let (label, value) = text.split_once("=").unwrap_or((text, ""));
+        let line = label_of(alloc, label)?;
+        if label.len() < text.len() {
+            bars.push(bar_of(line, value))?;
+        } else {
+            if !bars.is_empty() {
+                groups.push(group.bars(bars))?;
             }
-            None => {
-                if !bars.is_empty() {
-                    groups.push(group.bars(bars))?;
-                }
-                bars = Vec::new(alloc);
-                group = BarGroup::with_label(Line::raw(alloc, text)?, Vec::new(alloc));
+            bars = Vec::new(alloc);
+            group = BarGroup::new(Vec::new(alloc));
+            if let Some(line) = line {
+                group = group.label(line);
             }
         }
     }
@@ -130,17 +151,25 @@ pub fn bar_chart(
     area: Rect,
     buffer: &mut Buffer,
 ) -> Result<(), AllocError> {
+    let direction = match case.text("direction") {
+        "horizontal" => Direction::Horizontal,
+        _ => Direction::Vertical,
+    };
     let mut chart = BarChart::grouped(groups_of(alloc, case.texts)?)
+        .direction(direction)
+        .bar_set(set_of(case))
         .bar_width(case.small("width", 1))
         .bar_gap(case.small("gap", 1))
-        .group_gap(case.small("groups", 0));
+        .group_gap(case.small("groups", 0))
+        .style(case.style("style"))
+        .bar_style(case.style("bars"))
+        .value_style(case.style("values"))
+        .label_style(case.style("labels"));
     if let Some(max) = case.number("max") {
         chart = chart.max(max as u64);
     }
-    if case.option("direction") == Some("horizontal") {
-        chart = chart.direction(Direction::Horizontal);
+    if let Some(frame) = frame_of(alloc, case)? {
+        chart = chart.block(frame);
     }
-    chart
-        .value_style(style_of(case, "values"))
-        .render(area, buffer)
+    chart.render(area, buffer)
 }

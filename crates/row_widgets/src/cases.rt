@@ -1,8 +1,11 @@
 //! The cases that lines say.
 
-use std::alloc::{AllocError, Global};
+use crate::looks::style_of;
+use ratatui_core::layout::HorizontalAlignment;
+use ratatui_core::style::Style;
 
-/// A case: a widget, a size, options, and texts between bars.
+/// A case: a widget, the size of a buffer, options with a tab between each two, and texts between
+/// bars.
 #[derive(Drop)]
 pub struct Case<'a> {
     pub kind: &'a str,
@@ -14,10 +17,10 @@ pub struct Case<'a> {
 
 /// Returns the case that a line says, if it says one.
 pub fn case_of(line: &str) -> Option<Case<'_>> {
-    let (head, texts) = line.split_once(" | ").unwrap_or((line, ""));
-    let (kind, size) = head.split_once(" ")?;
-    let (width, rest) = size.split_once(" ")?;
-    let (height, options) = rest.split_once(" ").unwrap_or((rest, ""));
+    let (head, texts) = line.split_once("\t| ").unwrap_or((line, ""));
+    let (kind, rest) = head.split_once("\t")?;
+    let (size, options) = rest.split_once("\t").unwrap_or((rest, ""));
+    let (width, height) = size.split_once("x")?;
     Some(Case {
         kind,
         width: width.parse().ok()?,
@@ -34,16 +37,20 @@ pub fn pair_of(word: &str) -> Option<(i64, i64)> {
 }
 
 impl<'a> Case<'a> {
-    /// Returns what an option says, if it stands there.
+    /// Returns what an option says, if it stands there: an empty text if it says nothing.
     pub fn option(&self, name: &str) -> Option<&'a str> {
-        for word in self.options.split(" ") {
-            if let Some((key, value)) = word.split_once("=") {
-                if key == name {
-                    return Some(value);
-                }
+        for word in self.options.split("\t") {
+            let (key, value) = word.split_once("=").unwrap_or((word, ""));
+            if key == name {
+                return Some(value);
             }
         }
         None
+    }
+
+    /// Returns what an option says, or an empty text.
+    pub fn text(&self, name: &str) -> &'a str {
+        self.option(name).unwrap_or("")
     }
 
     /// Returns the number that an option says, if it says one.
@@ -61,26 +68,26 @@ impl<'a> Case<'a> {
 
     /// Returns the two numbers that an option says, or 0 and 10.
     pub fn bounds(&self, name: &str) -> [i64; 2] {
-        let (low, high) = self
-            .option(name)
-            .and_then(|word| pair_of(word))
-            .unwrap_or((0, 10));
+        let (low, high) = pair_of(self.text(name)).unwrap_or((0, 10));
         [low, high]
     }
 
-    /// Returns the text that an option says, in which `_` stands for a blank.
-    pub fn text(&self, alloc: Global, name: &str) -> Result<Option<String>, AllocError> {
-        match self.option(name) {
-            Some(text) => Ok(Some(text.replace(alloc, "_", " ")?)),
-            None => Ok(None),
-        }
+    /// Returns the style that an option says.
+    pub fn style(&self, name: &str) -> Style {
+        style_of(self.text(name))
     }
 
-    /// Returns the text that an option says, in which `_` stands for a blank, or another text.
-    pub fn text_or(&self, alloc: Global, name: &str, other: &str) -> Result<String, AllocError> {
-        match self.option(name) {
-            Some(text) => text.replace(alloc, "_", " "),
-            None => String::from_str(alloc, other),
+    /// Returns the style that an option says, or another one.
+    pub fn style_or(&self, name: &str, other: &str) -> Style {
+        style_of(self.option(name).unwrap_or(other))
+    }
+
+    /// Returns the alignment that an option says.
+    pub fn alignment(&self, name: &str) -> HorizontalAlignment {
+        match self.text(name) {
+            "center" => HorizontalAlignment::Center,
+            "right" => HorizontalAlignment::Right,
+            _ => HorizontalAlignment::Left,
         }
     }
 }

@@ -1,14 +1,17 @@
--- Logos keep cells plain.
-use Rattle.std.proofs.Common.{◌≡◌, ℕ, zero, suc, ◌-◌, ◌≤◌, Bool, true, ◌&&◌, nat_le, List, [], ◌∷◌, Option, Some, None, IfSome}
+-- Logos and mascots keep cells plain.
+use Rattle.std.proofs.Common.{◌≡◌, ℕ, zero, suc, ◌-◌, ◌==◌, ◌≤◌, Bool, true, false, ◌&&◌, nat_le, List, [], ◌∷◌, Option, Some, None, IfSome}
 use Rattle.std.proofs.Common.{slice_get, refl, arith}
 use Rattle.std.specs.Char.{encode_utf8}
 use Rattle.std.proofs.lemmas.{Bool.and_parts, Bool.Decides.nat_tests}
 use Rattle.unicode_width.proofs.Computing.{unicode_width}
 use Rattle.ratatui_core.specs.{Layout.Rect, Layout.intersected}
-use Rattle.ratatui_core.specs.Buffer.{BufferData, Cell, text_width, IsPlain, IsPlainFrom}
+use Rattle.ratatui_core.specs.Buffer.{BufferData, Cell, text_width, width_of, IsPlain, IsPlainFrom}
+use Rattle.ratatui_core.specs.Style.{Color}
 use Rattle.ratatui_core.proofs.BufferLemmas.{plain-with_symbol, plain-changed}
 use Rattle.widget_logo.specs.declared.logo.Size.{Size as LogoSize}
 use Rattle.widget_logo.specs.declared.logo.Size.TheVariants.{Tiny, Small}
+use Rattle.widget_logo.specs.declared.mascot.MascotEyeColor.{MascotEyeColor as EyeColor}
+use Rattle.widget_logo.specs.Mascots.{dot_color, halves_shown, upper_dot, lower_dot, mascot_cell, RendersMascot}
 use Rattle.widget_logo.specs.Logos.{logo_row, logo_character, showing_character, logo_cell, RendersLogo}
 
 abbrev are_narrow : List ℕ → Bool
@@ -43,3 +46,36 @@ logo-plain size area old new plain =
     plain-changed r (logo_cell size r) old new (λ p c cell.
     character-plain (logo_character size (p.x - r.x) (p.y - r.y)) c
     (nth-narrow (logo_row size (p.y - r.y)) (p.x - r.x) (row-narrow size (p.y - r.y))) cell) is plain
+
+-- the half blocks and the full one take one column
+abbrev blocks : List ℕ
+blocks = 0x2580 ∷ 0x2584 ∷ 0x2588 ∷ []
+
+blocks-narrow : are_narrow blocks ≡ true
+unfolding encode_utf8 text_width unicode_width
+blocks-narrow = refl
+
+colored-plain : (fg bg : Color) (c : Cell) → IsPlain c → IsPlain (record c { fg = fg; bg = bg })
+unfolding width_of
+colored-plain fg bg c is =
+    record { narrow = is.narrow; unmarked = record { option = is.unmarked.option; flag = is.unmarked.flag } }
+
+halves-plain : (upper lower : Option Color) (is_one : Bool) (c : Cell) → IsPlain c
+    → IsPlain (halves_shown upper lower is_one c)
+halves-plain None None is_one c is = is
+halves-plain (Some u) None is_one c is =
+    plain-with_symbol _ _ (colored-plain u c.bg c is) (nth-narrow blocks 0 blocks-narrow)
+halves-plain None (Some l) is_one c is =
+    plain-with_symbol _ _ (colored-plain l c.bg c is) (nth-narrow blocks 1 blocks-narrow)
+halves-plain (Some u) (Some l) true c is =
+    plain-with_symbol _ _ (colored-plain u c.bg c is) (nth-narrow blocks 2 blocks-narrow)
+halves-plain (Some u) (Some l) false c is =
+    plain-with_symbol _ _ (colored-plain u l c is) (nth-narrow blocks 0 blocks-narrow)
+
+pub mascot-plain : (eye : EyeColor) (area : Rect) (old new : BufferData) → IsPlainFrom 0 old
+    → RendersMascot eye area old new → IsPlainFrom 0 new
+mascot-plain eye area old new plain =
+    λ is. let r = intersected area old.area in
+    plain-changed r (mascot_cell eye r) old new (λ p c cell.
+    let upper = upper_dot r p in let lower = lower_dot r p in
+    halves-plain (dot_color eye upper) (dot_color eye lower) (upper == lower) c cell) is plain

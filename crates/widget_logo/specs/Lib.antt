@@ -1,1 +1,2 @@
 pub mod Logos
+pub mod Mascots
