@@ -13,9 +13,14 @@ use Rattle.files.specs.declared.browser.Browser.{Browser}
 use Rattle.files.specs.declared.browser.Mode.TheVariants.{Trashing}
 use Rattle.files.specs.declared.trash.Discard.{Discard}
 use Rattle.files.specs.declared.trash.Plan.{Plan}
-use Rattle.files.specs.Trash.{IsTrashFolder, IsStep, IsPlanOf, discard_plan}
+use Rattle.files.specs.Trash.{discard_in, IsTrashFolder, IsStep, IsPlanOf, discard_plan}
 use Rattle.files.specs.Questions.{AsksToDiscard, IsNamedIn}
-use Rattle.files.specs.Discards.{IsPreparing, ArePreparing, Did, Prepares, GivesEntries, GivesTime, EndsMoved, Ends}
+use Rattle.files.specs.Discards.{IsPreparing, ArePreparing, Did, Prepares, GivesEntries, GivesTime, EndsMoved, Ends, Discarded}
+use Rattle.files.specs.Doing.{DoesIn, DoesAsked}
+use Rattle.files.specs.Moves.{browser_asked}
+use Rattle.files.proofs.SoundLemmas.{asked-self}
+use Rattle.files.specs.declared.list.Row.{Row}
+use Rattle.std.specs.declared.cmp.Ordering.{Ordering}
 
 -- ---- what a question names
 
@@ -95,3 +100,11 @@ module _ {P : Type 0} (does : P → Command → Answer → P → Type 0) where
     subst (λ (a : Answer). does files plan.write a written) is writes,
     (second, moved, puts, moved-undone plan second third moved files' o unlike undoes told),
   )
+
+-- what a browser asks for was done, where it asks whether something is to be put into the trash
+pub asked-discard : {P : Type 0} (cmp : Row → Row → Ordering) (does : P → Command → Answer → P → Type 0) (state b : Browser)
+    (files : P) (o : Outcome) (files' : P) → browser_asked state ≡ Some b → state.mode ≡ Trashing
+    → Discarded does (discard_in state) files o files' → DoesAsked cmp does b files o files'
+asked-discard cmp does state b files o files' asked at is =
+    subst (λ (x : Browser). DoesAsked cmp does x files o files') (asked-self state b asked)
+    (subst (λ mode. DoesIn cmp does mode state files o files') (sym at) is)

@@ -136,12 +136,7 @@ fn bytes_at<'a>(played: &'a Played, path: &str) -> &'a [u8] {
 }
 
 // Whether this is written of something in the trash.
-fn is_written(
-    alloc: Global,
-    played: &Played,
-    name: &str,
-    path: &str,
-) -> Result<bool, AllocError> {
+fn is_written(alloc: Global, played: &Played, name: &str, path: &str) -> Result<bool, AllocError> {
     let at = format!(in alloc; "trash/info/{name}.trashinfo")?;
     let text = format!(in alloc; "[Trash Info]\nPath=/{path}\nDeletionDate=1970-01-01T00:00:00\n")?;
     Ok(bytes_at(played, at.as_str()) == text.as_bytes())
