@@ -1,5 +1,5 @@
 -- Where something is changed, a read had found nothing while the question stood on the glass.
-use Rattle.std.proofs.Common.{◌≡◌, ◌||◌, ◌⊎◌, inl, inr, ⊎_elim, Bool, true, false, if◌then◌else◌, List, [], ◌∷◌, ◌++◌, ℕ}
+use Rattle.std.proofs.Common.{◌≡◌, ◌⊎◌, inl, inr, Bool, true, false, if◌then◌else◌, List, [], ◌∷◌, ◌++◌, ℕ}
 use Rattle.std.proofs.Common.{Option, Some, None, refl, sym, ap, ◌∙◌, subst, codes}
 use Rattle.std.specs.declared.time.Duration.{Duration}
 use Rattle.ratatui_core.specs.Terminal.{TerminalError}
@@ -20,9 +20,9 @@ use Rattle.files.specs.declared.browser.Note.TheVariants.{Place, Failed, Narrow,
 use Rattle.files.specs.declared.list.Outcome.{Outcome}
 use Rattle.files.specs.Keys.{is_input}
 use Rattle.files.specs.Texts.{subject, note_told, failure_text, status_in}
-use Rattle.files.specs.Moves.{asks, browser_asked, browsed, browser_at_told_size, browsed_after}
+use Rattle.files.specs.Moves.{asks, browsed, browser_at_told_size, browsed_after}
 use Rattle.files.specs.Laws.{IsSound, browsing, is_change}
-use Rattle.files.specs.RunLaws.{AsksTheSame, StoodThere, StoodBefore, AskedTurn, WereAsked, browsing_on}
+use Rattle.files.specs.RunLaws.{AsksTheSame, StoodBefore, AskedTurn, WereAsked, browsing_on}
 use Rattle.files.proofs.LawLemmas.{yes-counts, counted, quiet-stays}
 use Rattle.files.proofs.SoundLemmas.{unsure, status-flags, flagged, asks-true, sure-in, event-sound, turn-sound, ticked-sound}
 use Rattle.files.proofs.SoundLemmas.{answer-sound, asked-self}

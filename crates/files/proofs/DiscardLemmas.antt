@@ -1,5 +1,5 @@
 -- How something comes into the trash.
-use Rattle.std.proofs.Common.{◌≡◌, ◌⊎◌, inl, inr, List, [], ◌∷◌, ◌++◌, ℕ, Option, Some, refl, sym, ap, subst, Result, Ok, Err}
+use Rattle.std.proofs.Common.{◌≡◌, inl, inr, List, [], ◌∷◌, ◌++◌, ℕ, Some, refl, sym, subst, Result, Ok, Err}
 use Rattle.ratatui_files.specs.declared.answer.Info.{Info}
 use Rattle.ratatui_files.specs.declared.answer.Failure.{Failure}
 use Rattle.ratatui_files.specs.declared.answer.Answer.{Answer}

@@ -1,7 +1,7 @@
 -- What laws of browsers stand on.
-use Rattle.std.proofs.Common.{◌≡◌, ◌==◌, ◌&&◌, ◌||◌, ◌⊎◌, inl, inr, ℕ, ◌+◌, ◌-◌, ◌<◌, ◌≤◌, min, max, nat_lt, Bool, true, false, not}
-use Rattle.std.proofs.Common.{arith, rules, refl, sym, ap, ◌∙◌, subst, List, [], ◌∷◌, ◌++◌, length, Option, Some, None, if◌then◌else◌}
-use Rattle.std.specs.Prelude.{slice_get, is_some}
+use Rattle.std.proofs.Common.{◌≡◌, ◌==◌, ◌&&◌, ◌⊎◌, inl, inr, ℕ, ◌+◌, ◌<◌, ◌≤◌, min, nat_lt, Bool, true, false, not}
+use Rattle.std.proofs.Common.{arith, rules, refl, sym, ap, ◌∙◌, List, length, Option, Some, None, if◌then◌else◌}
+use Rattle.std.specs.Prelude.{is_some}
 use Rattle.std.specs.Str.{bytes_eq}
 use Rattle.std.specs.declared.alloc.Global.{Global}
 use Rattle.std.proofs.lemmas.Bool.Decides.{nat_tests}
@@ -24,8 +24,8 @@ use Rattle.files.specs.declared.list.Outcome.{Outcome}
 use Rattle.files.specs.declared.list.Outcome.TheVariants as outcome
 use Rattle.files.specs.Keys.{event_wish, event_typing, is_input, says_yes}
 use Rattle.files.specs.Texts.{fits}
-use Rattle.files.specs.Moves.{scrolled_list, selected_at, last_row_place, list_rows, selection_moved, went, granted, wished, renaming, typing_in}
-use Rattle.files.specs.Moves.{asks_in, confirmed, typed_into, browsed, browser_at_told_size, told, outcome_told, browsed_after, new_browser}
+use Rattle.files.specs.Moves.{scrolled_list, selected_at, last_row_place, list_rows, granted, wished, typing_in}
+use Rattle.files.specs.Moves.{asks_in, confirmed, typed_into, browsed, browser_at_told_size, outcome_told, browsed_after, new_browser}
 use Rattle.files.specs.Moves.{is_folder_selected, removal_answered}
 use Rattle.files.specs.Laws.{IsPlaced, ListsSame}
 

@@ -13,7 +13,7 @@ use Rattle.files.specs.declared.browser.Mode.TheVariants.{Looking, Listing, Ente
 use Rattle.files.specs.declared.browser.Mode.TheVariants.{Renaming, Making, Over}
 use Rattle.files.specs.Names.{shown_name}
 use Rattle.files.specs.Texts.{shown_row, selected_text, selected_shown, status_in}
-use Rattle.files.specs.Questions.{named_path, removal, removal_by, removal_in, change_in}
+use Rattle.files.specs.Questions.{removal_by, removal_in, change_in}
 use Rattle.files.specs.declared.trash.Discard.{Discard}
 use Rattle.files.specs.Texts.{trash_shown, status_told}
 use Rattle.files.specs.Trash.{discard_of, discard_to, discard_in}

@@ -1,6 +1,6 @@
 -- Where something is changed, the screen had columns for the whole question.
-use Rattle.std.proofs.Common.{◌≡◌, ◌||◌, ◌⊎◌, inl, inr, ⊎_elim, Bool, true, false, if◌then◌else◌, List, [], ◌∷◌, ◌++◌, ℕ}
-use Rattle.std.proofs.Common.{Option, Some, None, refl, sym, ap, ◌∙◌, subst}
+use Rattle.std.proofs.Common.{◌≡◌, ◌||◌, inl, inr, Bool, true, false, if◌then◌else◌, List, [], ◌∷◌, ◌++◌, ℕ}
+use Rattle.std.proofs.Common.{Some, None, refl, sym, ap, ◌∙◌, subst}
 use Rattle.std.specs.Prelude.{is_some, nat_le, codes}
 use Rattle.ratatui_core.specs.Buffer.{text_columns}
 use Rattle.std.specs.declared.time.Duration.{Duration}
@@ -8,7 +8,7 @@ use Rattle.ratatui_events.specs.declared.event.Event.{Event}
 use Rattle.ratatui_input.specs.declared.decoder.Decoder.{Decoder}
 use Rattle.ratatui_reads.specs.{Reads.told_by}
 use Rattle.ratatui_acts.specs.declared.message.Message.TheVariants as message
-use Rattle.ratatui_acts.specs.Turns.{Turn, Came, Done, Standing, ActingRules, taking, ticked, waits, after_turn}
+use Rattle.ratatui_acts.specs.Turns.{Turn, Came, Done, Standing, taking, ticked, waits, after_turn}
 use Rattle.files.specs.declared.browser.Browser.{Browser}
 use Rattle.files.specs.declared.browser.Mode.{Mode}
 use Rattle.files.specs.declared.browser.Mode.TheVariants.{Looking, Listing, Entering, Leaving, Trashing, Removing}
@@ -17,7 +17,7 @@ use Rattle.files.specs.declared.list.Outcome.{Outcome}
 use Rattle.files.specs.declared.browser.Note.{Note}
 use Rattle.files.specs.declared.browser.Note.TheVariants.{Place, Failed, Narrow, NoTrash}
 use Rattle.files.specs.Texts.{fits, subject, note_told, failure_text, status_in}
-use Rattle.files.specs.Moves.{asks, asks_in, browser_asked, is_over, browsed_after, outcome_told}
+use Rattle.files.specs.Moves.{asks, asks_in, browser_asked, is_over, browsed_after}
 use Rattle.files.specs.Laws.{IsSound, browsing, is_change}
 use Rattle.files.proofs.LawLemmas.{yes-counts, counted}
 

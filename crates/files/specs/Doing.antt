@@ -5,7 +5,6 @@ use Rattle.ratatui_files.specs.declared.command.Command.{Command}
 use Rattle.ratatui_files.specs.declared.command.Command.TheVariants.{List as ListFolder}
 use Rattle.ratatui_files.specs.declared.answer.Answer.{Answer}
 use Rattle.ratatui_files.specs.declared.answer.Answer.TheVariants as answer
-use Rattle.ratatui_files.specs.declared.answer.Failure.{Failure}
 use Rattle.ratatui_files.specs.declared.answer.Failure.TheVariants as failure
 use Rattle.std.specs.declared.cmp.Ordering.{Ordering}
 use Rattle.files.specs.declared.list.Row.{Row}

@@ -1,6 +1,6 @@
 -- What each event and each answer makes of a browser.
 use Rattle.std.specs.Prelude.{ℕ, zero, suc, Bool, true, false, not, ◌+◌, ◌-◌, ◌/◌, ◌==◌, ◌&&◌, ◌||◌, min, max, nat_lt}
-use Rattle.std.specs.Prelude.{if◌then◌else◌, List, [], ◌∷◌, ◌++◌, length, Option, Some, None, is_some, slice_get, get_or}
+use Rattle.std.specs.Prelude.{if◌then◌else◌, List, [], length, Option, Some, None, is_some, slice_get, get_or}
 use Rattle.std.specs.Str.{byte, bytes_eq}
 use Rattle.std.specs.Option.{option_map_or}
 use Rattle.std.specs.declared.alloc.Global.{Global}

@@ -1,6 +1,6 @@
 -- The texts that stand in the rows.
 use Rattle.std.specs.Prelude.{ℕ, Bool, true, false, ◌+◌, ◌-◌, ◌==◌, ◌^◌, min, nat_lt, nat_le, if◌then◌else◌}
-use Rattle.std.specs.Prelude.{List, [], ◌∷◌, ◌++◌, length, codes, Option, Some, None, slice_get, string_bytes}
+use Rattle.std.specs.Prelude.{List, [], ◌++◌, length, codes, Option, Some, None, slice_get, string_bytes}
 use Rattle.std.specs.{Option.option_map_or, Fmt.decimal, List.repeat}
 use Rattle.ratatui_core.specs.Buffer.{text_columns}
 use Rattle.text_field.specs.Field.{FieldData, field_text}

@@ -9,7 +9,7 @@ use Rattle.jiff_core.specs.declared.civil.datetime.DateTime.{DateTime}
 use Rattle.ratatui_files.specs.Paths.{is_name, path_in}
 use Rattle.ratatui_files.specs.declared.answer.Info.{Info}
 use Rattle.ratatui_files.specs.declared.command.Command.{Command}
-use Rattle.ratatui_files.specs.declared.command.Command.TheVariants.{Write, Rename, Remove, MakeFolder, List as ListFolder, Now}
+use Rattle.ratatui_files.specs.declared.command.Command.TheVariants.{Write, Rename, Remove, MakeFolder}
 use Rattle.files.specs.declared.browser.Browser.{Browser}
 use Rattle.files.specs.declared.trash.Discard.{Discard}
 use Rattle.files.specs.declared.trash.Seen.{Seen}

@@ -1,4 +1,4 @@
-use Rattle.std.proofs.Common.{string_bytes, codes}
+use Rattle.std.proofs.Common.{string_bytes}
 use Rattle.files.specs.Dates.{date_text, time_text}
 use Rattle.files.proofs.TrashLemmas.{appended}
 use Rattle.files.proofs.dates.push_date_time.Goals as goal

@@ -1,4 +1,4 @@
-use Rattle.std.proofs.Common.{string_bytes, codes}
+use Rattle.std.proofs.Common.{string_bytes}
 use Rattle.files.specs.Trash.{place_line, date_line}
 use Rattle.files.proofs.TrashLemmas.{appended}
 use Rattle.files.proofs.trash.push_info.Goals as goal

@@ -1,7 +1,7 @@
 use Rattle.std.proofs.Common.{subst, sym}
 use Rattle.ratatui_files.specs.declared.command.Command.TheVariants.{MakeFolder}
 use Rattle.files.specs.Trash.{IsTrashFolder}
-use Rattle.files.proofs.DiscardLemmas.{prepares-none, prepares-one}
+use Rattle.files.proofs.DiscardLemmas.{prepares-one}
 use Rattle.files.proofs.hands.Hands.make.Goals as goal
 
 pub returns : goal.returns
