@@ -1,5 +1,5 @@
 -- Where something is changed, a read had found nothing while the question stood on the glass.
-use Rattle.std.proofs.Common.{◌≡◌, ◌||◌, ◌⊎◌, inl, inr, ⊎_elim, Bool, true, false, if◌then◌else◌, List, [], ◌∷◌, ◌++◌, ℕ}
+use Rattle.std.proofs.Common.{◌≡◌, ◌⊎◌, inl, inr, Bool, true, false, if◌then◌else◌, List, [], ◌∷◌, ◌++◌, ℕ}
 use Rattle.std.proofs.Common.{Option, Some, None, refl, sym, ap, ◌∙◌, subst, codes}
 use Rattle.std.specs.declared.time.Duration.{Duration}
 use Rattle.ratatui_core.specs.Terminal.{TerminalError}
@@ -13,16 +13,16 @@ use Rattle.ratatui_acts.specs.Runs.{Now, Past, Ground, IsTurn, HasRun}
 use Rattle.ratatui_app.specs.declared.on_glass.OnGlass.{OnGlass}
 use Rattle.files.specs.declared.browser.Browser.{Browser}
 use Rattle.files.specs.declared.browser.Mode.{Mode}
-use Rattle.files.specs.declared.browser.Mode.TheVariants.{Looking, Listing, Entering, Leaving, Removing, Renaming}
-use Rattle.files.specs.declared.browser.Mode.TheVariants.{Making, Over}
+use Rattle.files.specs.declared.browser.Mode.TheVariants.{Looking, Listing, Entering, Leaving, Trashing, Removing}
+use Rattle.files.specs.declared.browser.Mode.TheVariants.{Renaming, Making, Over}
 use Rattle.files.specs.declared.browser.Note.{Note}
-use Rattle.files.specs.declared.browser.Note.TheVariants.{Place, Failed, Narrow}
+use Rattle.files.specs.declared.browser.Note.TheVariants.{Place, Failed, Narrow, NoTrash}
 use Rattle.files.specs.declared.list.Outcome.{Outcome}
 use Rattle.files.specs.Keys.{is_input}
 use Rattle.files.specs.Texts.{subject, note_told, failure_text, status_in}
-use Rattle.files.specs.Moves.{asks, browser_asked, browsed, browser_at_told_size, browsed_after}
+use Rattle.files.specs.Moves.{asks, browsed, browser_at_told_size, browsed_after}
 use Rattle.files.specs.Laws.{IsSound, browsing, is_change}
-use Rattle.files.specs.RunLaws.{AsksTheSame, StoodThere, StoodBefore, AskedTurn, WereAsked, browsing_on}
+use Rattle.files.specs.RunLaws.{AsksTheSame, StoodBefore, AskedTurn, WereAsked, browsing_on}
 use Rattle.files.proofs.LawLemmas.{yes-counts, counted, quiet-stays}
 use Rattle.files.proofs.SoundLemmas.{unsure, status-flags, flagged, asks-true, sure-in, event-sound, turn-sound, ticked-sound}
 use Rattle.files.proofs.SoundLemmas.{answer-sound, asked-self}
@@ -42,6 +42,7 @@ subject-sized Looking size b = refl
 subject-sized Listing size b = refl
 subject-sized Entering size b = refl
 subject-sized Leaving size b = refl
+subject-sized Trashing size b = refl
 subject-sized Removing size b = refl
 subject-sized Renaming size b = refl
 subject-sized Making size b = refl
@@ -51,12 +52,14 @@ note-sized : (n : Note) (size : ℕ × ℕ) (b : Browser) → note_told n (brows
 note-sized Place size b = refl
 note-sized (Failed m why) size b = ap (λ text. text ++ codes ": " ++ failure_text why) (subject-sized m size b)
 note-sized Narrow size b = refl
+note-sized NoTrash size b = refl
 
 status-sized : (m : Mode) (size : ℕ × ℕ) (b : Browser) → status_in m (browser_at_told_size (Some size) b) ≡ status_in m b
 status-sized Looking size b = note-sized b.note size b
 status-sized Listing size b = note-sized b.note size b
 status-sized Entering size b = note-sized b.note size b
 status-sized Leaving size b = note-sized b.note size b
+status-sized Trashing size b = refl
 status-sized Removing size b = refl
 status-sized Renaming size b = refl
 status-sized Making size b = refl

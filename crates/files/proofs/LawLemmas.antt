@@ -1,7 +1,8 @@
 -- What laws of browsers stand on.
-use Rattle.std.proofs.Common.{◌≡◌, ◌==◌, ◌&&◌, ◌||◌, ◌⊎◌, inl, inr, ℕ, ◌+◌, ◌-◌, ◌<◌, ◌≤◌, min, max, nat_lt, Bool, true, false, not}
-use Rattle.std.proofs.Common.{arith, rules, refl, sym, ap, ◌∙◌, subst, List, [], ◌∷◌, ◌++◌, length, Option, Some, None, if◌then◌else◌}
-use Rattle.std.specs.Prelude.{slice_get}
+use Rattle.std.proofs.Common.{◌≡◌, ◌==◌, ◌&&◌, ◌⊎◌, inl, inr, ℕ, ◌+◌, ◌<◌, ◌≤◌, min, nat_lt, Bool, true, false, not}
+use Rattle.std.proofs.Common.{arith, rules, refl, sym, ap, ◌∙◌, List, length, Option, Some, None, if◌then◌else◌}
+use Rattle.std.specs.Prelude.{is_some}
+use Rattle.std.specs.Str.{bytes_eq}
 use Rattle.std.specs.declared.alloc.Global.{Global}
 use Rattle.std.proofs.lemmas.Bool.Decides.{nat_tests}
 use Rattle.ratatui_core.specs.Layout.{Size}
@@ -12,8 +13,8 @@ use Rattle.ratatui_acts.specs.declared.message.Message.TheVariants as message
 use Rattle.text_field.specs.Field.{FieldData}
 use Rattle.files.specs.declared.browser.Browser.{Browser}
 use Rattle.files.specs.declared.browser.Mode.{Mode}
-use Rattle.files.specs.declared.browser.Mode.TheVariants.{Looking, Listing, Entering, Leaving, Removing, Renaming}
-use Rattle.files.specs.declared.browser.Mode.TheVariants.{Making, Over}
+use Rattle.files.specs.declared.browser.Mode.TheVariants.{Looking, Listing, Entering, Leaving, Trashing, Removing}
+use Rattle.files.specs.declared.browser.Mode.TheVariants.{Renaming, Making, Over}
 use Rattle.files.specs.declared.browser.Note.TheVariants.{Narrow}
 use Rattle.files.specs.declared.keys.Wish.{Wish}
 use Rattle.files.specs.declared.keys.Wish.TheVariants as wish
@@ -23,9 +24,9 @@ use Rattle.files.specs.declared.list.Outcome.{Outcome}
 use Rattle.files.specs.declared.list.Outcome.TheVariants as outcome
 use Rattle.files.specs.Keys.{event_wish, event_typing, is_input, says_yes}
 use Rattle.files.specs.Texts.{fits}
-use Rattle.files.specs.Moves.{scrolled_list, selected_at, last_row_place, list_rows, selection_moved, went, granted, wished, renaming, typing_in}
-use Rattle.files.specs.Moves.{asks_in, confirmed, typed_into, browsed, browser_at_told_size, told, outcome_told, browsed_after, new_browser}
-use Rattle.files.specs.Moves.{is_folder_selected}
+use Rattle.files.specs.Moves.{scrolled_list, selected_at, last_row_place, list_rows, granted, wished, typing_in}
+use Rattle.files.specs.Moves.{asks_in, confirmed, typed_into, browsed, browser_at_told_size, outcome_told, browsed_after, new_browser}
+use Rattle.files.specs.Moves.{is_folder_selected, removal_answered}
 use Rattle.files.specs.Laws.{IsPlaced, ListsSame}
 
 -- ---- the selection
@@ -108,12 +109,18 @@ granted-keeps wish.HalfUp b = keeps-selected _ b
 granted-keeps wish.ToFirst b = keeps-selected _ b
 granted-keeps wish.ToLast b = keeps-selected _ b
 granted-keeps wish.Enter b = keeps-if (is_folder_selected b) b _ b (keeps-mode Entering b) (keeps-it b)
-granted-keeps wish.Leave b = keeps-if (nat_lt 0 (length b.folder)) b _ b (keeps-mode Leaving b) (keeps-it b)
+granted-keeps wish.Leave b = keeps-if (bytes_eq b.folder b.base) b b _ (keeps-it b) (keeps-mode Leaving b)
 granted-keeps wish.Hidden b = keeps-same b _ refl refl refl refl refl refl refl
 granted-keeps wish.Rename b = keeps-if (length b.list == 0) b b _ (keeps-it b) (keeps-typing Renaming _ b)
 granted-keeps wish.Make b = keeps-typing Making _ b
+granted-keeps wish.Trash b =
+    keeps-if (is_some b.trash && nat_lt 0 (length b.list)) b _ b (keeps-mode Trashing b) (keeps-it b)
 granted-keeps wish.Remove b = keeps-if (nat_lt 0 (length b.list)) b _ b (keeps-mode Removing b) (keeps-it b)
 granted-keeps wish.Quit b = keeps-mode Over b
+
+sure-if : (test : Bool) (b c d : Browser) → c.is_sure ≡ b.is_sure → d.is_sure ≡ b.is_sure → (if test then c else d).is_sure ≡ b.is_sure
+sure-if true b c d one two = one
+sure-if false b c d one two = two
 
 -- no wish makes a question sure
 granted-sure : (w : Wish) (b : Browser) → (granted w b).is_sure ≡ b.is_sure
@@ -131,6 +138,7 @@ granted-sure wish.Leave b = search rules
 granted-sure wish.Hidden b = refl
 granted-sure wish.Rename b = search rules
 granted-sure wish.Make b = refl
+granted-sure wish.Trash b = sure-if (is_some b.trash && nat_lt 0 (length b.list)) b _ b refl refl
 granted-sure wish.Remove b = search rules
 granted-sure wish.Quit b = refl
 
@@ -168,10 +176,13 @@ typed-keeps Ignore b may = keeps-it b
 may-be : (mode : Mode) (b : Browser) → b.mode ≡ mode → asks_in mode true ≡ true → asks_in b.mode true ≡ true
 may-be mode b at may = ap (λ m. asks_in m true) at ∙ may
 
+answered-keeps : (e : Event) (b : Browser) → asks_in b.mode true ≡ true → Keeps b (removal_answered e b)
+answered-keeps e b may = keeps-if (says_yes e) b _ _ (confirmed-keeps b may) (keeps-mode Looking b)
+
 browsed-keeps : (mode : Mode) (e : Event) (b : Browser) → b.mode ≡ mode → Keeps b (browsed mode e b)
 browsed-keeps Looking e b at = wished-keeps (event_wish e) b
-browsed-keeps Removing e b at =
-    keeps-if (says_yes e) b _ _ (confirmed-keeps b (may-be Removing b at refl)) (keeps-mode Looking b)
+browsed-keeps Trashing e b at = answered-keeps e b (may-be Trashing b at refl)
+browsed-keeps Removing e b at = answered-keeps e b (may-be Removing b at refl)
 browsed-keeps Renaming e b at = typed-keeps (event_typing e) b (may-be Renaming b at refl)
 browsed-keeps Making e b at = typed-keeps (event_typing e) b (may-be Making b at refl)
 browsed-keeps Listing e b at = keeps-it b

@@ -2,6 +2,8 @@ pub mod PaintLemmas
 pub mod SortLemmas
 pub mod MoveLemmas
 pub mod NameLemmas
+pub mod DiscardLemmas
+pub mod TrashLemmas
 pub mod LawLemmas
 pub mod QuestionLemmas
 pub mod SoundLemmas

@@ -1,11 +1,11 @@
 -- Names that are shown alike are the same.
-use Rattle.std.proofs.Common.{◌≡◌, ◌==◌, ◌&&◌, ℕ, ◌+◌, ◌*◌, ◌/◌, ◌%◌, ◌<◌, ◌≤◌, nat_lt, Bool, true, false, not, arith, refl, sym, ap}
+use Rattle.std.proofs.Common.{◌≡◌, ◌&&◌, ℕ, ◌/◌, ◌%◌, ◌<◌, ◌≤◌, nat_lt, Bool, true, false, arith, refl, sym, ap}
 use Rattle.std.proofs.Common.{◌∙◌, subst, List, [], ◌∷◌, ◌++◌, length, chars, encode_utf8, encode_utf8_all, if◌then◌else◌, ⊎_elim}
-use Rattle.std.specs.{Str.byte, Str.IsUtf8, List.flat_map, Char.digit_char, Char.len_utf8}
+use Rattle.std.specs.{Str.IsUtf8, List.flat_map, Char.digit_char}
 use Rattle.std.proofs.Math.Utf8.{scalar, scalars, scalar_cases}
 use Rattle.std.proofs.lemmas.{Str.encode_ascii, Str.encode_same, Str.length-encode, Str.len_utf8_bounds, Str.encodes-chars, Str.scalars-chars}
 use Rattle.std.proofs.lemmas.{Bool.Decides.nat_tests, List.length-append}
-use Rattle.files.specs.Names.{is_plain, last_hex_digit, escaped_low, escaped_high, shown_name_char, shown_name}
+use Rattle.files.specs.Names.{is_plain, escaped_low, escaped_high, shown_name_char, shown_name}
 
 -- ---- digits
 

@@ -1,6 +1,6 @@
 -- What questions name.
-use Rattle.std.proofs.Common.{◌≡◌, Bool, true, false, ℕ, List, [], ◌++◌, codes, Option, Some, None, if◌then◌else◌, refl, sym, ap, ◌∙◌}
-use Rattle.std.specs.Prelude.{slice_get, option_map, string_bytes}
+use Rattle.std.proofs.Common.{◌≡◌, Bool, true, false, ℕ, List, [], ◌++◌, codes, Option, Some, None, if◌then◌else◌, refl, sym, ap, ◌∙◌, arith}
+use Rattle.std.specs.Prelude.{slice_get, option_map, string_bytes, get_or}
 use Rattle.std.specs.Option.{option_and_then, option_map_or}
 use Rattle.text_field.specs.Field.{field_text}
 use Rattle.ratatui_files.specs.Paths.{is_name, path_in}
@@ -9,12 +9,15 @@ use Rattle.ratatui_files.specs.declared.command.Command.TheVariants.{Rename, Rem
 use Rattle.files.specs.declared.list.Row.{Row}
 use Rattle.files.specs.declared.browser.Browser.{Browser}
 use Rattle.files.specs.declared.browser.Mode.{Mode}
-use Rattle.files.specs.declared.browser.Mode.TheVariants.{Looking, Listing, Entering, Leaving, Removing, Renaming}
-use Rattle.files.specs.declared.browser.Mode.TheVariants.{Making, Over}
+use Rattle.files.specs.declared.browser.Mode.TheVariants.{Looking, Listing, Entering, Leaving, Trashing, Removing}
+use Rattle.files.specs.declared.browser.Mode.TheVariants.{Renaming, Making, Over}
 use Rattle.files.specs.Names.{shown_name}
 use Rattle.files.specs.Texts.{shown_row, selected_text, selected_shown, status_in}
-use Rattle.files.specs.Questions.{named_path, removal, removal_by, removal_in, change_in}
-use Rattle.files.specs.Laws.{AsksToRemove, AsksToRename}
+use Rattle.files.specs.Questions.{removal_by, removal_in, change_in}
+use Rattle.files.specs.declared.trash.Discard.{Discard}
+use Rattle.files.specs.Texts.{trash_shown, status_told}
+use Rattle.files.specs.Trash.{discard_of, discard_to, discard_in}
+use Rattle.files.specs.Laws.{AsksToRemove, AsksToRename, AsksToTrash}
 
 -- the path of a removal is that of the name
 removed-by : (leaf named : Bool) (path other : List ℕ)
@@ -94,8 +97,8 @@ none-some : (c : Command) → None ≡ Some c → ⊥
 none-some c is = absurd (cc)
 
 asks-of : (b : Browser) (row : Row) → slice_get b.list b.selected ≡ Some row
-    → status_in Removing b ≡ codes "remove \"" ++ shown_row row ++ codes "\"? y/n"
-asks-of b row is = ap (λ shown. codes "remove \"" ++ shown ++ codes "\"? y/n") (shown-of b row is)
+    → status_in Removing b ≡ codes "remove \"" ++ shown_row row ++ codes "\" for good? y/n"
+asks-of b row is = ap (λ shown. codes "remove \"" ++ shown ++ codes "\" for good? y/n") (shown-of b row is)
 
 pub asks-file : (mode : Mode) (b : Browser) (path : List ℕ) → b.mode ≡ mode → change_in mode b ≡ Some (Remove path)
     → AsksToRemove b path
@@ -104,6 +107,7 @@ asks-file Removing b path at is =
     record { row = it.0; path_is = it.2; asks = ap (λ m. status_in m b) at ∙ asks-of b it.0 it.1 }
 asks-file Renaming b path at is = absurd (rename-not (is_name (selected_text b)) (is_name (field_text b.typed)) _ _ path is)
 asks-file Making b path at is = absurd (make-not (is_name (field_text b.typed)) _ path is)
+asks-file Trashing b path at is = absurd (none-some _ is)
 asks-file Looking b path at is = absurd (none-some _ is)
 asks-file Listing b path at is = absurd (none-some _ is)
 asks-file Entering b path at is = absurd (none-some _ is)
@@ -118,6 +122,7 @@ asks-folder Removing b path at is =
 asks-folder Renaming b path at is =
     absurd (rename-no-folder (is_name (selected_text b)) (is_name (field_text b.typed)) _ _ path is)
 asks-folder Making b path at is = absurd (make-no-folder (is_name (field_text b.typed)) _ path is)
+asks-folder Trashing b path at is = absurd (none-some _ is)
 asks-folder Looking b path at is = absurd (none-some _ is)
 asks-folder Listing b path at is = absurd (none-some _ is)
 asks-folder Entering b path at is = absurd (none-some _ is)
@@ -150,8 +155,42 @@ asks-rename Renaming b from to at is =
     }
 asks-rename Removing b from to at is = absurd (removal-no-rename b (slice_get b.list b.selected) from to is)
 asks-rename Making b from to at is = absurd (make-no-rename (is_name (field_text b.typed)) _ from to is)
+asks-rename Trashing b from to at is = absurd (none-some _ is)
 asks-rename Looking b from to at is = absurd (none-some _ is)
 asks-rename Listing b from to at is = absurd (none-some _ is)
 asks-rename Entering b from to at is = absurd (none-some _ is)
 asks-rename Leaving b from to at is = absurd (none-some _ is)
 asks-rename Over b from to at is = absurd (none-some _ is)
+
+-- ---- the trash
+
+trash-of : (o : Option (List ℕ)) (b : Browser) (d : Discard) → option_and_then (discard_to b) o ≡ Some d
+    → (trash : List ℕ) × (o ≡ Some trash) × (discard_to b trash ≡ Some d)
+trash-of None b d is = absurd (cc)
+trash-of (Some trash) b d is = (trash, refl, is)
+
+discard-by : (named : Bool) (x d : Discard) → (if named then Some x else None) ≡ Some d → (named ≡ true) × (d ≡ x)
+discard-by true x d is = (refl, cc)
+discard-by false x d is = absurd (cc)
+
+pub asks-trash : (b : Browser) (d : Discard) → b.mode ≡ Trashing → discard_in b ≡ Some d → AsksToTrash b d
+asks-trash b d at is =
+    let it = trash-of b.trash b d is in
+    let made = discard-by (is_name (selected_text b)) (discard_of b (selected_text b) it.0) d it.2 in
+    let entry = row-of b (slice_get b.list b.selected) made.0 in
+    let place : d.trash ≡ it.0 = ap (λ (x : Discard). x.trash) made.1 in
+    record {
+      row = entry.0;
+      from_is = ap (λ (x : Discard). x.from) made.1 ∙ ap (path_in b.folder) (text-of b entry.0 entry.1);
+      asks = ap (λ m. status_in m b) at
+          ∙ ap (λ shown. codes "move \"" ++ shown ++ codes "\" to \"" ++ trash_shown b.trash ++ codes "\"? y/n") (shown-of b entry.0 entry.1)
+          ∙ ap (λ t. codes "move \"" ++ shown_row entry.0 ++ codes "\" to \"" ++ trash_shown t ++ codes "\"? y/n") it.1
+          ∙ ap (λ t. codes "move \"" ++ shown_row entry.0 ++ codes "\" to \"" ++ (codes "/" ++ shown_name t) ++ codes "\"? y/n") (sym place);
+    }
+
+-- the two questions begin with other letters
+pub verbs-differ : (b c : Browser) → b.mode ≡ Trashing → c.mode ≡ Removing → status_told b ≡ status_told c → ⊥
+verbs-differ b c moves removes same =
+    let texts = sym (ap (λ m. status_in m b) moves) ∙ same ∙ ap (λ m. status_in m c) removes in
+    let letters : 109 ≡ 114 = ap (λ text. get_or text 0 0) texts in
+    absurd (omega (arith, letters))

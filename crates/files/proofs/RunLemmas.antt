@@ -1,5 +1,5 @@
 -- What was done in a run was on the glass.
-use Rattle.std.proofs.Common.{◌≡◌, ℕ, List, [], ◌∷◌, true, sym, subst}
+use Rattle.std.proofs.Common.{ℕ, List, [], ◌∷◌, sym, subst}
 use Rattle.std.specs.declared.time.Duration.{Duration}
 use Rattle.ratatui_core.specs.Terminal.{TerminalError}
 use Rattle.ratatui_ansi.specs.{declared.error.AnsiError.AnsiError}

@@ -1,6 +1,6 @@
 -- Where something is changed, the screen had columns for the whole question.
-use Rattle.std.proofs.Common.{◌≡◌, ◌||◌, ◌⊎◌, inl, inr, ⊎_elim, Bool, true, false, if◌then◌else◌, List, [], ◌∷◌, ◌++◌, ℕ}
-use Rattle.std.proofs.Common.{Option, Some, None, refl, sym, ap, ◌∙◌, subst}
+use Rattle.std.proofs.Common.{◌≡◌, ◌||◌, inl, inr, Bool, true, false, if◌then◌else◌, List, [], ◌∷◌, ◌++◌, ℕ}
+use Rattle.std.proofs.Common.{Some, None, refl, sym, ap, ◌∙◌, subst}
 use Rattle.std.specs.Prelude.{is_some, nat_le, codes}
 use Rattle.ratatui_core.specs.Buffer.{text_columns}
 use Rattle.std.specs.declared.time.Duration.{Duration}
@@ -8,16 +8,16 @@ use Rattle.ratatui_events.specs.declared.event.Event.{Event}
 use Rattle.ratatui_input.specs.declared.decoder.Decoder.{Decoder}
 use Rattle.ratatui_reads.specs.{Reads.told_by}
 use Rattle.ratatui_acts.specs.declared.message.Message.TheVariants as message
-use Rattle.ratatui_acts.specs.Turns.{Turn, Came, Done, Standing, ActingRules, taking, ticked, waits, after_turn}
+use Rattle.ratatui_acts.specs.Turns.{Turn, Came, Done, Standing, taking, ticked, waits, after_turn}
 use Rattle.files.specs.declared.browser.Browser.{Browser}
 use Rattle.files.specs.declared.browser.Mode.{Mode}
-use Rattle.files.specs.declared.browser.Mode.TheVariants.{Looking, Listing, Entering, Leaving, Removing, Renaming}
-use Rattle.files.specs.declared.browser.Mode.TheVariants.{Making, Over}
+use Rattle.files.specs.declared.browser.Mode.TheVariants.{Looking, Listing, Entering, Leaving, Trashing, Removing}
+use Rattle.files.specs.declared.browser.Mode.TheVariants.{Renaming, Making, Over}
 use Rattle.files.specs.declared.list.Outcome.{Outcome}
 use Rattle.files.specs.declared.browser.Note.{Note}
-use Rattle.files.specs.declared.browser.Note.TheVariants.{Place, Failed, Narrow}
+use Rattle.files.specs.declared.browser.Note.TheVariants.{Place, Failed, Narrow, NoTrash}
 use Rattle.files.specs.Texts.{fits, subject, note_told, failure_text, status_in}
-use Rattle.files.specs.Moves.{asks, asks_in, browser_asked, is_over, browsed_after, outcome_told}
+use Rattle.files.specs.Moves.{asks, asks_in, browser_asked, is_over, browsed_after}
 use Rattle.files.specs.Laws.{IsSound, browsing, is_change}
 use Rattle.files.proofs.LawLemmas.{yes-counts, counted}
 
@@ -31,6 +31,7 @@ subject-flags Looking s q b = refl
 subject-flags Listing s q b = refl
 subject-flags Entering s q b = refl
 subject-flags Leaving s q b = refl
+subject-flags Trashing s q b = refl
 subject-flags Removing s q b = refl
 subject-flags Renaming s q b = refl
 subject-flags Making s q b = refl
@@ -40,12 +41,14 @@ note-flags : (n : Note) (s q : Bool) (b : Browser) → note_told n (flagged s q 
 note-flags Place s q b = refl
 note-flags (Failed m why) s q b = ap (λ text. text ++ codes ": " ++ failure_text why) (subject-flags m s q b)
 note-flags Narrow s q b = refl
+note-flags NoTrash s q b = refl
 
 pub status-flags : (m : Mode) (s q : Bool) (b : Browser) → status_in m (flagged s q b) ≡ status_in m b
 status-flags Looking s q b = note-flags b.note s q b
 status-flags Listing s q b = note-flags b.note s q b
 status-flags Entering s q b = note-flags b.note s q b
 status-flags Leaving s q b = note-flags b.note s q b
+status-flags Trashing s q b = refl
 status-flags Removing s q b = refl
 status-flags Renaming s q b = refl
 status-flags Making s q b = refl
@@ -130,6 +133,7 @@ asks-true true b c is = refl
 asks-true false b c is = absurd (cc)
 
 pub sure-in : (mode : Mode) (sure : Bool) → is_change mode ≡ true → asks_in mode sure ≡ true → sure ≡ true
+sure-in Trashing sure change is = is
 sure-in Removing sure change is = is
 sure-in Renaming sure change is = is
 sure-in Making sure change is = is

@@ -5,7 +5,6 @@ use Rattle.ratatui_files.specs.declared.command.Command.{Command}
 use Rattle.ratatui_files.specs.declared.command.Command.TheVariants.{List as ListFolder}
 use Rattle.ratatui_files.specs.declared.answer.Answer.{Answer}
 use Rattle.ratatui_files.specs.declared.answer.Answer.TheVariants as answer
-use Rattle.ratatui_files.specs.declared.answer.Failure.{Failure}
 use Rattle.ratatui_files.specs.declared.answer.Failure.TheVariants as failure
 use Rattle.std.specs.declared.cmp.Ordering.{Ordering}
 use Rattle.files.specs.declared.list.Row.{Row}
@@ -14,13 +13,15 @@ use Rattle.files.specs.declared.list.Outcome.{Outcome}
 use Rattle.files.specs.declared.list.Outcome.TheVariants as outcome
 use Rattle.files.specs.declared.browser.Browser.{Browser}
 use Rattle.files.specs.declared.browser.Mode.{Mode}
-use Rattle.files.specs.declared.browser.Mode.TheVariants.{Looking, Listing, Entering, Leaving, Removing, Renaming}
-use Rattle.files.specs.declared.browser.Mode.TheVariants.{Making, Over}
+use Rattle.files.specs.declared.browser.Mode.TheVariants.{Listing, Entering, Leaving, Trashing}
 use Rattle.files.specs.declared.hands.Wanted.{Wanted}
 use Rattle.ratatui_files.specs.declared.answer.Info.{Info}
 use Rattle.files.specs.Texts.{selected_text, sought_text}
 use Rattle.files.specs.Questions.{named_path, change_in}
 use Rattle.files.specs.Sorting.{IsListOf, IsPlaceOf}
+use Rattle.files.specs.Answers.{told_of, DoesNothing}
+use Rattle.files.specs.Trash.{discard_in}
+use Rattle.files.specs.Discards.{Discarded}
 
 -- a folder is in the one that is wanted, by the name that is to be selected
 pub record IsAbove (folder : List ℕ) (w : Wanted) : Type 0 where
@@ -60,18 +61,6 @@ TellsListing cmp hidden w (answer.Listed entries unnamed) (outcome.Listed l) = T
 TellsListing cmp hidden w (answer.Failed why) o = o ≡ outcome.Failed why
 TellsListing cmp hidden w a o = o ≡ outcome.Failed failure.Other
 
--- a change was done with this answer
-abbrev pub told_of : Answer → Outcome
-told_of answer.Done = outcome.Done
-told_of (answer.Failed why) = outcome.Failed why
-told_of _ = outcome.Failed failure.Other
-
--- nothing was done to files, and a reason is told
-pub record DoesNothing {P : Type 0} (files : P) (o : Outcome) (files' : P) : Type 0 where
-  pub why : Failure
-  pub tells : o ≡ outcome.Failed why
-  pub kept : files' ≡ files
-
 module _ {P : Type 0} (cmp : Row → Row → Ordering) (does : P → Command → Answer → P → Type 0) where
   -- a change was done, this one and no other, and what came of it is told; or nothing was done
   pub record Touches (command : Command) (files : P) (o : Outcome) (files' : P) : Type 0 where
@@ -98,6 +87,7 @@ module _ {P : Type 0} (cmp : Row → Row → Ordering) (does : P → Command →
   DoesIn Listing b files o files' = Listed b files o files'
   DoesIn Entering b files o files' = Listed b files o files'
   DoesIn Leaving b files o files' = Listed b files o files'
+  DoesIn Trashing b files o files' = Discarded does (discard_in b) files o files'
   DoesIn mode b files o files' = Changed (change_in mode b) files o files'
 
   -- what a browser asks for was done

@@ -12,14 +12,14 @@ use Rattle.ratatui_events.specs.Key.{modifier_bits}
 use Rattle.files.specs.declared.keys.Wish.{Wish}
 use Rattle.files.specs.declared.keys.Wish.TheVariants.{Nothing, Down, Up, PageDown, PageUp, HalfDown, HalfUp}
 use Rattle.files.specs.declared.keys.Wish.TheVariants.{ToFirst, ToLast, Enter, Leave, Hidden, Rename, Make}
-use Rattle.files.specs.declared.keys.Wish.TheVariants.{Remove, Quit}
+use Rattle.files.specs.declared.keys.Wish.TheVariants.{Trash, Remove, Quit}
 use Rattle.files.specs.declared.typing.Typing.{Typing}
 use Rattle.files.specs.declared.typing.Typing.TheVariants.{Change, Accept, Cancel, Ignore}
 use Rattle.text_field.specs.declared.keys.Edit.{Edit}
 use Rattle.text_field.specs.Keys.{edit_of}
 
--- characters: j, k, g, G move; l enters a folder, h leaves it; the dot shows hidden entries; r, a and D rename,
--- make a folder and remove; q ends
+-- characters: j, k, g, G move; l enters a folder, h leaves it; the dot shows hidden entries; r and a rename and make
+-- a folder; D puts into the trash, and X removes for good; q ends
 abbrev pub character_wish : ℕ → Wish
 character_wish c =
     if c == byte "j" then Down
@@ -31,7 +31,8 @@ character_wish c =
     else if c == byte "." then Hidden
     else if c == byte "r" then Rename
     else if c == byte "a" then Make
-    else if c == byte "D" then Remove
+    else if c == byte "D" then Trash
+    else if c == byte "X" then Remove
     else if c == byte "q" then Quit
     else Nothing
 

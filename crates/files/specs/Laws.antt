@@ -4,9 +4,10 @@ use Rattle.ratatui_files.specs.Paths.{path_in}
 use Rattle.ratatui_acts.specs.Turns.{ActingRules}
 use Rattle.files.specs.declared.list.Row.{Row}
 use Rattle.files.specs.declared.list.Outcome.{Outcome}
+use Rattle.files.specs.declared.trash.Discard.{Discard}
 use Rattle.files.specs.declared.browser.Browser.{Browser}
 use Rattle.files.specs.declared.browser.Mode.{Mode}
-use Rattle.files.specs.declared.browser.Mode.TheVariants.{Removing, Renaming, Making}
+use Rattle.files.specs.declared.browser.Mode.TheVariants.{Trashing, Removing, Renaming, Making}
 use Rattle.files.specs.Moves.{last_row_place, list_rows, asks, browsed_after, browser_asked, is_over}
 use Rattle.files.specs.Names.{shown_name}
 use Rattle.files.specs.Texts.{shown_row, status_told, fits}
@@ -23,11 +24,17 @@ pub record ListsSame (b c : Browser) : Type 0 where
   pub list : c.list ≡ b.list
   pub unnamed : c.unnamed ≡ b.unnamed
 
--- the status asks whether the entry of a path is to be removed
+-- the status asks whether the entry of a path is to be removed for good
 pub record AsksToRemove (b : Browser) (path : List ℕ) : Type 0 where
   pub row : Row
   pub path_is : path ≡ path_in b.folder (string_bytes row.name)
-  pub asks : status_told b ≡ codes "remove \"" ++ shown_row row ++ codes "\"? y/n"
+  pub asks : status_told b ≡ codes "remove \"" ++ shown_row row ++ codes "\" for good? y/n"
+
+-- the status asks whether an entry is to be moved to the trash, and names both
+pub record AsksToTrash (b : Browser) (d : Discard) : Type 0 where
+  pub row : Row
+  pub from_is : d.from ≡ path_in b.folder (string_bytes row.name)
+  pub asks : status_told b ≡ codes "move \"" ++ shown_row row ++ codes "\" to \"" ++ (codes "/" ++ shown_name d.trash) ++ codes "\"? y/n"
 
 -- the status asks for another name of the entry of a path: that of another path
 pub record AsksToRename (b : Browser) (from to : List ℕ) : Type 0 where
@@ -47,6 +54,7 @@ browsing = record { updated = browsed_after; asked = browser_asked; is_over = is
 
 -- a question is asked that changes something
 abbrev pub is_change : Mode → Bool
+is_change Trashing = true
 is_change Removing = true
 is_change Renaming = true
 is_change Making = true

@@ -1,6 +1,10 @@
 pub mod Keys
 pub mod Names
 pub mod Texts
+pub mod Dates
+pub mod Trash
+pub mod Answers
+pub mod Discards
 pub mod Moves
 pub mod Pages
 pub mod PageLemmas

@@ -1,7 +1,7 @@
 -- What each event and each answer makes of a browser.
 use Rattle.std.specs.Prelude.{ℕ, zero, suc, Bool, true, false, not, ◌+◌, ◌-◌, ◌/◌, ◌==◌, ◌&&◌, ◌||◌, min, max, nat_lt}
-use Rattle.std.specs.Prelude.{if◌then◌else◌, List, [], ◌∷◌, ◌++◌, length, Option, Some, None, slice_get, get_or}
-use Rattle.std.specs.Str.{byte}
+use Rattle.std.specs.Prelude.{if◌then◌else◌, List, [], length, Option, Some, None, is_some, slice_get, get_or}
+use Rattle.std.specs.Str.{byte, bytes_eq}
 use Rattle.std.specs.Option.{option_map_or}
 use Rattle.std.specs.declared.alloc.Global.{Global}
 use Rattle.ratatui_core.specs.Layout.{Size}
@@ -14,9 +14,10 @@ use Rattle.text_field.specs.{Reach.reach_left, Reach.reach_right, Keys.edited}
 use Rattle.text_field.specs.declared.reach.Reach.TheVariants.{Grapheme, All}
 use Rattle.files.specs.declared.browser.Browser.{Browser}
 use Rattle.files.specs.declared.browser.Mode.{Mode}
-use Rattle.files.specs.declared.browser.Mode.TheVariants.{Looking, Listing, Entering, Leaving, Removing, Renaming}
-use Rattle.files.specs.declared.browser.Mode.TheVariants.{Making, Over}
-use Rattle.files.specs.declared.browser.Note.TheVariants.{Place, Failed, Narrow}
+use Rattle.files.specs.declared.browser.Mode.TheVariants.{Looking, Listing, Entering, Leaving, Trashing, Removing}
+use Rattle.files.specs.declared.browser.Mode.TheVariants.{Renaming, Making, Over}
+use Rattle.files.specs.declared.browser.Note.{Note}
+use Rattle.files.specs.declared.browser.Note.TheVariants.{Place, Failed, Narrow, NoTrash}
 use Rattle.files.specs.declared.keys.Wish.{Wish}
 use Rattle.files.specs.declared.keys.Wish.TheVariants as wish
 use Rattle.files.specs.declared.typing.Typing.{Typing}
@@ -34,6 +35,8 @@ new_browser alloc title size = record {
   alloc = alloc;
   size = size;
   title = title;
+  base = [];
+  trash = None;
   folder = [];
   list = [];
   unnamed = 0;
@@ -48,6 +51,10 @@ new_browser alloc title size = record {
   typed = new_field;
   column = 0;
 }
+
+-- a folder is shown in its place, above which nothing is reached
+abbrev pub within_folder : List ℕ → Browser → Browser
+within_folder folder b = record b { folder = folder; base = folder }
 
 -- ---- the selection
 
@@ -121,20 +128,33 @@ renaming b = if length b.list == 0 then b else typing_in Renaming (at_extension 
 
 abbrev pub went : Wish → Browser → Browser
 went wish.Enter b = if is_folder_selected b then record b { mode = Entering } else b
-went wish.Leave b = if nat_lt 0 (length b.folder) then record b { mode = Leaving } else b
+went wish.Leave b = if bytes_eq b.folder b.base then b else record b { mode = Leaving }
 went wish.Hidden b = record b { has_hidden = not b.has_hidden; mode = Listing }
 went wish.Remove b = if nat_lt 0 (length b.list) then record b { mode = Removing } else b
 went wish.Quit b = record b { mode = Over }
 went other b = selection_moved other b
 
+-- the question whether the entry that is selected is to be put into the trash, if there is one
+abbrev pub asking_to_trash : Browser → Browser
+asking_to_trash b = if is_some b.trash && nat_lt 0 (length b.list) then record b { mode = Trashing } else b
+
+abbrev pub trash_note : Option (List ℕ) → Note
+trash_note (Some trash) = Place
+trash_note None = NoTrash
+
 -- what a wish makes of it, without its note
 abbrev pub granted : Wish → Browser → Browser
 granted wish.Rename b = renaming b
 granted wish.Make b = typing_in Making new_field b
+granted wish.Trash b = asking_to_trash b
 granted other b = went other b
 
+abbrev pub note_of : Wish → Browser → Note
+note_of wish.Trash b = trash_note b.trash
+note_of _ b = Place
+
 abbrev pub wished : Wish → Browser → Browser
-wished w b = record (granted w b) { note = Place }
+wished w b = record (granted w b) { note = note_of w b }
 
 -- ---- questions
 
@@ -152,9 +172,14 @@ typed_into Accept b = confirmed b
 typed_into Cancel b = record b { mode = Looking }
 typed_into Ignore b = b
 
+-- an answer to the question whether an entry is to be removed
+abbrev pub removal_answered : Event → Browser → Browser
+removal_answered event b = if says_yes event then confirmed b else record b { mode = Looking }
+
 abbrev pub browsed : Mode → Event → Browser → Browser
 browsed Looking event b = wished (event_wish event) b
-browsed Removing event b = if says_yes event then confirmed b else record b { mode = Looking }
+browsed Trashing event b = removal_answered event b
+browsed Removing event b = removal_answered event b
 browsed Renaming event b = typed_into (event_typing event) b
 browsed Making event b = typed_into (event_typing event) b
 browsed _ event b = b
@@ -217,6 +242,7 @@ abbrev pub asks_in : Mode → Bool → Bool
 asks_in Listing sure = true
 asks_in Entering sure = true
 asks_in Leaving sure = true
+asks_in Trashing sure = sure
 asks_in Removing sure = sure
 asks_in Renaming sure = sure
 asks_in Making sure = sure

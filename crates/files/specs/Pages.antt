@@ -1,5 +1,5 @@
 -- What a browser paints: a text in each row.
-use Rattle.std.specs.Prelude.{◌≡◌, ℕ, zero, suc, ◌+◌, ◌-◌, ◌==◌, ◌&&◌, min, nat_lt, if◌then◌else◌}
+use Rattle.std.specs.Prelude.{◌≡◌, ◌≤◌, ℕ, zero, suc, ◌+◌, ◌-◌, ◌==◌, ◌&&◌, min, nat_lt, if◌then◌else◌}
 use Rattle.std.specs.Prelude.{List, Option, Some, None}
 use Rattle.ratatui_core.specs.{Layout.Rect, Layout.Position, Layout.EdgesFit, Style.Style, Style.new_style}
 use Rattle.ratatui_core.specs.Style.{with_modifier, modifier_of}
@@ -10,7 +10,11 @@ use Rattle.widget_boxes.specs.Titles.{InTurn}
 use Rattle.files.specs.declared.browser.Browser.{Browser}
 use Rattle.files.specs.declared.browser.Mode.{Mode}
 use Rattle.files.specs.declared.browser.Mode.TheVariants.{Renaming, Making}
-use Rattle.files.specs.Texts.{text_in, place_in_row}
+use Rattle.ratatui_core.specs.Buffer.{text_columns}
+use Rattle.ratatui_core.specs.Terminal.{TerminalData}
+use Rattle.ratatui_ansi.specs.Backend.{BackendState}
+use Rattle.ratatui_app.specs.Glass.{StandsOnGlass}
+use Rattle.files.specs.Texts.{text_in, place_in_row, status_told}
 
 -- a text in a row, as far as the row goes
 abbrev pub PaintsRowText : Rect → ℕ → Style → List ℕ → BufferData → BufferData → Type 0
@@ -67,3 +71,8 @@ cursor_in_mode _ b r = None
 -- the cursor is shown while a name is typed
 abbrev pub browser_cursor : Browser → Rect → Option Position
 browser_cursor b r = cursor_in_mode b.mode b r
+
+-- each terminal that has read what was sent shows the browser, and has columns for all that its last row tells
+pub record ShowsWhole {W : Type 0} (b : Browser) (t : TerminalData (BackendState W)) : Type 0 where
+  pub shown : StandsOnGlass (PaintsBrowser b) (browser_cursor b) t
+  pub whole : text_columns (status_told b) ≤ t.viewport_area.width

@@ -1,5 +1,5 @@
 -- What is done to files if a question is answered by yes.
-use Rattle.std.specs.Prelude.{ℕ, Bool, true, false, if◌then◌else◌, List, Option, Some, None, slice_get}
+use Rattle.std.specs.Prelude.{◌≡◌, ℕ, Bool, true, false, if◌then◌else◌, List, Option, Some, None, slice_get}
 use Rattle.std.specs.Prelude.{option_map, string_bytes}
 use Rattle.std.specs.Option.{option_and_then}
 use Rattle.text_field.specs.Field.{field_text}
@@ -9,8 +9,10 @@ use Rattle.ratatui_files.specs.declared.command.Command.TheVariants.{Rename, Rem
 use Rattle.files.specs.declared.list.Row.{Row}
 use Rattle.files.specs.declared.browser.Browser.{Browser}
 use Rattle.files.specs.declared.browser.Mode.{Mode}
-use Rattle.files.specs.declared.browser.Mode.TheVariants.{Removing, Renaming, Making}
+use Rattle.files.specs.declared.browser.Mode.TheVariants.{Trashing, Removing, Renaming, Making}
+use Rattle.files.specs.declared.trash.Discard.{Discard}
 use Rattle.files.specs.Texts.{selected_text}
+use Rattle.files.specs.Trash.{discard_in, IsStep}
 
 -- the path of a name in the folder that is shown, if it can be one
 abbrev pub named_path : Browser → List ℕ → Option (List ℕ)
@@ -35,3 +37,13 @@ change_in Renaming b =
     (named_path b (selected_text b))
 change_in Making b = option_map MakeFolder (named_path b (field_text b.typed))
 change_in _ b = None
+
+-- a browser asks whether this is to be put into the trash
+pub record AsksToDiscard (b : Browser) (d : Discard) : Type 0 where
+  pub mode : b.mode ≡ Trashing
+  pub is : discard_in b ≡ Some d
+
+-- a question is about a command: it is the change, or a step by which the entry comes into the trash
+abbrev pub IsNamedIn : Mode → Browser → Command → Type 0
+IsNamedIn Trashing b command = (d : Discard) × (discard_in b ≡ Some d) × IsStep d command
+IsNamedIn mode b command = change_in mode b ≡ Some command

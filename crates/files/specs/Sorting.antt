@@ -4,7 +4,7 @@ use Rattle.std.specs.Prelude.{Option, Some, None, string_bytes, IsPermutation, I
 use Rattle.std.specs.{Str.byte, List.AllZip}
 use Rattle.ratatui_files.specs.declared.answer.Info.{Info}
 use Rattle.ratatui_files.specs.declared.answer.Kind.{Kind}
-use Rattle.ratatui_files.specs.declared.answer.Kind.TheVariants.{Folder, File, Link, Other}
+use Rattle.ratatui_files.specs.declared.answer.Kind.TheVariants.{Folder, File, Link}
 use Rattle.std.specs.declared.cmp.Ordering.{Ordering}
 use Rattle.files.specs.declared.list.Row.{Row}
 

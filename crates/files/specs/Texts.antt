@@ -1,6 +1,6 @@
 -- The texts that stand in the rows.
 use Rattle.std.specs.Prelude.{ℕ, Bool, true, false, ◌+◌, ◌-◌, ◌==◌, ◌^◌, min, nat_lt, nat_le, if◌then◌else◌}
-use Rattle.std.specs.Prelude.{List, [], ◌∷◌, ◌++◌, length, codes, Option, Some, None, slice_get, string_bytes}
+use Rattle.std.specs.Prelude.{List, [], ◌++◌, length, codes, Option, Some, None, slice_get, string_bytes}
 use Rattle.std.specs.{Option.option_map_or, Fmt.decimal, List.repeat}
 use Rattle.ratatui_core.specs.Buffer.{text_columns}
 use Rattle.text_field.specs.Field.{FieldData, field_text}
@@ -9,9 +9,10 @@ use Rattle.ratatui_files.specs.declared.answer.Failure.TheVariants as failure
 use Rattle.files.specs.declared.list.Row.{Row}
 use Rattle.files.specs.declared.browser.Browser.{Browser}
 use Rattle.files.specs.declared.browser.Mode.{Mode}
-use Rattle.files.specs.declared.browser.Mode.TheVariants.{Entering, Leaving, Removing, Renaming, Making}
+use Rattle.files.specs.declared.browser.Mode.TheVariants.{Entering, Leaving, Trashing, Removing, Renaming, Making}
 use Rattle.files.specs.declared.browser.Note.{Note}
-use Rattle.files.specs.declared.browser.Note.TheVariants.{Place, Failed, Narrow}
+use Rattle.files.specs.declared.browser.Note.TheVariants.{Place, Failed, Narrow, NoTrash}
+use Rattle.ratatui_files.specs.Paths.{after_start}
 use Rattle.files.specs.Names.{shown_name}
 
 -- ---- the list
@@ -45,9 +46,17 @@ entry_at width place b = option_map_or (row_told width) (slice_get b.list place)
 
 -- ---- the title
 
+-- what follows a beginning of a text, or the text if it begins otherwise
+abbrev pub without_start : List ℕ → List ℕ → List ℕ
+without_start start text = option_map_or (λ rest. rest) (after_start start text) text
+
+-- the folder that is shown, as it is called in the one above which nothing is reached
+abbrev pub inner_text : Browser → List ℕ
+inner_text b = without_start (codes "/") (without_start b.base b.folder)
+
 -- where the folder is
 abbrev pub title_text : Browser → List ℕ
-title_text b = shown_name b.title ++ codes "/" ++ shown_name b.folder
+title_text b = shown_name b.title ++ codes "/" ++ shown_name (inner_text b)
 
 -- ---- the status
 
@@ -90,6 +99,7 @@ failure_text failure.Other = codes "the system refused"
 -- what it was that wasn't done
 abbrev pub subject : Mode → Browser → List ℕ
 subject Entering b = selected_shown b
+subject Trashing b = selected_shown b
 subject Removing b = selected_shown b
 subject Renaming b = selected_shown b
 subject Making b = shown_name (field_text b.typed)
@@ -101,21 +111,31 @@ abbrev pub note_told : Note → Browser → List ℕ
 note_told Place b = place_told b
 note_told (Failed mode failure) b = subject mode b ++ codes ": " ++ failure_text failure
 note_told Narrow b = codes "the screen is too narrow for the question"
+note_told NoTrash b = codes "there is no trash: X removes for good"
 
 -- what stands before a name that is typed
 abbrev pub prompt : Mode → Browser → List ℕ
 prompt Renaming b = codes "rename \"" ++ selected_shown b ++ codes "\" to \""
 prompt _ b = codes "make the folder \""
 
--- a question with a name that is typed, and the question whether an entry is to be removed
+-- where the trash is, from the folder on that all is in
+abbrev pub trash_shown : Option (List ℕ) → List ℕ
+trash_shown (Some trash) = codes "/" ++ shown_name trash
+trash_shown None = []
+
+-- a question with a name that is typed, and the questions whether an entry is to be put into the trash, or removed
 abbrev pub name_question : Mode → Browser → List ℕ
 name_question mode b = prompt mode b ++ shown_name (field_text b.typed) ++ codes "\""
 
+abbrev pub trash_question : Browser → List ℕ
+trash_question b = codes "move \"" ++ selected_shown b ++ codes "\" to \"" ++ trash_shown b.trash ++ codes "\"? y/n"
+
 abbrev pub removal_question : Browser → List ℕ
-removal_question b = codes "remove \"" ++ selected_shown b ++ codes "\"? y/n"
+removal_question b = codes "remove \"" ++ selected_shown b ++ codes "\" for good? y/n"
 
 -- what the last row tells
 abbrev pub status_in : Mode → Browser → List ℕ
+status_in Trashing b = trash_question b
 status_in Removing b = removal_question b
 status_in Renaming b = name_question Renaming b
 status_in Making b = name_question Making b

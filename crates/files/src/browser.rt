@@ -1,7 +1,7 @@
 //! The state of a file manager.
 
-ghost use Rattle.std.specs.Prelude.{◌≡◌, false, IfOk, OnOk, OnErr};
-ghost use Rattle.files.specs.Moves.{new_browser, browsed, browser_at_told_size, told, outcome_told, browsed_after};
+ghost use Rattle.std.specs.Prelude.{◌≡◌, false, Some, IfOk, OnOk, OnErr};
+ghost use Rattle.files.specs.Moves.{new_browser, within_folder, removal_answered, browsed, browser_at_told_size, told, outcome_told, browsed_after};
 ghost use Rattle.files.specs.Moves.{asks, browser_asked};
 
 use crate::keys::{is_input, says_yes, wish_of};
@@ -26,7 +26,9 @@ pub enum Mode {
     Entering,
     /// The folder above is listed.
     Leaving,
-    /// Keys say whether the entry is to be removed.
+    /// Keys say whether the entry is to be put into the trash.
+    Trashing,
+    /// Keys say whether the entry is to be removed for good.
     Removing,
     /// Another name of the entry is typed.
     Renaming,
@@ -45,6 +47,8 @@ pub enum Note {
     Failed(Mode, Failure),
     /// That the screen is too narrow for the question.
     Narrow,
+    /// That there is no trash.
+    NoTrash,
 }
 
 /// A folder in rows, of which one is selected. What it asks for is told by itself: it is a function
@@ -56,6 +60,10 @@ pub struct Browser {
     pub(crate) size: Size,
     /// What the folder is called that all is in.
     pub(crate) title: Text,
+    /// The folder above which nothing is reached.
+    pub(crate) base: Path,
+    /// Where things are put that are removed, but not for good.
+    pub(crate) trash: Option<Path>,
     /// The folder that is shown.
     pub(crate) folder: Path,
     /// Its entries, as they were told last.
@@ -90,6 +98,8 @@ impl Browser {
             alloc,
             size,
             title,
+            base: Path::root(alloc),
+            trash: None,
             folder: Path::root(alloc),
             list: Rows::new(Vec::new(alloc)),
             unnamed: 0,
@@ -106,6 +116,30 @@ impl Browser {
         }
     }
 
+    /// Shows this folder in place of the one that all is in. Nothing above it is reached, and the
+    /// title stands for it.
+    ///
+    /// # Errors
+    ///
+    /// `AllocError` if memory is refused.
+    pub fn within(self, folder: Path) -> Result<Browser, AllocError>
+        ensures { IfOk result (λ browser. browser ≡ within_folder folder self) }
+    {
+        let mut browser = self;
+        browser.folder = folder.copy(browser.alloc)?;
+        browser.base = folder;
+        Ok(browser)
+    }
+
+    /// Has this folder as its trash.
+    pub fn with_trash(self, trash: Path) -> Browser
+        ensures { result ≡ record self { trash = Some trash } }
+    {
+        let mut browser = self;
+        browser.trash = Some(trash);
+        browser
+    }
+
     // Takes a size that was told, if one was.
     fn take_size(&mut self, size: Option<(u16, u16)>)
         ensures { self.new ≡ browser_at_told_size size self.old }
@@ -119,7 +153,7 @@ impl Browser {
 
     // Takes an answer to the question whether an entry is to be removed.
     fn take_answer(&mut self, event: Event) -> Result<(), AllocError>
-        ensures ok { OnOk result (self.new ≡ browsed Mode.Removing event self.old) }
+        ensures ok { OnOk result (self.new ≡ removal_answered event self.old) }
         ensures err { OnErr result (self.new ≡ self.old) }
     {
         if says_yes(event) {
@@ -136,7 +170,7 @@ impl Browser {
     {
         match self.mode {
             Mode::Looking => self.obey(wish_of(event)),
-            Mode::Removing => self.take_answer(event),
+            Mode::Trashing | Mode::Removing => self.take_answer(event),
             Mode::Renaming | Mode::Making => self.take_typing(typing_of(event)),
             Mode::Listing | Mode::Entering | Mode::Leaving | Mode::Over => Ok(()),
         }
@@ -182,7 +216,7 @@ impl Browser {
     {
         match self.mode {
             Mode::Listing | Mode::Entering | Mode::Leaving => true,
-            Mode::Removing | Mode::Renaming | Mode::Making => self.is_sure,
+            Mode::Trashing | Mode::Removing | Mode::Renaming | Mode::Making => self.is_sure,
             Mode::Looking | Mode::Over => false,
         }
     }

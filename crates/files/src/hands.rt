@@ -1,12 +1,13 @@
 //! What is outside of a browser: it lists folders, and changes what the screen names.
 
-ghost use Rattle.std.specs.Prelude.{◌≡◌, ◌≤◌, Some, IfOk, IfSome};
+ghost use Rattle.std.specs.Prelude.{◌≡◌, ◌≤◌, IfOk, IfSome};
 ghost use Rattle.ratatui_core.specs.Buffer.{text_columns};
 ghost use Rattle.ratatui_app.specs.Glass.{StandsOnGlass};
 ghost use Rattle.files.specs.Texts.{status_told};
 ghost use Rattle.files.specs.Pages.{PaintsBrowser, browser_cursor};
-ghost use Rattle.files.specs.Questions.{change_in};
-ghost use Rattle.files.specs.Doing.{IsAbove, Lists, TellsListing, told_of, Listed, Changed};
+ghost use Rattle.files.specs.Questions.{change_in, IsNamedIn};
+ghost use Rattle.files.specs.Doing.{IsAbove, Lists, TellsListing, Listed, Changed};
+ghost use Rattle.files.specs.Answers.{told_of};
 
 use crate::browser::{Browser, Mode};
 use crate::list::{Listing, Outcome, Row};
@@ -20,8 +21,8 @@ use std::io::{self, Write};
 /// What does to files what a browser asks for.
 #[derive(Drop)]
 pub struct Hands<P> {
-    alloc: Global,
-    files: P,
+    pub(crate) alloc: Global,
+    pub(crate) files: P,
 }
 
 /// A folder that is to be listed, the name of the entry that is to be selected, and the row that is
@@ -124,8 +125,8 @@ fn listing_shown(
     }
 }
 
-// What was answered of a change.
-fn changed(answer: Answer) -> Outcome
+/// Returns what was answered of a change.
+pub(crate) fn changed(answer: Answer) -> Outcome
     ensures { result ≡ told_of answer }
 {
     match answer {
@@ -150,9 +151,9 @@ impl<P: Performs + Drop> Hands<P> {
         &self.files
     }
 
-    // Changes files. Nobody can ask for that but where each terminal that has read what was sent
-    // shows a browser whose question names what is changed, and has columns for all of it.
-    fn touch<W: Write + Drop>(
+    /// Changes files. Nobody can ask for that but where each terminal that has read what was sent
+    /// shows a browser whose question names what is changed, and has columns for all of it.
+    pub(crate) fn touch<W: Write + Drop>(
         &mut self,
         _glass: &OnGlass<W>,
         _browser: &Browser,
@@ -160,7 +161,7 @@ impl<P: Performs + Drop> Hands<P> {
     ) -> Answer
         requires shown { StandsOnGlass (PaintsBrowser _browser.now) (browser_cursor _browser.now)
             _glass.now.terminal }
-        requires named { change_in _browser.now.mode _browser.now ≡ Some command.now }
+        requires named { IsNamedIn _browser.now.mode _browser.now command.now }
         requires whole { text_columns (status_told _browser.now)
             ≤ _glass.now.terminal.viewport_area.width }
         ensures { P.does self.old.files command.now result self.new.files }
@@ -223,6 +224,7 @@ impl<P: Performs + Drop, W: Write + Drop> Outside<Browser, OnGlass<W>> for Hands
     ) -> io::Result<Outcome> {
         match state.mode {
             Mode::Listing | Mode::Entering | Mode::Leaving => Ok(self.list(state)),
+            Mode::Trashing => Ok(self.discard(glass, state)),
             _ => Ok(self.change(glass, state)),
         }
     }

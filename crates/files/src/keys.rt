@@ -34,7 +34,9 @@ pub enum Wish {
     Rename,
     /// A new folder.
     Make,
-    /// That the entry be removed.
+    /// That the entry be put into the trash.
+    Trash,
+    /// That the entry be removed for good.
     Remove,
     /// The end.
     Quit,
@@ -61,7 +63,8 @@ fn character_wish(code: char) -> Wish
         '.' => Wish::Hidden,
         'r' => Wish::Rename,
         'a' => Wish::Make,
-        'D' => Wish::Remove,
+        'D' => Wish::Trash,
+        'X' => Wish::Remove,
         'q' => Wish::Quit,
         _ => Wish::Nothing,
     }

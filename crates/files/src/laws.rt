@@ -1,6 +1,9 @@
 //! Laws of browsers.
 
-ghost use Rattle.std.specs.Prelude.{◌≡◌, ◌+◌, ◌<◌, ◌≤◌, ℕ, true, false, Some, List, length};
+ghost use Rattle.std.specs.Prelude.{◌≡◌, ◌≢◌, ◌+◌, ◌<◌, ◌≤◌, ℕ, true, false, not, Some, List, length, filter, codes};
+ghost use Rattle.std.specs.List.{range_with_len};
+ghost use Rattle.percent_encoding.specs.AsciiSet.{should_percent_encode};
+ghost use Rattle.files.specs.declared.trash.TheConstants.{KEPT};
 ghost use Rattle.std.specs.Str.{IsUtf8};
 ghost use Rattle.std.specs.declared.alloc.Global.{Global as GlobalData};
 ghost use Rattle.std.specs.declared.time.Duration.{Duration};
@@ -11,17 +14,20 @@ ghost use Rattle.ratatui_acts.specs.declared.message.Message.{Message};
 ghost use Rattle.ratatui_files.specs.declared.answer.Failure.{Failure};
 ghost use Rattle.ratatui_files.specs.declared.command.Command.TheVariants.{Rename, Remove, RemoveFolder};
 ghost use Rattle.files.specs.declared.browser.Browser.{Browser};
+ghost use Rattle.files.specs.declared.browser.Mode.TheVariants.{Trashing, Removing};
+ghost use Rattle.files.specs.declared.trash.Discard.{Discard};
 ghost use Rattle.files.specs.declared.list.Listing.{Listing};
 ghost use Rattle.files.specs.declared.list.Outcome.{Outcome};
 ghost use Rattle.files.specs.declared.list.Outcome.TheVariants as outcome;
 ghost use Rattle.files.specs.Names.{shown_name};
-ghost use Rattle.files.specs.Texts.{fits};
+ghost use Rattle.files.specs.Texts.{fits, status_told};
+ghost use Rattle.files.specs.Trash.{discard_in};
 ghost use Rattle.files.specs.Moves.{new_browser, browsed_after, list_rows, scrolled_list};
 ghost use Rattle.files.specs.Questions.{change_in};
 ghost use Rattle.ratatui_acts.specs.Runs.{Now, Past, HasRun};
 ghost use Rattle.ratatui_app.specs.declared.on_glass.OnGlass.{OnGlass};
 ghost use Rattle.files.specs.RunLaws.{browsing_on, WereOnTheGlass, WereAsked};
-ghost use Rattle.files.specs.Laws.{IsSound, IsPlaced, ListsSame, AsksToRemove, AsksToRename};
+ghost use Rattle.files.specs.Laws.{IsSound, IsPlaced, ListsSame, AsksToRemove, AsksToRename, AsksToTrash};
 
 use crate::browser::Browser;
 use ratatui_acts::{Hears, Outside};
@@ -57,7 +63,9 @@ pub fn only_listings_change_the_list()
         → ListsSame b (browsed_after b (message.Answer (outcome.Failed why))) }
 {}
 
-/// A question that removes or renames something names it, whole, and the name that it is given.
+/// A question that removes or renames something names it, whole, and the name that it is given, or
+/// the trash; and none whether something is to be put into the trash can be taken for one whether it
+/// is to be removed for good.
 pub fn questions_name_what_they_change()
     ensures file { (b : Browser) (path : List ℕ) → change_in b.mode b ≡ Some (Remove path)
         → AsksToRemove b path }
@@ -65,6 +73,10 @@ pub fn questions_name_what_they_change()
         → AsksToRemove b path }
     ensures renamed { (b : Browser) (from to : List ℕ)
         → change_in b.mode b ≡ Some (Rename from to) → AsksToRename b from to }
+    ensures trashed { (b : Browser) (d : Discard) → b.mode ≡ Trashing → discard_in b ≡ Some d
+        → AsksToTrash b d }
+    ensures verbs { (b c : Browser) → b.mode ≡ Trashing → c.mode ≡ Removing
+        → status_told b ≢ status_told c }
 {}
 
 /// A yes counts only if the last read found nothing while the question stood there, and if the
@@ -81,6 +93,13 @@ pub fn a_yes_counts_after_a_pause()
     ensures answered { (b : Browser) (o : Outcome)
         → ((browsed_after b (message.Answer o)).is_quiet ≡ false)
         × ((browsed_after b (message.Answer o)).is_sure ≡ false) }
+{}
+
+/// The characters that stand as themselves in a path that is written of something in the trash. Of
+/// each other byte the number is written.
+pub fn paths_are_written_in_these_characters()
+    ensures { filter (λ b. not (should_percent_encode KEPT b)) (range_with_len 0 128)
+        ≡ codes "-./0123456789ABCDEFGHIJKLMNOPQRSTUVWXYZ_abcdefghijklmnopqrstuvwxyz~" }
 {}
 
 // ---- runs

@@ -6,6 +6,8 @@
 #![tactic(auto)]
 
 mod browser;
+mod dates;
+mod discards;
 mod hands;
 mod keys;
 pub mod laws;
@@ -16,10 +18,12 @@ mod page;
 mod questions;
 mod sorting;
 mod texts;
+mod trash;
 mod typing;
 
 pub use browser::{Browser, Mode, Note};
 pub use hands::Hands;
 pub use keys::Wish;
 pub use list::{Listing, Outcome, Row, Rows};
+pub use trash::Discard;
 pub use typing::Typing;

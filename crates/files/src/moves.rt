@@ -3,7 +3,7 @@
 ghost use Rattle.std.specs.Prelude.{◌≡◌, ◌+◌, ◌-◌, if◌then◌else◌, length, IfOk, OnOk, OnErr};
 ghost use Rattle.text_field.specs.Keys.{edited};
 ghost use Rattle.files.specs.Moves.{list_rows, last_row_place, scrolled_list, selected_at, selection_moved, is_folder_selected};
-ghost use Rattle.files.specs.Moves.{follows_dot, to_dot, at_extension, selected_field, typing_in, renaming, went, wished};
+ghost use Rattle.files.specs.Moves.{follows_dot, to_dot, at_extension, selected_field, typing_in, renaming, went, asking_to_trash, trash_note, wished};
 ghost use Rattle.files.specs.Moves.{confirmed, typed_into, names_typed, listing_shown};
 
 use crate::browser::{Browser, Mode, Note};
@@ -179,7 +179,7 @@ impl Browser {
                 self.turn_if(may, Mode::Entering);
             }
             Wish::Leave => {
-                let may = !self.folder.as_str().is_empty();
+                let may = self.folder.as_str() != self.base.as_str();
                 self.turn_if(may, Mode::Leaving);
             }
             Wish::Hidden => {
@@ -195,17 +195,32 @@ impl Browser {
         }
     }
 
+    // Asks whether the entry that is selected is to be put into the trash, and answers what is told.
+    fn ask_to_trash(&mut self) -> Note
+        ensures mode { self.new ≡ asking_to_trash self.old }
+        ensures note { result ≡ trash_note self.old.trash }
+    {
+        if self.trash.is_none() {
+            return Note::NoTrash;
+        }
+        let may = self.list.len() > 0;
+        self.turn_if(may, Mode::Trashing);
+        Note::Place
+    }
+
     /// Does what is asked for.
     pub(crate) fn obey(&mut self, wish: Wish) -> Result<(), AllocError>
         ensures ok { OnOk result (self.new ≡ wished wish self.old) }
         ensures err { OnErr result (self.new ≡ self.old) }
     {
+        let mut note = Note::Place;
         match wish {
             Wish::Rename => self.rename()?,
             Wish::Make => self.begin(Mode::Making, TextField::new(self.alloc))?,
+            Wish::Trash => note = self.ask_to_trash(),
             other => self.go(other),
         }
-        self.note = Note::Place;
+        self.note = note;
         Ok(())
     }
 

@@ -3,6 +3,7 @@
 ghost use Rattle.std.specs.Prelude.{◌≡◌, ◌++◌, ◌<◌, OnOk, IfOk, string_bytes};
 ghost use Rattle.ratatui_core.specs.Buffer.{text_columns};
 ghost use Rattle.files.specs.Texts.{failure_text, shown_row, file_size_text, size_beside, row_told, title_text, selected_text, sought_text};
+ghost use Rattle.files.specs.Texts.{without_start, inner_text, trash_shown, trash_question};
 ghost use Rattle.files.specs.Texts.{selected_shown, place_told, subject, note_told, prompt, status_told, column_in};
 ghost use Rattle.files.specs.Texts.{fits, text_in, entry_at, place_in_row};
 
@@ -65,6 +66,16 @@ fn push_size(alloc: Global, text: &mut String, size: &str, width: u16) -> Result
     text.push_str(size)
 }
 
+// What follows a beginning of a text, or the text if it begins otherwise.
+fn without_start<'a>(start: &str, text: &'a str) -> &'a str
+    ensures { result.now ≡ without_start start.now text.now }
+{
+    match text.strip_prefix(start) {
+        Some(rest) => rest,
+        None => text,
+    }
+}
+
 // An entry in a row of so many columns.
 fn row_told(alloc: Global, row: &Row, width: u16) -> Result<String, AllocError>
     ensures { IfOk result (λ text. string_bytes text ≡ row_told width row.now) }
@@ -113,6 +124,13 @@ impl Browser {
         }
     }
 
+    // The folder that is shown, as it is called in the one above which nothing is reached.
+    fn inner_text(&self) -> &str
+        ensures { result.now ≡ inner_text self.now }
+    {
+        without_start("/", without_start(self.base.as_str(), self.folder.as_str()))
+    }
+
     // Where the folder is.
     fn title_text(&self) -> Result<String, AllocError>
         ensures { IfOk result (λ text. string_bytes text ≡ title_text self.now) }
@@ -120,7 +138,7 @@ impl Browser {
         let mut text = String::new(self.alloc);
         push_name(&mut text, self.title.as_str())?;
         text.push_str("/")?;
-        push_name(&mut text, self.folder.as_str())?;
+        push_name(&mut text, self.inner_text())?;
         Ok(text)
     }
 
@@ -148,7 +166,9 @@ impl Browser {
             ≡ string_bytes text.old ++ subject mode self.now) }
     {
         match mode {
-            Mode::Entering | Mode::Removing | Mode::Renaming => self.push_selected(text),
+            Mode::Entering | Mode::Trashing | Mode::Removing | Mode::Renaming => {
+                self.push_selected(text)
+            }
             Mode::Making => push_name(text, self.typed.text()),
             Mode::Leaving => text.push_str("the folder above"),
             _ => text.push_str("this folder"),
@@ -163,6 +183,7 @@ impl Browser {
         match self.note {
             Note::Place => self.push_place(text),
             Note::Narrow => text.push_str("the screen is too narrow for the question"),
+            Note::NoTrash => text.push_str("there is no trash: X removes for good"),
             Note::Failed(mode, failure) => {
                 self.push_subject(mode, text)?;
                 text.push_str(": ")?;
@@ -186,16 +207,43 @@ impl Browser {
         }
     }
 
+    // Appends where something is, from the folder on that all is in.
+    fn push_trash(&self, text: &mut String) -> Result<(), AllocError>
+        ensures { OnOk result (string_bytes text.new
+            ≡ string_bytes text.old ++ trash_shown self.now.trash) }
+    {
+        match &self.trash {
+            Some(trash) => {
+                text.push_str("/")?;
+                push_name(text, trash.as_str())
+            }
+            None => Ok(()),
+        }
+    }
+
+    // Appends the question whether the entry that is selected is to be put into the trash.
+    fn push_trash_question(&self, text: &mut String) -> Result<(), AllocError>
+        ensures { OnOk result (string_bytes text.new
+            ≡ string_bytes text.old ++ trash_question self.now) }
+    {
+        text.push_str("move \"")?;
+        self.push_selected(text)?;
+        text.push_str("\" to \"")?;
+        self.push_trash(text)?;
+        text.push_str("\"? y/n")
+    }
+
     /// Returns what the last row tells.
     pub(crate) fn status_told(&self) -> Result<String, AllocError>
         ensures { IfOk result (λ text. string_bytes text ≡ status_told self.now) }
     {
         let mut text = String::new(self.alloc);
         match self.mode {
+            Mode::Trashing => self.push_trash_question(&mut text)?,
             Mode::Removing => {
                 text.push_str("remove \"")?;
                 self.push_selected(&mut text)?;
-                text.push_str("\"? y/n")?;
+                text.push_str("\" for good? y/n")?;
             }
             Mode::Renaming | Mode::Making => {
                 self.push_prompt(self.mode, &mut text)?;

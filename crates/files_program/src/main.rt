@@ -2,9 +2,11 @@
 //! names.
 //!
 //! `files FOLDER` shows a folder, and `files` the one that it is begun in; nothing above that folder
-//! is reached. `--help` tells the keys. What removes or renames a file can be called only while each
-//! terminal that has read what was sent shows the question that names it, whole. The terminal has to
-//! be in raw mode: `tools/play files_program FOLDER` sees to that.
+//! is reached. What is put into the trash is moved to the folder that `--trash` names, or to `Trash`
+//! in `$XDG_DATA_HOME`, or in `.local/share` at home. `--help` tells the keys. What removes or
+//! renames a file can be called only while each terminal that has read what was sent shows the
+//! question that names it, whole. The terminal has to be in raw mode: `tools/play files_program
+//! FOLDER` sees to that.
 #![tactic(auto)]
 
 use files::{Browser, Hands};
@@ -12,20 +14,30 @@ use programs::{Stream, VERSION, is_terminal};
 use ratatui_acts::Seat;
 use ratatui_ansi::{AnsiBackend, size_told};
 use ratatui_app::run_and_leave;
-use ratatui_files::{Answer, Command, OnDisk, Path, Performs, Text};
+use ratatui_core::layout::Size;
+use ratatui_files::{Answer, Command, Failure, OnDisk, Path, Performs, Text};
 use std::alloc::Global;
-use std::env;
 use std::io::BufWriter;
 use std::process::ExitCode;
+use std::{env, fs};
 
 static HELP: &str =
-    "files [FOLDER]: shows a folder, the one it is begun in if none is named. Nothing above it is reached.
+    "files [--trash TRASH] [FOLDER]: shows a folder, the one it is begun in if none is named. Nothing
+above it is reached.
 j k g G, Ctrl+D Ctrl+U, arrows, Home, End, PageUp and PageDown select an entry. l, Enter and Right
 show the folder that is selected; h, Left and Backspace the one above. A dot shows hidden entries.
-r gives the entry another name, a makes a folder, D removes the entry, if it is no folder that holds
-something. Each asks first: y or Enter says yes once the question has stood for a tenth of a second,
-Esc says no. q ends.
+r gives the entry another name, a makes a folder, D puts the entry into the trash. X removes it for
+good, if it is no folder that holds something. Each asks first: y, or Enter after a name, says yes
+once the question has stood for a tenth of a second, any other key or Esc says no. q ends.
+The trash is $XDG_DATA_HOME/Trash, or $HOME/.local/share/Trash, if no other one is named.
 ";
+
+// What is asked of the program.
+#[derive(Drop)]
+struct Wanted {
+    folder: String,
+    trash: Option<String>,
+}
 
 // What a folder is called: without slashes at its end.
 fn title(folder: &str) -> &str {
@@ -40,17 +52,82 @@ fn look<P: Performs>(alloc: Global, files: &mut P) -> anyhow::Result<()> {
     }
 }
 
-// Shows a folder, until `q`.
-fn show(rt: &HostRuntime, folder: &str) -> anyhow::Result<()> {
+// The path, from the root on, of a place that the system has.
+fn path_of(alloc: Global, place: &str) -> anyhow::Result<Option<Path>> {
+    let text = place.trim_start_matches('/').trim_end_matches('/');
+    Ok(Path::new(String::from_str(alloc, text)?))
+}
+
+// The path, from the root on, of a folder that may not be there yet, in one that is.
+fn new_path(rt: &HostRuntime, place: &str) -> anyhow::Result<Option<Path>> {
+    let place = place.trim_end_matches('/');
+    if let Ok(found) = fs::canonicalize(rt, place) {
+        return path_of(rt.alloc(), found.as_path().as_str());
+    }
+    let (folder, name) = match place.rsplit_once('/') {
+        Some(("", name)) => ("/", name),
+        Some(parts) => parts,
+        None => (".", place),
+    };
+    let folder = fs::canonicalize(rt, folder)?;
+    match path_of(rt.alloc(), folder.as_path().as_str())? {
+        Some(folder) => Ok(folder.entry(rt.alloc(), name)?),
+        None => Ok(None),
+    }
+}
+
+// The folder at home for what a program keeps.
+fn data_home(rt: &HostRuntime) -> anyhow::Result<Option<String>> {
+    if let Ok(folder) = env::var(rt, "XDG_DATA_HOME") {
+        if folder.starts_with('/') {
+            return Ok(Some(folder));
+        }
+    }
+    match env::var(rt, "HOME") {
+        Ok(home) if home.starts_with('/') => {
+            Ok(Some(format!(in rt.alloc(); "{home}/.local/share")?))
+        }
+        _ => Ok(None),
+    }
+}
+
+// Where the trash is. None if nobody says so, or its folder isn't there.
+fn trash(rt: &HostRuntime, named: &Option<String>) -> anyhow::Result<Option<Path>> {
+    if let Some(place) = named {
+        return new_path(rt, place.as_str());
+    }
+    let Some(home) = data_home(rt)? else {
+        return Ok(None);
+    };
+    let place = format!(in rt.alloc(); "{home}/Trash")?;
+    Ok(new_path(rt, place.as_str()).unwrap_or(None))
+}
+
+// A browser of a folder, and of its trash.
+fn browser(rt: &HostRuntime, wanted: &Wanted, size: Size) -> anyhow::Result<Browser> {
     let alloc = rt.alloc();
-    let mut files = OnDisk::new(rt, folder);
-    look(alloc, &mut files)?;
+    let found = fs::canonicalize(rt, wanted.folder.as_str())?;
+    let Some(folder) = path_of(alloc, found.as_path().as_str())? else {
+        return Err(Failure::BadName.into());
+    };
+    let title = Text::copy(alloc, title(wanted.folder.as_str()))?;
+    let browser = Browser::new(alloc, title, size).within(folder)?;
+    match trash(rt, &wanted.trash)? {
+        Some(trash) => Ok(browser.with_trash(trash)),
+        None => Ok(browser),
+    }
+}
+
+// Shows a folder, until `q`.
+fn show(rt: &HostRuntime, wanted: &Wanted) -> anyhow::Result<()> {
+    let alloc = rt.alloc();
+    look(alloc, &mut OnDisk::new(rt, wanted.folder.as_str()))?;
     let size = size_told(rt);
+    let browser = browser(rt, wanted, size)?;
     let writer = BufWriter::new(alloc, rt.stdout())?;
     let backend = AnsiBackend::new_on_alternate_screen(alloc, writer, size)?;
-    let browser = Browser::new(alloc, Text::copy(alloc, title(folder))?, size);
     let mut seat = Seat::new(alloc, browser);
-    let mut hands = Hands::new(alloc, files);
+    let mut hands = Hands::new(alloc, OnDisk::new(rt, "/"));
     let has_ticks = is_terminal(rt, Stream::Input);
     run_and_leave(
         alloc,
@@ -64,23 +141,48 @@ fn show(rt: &HostRuntime, folder: &str) -> anyhow::Result<()> {
     Ok(())
 }
 
-fn start(rt: &HostRuntime) -> anyhow::Result<ExitCode> {
-    let word = env::args(rt)?.nth(1);
-    match word.as_ref().map_or(".", |word| word.as_str()) {
-        "--help" => print!(rt; "{HELP}")?,
-        "--version" => println!(rt; "files {VERSION}")?,
-        folder => {
-            if is_terminal(rt, Stream::Input) && !is_terminal(rt, Stream::Output) {
-                eprintln!(rt; "files: standard output is no terminal")?;
-                return Ok(ExitCode::FAILURE);
-            }
-            if let Err(error) = show(rt, folder) {
-                eprintln!(rt; "files: {folder}: {error}")?;
-                return Ok(ExitCode::FAILURE);
-            }
-        }
+// Shows what is wanted, or says why it can't be shown.
+fn try_show(rt: &HostRuntime, wanted: &Wanted) -> anyhow::Result<ExitCode> {
+    if is_terminal(rt, Stream::Input) && !is_terminal(rt, Stream::Output) {
+        eprintln!(rt; "files: standard output is no terminal")?;
+        return Ok(ExitCode::FAILURE);
+    }
+    if let Err(error) = show(rt, wanted) {
+        eprintln!(rt; "files: {}: {error}", wanted.folder)?;
+        return Ok(ExitCode::FAILURE);
     }
     Ok(ExitCode::SUCCESS)
+}
+
+fn start(rt: &HostRuntime) -> anyhow::Result<ExitCode> {
+    let alloc = rt.alloc();
+    let mut words = env::args(rt)?;
+    let _program = words.next();
+    let mut wanted = Wanted {
+        folder: String::from_str(alloc, ".")?,
+        trash: None,
+    };
+    while let Some(word) = words.next() {
+        match word.as_str() {
+            "--help" => {
+                print!(rt; "{HELP}")?;
+                return Ok(ExitCode::SUCCESS);
+            }
+            "--version" => {
+                println!(rt; "files {VERSION}")?;
+                return Ok(ExitCode::SUCCESS);
+            }
+            "--trash" => {
+                wanted.trash = words.next();
+                if wanted.trash.is_none() {
+                    eprintln!(rt; "files: --trash wants a folder")?;
+                    return Ok(ExitCode::FAILURE);
+                }
+            }
+            _ => wanted.folder = word,
+        }
+    }
+    try_show(rt, &wanted)
 }
 
 fn main(rt: HostRuntime) -> ExitCode {

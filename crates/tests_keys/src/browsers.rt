@@ -8,7 +8,7 @@ use ratatui_app::{OnGlass, OnScreen};
 use ratatui_core::backend::TestBackend;
 use ratatui_core::layout::Size;
 use ratatui_core::terminal::Viewport;
-use ratatui_files::{Bytes, Command, InMemory, Path, Performs, Text};
+use ratatui_files::{Bytes, Command, InMemory, Node, Path, Performs, Text};
 use ratatui_reads::Pieces;
 use ratatui_test::assert_stored;
 use std::alloc::{AllocError, Global};
@@ -60,7 +60,8 @@ fn play(alloc: Global, width: u16, reads: &[&[u8]]) -> Result<Played, AllocError
         return Err(AllocError);
     };
     let title = Text::copy(alloc, "tree")?;
-    let mut seat = Seat::new(alloc, Browser::new(alloc, title, size));
+    let browser = Browser::new(alloc, title, size).with_trash(path(alloc, "trash")?);
+    let mut seat = Seat::new(alloc, browser);
     let mut hands = Hands::new(alloc, tree(alloc)?);
     let mut source = Pieces::new(reads);
     match run(&mut source, &mut hands, true, &mut glass, &mut seat) {
@@ -86,7 +87,7 @@ fn has(played: &Played, path: &str) -> bool {
 
 #[test]
 fn removes_after_a_yes(rt: HostRuntime) -> Result<(), Fail> {
-    let end = play(rt.alloc(), 40, &[b"j", b"D", b"", b"y", b"q"])?;
+    let end = play(rt.alloc(), 40, &[b"j", b"X", b"", b"y", b"q"])?;
     assert!(rt; !has(&end, "a.txt"));
     assert!(rt; has(&end, "b.txt"));
     assert_stored!(rt; end.screen.terminal().backend(), screens::REMOVED);
@@ -95,14 +96,14 @@ fn removes_after_a_yes(rt: HostRuntime) -> Result<(), Fail> {
 
 #[test]
 fn takes_no_yes_that_was_typed_ahead(rt: HostRuntime) -> Result<(), Fail> {
-    let end = play(rt.alloc(), 40, &[b"jDy", b"y", b"", b"nq"])?;
+    let end = play(rt.alloc(), 40, &[b"jXy", b"y", b"", b"nq"])?;
     assert!(rt; has(&end, "a.txt"));
     Ok(())
 }
 
 #[test]
 fn takes_no_yes_to_what_is_cut(rt: HostRuntime) -> Result<(), Fail> {
-    let end = play(rt.alloc(), 18, &[b"jD", b"", b"y", b"q"])?;
+    let end = play(rt.alloc(), 18, &[b"jX", b"", b"y", b"q"])?;
     assert!(rt; has(&end, "a.txt"));
     assert_stored!(rt; end.screen.terminal().backend(), screens::NARROW);
     Ok(())
@@ -119,5 +120,40 @@ fn renames_and_makes_folders(rt: HostRuntime) -> Result<(), Fail> {
     assert!(rt; !has(&end, "a.txt"));
     assert!(rt; has(&end, "new"));
     assert_stored!(rt; end.screen.terminal().backend(), screens::NAMED);
+    Ok(())
+}
+
+// The bytes of the file at a path.
+fn bytes_at<'a>(played: &'a Played, path: &str) -> &'a [u8] {
+    for entry in played.hands.files().entries() {
+        if entry.path.as_str() == path {
+            if let Node::File(bytes) = &entry.node {
+                return bytes.as_slice();
+            }
+        }
+    }
+    &[]
+}
+
+// Whether this is written of something in the trash.
+fn is_written(alloc: Global, played: &Played, name: &str, path: &str) -> Result<bool, AllocError> {
+    let at = format!(in alloc; "trash/info/{name}.trashinfo")?;
+    let text = format!(in alloc; "[Trash Info]\nPath=/{path}\nDeletionDate=1970-01-01T00:00:00\n")?;
+    Ok(bytes_at(played, at.as_str()) == text.as_bytes())
+}
+
+#[test]
+fn moves_to_the_trash(rt: HostRuntime) -> Result<(), Fail> {
+    let keys: &[&[u8]] = &[
+        b"j", b"D", b"", b"y", b"aa.txt", b"", b"\r", b"D", b"", b"y", b"aa b%~", b"", b"\r", b"D",
+        b"", b"y", b"q",
+    ];
+    let end = play(rt.alloc(), 60, keys)?;
+    assert!(rt; !has(&end, "a.txt"));
+    assert!(rt; bytes_at(&end, "trash/files/a.txt") == b"tea".as_slice());
+    assert!(rt; has(&end, "trash/files/a.txt.2"));
+    assert!(rt; is_written(rt.alloc(), &end, "a.txt", "a.txt")?);
+    assert!(rt; is_written(rt.alloc(), &end, "a.txt.2", "a.txt")?);
+    assert!(rt; is_written(rt.alloc(), &end, "a b%~", "a%20b%25~")?);
     Ok(())
 }

@@ -1,4 +1,4 @@
-use Rattle.std.proofs.Common.{◌≡◌, ◌<◌, ◌≤◌, ◌-◌, length, sym, ◌∙◌, ap, arith, true, false}
+use Rattle.std.proofs.Common.{◌≡◌, ◌<◌, ◌≤◌, length, sym, ◌∙◌, ap, arith, true, false}
 use Rattle.files.specs.Moves.{follows_dot}
 use Rattle.files.proofs.MoveLemmas.{dot-here, dot-further, dot-end}
 use Rattle.files.proofs.moves.go_to_dot.Goals as goal

@@ -1,5 +1,5 @@
-use Rattle.std.proofs.Common.{◌≡◌, ◌+◌, arith, Ok, subst, ap, ◌∙◌}
-use Rattle.ratatui_core.specs.Buffer.{pieces_at, columns, IsReadyAt, IsReadyFrom}
+use Rattle.std.proofs.Common.{◌+◌, arith, Ok}
+use Rattle.ratatui_core.specs.Buffer.{pieces_at, columns}
 use Rattle.ratatui_core.proofs.{BufferLemmas.text-keeps, BufferLemmas.put-ready}
 use Rattle.widget_boxes.proofs.PaintLemmas.{part-has_row, part-starts, part-right, paints-within}
 use Rattle.files.proofs.PaintLemmas.{text-painted, part-ready, ready-below}

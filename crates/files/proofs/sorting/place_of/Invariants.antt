@@ -1,4 +1,4 @@
-use Rattle.std.proofs.Common.{◌≡◌, ℕ, ◌<◌}
+use Rattle.std.proofs.Common.{ℕ, ◌<◌}
 use Rattle.std.specs.Prelude.{slice_get}
 use Rattle.files.specs.Sorting.{HasName}
 use Rattle.files.proofs.sorting.place_of.Given as goal

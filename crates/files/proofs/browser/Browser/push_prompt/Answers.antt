@@ -1,0 +1,9 @@
+use Rattle.std.proofs.Common.{string_bytes, codes, sym}
+use Rattle.files.specs.Texts.{prompt}
+use Rattle.files.proofs.TrashLemmas.{appended-one, prompt-other}
+use Rattle.files.proofs.browser.Browser.push_prompt.Goals as goal
+
+pub returns-in_default : goal.returns-in_default
+returns-in_default c = appended-one c.push_str-in_default.result (string_bytes c.push_str-in_default.new.self)
+    (string_bytes c.args.text.now) (codes "make the folder \"") (prompt c.args.mode c.args.self.now)
+    (sym (prompt-other c.args.mode c.args.self.now c.in_default.not-Renaming)) c.push_str-in_default.ensures.bytes
