@@ -7,38 +7,40 @@ use Rattle.std.proofs.lemmas.Bool.Decides.{nat_tests}
 use Rattle.unicode_segmentation.specs.Grapheme.{graphemes}
 use Rattle.pager.specs.declared.pager.Pager.{Pager}
 use Rattle.pager.specs.declared.styles.Run.{Run}
+use Rattle.pager.specs.declared.sought.Sought.{Sought}
+use Rattle.pager.specs.declared.sought.Sought.TheVariants.{Plain}
 use Rattle.pager.specs.Symbols.{LineSymbol, Reach, shown_columns, reach_after, symbols_from, line_symbols, line_front, is_in_view}
 use Rattle.pager.specs.Places.{last_start, columns_for_line, stride}
 use Rattle.pager.specs.Pages.{IsInOneRow, view_at, view_from}
 
 -- columns don't depend on what is sought, and on styles
-starts-same : (last : ℕ) (pattern : List ℕ) (a b : Reach) (gs : List (List ℕ)) → a.column ≡ b.column
-    → last_start last (symbols_from pattern a gs) ≡ last_start last (symbols_from [] b gs)
+starts-same : (last : ℕ) (sought : Sought) (a b : Reach) (gs : List (List ℕ)) → a.column ≡ b.column
+    → last_start last (symbols_from sought a gs) ≡ last_start last (symbols_from (Plain []) b gs)
 unfolding symbols_from
-starts-same last pattern a b [] same = refl
-starts-same last pattern a b (g ∷ gs) same =
-    starts-same a.column pattern (reach_after pattern a g gs) (reach_after [] b g gs) gs
+starts-same last sought a b [] same = refl
+starts-same last sought a b (g ∷ gs) same =
+    starts-same a.column sought (reach_after sought a g gs) (reach_after (Plain []) b g gs) gs
     (ap (λ k. k + shown_columns k g) same)
-    ∙ ap (λ k. last_start k (symbols_from [] (reach_after [] b g gs) gs)) same
+    ∙ ap (λ k. last_start k (symbols_from (Plain []) (reach_after (Plain []) b g gs) gs)) same
 
-starts-rise : (last : ℕ) (pattern : List ℕ) (at : Reach) (gs : List (List ℕ)) → last ≤ at.column
-    → last ≤ last_start last (symbols_from pattern at gs)
+starts-rise : (last : ℕ) (sought : Sought) (at : Reach) (gs : List (List ℕ)) → last ≤ at.column
+    → last ≤ last_start last (symbols_from sought at gs)
 unfolding symbols_from
-starts-rise last pattern at [] le = omega arith
-starts-rise last pattern at (g ∷ gs) le =
-    let rest = starts-rise at.column pattern (reach_after pattern at g gs) gs (omega arith) in omega (arith, le, rest)
+starts-rise last sought at [] le = omega arith
+starts-rise last sought at (g ∷ gs) le =
+    let rest = starts-rise at.column sought (reach_after sought at g gs) gs (omega arith) in omega (arith, le, rest)
 
 -- no symbol begins after the last one
-starts-before : (last : ℕ) (pattern : List ℕ) (at : Reach) (gs : List (List ℕ)) (k : ℕ) (s : LineSymbol) → last ≤ at.column
-    → k < length (symbols_from pattern at gs) → slice_index_or (symbols_from pattern at gs) k s ≡ s
-    → s.column ≤ last_start last (symbols_from pattern at gs)
+starts-before : (last : ℕ) (sought : Sought) (at : Reach) (gs : List (List ℕ)) (k : ℕ) (s : LineSymbol) → last ≤ at.column
+    → k < length (symbols_from sought at gs) → slice_index_or (symbols_from sought at gs) k s ≡ s
+    → s.column ≤ last_start last (symbols_from sought at gs)
 unfolding symbols_from
-starts-before last pattern at [] k s le l is = absurd (omega (arith, l))
-starts-before last pattern at (g ∷ gs) zero s le l is =
+starts-before last sought at [] k s le l is = absurd (omega (arith, l))
+starts-before last sought at (g ∷ gs) zero s le l is =
     let here : s.column ≡ at.column = ap (λ (t : LineSymbol). t.column) (sym is) in
-    let rest = starts-rise at.column pattern (reach_after pattern at g gs) gs (omega arith) in omega (arith, here, rest)
-starts-before last pattern at (g ∷ gs) (suc k) s le l is =
-    starts-before at.column pattern (reach_after pattern at g gs) gs k s (omega arith) (omega (arith, l)) is
+    let rest = starts-rise at.column sought (reach_after sought at g gs) gs (omega arith) in omega (arith, here, rest)
+starts-before last sought at (g ∷ gs) (suc k) s le l is =
+    starts-before at.column sought (reach_after sought at g gs) gs k s (omega arith) (omega (arith, l)) is
 
 -- rows of n columns, of which one column more is seen
 module _ (n width : ℕ) (some : 0 < n) (wide : n + 1 ≡ width) where
@@ -73,10 +75,10 @@ module _ (n width : ℕ) (some : 0 < n) (wide : n + 1 ≡ width) where
       let rows : column / n ≤ min last (2 ^ 32 - 1) / n = (le-div_iff_mul-le some).1 fit in
       omega (arith, rows)
 
-pub in-one-row : (p : Pager) (pattern line : List ℕ) (runs : List Run) (s : LineSymbol) → p.wraps ≡ true
-    → 2 ≤ columns_for_line p → Contains (line_symbols pattern runs line) s → s.columns ≤ 2 → s.column < 2 ^ 32
+pub in-one-row : (p : Pager) (sought : Sought) (line : List ℕ) (runs : List Run) (s : LineSymbol) → p.wraps ≡ true
+    → 2 ≤ columns_for_line p → Contains (line_symbols sought runs line) s → s.columns ≤ 2 → s.column < 2 ^ 32
     → IsInOneRow p (columns_for_line p) line s
-in-one-row p pattern line runs s wraps wide (k, l, is) narrow fits =
+in-one-row p sought line runs s wraps wide (k, l, is) narrow fits =
     let n : ℕ = stride p in
     let width : ℕ = columns_for_line p in
     let some : 0 < n = omega arith in
@@ -85,11 +87,11 @@ in-one-row p pattern line runs s wraps wide (k, l, is) narrow fits =
     ≡ (nat_le (k * n) s.column && nat_lt s.column (k * n + min n width) && nat_le (s.column + s.columns) (k * n + width)) =
     λ k. ap (λ b. is_in_view (if b then record { left = k * n; limit = k * n + min n width; width = width }
     else view_from p.left width) s) wraps in
-    let last : ℕ = last_start 0 (line_symbols [] [] line) in
-    let same : last_start 0 (line_symbols pattern runs line) ≡ last =
-    starts-same 0 pattern (line_front runs line) (line_front [] line) (graphemes true line) refl in
-    let before : s.column ≤ last_start 0 (line_symbols pattern runs line) =
-    starts-before 0 pattern (line_front runs line) (graphemes true line) k s (omega arith) l is in
+    let last : ℕ = last_start 0 (line_symbols (Plain []) [] line) in
+    let same : last_start 0 (line_symbols sought runs line) ≡ last =
+    starts-same 0 sought (line_front runs line) (line_front [] line) (graphemes true line) refl in
+    let before : s.column ≤ last_start 0 (line_symbols sought runs line) =
+    starts-before 0 sought (line_front runs line) (graphemes true line) k s (omega arith) l is in
     let rows : s.column / n < min last (2 ^ 32 - 1) / n + 1 =
     row-within n width some more s.column last (subst (λ m. s.column ≤ m) same before) fits in
     record {

@@ -23,13 +23,14 @@ use Rattle.pager.specs.declared.command.Command.TheVariants.{WheelDown, WheelUp}
 use Rattle.pager.specs.declared.command.Command.TheVariants.{ToStart, ToEnd, ToLeft, ToRight, Ask, Next, Previous, Numbers, Wrap}
 use Rattle.pager.specs.declared.command.Command.TheVariants.{Help, Quit, ToPart, Details, Mark, ToMark, Turn, Filter}
 use Rattle.pager.specs.declared.pager.Ending.{Ending}
+use Rattle.pager.specs.declared.sought.Sought.{Sought}
 use Rattle.pager.specs.Search.{next_match, last_match, matching}
-use Rattle.pager.specs.Moves.{found_at, sought_before, sought_from, before_found, after_found, sought_on, obeyed, with_pattern}
+use Rattle.pager.specs.Moves.{found_at, before_found, after_found, sought_on, obeyed, next_sought}
 use Rattle.pager.specs.Moves.{answered, acted, updated_by, updated, letter_marked, marked_line, gone_back}
-use Rattle.pager.specs.Moves.{sought_first, all_lines, relined, with_lines, taken_in, has_text, turned_to, has_typed, gives_up}
+use Rattle.pager.specs.Moves.{first_match, sought_first, all_lines, relined, with_lines, taken_by, taken_in, has_text, turned_to, has_typed, gives_up}
 use Rattle.pager.specs.declared.piece.{More.More, Piece.Piece}
 use Rattle.pager.specs.declared.growing.{Growing.Growing, Waiting.Waiting}
-use Rattle.pager.specs.Growing.{page_needs, answer_needs, mode_needs, size_needs, event_needs, knows, piece_known, heard, resumed}
+use Rattle.pager.specs.Growing.{page_needs, typed_needs, answer_needs, mode_needs, size_needs, event_needs, knows, piece_known, heard, resumed}
 use Rattle.pager.specs.Growing.{heard_if_free, grown_after, asked_for_more, growing, ShowsAll}
 use Rattle.pager.specs.Keys.{event_command, event_answer, event_mark, event_ending, is_press}
 
@@ -47,8 +48,8 @@ found-text (Some k) p = refl
 found-text None p = refl
 
 sought-text : (is_back : Bool) (p : Pager) → text_of (sought_on is_back p) ≡ text_of p
-sought-text true p = found-text (last_match p.pattern p.document (before_found p.found p.top)) p
-sought-text false p = found-text (next_match p.pattern p.document (after_found p.found p.top)) p
+sought-text true p = found-text (last_match p.sought p.document (before_found p.found p.top)) p
+sought-text false p = found-text (next_match p.sought p.document (after_found p.found p.top)) p
 
 obeyed-text : (command : Command) (p : Pager) → text_of (obeyed command p) ≡ text_of p
 obeyed-text (Digit d) p = refl
@@ -79,24 +80,20 @@ obeyed-text Filter p = refl
 obeyed-text ToMark p = refl
 obeyed-text Turn p = refl
 
-first-text : (is_back : Bool) (p : Pager)
-    → text_of (if is_back then sought_before p.top p else sought_from p.top p) ≡ text_of p
-first-text true p = found-text (last_match p.pattern p.document p.top) p
-first-text false p = found-text (next_match p.pattern p.document p.top) p
-
-pattern-text : (b : Bool) (pattern : List ℕ) (p : Pager)
-    → text_of (if b then record p { pattern = pattern } else p) ≡ text_of p
-pattern-text true pattern p = refl
-pattern-text false pattern p = refl
+first-text : (p : Pager) → text_of (sought_first p) ≡ text_of p
+first-text p = found-text (first_match p.sought p) p
 
 edited-text : (b : Bool) (typed : FieldData) (p : Pager)
     → text_of (if b then record p { mode = Reading } else record p { typed = typed }) ≡ text_of p
 edited-text true typed p = refl
 edited-text false typed p = refl
 
-searched-text : (p : Pager) → text_of (sought_first (with_pattern p)) ≡ text_of p
-searched-text p = first-text (with_pattern p).is_back (with_pattern p)
-    ∙ pattern-text (has_typed p) (field_text p.typed) p
+searched-text : (p : Pager) → text_of (taken_in Asking p) ≡ text_of p
+searched-text p = by (next_sought p)
+  where
+    by : (sought : Option Sought) → text_of (taken_by Asking sought p) ≡ text_of p
+    by None = refl
+    by (Some s) = first-text (record p { sought = s })
 
 marked-text : (b : Bool) (mark : Option ℕ) (p : Pager) → text_of (if b then letter_marked mark p else p) ≡ text_of p
 marked-text true (Some mark) p = refl
@@ -152,8 +149,13 @@ filter-stays : (answer : Answer) (p : Pager) → p.mode ≡ Filtering
 filter-stays (Change edit) p is le = by-text p _ (edited-text (gives_up edit p) (edited edit p.typed) p)
 filter-stays Search p is le =
     subst (λ (n : Mode). Stays p (record (taken_in n p) { mode = Reading })) (sym is)
-    (filtered-stays (has_typed p) (matching (field_text p.typed) (all_lines p) (length (all_lines p))) p
-    (λ more. omega (arith, le more)))
+    (by (next_sought p) le)
+  where
+    by : (sought : Option Sought) → (p.has_more ≡ true → typed_needs Filtering sought p ≤ length p.document)
+        → Stays p (record (taken_by Filtering sought p) { mode = Reading })
+    by None le = by-text p _ refl
+    by (Some s) le = filtered-stays (has_typed p) (matching s (all_lines p) (length (all_lines p))) p
+        (λ more. omega (arith, le more))
 filter-stays Cancel p is le = by-text p _ refl
 filter-stays Ignore p is le = by-text p _ refl
 

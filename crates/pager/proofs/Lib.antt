@@ -1,4 +1,5 @@
 pub mod PaintLemmas
+pub mod PatternLemmas
 pub mod SearchLemmas
 pub mod PlaceLemmas
 pub mod RowLemmas

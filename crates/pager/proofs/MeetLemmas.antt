@@ -2,6 +2,7 @@
 use Rattle.std.proofs.Common.{◌≡◌, ◌<◌, ◌≤◌, ◌==◌, ℕ, zero, suc, ◌+◌, ◌-◌, Bool, true, false, List, [], length}
 use Rattle.std.proofs.Common.{nat_lt, if◌then◌else◌, refl, ap, sym, ◌∙◌, subst, arith, min, ◌/◌, ◌^◌}
 use Rattle.std.proofs.lemmas.Bool.Decides.{nat_tests}
+use Rattle.pager.specs.declared.sought.Sought.TheVariants.{Plain}
 use Rattle.pager.specs.declared.pager.Pager.{Pager}
 use Rattle.pager.specs.declared.place.Place.{Place}
 use Rattle.pager.specs.declared.command.Command.TheVariants.{PageDown}
@@ -20,7 +21,7 @@ meets p none = ap (λ n. let q : Pager = at_place (place_after (if n == 0 then p
 some-row : (t : Breaking) (line : List ℕ) → 0 < rows_of_line t line
 some-row t line = by t.wraps
   where
-    by : (b : Bool) → 0 < (if b then min (last_start 0 (line_symbols [] [] line)) (2 ^ 32 - 1) / t.stride + 1 else 1)
+    by : (b : Bool) → 0 < (if b then min (last_start 0 (line_symbols (Plain []) [] line)) (2 ^ 32 - 1) / t.stride + 1 else 1)
     by true = omega arith
     by false = omega arith
 
@@ -116,7 +117,7 @@ flat-after t flat (suc n) line =
   where
     one-row : (l : ℕ) → next_place t (text_place l 0) ≡ text_place (l + 1) 0
     one-row l = ap (λ b. let rows : ℕ =
-        if b then min (last_start 0 (line_symbols [] [] (numbered_line t.lines l))) (2 ^ 32 - 1) / t.stride + 1 else 1 in
+        if b then min (last_start 0 (line_symbols (Plain []) [] (numbered_line t.lines l))) (2 ^ 32 - 1) / t.stride + 1 else 1 in
         if nat_lt 1 rows then text_place l 1 else text_place (l + 1) 0) flat
 
 ends-by : (b : Bool) (p : Pager) → p.wraps ≡ b → is_before (text_place 0 0) (last_page p) ≡ true

@@ -24,16 +24,17 @@ use Rattle.pager.specs.declared.pager.Ending.{Ending}
 use Rattle.pager.specs.declared.pager.Ending.TheVariants as ending
 use Rattle.pager.specs.declared.place.Place.{Place}
 use Rattle.pager.specs.declared.styles.Run.{Run}
+use Rattle.pager.specs.declared.sought.Sought.{Sought}
 use Rattle.pager.specs.Search.{has_match, numbered_line, next_match, last_match}
 use Rattle.pager.specs.Places.{Breaking, breaking, text_place, page_place, page_rows, rows_of_line, next_place, previous_place}
 use Rattle.pager.specs.Places.{places_after, places_before, last_page, is_before, earlier, at_place, place_after, place_before}
 use Rattle.pager.specs.Moves.{half_page, at_line, with_mark, jumped_to, or_number, further, back, after_move, found_at}
-use Rattle.pager.specs.Moves.{sought_from, sought_before, after_found, before_found, sought_on, obeyed, has_typed, gives_up}
-use Rattle.pager.specs.Moves.{with_edit, with_pattern, sought_first, taken_in, answered, letter_marked, marked_line, gone_back}
+use Rattle.pager.specs.Moves.{after_found, before_found, sought_on, obeyed, has_typed, gives_up}
+use Rattle.pager.specs.Moves.{with_edit, next_sought, sought_first, taken_by, taken_in, answered, letter_marked, marked_line, gone_back}
 use Rattle.pager.specs.Moves.{has_text, turned_to, at_size, acted, updated_by, updated}
 use Rattle.pager.specs.Keys.{event_command, event_answer, event_mark, event_ending, is_press}
 use Rattle.pager.specs.Growing.{every_line, lines_through, page_needs, further_needs, match_needs, search_needs, next_needs}
-use Rattle.pager.specs.Growing.{command_needs, answer_needs, mark_needs, mode_needs, size_needs, event_needs, with_more}
+use Rattle.pager.specs.Growing.{command_needs, typed_needs, answer_needs, mark_needs, mode_needs, size_needs, event_needs, with_more}
 
 -- ---- lines
 
@@ -64,15 +65,15 @@ from-more t zero i xs ys m is = first-more t i xs ys m is
 from-more t (suc n) i [] ys m is = none-some m is
 from-more t (suc n) i (x ∷ xs) ys m is = from-more t n i xs ys m is
 
-last-more : (pattern : List ℕ) (xs ys : List (List ℕ)) (k : ℕ) → k ≤ length xs
-    → last_match pattern (xs ++ ys) k ≡ last_match pattern xs k
+last-more : (sought : Sought) (xs ys : List (List ℕ)) (k : ℕ) → k ≤ length xs
+    → last_match sought (xs ++ ys) k ≡ last_match sought xs k
 unfolding last_match
-last-more pattern xs ys zero le = refl
-last-more pattern xs ys (suc k) le =
-    ap (λ l. if has_match pattern l then Some k else last_match pattern (xs ++ ys) k)
+last-more sought xs ys zero le = refl
+last-more sought xs ys (suc k) le =
+    ap (λ l. if has_match sought l then Some k else last_match sought (xs ++ ys) k)
     (numbered-more xs ys k (omega (arith, le)))
-    ∙ ap (λ o. if has_match pattern (numbered_line xs k) then Some k else o)
-    (last-more pattern xs ys k (omega (arith, le)))
+    ∙ ap (λ o. if has_match sought (numbered_line xs k) then Some k else o)
+    (last-more sought xs ys k (omega (arith, le)))
 
 -- ---- places
 
@@ -257,29 +258,29 @@ module _ (more : List (List ℕ)) (styles : List (List Run)) (has_more : Bool) w
   found-on (Some k) p le = ap (λ (x : Pager). record x { found = Some k; note = Range }) (jumped-on k p le)
   found-on None p le = refl
 
-  before-needs : (pattern : List ℕ) (k : ℕ) (p : Pager) → search_needs true pattern k p ≤ length p.document
-      → found_at (last_match pattern (p.document ++ more) k) (on p) ≡ on (found_at (last_match pattern p.document k) p)
-  before-needs pattern k p le =
-      let o : Option ℕ = last_match pattern p.document k in
-      ap (λ x. found_at x (on p)) (last-more pattern p.document more k (omega (arith, le)))
+  before-needs : (sought : Sought) (k : ℕ) (p : Pager) → search_needs true sought k p ≤ length p.document
+      → found_at (last_match sought (p.document ++ more) k) (on p) ≡ on (found_at (last_match sought p.document k) p)
+  before-needs sought k p le =
+      let o : Option ℕ = last_match sought p.document k in
+      ap (λ x. found_at x (on p)) (last-more sought p.document more k (omega (arith, le)))
       ∙ found-on o p (omega (arith, le))
 
-  from-needs : (pattern : List ℕ) (k : ℕ) (p : Pager) → search_needs false pattern k p ≤ length p.document
-      → found_at (next_match pattern (p.document ++ more) k) (on p) ≡ on (found_at (next_match pattern p.document k) p)
-  from-needs pattern k p le = by (next_match pattern p.document k) refl le
+  from-needs : (sought : Sought) (k : ℕ) (p : Pager) → search_needs false sought k p ≤ length p.document
+      → found_at (next_match sought (p.document ++ more) k) (on p) ≡ on (found_at (next_match sought p.document k) p)
+  from-needs sought k p le = by (next_match sought p.document k) refl le
     where
-      by : (o : Option ℕ) → next_match pattern p.document k ≡ o
+      by : (o : Option ℕ) → next_match sought p.document k ≡ o
           → match_needs (2 * length p.document + 1) p o ≤ length p.document
-          → found_at (next_match pattern (p.document ++ more) k) (on p) ≡ on (found_at (next_match pattern p.document k) p)
+          → found_at (next_match sought (p.document ++ more) k) (on p) ≡ on (found_at (next_match sought p.document k) p)
       by (Some m) is le =
-          ap (λ x. found_at x (on p)) (from-more (has_match pattern) k k p.document more m is) ∙ found-on (Some m) p le
+          ap (λ x. found_at x (on p)) (from-more (has_match sought) k k p.document more m is) ∙ found-on (Some m) p le
           ∙ sym (ap (λ x. on (found_at x p)) is)
       by None is le = absurd (omega (arith, le))
 
   sought-on : (is_back : Bool) (p : Pager) → next_needs is_back p ≤ length p.document
       → sought_on is_back (on p) ≡ on (sought_on is_back p)
-  sought-on true p le = before-needs p.pattern (before_found p.found p.top) p le
-  sought-on false p le = from-needs p.pattern (after_found p.found p.top) p le
+  sought-on true p le = before-needs p.sought (before_found p.found p.top) p le
+  sought-on false p le = from-needs p.sought (after_found p.found p.top) p le
 
   abbrev stopped : Pager → Pager
   stopped p = record p { number = 0; found = None; note = Range }
@@ -314,34 +315,34 @@ module _ (more : List (List ℕ)) (styles : List (List Run)) (has_more : Bool) w
   obeyed-on ToMark p le = refl
   obeyed-on Turn p le = refl
 
-  first-on : (is_back : Bool) (p : Pager) → search_needs is_back p.pattern p.top p ≤ length p.document
-      → (if is_back then sought_before p.top (on p) else sought_from p.top (on p))
-      ≡ on (if is_back then sought_before p.top p else sought_from p.top p)
-  first-on true p le = before-needs p.pattern p.top p le
-  first-on false p le = from-needs p.pattern p.top p le
+  first-on : (is_back : Bool) (p : Pager) → search_needs is_back p.sought p.top p ≤ length p.document
+      → found_at (if is_back then last_match p.sought (p.document ++ more) p.top
+      else next_match p.sought (p.document ++ more) p.top) (on p)
+      ≡ on (found_at (if is_back then last_match p.sought p.document p.top else next_match p.sought p.document p.top) p)
+  first-on true p le = before-needs p.sought p.top p le
+  first-on false p le = from-needs p.sought p.top p le
 
-  match-same : (n : ℕ) (p : Pager) (pattern : List ℕ) (o : Option ℕ)
-      → match_needs n (record p { pattern = pattern }) o ≡ match_needs n p o
-  match-same n p pattern (Some k) = refl
-  match-same n p pattern None = refl
+  match-same : (n : ℕ) (p : Pager) (sought : Sought) (o : Option ℕ)
+      → match_needs n (record p { sought = sought }) o ≡ match_needs n p o
+  match-same n p sought (Some k) = refl
+  match-same n p sought None = refl
 
-  needs-same : (is_back : Bool) (k : ℕ) (p : Pager) (pattern : List ℕ)
-      → search_needs is_back pattern k (record p { pattern = pattern }) ≡ search_needs is_back pattern k p
-  needs-same true k p pattern = ap (max k) (match-same 0 p pattern (last_match pattern p.document k))
-  needs-same false k p pattern =
-      match-same (2 * length p.document + 1) p pattern (next_match pattern p.document k)
+  needs-same : (is_back : Bool) (k : ℕ) (p : Pager) (sought : Sought)
+      → search_needs is_back sought k (record p { sought = sought }) ≡ search_needs is_back sought k p
+  needs-same true k p sought = ap (max k) (match-same 0 p sought (last_match sought p.document k))
+  needs-same false k p sought =
+      match-same (2 * length p.document + 1) p sought (next_match sought p.document k)
 
-  searched-on : (p : Pager) → search_needs p.is_back (with_pattern p).pattern p.top p ≤ length p.document
-      → sought_first (with_pattern (on p)) ≡ on (sought_first (with_pattern p))
-  searched-on p le = by (has_typed p) le
-    where
-      by : (b : Bool)
-          → search_needs p.is_back (if b then record p { pattern = field_text p.typed } else p).pattern p.top p ≤ length p.document
-          → sought_first (if b then record (on p) { pattern = field_text p.typed } else on p)
-          ≡ on (sought_first (if b then record p { pattern = field_text p.typed } else p))
-      by true le = first-on p.is_back (record p { pattern = field_text p.typed })
-          (subst (λ n. n ≤ length p.document) (sym (needs-same p.is_back p.top p (field_text p.typed))) le)
-      by false le = first-on p.is_back p le
+  searched-on : (sought : Option Sought) (p : Pager) → typed_needs Asking sought p ≤ length p.document
+      → taken_by Asking sought (on p) ≡ on (taken_by Asking sought p)
+  searched-on None p le = refl
+  searched-on (Some s) p le = first-on p.is_back (record p { sought = s })
+      (subst (λ n. n ≤ length p.document) (sym (needs-same p.is_back p.top p s)) le)
+
+  filtered-on : (sought : Option Sought) (p : Pager) → typed_needs Filtering sought p ≤ length p.document
+      → taken_by Filtering sought (on p) ≡ on (taken_by Filtering sought p)
+  filtered-on None p le = refl
+  filtered-on (Some s) p le = absurd (omega (arith, le))
 
   gives-up-on : (e : Edit) (p : Pager) → gives_up e (on p) ≡ gives_up e p
   gives-up-on (edit.Insert c) p = refl
@@ -369,17 +370,20 @@ module _ (more : List (List ℕ)) (styles : List (List Run)) (has_more : Bool) w
   asked-on (Change e) p is le = edited-on e p
   asked-on Search p is le =
       ap (λ (m : Mode). record (taken_in m (on p)) { mode = Reading }) is
-      ∙ ap (λ (x : Pager). record x { mode = Reading }) (searched-on p le)
+      ∙ ap (λ (x : Pager). record x { mode = Reading }) (searched-on (next_sought p) p le)
       ∙ sym (ap (λ (m : Mode). on (record (taken_in m p) { mode = Reading })) is)
   asked-on Cancel p is le = refl
   asked-on Ignore p is le = refl
 
-  filter-on : (answer : Answer) (p : Pager) → answer_needs Filtering answer p ≤ length p.document
+  filter-on : (answer : Answer) (p : Pager) → p.mode ≡ Filtering → answer_needs Filtering answer p ≤ length p.document
       → answered answer (on p) ≡ on (answered answer p)
-  filter-on (Change e) p le = edited-on e p
-  filter-on Search p le = absurd (omega (arith, le))
-  filter-on Cancel p le = refl
-  filter-on Ignore p le = refl
+  filter-on (Change e) p is le = edited-on e p
+  filter-on Search p is le =
+      ap (λ (m : Mode). record (taken_in m (on p)) { mode = Reading }) is
+      ∙ ap (λ (x : Pager). record x { mode = Reading }) (filtered-on (next_sought p) p le)
+      ∙ sym (ap (λ (m : Mode). on (record (taken_in m p) { mode = Reading })) is)
+  filter-on Cancel p is le = refl
+  filter-on Ignore p is le = refl
 
   marked-on : (b : Bool) (mark : Option ℕ) (p : Pager)
       → (if b then letter_marked mark (on p) else on p) ≡ on (if b then letter_marked mark p else p)
@@ -432,7 +436,7 @@ module _ (more : List (List ℕ)) (styles : List (List Run)) (has_more : Bool) w
       → acted m event (on p) ≡ on (acted m event p)
   acted-on Reading event p is le = obeyed-on (event_command event) p le
   acted-on Asking event p is le = asked-on (event_answer event) p is le
-  acted-on Filtering event p is le = filter-on (event_answer event) p le
+  acted-on Filtering event p is le = filter-on (event_answer event) p is le
   acted-on Marking event p is le = marked-on (is_press event) (event_mark event) p
   acted-on Returning event p is le = returned-on (is_press event) (event_mark event) p le
   acted-on Turning event p is le = turned-on (is_press event) (event_ending event) p

@@ -14,6 +14,7 @@ use Rattle.widget_boxes.specs.Boxes.{IsBoxArea}
 use Rattle.widget_boxes.proofs.PaintLemmas.{part-has_row, part-right, room-is}
 use Rattle.pager.specs.declared.view.View.{View}
 use Rattle.pager.specs.declared.styles.Run.{Run}
+use Rattle.pager.specs.declared.sought.Sought.{Sought}
 use Rattle.pager.specs.Symbols.{LineSymbol, Reach, line_symbol, style_at, reach_after, symbols_from, is_in_view, symbols_in_view}
 use Rattle.pager.specs.Pages.{PaintsSymbols, PaintsLine, PaintsPageRow, PaintsPageRows}
 use Rattle.pager.specs.Inner.{PaintsIf, PaintsIfInView}
@@ -64,59 +65,59 @@ turn-if true x y v s ss now mid new is made others = rw is (record { between = m
 turn-if false x y v s ss now mid new is made others =
     rw is (subst (λ b. PaintsSymbols x y v (symbols_in_view v ss) b new) made others)
 
-abbrev pub reach : ℕ → ℕ → ℕ → List Run → Reach
-reach size column marked runs = record { size = size; column = column; marked = marked; runs = runs }
+abbrev pub reach : List ℕ → ℕ → ℕ → List Run → Reach
+reach line column marked runs = record { line = line; column = column; marked = marked; runs = runs }
 
 -- to paint what is left of a line is to paint all of it
-abbrev pub FinishesLine : ℕ → ℕ → View → List ℕ → List Run → Reach → List (List ℕ) → List ℕ → BufferData → BufferData → Type 0
-FinishesLine x y v pattern runs at gs line old now =
-    (new : BufferData) → PaintsSymbols x y v (symbols_in_view v (symbols_from pattern at gs)) now new
-    → PaintsLine x y v pattern runs line old new
+abbrev pub FinishesLine : ℕ → ℕ → View → Sought → List Run → Reach → List (List ℕ) → List ℕ → BufferData → BufferData → Type 0
+FinishesLine x y v sought runs at gs line old now =
+    (new : BufferData) → PaintsSymbols x y v (symbols_in_view v (symbols_from sought at gs)) now new
+    → PaintsLine x y v sought runs line old new
 
-pub line-turn : (x y : ℕ) (v : View) (pattern : List ℕ) (runs : List Run) (at next : Reach) (style : Style) (g : List ℕ)
+pub line-turn : (x y : ℕ) (v : View) (sought : Sought) (runs : List Run) (at next : Reach) (style : Style) (g : List ℕ)
     (all rest : List (List ℕ)) (line : List ℕ) (old now mid : BufferData)
-    → all ≡ g ∷ rest → style ≡ style_at pattern at (g ∷ rest) → next ≡ reach_after pattern at g rest
-    → FinishesLine x y v pattern runs at all line old now
-    → PaintsIfInView x y v (line_symbol style at.column g) now mid → FinishesLine x y v pattern runs next rest line old mid
+    → all ≡ g ∷ rest → style ≡ style_at sought at (g ∷ rest) → next ≡ reach_after sought at g rest
+    → FinishesLine x y v sought runs at all line old now
+    → PaintsIfInView x y v (line_symbol style at.column g) now mid → FinishesLine x y v sought runs next rest line old mid
 unfolding symbols_from
-line-turn x y v pattern runs at next style g all rest line old now mid is style_is next_is finishes made = λ new others.
-    let s = line_symbol (style_at pattern at (g ∷ rest)) at.column g in
-    let left = symbols_from pattern (reach_after pattern at g rest) rest in
-    finishes new (subst (λ gs. PaintsSymbols x y v (symbols_in_view v (symbols_from pattern at gs)) now new) (sym is)
+line-turn x y v sought runs at next style g all rest line old now mid is style_is next_is finishes made = λ new others.
+    let s = line_symbol (style_at sought at (g ∷ rest)) at.column g in
+    let left = symbols_from sought (reach_after sought at g rest) rest in
+    finishes new (subst (λ gs. PaintsSymbols x y v (symbols_in_view v (symbols_from sought at gs)) now new) (sym is)
     (turn-if (is_in_view v s) x y v s left now mid new refl
     (subst (λ t. PaintsIfInView x y v (line_symbol t at.column g) now mid) style_is made)
-    (subst (λ r. PaintsSymbols x y v (symbols_in_view v (symbols_from pattern r rest)) mid new) next_is others)))
+    (subst (λ r. PaintsSymbols x y v (symbols_in_view v (symbols_from sought r rest)) mid new) next_is others)))
 
 off-view : (v : View) (style : Style) (column : ℕ) (g : List ℕ) → v.limit ≤ column
     → is_in_view v (line_symbol style column g) ≡ false
 off-view v style column g le = grind (arith, nat_tests)
 
-none-in-view : (v : View) (pattern : List ℕ) (at : Reach) (gs : List (List ℕ)) → v.limit ≤ at.column
-    → symbols_in_view v (symbols_from pattern at gs) ≡ []
+none-in-view : (v : View) (sought : Sought) (at : Reach) (gs : List (List ℕ)) → v.limit ≤ at.column
+    → symbols_in_view v (symbols_from sought at gs) ≡ []
 unfolding symbols_from
-none-in-view v pattern at [] le = refl
-none-in-view v pattern at (g ∷ gs) le =
-    let off : is_in_view v (line_symbol (style_at pattern at (g ∷ gs)) at.column g) ≡ false =
-    off-view v (style_at pattern at (g ∷ gs)) at.column g le in
-    rw off (none-in-view v pattern (reach_after pattern at g gs) gs (omega arith))
+none-in-view v sought at [] le = refl
+none-in-view v sought at (g ∷ gs) le =
+    let off : is_in_view v (line_symbol (style_at sought at (g ∷ gs)) at.column g) ≡ false =
+    off-view v (style_at sought at (g ∷ gs)) at.column g le in
+    rw off (none-in-view v sought (reach_after sought at g gs) gs (omega arith))
 
 painted-none : (x y : ℕ) (v : View) (ss : List LineSymbol) (now : BufferData) → ss ≡ [] → PaintsSymbols x y v ss now now
 unfolding PaintsSymbols
 painted-none x y v ss now none = rw none refl
 
 -- no column is left
-pub line-full : (x y : ℕ) (v : View) (pattern : List ℕ) (runs : List Run) (at : Reach) (gs : List (List ℕ)) (line : List ℕ)
-    (old now : BufferData) → v.limit ≤ at.column → FinishesLine x y v pattern runs at gs line old now
-    → PaintsLine x y v pattern runs line old now
-line-full x y v pattern runs at gs line old now le finishes =
-    finishes now (painted-none x y v _ now (none-in-view v pattern at gs le))
+pub line-full : (x y : ℕ) (v : View) (sought : Sought) (runs : List Run) (at : Reach) (gs : List (List ℕ)) (line : List ℕ)
+    (old now : BufferData) → v.limit ≤ at.column → FinishesLine x y v sought runs at gs line old now
+    → PaintsLine x y v sought runs line old now
+line-full x y v sought runs at gs line old now le finishes =
+    finishes now (painted-none x y v _ now (none-in-view v sought at gs le))
 
 -- no grapheme is left
-pub line-end : (x y : ℕ) (v : View) (pattern : List ℕ) (runs : List Run) (at : Reach) (gs : List (List ℕ)) (line : List ℕ)
-    (old now : BufferData) → gs ≡ [] → FinishesLine x y v pattern runs at gs line old now
-    → PaintsLine x y v pattern runs line old now
+pub line-end : (x y : ℕ) (v : View) (sought : Sought) (runs : List Run) (at : Reach) (gs : List (List ℕ)) (line : List ℕ)
+    (old now : BufferData) → gs ≡ [] → FinishesLine x y v sought runs at gs line old now
+    → PaintsLine x y v sought runs line old now
 unfolding symbols_from
-line-end x y v pattern runs at gs line old now none finishes = finishes now (painted-none x y v _ now (rw none refl))
+line-end x y v sought runs at gs line old now none finishes = finishes now (painted-none x y v _ now (rw none refl))
 
 -- numbers take no columns or have room
 pub numbers-fit : (columns width : ℕ) → (0 < columns → (columns ≡ 8) × (8 < width)) → columns ≤ width

@@ -3,6 +3,7 @@ use Rattle.std.proofs.Common.{◌≡◌, ◌≤◌, ℕ, zero, suc, ◌+◌, ◌
 use Rattle.std.proofs.Common.{Bool, true, false, min, ◌/◌, ◌^◌, nat_lt, if◌then◌else◌}
 use native.Mathlib.Nat.{zero-div}
 use Rattle.unicode_segmentation.proofs.Computing.{unicode_segmentation}
+use Rattle.pager.specs.declared.sought.Sought.TheVariants.{Plain}
 use Rattle.pager.specs.declared.place.Place.{Place}
 use Rattle.pager.specs.Search.{numbered_line}
 use Rattle.pager.specs.Symbols.{line_symbols, symbols_from}
@@ -15,14 +16,14 @@ line-past (l ∷ ls) zero le = absurd (omega (arith, le))
 line-past (l ∷ ls) (suc k) le = line-past ls k (omega (arith, le))
 
 -- and it takes one row
-no-symbols : last_start 0 (line_symbols [] [] []) ≡ 0
+no-symbols : last_start 0 (line_symbols (Plain []) [] []) ≡ 0
 unfolding unicode_segmentation symbols_from
 no-symbols = refl
 
 row-past : (t : Breaking) → rows_of_line t [] ≡ 1
 row-past t = by t.wraps
   where
-    by : (b : Bool) → (if b then min (last_start 0 (line_symbols [] [] [])) (2 ^ 32 - 1) / t.stride + 1 else 1) ≡ 1
+    by : (b : Bool) → (if b then min (last_start 0 (line_symbols (Plain []) [] [])) (2 ^ 32 - 1) / t.stride + 1 else 1) ≡ 1
     by true = ap (λ n. min n (2 ^ 32 - 1) / t.stride + 1) no-symbols ∙ ap (λ n. n + 1) (zero-div t.stride)
     by false = refl
 

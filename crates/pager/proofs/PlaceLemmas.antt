@@ -2,7 +2,7 @@
 use Rattle.std.proofs.Common.{◌≡◌, ℕ, ◌-◌, ◌==◌, ◌&&◌, ◌||◌, Bool, true, false, not, nat_lt, if◌then◌else◌, List, [], length}
 use Rattle.std.proofs.Common.{Option, Some, None, refl, arith}
 use Rattle.std.proofs.lemmas.Bool.Decides.{nat_tests}
-use Rattle.text_field.specs.{Field.FieldData, Field.field_text, Keys.edited}
+use Rattle.text_field.specs.{Field.FieldData, Keys.edited}
 use Rattle.ratatui_core.specs.Layout.{Size}
 use Rattle.ratatui_events.specs.declared.event.Event.{Event}
 use Rattle.ratatui_reads.specs.Reads.{size_in}
@@ -17,12 +17,13 @@ use Rattle.pager.specs.declared.command.Command.TheVariants.{WheelDown, WheelUp}
 use Rattle.pager.specs.declared.command.Command.TheVariants.{ToStart, ToEnd, ToLeft, ToRight, Ask, Next, Previous, Numbers, Wrap}
 use Rattle.pager.specs.declared.command.Command.TheVariants.{Help, Quit, ToPart, Details, Mark, ToMark, Turn, Filter}
 use Rattle.std.specs.Prelude.{replicate}
+use Rattle.pager.specs.declared.sought.Sought.{Sought}
 use Rattle.pager.specs.Search.{next_match, last_match, matching, picked}
 use Rattle.pager.specs.declared.place.Place.{Place}
 use Rattle.pager.specs.Places.{IsInText, text_place, last_page, is_before, at_place}
-use Rattle.pager.specs.Moves.{started, found_at, sought_before, sought_from, before_found, after_found, sought_on, after_move}
-use Rattle.pager.specs.Moves.{obeyed, with_pattern, answered, acted, updated_by, updated, with_mark, letter_marked, marked_line, gone_back}
-use Rattle.pager.specs.Moves.{sought_first, all_lines, relined, with_lines, taken_in, has_text, turned_to, has_typed, gives_up}
+use Rattle.pager.specs.Moves.{started, found_at, before_found, after_found, sought_on, after_move}
+use Rattle.pager.specs.Moves.{obeyed, next_sought, answered, acted, updated_by, updated, with_mark, letter_marked, marked_line, gone_back}
+use Rattle.pager.specs.Moves.{first_match, sought_first, all_lines, relined, with_lines, taken_by, has_text, turned_to, has_typed, gives_up}
 use Rattle.pager.specs.Keys.{event_command, event_answer, event_mark, event_ending, is_press}
 use Rattle.pager.specs.declared.pager.Ending.{Ending}
 
@@ -43,16 +44,16 @@ placed-in q p = earlier-in (is_before q (last_page p)) q (last_page p) refl
 none-before : (a b : ℕ) → (nat_lt a 0 || ((a == 0) && nat_lt b 0)) ≡ false
 none-before a b = grind (arith, nat_tests)
 
-pub first : (lines : List (List ℕ)) (name pattern : List ℕ) (size : Size) → IsInText (started lines name pattern size)
-first lines name pattern size = let l = last_page (started lines name pattern size) in none-before l.line l.row
+pub first : (lines : List (List ℕ)) (name text : List ℕ) (size : Size) → IsInText (started lines name text size)
+first lines name text size = let l = last_page (started lines name text size) in none-before l.line l.row
 
 found-in : (found : Option ℕ) (p : Pager) → IsInText p → IsInText (found_at found p)
 found-in (Some k) p is = placed-in (text_place k 0) (with_mark 0 p)
 found-in None p is = is
 
 sought_on-in : (is_back : Bool) (p : Pager) → IsInText p → IsInText (sought_on is_back p)
-sought_on-in true p is = found-in (last_match p.pattern p.document (before_found p.found p.top)) p is
-sought_on-in false p is = found-in (next_match p.pattern p.document (after_found p.found p.top)) p is
+sought_on-in true p is = found-in (last_match p.sought p.document (before_found p.found p.top)) p is
+sought_on-in false p is = found-in (next_match p.sought p.document (after_found p.found p.top)) p is
 
 moved-in : (command : Command) (p : Pager) → IsInText p → IsInText (after_move command p)
 moved-in Down p is = placed-in _ p
@@ -112,18 +113,8 @@ obeyed-in Filter p is = is
 obeyed-in ToMark p is = is
 obeyed-in Turn p is = is
 
-sought_first-if : (is_back : Bool) (p : Pager) → IsInText p
-    → IsInText (if is_back then sought_before p.top p else sought_from p.top p)
-sought_first-if true p is = found-in (last_match p.pattern p.document p.top) p is
-sought_first-if false p is = found-in (next_match p.pattern p.document p.top) p is
-
-pattern-if : (b : Bool) (pattern : List ℕ) (p : Pager) → IsInText p → IsInText (if b then record p { pattern = pattern } else p)
-pattern-if true pattern p is = is
-pattern-if false pattern p is = is
-
-sought-in : (p : Pager) → IsInText p → IsInText (sought_first (with_pattern p))
-sought-in p is = sought_first-if (with_pattern p).is_back (with_pattern p)
-    (pattern-if (has_typed p) (field_text p.typed) p is)
+sought_first-in : (p : Pager) → IsInText p → IsInText (sought_first p)
+sought_first-in p is = found-in (first_match p.sought p) p is
 
 edited-if : (b : Bool) (typed : FieldData) (p : Pager) → IsInText p
     → IsInText (if b then record p { mode = Reading } else record p { typed = typed })
@@ -147,19 +138,19 @@ filtered-if true numbers p is =
     placed-in (text_place 0 0) (fresh (Some (all_lines p)) numbers (picked (all_lines p) numbers) p)
 filtered-if false numbers p is = placed-in (text_place 0 0) (fresh None [] (all_lines p) p)
 
-taken-in : (mode : Mode) (p : Pager) → IsInText p → IsInText (taken_in mode p)
-taken-in Filtering p is = filtered-if (has_typed p)
-    (matching (field_text p.typed) (all_lines p) (length (all_lines p))) p is
-taken-in Reading p is = sought-in p is
-taken-in Asking p is = sought-in p is
-taken-in Marking p is = sought-in p is
-taken-in Returning p is = sought-in p is
-taken-in Turning p is = sought-in p is
-taken-in Helping p is = sought-in p is
+taken-in : (mode : Mode) (sought : Option Sought) (p : Pager) → IsInText p → IsInText (taken_by mode sought p)
+taken-in mode None p is = is
+taken-in Filtering (Some s) p is = filtered-if (has_typed p) (matching s (all_lines p) (length (all_lines p))) p is
+taken-in Reading (Some s) p is = sought_first-in (record p { sought = s }) is
+taken-in Asking (Some s) p is = sought_first-in (record p { sought = s }) is
+taken-in Marking (Some s) p is = sought_first-in (record p { sought = s }) is
+taken-in Returning (Some s) p is = sought_first-in (record p { sought = s }) is
+taken-in Turning (Some s) p is = sought_first-in (record p { sought = s }) is
+taken-in Helping (Some s) p is = sought_first-in (record p { sought = s }) is
 
 answered-in : (answer : Answer) (p : Pager) → IsInText p → IsInText (answered answer p)
 answered-in (Change edit) p is = edited-if (gives_up edit p) (edited edit p.typed) p is
-answered-in Search p is = taken-in p.mode p is
+answered-in Search p is = taken-in p.mode (next_sought p) p is
 answered-in Cancel p is = is
 answered-in Ignore p is = is
 

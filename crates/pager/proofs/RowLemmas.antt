@@ -1,5 +1,6 @@
 -- How many rows a line takes, and the rows of a text one after the other.
 use Rattle.std.proofs.Common.{◌≡◌, ℕ, ◌+◌, ◌≤◌, List, [], ◌∷◌, length, refl, ap, ◌∙◌, arith, add-one}
+use Rattle.pager.specs.declared.sought.Sought.TheVariants.{Plain}
 use Rattle.pager.specs.declared.place.Place.{Place}
 use Rattle.pager.specs.Symbols.{Reach, shown_columns, reach_after, symbols_from}
 use Rattle.pager.specs.Search.{numbered_line}
@@ -7,44 +8,44 @@ use Rattle.pager.specs.Pages.{bytes_before}
 use Rattle.pager.specs.Places.{Breaking, last_start, next_place, previous_place, places_after, places_before}
 
 -- a place by its column alone
-abbrev pub reach_at : ℕ → ℕ → Reach
-reach_at size column = record { size = size; column = column; marked = 0; runs = [] }
+abbrev pub reach_at : List ℕ → ℕ → Reach
+reach_at line column = record { line = line; column = column; marked = 0; runs = [] }
 
 -- columns don't depend on marks and runs
 last-same : (last : ℕ) (a b : Reach) (gs : List (List ℕ)) → a.column ≡ b.column
-    → last_start last (symbols_from [] a gs) ≡ last_start last (symbols_from [] b gs)
+    → last_start last (symbols_from (Plain []) a gs) ≡ last_start last (symbols_from (Plain []) b gs)
 unfolding symbols_from
 last-same last a b [] same = refl
 last-same last a b (g ∷ gs) same =
-    last-same a.column (reach_after [] a g gs) (reach_after [] b g gs) gs (ap (λ k. k + shown_columns k g) same)
-    ∙ ap (λ k. last_start k (symbols_from [] (reach_after [] b g gs) gs)) same
+    last-same a.column (reach_after (Plain []) a g gs) (reach_after (Plain []) b g gs) gs (ap (λ k. k + shown_columns k g) same)
+    ∙ ap (λ k. last_start k (symbols_from (Plain []) (reach_after (Plain []) b g gs) gs)) same
 
-pub last-turn : (last size column : ℕ) (g : List ℕ) (all rest : List (List ℕ)) → all ≡ g ∷ rest
-    → last_start last (symbols_from [] (reach_at size column) all)
-    ≡ last_start column (symbols_from [] (reach_at size (column + shown_columns column g)) rest)
+pub last-turn : (last : ℕ) (line : List ℕ) (column : ℕ) (g : List ℕ) (all rest : List (List ℕ)) → all ≡ g ∷ rest
+    → last_start last (symbols_from (Plain []) (reach_at line column) all)
+    ≡ last_start column (symbols_from (Plain []) (reach_at line (column + shown_columns column g)) rest)
 unfolding symbols_from
-last-turn last size column g all rest is =
-    ap (λ gs. last_start last (symbols_from [] (reach_at size column) gs)) is
-    ∙ last-same column (reach_after [] (reach_at size column) g rest) (reach_at size (column + shown_columns column g)) rest refl
+last-turn last line column g all rest is =
+    ap (λ gs. last_start last (symbols_from (Plain []) (reach_at line column) gs)) is
+    ∙ last-same column (reach_after (Plain []) (reach_at line column) g rest) (reach_at line (column + shown_columns column g)) rest refl
 
-last-le : (last size column : ℕ) (gs : List (List ℕ)) → last ≤ column
-    → last ≤ last_start last (symbols_from [] (reach_at size column) gs)
+last-le : (last : ℕ) (line : List ℕ) (column : ℕ) (gs : List (List ℕ)) → last ≤ column
+    → last ≤ last_start last (symbols_from (Plain []) (reach_at line column) gs)
 unfolding symbols_from
-last-le last size column [] le = omega arith
-last-le last size column (g ∷ gs) le =
-    let more = last-le column size (column + shown_columns column g) gs (omega arith) in
-    let same = last-turn last size column g (g ∷ gs) gs refl in
+last-le last line column [] le = omega arith
+last-le last line column (g ∷ gs) le =
+    let more = last-le column line (column + shown_columns column g) gs (omega arith) in
+    let same = last-turn last line column g (g ∷ gs) gs refl in
     rw same (omega arith)
 
-pub last-far : (last size column : ℕ) (g : List ℕ) (all rest : List (List ℕ)) → all ≡ g ∷ rest
-    → column ≤ last_start last (symbols_from [] (reach_at size column) all)
-last-far last size column g all rest is = rw (last-turn last size column g all rest is)
-    (last-le column size (column + shown_columns column g) rest (omega arith))
+pub last-far : (last : ℕ) (line : List ℕ) (column : ℕ) (g : List ℕ) (all rest : List (List ℕ)) → all ≡ g ∷ rest
+    → column ≤ last_start last (symbols_from (Plain []) (reach_at line column) all)
+last-far last line column g all rest is = rw (last-turn last line column g all rest is)
+    (last-le column line (column + shown_columns column g) rest (omega arith))
 
-pub last-none : (last size column : ℕ) (gs : List (List ℕ)) → gs ≡ []
-    → last_start last (symbols_from [] (reach_at size column) gs) ≡ last
+pub last-none : (last : ℕ) (line : List ℕ) (column : ℕ) (gs : List (List ℕ)) → gs ≡ []
+    → last_start last (symbols_from (Plain []) (reach_at line column) gs) ≡ last
 unfolding symbols_from
-last-none last size column gs none = rw none refl
+last-none last line column gs none = rw none refl
 
 -- ---- places
 

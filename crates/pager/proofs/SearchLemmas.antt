@@ -8,6 +8,7 @@ use Rattle.std.specs.{Char.to_ascii_lowercase, Str.str_eq_ignore_ascii_case}
 use Rattle.std.proofs.lemmas.Bool.{cases_Bool, cases_lt, or_right}
 use Rattle.std.proofs.lemmas.{Bool.Decides.Decides-eqb}
 use Rattle.std.proofs.lemmas.{Option.unwrap_or-slice_get, Slice.Eq.starts_is, Slice.Eq.bytes_eq-Decides, List.drop_more, List.drop_all}
+use Rattle.pager.specs.declared.sought.Sought.{Sought}
 use Rattle.pager.specs.Search.{has_capital, begins_with, occurs, has_match, numbered_line, next_match, last_match}
 use Rattle.pager.specs.Search.{IsFirstMatch, IsLastMatch, matching}
 
@@ -98,107 +99,107 @@ none-there xs k d none = sym (unwrap_or-slice_get xs k d) ∙ ap (λ o. unwrap_o
 pub none-at : (lines : List (List ℕ)) (k : ℕ) → slice_get lines k ≡ None → numbered_line lines k ≡ []
 none-at lines k none = sym (unwrap_or-slice_get lines k []) ∙ ap (λ o. unwrap_or o []) none
 
-pub next-here : (pattern : List ℕ) (lines : List (List ℕ)) (k : ℕ) → k < length lines
-    → has_match pattern (numbered_line lines k) ≡ true → position_from (has_match pattern) k (drop k lines) ≡ Some k
-next-here pattern lines k lt is = ap (position_from (has_match pattern) k) (drop_more lines k [] lt) ∙ rw is refl
+pub next-here : (sought : Sought) (lines : List (List ℕ)) (k : ℕ) → k < length lines
+    → has_match sought (numbered_line lines k) ≡ true → position_from (has_match sought) k (drop k lines) ≡ Some k
+next-here sought lines k lt is = ap (position_from (has_match sought) k) (drop_more lines k [] lt) ∙ rw is refl
 
-pub next-later : (pattern : List ℕ) (lines : List (List ℕ)) (k : ℕ) → k < length lines
-    → has_match pattern (numbered_line lines k) ≡ false
-    → position_from (has_match pattern) k (drop k lines) ≡ position_from (has_match pattern) (k + 1) (drop (k + 1) lines)
-next-later pattern lines k lt is = ap (position_from (has_match pattern) k) (drop_more lines k [] lt) ∙ rw is refl
+pub next-later : (sought : Sought) (lines : List (List ℕ)) (k : ℕ) → k < length lines
+    → has_match sought (numbered_line lines k) ≡ false
+    → position_from (has_match sought) k (drop k lines) ≡ position_from (has_match sought) (k + 1) (drop (k + 1) lines)
+next-later sought lines k lt is = ap (position_from (has_match sought) k) (drop_more lines k [] lt) ∙ rw is refl
 
-pub next-none : (pattern : List ℕ) (lines : List (List ℕ)) (k : ℕ) → length lines ≤ k
-    → position_from (has_match pattern) k (drop k lines) ≡ None
-next-none pattern lines k le = ap (position_from (has_match pattern) k) (drop_all k lines le)
+pub next-none : (sought : Sought) (lines : List (List ℕ)) (k : ℕ) → length lines ≤ k
+    → position_from (has_match sought) k (drop k lines) ≡ None
+next-none sought lines k le = ap (position_from (has_match sought) k) (drop_all k lines le)
 
-pub last-here : (pattern : List ℕ) (lines : List (List ℕ)) (k n : ℕ) → n ≡ k + 1
-    → has_match pattern (numbered_line lines k) ≡ true → last_match pattern lines n ≡ Some k
+pub last-here : (sought : Sought) (lines : List (List ℕ)) (k n : ℕ) → n ≡ k + 1
+    → has_match sought (numbered_line lines k) ≡ true → last_match sought lines n ≡ Some k
 unfolding last_match
-last-here pattern lines k n same is = ap (last_match pattern lines) (same ∙ (let e : k + 1 ≡ suc k = omega arith in e))
+last-here sought lines k n same is = ap (last_match sought lines) (same ∙ (let e : k + 1 ≡ suc k = omega arith in e))
     ∙ rw is refl
 
-pub last-earlier : (pattern : List ℕ) (lines : List (List ℕ)) (k n : ℕ) → n ≡ k + 1
-    → has_match pattern (numbered_line lines k) ≡ false → last_match pattern lines n ≡ last_match pattern lines k
+pub last-earlier : (sought : Sought) (lines : List (List ℕ)) (k n : ℕ) → n ≡ k + 1
+    → has_match sought (numbered_line lines k) ≡ false → last_match sought lines n ≡ last_match sought lines k
 unfolding last_match
-last-earlier pattern lines k n same is = ap (last_match pattern lines) (same ∙ (let e : k + 1 ≡ suc k = omega arith in e))
+last-earlier sought lines k n same is = ap (last_match sought lines) (same ∙ (let e : k + 1 ≡ suc k = omega arith in e))
     ∙ rw is refl
 
-pub last-none : (pattern : List ℕ) (lines : List (List ℕ)) (k : ℕ) → k ≡ 0 → last_match pattern lines k ≡ None
+pub last-none : (sought : Sought) (lines : List (List ℕ)) (k : ℕ) → k ≡ 0 → last_match sought lines k ≡ None
 unfolding last_match
-last-none pattern lines k none = ap (last_match pattern lines) none
+last-none sought lines k none = ap (last_match sought lines) none
 
 -- ---- no match is passed over
 
-first-from : (n : ℕ) (pattern : List ℕ) (lines : List (List ℕ)) (from k : ℕ) → length lines ≤ from + n
-    → next_match pattern lines from ≡ Some k → IsFirstMatch pattern lines from k
-first-from zero pattern lines from k le found =
-    let none = next-none pattern lines from (omega arith) in
+first-from : (n : ℕ) (sought : Sought) (lines : List (List ℕ)) (from k : ℕ) → length lines ≤ from + n
+    → next_match sought lines from ≡ Some k → IsFirstMatch sought lines from k
+first-from zero sought lines from k le found =
+    let none = next-none sought lines from (omega arith) in
     let no : ⊥ = cc in absurd no
-first-from (suc n) pattern lines from k le found = ⊎_elim
+first-from (suc n) sought lines from k le found = ⊎_elim
     (λ (lt : from < length lines). ⊎_elim
-    (λ (is : has_match pattern (numbered_line lines from) ≡ true).
-    let here = next-here pattern lines from lt is in
+    (λ (is : has_match sought (numbered_line lines from) ≡ true).
+    let here = next-here sought lines from lt is in
     let same : from ≡ k = cc in
-    subst (λ m. IsFirstMatch pattern lines from m) same
+    subst (λ m. IsFirstMatch sought lines from m) same
     (record { reached = omega arith; has = is; none = λ j le lt. absurd (omega arith) }))
-    (λ (not : has_match pattern (numbered_line lines from) ≡ false).
-    let later = next-later pattern lines from lt not in
-    let more = first-from n pattern lines (from + 1) k (omega arith) (sym later ∙ found) in
+    (λ (not : has_match sought (numbered_line lines from) ≡ false).
+    let later = next-later sought lines from lt not in
+    let more = first-from n sought lines (from + 1) k (omega arith) (sym later ∙ found) in
     record {
       reached = omega (arith, more.reached);
       has = more.has;
       none = λ j le below. ⊎_elim
           (λ (after : from < j). more.none j (omega arith) below)
           (λ (at : j ≤ from). let e : from ≡ j = omega arith in
-          subst (λ i. has_match pattern (numbered_line lines i) ≡ false) e not)
+          subst (λ i. has_match sought (numbered_line lines i) ≡ false) e not)
           (cases_lt from j);
     })
-    (cases_Bool (has_match pattern (numbered_line lines from))))
+    (cases_Bool (has_match sought (numbered_line lines from))))
     (λ (ge : length lines ≤ from).
-    let none = next-none pattern lines from ge in
+    let none = next-none sought lines from ge in
     let no : ⊥ = cc in absurd no)
     (cases_lt from (length lines))
 
-pub first-match : (pattern : List ℕ) (lines : List (List ℕ)) (from k : ℕ) → next_match pattern lines from ≡ Some k
-    → IsFirstMatch pattern lines from k
-first-match pattern lines from k found = first-from (length lines) pattern lines from k (omega arith) found
+pub first-match : (sought : Sought) (lines : List (List ℕ)) (from k : ℕ) → next_match sought lines from ≡ Some k
+    → IsFirstMatch sought lines from k
+first-match sought lines from k found = first-from (length lines) sought lines from k (omega arith) found
 
-pub final-match : (pattern : List ℕ) (lines : List (List ℕ)) (before k : ℕ) → last_match pattern lines before ≡ Some k
-    → IsLastMatch pattern lines before k
+pub final-match : (sought : Sought) (lines : List (List ℕ)) (before k : ℕ) → last_match sought lines before ≡ Some k
+    → IsLastMatch sought lines before k
 unfolding last_match
-final-match pattern lines zero k found = let no : ⊥ = cc in absurd no
-final-match pattern lines (suc b) k found = ⊎_elim
-    (λ (is : has_match pattern (numbered_line lines b) ≡ true).
-    let here : last_match pattern lines (suc b) ≡ Some b = rw is refl in
+final-match sought lines zero k found = let no : ⊥ = cc in absurd no
+final-match sought lines (suc b) k found = ⊎_elim
+    (λ (is : has_match sought (numbered_line lines b) ≡ true).
+    let here : last_match sought lines (suc b) ≡ Some b = rw is refl in
     let same : b ≡ k = cc in
-    subst (λ m. IsLastMatch pattern lines (suc b) m) same
+    subst (λ m. IsLastMatch sought lines (suc b) m) same
     (record { reached = omega arith; has = is; none = λ j lt below. absurd (omega arith) }))
-    (λ (not : has_match pattern (numbered_line lines b) ≡ false).
-    let earlier : last_match pattern lines (suc b) ≡ last_match pattern lines b = rw not refl in
-    let more = final-match pattern lines b k (sym earlier ∙ found) in
+    (λ (not : has_match sought (numbered_line lines b) ≡ false).
+    let earlier : last_match sought lines (suc b) ≡ last_match sought lines b = rw not refl in
+    let more = final-match sought lines b k (sym earlier ∙ found) in
     record {
       reached = omega (arith, more.reached);
       has = more.has;
       none = λ j lt below. ⊎_elim
           (λ (before : j < b). more.none j lt before)
           (λ (at : b ≤ j). let e : b ≡ j = omega arith in
-          subst (λ i. has_match pattern (numbered_line lines i) ≡ false) e not)
+          subst (λ i. has_match sought (numbered_line lines i) ≡ false) e not)
           (cases_lt j b);
     })
-    (cases_Bool (has_match pattern (numbered_line lines b)))
+    (cases_Bool (has_match sought (numbered_line lines b)))
 
 -- ---- the lines that have what is sought
 
-pub matching-none : (pattern : List ℕ) (lines : List (List ℕ)) → matching pattern lines 0 ≡ []
+pub matching-none : (sought : Sought) (lines : List (List ℕ)) → matching sought lines 0 ≡ []
 unfolding matching
-matching-none pattern lines = refl
+matching-none sought lines = refl
 
 length-if : (b : Bool) (ks : List ℕ) (k : ℕ) → length ks ≤ k → length (if b then ks ++ k ∷ [] else ks) ≤ suc k
 length-if true ks k le = omega (arith, length-append ks (k ∷ []))
 length-if false ks k le = omega arith
 
-pub length-matching : (pattern : List ℕ) (lines : List (List ℕ)) (n : ℕ) → length (matching pattern lines n) ≤ n
+pub length-matching : (sought : Sought) (lines : List (List ℕ)) (n : ℕ) → length (matching sought lines n) ≤ n
 unfolding matching
-length-matching pattern lines zero = omega arith
-length-matching pattern lines (suc k) =
-    length-if (has_match pattern (numbered_line lines k)) (matching pattern lines k) k (length-matching pattern lines k)
+length-matching sought lines zero = omega arith
+length-matching sought lines (suc k) =
+    length-if (has_match sought (numbered_line lines k)) (matching sought lines k) k (length-matching sought lines k)

@@ -24,10 +24,11 @@ use Rattle.pager.specs.declared.command.Command.TheVariants.{Nothing, Digit, Dow
 use Rattle.pager.specs.declared.command.Command.TheVariants.{WheelDown, WheelUp}
 use Rattle.pager.specs.declared.command.Command.TheVariants.{ToStart, ToEnd, ToLeft, ToRight, Ask, Next, Previous, Numbers, Wrap}
 use Rattle.pager.specs.declared.command.Command.TheVariants.{Help, Quit, ToPart, Details, Mark, ToMark, Turn, Filter}
+use Rattle.pager.specs.declared.sought.Sought.{Sought}
 use Rattle.pager.specs.Search.{next_match, last_match, matching}
-use Rattle.pager.specs.Moves.{found_at, sought_before, sought_from, before_found, after_found, sought_on, obeyed, with_pattern}
+use Rattle.pager.specs.Moves.{found_at, before_found, after_found, sought_on, obeyed, next_sought}
 use Rattle.pager.specs.Moves.{answered, acted, updated_by, updated, letter_marked, marked_line, gone_back}
-use Rattle.pager.specs.Moves.{sought_first, all_lines, relined, with_lines, taken_in, has_text, turned_to, has_typed, gives_up}
+use Rattle.pager.specs.Moves.{first_match, sought_first, all_lines, relined, with_lines, taken_by, has_text, turned_to, has_typed, gives_up}
 use Rattle.pager.specs.declared.pager.Ending.{Ending}
 use Rattle.pager.specs.Keys.{event_command, event_answer, event_mark, event_ending, is_press}
 use Rattle.pager.proofs.ShowLemmas.{asks-nothing}
@@ -38,8 +39,8 @@ found-same (Some k) p = refl
 found-same None p = refl
 
 sought-same : (is_back : Bool) (p : Pager) → page_size (sought_on is_back p) ≡ page_size p
-sought-same true p = found-same (last_match p.pattern p.document (before_found p.found p.top)) p
-sought-same false p = found-same (next_match p.pattern p.document (after_found p.found p.top)) p
+sought-same true p = found-same (last_match p.sought p.document (before_found p.found p.top)) p
+sought-same false p = found-same (next_match p.sought p.document (after_found p.found p.top)) p
 
 obeyed-same : (command : Command) (p : Pager) → page_size (obeyed command p) ≡ page_size p
 obeyed-same (Digit d) p = refl
@@ -70,15 +71,8 @@ obeyed-same Filter p = refl
 obeyed-same ToMark p = refl
 obeyed-same Turn p = refl
 
-first-same : (is_back : Bool) (p : Pager)
-    → page_size (if is_back then sought_before p.top p else sought_from p.top p) ≡ page_size p
-first-same true p = found-same (last_match p.pattern p.document p.top) p
-first-same false p = found-same (next_match p.pattern p.document p.top) p
-
-pattern-same : (b : Bool) (pattern : List ℕ) (p : Pager)
-    → page_size (if b then record p { pattern = pattern } else p) ≡ page_size p
-pattern-same true pattern p = refl
-pattern-same false pattern p = refl
+first-same : (p : Pager) → page_size (sought_first p) ≡ page_size p
+first-same p = found-same (first_match p.sought p) p
 
 edited-same : (b : Bool) (typed : FieldData) (p : Pager)
     → page_size (if b then record p { mode = Reading } else record p { typed = typed }) ≡ page_size p
@@ -90,23 +84,19 @@ filtered-same : (b : Bool) (numbers : List ℕ) (p : Pager)
 filtered-same true numbers p = refl
 filtered-same false numbers p = refl
 
-sought_first-same : (p : Pager) → page_size (sought_first (with_pattern p)) ≡ page_size p
-sought_first-same p = first-same (with_pattern p).is_back (with_pattern p)
-    ∙ pattern-same (has_typed p) (field_text p.typed) p
-
-taken-same : (mode : Mode) (p : Pager) → page_size (taken_in mode p) ≡ page_size p
-taken-same Filtering p = filtered-same (has_typed p)
-    (matching (field_text p.typed) (all_lines p) (length (all_lines p))) p
-taken-same Reading p = sought_first-same p
-taken-same Asking p = sought_first-same p
-taken-same Marking p = sought_first-same p
-taken-same Returning p = sought_first-same p
-taken-same Turning p = sought_first-same p
-taken-same Helping p = sought_first-same p
+taken-same : (mode : Mode) (sought : Option Sought) (p : Pager) → page_size (taken_by mode sought p) ≡ page_size p
+taken-same mode None p = refl
+taken-same Filtering (Some s) p = filtered-same (has_typed p) (matching s (all_lines p) (length (all_lines p))) p
+taken-same Reading (Some s) p = first-same (record p { sought = s })
+taken-same Asking (Some s) p = first-same (record p { sought = s })
+taken-same Marking (Some s) p = first-same (record p { sought = s })
+taken-same Returning (Some s) p = first-same (record p { sought = s })
+taken-same Turning (Some s) p = first-same (record p { sought = s })
+taken-same Helping (Some s) p = first-same (record p { sought = s })
 
 answered-same : (answer : Answer) (p : Pager) → page_size (answered answer p) ≡ page_size p
 answered-same (Change edit) p = edited-same (gives_up edit p) (edited edit p.typed) p
-answered-same Search p = taken-same p.mode p
+answered-same Search p = taken-same p.mode (next_sought p) p
 answered-same Cancel p = refl
 answered-same Ignore p = refl
 

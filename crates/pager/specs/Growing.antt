@@ -19,11 +19,12 @@ use Rattle.pager.specs.declared.command.Command.TheVariants.{ToPart, Details, Ne
 use Rattle.pager.specs.declared.piece.{More.More, Piece.Piece}
 use Rattle.pager.specs.declared.growing.{Growing.Growing, Waiting.Waiting}
 use Rattle.pager.specs.declared.styles.Run.{Run}
+use Rattle.pager.specs.declared.sought.Sought.{Sought}
 use Rattle.pager.specs.Keys.{event_command, event_answer, event_mark}
 use Rattle.pager.specs.Parted.{has_signs}
 use Rattle.pager.specs.Search.{next_match, last_match}
 use Rattle.pager.specs.Places.{page_rows}
-use Rattle.pager.specs.Moves.{or_number, half_page, after_found, before_found, with_pattern, marked_line, updated}
+use Rattle.pager.specs.Moves.{or_number, half_page, after_found, before_found, next_sought, marked_line, updated}
 
 -- ---- how many lines an event needs
 
@@ -50,14 +51,14 @@ match_needs other p None = other
 
 -- a search back needs the lines before its first one; a search further needs twice as many as are known, unless it
 -- finds one of these
-abbrev pub search_needs : Bool → List ℕ → ℕ → Pager → ℕ
-search_needs true pattern k p = max k (match_needs 0 p (last_match pattern p.document k))
-search_needs false pattern k p = match_needs (2 * length p.document + 1) p (next_match pattern p.document k)
+abbrev pub search_needs : Bool → Sought → ℕ → Pager → ℕ
+search_needs true sought k p = max k (match_needs 0 p (last_match sought p.document k))
+search_needs false sought k p = match_needs (2 * length p.document + 1) p (next_match sought p.document k)
 
 -- what a search needs that goes on
 abbrev pub next_needs : Bool → Pager → ℕ
-next_needs true p = search_needs true p.pattern (before_found p.found p.top) p
-next_needs false p = search_needs false p.pattern (after_found p.found p.top) p
+next_needs true p = search_needs true p.sought (before_found p.found p.top) p
+next_needs false p = search_needs false p.sought (after_found p.found p.top) p
 
 -- what a command needs: nothing to leave, and else at least the page
 abbrev pub command_needs : Command → Pager → ℕ
@@ -74,10 +75,15 @@ command_needs Previous p = next_needs (not p.is_back) p
 command_needs Quit p = 0
 command_needs _ p = page_needs p
 
+-- what was typed needs, once it is taken: nothing, if it can't be sought
+abbrev pub typed_needs : Mode → Option Sought → Pager → ℕ
+typed_needs mode None p = 0
+typed_needs Filtering (Some sought) p = every_line p
+typed_needs _ (Some sought) p = search_needs p.is_back sought p.top p
+
 -- what is typed needs nothing, until a filter or a search is taken
 abbrev pub answer_needs : Mode → Answer → Pager → ℕ
-answer_needs Filtering Search p = every_line p
-answer_needs _ Search p = search_needs p.is_back (with_pattern p).pattern p.top p
+answer_needs mode Search p = typed_needs mode (next_sought p) p
 answer_needs _ _ p = 0
 
 -- what a jump to a mark needs

@@ -1,4 +1,5 @@
 pub mod Keys
+pub mod Patterns
 pub mod Search
 pub mod Symbols
 pub mod Parted

@@ -11,7 +11,7 @@ use Rattle.text_field.specs.declared.keys.Edit.TheVariants.{DeleteLeft}
 use Rattle.pager.specs.declared.pager.Pager.{Pager}
 use Rattle.pager.specs.declared.pager.Mode.{Mode}
 use Rattle.pager.specs.declared.pager.Mode.TheVariants.{Reading, Asking, Filtering, Marking, Returning, Turning, Helping}
-use Rattle.pager.specs.declared.pager.Note.TheVariants.{Range, Bytes, Missing}
+use Rattle.pager.specs.declared.pager.Note.TheVariants.{Range, Bytes, Missing, Refused}
 use Rattle.pager.specs.declared.pager.Ending.{Ending}
 use Rattle.pager.specs.declared.pager.Ending.TheVariants as ending
 use Rattle.pager.specs.declared.answer.Answer.{Answer}
@@ -23,16 +23,18 @@ use Rattle.pager.specs.declared.command.Command.TheVariants.{ToStart, ToEnd, ToL
 use Rattle.pager.specs.declared.command.Command.TheVariants.{Previous, Numbers, Wrap, Help, Quit, ToPart}
 use Rattle.pager.specs.declared.command.Command.TheVariants.{Details, Mark, ToMark, Turn, Filter}
 use Rattle.pager.specs.Keys.{event_command, event_answer, event_mark, event_ending, is_press}
-use Rattle.pager.specs.Search.{next_match, last_match, matching, picked}
+use Rattle.pager.specs.declared.sought.Sought.{Sought}
+use Rattle.pager.specs.declared.sought.Sought.TheVariants.{Plain}
+use Rattle.pager.specs.Search.{sought_by, next_match, last_match, matching, picked}
 use Rattle.pager.specs.Places.{text_place, page_rows, at_place, place_after, place_before}
 
 -- a line in which nothing is typed, of at most 80 characters
 abbrev pub empty_line : FieldData
 empty_line = record new_field { limit = Some 80 }
 
--- at the first line
+-- at the first line; a text is sought as it stands
 abbrev pub started : List (List ℕ) → List ℕ → List ℕ → Size → Pager
-started lines name pattern size = record {
+started lines name text size = record {
   document = lines;
   has_more = false;
   styles = [];
@@ -50,7 +52,7 @@ started lines name pattern size = record {
   mode = Reading;
   is_back = false;
   typed = empty_line;
-  pattern = pattern;
+  sought = Plain text;
   found = None;
   marks = replicate 53 None;
   note = Range;
@@ -124,13 +126,6 @@ abbrev pub found_at : Option ℕ → Pager → Pager
 found_at (Some k) p = record (jumped_to k p) { found = Some k; note = Range }
 found_at None p = record p { note = Missing }
 
--- the first line from one on that has what is sought, and the last one before a line
-abbrev pub sought_from : ℕ → Pager → Pager
-sought_from k p = found_at (next_match p.pattern p.document k) p
-
-abbrev pub sought_before : ℕ → Pager → Pager
-sought_before k p = found_at (last_match p.pattern p.document k) p
-
 -- a search goes on from the line that was found last, or else from the first one of the page
 abbrev pub after_found : Option ℕ → ℕ → ℕ
 after_found (Some k) top = k + 1
@@ -142,8 +137,8 @@ before_found None top = top
 
 abbrev pub sought_on : Bool → Pager → Pager
 sought_on is_back p =
-    if is_back then sought_before (before_found p.found p.top) p
-    else sought_from (after_found p.found p.top) p
+    if is_back then found_at (last_match p.sought p.document (before_found p.found p.top)) p
+    else found_at (next_match p.sought p.document (after_found p.found p.top)) p
 
 -- a search is typed
 abbrev pub asked : Bool → Pager → Pager
@@ -180,13 +175,19 @@ abbrev pub with_edit : Edit → Pager → Pager
 with_edit edit p =
     if gives_up edit p then record p { mode = Reading } else record p { typed = edited edit p.typed }
 
--- what is sought is what was typed, or, if that is nothing, what was sought last
-abbrev pub with_pattern : Pager → Pager
-with_pattern p = if has_typed p then record p { pattern = field_text p.typed } else p
+-- what is sought next: what was typed, if that is a text that can be sought, or, if that is nothing, what was
+-- sought last
+abbrev pub next_sought : Pager → Option Sought
+next_sought p = if has_typed p then sought_by (field_text p.typed) else Some p.sought
 
--- from the first line of the page on, or before it
+-- the first line from that of the page on that has this, or the last one before it
+abbrev pub first_match : Sought → Pager → Option ℕ
+first_match sought p =
+    if p.is_back then last_match sought p.document p.top else next_match sought p.document p.top
+
+-- a search begins there
 abbrev pub sought_first : Pager → Pager
-sought_first p = if p.is_back then sought_before p.top p else sought_from p.top p
+sought_first p = found_at (first_match p.sought p) p
 
 -- all lines, also while some of them are hidden
 abbrev pub all_lines : Pager → List (List ℕ)
@@ -208,16 +209,19 @@ abbrev pub with_lines : List ℕ → Pager → Pager
 with_lines numbers p = relined (Some (all_lines p)) numbers (picked (all_lines p) numbers) p
 
 -- only the lines that have what was typed; all of them if that is nothing
-abbrev pub filtered : Pager → Pager
-filtered p =
-    if has_typed p then
-    with_lines (matching (field_text p.typed) (all_lines p) (length (all_lines p))) p
+abbrev pub filtered : Sought → Pager → Pager
+filtered sought p =
+    if has_typed p then with_lines (matching sought (all_lines p) (length (all_lines p))) p
     else relined None [] (all_lines p) p
 
--- what was typed is taken: for a filter, or for a search
+-- what was typed is taken: for a filter, or for a search; a text that can't be sought moves nothing
+abbrev pub taken_by : Mode → Option Sought → Pager → Pager
+taken_by mode None p = record p { note = Refused }
+taken_by Filtering (Some sought) p = filtered sought p
+taken_by _ (Some sought) p = sought_first (record p { sought = sought })
+
 abbrev pub taken_in : Mode → Pager → Pager
-taken_in Filtering p = filtered p
-taken_in _ p = sought_first (with_pattern p)
+taken_in mode p = taken_by mode (next_sought p) p
 
 -- what an answer makes of a pager of which a search or a filter is asked
 abbrev pub answered : Answer → Pager → Pager

@@ -21,8 +21,10 @@ use Rattle.pager.specs.declared.pager.Pager.{Pager}
 use Rattle.pager.specs.declared.pager.Mode.{Mode}
 use Rattle.pager.specs.declared.pager.Mode.TheVariants.{Reading, Asking, Filtering, Marking, Returning, Turning, Helping}
 use Rattle.pager.specs.declared.pager.Note.{Note}
-use Rattle.pager.specs.declared.pager.Note.TheVariants.{Range, Bytes, Missing}
-use Rattle.pager.specs.Search.{numbered_line}
+use Rattle.pager.specs.declared.pager.Note.TheVariants.{Range, Bytes, Missing, Refused}
+use Rattle.pager.specs.declared.sought.Sought.{Sought}
+use Rattle.pager.specs.declared.sought.Sought.TheVariants.{Plain}
+use Rattle.pager.specs.Search.{numbered_line, text_of_sought}
 
 -- ---- lines
 
@@ -40,9 +42,9 @@ PaintsSymbols x y v [] old new = new ≡ old
 PaintsSymbols x y v (s ∷ ss) old new = InTurn (PaintsSymbol x y v s) (PaintsSymbols x y v ss) old new
 
 -- what shows of a line in its runs of styles, painted in a row from x on, with what is sought marked
-abbrev pub PaintsLine : ℕ → ℕ → View → List ℕ → List Run → List ℕ → BufferData → BufferData → Type 0
-PaintsLine x y v pattern runs line old new =
-    PaintsSymbols x y v (symbols_in_view v (line_symbols pattern runs line)) old new
+abbrev pub PaintsLine : ℕ → ℕ → View → Sought → List Run → List ℕ → BufferData → BufferData → Type 0
+PaintsLine x y v sought runs line old new =
+    PaintsSymbols x y v (symbols_in_view v (line_symbols sought runs line)) old new
 
 -- ---- rows of a page
 
@@ -94,8 +96,8 @@ abbrev pub PaintsLineAt : Option (List ℕ) → Pager → Place → Rect → ℕ
 PaintsLineAt (Some line) p q r y =
     let beside = number_columns p r.width in
     InTurn (PaintsNumberIf beside (number_at p q) r.x y)
-    (PaintsLine (r.x + beside) y (view_at p q.row (r.width - beside)) p.pattern (line_runs p.styles (line_number p q.line)) line)
-PaintsLineAt None p q r y = PaintsLine r.x y (view_from 0 r.width) [] [] (codes "~")
+    (PaintsLine (r.x + beside) y (view_at p q.row (r.width - beside)) p.sought (line_runs p.styles (line_number p q.line)) line)
+PaintsLineAt None p q r y = PaintsLine r.x y (view_from 0 r.width) (Plain []) [] (codes "~")
 
 -- a row of the list of the keys
 abbrev pub help_text : ℕ → List ℕ
@@ -107,7 +109,7 @@ PaintsTextRow p q r y = PaintsLineAt (slice_get p.document q.line) p q r y
 
 -- row k of a page: a place of the text, or a row of the list of the keys
 abbrev pub PaintsRowIn : Mode → Pager → Rect → ℕ → Place → BufferData → BufferData → Type 0
-PaintsRowIn Helping p r k q = PaintsLine r.x (r.y + k) (view_from 0 r.width) [] [] (help_text k)
+PaintsRowIn Helping p r k q = PaintsLine r.x (r.y + k) (view_from 0 r.width) (Plain []) [] (help_text k)
 PaintsRowIn _ p r k q = PaintsTextRow p q r (r.y + k)
 
 -- row k of a page shows the place that is so many rows behind the first one
@@ -162,15 +164,18 @@ details_text p =
     place_text p ++ codes " bytes " ++ decimal (byte_count p (last_shown p)) ++ codes "/"
     ++ decimal (byte_count p (length p.document))
 
--- what the status tells while the text is read: what the text is called, and the place; or what isn't found
+-- what the status tells while the text is read: what the text is called, and the place; or what isn't found,
+-- or can't be sought
 abbrev pub note_name : Note → Pager → List ℕ
 note_name Missing p = codes "not found: "
+note_name Refused p = codes "not a pattern: "
 note_name _ p = p.name
 
 abbrev pub note_text : Note → Pager → List ℕ
 note_text Range p = place_text p
 note_text Bytes p = details_text p
-note_text Missing p = p.pattern
+note_text Missing p = text_of_sought p.sought
+note_text Refused p = field_text p.typed
 
 -- the two parts of a status: such a note; or what is typed of a search; or which key is awaited
 abbrev pub first_part : Mode → Pager → List ℕ

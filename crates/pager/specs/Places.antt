@@ -1,6 +1,7 @@
 -- Places in a text: a line, and a row of it if lines are broken.
 use Rattle.std.specs.Prelude.{◌≡◌, ℕ, zero, suc, Bool, false, ◌+◌, ◌-◌, ◌/◌, ◌==◌, ◌&&◌, ◌||◌}
 use Rattle.std.specs.Prelude.{nat_lt, min, max, if◌then◌else◌, List, [], ◌∷◌, length, ◌^◌}
+use Rattle.pager.specs.declared.sought.Sought.TheVariants.{Plain}
 use Rattle.pager.specs.declared.pager.Pager.{Pager}
 use Rattle.pager.specs.declared.place.Place.{Place}
 use Rattle.pager.specs.Search.{numbered_line}
@@ -42,7 +43,7 @@ breaking p = record { lines = p.document; wraps = p.wraps; stride = stride p }
 
 -- how many rows a line takes
 abbrev pub rows_of_line : Breaking → List ℕ → ℕ
-rows_of_line t line = if t.wraps then min (last_start 0 (line_symbols [] [] line)) (2 ^ 32 - 1) / t.stride + 1
+rows_of_line t line = if t.wraps then min (last_start 0 (line_symbols (Plain []) [] line)) (2 ^ 32 - 1) / t.stride + 1
     else 1
 
 -- the next row of a text, which goes on behind its end

@@ -8,7 +8,9 @@ use Rattle.ratatui_core.specs.{Style.with_modifier, Style.modifier_of}
 use Rattle.ansi_model.specs.Symbols.{is_printed}
 use Rattle.pager.specs.declared.view.View.{View}
 use Rattle.pager.specs.declared.styles.Run.{Run}
-use Rattle.pager.specs.Search.{begins_with}
+use Rattle.pager.specs.declared.sought.Sought.{Sought}
+use Rattle.pager.specs.declared.sought.Sought.TheVariants.{Plain, Pattern}
+use Rattle.pager.specs.{Search.begins_with, Patterns.pattern_of, Patterns.match_at}
 
 abbrev pub is_tab : List ℕ → Bool
 is_tab g = bytes_eq g (9 ∷ [])
@@ -45,11 +47,14 @@ abbrev pub line_symbol : Style → ℕ → List ℕ → LineSymbol
 line_symbol style column g =
     record { text = shown_symbol g; style = style; column = column; columns = shown_columns column g }
 
--- how many bytes are marked: all of what is sought where that stands at the front, and else what is left
--- of an earlier mark
-abbrev pub marked_bytes : List ℕ → ℕ → List ℕ → ℕ
-marked_bytes pattern marked rest =
-    if nat_lt 0 (length pattern) && begins_with pattern rest then length pattern else marked
+-- how many bytes are marked of what is left of a line: all of the text that is sought where that stands at the
+-- front, and else what is left of an earlier mark; or what is left of an earlier mark, and after it the match that
+-- begins there
+abbrev pub marked_bytes : Sought → List ℕ → ℕ → List ℕ → ℕ
+marked_bytes (Plain text) line marked rest =
+    if nat_lt 0 (length text) && begins_with text rest then length text else marked
+marked_bytes (Pattern text) line marked rest =
+    if nat_lt 0 marked then marked else match_at (pattern_of text) line (length line - length rest)
 
 -- what is marked is reversed, and else in a style of its own
 abbrev pub mark_style : ℕ → Style → Style
@@ -65,46 +70,46 @@ abbrev pub first_style : List Run → Style
 first_style [] = new_style
 first_style (r ∷ rs) = r.style
 
--- where a line of so many bytes is read: the column, how many bytes are marked of an earlier match, and the
--- runs of styles that are left
+-- where a line is read: the column, how many bytes are marked of an earlier match, and the runs of styles that
+-- are left
 pub record Reach : Type 0 where
-  pub size : ℕ
+  pub line : List ℕ
   pub column : ℕ
   pub marked : ℕ
   pub runs : List Run
 
 -- at the front of a line in these runs
 abbrev pub line_front : List Run → List ℕ → Reach
-line_front runs line = record { size = length line; column = 0; marked = 0; runs = runs }
+line_front runs line = record { line = line; column = 0; marked = 0; runs = runs }
 
 -- there, if the line goes on with these graphemes: how many bytes are marked, the runs, and the style
-abbrev pub marked_at : List ℕ → Reach → List (List ℕ) → ℕ
-marked_at pattern at gs = marked_bytes pattern at.marked (concat gs)
+abbrev pub marked_at : Sought → Reach → List (List ℕ) → ℕ
+marked_at sought at gs = marked_bytes sought at.line at.marked (concat gs)
 
 abbrev pub runs_at : Reach → List (List ℕ) → List Run
-runs_at at gs = runs_after (at.size - length (concat gs)) at.runs
+runs_at at gs = runs_after (length at.line - length (concat gs)) at.runs
 
-abbrev pub style_at : List ℕ → Reach → List (List ℕ) → Style
-style_at pattern at gs = mark_style (marked_at pattern at gs) (first_style (runs_at at gs))
+abbrev pub style_at : Sought → Reach → List (List ℕ) → Style
+style_at sought at gs = mark_style (marked_at sought at gs) (first_style (runs_at at gs))
 
 -- after the first one of these graphemes
-abbrev pub reach_after : List ℕ → Reach → List ℕ → List (List ℕ) → Reach
-reach_after pattern at g gs = record {
-  size = at.size;
+abbrev pub reach_after : Sought → Reach → List ℕ → List (List ℕ) → Reach
+reach_after sought at g gs = record {
+  line = at.line;
   column = at.column + shown_columns at.column g;
-  marked = marked_at pattern at (g ∷ gs) - length g;
+  marked = marked_at sought at (g ∷ gs) - length g;
   runs = runs_at at (g ∷ gs);
 }
 
 -- graphemes as symbols, one after the other
-unfoldable pub symbols_from : List ℕ → Reach → List (List ℕ) → List LineSymbol
-symbols_from pattern at [] = []
-symbols_from pattern at (g ∷ gs) =
-    line_symbol (style_at pattern at (g ∷ gs)) at.column g ∷ symbols_from pattern (reach_after pattern at g gs) gs
+unfoldable pub symbols_from : Sought → Reach → List (List ℕ) → List LineSymbol
+symbols_from sought at [] = []
+symbols_from sought at (g ∷ gs) =
+    line_symbol (style_at sought at (g ∷ gs)) at.column g ∷ symbols_from sought (reach_after sought at g gs) gs
 
 -- the symbols of a line in these runs of styles
-abbrev pub line_symbols : List ℕ → List Run → List ℕ → List LineSymbol
-line_symbols pattern runs line = symbols_from pattern (line_front runs line) (graphemes true line)
+abbrev pub line_symbols : Sought → List Run → List ℕ → List LineSymbol
+line_symbols sought runs line = symbols_from sought (line_front runs line) (graphemes true line)
 
 -- a symbol that begins in the columns of a view and fits
 abbrev pub is_in_view : View → LineSymbol → Bool

@@ -6,7 +6,7 @@ ghost use Rattle.std.specs.Str.Lines.{lines};
 ghost use Rattle.pager.specs.Search.{numbered_line, matching, picked};
 ghost use Rattle.pager.specs.Pages.{bytes_before};
 
-use crate::search::has_match;
+use crate::sought::Sought;
 use std::alloc::{AllocError, Global};
 use std::marker::Model;
 use thiserror::Error;
@@ -132,19 +132,20 @@ impl<'a> Document<'a> {
         self.lines.len() as u32
     }
 
-    /// Returns the numbers of the lines that have a text in them, as a search takes it.
+    /// Returns the numbers of the lines that have what is sought.
     ///
     /// # Errors
     ///
     /// `AllocError` if memory is refused.
-    pub fn matching(&self, pattern: &str) -> Result<Numbers, AllocError>
+    pub fn matching(&self, sought: &Sought) -> Result<Numbers, AllocError>
         ensures numbers { IfOk result (λ numbers.
-            numbers ≡ matching pattern.now self.now (length self.now)) }
+            numbers ≡ matching sought.now self.now (length self.now)) }
         ensures count { IfOk result (λ numbers. length numbers < 2 ^ 32) }
     {
+        let mut finder = sought.finder(self.allocator())?;
         let mut numbers = Vec::new(self.allocator());
         for number in 0..self.len() {
-            let is_match = has_match(pattern, self.line_or_empty(u64::from(number)));
+            let is_match = finder.has_match(self.line_or_empty(u64::from(number)));
             push_if(is_match, number, &mut numbers)?;
         }
         Ok(Numbers { numbers })

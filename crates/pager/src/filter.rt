@@ -1,12 +1,12 @@
 //! Lines that are shown, and others that are hidden.
 
-ghost use Rattle.std.specs.Prelude.{◌≡◌, ◌<◌, ◌≤◌, ◌^◌, None, [], length, IfOk, OnOk, OnErr};
-ghost use Rattle.text_field.specs.Field.{field_text};
+ghost use Rattle.std.specs.Prelude.{◌≡◌, None, [], length, OnOk, OnErr};
 ghost use Rattle.pager.specs.Search.{matching};
-ghost use Rattle.pager.specs.Moves.{all_lines, relined, with_lines, filtered};
+ghost use Rattle.pager.specs.Moves.{all_lines, relined, with_lines};
 
 use crate::document::{Document, Numbers};
 use crate::pager::{MARKS, Pager};
+use crate::sought::Sought;
 use std::alloc::AllocError;
 use std::mem;
 
@@ -44,7 +44,7 @@ impl<'a> Pager<'a> {
     }
 
     // Shows all lines.
-    fn show_all(&mut self)
+    pub(crate) fn show_all(&mut self)
         ensures { self.new ≡ relined None [] (all_lines self.old) self.old }
     {
         if let Some(whole) = self.whole.take() {
@@ -54,26 +54,13 @@ impl<'a> Pager<'a> {
         self.begin_again();
     }
 
-    // The numbers of the lines that have what was typed.
-    fn matching(&self) -> Result<Numbers, AllocError>
-        ensures numbers { let lines = all_lines self.now in IfOk result (λ numbers.
-            numbers ≡ matching (field_text self.now.typed) lines (length lines)) }
-        ensures count { IfOk result (λ numbers. length numbers < 2 ^ 32) }
-    {
-        let pattern = self.typed.text();
-        self.all_lines().matching(pattern)
-    }
-
-    // Shows only the lines that have what was typed, or all if that is nothing.
-    pub(crate) fn filter(&mut self) -> Result<(), AllocError>
-        ensures ok { OnOk result (self.new ≡ filtered self.old) }
+    // Shows only the lines that have this.
+    pub(crate) fn filter(&mut self, sought: &Sought) -> Result<(), AllocError>
+        ensures ok { let lines = all_lines self.old in OnOk result
+            (self.new ≡ with_lines (matching sought.now lines (length lines)) self.old) }
         ensures err { OnErr result (self.new ≡ self.old) }
     {
-        if !self.has_typed() {
-            self.show_all();
-            return Ok(());
-        }
-        let numbers = self.matching()?;
+        let numbers = self.all_lines().matching(sought)?;
         let lines = self.all_lines().picked(&numbers)?;
         self.pick(numbers, lines);
         Ok(())

@@ -117,7 +117,7 @@ impl<'a> Growing<'a> {
         ensures err { OnErr result (self.new ≡ self.old) }
     {
         if self.pager.has_more {
-            let lines = self.pager.event_needs(event);
+            let lines = self.pager.event_needs(event)?;
             if !self.pager.knows(lines) {
                 self.waiting = Some(Waiting { event, lines });
                 return Ok(());

@@ -4,7 +4,7 @@ ghost use Rattle.std.specs.Prelude.{◌≡◌, [], map, slice_get, unwrap_or};
 ghost use Rattle.pager.specs.Pages.{help_text};
 
 /// The list of the keys, row by row.
-pub static HELP: [&str; 17] = [
+pub static HELP: [&str; 18] = [
     "j k  Down Up  Enter   a row further, back: or as many as the number typed before",
     "Space b  f b  PgDn PgUp   a page further, back",
     "d u                   half a page further, back",
@@ -20,6 +20,7 @@ pub static HELP: [&str; 17] = [
     ":n :p                 the next text, the one before, if there are several",
     "h  q  Ctrl+C          this list; the end",
     "The wheel of the mouse goes three rows further or back.",
+    "One of \\ . + * ? ( ) [ { | ^ $ makes what is sought a regular expression.",
     "A search takes A to Z as small letters, unless one of them is typed.",
     "Tabs go to every eighth column. What can't be shown is a replacement character.",
 ];

@@ -14,6 +14,7 @@ ghost use Rattle.pager.specs.Search.{next_match, last_match, IsFirstMatch, IsLas
 ghost use Rattle.pager.specs.Keys.{IsControlC};
 ghost use Rattle.pager.specs.Symbols.{LineSymbol, line_symbols};
 ghost use Rattle.pager.specs.Pages.{IsInOneRow};
+ghost use Rattle.pager.specs.declared.sought.Sought.{Sought};
 ghost use Rattle.pager.specs.declared.styles.Run.{Run};
 ghost use Rattle.pager.specs.Places.{IsInText, columns_for_line, page_rows, page_place, text_place, place_after};
 ghost use Rattle.pager.specs.Places.{places_after, breaking, last_page, earlier, is_before};
@@ -40,26 +41,26 @@ use std::io::Write;
 
 /// The place lies in the text at first, and after each event: no page begins after the last one.
 pub fn the_place_lies_in_the_text()
-    ensures first { (lines : List (List ℕ)) (name pattern : List ℕ) (size : Size)
-        → IsInText (started lines name pattern size) }
+    ensures first { (lines : List (List ℕ)) (name text : List ℕ) (size : Size)
+        → IsInText (started lines name text size) }
     ensures next { (p : Pager) (event : Event) → IsInText p → IsInText (updated p event) }
 {}
 
 /// A search passes no match over: it finds the first line from one on that has what is sought, or the
 /// last one before a line.
 pub fn a_search_passes_no_match_over()
-    ensures further { (pattern : List ℕ) (lines : List (List ℕ)) (from k : ℕ)
-        → next_match pattern lines from ≡ Some k → IsFirstMatch pattern lines from k }
-    ensures back { (pattern : List ℕ) (lines : List (List ℕ)) (before k : ℕ)
-        → last_match pattern lines before ≡ Some k → IsLastMatch pattern lines before k }
+    ensures further { (sought : Sought) (lines : List (List ℕ)) (from k : ℕ)
+        → next_match sought lines from ≡ Some k → IsFirstMatch sought lines from k }
+    ensures back { (sought : Sought) (lines : List (List ℕ)) (before k : ℕ)
+        → last_match sought lines before ≡ Some k → IsLastMatch sought lines before k }
 {}
 
 /// Broken lines lose nothing: if a row has two columns or more beside the number, each symbol of at
 /// most two columns is shown in one row of its line, and in no other one.
 pub fn broken_lines_lose_nothing()
-    ensures { (p : Pager) (pattern line : List ℕ) (runs : List Run) (s : LineSymbol)
+    ensures { (p : Pager) (sought : Sought) (line : List ℕ) (runs : List Run) (s : LineSymbol)
         → p.wraps ≡ true → 2 ≤ columns_for_line p
-        → Contains (line_symbols pattern runs line) s → s.columns ≤ 2 → s.column < 2 ^ 32
+        → Contains (line_symbols sought runs line) s → s.columns ≤ 2 → s.column < 2 ^ 32
         → IsInOneRow p (columns_for_line p) line s }
 {}
 

@@ -1,6 +1,6 @@
 //! What each command does to the place in the text.
 
-ghost use Rattle.std.specs.Prelude.{◌≡◌, ◌-◌};
+ghost use Rattle.std.specs.Prelude.{◌≡◌, ◌-◌, OnOk, OnErr};
 ghost use Rattle.pager.specs.Moves.{half_page, or_number, at_line, further, back, half_width, typed_digit};
 ghost use Rattle.pager.specs.Moves.{jumped_to, part_line, after_move, asked, filter_asked, obeyed};
 
@@ -8,6 +8,7 @@ use crate::command::Command;
 use crate::pager::{Mode, Note, Pager};
 use crate::place::Place;
 use crate::typing::empty_line;
+use std::alloc::AllocError;
 
 impl<'a> Pager<'a> {
     // Half of the rows of a page.
@@ -170,12 +171,16 @@ impl<'a> Pager<'a> {
     }
 
     // Does what a command says; each but a digit takes the number.
-    pub(crate) fn obey(&mut self, command: Command)
-        ensures { self.new ≡ obeyed command self.old }
+    pub(crate) fn obey(&mut self, command: Command) -> Result<(), AllocError>
+        ensures ok { OnOk result (self.new ≡ obeyed command self.old) }
+        ensures err { OnErr result (self.new ≡ self.old) }
     {
         let is_back = self.is_back;
         match command {
-            Command::Digit(digit) => return self.type_digit(digit),
+            Command::Digit(digit) => {
+                self.type_digit(digit);
+                return Ok(());
+            }
             Command::Ask(is_back) => {
                 self.ask(is_back);
                 self.note = Note::Range;
@@ -184,8 +189,8 @@ impl<'a> Pager<'a> {
                 self.ask_filter();
                 self.note = Note::Range;
             }
-            Command::Next => self.seek_on(is_back),
-            Command::Previous => self.seek_on(!is_back),
+            Command::Next => self.seek_on(is_back)?,
+            Command::Previous => self.seek_on(!is_back)?,
             Command::Details => self.note = Note::Bytes,
             Command::Mark => self.await_letter(Mode::Marking),
             Command::ToMark => self.await_letter(Mode::Returning),
@@ -197,5 +202,6 @@ impl<'a> Pager<'a> {
             }
         }
         self.number = 0;
+        Ok(())
     }
 }

@@ -1,16 +1,18 @@
 //! How many lines an event needs.
 
-ghost use Rattle.std.specs.Prelude.{◌≡◌, ◌<◌, true, false};
-ghost use Rattle.pager.specs.Moves.{with_pattern};
+ghost use Rattle.std.specs.Prelude.{◌≡◌, ◌<◌, true, false, Some, IfOk};
+ghost use Rattle.pager.specs.Moves.{next_sought};
 ghost use Rattle.pager.specs.Growing.{every_line, lines_through, page_needs, further_needs, match_needs, search_needs};
-ghost use Rattle.pager.specs.Growing.{next_needs, command_needs, answer_needs, mark_needs, mode_needs};
+ghost use Rattle.pager.specs.Growing.{next_needs, typed_needs, command_needs, answer_needs, mark_needs, mode_needs};
 ghost use Rattle.pager.specs.Growing.{event_needs, knows};
 
 use crate::answer::{Answer, answer_of, mark_of};
 use crate::command::{Command, command_of};
 use crate::pager::{Mode, Pager};
+use crate::sought::Sought;
 use ratatui_events::Event;
 use ratatui_reads::size_in;
+use std::alloc::AllocError;
 
 impl<'a> Pager<'a> {
     // One line more than are known: whoever needs so many needs all.
@@ -53,42 +55,55 @@ impl<'a> Pager<'a> {
     }
 
     // How many lines a search needs back from a line.
-    fn back_needs(&self, pattern: &str, line: u32) -> u64
-        ensures { result ≡ search_needs true pattern.now line self.now }
+    fn back_needs(&self, sought: &Sought, line: u32) -> Result<u64, AllocError>
+        ensures { IfOk result (λ lines. lines ≡ search_needs true sought.now line self.now) }
     {
-        let found = self.last_match(pattern, line);
-        self.match_needs(0, found).max(u64::from(line))
+        let found = self.last_match(sought, line)?;
+        Ok(self.match_needs(0, found).max(u64::from(line)))
     }
 
     // How many lines a search needs further from a line.
-    fn on_needs(&self, pattern: &str, line: u64) -> u64
-        ensures { result ≡ search_needs false pattern.now line self.now }
+    fn on_needs(&self, sought: &Sought, line: u64) -> Result<u64, AllocError>
+        ensures { IfOk result (λ lines. lines ≡ search_needs false sought.now line self.now) }
     {
-        let found = self.next_match(pattern, line);
-        self.match_needs(2 * u64::from(self.document.len()) + 1, found)
+        let found = self.next_match(sought, line)?;
+        Ok(self.match_needs(2 * u64::from(self.document.len()) + 1, found))
     }
 
     // How many lines a search needs that goes on.
-    fn next_needs(&self, is_back: bool) -> u64
-        ensures { result ≡ next_needs is_back self.now }
+    fn next_needs(&self, is_back: bool) -> Result<u64, AllocError>
+        ensures { IfOk result (λ lines. lines ≡ next_needs is_back self.now) }
     {
         if is_back {
-            self.back_needs(self.pattern.as_str(), self.before_found())
+            self.back_needs(&self.sought, self.before_found())
         } else {
-            self.on_needs(self.pattern.as_str(), self.after_found())
+            self.on_needs(&self.sought, self.after_found())
         }
     }
 
-    // How many lines the search needs that is typed.
-    fn typed_needs(&self) -> u64
-        ensures { result ≡ search_needs self.now.is_back (with_pattern self.now).pattern
-            self.now.top self.now }
+    // How many lines this needs that is sought, or that a filter is to show.
+    fn sought_needs(&self, sought: &Sought) -> Result<u64, AllocError>
+        ensures { IfOk result (λ lines.
+            lines ≡ typed_needs self.now.mode (Some sought.now) self.now) }
     {
-        let pattern = self.next_pattern();
-        if self.is_back {
-            self.back_needs(pattern, self.top)
-        } else {
-            self.on_needs(pattern, u64::from(self.top))
+        match self.mode {
+            Mode::Filtering => Ok(self.every_line()),
+            _ if self.is_back => self.back_needs(sought, self.top),
+            _ => self.on_needs(sought, u64::from(self.top)),
+        }
+    }
+
+    // How many lines the search or the filter needs that is typed.
+    fn typed_needs(&self) -> Result<u64, AllocError>
+        ensures { IfOk result (λ lines.
+            lines ≡ typed_needs self.now.mode (next_sought self.now) self.now) }
+    {
+        if !self.has_typed() {
+            return self.sought_needs(&self.sought);
+        }
+        match Sought::read(self.document.allocator(), self.typed.text())? {
+            Some(sought) => self.sought_needs(&sought),
+            None => Ok(0),
         }
     }
 
@@ -104,10 +119,10 @@ impl<'a> Pager<'a> {
     }
 
     // How many lines a command needs.
-    fn command_needs(&self, command: Command) -> u64
-        ensures { result ≡ command_needs command self.now }
+    fn command_needs(&self, command: Command) -> Result<u64, AllocError>
+        ensures { IfOk result (λ lines. lines ≡ command_needs command self.now) }
     {
-        match command {
+        let lines = match command {
             Command::Down => self.further_needs(1),
             Command::PageDown => self.further_needs(self.page_rows()),
             Command::HalfDown => self.further_needs(self.half_page()),
@@ -117,21 +132,21 @@ impl<'a> Pager<'a> {
             }
             Command::ToEnd => self.end_needs(),
             Command::ToPart | Command::Details => self.every_line(),
-            Command::Next => self.next_needs(self.is_back),
-            Command::Previous => self.next_needs(!self.is_back),
+            Command::Next => self.next_needs(self.is_back)?,
+            Command::Previous => self.next_needs(!self.is_back)?,
             Command::Quit => 0,
             _ => self.page_needs(),
-        }
+        };
+        Ok(lines)
     }
 
     // How many lines an answer needs while a search or a filter is typed.
-    fn answer_needs(&self, answer: Answer) -> u64
-        ensures { result ≡ answer_needs self.now.mode answer self.now }
+    fn answer_needs(&self, answer: Answer) -> Result<u64, AllocError>
+        ensures { IfOk result (λ lines. lines ≡ answer_needs self.now.mode answer self.now) }
     {
-        match (self.mode, answer) {
-            (Mode::Filtering, Answer::Search) => self.every_line(),
-            (_, Answer::Search) => self.typed_needs(),
-            _ => 0,
+        match answer {
+            Answer::Search => self.typed_needs(),
+            _ => Ok(0),
         }
     }
 
@@ -146,14 +161,14 @@ impl<'a> Pager<'a> {
     }
 
     // How many lines an event needs that tells no size.
-    fn mode_needs(&self, event: Event) -> u64
-        ensures { result ≡ mode_needs self.now.mode event self.now }
+    fn mode_needs(&self, event: Event) -> Result<u64, AllocError>
+        ensures { IfOk result (λ lines. lines ≡ mode_needs self.now.mode event self.now) }
     {
         match self.mode {
             Mode::Reading => self.command_needs(command_of(event)),
             Mode::Asking | Mode::Filtering => self.answer_needs(answer_of(event)),
-            Mode::Returning => self.mark_needs(self.marked_line(mark_of(event))),
-            _ => 0,
+            Mode::Returning => Ok(self.mark_needs(self.marked_line(mark_of(event)))),
+            _ => Ok(0),
         }
     }
 
@@ -165,11 +180,11 @@ impl<'a> Pager<'a> {
     }
 
     // How many lines must be known before an event can be taken.
-    pub(crate) fn event_needs(&self, event: Event) -> u64
-        ensures { result ≡ event_needs self.now event }
+    pub(crate) fn event_needs(&self, event: Event) -> Result<u64, AllocError>
+        ensures { IfOk result (λ lines. lines ≡ event_needs self.now event) }
     {
         match size_in(event) {
-            Some((_, rows)) => self.size_needs(rows),
+            Some((_, rows)) => Ok(self.size_needs(rows)),
             None => self.mode_needs(event),
         }
     }

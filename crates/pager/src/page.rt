@@ -5,9 +5,11 @@ ghost use Rattle.ratatui_core.specs.Layout.{IsInside};
 ghost use Rattle.ratatui_core.specs.Buffer.{IsReadyAt, IsReadyFrom, IsSettledBuffer};
 ghost use Rattle.ratatui_core.specs.Widgets.{ChangesWithin};
 ghost use Rattle.widget_boxes.specs.Boxes.{IsBoxArea};
+ghost use Rattle.pager.specs.declared.sought.Sought.TheVariants.{Plain};
 ghost use Rattle.pager.specs.Pages.{view_at, line_number, PaintsNumber, PaintsNumberIf, PaintsLine, PaintsLineAt};
 ghost use Rattle.pager.specs.Pages.{PaintsTextRow, PaintsRowIn, PaintsPageRows, view_from, PaintsPage};
 
+use crate::finder::Finder;
 use crate::help::help_text;
 use crate::pager::{Mode, Pager};
 use crate::painting::{paint_line, paint_text};
@@ -72,11 +74,20 @@ fn paint_plain(line: &str, y: u16, part: Rect, buf: &mut Buffer) -> Result<(), A
     requires bottom { y < part.y + part.height }
     ensures within { ChangesWithin part buf.old buf.new }
     ensures ok { OnOk result
-        (PaintsLine part.x y (view_from 0 part.width) [] [] line.now buf.old buf.new) }
+        (PaintsLine part.x y (view_from 0 part.width) (Plain []) [] line.now buf.old buf.new) }
     ensures ready { IsReadyFrom y buf.old → OnOk result (IsReadyFrom (y + 1) buf.new) }
 {
     let view = View::new(0, part.width);
-    paint_line(line, &[], "", view, part.x, y, part, buf)
+    paint_line(
+        line,
+        &[],
+        &mut Finder::of_text(""),
+        view,
+        part.x,
+        y,
+        part,
+        buf,
+    )
 }
 
 impl<'a> Pager<'a> {
@@ -115,9 +126,11 @@ impl<'a> Pager<'a> {
         line: &str,
         place: Place,
         y: u16,
+        finder: &mut Finder<'_>,
         part: Rect,
         buf: &mut Buffer,
     ) -> Result<(), AllocError>
+        requires sought { finder.old ≡ self.now.sought }
         requires some { IsBoxArea part }
         requires inside { IsInside part buf.old.area }
         requires top { part.y ≤ y }
@@ -127,6 +140,7 @@ impl<'a> Pager<'a> {
         ensures ok { OnOk result
             (PaintsLineAt (Some line.now) self.now place part y buf.old buf.new) }
         ensures ready { IsReadyFrom y buf.old → OnOk result (IsReadyFrom (y + 1) buf.new) }
+        ensures same { finder.new ≡ finder.old }
     {
         let beside = self.number_columns(part.width);
         let line_number = self.line_number(place.line);
@@ -136,7 +150,7 @@ impl<'a> Pager<'a> {
         paint_line(
             line,
             self.styles.line(line_number),
-            self.pattern.as_str(),
+            finder,
             view,
             part.x + beside,
             y,
@@ -150,9 +164,11 @@ impl<'a> Pager<'a> {
         &self,
         place: Place,
         y: u16,
+        finder: &mut Finder<'_>,
         part: Rect,
         buf: &mut Buffer,
     ) -> Result<(), AllocError>
+        requires sought { finder.old ≡ self.now.sought }
         requires some { IsBoxArea part }
         requires inside { IsInside part buf.old.area }
         requires place { place.line < 9223372036854775808 }
@@ -161,9 +177,10 @@ impl<'a> Pager<'a> {
         ensures within { ChangesWithin part buf.old buf.new }
         ensures ok { OnOk result (PaintsTextRow self.now place part y buf.old buf.new) }
         ensures ready { IsReadyFrom y buf.old → OnOk result (IsReadyFrom (y + 1) buf.new) }
+        ensures same { finder.new ≡ finder.old }
     {
         match self.document.line(place.line as usize) {
-            Some(line) => self.paint_text_line(line, place, y, part, buf),
+            Some(line) => self.paint_text_line(line, place, y, finder, part, buf),
             None => paint_plain("~", y, part, buf),
         }
     }
@@ -173,9 +190,11 @@ impl<'a> Pager<'a> {
         &self,
         k: u16,
         place: Place,
+        finder: &mut Finder<'_>,
         part: Rect,
         buf: &mut Buffer,
     ) -> Result<(), AllocError>
+        requires sought { finder.old ≡ self.now.sought }
         requires some { IsBoxArea part }
         requires inside { IsInside part buf.old.area }
         requires place { place.line < 9223372036854775808 }
@@ -185,10 +204,11 @@ impl<'a> Pager<'a> {
             (PaintsRowIn self.now.mode self.now part k place buf.old buf.new) }
         ensures ready { IsReadyFrom (part.y + k) buf.old
             → OnOk result (IsReadyFrom (part.y + k + 1) buf.new) }
+        ensures same { finder.new ≡ finder.old }
     {
         match self.mode {
             Mode::Helping => paint_plain(help_text(k), part.y + k, part, buf),
-            _ => self.paint_text_row(place, part.y + k, part, buf),
+            _ => self.paint_text_row(place, part.y + k, finder, part, buf),
         }
     }
 
@@ -202,9 +222,10 @@ impl<'a> Pager<'a> {
         ensures ready { IsReadyFrom part.y buf.old
             → OnOk result (IsReadyFrom (part.y + rows) buf.new) }
     {
+        let mut finder = self.sought.finder(self.document.allocator())?;
         let mut place = self.place();
         for k in 0..rows {
-            self.paint_row(k, place, part, buf)?;
+            self.paint_row(k, place, &mut finder, part, buf)?;
             place = self.next_place(place);
         }
         Ok(())

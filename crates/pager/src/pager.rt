@@ -1,7 +1,7 @@
 //! The state of a pager.
 
-ghost use Rattle.std.specs.Prelude.{◌≡◌, false, None, IfOk, OnOk, OnErr};
-ghost use Rattle.pager.specs.Moves.{started, taken_in, answered, has_text, acted, updated};
+ghost use Rattle.std.specs.Prelude.{◌≡◌, true, false, Some, None, IfOk, OnOk, OnErr};
+ghost use Rattle.pager.specs.Moves.{started, has_typed, taken_by, taken_in, answered, has_text, acted, updated};
 ghost use Rattle.pager.specs.Inner.{at_told_size};
 ghost use Rattle.pager.specs.Paging.{paged_after};
 
@@ -9,6 +9,7 @@ use crate::answer::{Answer, answer_of, ending_of, is_press, mark_of};
 use crate::command::command_of;
 use crate::document::{Document, Numbers};
 use crate::own_text::OwnText;
+use crate::sought::Sought;
 use crate::styles::Styles;
 use crate::typing::empty_line;
 use ratatui_acts::{Acts, Message, Never};
@@ -57,6 +58,8 @@ pub enum Note {
     Bytes,
     /// That the last search found no line.
     Missing,
+    /// That what was typed can't be sought.
+    Refused,
 }
 
 /// How many marks there are: one for the apostrophe, and one for each letter.
@@ -96,7 +99,7 @@ pub struct Pager<'a> {
     /// What is typed of the next search.
     pub(crate) typed: TextField,
     /// What is sought, and the line in which it was found last, unless the place was left since.
-    pub(crate) pattern: OwnText,
+    pub(crate) sought: Sought,
     pub(crate) found: Option<u32>,
     /// The line that each mark keeps.
     pub(crate) marks: [Option<u32>; MARKS],
@@ -111,10 +114,10 @@ pub struct Pager<'a> {
 }
 
 impl<'a> Pager<'a> {
-    /// Makes a pager at the first line of a text, on a terminal of this size; `pattern` is what is
-    /// sought before anything was typed.
-    pub fn new(document: Document<'a>, name: OwnText, pattern: OwnText, size: Size) -> Pager<'a>
-        ensures { result ≡ started document.entry name pattern size }
+    /// Makes a pager at the first line of a text, on a terminal of this size; `sought` is what is
+    /// sought before anything was typed, as it stands.
+    pub fn new(document: Document<'a>, name: OwnText, sought: OwnText, size: Size) -> Pager<'a>
+        ensures { result ≡ started document.entry name sought size }
     {
         let alloc = document.allocator();
         Pager {
@@ -135,7 +138,7 @@ impl<'a> Pager<'a> {
             mode: Mode::Reading,
             is_back: false,
             typed: empty_line(alloc),
-            pattern,
+            sought: Sought::Plain(sought),
             found: None,
             marks: [None; MARKS],
             note: Note::Range,
@@ -182,14 +185,48 @@ impl<'a> Pager<'a> {
         }
     }
 
+    // Shows all lines, or begins the search of what was sought last, where nothing is typed.
+    fn take_nothing(&mut self) -> Result<(), AllocError>
+        requires { has_typed self.old ≡ false }
+        ensures ok { OnOk result
+            (self.new ≡ taken_by self.old.mode (Some self.old.sought) self.old) }
+        ensures err { OnErr result (self.new ≡ self.old) }
+    {
+        match self.mode {
+            Mode::Filtering => {
+                self.show_all();
+                Ok(())
+            }
+            _ => self.search_again(),
+        }
+    }
+
+    // Takes what was typed that seeks this, for a filter or for a search.
+    fn take_sought(&mut self, sought: Sought) -> Result<(), AllocError>
+        requires { has_typed self.old ≡ true }
+        ensures ok { OnOk result (self.new ≡ taken_by self.old.mode (Some sought) self.old) }
+        ensures err { OnErr result (self.new ≡ self.old) }
+    {
+        match self.mode {
+            Mode::Filtering => self.filter(&sought),
+            _ => self.search(sought),
+        }
+    }
+
     // Takes what was typed, for a filter or for a search.
     fn take_typed(&mut self) -> Result<(), AllocError>
         ensures ok { OnOk result (self.new ≡ taken_in self.old.mode self.old) }
         ensures err { OnErr result (self.new ≡ self.old) }
     {
-        match self.mode {
-            Mode::Filtering => self.filter(),
-            _ => self.search(),
+        if !self.has_typed() {
+            return self.take_nothing();
+        }
+        match Sought::read(self.document.allocator(), self.typed.text())? {
+            Some(sought) => self.take_sought(sought),
+            None => {
+                self.note = Note::Refused;
+                Ok(())
+            }
         }
     }
 
@@ -271,10 +308,7 @@ impl<'a> Pager<'a> {
         ensures err { OnErr result (self.new ≡ self.old) }
     {
         match self.mode {
-            Mode::Reading => {
-                self.obey(command_of(event));
-                Ok(())
-            }
+            Mode::Reading => self.obey(command_of(event)),
             Mode::Asking | Mode::Filtering => self.answer(answer_of(event)),
             Mode::Marking => {
                 self.take_mark(event);

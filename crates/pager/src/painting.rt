@@ -9,10 +9,9 @@ ghost use Rattle.pager.specs.Symbols.{shown_columns, line_symbol};
 ghost use Rattle.pager.specs.Pages.{PaintsText, PaintsLine};
 ghost use Rattle.pager.specs.Inner.{PaintsIfInView};
 
+use crate::finder::Finder;
 use crate::styles::Run;
-use crate::symbols::{
-    first_style, mark_style, marked_bytes, runs_after, shown_columns, shown_text,
-};
+use crate::symbols::{first_style, mark_style, runs_after, shown_columns, shown_text};
 use crate::view::View;
 use ratatui_core::buffer::Buffer;
 use ratatui_core::layout::Rect;
@@ -85,12 +84,12 @@ fn paint_grapheme(
     Ok(end)
 }
 
-// Paints what shows of a line in its runs of styles in a row from x on, with a text marked wherever
-// it stands.
+// Paints what shows of a line in its runs of styles in a row from x on, with what is sought marked.
+#[tactic(auto, using(crate::proofs::PatternLemmas::nothing_ahead))]
 pub(crate) fn paint_line(
     line: &str,
     runs: &[Run],
-    pattern: &str,
+    finder: &mut Finder<'_>,
     view: View,
     x: u16,
     y: u16,
@@ -106,9 +105,11 @@ pub(crate) fn paint_line(
     requires top { part.y ≤ y }
     requires bottom { y < part.y + part.height }
     ensures within { ChangesWithin part buf.old buf.new }
-    ensures ok { OnOk result (PaintsLine x y view pattern.now runs.now line.now buf.old buf.new) }
+    ensures ok { OnOk result (PaintsLine x y view finder.old runs.now line.now buf.old buf.new) }
     ensures ready { IsReadyAt x y buf.old → OnOk result (IsReadyFrom (y + 1) buf.new) }
+    ensures same { finder.new ≡ finder.old }
 {
+    let mut ahead = None;
     let mut graphemes = line.graphemes(true);
     let mut runs = runs;
     let mut column = 0;
@@ -120,7 +121,7 @@ pub(crate) fn paint_line(
         };
         let byte = line.len().saturating_sub(rest.len());
         runs = runs_after(byte, runs);
-        let here = marked_bytes(pattern, marked, rest);
+        let here = finder.marked(line, marked, rest, &mut ahead);
         let style = mark_style(here, first_style(runs));
         column = paint_grapheme(grapheme, style, column, view, x, y, part, buf)?;
         marked = here.saturating_sub(grapheme.len());

@@ -1,6 +1,7 @@
 //! Places in a text.
 
 ghost use Rattle.std.specs.Prelude.{◌≡◌, ◌<◌, ◌≤◌, ◌+◌, [], min, ◌^◌, ◌-◌};
+ghost use Rattle.pager.specs.declared.sought.Sought.TheVariants.{Plain};
 ghost use Rattle.pager.specs.Search.{numbered_line};
 ghost use Rattle.pager.specs.Symbols.{line_symbols};
 ghost use Rattle.pager.specs.Places.{page_place, breaking, number_columns, stride, last_start, rows_of_line};
@@ -20,7 +21,7 @@ pub struct Place {
 
 // The column in which the last symbol of a line begins, at most `u32::MAX`.
 fn last_start(line: &str) -> u32
-    ensures { result ≡ min (last_start 0 (line_symbols [] [] line.now)) (2 ^ 32 - 1) }
+    ensures { result ≡ min (last_start 0 (line_symbols (Plain []) [] line.now)) (2 ^ 32 - 1) }
 {
     let mut last = 0u32;
     let mut column = 0u64;

@@ -1,12 +1,13 @@
 //! Lines that have what is sought.
 
-ghost use Rattle.std.specs.Prelude.{◌≡◌, ◌<◌, false, length, OnOk, OnErr};
+ghost use Rattle.std.specs.Prelude.{◌≡◌, ◌<◌, false, length, IfOk, OnOk, OnErr};
+ghost use Rattle.pager.specs.declared.sought.Sought.TheVariants.{Plain};
 ghost use Rattle.pager.specs.Search.{has_capital, occurs, has_match, numbered_line, next_match, last_match};
-ghost use Rattle.pager.specs.Moves.{found_at, sought_from, sought_before, after_found, before_found};
-ghost use Rattle.pager.specs.Moves.{sought_on, with_pattern, sought_first};
+ghost use Rattle.pager.specs.Moves.{found_at, after_found, before_found, sought_on, first_match, sought_first};
 
-use crate::own_text::OwnText;
+use crate::finder::Finder;
 use crate::pager::{Note, Pager};
+use crate::sought::Sought;
 use crate::symbols::{begins_in_any_case, has_capital};
 use std::alloc::AllocError;
 
@@ -38,45 +39,48 @@ fn occurs(pattern: &str, line: &str) -> bool
     }
 }
 
-// Whether a line has what is sought.
-pub(crate) fn has_match(pattern: &str, line: &str) -> bool
-    ensures { result ≡ has_match pattern.now line.now }
+// Whether a line has a text in it, if that is some.
+pub(crate) fn has_text(text: &str, line: &str) -> bool
+    ensures { result ≡ has_match (Plain text.now) line.now }
 {
-    !pattern.is_empty() && occurs(pattern, line)
+    !text.is_empty() && occurs(text, line)
 }
 
 impl<'a> Pager<'a> {
-    // Whether a line has a text in it.
-    fn has_match(&self, pattern: &str, line: u32) -> bool
-        ensures { result ≡ has_match pattern.now (numbered_line self.now.document line) }
+    // Whether a line has what is sought.
+    fn has_match(&self, finder: &mut Finder<'_>, line: u32) -> bool
+        ensures found { result ≡ has_match finder.old (numbered_line self.now.document line) }
+        ensures same { finder.new ≡ finder.old }
     {
-        has_match(pattern, self.document.line_or_empty(u64::from(line)))
+        finder.has_match(self.document.line_or_empty(u64::from(line)))
     }
 
-    // The first line from one on that has a text in it.
-    pub(crate) fn next_match(&self, pattern: &str, from: u64) -> Option<u32>
-        ensures { result ≡ next_match pattern.now self.now.document from }
+    // The first line from one on that has what is sought.
+    pub(crate) fn next_match(&self, sought: &Sought, from: u64) -> Result<Option<u32>, AllocError>
+        ensures { IfOk result (λ found. found ≡ next_match sought.now self.now.document from) }
     {
+        let mut finder = sought.finder(self.document.allocator())?;
         for line in from..u64::from(self.document.len()) {
-            if self.has_match(pattern, line as u32) {
-                return Some(line as u32);
+            if self.has_match(&mut finder, line as u32) {
+                return Ok(Some(line as u32));
             }
         }
-        None
+        Ok(None)
     }
 
-    // The last line before one that has a text in it.
-    pub(crate) fn last_match(&self, pattern: &str, before: u32) -> Option<u32>
-        ensures { result ≡ last_match pattern.now self.now.document before }
+    // The last line before one that has what is sought.
+    pub(crate) fn last_match(&self, sought: &Sought, before: u32) -> Result<Option<u32>, AllocError>
+        ensures { IfOk result (λ found. found ≡ last_match sought.now self.now.document before) }
     {
+        let mut finder = sought.finder(self.document.allocator())?;
         let mut line = before;
         while line > 0 {
             line -= 1;
-            if self.has_match(pattern, line) {
-                return Some(line);
+            if self.has_match(&mut finder, line) {
+                return Ok(Some(line));
             }
         }
-        None
+        Ok(None)
     }
 
     // Goes to a line that was found, or keeps in mind that none was.
@@ -91,22 +95,6 @@ impl<'a> Pager<'a> {
             }
             None => self.note = Note::Missing,
         }
-    }
-
-    // Goes to the first line from one on that has what is sought.
-    fn seek_from(&mut self, from: u64)
-        ensures { self.new ≡ sought_from from self.old }
-    {
-        let found = self.next_match(self.pattern.as_str(), from);
-        self.go_to_found(found);
-    }
-
-    // Goes to the last line before one that has what is sought.
-    fn seek_before(&mut self, before: u32)
-        ensures { self.new ≡ sought_before before self.old }
-    {
-        let found = self.last_match(self.pattern.as_str(), before);
-        self.go_to_found(found);
     }
 
     // The line after the one that was found last, or after the first one of the page.
@@ -130,54 +118,49 @@ impl<'a> Pager<'a> {
     }
 
     // Goes on with the search in a direction.
-    pub(crate) fn seek_on(&mut self, is_back: bool)
-        ensures { self.new ≡ sought_on is_back self.old }
-    {
-        if is_back {
-            let before = self.before_found();
-            self.seek_before(before);
-        } else {
-            let after = self.after_found();
-            self.seek_from(after);
-        }
-    }
-
-    // What the search that is typed seeks.
-    pub(crate) fn next_pattern(&self) -> &str
-        ensures { result.now ≡ (with_pattern self.now).pattern }
-    {
-        if self.has_typed() {
-            self.typed.text()
-        } else {
-            self.pattern.as_str()
-        }
-    }
-
-    // Seeks what was typed from now on, if that is something.
-    fn take_pattern(&mut self) -> Result<(), AllocError>
-        ensures ok { OnOk result (self.new ≡ with_pattern self.old) }
+    pub(crate) fn seek_on(&mut self, is_back: bool) -> Result<(), AllocError>
+        ensures ok { OnOk result (self.new ≡ sought_on is_back self.old) }
         ensures err { OnErr result (self.new ≡ self.old) }
     {
-        if self.has_typed() {
-            let text = String::from_str(self.document.allocator(), self.typed.text())?;
-            self.pattern = OwnText::new(text);
-        }
+        let found = if is_back {
+            self.last_match(&self.sought, self.before_found())?
+        } else {
+            self.next_match(&self.sought, self.after_found())?
+        };
+        self.go_to_found(found);
         Ok(())
     }
 
-    // Begins the search of what was typed.
-    pub(crate) fn search(&mut self) -> Result<(), AllocError>
-        ensures ok { OnOk result (self.new ≡ sought_first (with_pattern self.old)) }
+    // The line where a search finds this that begins.
+    fn first_match(&self, sought: &Sought) -> Result<Option<u32>, AllocError>
+        ensures { IfOk result (λ found. found ≡ first_match sought.now self.now) }
+    {
+        if self.is_back {
+            self.last_match(sought, self.top)
+        } else {
+            self.next_match(sought, u64::from(self.top))
+        }
+    }
+
+    // Begins the search of what was sought last.
+    pub(crate) fn search_again(&mut self) -> Result<(), AllocError>
+        ensures ok { OnOk result (self.new ≡ sought_first self.old) }
         ensures err { OnErr result (self.new ≡ self.old) }
     {
-        self.take_pattern()?;
-        if self.is_back {
-            let before = self.top;
-            self.seek_before(before);
-        } else {
-            let from = u64::from(self.top);
-            self.seek_from(from);
-        }
+        let found = self.first_match(&self.sought)?;
+        self.go_to_found(found);
+        Ok(())
+    }
+
+    // Begins the search of this.
+    pub(crate) fn search(&mut self, sought: Sought) -> Result<(), AllocError>
+        ensures ok { OnOk result
+            (self.new ≡ sought_first (record self.old { sought = sought })) }
+        ensures err { OnErr result (self.new ≡ self.old) }
+    {
+        let found = self.first_match(&sought)?;
+        self.sought = sought;
+        self.go_to_found(found);
         Ok(())
     }
 }

@@ -114,12 +114,13 @@ impl<'a> Pager<'a> {
         text
     }
 
-    // What the text is called, or that something isn't found.
+    // What the text is called, or that something isn't found or can't be sought.
     fn note_name(&self) -> &str
         ensures { result.now ≡ note_name self.now.note self.now }
     {
         match self.note {
             Note::Missing => "not found: ",
+            Note::Refused => "not a pattern: ",
             _ => self.name.as_str(),
         }
     }
@@ -140,7 +141,7 @@ impl<'a> Pager<'a> {
         }
     }
 
-    // Paints the place, or what isn't found.
+    // Paints the place, or what isn't found or can't be sought.
     fn paint_note(
         &self,
         room: u16,
@@ -164,7 +165,8 @@ impl<'a> Pager<'a> {
         match self.note {
             Note::Range => paint_text(self.place_text().as_str(), room, style, x, y, part, buf),
             Note::Bytes => paint_text(self.details_text().as_str(), room, style, x, y, part, buf),
-            Note::Missing => paint_text(self.pattern.as_str(), room, style, x, y, part, buf),
+            Note::Missing => paint_text(self.sought.text(), room, style, x, y, part, buf),
+            Note::Refused => paint_text(self.typed.text(), room, style, x, y, part, buf),
         }
     }
 

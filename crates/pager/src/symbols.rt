@@ -1,8 +1,9 @@
 //! The symbols of a line: what is shown for each of its graphemes, and in how many columns.
 
-ghost use Rattle.std.specs.Prelude.{◌≡◌, length, take};
+ghost use Rattle.std.specs.Prelude.{◌≡◌, ℕ, List, length, take};
 ghost use Rattle.std.specs.Str.{str_eq_ignore_ascii_case};
 ghost use Rattle.ratatui_core.specs.Text.{has_control};
+ghost use Rattle.pager.specs.declared.sought.Sought.TheVariants.{Plain};
 ghost use Rattle.pager.specs.Search.{has_capital, begins_with};
 ghost use Rattle.pager.specs.Symbols.{is_tab, is_replaced, shown_symbol, shown_columns, reversed};
 ghost use Rattle.pager.specs.Symbols.{marked_bytes, mark_style, runs_after, first_style};
@@ -96,12 +97,13 @@ fn begins_with(pattern: &str, text: &str) -> bool
     }
 }
 
-// How many bytes are marked, where so many were marked of an earlier match.
-pub(crate) fn marked_bytes(pattern: &str, marked: usize, rest: &str) -> usize
-    ensures { result ≡ marked_bytes pattern.now marked rest.now }
+// How many bytes of the rest of a line are marked for a text, where so many were marked of an earlier
+// match.
+pub(crate) fn marked_text(text: &str, marked: usize, rest: &str) -> usize
+    ensures { (line : List ℕ) → result ≡ marked_bytes (Plain text.now) line marked rest.now }
 {
-    let is_match = !pattern.is_empty() && begins_with(pattern, rest);
-    if is_match { pattern.len() } else { marked }
+    let is_match = !text.is_empty() && begins_with(text, rest);
+    if is_match { text.len() } else { marked }
 }
 
 // The style of a grapheme of which so many bytes are marked.

@@ -4,18 +4,25 @@ use Rattle.pager.proofs.{SearchLemmas.matching-none, SearchLemmas.length-matchin
 use Rattle.pager.proofs.document.Document.matching.Goals as goal
 
 pub loop-number-init : goal.loop-number-init
-loop-number-init c = rw (matching-none c.args.pattern.now c.args.self.now) (search rules)
+loop-number-init c = record {
+  finds = c.in_ok-finder.ensures;
+  matched = rw (matching-none c.args.sought.now c.args.self.now) (search rules);
+}
 
 pub loop-number-preserved : goal.loop-number-preserved
 loop-number-preserved c =
-    let pattern = c.args.pattern.now in let lines = c.args.self.now in let k = c.loop-number.number in
+    let sought = c.args.sought.now in let lines = c.args.self.now in let k = c.loop-number.number in
     let line = c.line_or_empty.ensures ∙ ap (numbered_line lines) c.from.ensures in
-    let is = c.has_match-is_match.ensures ∙ ap (has_match pattern) line in
-    c.in_ok-push_if.ensures
-    ∙ ap (λ b. if b then c.loop-number.numbers.items ++ k ∷ [] else c.loop-number.numbers.items) is
-    ∙ ap (λ ks. if has_match pattern (numbered_line lines k) then ks ++ k ∷ [] else ks) c.loop-number.invariant
-    ∙ sym (matching-next pattern lines k)
+    let is = c.has_match-is_match.ensures.found ∙ ap (λ s. has_match s c.line_or_empty.result.now) c.loop-number.invariant.finds
+    ∙ ap (has_match sought) line in
+    record {
+      finds = c.has_match-is_match.ensures.same ∙ c.loop-number.invariant.finds;
+      matched = c.in_ok-push_if.ensures
+          ∙ ap (λ b. if b then c.loop-number.numbers.items ++ k ∷ [] else c.loop-number.numbers.items) is
+          ∙ ap (λ ks. if has_match sought (numbered_line lines k) then ks ++ k ∷ [] else ks) c.loop-number.invariant.matched
+          ∙ sym (matching-next sought lines k);
+    }
 
 pub returns-clause-count : goal.returns-clause-count
 returns-clause-count c =
-    omega (arith, ap length c.loop-number.invariant, length-matching c.args.pattern.now c.args.self.now c.loop-number.number)
+    omega (arith, ap length c.loop-number.invariant.matched, length-matching c.args.sought.now c.args.self.now c.loop-number.number)

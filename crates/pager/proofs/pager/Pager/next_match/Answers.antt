@@ -1,17 +1,27 @@
-use Rattle.std.proofs.Common.{sym, ◌∙◌, arith}
+use Rattle.std.proofs.Common.{◌≡◌, true, false, sym, ap, ◌∙◌, arith}
+use Rattle.pager.specs.Search.{has_match, numbered_line}
 use Rattle.pager.proofs.SearchLemmas.{next-here, next-later, next-none}
 use Rattle.pager.proofs.pager.Pager.next_match.Goals as goal
 
 pub returns-then-has_match : goal.returns-then-has_match
 returns-then-has_match c =
-    sym (c.loop-line.invariant ∙ next-here c.args.pattern.now c.args.self.now.document c.loop-line.line
-    (omega (arith, c.from-line-end.ensures, c.len.ensures)) (sym c.has_match.ensures ∙ c.if-has_match.true))
+    let lines = c.args.self.now.document in let k = c.loop-line.line in
+    let is = ap (λ s. has_match s (numbered_line lines k)) (sym c.loop-line.invariant.finds)
+    ∙ sym c.has_match.ensures.found ∙ c.if-has_match.true in
+    sym (c.loop-line.invariant.searched ∙ next-here c.args.sought.now lines k
+    (omega (arith, c.from-line-end.ensures, c.len.ensures)) is)
 
 pub loop-line-preserved : goal.loop-line-preserved
 loop-line-preserved c =
-    c.loop-line.invariant ∙ next-later c.args.pattern.now c.args.self.now.document c.loop-line.line
-    (omega (arith, c.from-line-end.ensures, c.len.ensures)) (sym c.has_match.ensures ∙ c.if-has_match.false)
+    let lines = c.args.self.now.document in let k = c.loop-line.line in
+    let not = ap (λ s. has_match s (numbered_line lines k)) (sym c.loop-line.invariant.finds)
+    ∙ sym c.has_match.ensures.found ∙ c.if-has_match.false in
+    record {
+      finds = c.has_match.ensures.same ∙ c.loop-line.invariant.finds;
+      searched = c.loop-line.invariant.searched ∙ next-later c.args.sought.now lines k
+          (omega (arith, c.from-line-end.ensures, c.len.ensures)) not;
+    }
 
 pub returns : goal.returns
-returns c = sym (c.loop-line.invariant ∙ next-none c.args.pattern.now c.args.self.now.document c.loop-line.line
+returns c = sym (c.loop-line.invariant.searched ∙ next-none c.args.sought.now c.args.self.now.document c.loop-line.line
     (omega (arith, c.from-line-end.ensures, c.len.ensures)))

@@ -9,6 +9,7 @@ use Rattle.pager.proofs.pager.Pager.paint_rows.Goals as goal
 
 pub loop-k-init : goal.loop-k-init
 loop-k-init c = record {
+  finds = c.in_ok-finder.ensures;
   line = omega (arith, c.place-place.ensures.line);
   place = c.place-place.ensures.place ∙ sym (after-none (breaking c.args.self.now) (page_place c.args.self.now));
   within = within-same c.args.part c.args.buf.now;
@@ -20,6 +21,7 @@ pub loop-k-preserved : goal.loop-k-preserved
 loop-k-preserved c =
     let i = c.loop-k.invariant in
     record {
+      finds = c.paint_row.ensures.same ∙ i.finds;
       line = omega (arith, c.next_place-place.ensures.line, i.line);
       place = after-next (breaking c.args.self.now) c.loop-k.k (page_place c.args.self.now) c.loop-k.place
           c.next_place-place.result i.place c.next_place-place.ensures.place;
@@ -30,3 +32,7 @@ loop-k-preserved c =
       ready = λ from. subst (λ y. IsReadyFrom y c.paint_row.new.buf) (omega arith)
           (c.in_ok-paint_row.ensures.ready (i.ready from));
     }
+
+pub returns-in_err-paint_row-clause-within : goal.returns-in_err-paint_row-clause-within
+returns-in_err-paint_row-clause-within c = within-then c.args.part c.args.buf.now c.loop-k.buf c.paint_row.new.buf
+    c.loop-k.invariant.within c.paint_row.ensures.within

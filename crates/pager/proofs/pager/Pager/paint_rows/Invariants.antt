@@ -6,6 +6,7 @@ use Rattle.pager.proofs.pager.Pager.paint_rows.Given as goal
 
 abbrev pub invariant-loop-k : goal.invariant-loop-k
 invariant-loop-k l = record {
+  finds : l.finder ≡ l.fn.self.sought;
   line : l.place.line ≤ 2 ^ 32 - 1 + l.k;
   place : l.place ≡ places_after (breaking l.fn.self) l.k (page_place l.fn.self);
   within : ChangesWithin l.fn.part l.fn.buf l.buf;
