@@ -162,8 +162,13 @@ fn start(rt: &HostRuntime) -> anyhow::Result<ExitCode> {
         folder: String::from_str(alloc, ".")?,
         trash: None,
     };
-    while let Some(word) = words.next() {
+    let mut is_trash = false;
+    for word in words {
         match word.as_str() {
+            _ if is_trash => {
+                wanted.trash = Some(word);
+                is_trash = false;
+            }
             "--help" => {
                 print!(rt; "{HELP}")?;
                 return Ok(ExitCode::SUCCESS);
@@ -172,15 +177,13 @@ fn start(rt: &HostRuntime) -> anyhow::Result<ExitCode> {
                 println!(rt; "files {VERSION}")?;
                 return Ok(ExitCode::SUCCESS);
             }
-            "--trash" => {
-                wanted.trash = words.next();
-                if wanted.trash.is_none() {
-                    eprintln!(rt; "files: --trash wants a folder")?;
-                    return Ok(ExitCode::FAILURE);
-                }
-            }
+            "--trash" => is_trash = true,
             _ => wanted.folder = word,
         }
+    }
+    if is_trash {
+        eprintln!(rt; "files: --trash wants a folder")?;
+        return Ok(ExitCode::FAILURE);
     }
     try_show(rt, &wanted)
 }
