@@ -28,21 +28,9 @@ named-step : (b : Browser) (d : Discard) (command : Command) → AsksToDiscard b
 named-step b d command asks step =
     subst (λ mode. IsNamedIn mode b command) (sym asks.mode) (d, asks.is, step)
 
-pub named-folder : (b : Browser) (d : Discard) (path : List ℕ) → AsksToDiscard b d → IsTrashFolder d path
-    → IsNamedIn b.mode b (MakeFolder path)
-named-folder b d path asks of = named-step b d (MakeFolder path) asks of
-
 pub named-write : (b : Browser) (d : Discard) (plan : Plan) → AsksToDiscard b d → IsPlanOf d plan → IsNamedIn b.mode b plan.write
 named-write b d plan asks is = subst (λ (p : Plan). IsNamedIn b.mode b p.write) (sym is.2)
     (named-step b d (discard_plan d is.0 is.1).write asks (is.0, is.1, inl refl))
-
-pub named-put : (b : Browser) (d : Discard) (plan : Plan) → AsksToDiscard b d → IsPlanOf d plan → IsNamedIn b.mode b plan.put
-named-put b d plan asks is = subst (λ (p : Plan). IsNamedIn b.mode b p.put) (sym is.2)
-    (named-step b d (discard_plan d is.0 is.1).put asks (is.0, is.1, inr (inl refl)))
-
-pub named-undo : (b : Browser) (d : Discard) (plan : Plan) → AsksToDiscard b d → IsPlanOf d plan → IsNamedIn b.mode b plan.undo
-named-undo b d plan asks is = subst (λ (p : Plan). IsNamedIn b.mode b p.undo) (sym is.2)
-    (named-step b d (discard_plan d is.0 is.1).undo asks (is.0, is.1, inr (inr refl)))
 
 -- ---- what comes before
 

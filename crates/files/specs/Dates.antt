@@ -20,7 +20,7 @@ day_text month day = codes "-" ++ two_digits month ++ codes "-" ++ two_digits da
 abbrev pub date_text : Date → List ℕ
 date_text d = four_digits (unsigned_abs d.year) ++ day_text d.month d.day
 
--- a time of day, as `23:59:05`, and behind the letter that leads to it
+-- a time of day, as `23:59:05`, and after the letter that leads to it
 abbrev pub clock_text : Time → List ℕ
 clock_text t = two_digits t.hour ++ codes ":" ++ two_digits t.minute ++ codes ":" ++ two_digits t.second
 

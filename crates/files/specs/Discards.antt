@@ -30,7 +30,8 @@ module _ {P : Type 0} (does : P → Command → Answer → P → Type 0) where
   -- commands were done in turn, whatever they were answered
   abbrev pub Did : List Command → P → P → Type 0
   Did [] files files' = files' ≡ files
-  Did (command ∷ commands) files files' = (a : Answer) × (next : P) × does files command a next × Did commands next files'
+  Did (command ∷ commands) files files' =
+      (a : Answer) × (next : P) × does files command a next × Did commands next files'
 
   -- nothing was done but what comes before
   pub record Prepares (d : Discard) (files files' : P) : Type 0 where
@@ -40,8 +41,10 @@ module _ {P : Type 0} (does : P → Command → Answer → P → Type 0) where
 
   -- a folder was listed, or that failed
   abbrev pub GivesEntries : List ℕ → P → Result (List Info) Failure → P → Type 0
-  GivesEntries folder files (Ok entries) files' = (unnamed : ℕ) × does files (ListFolder folder) (answer.Listed entries unnamed) files'
-  GivesEntries folder files (Err why) files' = (files' ≡ files) ⊎ ((a : Answer) × does files (ListFolder folder) a files')
+  GivesEntries folder files (Ok entries) files' =
+      (unnamed : ℕ) × does files (ListFolder folder) (answer.Listed entries unnamed) files'
+  GivesEntries folder files (Err why) files' =
+      (files' ≡ files) ⊎ ((a : Answer) × does files (ListFolder folder) a files')
 
   -- the time was told, or that failed
   abbrev pub GivesTime : P → Result Duration Failure → P → Type 0
@@ -69,13 +72,16 @@ module _ {P : Type 0} (does : P → Command → Answer → P → Type 0) where
   EndsMoved answer.Done plan files o files' = (files' ≡ files) × (o ≡ outcome.Done)
   EndsMoved a plan files o files' = (b : Answer) × does files plan.undo b files' × (o ≡ told_of a)
 
-  -- it was written where the entry was, and the entry is moved; or that wasn't written, and nothing more is done
+  -- it was written where the entry was, and the entry is moved; or that wasn't written, and nothing more is
+  -- done
   abbrev pub EndsWritten : Answer → Plan → P → Outcome → P → Type 0
-  EndsWritten answer.Done plan files o files' = (a : Answer) × (moved : P) × does files plan.put a moved × EndsMoved a plan moved o files'
+  EndsWritten answer.Done plan files o files' =
+      (a : Answer) × (moved : P) × does files plan.put a moved × EndsMoved a plan moved o files'
   EndsWritten a plan files o files' = (files' ≡ files) × (o ≡ told_of a)
 
   abbrev pub Ends : Plan → P → Outcome → P → Type 0
-  Ends plan files o files' = (a : Answer) × (written : P) × does files plan.write a written × EndsWritten a plan written o files'
+  Ends plan files o files' =
+      (a : Answer) × (written : P) × does files plan.write a written × EndsWritten a plan written o files'
 
   -- something was put into the trash, or that ended with a reason that is told, and the entry is where it was
   pub record PutsAway (d : Discard) (files : P) (o : Outcome) (files' : P) : Type 0 where

@@ -34,7 +34,8 @@ pub record AsksToRemove (b : Browser) (path : List ℕ) : Type 0 where
 pub record AsksToTrash (b : Browser) (d : Discard) : Type 0 where
   pub row : Row
   pub from_is : d.from ≡ path_in b.folder (string_bytes row.name)
-  pub asks : status_told b ≡ codes "move \"" ++ shown_row row ++ codes "\" to \"" ++ (codes "/" ++ shown_name d.trash) ++ codes "\"? y/n"
+  pub asks : status_told b
+      ≡ codes "move \"" ++ shown_row row ++ codes "\" to \"" ++ (codes "/" ++ shown_name d.trash) ++ codes "\"? y/n"
 
 -- the status asks for another name of the entry of a path: that of another path
 pub record AsksToRename (b : Browser) (from to : List ℕ) : Type 0 where

@@ -172,7 +172,7 @@ typed_into Accept b = confirmed b
 typed_into Cancel b = record b { mode = Looking }
 typed_into Ignore b = b
 
--- an answer to the question whether an entry is to be removed
+-- an answer to the question whether an entry is to be removed, or put into the trash
 abbrev pub removal_answered : Event → Browser → Browser
 removal_answered event b = if says_yes event then confirmed b else record b { mode = Looking }
 

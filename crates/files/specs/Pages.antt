@@ -72,7 +72,8 @@ cursor_in_mode _ b r = None
 abbrev pub browser_cursor : Browser → Rect → Option Position
 browser_cursor b r = cursor_in_mode b.mode b r
 
--- each terminal that has read what was sent shows the browser, and has columns for all that its last row tells
+-- each terminal that has read what was sent shows the browser, and has columns for all that its last row
+-- tells
 pub record ShowsWhole {W : Type 0} (b : Browser) (t : TerminalData (BackendState W)) : Type 0 where
   pub shown : StandsOnGlass (PaintsBrowser b) (browser_cursor b) t
   pub whole : text_columns (status_told b) ≤ t.viewport_area.width

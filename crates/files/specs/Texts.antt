@@ -123,12 +123,14 @@ abbrev pub trash_shown : Option (List ℕ) → List ℕ
 trash_shown (Some trash) = codes "/" ++ shown_name trash
 trash_shown None = []
 
--- a question with a name that is typed, and the questions whether an entry is to be put into the trash, or removed
+-- a question with a name that is typed, and the questions whether an entry is to be put into the trash, or
+-- removed
 abbrev pub name_question : Mode → Browser → List ℕ
 name_question mode b = prompt mode b ++ shown_name (field_text b.typed) ++ codes "\""
 
 abbrev pub trash_question : Browser → List ℕ
-trash_question b = codes "move \"" ++ selected_shown b ++ codes "\" to \"" ++ trash_shown b.trash ++ codes "\"? y/n"
+trash_question b =
+    codes "move \"" ++ selected_shown b ++ codes "\" to \"" ++ trash_shown b.trash ++ codes "\"? y/n"
 
 abbrev pub removal_question : Browser → List ℕ
 removal_question b = codes "remove \"" ++ selected_shown b ++ codes "\" for good? y/n"

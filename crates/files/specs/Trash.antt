@@ -20,7 +20,8 @@ use Rattle.files.specs.Dates.{date_time_text}
 
 -- ---- what is put there
 
--- an entry of the folder that is shown; the trash has a folder of what was put there, and one of what is written of it
+-- an entry of the folder that is shown; the trash has a folder of what was put there, and one of what is written
+-- of it
 abbrev pub discard_of : Browser → List ℕ → List ℕ → Discard
 discard_of b name trash = record {
   from = path_in b.folder name;
@@ -39,7 +40,7 @@ discard_in b = option_and_then (discard_to b) b.trash
 
 -- ---- names in the trash
 
--- its own name, or one with a number behind it
+-- its own name, or one with a number after it
 abbrev pub numbered : ℕ → List ℕ → List ℕ
 numbered n name = if n == 1 then name else name ++ codes "." ++ decimal n
 
@@ -52,7 +53,8 @@ has_name name entries = list_any (λ e. bytes_eq e.name name) entries
 
 -- neither folder has the name
 abbrev pub is_free : List ℕ → Seen → ℕ → Bool
-is_free name seen n = not (has_name (numbered n name) seen.files) && not (has_name (info_name n name) seen.info)
+is_free name seen n =
+    not (has_name (numbered n name) seen.files) && not (has_name (info_name n name) seen.info)
 
 -- the least number with which a name is free
 pub record IsLeastFree (name : List ℕ) (seen : Seen) (n : ℕ) : Type 0 where
@@ -88,12 +90,15 @@ discard_plan d n date =
 abbrev pub IsTrashFolder : Discard → List ℕ → Type 0
 IsTrashFolder d path = (path ≡ d.trash) ⊎ (path ≡ d.files) ⊎ (path ≡ d.info)
 
--- a step by which an entry comes into the trash: a folder of the trash is made, or one of a plan, whatever the number
--- and the date
+-- a step of a plan
+abbrev pub IsPlanStep : Plan → Command → Type 0
+IsPlanStep plan command = (command ≡ plan.write) ⊎ (command ≡ plan.put) ⊎ (command ≡ plan.undo)
+
+-- a step by which an entry comes into the trash: a folder of the trash is made; or it is one of a plan, whatever the
+-- number and the date
 abbrev pub IsStep : Discard → Command → Type 0
 IsStep d (MakeFolder path) = IsTrashFolder d path
-IsStep d command = (n : ℕ) × (date : DateTime)
-    × ((command ≡ (discard_plan d n date).write) ⊎ (command ≡ (discard_plan d n date).put) ⊎ (command ≡ (discard_plan d n date).undo))
+IsStep d command = (n : ℕ) × (date : DateTime) × IsPlanStep (discard_plan d n date) command
 
 -- a plan for something, whatever the number and the date
 abbrev pub IsPlanOf : Discard → Plan → Type 0

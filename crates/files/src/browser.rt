@@ -151,7 +151,7 @@ impl Browser {
         }
     }
 
-    // Takes an answer to the question whether an entry is to be removed.
+    // Takes an answer to the question whether an entry is to be removed, or put into the trash.
     fn take_answer(&mut self, event: Event) -> Result<(), AllocError>
         ensures ok { OnOk result (self.new ≡ removal_answered event self.old) }
         ensures err { OnErr result (self.new ≡ self.old) }

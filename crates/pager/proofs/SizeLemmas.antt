@@ -218,7 +218,7 @@ module _ {W H : Type 0} (coming : H → Coming) where
           → TakesOrKeepsSize sender told s u → TakesOrKeepsSize sender told s t
       kept-on None s u t same keeps = same ∙ keeps
       kept-on (Some z) s u t same (inl takes) = inl (same ∙ takes)
-      kept-on (Some z) s u t same (inr keeps) = inr (same ∙ keeps)
+      kept-on (Some z) s u t same (inr keeps) = inr (keeps.0, same ∙ keeps.1)
   fills-turn before (Done command answer) after rests is fits has =
       absurd (some-none paging command before.standing.state asks-nothing is.wanted)
 

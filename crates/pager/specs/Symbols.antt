@@ -47,9 +47,9 @@ abbrev pub line_symbol : Style → ℕ → List ℕ → LineSymbol
 line_symbol style column g =
     record { text = shown_symbol g; style = style; column = column; columns = shown_columns column g }
 
--- how many bytes are marked of what is left of a line: all of the text that is sought where that stands at the
--- front, and else what is left of an earlier mark; or what is left of an earlier mark, and after it the match that
--- begins there
+-- how many bytes are marked of what is left of a line. Of a text: all of it where it stands at the front, and
+-- else what is left of an earlier mark. Of an expression: what is left of an earlier mark, and after it the match
+-- that begins there
 abbrev pub marked_bytes : Sought → List ℕ → ℕ → List ℕ → ℕ
 marked_bytes (Plain text) line marked rest =
     if nat_lt 0 (length text) && begins_with text rest then length text else marked
@@ -70,8 +70,8 @@ abbrev pub first_style : List Run → Style
 first_style [] = new_style
 first_style (r ∷ rs) = r.style
 
--- where a line is read: the column, how many bytes are marked of an earlier match, and the runs of styles that
--- are left
+-- where a line is read: the column, how many bytes are marked of an earlier match, and the runs of styles
+-- that are left
 pub record Reach : Type 0 where
   pub line : List ℕ
   pub column : ℕ

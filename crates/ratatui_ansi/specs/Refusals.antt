@@ -3,7 +3,7 @@ use Rattle.std.specs.Prelude.{◌≡◌, ℕ, ◌-◌, ◌<◌, ◌⊎◌, Bool,
 use Rattle.std.specs.Prelude.{Result, MatchResult}
 use Rattle.std.specs.{Borrow.Bor, Iterator.YieldsThen, Iterator.YieldsFirstBy}
 use Rattle.ratatui_core.specs.{Buffer.Update, Buffer.Cell, Buffer.update_by, Backend.Screen}
-use Rattle.ratatui_core.specs.{Backend.Draws, Backend.cursor_of}
+use Rattle.ratatui_core.specs.{Backend.Draws, Backend.cursor_of, Backend.HasNoCells}
 use Rattle.ratatui_core.specs.Layout as layout
 use Rattle.ratatui_ansi.specs.{declared.error.AnsiError.AnsiError}
 use Rattle.ratatui_ansi.specs.{declared.draw.CellError.CellError}
@@ -112,7 +112,7 @@ FailsToRestart old new _ = ⊥
 -- a backend that doesn't take another size: the size has no columns or no rows, or memory was refused, which
 -- changes nothing, or a write failed
 abbrev pub FailsToResize : {W : Type 0} → layout.Size → BackendState W → BackendState W → AnsiError → Type 0
-FailsToResize size old new Size = ((size.width ≡ 0) ⊎ (size.height ≡ 0)) × IsUnsent old new
+FailsToResize size old new Size = HasNoCells size × IsUnsent old new
 FailsToResize size old new Memory = IsUnsent old new
 FailsToResize size old new (Write error) = (new.is_broken ≡ true) × (new.size ≡ old.size)
 FailsToResize size old new _ = ⊥

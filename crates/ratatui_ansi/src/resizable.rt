@@ -9,7 +9,7 @@ impl<W: Write + Drop> Resizable for AnsiBackend<W> {
         let failures = self.sender.failures;
         match self.resize(size) {
             Ok(()) => Ok(true),
-            Err(AnsiError::Size | AnsiError::Memory) => {
+            Err(AnsiError::Size) => {
                 // a size that isn't taken is no failure
                 self.sender.failures = failures;
                 Ok(false)

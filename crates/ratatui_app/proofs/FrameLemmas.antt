@@ -1,7 +1,7 @@
 -- A frame after a turn.
 use Rattle.std.proofs.Common.{rules, ◌≡◌, ◌⊎◌, ◌||◌, inl, inr, ℕ, Bool, true, false, Option, Some, None, Result, Ok, Err}
 use Rattle.std.proofs.Common.{OnOk, IfErr, refl, ap, ap₂, sym, subst, ◌∙◌}
-use Rattle.ratatui_core.specs.Backend.{Screen, size_of, screen_area}
+use Rattle.ratatui_core.specs.Backend.{Screen, HasNoCells, size_of, screen_area}
 use Rattle.ratatui_core.specs.{Layout.Size, Layout.Rect, Layout.Position, Buffer.BufferData}
 use Rattle.ratatui_core.specs.Terminal.{TerminalData, TerminalError, Viewport, IsAtRest, IsFixed, IsSized}
 use Rattle.ratatui_core.specs.Terminal.{Stays, DrawsFrame, Resizes, Autoresizes}
@@ -128,13 +128,46 @@ module _ {B X : Type 0} (device : Device B X) where
       subst (λ (x : TerminalData B). ReadiesTold device told true s x) (sym only)
       (taken-at told s t.backend w h is other size same rests)
 
+  -- what is told beside a size that the screen has, or that has no cells
+  pub keeps-told : (told : Told) (new : Bool) (s t : TerminalData B) (w h : ℕ) → told.size ≡ Some (w, h)
+      → (size_of (device.screen s.backend) ≡ record { width = w; height = h })
+      ⊎ HasNoCells (record { width = w; height = h })
+      → ReadiesTold device (record told { size = None }) new s t → ReadiesTold device told new s t
+  keeps-told told new s t w h is why readies = record {
+    may = readies.may;
+    readied = readies.readied;
+    has = rw is (by-why why);
+    kept = readies.kept;
+    new = readies.new;
+    anew = readies.anew;
+    kind = readies.kind;
+    faults = readies.faults;
+  }
+    where
+      by-why : (size_of (device.screen s.backend) ≡ record { width = w; height = h })
+          ⊎ HasNoCells (record { width = w; height = h })
+          → TakesOrKeepsSize device (Some (w, h)) s t
+      by-why (inl has) = inl (readies.has ∙ has)
+      by-why (inr none) = inr (none, readies.has)
+
+  -- the size that a screen at rest has
+  pub rests-size : (s : TerminalData B) (w h : ℕ) → RestsUnfixed device.screen s → s.last_known_area.width ≡ w
+      → s.last_known_area.height ≡ h → size_of (device.screen s.backend) ≡ record { width = w; height = h }
+  rests-size s w h rests width height = by-known rests.rest.sized
+    where
+      by-known : IsFixed s.viewport ⊎ (screen_area (device.screen s.backend) ≡ s.last_known_area)
+          → size_of (device.screen s.backend) ≡ record { width = w; height = h }
+      by-known (inl fixed) = absurd (rests.free fixed)
+      by-known (inr known) = ap₂ (λ (x y : ℕ). record { width = x; height = y })
+          (ap (λ (r : Rect). r.width) known ∙ width) (ap (λ (r : Rect). r.height) known ∙ height)
+
   -- the size that a screen keeps
   kept-size : (size : Option (ℕ × ℕ)) (s t t' : TerminalData B)
       → size_of (device.screen t'.backend) ≡ size_of (device.screen t.backend)
       → TakesOrKeepsSize device size s t → TakesOrKeepsSize device size s t'
   kept-size None s t t' e h = e ∙ h
   kept-size (Some z) s t t' e (inl has) = inl (e ∙ has)
-  kept-size (Some z) s t t' e (inr kept) = inr (e ∙ kept)
+  kept-size (Some z) s t t' e (inr kept) = inr (kept.0, e ∙ kept.1)
 
   not-anew : (anew new : Bool) → (anew ≡ true → new ≡ true) → new ≡ false → anew ≡ false
   not-anew false new f e = refl
@@ -205,3 +238,5 @@ module _ {B X : Type 0} (device : Device B X) where
       → OnOk r (size_of (device.screen t.backend) ≡ size_of (device.screen s.backend))
   sizes-ok s sized t (Ok x) sizes same = same ∙ sized-size s sized sizes
   sizes-ok s sized t (Err e) sizes same = tt
+
+pub ruleset told_sizes = (keeps-told, rests-size)

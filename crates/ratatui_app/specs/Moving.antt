@@ -23,8 +23,8 @@ module _ {B X : Type 0} (device : Device B X) where
     pub autoresized : Autoresizes device.screen s sized
     pub draws : DrawsFrame device.screen sized t
 
-  -- a terminal was readied for what it was told: a screen of another size took it, unless the backend refused
-  -- it; if all is to be drawn anew, what the draw finds is an empty buffer; and it stayed if there is nothing new
+  -- a terminal was readied for what it was told: the screen has the size that was told, if that has cells; if all
+  -- is to be drawn anew, what the draw finds is an empty buffer; and it stayed if there is nothing new
   pub record ReadiesTold (told : Told) (is_new : Bool) (s t : TerminalData B) : Type 0 where
     pub may : MayDraw device t
     pub readied : Readies s t
@@ -43,7 +43,7 @@ module _ {B X : Type 0} (device : Device B X) where
     pub drawn : DrawsSized ready t
 
   -- the terminal stayed, if it isn't to be drawn anew, or a frame was drawn; the screen has the size that was
-  -- told, or kept its own; the viewport is of the same kind, and no call failed
+  -- told, if that has cells; the viewport is of the same kind, and no call failed
   pub record MovesAsTold (told : Told) (s t : TerminalData B) : Type 0 where
     pub drawn : ((t ≡ s) × (told.anew ≡ false)) ⊎ SendsFrame told s t
     pub has : TakesOrKeepsSize device told.size s t

@@ -2,7 +2,7 @@
 use Rattle.std.specs.Prelude.{◌≡◌, ◌⊎◌, ℕ, true, Option, Some, None}
 use Rattle.rtui_backend.specs.declared.backend.Backend.{Ghosts}
 use Rattle.ratatui_core.specs.{Layout.Rect, Layout.Position, Buffer.BufferData}
-use Rattle.ratatui_core.specs.Backend.{Screen, size_of}
+use Rattle.ratatui_core.specs.Backend.{Screen, HasNoCells, size_of}
 use Rattle.ratatui_core.specs.Terminal.{TerminalData, IsAtRest, IsFixed, IsSized, ShowsRendered, HasCursor}
 
 -- a backend and its errors: its screen, how many of its calls failed, and whether all was sent
@@ -30,11 +30,12 @@ module _ {B X : Type 0} (device : Device B X) where
   abbrev pub KeepsSize : TerminalData B → TerminalData B → Type 0
   KeepsSize s t = size_of (device.screen t.backend) ≡ size_of (device.screen s.backend)
 
-  -- the screen has the size that was told, or kept its own: if none was told, or the backend refused it
+  -- the screen has the size that was told, or kept its own: if none was told, or one without cells
   abbrev pub TakesOrKeepsSize : Option (ℕ × ℕ) → TerminalData B → TerminalData B → Type 0
   TakesOrKeepsSize None s t = KeepsSize s t
   TakesOrKeepsSize (Some size) s t =
-      (size_of (device.screen t.backend) ≡ record { width = size.0; height = size.1 }) ⊎ KeepsSize s t
+      (size_of (device.screen t.backend) ≡ record { width = size.0; height = size.1 })
+      ⊎ (HasNoCells (record { width = size.0; height = size.1 }) × KeepsSize s t)
 
   -- the terminal is at rest, the buffer that its screen shows is what painting makes of an empty one, the cursor
   -- stands where it is wanted, or is hidden, and all of it was sent

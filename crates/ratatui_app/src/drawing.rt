@@ -2,7 +2,7 @@
 
 ghost use Rattle.std.specs.Prelude.{◌≡◌, ◌⊎◌, ◌||◌, true, false, Some, None, IsOk, OnOk, OnErr};
 ghost use Rattle.std.specs.Prelude.{IfOk, IfErr};
-ghost use Rattle.ratatui_core.specs.Backend.{size_of};
+ghost use Rattle.ratatui_core.specs.Backend.{size_of, HasNoCells};
 ghost use Rattle.ratatui_core.specs.Terminal.{DrawsFrame, Autoresizes, AutoresizeErr};
 ghost use Rattle.ratatui_core.specs.Terminal.{ClearsViewport};
 ghost use Rattle.ratatui_core.specs.Terminal.{FailsClearing};
@@ -68,10 +68,11 @@ pub fn draw<B: Backend, A: Application>(
     }
 }
 
-// Gives a backend another size. Answers whether it took it.
+// Gives a backend another size. Answers whether it took it: it refuses only one without cells.
 fn take_size<B: Resizable>(backend: &mut B, size: Size) -> Result<bool, B::Error>
     ensures taken { IfOk result (λ is_taken. is_taken ≡ true
         → size_of (B.screen backend.new) ≡ size) }
+    ensures refused { IfOk result (λ is_taken. is_taken ≡ false → HasNoCells size) }
     ensures kept { IfOk result (λ is_taken. is_taken ≡ false → backend.new ≡ backend.old) }
     ensures faults { OnOk result (B.failures backend.new ≡ B.failures backend.old) }
 {
@@ -107,6 +108,7 @@ fn offer_size<B: Resizable>(terminal: &mut Terminal<B>, size: Size) -> Result<bo
     ensures only { terminal.new ≡ record terminal.old { backend = terminal.new.backend } }
     ensures taken { IfOk result (λ is_taken. is_taken ≡ true
         → size_of (B.screen terminal.new.backend) ≡ size) }
+    ensures refused { IfOk result (λ is_taken. is_taken ≡ false → HasNoCells size) }
     ensures kept { IfOk result (λ is_taken. is_taken ≡ false → terminal.new ≡ terminal.old) }
     ensures faults { OnOk result
         (B.failures terminal.new.backend ≡ B.failures terminal.old.backend) }
@@ -114,8 +116,9 @@ fn offer_size<B: Resizable>(terminal: &mut Terminal<B>, size: Size) -> Result<bo
     take_size(terminal.backend_mut(), size)
 }
 
-// Gives the screen another size, or leaves it at its own if the backend refuses that. Answers
-// whether the next frame is to be drawn whole.
+// Gives the screen another size, or leaves it at its own if that one has no cells. Answers whether
+// the next frame is to be drawn whole.
+#[tactic(auto, using(crate::proofs::FrameLemmas::told_sizes))]
 fn give_size<B: Resizable>(
     terminal: &mut Terminal<B>,
     told: Told,
@@ -140,9 +143,10 @@ fn give_size<B: Resizable>(
     }
 }
 
-// Readies a terminal for the frame of what was told: a told size is the screen's, unless the
-// backend refuses it; and where it is told a size that it has and that it didn't ask for, or is
+// Readies a terminal for the frame of what was told: a told size is the screen's, unless it has no
+// cells; and where it is told a size that it has and that it didn't ask for, or is
 // told to draw all anew, the viewport is emptied. Answers whether a frame is to be drawn for that.
+#[tactic(auto, using(crate::proofs::FrameLemmas::told_sizes))]
 fn ready<B: Resizable>(
     terminal: &mut Terminal<B>,
     told: Told,
@@ -195,7 +199,7 @@ fn draw_if<B: Backend, A: Application>(
 }
 
 /// Shows a state after a turn, of which the terminal was told this: a told size is the screen's
-/// first, unless the backend refuses it. A frame is drawn if anything may have changed. It is drawn
+/// first, unless it has no columns or no rows. A frame is drawn if anything may have changed. It is drawn
 /// whole if the size is another one; if Ctrl+L was told; or if the size that the screen has was
 /// told and that isn't the answer to a question: then something else may have come to the screen.
 ///

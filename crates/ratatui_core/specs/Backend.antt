@@ -5,7 +5,7 @@ pub use Rattle.rtui_backend.specs.declared.clear_type.ClearType.{ClearType}
 pub use Rattle.rtui_backend.specs.declared.clear_type.ClearType.TheVariants.{All, AfterCursor, BeforeCursor}
 pub use Rattle.rtui_backend.specs.declared.clear_type.ClearType.TheVariants.{CurrentLine, UntilNewLine}
 pub use Rattle.rtui_backend.specs.Clear.{is_cleared, clear_name}
-pub use Rattle.rtui_backend.specs.Screen.{Screen, IsOnGrid, cursor_of, size_of, seen, row_of, rows_above}
+pub use Rattle.rtui_backend.specs.Screen.{Screen, IsOnGrid, HasNoCells, cursor_of, size_of, seen, row_of, rows_above}
 pub use Rattle.rtui_backend.specs.Screen.{Draws, Scrolls, lines_past, Appends, upper_part, Motion, moved_by}
 pub use Rattle.rtui_backend.specs.Screen.{is_in_region, scrolling_up, scrolling_down, clearing, ScrollsRegion}
 pub use Rattle.rtui_backend.specs.Screen.{ScrollsUp, ScrollsDown, Erases, Clears, TakesSize, with_visible}

@@ -1,5 +1,5 @@
 -- What a screen is, and what each call of a backend does to it.
-use Rattle.std.specs.Prelude.{◌≡◌, ℕ, ◌+◌, ◌-◌, ◌^◌, ◌<◌, ◌≤◌, min, Bool, ◌++◌, ◌&&◌, ◌==◌, nat_le, map}
+use Rattle.std.specs.Prelude.{◌≡◌, ◌⊎◌, ℕ, ◌+◌, ◌-◌, ◌^◌, ◌<◌, ◌≤◌, min, Bool, ◌++◌, ◌&&◌, ◌==◌, nat_le, map}
 use Rattle.std.specs.Prelude.{nat_lt, if◌then◌else◌, true, false, List, [], length}
 use Rattle.std.specs.List.{range_with_len}
 use Rattle.rtui_geometry.specs.{declared.position.Position.Position, declared.rect.Rect.Rect}
@@ -30,6 +30,10 @@ cursor_of s = record { x = s.cursor_x; y = s.cursor_y }
 
 abbrev pub size_of : Screen → Size
 size_of s = record { width = s.width; height = s.height }
+
+-- a size without columns, or without rows
+abbrev pub HasNoCells : Size → Type 0
+HasNoCells size = (size.width ≡ 0) ⊎ (size.height ≡ 0)
 
 -- what stands in a column of a row; below the last row all is empty
 abbrev pub seen : Screen → ℕ → ℕ → Look

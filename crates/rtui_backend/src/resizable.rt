@@ -1,5 +1,6 @@
-ghost use Rattle.std.specs.Prelude.{◌≡◌, false, IsTrue, IfOk, OnOk};
-ghost use Rattle.rtui_backend.specs.Screen.{size_of};
+ghost use Rattle.std.specs.Prelude.{◌≡◌, true, false, IfOk};
+ghost use Rattle.rtui_backend.specs.Failures.{Counts};
+ghost use Rattle.rtui_backend.specs.Screen.{size_of, HasNoCells};
 
 use crate::backend::Backend;
 use crate::test::{TestBackend, TestError};
@@ -8,20 +9,26 @@ use rtui_geometry::Size;
 /// A backend whose screen takes another size when it is told one, as a window's.
 pub trait Resizable: Backend {
     /// Gives the screen another size, in columns and rows; it may have any contents then. Answers
-    /// whether it was taken: if it wasn't, nothing has changed.
+    /// whether it was taken: a size is refused only if it has no columns or no rows, and then
+    /// nothing has changed.
     ///
     /// # Errors
     ///
-    /// The backend's own error if the call failed. Nothing is said of the screen then.
+    /// The backend's own error if the call failed, also if memory was refused. Nothing is said of
+    /// the screen then.
     fn take_size(&mut self, size: Size) -> Result<bool, Self::Error>
-        ensures taken { IfOk result (λ is_taken. IsTrue is_taken
+        ensures taken { IfOk result (λ is_taken. is_taken ≡ true
             → size_of (Self.screen self.new) ≡ size) }
+        ensures refused { IfOk result (λ is_taken. is_taken ≡ false → HasNoCells size) }
         ensures kept { IfOk result (λ is_taken. is_taken ≡ false → self.new ≡ self.old) }
-        ensures counts { OnOk result (Self.failures self.new ≡ Self.failures self.old) };
+        ensures counts { Counts result (Self.failures self.old) (Self.failures self.new) };
 }
 
 impl Resizable for TestBackend {
     fn take_size(&mut self, size: Size) -> Result<bool, TestError> {
-        Ok(self.resize(size.width, size.height).is_ok())
+        match self.resize(size.width, size.height) {
+            Ok(()) => Ok(true),
+            Err(_) => Err(self.failed(TestError::Memory)),
+        }
     }
 }

@@ -194,7 +194,7 @@ impl TestBackend {
     }
 
     // Counts a failure, and gives the error back.
-    fn failed(&mut self, error: TestError) -> TestError
+    pub(crate) fn failed(&mut self, error: TestError) -> TestError
         ensures error { result ≡ error }
         ensures screen { screen_of self.new ≡ screen_of self.old }
         ensures told { told_after self.new ≡ told_after self.old }
