@@ -142,9 +142,20 @@ def tried(crate, *words):
     folder, version = kit()
     with copied(folder, 0) as (rt, kept):
         told = ran([rt, "try", *words], f"{TOP}/crates/{crate}")
-        if os.path.isfile(kept) and is_program(crate) and "--test" not in words:
+        if os.path.isfile(kept) and is_program(crate) and not {"--test", "--fail-alloc"} & {*words}:
             put(kept, crate, version)
     return told
+
+
+@contextlib.contextmanager
+def refusing(crate, number):
+    """A program that is refused its request for memory of this number, as `rt try --fail-alloc` builds it."""
+    folder, _ = kit()
+    with copied(folder, 1) as (rt, kept):
+        _, said = ran([rt, "try", "--steps", "1", "--seconds", "1", "--fail-alloc", str(number)], f"{TOP}/crates/{crate}")
+        if not os.path.isfile(kept):
+            raise Refused(said.strip() or "rt try said nothing")
+        yield kept
 
 
 def is_program(crate):

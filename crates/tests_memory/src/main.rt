@@ -3,9 +3,10 @@
 //!
 //! It prints the name of each case and what came of it: `accepted`; `refused, and as it was` if
 //! memory was refused to the call, what it must leave stands, and the same call was then accepted;
-//! `not ready` if memory was refused before the call; and else `broken`. `tests_memory REQUEST` first
-//! makes so many requests of its own that the one of number `LAST` is that request of the cases,
-//! counted from the start of the program, and says if it was refused before them or after them.
+//! `not ready` if memory was refused before the call; and else `broken`. `tests_memory MODULE REQUEST`
+//! makes the cases of one module, and first so many requests of its own that the one of number
+//! `LAST` is that request of the cases, counted from the start of the program; it says if that was
+//! refused before them or after them.
 //! `tools/refusals` has each request refused in turn.
 #![tactic(auto)]
 
@@ -43,8 +44,18 @@ use std::{env, io};
 // The request that is refused.
 const LAST: usize = 1500;
 
-// Prints what came of each case of a module.
-fn report<C: Cases>(rt: &HostRuntime) -> io::Result<()> {
+// What is asked for: the cases of a module, and which request is refused.
+#[derive(Drop)]
+struct Asked {
+    module: String,
+    number: usize,
+}
+
+// Prints what came of each case of a module, if its cases are asked for.
+fn report<C: Cases>(rt: &HostRuntime, module: &str, asked: Option<&str>) -> io::Result<()> {
+    if asked.is_some_and(|it| it != module) {
+        return Ok(());
+    }
     for (number, name) in C::names().iter().enumerate() {
         match C::outcome_of(rt.alloc(), number) {
             Ok(outcome) => println!(rt; "{name}: {outcome}")?,
@@ -54,21 +65,21 @@ fn report<C: Cases>(rt: &HostRuntime) -> io::Result<()> {
     Ok(())
 }
 
-// Prints what came of each case.
-fn report_all(rt: &HostRuntime) -> io::Result<()> {
-    report::<Painting>(rt)?;
-    report::<Buffers>(rt)?;
-    report::<Cells>(rt)?;
-    report::<Texts>(rt)?;
-    report::<Extends>(rt)?;
-    report::<Made>(rt)?;
-    report::<Backends>(rt)?;
-    report::<Terminals>(rt)?;
-    report::<Scripts>(rt)?;
-    report::<Logs>(rt)?;
-    report::<Widgets>(rt)?;
-    report::<Borrowed>(rt)?;
-    report::<WithoutMemory>(rt)
+// Prints what came of each case, or of those of the module that is asked for.
+fn report_all(rt: &HostRuntime, asked: Option<&str>) -> io::Result<()> {
+    report::<Painting>(rt, "painting", asked)?;
+    report::<Buffers>(rt, "buffers", asked)?;
+    report::<Cells>(rt, "cells", asked)?;
+    report::<Texts>(rt, "texts", asked)?;
+    report::<Extends>(rt, "extends", asked)?;
+    report::<Made>(rt, "made", asked)?;
+    report::<Backends>(rt, "backends", asked)?;
+    report::<Terminals>(rt, "terminals", asked)?;
+    report::<Scripts>(rt, "scripts", asked)?;
+    report::<Logs>(rt, "logs", asked)?;
+    report::<Widgets>(rt, "widgets", asked)?;
+    report::<Borrowed>(rt, "borrowed", asked)?;
+    report::<WithoutMemory>(rt, "without_memory", asked)
 }
 
 // Makes so many requests; how many of them were refused.
@@ -82,23 +93,25 @@ fn request(alloc: Global, count: usize) -> usize {
     refused
 }
 
-// The request that is asked for, if one is.
-fn asked(rt: &HostRuntime) -> Option<usize> {
+// The module and the request that are asked for, if they are.
+fn asked(rt: &HostRuntime) -> Option<Asked> {
     let mut words = env::args(rt).ok()?;
     let _program = words.next()?;
-    words.next()?.as_str().parse::<usize>().ok()
+    let module = words.next()?;
+    let number = words.next()?.as_str().parse::<usize>().ok()?;
+    Some(Asked { module, number })
 }
 
 // Runs the cases between requests of its own.
 fn run(rt: &HostRuntime) -> io::Result<()> {
-    let Some(number) = asked(rt) else {
-        return report_all(rt);
+    let Some(asked) = asked(rt) else {
+        return report_all(rt, None);
     };
-    if request(rt.alloc(), LAST.saturating_sub(number)) > 0 {
+    if request(rt.alloc(), LAST.saturating_sub(asked.number)) > 0 {
         return println!(rt; "before the cases");
     }
-    report_all(rt)?;
-    if request(rt.alloc(), number) > 0 {
+    report_all(rt, Some(asked.module.as_str()))?;
+    if request(rt.alloc(), asked.number) > 0 {
         return println!(rt; "after the cases");
     }
     Ok(())
