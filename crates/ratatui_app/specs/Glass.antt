@@ -1,7 +1,8 @@
 -- What is on the glass of a terminal that is sent bytes, and how a turn moves it; how it begins and is given
 -- back.
-use Rattle.std.specs.Prelude.{◌≡◌, ◌⊎◌, ℕ, true, false, List, ◌++◌, Option, None}
+use Rattle.std.specs.Prelude.{◌≡◌, ◌⊎◌, ℕ, true, false, List, ◌++◌, Option, Some, None}
 use Rattle.ratatui_core.specs.{Layout.Rect, Layout.Position, Buffer.BufferData, Backend.cursor_of}
+use Rattle.ratatui_core.specs.Backend.{size_of}
 use Rattle.ratatui_core.specs.Terminal.{TerminalData, TerminalError, ShowsRendered, HasCursor, Stays}
 use Rattle.ratatui_core.specs.Terminal.{Starts, Viewport}
 use Rattle.ansi_model.specs.Commands.{size_question}
@@ -48,6 +49,12 @@ module _ {W : Type 0} where
     pub moved : MovesAsTold sender told s shown
     pub asked : Stays shown_by shown t
     pub faults : t.backend.failures ≡ shown.backend.failures
+
+  -- the screen has the size that was told, or, if none was, the one that it had
+  abbrev pub HasSizeTold : Option (ℕ × ℕ) → TerminalData (BackendState W) → TerminalData (BackendState W) → Type 0
+  HasSizeTold None s t = size_of (shown_by t.backend) ≡ size_of (shown_by s.backend)
+  HasSizeTold (Some size) s t =
+      size_of (shown_by t.backend) ≡ record { width = size.0; height = size.1 }
 
   -- where showing a state stops: at its frame; or, after it, at the question for the size
   abbrev pub StopsOnGlass : (Rect → BufferData → BufferData → Type 0) → (Rect → Option Position)

@@ -1,9 +1,10 @@
 //! Laws of reads.
 
-ghost use Rattle.std.specs.Prelude.{◌≡◌, ℕ, ◌++◌, ◌∷◌, Bool, List};
+ghost use Rattle.std.specs.Prelude.{◌≡◌, ℕ, ◌++◌, ◌∷◌, Bool, List, ◌<◌, Some};
 ghost use Rattle.ratatui_events.specs.declared.event.Event.{Event};
 ghost use Rattle.ratatui_reads.specs.Reads.{Between, after_read, after_reads, after_bytes, all_bytes};
-ghost use Rattle.ratatui_reads.specs.Reads.{IsNonEmpty, AreNonEmpty};
+ghost use Rattle.ratatui_input.specs.declared.decoder.Decoder.{Decoder};
+ghost use Rattle.ratatui_reads.specs.Reads.{IsNonEmpty, AreNonEmpty, size_told};
 ghost use Rattle.ratatui_reads.specs.Sources.{Coming, KnownBytes, KnownReads};
 ghost use Rattle.ratatui_reads.specs.Sources.{GivesReads, AreWithinRoom};
 
@@ -30,4 +31,11 @@ pub fn what_is_known_is_given()
     ensures bytes { (all : List ℕ) (reads : List (List ℕ)) (rest : Coming)
         → GivesReads (KnownBytes all) rest reads
         → (left : List ℕ) × (rest ≡ KnownBytes left) × (all ≡ all_bytes reads ++ left) }
+{}
+
+/// A size that a read tells has a column and a row.
+#[tactic(auto, using(crate::proofs::SizeLemmas::told_cells))]
+pub fn told_sizes_have_cells()
+    ensures { (d : Decoder) (bytes : List ℕ) (columns rows : ℕ)
+        → size_told d bytes ≡ Some (columns, rows) → (0 < columns) × (0 < rows) }
 {}
