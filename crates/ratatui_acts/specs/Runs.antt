@@ -32,6 +32,20 @@ pub record Ground (S C R G E H O : Type 0) : Type 1 where
   pub fails : H → H → Type 0
   pub answers : O → C → R → O → Type 0
 
+-- the parts of it, one by one
+abbrev pub ground_of : {S C R G E H O : Type 0} → ActingRules S C R → (G → S → Type 0) → (Told → G → G → Type 0)
+    → (Told → S → G → G → E → Type 0) → (H → ℕ → List ℕ → Duration → H → Type 0) → (H → H → Type 0)
+    → (O → C → R → O → Type 0) → Ground S C R G E H O
+ground_of rules shows moves lacks gives fails answers = record {
+  rules = rules;
+  shows = shows;
+  moves = moves;
+  lacks = lacks;
+  gives = gives;
+  fails = fails;
+  answers = answers;
+}
+
 -- a turn was a read that gave nothing, or, if it was no read, this is so
 abbrev pub GaveNothing : {C R : Type 0} → Turn C R → Type 0 → Type 0
 GaveNothing (Came bytes passed) earlier = bytes ≡ []

@@ -1,7 +1,13 @@
 -- One turn and its frame.
 use Rattle.std.specs.Prelude.{◌≡◌, ◌||◌, ◌&&◌, Bool, not}
-use Rattle.ratatui_acts.specs.Turns.{Turn}
+use Rattle.ratatui_acts.specs.declared.seat.Seat.{Seat}
+use Rattle.ratatui_acts.specs.{Turns.Turn, Seats.seated}
 use Rattle.ratatui_acts.specs.Runs.{Now, Ground, IsTurn, IsShown}
+
+-- where all stands, with the state in its seat
+abbrev pub now_of : {S G H O : Type 0} → Seat S → G → H → O → Now S G H O
+now_of seat glass ears outside =
+    record { standing = seated seat; glass = glass; ears = ears; outside = outside }
 
 -- a turn, and whether something came at it; the glass shows what came of it
 pub record ShowsTurn {S C R G E H O : Type 0} (ground : Ground S C R G E H O) (before after : Now S G H O)

@@ -2,9 +2,8 @@
 
 ghost use Rattle.std.specs.Prelude.{◌≡◌, ◌||◌, Bool, true, false, OnOk, IfOk, IfErr};
 ghost use Rattle.ratatui_acts.specs.declared.told.Told.{Told};
-ghost use Rattle.ratatui_acts.specs.Seats.{seated};
-ghost use Rattle.ratatui_acts.specs.Steps.{ShowsTurn, ends_by};
-ghost use Rattle.ratatui_acts.specs.Runs.{StopsNext, StopsTurning, RunsToEnd};
+ghost use Rattle.ratatui_acts.specs.Steps.{ShowsTurn, ends_by, now_of};
+ghost use Rattle.ratatui_acts.specs.Runs.{ground_of, StopsNext, StopsTurning, RunsToEnd};
 
 use crate::acts::Acts;
 use crate::fault::Fault;
@@ -22,48 +21,16 @@ fn step<A: Acts, G: Glass<A>, H: Hears<A, G>, O: Outside<A, G>>(
 ) -> Result<bool, Fault<G::Error>>
     requires shown { G.shows glass.old seat.old.state }
     requires goes_on { A.is_over seat.old.state ≡ false }
-    ensures steps { IfOk result (ShowsTurn (record {
-      rules = A.Acts;
-      shows = G.shows;
-      moves = G.moves;
-      lacks = G.lacks;
-      gives = H.gives;
-      fails = H.fails;
-      answers = O.answers;
-    })
-        (record {
-          standing = seated seat.old;
-          glass = glass.old;
-          ears = ears.old;
-          outside = outside.old;
-        })
-        (record {
-          standing = seated seat.new;
-          glass = glass.new;
-          ears = ears.new;
-          outside = outside.new;
-        })) }
-    ensures stops { IfErr result (StopsNext (record {
-      rules = A.Acts;
-      shows = G.shows;
-      moves = G.moves;
-      lacks = G.lacks;
-      gives = H.gives;
-      fails = H.fails;
-      answers = O.answers;
-    })
-        (record {
-          standing = seated seat.old;
-          glass = glass.old;
-          ears = ears.old;
-          outside = outside.old;
-        })
-        (record {
-          standing = seated seat.new;
-          glass = glass.new;
-          ears = ears.new;
-          outside = outside.new;
-        })) }
+    ensures steps { let ground = ground_of A.Acts G.shows G.moves G.lacks
+        H.gives H.fails O.answers in
+        IfOk result (ShowsTurn ground
+        (now_of seat.old glass.old ears.old outside.old)
+        (now_of seat.new glass.new ears.new outside.new)) }
+    ensures stops { let ground = ground_of A.Acts G.shows G.moves G.lacks
+        H.gives H.fails O.answers in
+        IfErr result (StopsNext ground
+        (now_of seat.old glass.old ears.old outside.old)
+        (now_of seat.new glass.new ears.new outside.new)) }
 {
     let told = match seat.turn(ears, outside, glass) {
         Ok(told) => told,
@@ -99,48 +66,16 @@ pub fn run<A: Acts, G: Glass<A>, H: Hears<A, G>, O: Outside<A, G>>(
     seat: &mut Seat<A>,
 ) -> Result<(), Fault<G::Error>>
     requires { G.is_ready glass.old }
-    ensures runs { OnOk result (RunsToEnd (record {
-      rules = A.Acts;
-      shows = G.shows;
-      moves = G.moves;
-      lacks = G.lacks;
-      gives = H.gives;
-      fails = H.fails;
-      answers = O.answers;
-    }) has_ticks
-        (record {
-          standing = seated seat.old;
-          glass = glass.old;
-          ears = ears.old;
-          outside = outside.old;
-        })
-        (record {
-          standing = seated seat.new;
-          glass = glass.new;
-          ears = ears.new;
-          outside = outside.new;
-        })) }
-    ensures stops { IfErr result (StopsTurning (record {
-      rules = A.Acts;
-      shows = G.shows;
-      moves = G.moves;
-      lacks = G.lacks;
-      gives = H.gives;
-      fails = H.fails;
-      answers = O.answers;
-    })
-        (record {
-          standing = seated seat.old;
-          glass = glass.old;
-          ears = ears.old;
-          outside = outside.old;
-        })
-        (record {
-          standing = seated seat.new;
-          glass = glass.new;
-          ears = ears.new;
-          outside = outside.new;
-        })) }
+    ensures runs { let ground = ground_of A.Acts G.shows G.moves G.lacks
+        H.gives H.fails O.answers in
+        OnOk result (RunsToEnd ground has_ticks
+        (now_of seat.old glass.old ears.old outside.old)
+        (now_of seat.new glass.new ears.new outside.new)) }
+    ensures stops { let ground = ground_of A.Acts G.shows G.moves G.lacks
+        H.gives H.fails O.answers in
+        IfErr result (StopsTurning ground
+        (now_of seat.old glass.old ears.old outside.old)
+        (now_of seat.new glass.new ears.new outside.new)) }
 {
     match glass.show(seat.state(), Told::first()) {
         Ok(()) => {}

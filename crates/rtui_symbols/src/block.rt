@@ -25,7 +25,7 @@ pub const ONE_QUARTER: &str = "▎";
 pub const ONE_EIGHTH: &str = "▏";
 
 /// A symbol for each filling, in eighths.
-#[derive(Debug, Clone, Drop, PartialEq, Eq, Hash)]
+#[derive(Debug, Clone, Copy, PartialEq, Eq, Hash)]
 pub struct Set<'a> {
     pub full: &'a str,
     pub seven_eighths: &'a str,
