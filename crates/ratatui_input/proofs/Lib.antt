@@ -2,6 +2,7 @@ pub mod DecodingLemmas
 pub mod EncodingLemmas
 pub mod PasteLemmas
 pub mod ReaderLemmas
+pub mod EntryLemmas
 pub mod TableLemmas
 pub mod ToldLemmas
 pub mod StepLemmas

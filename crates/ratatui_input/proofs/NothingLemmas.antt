@@ -7,7 +7,7 @@ use Rattle.std.proofs.lemmas.Bool.Decides.{nat_tests}
 use Rattle.std.proofs.lemmas.Grind.{common_steps}
 use Rattle.ratatui_events.specs.declared.event.Event.TheVariants.{Unknown}
 use Rattle.ratatui_events.specs.declared.key.KeyCode.{KeyCode}
-use Rattle.ratatui_events.specs.declared.key.KeyCode.TheVariants.{BackTab}
+use Rattle.ratatui_events.specs.declared.key.KeyCode.TheVariants.{BackTab, Up, Down, Right, Left, KeypadBegin, End, Home, F}
 use Rattle.ratatui_input.specs.declared.decoder.State.{State}
 use Rattle.ratatui_input.specs.declared.decoder.State.TheVariants.{Ground, Bracket, Numbers}
 use Rattle.ratatui_input.specs.declared.decoder.Next.TheVariants.{Whole}
@@ -22,9 +22,8 @@ use Rattle.ratatui_input.specs.Sequences.{with_shift}
 use Rattle.ratatui_input.specs.Decoding.{stepped, first, begun, beginning, after_bracket, in_sequence, going_on, read}
 use Rattle.ratatui_input.specs.declared.decoder.Partial.{Partial}
 use Rattle.ratatui_input.specs.Encodings.{Gives}
-use Rattle.ratatui_input.specs.KeyTables.{IsLetter, IsTilde, IsCode}
-use Rattle.ratatui_input.specs.KeyTables.{letter_up, letter_down, letter_right, letter_left, letter_keypad_begin, letter_end}
-use Rattle.ratatui_input.specs.KeyTables.{letter_home, letter_f1, letter_f2, letter_f3, letter_f4, letter_back_tab}
+use Rattle.ratatui_input.specs.KeyTables.{IsLetter, IsTilde, IsCode, letter_keys}
+use Rattle.ratatui_input.proofs.EntryLemmas.{AllAre, entries-are, ◌▸◌}
 use Rattle.ratatui_input.specs.Grammar.{WritesNumber, csi, two_numbers, IsMark, AreNumbers, AreInside, StandsForNothing, stray, string}
 use Rattle.ratatui_input.specs.Grammar.{marked, held_by_letter, held_by_tilde, held_by_code, nameless, numberless, IsNameless}
 use Rattle.ratatui_input.specs.Grammar.{IsNoTilde}
@@ -228,20 +227,21 @@ shift-stays m h = grind (arith, nat_tests)
 shift-too-many : (k m : ℕ) → 256 < m → key_event k BackTab false (with_shift m) ≡ Unknown
 shift-too-many k m h = ap (key_event k BackTab false) (shift-stays m h) ∙ too-many k BackTab false m h
 
+abbrev IsTooMany : ℕ → KeyCode → Type 0
+IsTooMany b code = (k m : ℕ) → 256 < m → letter_code_event (Some code) k m ≡ Unknown
+
+letters-too-many : AllAre IsTooMany letter_keys
+unfolding letter_keys
+letters-too-many =
+    (λ k m h. too-many k Up false m h) ▸ (λ k m h. too-many k Down false m h) ▸ (λ k m h. too-many k Right false m h) ▸
+    (λ k m h. too-many k Left false m h) ▸ (λ k m h. too-many k KeypadBegin false m h) ▸
+    (λ k m h. too-many k End false m h) ▸ (λ k m h. too-many k Home false m h) ▸ (λ k m h. too-many k (F 1) false m h) ▸
+    (λ k m h. too-many k (F 2) false m h) ▸ (λ k m h. too-many k (F 3) false m h) ▸ (λ k m h. too-many k (F 4) false m h) ▸
+    shift-too-many ▸ tt
+
 pub letter-too-many : {b : ℕ} {code : KeyCode} → IsLetter b code → (k m : ℕ) → 256 < m
     → letter_code_event (Some code) k m ≡ Unknown
-letter-too-many letter_up k m h = too-many k _ false m h
-letter-too-many letter_down k m h = too-many k _ false m h
-letter-too-many letter_right k m h = too-many k _ false m h
-letter-too-many letter_left k m h = too-many k _ false m h
-letter-too-many letter_keypad_begin k m h = too-many k _ false m h
-letter-too-many letter_end k m h = too-many k _ false m h
-letter-too-many letter_home k m h = too-many k _ false m h
-letter-too-many letter_f1 k m h = too-many k _ false m h
-letter-too-many letter_f2 k m h = too-many k _ false m h
-letter-too-many letter_f3 k m h = too-many k _ false m h
-letter-too-many letter_f4 k m h = too-many k _ false m h
-letter-too-many letter_back_tab k m h = shift-too-many k m h
+letter-too-many letter k m h = entries-are IsTooMany letters-too-many letter k m h
 
 letter-told : {b m : ℕ} {code : KeyCode} {ds es : List ℕ} → IsLetter b code → WritesNumber ds 1 → WritesNumber es m → 256 < m
     → m < 2 ^ 32

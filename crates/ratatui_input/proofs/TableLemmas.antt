@@ -1,9 +1,10 @@
 -- Each key of the protocols' tables is told by its letter, its number or its code point.
 use Rattle.std.proofs.Common.{◌≡◌, ◌⊎◌, inl, ℕ, ◌≤◌, ◌<◌, ◌^◌, ◌+◌, ◌-◌, ◌*◌, ◌/◌, ◌==◌, ◌&&◌, ◌||◌, Bool, true, false}
-use Rattle.std.proofs.Common.{Option, Some, None, List, [], ◌∷◌, refl, ap, ◌∙◌, arith, lit<, lit≤}
+use Rattle.std.proofs.Common.{Option, Some, None, List, [], ◌∷◌, refl, ap, ◌∙◌, arith}
 use Rattle.std.proofs.lemmas.Grind.{common_steps}
 use Rattle.std.proofs.lemmas.Bool.Decides.{nat_tests}
-use Rattle.std.specs.Prelude.{nat_le, nat_lt, find, if◌then◌else◌}
+use Rattle.std.specs.Prelude.{nat_le, nat_lt, find, if◌then◌else◌, not}
+use Rattle.ratatui_events.specs.declared.event.Event.TheVariants.{PasteBegun, PasteEnded}
 use lib.Utf8.{scalar_cases, scalar_fits}
 use Rattle.std.specs.List.{list_all}
 use Rattle.std.specs.Option.{option_map}
@@ -14,88 +15,61 @@ use Rattle.ratatui_events.specs.declared.key.KeyCode.{KeyCode}
 use Rattle.ratatui_input.specs.declared.sequence.Sequence.{Sequence}
 use Rattle.ratatui_input.specs.declared.sequence.Source.{Source}
 use Rattle.ratatui_input.specs.declared.sequence.Source.TheVariants.{Keys}
-use Rattle.ratatui_input.specs.Keys.{key_at, code_key, keypad_key, name_key, named_key, pad_key}
+use Rattle.ratatui_input.specs.Keys.{key_at, number_key, code_key, keypad_key, name_key, named_key, pad_key}
 use Rattle.ratatui_input.specs.Sequences.{sequence_event, keys_event, letter_event, tilde_event, single_event, letter_code_event}
-use Rattle.ratatui_input.specs.Sequences.{key_event, kind_of, with_shift}
+use Rattle.ratatui_input.specs.Sequences.{key_event, kind_of, with_shift, position_event, number_key_event, code_key_event}
 use Rattle.ratatui_input.specs.Grammar.{key_told, letter_told}
-use Rattle.ratatui_input.specs.KeyTables.{IsLetter, IsTilde, IsCode}
-use Rattle.ratatui_input.specs.KeyTables.{letter_up, letter_down, letter_right, letter_left, letter_keypad_begin, letter_end}
-use Rattle.ratatui_input.specs.KeyTables.{letter_home, letter_f1, letter_f2, letter_f3, letter_f4, letter_back_tab}
-use Rattle.ratatui_input.specs.KeyTables.{tilde_home, tilde_insert, tilde_delete, tilde_end, tilde_page_up, tilde_page_down}
-use Rattle.ratatui_input.specs.KeyTables.{tilde7_home, tilde8_end, tilde_f1, tilde_f2, tilde_f3, tilde_f4, tilde_f5, tilde_f6}
-use Rattle.ratatui_input.specs.KeyTables.{tilde_f7, tilde_f8, tilde_f9, tilde_f10, tilde_f11, tilde_f12, tilde_f13, tilde_f14}
-use Rattle.ratatui_input.specs.KeyTables.{tilde_f15, tilde_f16, tilde_f17, tilde_f18, tilde_f19, tilde_f20}
-use Rattle.ratatui_input.specs.KeyTables.{code_esc, code_enter, code_tab, code_backspace, code_caps_lock, code_scroll_lock}
-use Rattle.ratatui_input.specs.KeyTables.{code_num_lock, code_print_screen, code_pause, code_menu, code_media_play}
-use Rattle.ratatui_input.specs.KeyTables.{code_media_pause, code_media_play_pause, code_media_reverse, code_media_stop}
-use Rattle.ratatui_input.specs.KeyTables.{code_media_fast_forward, code_media_rewind, code_media_track_next}
-use Rattle.ratatui_input.specs.KeyTables.{code_media_track_previous, code_media_record, code_media_lower_volume}
-use Rattle.ratatui_input.specs.KeyTables.{code_media_raise_volume, code_media_mute_volume, code_modifier_left_shift}
-use Rattle.ratatui_input.specs.KeyTables.{code_modifier_left_control, code_modifier_left_alt, code_modifier_left_super}
-use Rattle.ratatui_input.specs.KeyTables.{code_modifier_left_hyper, code_modifier_left_meta, code_modifier_right_shift}
-use Rattle.ratatui_input.specs.KeyTables.{code_modifier_right_control, code_modifier_right_alt, code_modifier_right_super}
-use Rattle.ratatui_input.specs.KeyTables.{code_modifier_right_hyper, code_modifier_right_meta, code_modifier_iso_level3_shift}
-use Rattle.ratatui_input.specs.KeyTables.{code_modifier_iso_level5_shift, code_f13, code_f14, code_f15, code_f16, code_f17}
-use Rattle.ratatui_input.specs.KeyTables.{code_f18, code_f19, code_f20, code_f21, code_f22, code_f23, code_f24, code_f25}
-use Rattle.ratatui_input.specs.KeyTables.{code_f26, code_f27, code_f28, code_f29, code_f30, code_f31, code_f32, code_f33}
-use Rattle.ratatui_input.specs.KeyTables.{code_f34, code_f35, pad_char48, pad_char49, pad_char50, pad_char51, pad_char52}
-use Rattle.ratatui_input.specs.KeyTables.{pad_char53, pad_char54, pad_char55, pad_char56, pad_char57, pad_char46, pad_char47}
-use Rattle.ratatui_input.specs.KeyTables.{pad_char42, pad_char45, pad_char43, pad_enter, pad_char61, pad_char44, pad_left}
-use Rattle.ratatui_input.specs.KeyTables.{pad_right, pad_up, pad_down, pad_page_up, pad_page_down, pad_home, pad_end, pad_insert}
-use Rattle.ratatui_input.specs.KeyTables.{pad_delete, pad_keypad_begin, code_character}
+use Rattle.ratatui_input.specs.KeyTables.{IsEntry, IsLetter, IsTilde, IsCode, code_named, code_keypad, code_character}
+use Rattle.ratatui_input.specs.KeyTables.{letter_keys, tilde_keys, named_keys, keypad_keys}
+use Rattle.ratatui_input.proofs.EntryLemmas.{both, AllAre, entries-are, numbers-pass, nothing-at, has_no, entry-found, ◌▸◌}
 
 -- a sequence's numbers
 abbrev pub seq : Source → ℕ → ℕ → ℕ → ℕ → ℕ → ℕ → Sequence
 seq source numbers parts first second third kind =
     record { source = source; numbers = numbers; parts = parts; first = first; second = second; third = third; kind = kind }
 
--- a letter after a lone number, and after 1 and what is held
+-- a letter, after what numbers there are
+no-report : (c n : ℕ) → (c ≡ 1 → n ≡ 1) → ((c == 1) && (if n == 1 then false else true)) ≡ false
+no-report c n h = grind (arith, nat_tests)
+
+abbrev SaysKey : ℕ → KeyCode → Type 0
+SaysKey b code = (c p n m t k : ℕ) → (b ≡ 82 → c ≡ 1 → n ≡ 1)
+    → sequence_event (seq Keys c p n m t k) b ≡ letter_code_event (Some code) k (if c == 0 then n else m)
+
+letters-say : AllAre SaysKey letter_keys
+unfolding letter_keys sequence_event keys_event letter_event key_at
+letters-say =
+    (λ c p n m t k h. refl) ▸ (λ c p n m t k h. refl) ▸ (λ c p n m t k h. refl) ▸ (λ c p n m t k h. refl) ▸
+    (λ c p n m t k h. refl) ▸ (λ c p n m t k h. refl) ▸ (λ c p n m t k h. refl) ▸ (λ c p n m t k h. refl) ▸
+    (λ c p n m t k h. refl) ▸
+    (λ c p n m t k h. ap (λ (x : Bool). if x then position_event (seq Keys c p n m t k)
+    else letter_event (seq Keys c p n m t k) 82) (no-report c n (h refl))) ▸
+    (λ c p n m t k h. refl) ▸ (λ c p n m t k h. refl) ▸ tt
+
+pub letter-says : {b : ℕ} {code : KeyCode} → IsLetter b code → (c p n m t k : ℕ) → (b ≡ 82 → c ≡ 1 → n ≡ 1)
+    → sequence_event (seq Keys c p n m t k) b ≡ letter_code_event (Some code) k (if c == 0 then n else m)
+letter-says letter c p n m t k h = entries-are SaysKey letters-say letter c p n m t k h
+
+-- after a lone number, and after 1 and what is held
 pub letter-alone : {b : ℕ} {code : KeyCode} → IsLetter b code → (n : ℕ)
     → sequence_event (seq Keys 0 0 n 0 0 0) b ≡ letter_code_event (Some code) 0 n
-unfolding sequence_event keys_event letter_event key_at
-letter-alone letter_up n = refl
-letter-alone letter_down n = refl
-letter-alone letter_right n = refl
-letter-alone letter_left n = refl
-letter-alone letter_keypad_begin n = refl
-letter-alone letter_end n = refl
-letter-alone letter_home n = refl
-letter-alone letter_f1 n = refl
-letter-alone letter_f2 n = refl
-letter-alone letter_f3 n = refl
-letter-alone letter_f4 n = refl
-letter-alone letter_back_tab n = refl
+letter-alone letter n = letter-says letter 0 0 n 0 0 0 (λ report one. omega (arith, one))
 
 pub letter-held : {b : ℕ} {code : KeyCode} → IsLetter b code → (p m k : ℕ)
     → sequence_event (seq Keys 1 p 1 m 0 k) b ≡ letter_code_event (Some code) k m
-unfolding sequence_event keys_event letter_event key_at
-letter-held letter_up p m k = refl
-letter-held letter_down p m k = refl
-letter-held letter_right p m k = refl
-letter-held letter_left p m k = refl
-letter-held letter_keypad_begin p m k = refl
-letter-held letter_end p m k = refl
-letter-held letter_home p m k = refl
-letter-held letter_f1 p m k = refl
-letter-held letter_f2 p m k = refl
-letter-held letter_f3 p m k = refl
-letter-held letter_f4 p m k = refl
-letter-held letter_back_tab p m k = refl
+letter-held letter p m k = letter-says letter 1 p 1 m 0 k (λ report one. refl)
+
+abbrev SaysSingle : ℕ → KeyCode → Type 0
+SaysSingle b code = (n : ℕ) → single_event n b ≡ letter_code_event (Some code) 0 n
+
+letters-single : AllAre SaysSingle letter_keys
+unfolding letter_keys single_event letter_event key_at
+letters-single =
+    (λ n. refl) ▸ (λ n. refl) ▸ (λ n. refl) ▸ (λ n. refl) ▸ (λ n. refl) ▸ (λ n. refl) ▸ (λ n. refl) ▸ (λ n. refl) ▸
+    (λ n. refl) ▸ (λ n. refl) ▸ (λ n. refl) ▸ (λ n. refl) ▸ tt
 
 pub letter-single : {b : ℕ} {code : KeyCode} → IsLetter b code → (n : ℕ) → single_event n b ≡ letter_code_event (Some code) 0 n
-unfolding single_event letter_event key_at
-letter-single letter_up n = refl
-letter-single letter_down n = refl
-letter-single letter_right n = refl
-letter-single letter_left n = refl
-letter-single letter_keypad_begin n = refl
-letter-single letter_end n = refl
-letter-single letter_home n = refl
-letter-single letter_f1 n = refl
-letter-single letter_f2 n = refl
-letter-single letter_f3 n = refl
-letter-single letter_f4 n = refl
-letter-single letter_back_tab n = refl
+letter-single letter n = entries-are SaysSingle letters-single letter n
 
 -- such a letter is one of @ to ~, and begins nothing else
 pub record EndsSequence (b : ℕ) : Type 0 where
@@ -104,153 +78,67 @@ pub record EndsSequence (b : ℕ) : Type 0 where
   pub no_bracket : b ≡ 91 → ⊥
   pub no_click : b ≡ 77 → ⊥
 
-pub letter-ends : {b : ℕ} {code : KeyCode} → IsLetter b code → EndsSequence b
-letter-ends letter_up = record {
-  low = lit≤ tt;
-  high = lit≤ tt;
-  no_bracket = λ e. omega (arith, e);
-  no_click = λ e. omega (arith, e);
-}
-letter-ends letter_down = record {
-  low = lit≤ tt;
-  high = lit≤ tt;
-  no_bracket = λ e. omega (arith, e);
-  no_click = λ e. omega (arith, e);
-}
-letter-ends letter_right = record {
-  low = lit≤ tt;
-  high = lit≤ tt;
-  no_bracket = λ e. omega (arith, e);
-  no_click = λ e. omega (arith, e);
-}
-letter-ends letter_left = record {
-  low = lit≤ tt;
-  high = lit≤ tt;
-  no_bracket = λ e. omega (arith, e);
-  no_click = λ e. omega (arith, e);
-}
-letter-ends letter_keypad_begin = record {
-  low = lit≤ tt;
-  high = lit≤ tt;
-  no_bracket = λ e. omega (arith, e);
-  no_click = λ e. omega (arith, e);
-}
-letter-ends letter_end = record {
-  low = lit≤ tt;
-  high = lit≤ tt;
-  no_bracket = λ e. omega (arith, e);
-  no_click = λ e. omega (arith, e);
-}
-letter-ends letter_home = record {
-  low = lit≤ tt;
-  high = lit≤ tt;
-  no_bracket = λ e. omega (arith, e);
-  no_click = λ e. omega (arith, e);
-}
-letter-ends letter_f1 = record {
-  low = lit≤ tt;
-  high = lit≤ tt;
-  no_bracket = λ e. omega (arith, e);
-  no_click = λ e. omega (arith, e);
-}
-letter-ends letter_f2 = record {
-  low = lit≤ tt;
-  high = lit≤ tt;
-  no_bracket = λ e. omega (arith, e);
-  no_click = λ e. omega (arith, e);
-}
-letter-ends letter_f3 = record {
-  low = lit≤ tt;
-  high = lit≤ tt;
-  no_bracket = λ e. omega (arith, e);
-  no_click = λ e. omega (arith, e);
-}
-letter-ends letter_f4 = record {
-  low = lit≤ tt;
-  high = lit≤ tt;
-  no_bracket = λ e. omega (arith, e);
-  no_click = λ e. omega (arith, e);
-}
-letter-ends letter_back_tab = record {
-  low = lit≤ tt;
-  high = lit≤ tt;
-  no_bracket = λ e. omega (arith, e);
-  no_click = λ e. omega (arith, e);
+abbrev ends_sequence : ℕ → Bool
+ends_sequence b = nat_le 64 b && nat_le b 126 && not (b == 91) && not (b == 77)
+
+ends-by : (b : ℕ) → ends_sequence b ≡ true → EndsSequence b
+ends-by b h = record {
+  low = grind (arith, nat_tests);
+  high = grind (arith, nat_tests);
+  no_bracket = λ e. grind (arith, nat_tests);
+  no_click = λ e. grind (arith, nat_tests);
 }
 
--- a number before a tilde
+pub letter-ends : {b : ℕ} {code : KeyCode} → IsLetter b code → EndsSequence b
+unfolding letter_keys
+letter-ends {b = b} letter = ends-by b (numbers-pass ends_sequence refl letter)
+
+-- a number before a tilde: none of the few that have a meaning of their own
+abbrev is_tilde_number : ℕ → Bool
+is_tilde_number n = nat_lt n 35 && not (n == 27)
+
+tilde-number : {n : ℕ} {code : KeyCode} → IsTilde n code → is_tilde_number n ≡ true
+unfolding tilde_keys
+tilde-number tilde = numbers-pass is_tilde_number refl tilde
+
+tilde-found : {n : ℕ} {code : KeyCode} → IsTilde n code → number_key n ≡ Some code
+unfolding tilde_keys
+tilde-found tilde = entry-found refl tilde
+
+number-told : (n : ℕ) (s : Sequence) → s.first ≡ n → is_tilde_number n ≡ true
+    → tilde_event s ≡ number_key_event (number_key s.first) s.kind s.second
+unfolding tilde_event
+number-told n s is test =
+    let pasted : (s.first == 200) ≡ false = grind (arith, nat_tests) in
+    let ended : (s.first == 201) ≡ false = grind (arith, nat_tests) in
+    let other : ((s.first == 27) && nat_le 2 s.numbers) ≡ false = grind (arith, nat_tests) in
+    ap (λ (b : Bool). if b then PasteBegun else (if s.first == 201 then PasteEnded
+    else (if (s.first == 27) && nat_le 2 s.numbers then code_key_event (code_key s.third) s.kind s.second
+    else number_key_event (number_key s.first) s.kind s.second))) pasted
+    ∙ ap (λ (b : Bool). if b then PasteEnded
+    else (if (s.first == 27) && nat_le 2 s.numbers then code_key_event (code_key s.third) s.kind s.second
+    else number_key_event (number_key s.first) s.kind s.second)) ended
+    ∙ ap (λ (b : Bool). if b then code_key_event (code_key s.third) s.kind s.second
+    else number_key_event (number_key s.first) s.kind s.second) other
+
 pub tilde-told : {n : ℕ} {code : KeyCode} → IsTilde n code → (numbers p m t k : ℕ)
     → sequence_event (seq Keys numbers p n m t k) 126 ≡ key_event k code false m
-unfolding sequence_event keys_event tilde_event key_at
-tilde-told tilde_home numbers p m t k = refl
-tilde-told tilde_insert numbers p m t k = refl
-tilde-told tilde_delete numbers p m t k = refl
-tilde-told tilde_end numbers p m t k = refl
-tilde-told tilde_page_up numbers p m t k = refl
-tilde-told tilde_page_down numbers p m t k = refl
-tilde-told tilde7_home numbers p m t k = refl
-tilde-told tilde8_end numbers p m t k = refl
-tilde-told tilde_f1 numbers p m t k = refl
-tilde-told tilde_f2 numbers p m t k = refl
-tilde-told tilde_f3 numbers p m t k = refl
-tilde-told tilde_f4 numbers p m t k = refl
-tilde-told tilde_f5 numbers p m t k = refl
-tilde-told tilde_f6 numbers p m t k = refl
-tilde-told tilde_f7 numbers p m t k = refl
-tilde-told tilde_f8 numbers p m t k = refl
-tilde-told tilde_f9 numbers p m t k = refl
-tilde-told tilde_f10 numbers p m t k = refl
-tilde-told tilde_f11 numbers p m t k = refl
-tilde-told tilde_f12 numbers p m t k = refl
-tilde-told tilde_f13 numbers p m t k = refl
-tilde-told tilde_f14 numbers p m t k = refl
-tilde-told tilde_f15 numbers p m t k = refl
-tilde-told tilde_f16 numbers p m t k = refl
-tilde-told tilde_f17 numbers p m t k = refl
-tilde-told tilde_f18 numbers p m t k = refl
-tilde-told tilde_f19 numbers p m t k = refl
-tilde-told tilde_f20 numbers p m t k = refl
+unfolding sequence_event keys_event
+tilde-told {n = n} tilde numbers p m t k =
+    number-told n (seq Keys numbers p n m t k) refl (tilde-number tilde)
+    ∙ ap (λ (o : Option KeyCode). number_key_event o k m) (tilde-found tilde)
+
+small-number : (n : ℕ) → is_tilde_number n ≡ true → n < 2 ^ 32
+small-number n h = grind (arith, nat_tests)
 
 pub tilde-small : {n : ℕ} {code : KeyCode} → IsTilde n code → n < 2 ^ 32
-tilde-small tilde_home = lit< tt
-tilde-small tilde_insert = lit< tt
-tilde-small tilde_delete = lit< tt
-tilde-small tilde_end = lit< tt
-tilde-small tilde_page_up = lit< tt
-tilde-small tilde_page_down = lit< tt
-tilde-small tilde7_home = lit< tt
-tilde-small tilde8_end = lit< tt
-tilde-small tilde_f1 = lit< tt
-tilde-small tilde_f2 = lit< tt
-tilde-small tilde_f3 = lit< tt
-tilde-small tilde_f4 = lit< tt
-tilde-small tilde_f5 = lit< tt
-tilde-small tilde_f6 = lit< tt
-tilde-small tilde_f7 = lit< tt
-tilde-small tilde_f8 = lit< tt
-tilde-small tilde_f9 = lit< tt
-tilde-small tilde_f10 = lit< tt
-tilde-small tilde_f11 = lit< tt
-tilde-small tilde_f12 = lit< tt
-tilde-small tilde_f13 = lit< tt
-tilde-small tilde_f14 = lit< tt
-tilde-small tilde_f15 = lit< tt
-tilde-small tilde_f16 = lit< tt
-tilde-small tilde_f17 = lit< tt
-tilde-small tilde_f18 = lit< tt
-tilde-small tilde_f19 = lit< tt
-tilde-small tilde_f20 = lit< tt
+tilde-small {n = n} tilde = small-number n (tilde-number tilde)
 
 abbrev lies_elsewhere : ℕ → Bool
 lies_elsewhere n = (nat_le 57344 n && nat_lt n 63744) || is_control n
 
 apart : (c n : ℕ) → is_control c ≡ false → (c < 57344) ⊎ (63744 ≤ c) → lies_elsewhere n ≡ true → (n == c) ≡ false
 apart c n plain where_it_is h = grind (arith, nat_tests)
-
-both : (s t : Bool) → (s && t) ≡ true → (s ≡ true) × (t ≡ true)
-both true true e = (refl, refl)
-both true false e = cc
-both false t e = cc
 
 none-at : (table : List (ℕ × KeyCode)) (c : ℕ) → is_control c ≡ false → (c < 57344) ⊎ (63744 ≤ c)
     → list_all (λ (e : ℕ × KeyCode). lies_elsewhere e.0) table ≡ true → key_at table c ≡ None
@@ -298,189 +186,32 @@ character-told c scalar plain where_it_is =
     ∙ named-none c (scalar_cases c scalar) plain where_it_is
 
 -- a code point
+name-told : {n : ℕ} {code : KeyCode} → IsEntry named_keys n code → code_key n ≡ Some (code, false)
+unfolding code_key keypad_key name_key named_keys
+name-told {n = n} is =
+    ap (λ (o : Option KeyCode). pad_key o (named_key (key_at CODES n) n))
+    (nothing-at KEYPAD n (numbers-pass (has_no KEYPAD) refl is))
+    ∙ ap (λ (o : Option KeyCode). named_key o n) (entry-found refl is)
+
+pad-told : {n : ℕ} {code : KeyCode} → IsEntry keypad_keys n code → code_key n ≡ Some (code, true)
+unfolding code_key keypad_key name_key keypad_keys
+pad-told {n = n} is = ap (λ (o : Option KeyCode). pad_key o (named_key (key_at CODES n) n)) (entry-found refl is)
+
 pub code-told : {n : ℕ} {code : KeyCode} {is_keypad : Bool} → IsCode n code is_keypad → code_key n ≡ Some (code, is_keypad)
-unfolding code_key keypad_key name_key key_at
-code-told code_esc = refl
-code-told code_enter = refl
-code-told code_tab = refl
-code-told code_backspace = refl
-code-told code_caps_lock = refl
-code-told code_scroll_lock = refl
-code-told code_num_lock = refl
-code-told code_print_screen = refl
-code-told code_pause = refl
-code-told code_menu = refl
-code-told code_media_play = refl
-code-told code_media_pause = refl
-code-told code_media_play_pause = refl
-code-told code_media_reverse = refl
-code-told code_media_stop = refl
-code-told code_media_fast_forward = refl
-code-told code_media_rewind = refl
-code-told code_media_track_next = refl
-code-told code_media_track_previous = refl
-code-told code_media_record = refl
-code-told code_media_lower_volume = refl
-code-told code_media_raise_volume = refl
-code-told code_media_mute_volume = refl
-code-told code_modifier_left_shift = refl
-code-told code_modifier_left_control = refl
-code-told code_modifier_left_alt = refl
-code-told code_modifier_left_super = refl
-code-told code_modifier_left_hyper = refl
-code-told code_modifier_left_meta = refl
-code-told code_modifier_right_shift = refl
-code-told code_modifier_right_control = refl
-code-told code_modifier_right_alt = refl
-code-told code_modifier_right_super = refl
-code-told code_modifier_right_hyper = refl
-code-told code_modifier_right_meta = refl
-code-told code_modifier_iso_level3_shift = refl
-code-told code_modifier_iso_level5_shift = refl
-code-told code_f13 = refl
-code-told code_f14 = refl
-code-told code_f15 = refl
-code-told code_f16 = refl
-code-told code_f17 = refl
-code-told code_f18 = refl
-code-told code_f19 = refl
-code-told code_f20 = refl
-code-told code_f21 = refl
-code-told code_f22 = refl
-code-told code_f23 = refl
-code-told code_f24 = refl
-code-told code_f25 = refl
-code-told code_f26 = refl
-code-told code_f27 = refl
-code-told code_f28 = refl
-code-told code_f29 = refl
-code-told code_f30 = refl
-code-told code_f31 = refl
-code-told code_f32 = refl
-code-told code_f33 = refl
-code-told code_f34 = refl
-code-told code_f35 = refl
-code-told pad_char48 = refl
-code-told pad_char49 = refl
-code-told pad_char50 = refl
-code-told pad_char51 = refl
-code-told pad_char52 = refl
-code-told pad_char53 = refl
-code-told pad_char54 = refl
-code-told pad_char55 = refl
-code-told pad_char56 = refl
-code-told pad_char57 = refl
-code-told pad_char46 = refl
-code-told pad_char47 = refl
-code-told pad_char42 = refl
-code-told pad_char45 = refl
-code-told pad_char43 = refl
-code-told pad_enter = refl
-code-told pad_char61 = refl
-code-told pad_char44 = refl
-code-told pad_left = refl
-code-told pad_right = refl
-code-told pad_up = refl
-code-told pad_down = refl
-code-told pad_page_up = refl
-code-told pad_page_down = refl
-code-told pad_home = refl
-code-told pad_end = refl
-code-told pad_insert = refl
-code-told pad_delete = refl
-code-told pad_keypad_begin = refl
+code-told (code_named is) = name-told is
+code-told (code_keypad is) = pad-told is
 code-told (code_character c scalar plain where_it_is) = character-told c scalar plain where_it_is
 
+abbrev is_code_number : ℕ → Bool
+is_code_number n = nat_lt n 65536
+
+code-number : (n : ℕ) → is_code_number n ≡ true → n < 2 ^ 32
+code-number n h = grind (arith, nat_tests)
+
 pub code-small : {n : ℕ} {code : KeyCode} {is_keypad : Bool} → IsCode n code is_keypad → n < 2 ^ 32
-code-small code_esc = lit< tt
-code-small code_enter = lit< tt
-code-small code_tab = lit< tt
-code-small code_backspace = lit< tt
-code-small code_caps_lock = lit< tt
-code-small code_scroll_lock = lit< tt
-code-small code_num_lock = lit< tt
-code-small code_print_screen = lit< tt
-code-small code_pause = lit< tt
-code-small code_menu = lit< tt
-code-small code_media_play = lit< tt
-code-small code_media_pause = lit< tt
-code-small code_media_play_pause = lit< tt
-code-small code_media_reverse = lit< tt
-code-small code_media_stop = lit< tt
-code-small code_media_fast_forward = lit< tt
-code-small code_media_rewind = lit< tt
-code-small code_media_track_next = lit< tt
-code-small code_media_track_previous = lit< tt
-code-small code_media_record = lit< tt
-code-small code_media_lower_volume = lit< tt
-code-small code_media_raise_volume = lit< tt
-code-small code_media_mute_volume = lit< tt
-code-small code_modifier_left_shift = lit< tt
-code-small code_modifier_left_control = lit< tt
-code-small code_modifier_left_alt = lit< tt
-code-small code_modifier_left_super = lit< tt
-code-small code_modifier_left_hyper = lit< tt
-code-small code_modifier_left_meta = lit< tt
-code-small code_modifier_right_shift = lit< tt
-code-small code_modifier_right_control = lit< tt
-code-small code_modifier_right_alt = lit< tt
-code-small code_modifier_right_super = lit< tt
-code-small code_modifier_right_hyper = lit< tt
-code-small code_modifier_right_meta = lit< tt
-code-small code_modifier_iso_level3_shift = lit< tt
-code-small code_modifier_iso_level5_shift = lit< tt
-code-small code_f13 = lit< tt
-code-small code_f14 = lit< tt
-code-small code_f15 = lit< tt
-code-small code_f16 = lit< tt
-code-small code_f17 = lit< tt
-code-small code_f18 = lit< tt
-code-small code_f19 = lit< tt
-code-small code_f20 = lit< tt
-code-small code_f21 = lit< tt
-code-small code_f22 = lit< tt
-code-small code_f23 = lit< tt
-code-small code_f24 = lit< tt
-code-small code_f25 = lit< tt
-code-small code_f26 = lit< tt
-code-small code_f27 = lit< tt
-code-small code_f28 = lit< tt
-code-small code_f29 = lit< tt
-code-small code_f30 = lit< tt
-code-small code_f31 = lit< tt
-code-small code_f32 = lit< tt
-code-small code_f33 = lit< tt
-code-small code_f34 = lit< tt
-code-small code_f35 = lit< tt
-code-small pad_char48 = lit< tt
-code-small pad_char49 = lit< tt
-code-small pad_char50 = lit< tt
-code-small pad_char51 = lit< tt
-code-small pad_char52 = lit< tt
-code-small pad_char53 = lit< tt
-code-small pad_char54 = lit< tt
-code-small pad_char55 = lit< tt
-code-small pad_char56 = lit< tt
-code-small pad_char57 = lit< tt
-code-small pad_char46 = lit< tt
-code-small pad_char47 = lit< tt
-code-small pad_char42 = lit< tt
-code-small pad_char45 = lit< tt
-code-small pad_char43 = lit< tt
-code-small pad_enter = lit< tt
-code-small pad_char61 = lit< tt
-code-small pad_char44 = lit< tt
-code-small pad_left = lit< tt
-code-small pad_right = lit< tt
-code-small pad_up = lit< tt
-code-small pad_down = lit< tt
-code-small pad_page_up = lit< tt
-code-small pad_page_down = lit< tt
-code-small pad_home = lit< tt
-code-small pad_end = lit< tt
-code-small pad_insert = lit< tt
-code-small pad_delete = lit< tt
-code-small pad_keypad_begin = lit< tt
+unfolding named_keys keypad_keys
+code-small {n = n} (code_named is) = code-number n (numbers-pass is_code_number refl is)
+code-small {n = n} (code_keypad is) = code-number n (numbers-pass is_code_number refl is)
 code-small (code_character c scalar plain where_it_is) = scalar_fits c scalar
 
 -- ---- what is told of a key
@@ -493,18 +224,18 @@ key-is k code is_keypad m h = grind (arith, common_steps)
 shifted : (m : ℕ) → m ≤ 256 → with_shift m ≡ (m - 1) / 2 * 2 + 2
 shifted m h = grind (arith, nat_tests)
 
+abbrev IsTold : ℕ → KeyCode → Type 0
+IsTold b code = (k m : ℕ) → m ≤ 256 → letter_code_event (Some code) k m ≡ letter_told code m (kind_of k)
+
+letters-are : AllAre IsTold letter_keys
+unfolding letter_keys
+letters-are =
+    (λ k m h. key-is k Up false m h) ▸ (λ k m h. key-is k Down false m h) ▸ (λ k m h. key-is k Right false m h) ▸
+    (λ k m h. key-is k Left false m h) ▸ (λ k m h. key-is k KeypadBegin false m h) ▸ (λ k m h. key-is k End false m h) ▸
+    (λ k m h. key-is k Home false m h) ▸ (λ k m h. key-is k (F 1) false m h) ▸ (λ k m h. key-is k (F 2) false m h) ▸
+    (λ k m h. key-is k (F 3) false m h) ▸ (λ k m h. key-is k (F 4) false m h) ▸
+    (λ k m h. ap (key_event k BackTab false) (shifted m h) ∙ key-is k BackTab false ((m - 1) / 2 * 2 + 2) (omega arith)) ▸ tt
+
 pub letter-is : {b : ℕ} {code : KeyCode} → IsLetter b code → (k m : ℕ) → m ≤ 256
     → letter_code_event (Some code) k m ≡ letter_told code m (kind_of k)
-letter-is letter_up k m h = key-is k Up false m h
-letter-is letter_down k m h = key-is k Down false m h
-letter-is letter_right k m h = key-is k Right false m h
-letter-is letter_left k m h = key-is k Left false m h
-letter-is letter_keypad_begin k m h = key-is k KeypadBegin false m h
-letter-is letter_end k m h = key-is k End false m h
-letter-is letter_home k m h = key-is k Home false m h
-letter-is letter_f1 k m h = key-is k (F 1) false m h
-letter-is letter_f2 k m h = key-is k (F 2) false m h
-letter-is letter_f3 k m h = key-is k (F 3) false m h
-letter-is letter_f4 k m h = key-is k (F 4) false m h
-letter-is letter_back_tab k m h = ap (key_event k BackTab false) (shifted m h) ∙ key-is k BackTab false ((m - 1) / 2 * 2 + 2)
-    (omega arith)
+letter-is letter k m h = entries-are IsTold letters-are letter k m h

@@ -1,8 +1,8 @@
 -- Each sequence that is tolerated is read as its event.
 use Rattle.std.proofs.Common.{◌≡◌, ◌≢◌, ◌⊎◌, inl, inr, ℕ, ◌+◌, ◌-◌, ◌*◌, ◌^◌, min, ◌<◌, ◌≤◌, Bool, true, false, List, [], ◌∷◌}
 use Rattle.std.proofs.Common.{◌++◌, Option, Some, None, refl, ap, sym, ◌∙◌, subst, arith}
-use Rattle.std.specs.Prelude.{nat_lt, if◌then◌else◌, ◌==◌, ◌&&◌}
-use Rattle.std.proofs.lemmas.Bool.{cases_eq, cases_lt}
+use Rattle.std.specs.Prelude.{nat_lt, if◌then◌else◌, ◌==◌}
+use Rattle.std.proofs.lemmas.Bool.{cases_eq}
 use Rattle.std.proofs.lemmas.Bool.Decides.{nat_tests}
 use Rattle.std.proofs.lemmas.Grind.{common_steps}
 use Rattle.ratatui_events.specs.declared.event.Event.{Event}
@@ -17,14 +17,11 @@ use Rattle.ratatui_input.specs.declared.sequence.Source.{Source}
 use Rattle.ratatui_input.specs.declared.sequence.Source.TheVariants.{Keys, Mouse as FromMouse}
 use Rattle.ratatui_input.specs.declared.keys.TheConstants.{CODES, KEYPAD}
 use Rattle.ratatui_input.specs.Keys.{key_at, code_key, keypad_key, name_key, named_key, pad_key, tab_key}
-use Rattle.ratatui_input.specs.KeyTables.{IsLetter, IsCode}
-use Rattle.ratatui_input.specs.KeyTables.{letter_up, letter_down, letter_right, letter_left, letter_keypad_begin, letter_end}
-use Rattle.ratatui_input.specs.KeyTables.{letter_home, letter_f1, letter_f2, letter_f3, letter_f4, letter_back_tab}
 use Rattle.ratatui_input.specs.Mouse.{mouse_event}
 use Rattle.ratatui_input.specs.Encodings.{IsDigits}
 use Rattle.ratatui_input.specs.Grammar.{csi, AreCodes, AreNumbers, code_told, typed_told, told_character}
 use Rattle.ratatui_input.specs.Sequences.{kind_of, pushed, digit_pushed, no_numbers, sequence_event, keys_event, pointer_event}
-use Rattle.ratatui_input.specs.Sequences.{letter_event, tilde_event, code_event, size_event, position_event, letter_code_event}
+use Rattle.ratatui_input.specs.Sequences.{tilde_event, code_event, size_event, position_event}
 use Rattle.ratatui_input.specs.Sequences.{code_key_event, told_code_event}
 use Rattle.ratatui_input.specs.Decoding.{Told, stepped, first, after_escape, after_bracket, in_sequence, going_on, decoded}
 use Rattle.ratatui_input.specs.Decoding.{byte_told, told_event}
@@ -33,13 +30,13 @@ use Rattle.ratatui_input.specs.Pieces.{held_with_more, HasNumbers, has_one, has_
 use Rattle.ratatui_input.specs.Pieces.{private_code}
 use Rattle.ratatui_input.specs.Pieces.{Tolerates, any_letter, any_tilde, any_code, any_text, any_other, any_begun, any_ended, any_size}
 use Rattle.ratatui_input.specs.Pieces.{any_position, any_plain_mouse, any_down, any_up, any_gained, any_lost}
-use Rattle.ratatui_input.proofs.TableLemmas.{seq, letter-is, key-is, letter-ends, tilde-told, code-told}
+use Rattle.ratatui_input.proofs.TableLemmas.{seq, letter-says, letter-is, key-is, letter-ends, tilde-told, code-told}
 use Rattle.ratatui_input.proofs.StepLemmas.{at, Leads, leads-none, leads-one, leads-cons, leads-append, ends, digit_of}
 use Rattle.ratatui_input.proofs.StepLemmas.{digits-kept, first-digit, bracket-last, last-byte}
 use Rattle.ratatui_input.proofs.NothingLemmas.{inside-step, digit-goes, bracket-step, goes}
 use Rattle.ratatui_input.proofs.GrammarLemmas.{code-first, text-says, mouse-is}
 use Rattle.ratatui_input.proofs.ToldLemmas.{told-is}
-use Rattle.ratatui_input.proofs.CodeLemmas.{at-table, names, pads, IsName, IsPad, function-code}
+use Rattle.ratatui_input.proofs.CodeLemmas.{name-of, pad-of}
 use Rattle.ratatui_input.proofs.NumberLemmas.{more_parts}
 
 -- ---- digits and colons that mean nothing
@@ -418,51 +415,23 @@ pointer-told q {body = body} {c = c} {n = n} {m = m} {t = t} {k = k} last event 
 
 -- ---- what each last byte says
 
-no-report : (c n : ℕ) → (c ≡ 1 → n ≡ 1) → ((c == 1) && (if n == 1 then false else true)) ≡ false
-no-report c n h = grind (arith, nat_tests)
-
-letter-says : {b : ℕ} {code : KeyCode} → IsLetter b code → (c p n m t k : ℕ) → (b ≡ 82 → c ≡ 1 → n ≡ 1)
-    → sequence_event (seq Keys c p n m t k) b ≡ letter_code_event (Some code) k (if c == 0 then n else m)
-unfolding sequence_event keys_event letter_event key_at
-letter-says letter_up c p n m t k h = refl
-letter-says letter_down c p n m t k h = refl
-letter-says letter_right c p n m t k h = refl
-letter-says letter_left c p n m t k h = refl
-letter-says letter_keypad_begin c p n m t k h = refl
-letter-says letter_end c p n m t k h = refl
-letter-says letter_home c p n m t k h = refl
-letter-says letter_f1 c p n m t k h = refl
-letter-says letter_f2 c p n m t k h = refl
-letter-says letter_f3 c p n m t k h =
-    ap (λ (x : Bool). if x then position_event (seq Keys c p n m t k) else letter_event (seq Keys c p n m t k) 82)
-    (no-report c n (h refl))
-letter-says letter_f4 c p n m t k h = refl
-letter-says letter_back_tab c p n m t k h = refl
-
 -- the key of a code point
 no-entry : (o : Option KeyCode) → ((code : KeyCode) → o ≡ Some code → ⊥) → o ≡ None
 no-entry None h = refl
 no-entry (Some code) h = absurd (h code refl)
 
-outside : (c : ℕ) → ((code : KeyCode) (is_keypad : Bool) → IsCode c code is_keypad → ⊥) → (c < 57385) ⊎ (57398 < c)
-outside c free =
-    elim (cases_lt c 57385) [
-      | inl low ↦ inl low
-      | inr x ↦ elim (cases_lt 57398 c) [ inl high ↦ inr high | inr y ↦ absurd (free _ false (function-code c x y)) ]
-    ]
-
-private-named : (c : ℕ) → 57344 ≤ c → c < 63744 → (c < 57385) ⊎ (57398 < c) → named_key None c ≡ Some (Char c, false)
-private-named c low high out = grind (arith, nat_tests)
+private-named : (c : ℕ) → 57344 ≤ c → c < 63744 → named_key None c ≡ Some (Char c, false)
+private-named c low high = grind (arith, nat_tests)
 
 point-told : {n : ℕ} {code : KeyCode} {is_keypad : Bool} → IsCodePoint n code is_keypad → code_key n ≡ Some (code, is_keypad)
 unfolding code_key keypad_key name_key
 point-told (named_code c) = code-told c
 point-told (private_code c low high free) =
     ap (λ (o : Option KeyCode). pad_key o (named_key (key_at CODES c) c))
-    (no-entry (key_at KEYPAD c) (λ code e. free code true (at-table IsPad KEYPAD c code pads e)))
+    (no-entry (key_at KEYPAD c) (λ code e. free code true (pad-of c code e)))
     ∙ ap (λ (o : Option KeyCode). named_key o c)
-    (no-entry (key_at CODES c) (λ code e. free code false (at-table IsName CODES c code names e)))
-    ∙ private-named c low high (outside c free)
+    (no-entry (key_at CODES c) (λ code e. free code false (name-of c code e)))
+    ∙ private-named c low high
 
 third-says : {n : ℕ} {code : KeyCode} {is_keypad : Bool} (k m : ℕ) → IsCodePoint n code is_keypad → m ≤ 256
     → code_key_event (code_key n) k m ≡ code_told code is_keypad m (kind_of k)

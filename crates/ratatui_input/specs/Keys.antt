@@ -10,7 +10,6 @@ use Rattle.ratatui_events.specs.declared.event.Event.{Event}
 use Rattle.ratatui_events.specs.declared.event.Event.TheVariants.{Key}
 use Rattle.ratatui_events.specs.declared.key.KeyCode.{KeyCode}
 use Rattle.ratatui_events.specs.declared.key.KeyCode.TheVariants.{Char, Tab, BackTab, Enter, Esc, Backspace}
-use Rattle.ratatui_events.specs.declared.key.KeyCode.TheVariants.{F}
 use Rattle.ratatui_events.specs.Key.{held, pressed}
 use Rattle.ratatui_events.specs.declared.key.KeyEvent.{KeyEvent}
 use Rattle.ratatui_input.specs.declared.keys.TheConstants.{LETTERS, NUMBERS, CODES, KEYPAD}
@@ -73,8 +72,7 @@ name_key code = key_at CODES code
 -- the key of a code point that isn't one of the keypad
 abbrev pub named_key : Option KeyCode → ℕ → Option (KeyCode × Bool)
 named_key (Some key) code = Some (key, false)
-named_key None code = if nat_le 57385 code && nat_le code 57398 then Some (F (code - 57363), false)
-    else character_key (scalar_at code)
+named_key None code = character_key (scalar_at code)
 
 abbrev pub pad_key : Option KeyCode → Option (KeyCode × Bool) → Option (KeyCode × Bool)
 pad_key (Some key) other = Some (key, true)

@@ -86,7 +86,7 @@ static NUMBERS: [(u32, KeyCode); 28] = [
 ];
 
 // The keys without a character of their own, by their code points in Unicode's private use.
-static CODES: [(u32, KeyCode); 46] = [
+static CODES: [(u32, KeyCode); 60] = [
     (27, KeyCode::Esc),
     (13, KeyCode::Enter),
     (9, KeyCode::Tab),
@@ -133,6 +133,20 @@ static CODES: [(u32, KeyCode); 46] = [
     (57382, KeyCode::F(19)),
     (57383, KeyCode::F(20)),
     (57384, KeyCode::F(21)),
+    (57385, KeyCode::F(22)),
+    (57386, KeyCode::F(23)),
+    (57387, KeyCode::F(24)),
+    (57388, KeyCode::F(25)),
+    (57389, KeyCode::F(26)),
+    (57390, KeyCode::F(27)),
+    (57391, KeyCode::F(28)),
+    (57392, KeyCode::F(29)),
+    (57393, KeyCode::F(30)),
+    (57394, KeyCode::F(31)),
+    (57395, KeyCode::F(32)),
+    (57396, KeyCode::F(33)),
+    (57397, KeyCode::F(34)),
+    (57398, KeyCode::F(35)),
 ];
 
 // The keys of the keypad, by their code points.
@@ -264,13 +278,7 @@ fn named_key(code: u32) -> Option<(KeyCode, bool)>
 {
     match name_key(code) {
         Some(key) => Some((key, false)),
-        None => {
-            if 57385 <= code && code <= 57398 {
-                Some((KeyCode::F((code - 57363) as u8), false))
-            } else {
-                character_key(code)
-            }
-        }
+        None => character_key(code),
     }
 }
 
