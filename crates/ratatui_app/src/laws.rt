@@ -1,7 +1,6 @@
 //! Laws of applications.
 
-ghost use Rattle.std.specs.Prelude.{◌≡◌, ℕ, List};
-ghost use Rattle.std.specs.declared.time.Duration.{Duration};
+ghost use Rattle.std.specs.Prelude.{◌≡◌};
 ghost use Rattle.ratatui_acts.specs.Turns.{Turn, turn_size};
 ghost use Rattle.ratatui_acts.specs.Runs.{Now, IsTurn};
 ghost use Rattle.ratatui_app.specs.declared.on_glass.OnGlass.{OnGlass as OnGlassData};
@@ -10,6 +9,8 @@ ghost use Rattle.ratatui_app.specs.Glass.{sender, StandsOnGlass, HasSizeTold};
 ghost use Rattle.ratatui_app.specs.Runs.{on_glass};
 
 use crate::application::Application;
+use crate::on_glass::OnGlass;
+use ratatui_acts::{Hears, Outside};
 use ratatui_ansi::AnsiBackend;
 use ratatui_ansi::laws::bytes_show_the_last_buffer;
 use ratatui_core::terminal::Terminal;
@@ -31,11 +32,14 @@ pub fn shown_states_are_on_the_glass<W: Write + Drop, A: Application>(
 
 /// After each turn of a run the screen has the size that the turn told last; if it told none, it has
 /// the one that it had.
-pub fn told_sizes_are_the_screens<W: Write + Drop, A: Application, H, O>()
-    ensures { (gives : H → ℕ → List ℕ → Duration → H → Type 0) (fails : H → H → Type 0)
-        (answers : O → A.Command → A.Answer → O → Type 0)
-        (before after : Now A (OnGlassData W) H O) (turn : Turn A.Command A.Answer)
-        → IsTurn (on_glass A.Acts A.paints A.cursor gives fails answers) before turn after
+pub fn told_sizes_are_the_screens<
+    W: Write + Drop,
+    A: Application,
+    H: Hears<A, OnGlass<W>>,
+    O: Outside<A, OnGlass<W>>,
+>()
+    ensures { (before after : Now A (OnGlassData W) H O) (turn : Turn A.Command A.Answer)
+        → IsTurn (on_glass A.Acts A.paints A.cursor H.gives H.fails O.answers) before turn after
         → HasSizeTold (turn_size before.standing turn)
         before.glass.terminal after.glass.terminal }
 {

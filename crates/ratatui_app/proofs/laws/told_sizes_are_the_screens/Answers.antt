@@ -2,5 +2,5 @@ use Rattle.ratatui_app.proofs.SizeLemmas.{turn-size}
 use Rattle.ratatui_app.proofs.laws.told_sizes_are_the_screens.Goals as goal
 
 pub returns : goal.returns
-returns g c = λ gives fails answers before after turn is.
-    turn-size c.told_sizes_have_cells.ensures g.A.Acts g.A.paints g.A.cursor gives fails answers before after turn is
+returns g c = λ before after turn is.
+    turn-size c.told_sizes_have_cells.ensures g.A.Acts g.A.paints g.A.cursor g.H.gives g.H.fails g.O.answers before after turn is
