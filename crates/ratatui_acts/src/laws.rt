@@ -21,10 +21,10 @@ use std::rt::Clock;
 /// Where a run stands now, the state is what its turns make of the first one, one after the other:
 /// what was read, and what was answered. What was read and waits is in the seat.
 pub fn a_run_makes_what_its_turns_make<A: Acts, G: Glass<A>, H: Hears<A, G>, O: Outside<A, G>>()
-    ensures { let ground = ground_of A.Acts G.shows G.moves G.lacks H.gives H.fails O.answers in
+    ensures { let basis = ground_of A.Acts G.shows G.moves G.lacks H.gives H.fails O.answers in
         (begun now : Now A G H O) (past : List (Past A A.Command A.Answer G H O))
-        → HasRun ground begun past now
-        → now.standing ≡ after_turns A.Acts begun.standing (turns_of ground past) }
+        → HasRun basis begun past now
+        → now.standing ≡ after_turns A.Acts begun.standing (turns_of basis past) }
 {}
 
 /// Wherever a run read, all that it had read before had been told to the state that the glass
@@ -35,10 +35,10 @@ pub fn what_was_read_is_told_before_more_is_read<
     H: Hears<A, G>,
     O: Outside<A, G>,
 >()
-    ensures { let ground = ground_of A.Acts G.shows G.moves G.lacks H.gives H.fails O.answers in
+    ensures { let basis = ground_of A.Acts G.shows G.moves G.lacks H.gives H.fails O.answers in
         (begun now : Now A G H O) (past : List (Past A A.Command A.Answer G H O))
-        → begun.standing.left ≡ [] → HasRun ground begun past now
-        → AreAnswered ground past }
+        → begun.standing.left ≡ [] → HasRun basis begun past now
+        → AreAnswered basis past }
 {}
 
 /// Whenever a run read, or did something, the glass showed the state that all turns before make of
@@ -50,9 +50,9 @@ pub fn each_turn_was_made_while_its_state_was_shown<
     H: Hears<A, G>,
     O: Outside<A, G>,
 >()
-    ensures { let ground = ground_of A.Acts G.shows G.moves G.lacks H.gives H.fails O.answers in
+    ensures { let basis = ground_of A.Acts G.shows G.moves G.lacks H.gives H.fails O.answers in
         (begun now : Now A G H O) (past : List (Past A A.Command A.Answer G H O))
-        → HasRun ground begun past now → AreTimely ground begun.standing past }
+        → HasRun basis begun past now → AreTimely basis begun.standing past }
 {}
 
 /// Of states that ask for nothing, and that ticks don't change, decoder and state are what the
@@ -63,22 +63,22 @@ pub fn reads_decide_where_nothing_is_asked_for<
     H: Hears<A, G>,
     O: Outside<A, G>,
 >()
-    ensures { let ground = ground_of A.Acts G.shows G.moves G.lacks H.gives H.fails O.answers in
+    ensures { let basis = ground_of A.Acts G.shows G.moves G.lacks H.gives H.fails O.answers in
         AsksNothing A.Acts
         → (begun now : Now A G H O) (past : List (Past A A.Command A.Answer G H O))
-        → begun.standing.left ≡ [] → HasRun ground begun past now
+        → begun.standing.left ≡ [] → HasRun basis begun past now
         → seat_between now.standing ≡ after_reads (event_rules A.Acts) (seat_between begun.standing)
-        (turn_reads (turns_of ground past)) }
+        (turn_reads (turns_of basis past)) }
 {}
 
 /// The reads of a run are those that its source gave, in order.
 pub fn the_reads_are_what_a_source_gave<A: Acts, G: Glass<A>, S: Source, O: Outside<A, G>>()
-    ensures { let ground = ground_of A.Acts G.shows G.moves G.lacks
+    ensures { let basis = ground_of A.Acts G.shows G.moves G.lacks
         (GivesUntimed S.coming) (FailsToGive S.coming) O.answers in
         (begun now : Now A G S O) (past : List (Past A A.Command A.Answer G S O))
-        → HasRun ground begun past now
+        → HasRun basis begun past now
         → GivesReads (S.coming begun.ears) (S.coming now.ears)
-        (turn_reads (turns_of ground past)) }
+        (turn_reads (turns_of basis past)) }
 {}
 
 /// The times that the ticks of a run tell add up to what the clock has gone on from the beginning
@@ -91,12 +91,12 @@ pub fn ticks_tell_the_time_of_the_clock<
     C: Clock,
     O: Outside<A, G>,
 >()
-    ensures { let ground = ground_of A.Acts G.shows G.moves G.lacks
+    ensures { let basis = ground_of A.Acts G.shows G.moves G.lacks
         (GivesTimed (λ c. S.coming c.source) (λ c. instant_nanos c.last))
         (FailsToGive (λ c. S.coming c.source)) O.answers in
         (begun now : Now A G (ClockedSource S C) O)
         (past : List (Past A A.Command A.Answer G (ClockedSource S C) O))
-        → HasRun ground begun past now
+        → HasRun basis begun past now
         → instant_nanos now.ears.last
-        ≡ instant_nanos begun.ears.last + time_told (turns_of ground past) }
+        ≡ instant_nanos begun.ears.last + time_told (turns_of basis past) }
 {}

@@ -21,14 +21,14 @@ fn step<A: Acts, G: Glass<A>, H: Hears<A, G>, O: Outside<A, G>>(
 ) -> Result<bool, Fault<G::Error>>
     requires shown { G.shows glass.old seat.old.state }
     requires goes_on { A.is_over seat.old.state ≡ false }
-    ensures steps { let ground = ground_of A.Acts G.shows G.moves G.lacks
+    ensures steps { let basis = ground_of A.Acts G.shows G.moves G.lacks
         H.gives H.fails O.answers in
-        IfOk result (ShowsTurn ground
+        IfOk result (ShowsTurn basis
         (now_of seat.old glass.old ears.old outside.old)
         (now_of seat.new glass.new ears.new outside.new)) }
-    ensures stops { let ground = ground_of A.Acts G.shows G.moves G.lacks
+    ensures stops { let basis = ground_of A.Acts G.shows G.moves G.lacks
         H.gives H.fails O.answers in
-        IfErr result (StopsNext ground
+        IfErr result (StopsNext basis
         (now_of seat.old glass.old ears.old outside.old)
         (now_of seat.new glass.new ears.new outside.new)) }
 {
@@ -66,14 +66,14 @@ pub fn run<A: Acts, G: Glass<A>, H: Hears<A, G>, O: Outside<A, G>>(
     seat: &mut Seat<A>,
 ) -> Result<(), Fault<G::Error>>
     requires { G.is_ready glass.old }
-    ensures runs { let ground = ground_of A.Acts G.shows G.moves G.lacks
+    ensures runs { let basis = ground_of A.Acts G.shows G.moves G.lacks
         H.gives H.fails O.answers in
-        OnOk result (RunsToEnd ground has_ticks
+        OnOk result (RunsToEnd basis has_ticks
         (now_of seat.old glass.old ears.old outside.old)
         (now_of seat.new glass.new ears.new outside.new)) }
-    ensures stops { let ground = ground_of A.Acts G.shows G.moves G.lacks
+    ensures stops { let basis = ground_of A.Acts G.shows G.moves G.lacks
         H.gives H.fails O.answers in
-        IfErr result (StopsTurning ground
+        IfErr result (StopsTurning basis
         (now_of seat.old glass.old ears.old outside.old)
         (now_of seat.new glass.new ears.new outside.new)) }
 {

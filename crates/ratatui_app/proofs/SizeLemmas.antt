@@ -1,5 +1,5 @@
 -- The screen has each size that is told.
-use Rattle.std.proofs.Common.{rules, arith, ◌≡◌, ◌⊎◌, inl, inr, ◌<◌, ℕ, List, Option, Some, None, refl, sym, subst, ap, ◌∙◌}
+use Rattle.std.proofs.Common.{rules, arith, ◌≡◌, inl, inr, ◌<◌, ℕ, List, Option, Some, None, refl, subst, ap, ◌∙◌}
 use Rattle.std.specs.declared.time.Duration.{Duration}
 use Rattle.ratatui_core.specs.{Layout.Rect, Layout.Position, Buffer.BufferData}
 use Rattle.ratatui_core.specs.Backend.{size_of, HasNoCells}

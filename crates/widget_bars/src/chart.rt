@@ -262,7 +262,7 @@ impl<'a> BarChart<'a> {
             bar_width: self.bar_width,
             bar_gap: self.bar_gap,
             group_gap: self.group_gap,
-            bar_set: self.bar_set.clone()?,
+            bar_set: self.bar_set,
             bar_style: self.bar_style,
             value_style: self.value_style,
             label_style: self.label_style,

@@ -171,7 +171,7 @@ impl<'a> Sparkline<'a> {
             absent_value_symbol: self.absent_value_symbol,
             bars: Vec::from_slice(alloc, self.bars.as_slice())?,
             max: self.max,
-            bar_set: self.bar_set.clone()?,
+            bar_set: self.bar_set,
             direction: self.direction,
         })
     }

@@ -1,6 +1,5 @@
 use Rattle.widget_boxes.proofs.CloneLemmas.{block-same}
 use Rattle.widget_sparkline.specs.contracts.sparkline.SparklineEq.TheImpl.Laws.{laws-law}
-use Rattle.widget_sparkline.proofs.LevelLemmas.{set-same}
 use Rattle.widget_sparkline.proofs.sparkline.Sparkline.clone.Goals as goal
 
 pub returns : goal.returns
@@ -9,5 +8,4 @@ returns c =
       block-same _ _ c.in_ok-cloned_block.ensures,
       c.in_ok-from_slice.ensures.items,
       c.as_slice.ensures.value,
-      set-same c.args.self.now.bar_set c.in_ok-clone.field-0 c.in_ok-clone.ensures.cases,
     ) (laws-law.refl c.args.self.now)
