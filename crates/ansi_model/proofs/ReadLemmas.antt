@@ -1,11 +1,11 @@
 -- What a terminal makes of appended bytes, of numbers, and of whole sequences.
 use Rattle.std.proofs.Common.{◌≡◌, ℕ, ◌+◌, ◌-◌, ◌*◌, ◌/◌, ◌%◌, ◌<◌, ◌≤◌, ◌^◌, min, List, [], ◌∷◌, ◌++◌, Bool, true, false, zero}
 use Rattle.std.proofs.Common.{suc, refl, sym, ap, ap₂, ◌∙◌, arith, ◌==◌, ◌&&◌, nat_lt, nat_eq, if◌then◌else◌, Result, Ok, Err}
-use Rattle.std.proofs.Common.{OnOk, append_assoc, append-nil, subst}
+use Rattle.std.proofs.Common.{OnOk, append_assoc, append-nil, subst, codes}
 use Rattle.std.specs.{Result.is_ok, Fmt.decimal}
 use Rattle.std.proofs.lemmas.{Fmt.decimal_by_steps, Fmt.decimal_step, Fmt.decimal_digit, Bool.Decides.nat_tests}
 use Rattle.std.proofs.Math.Nat.{div-add-mod'}
-use Rattle.ansi_model.specs.Commands.{cursor_bytes}
+use Rattle.ansi_model.specs.Commands.{cursor_bytes, style_digit}
 use Rattle.ansi_model.specs.Emulator.{Emulator, Phase, rested, cursor_moved, returned, erased, scrolled, line_fed, fed, if_so}
 use Rattle.ansi_model.specs.Emulator.{cursor_shown, with_region, without_region, lines_deleted, lines_inserted, with_modes}
 use Rattle.ansi_model.specs.Emulator.{holding, with_sgr}
@@ -440,73 +440,28 @@ settling-read t ground =
 
 -- ---- what changes nothing on the screen
 
-quiet_1000h : (t : Emulator) → t.phase ≡ Ground → feed (27 ∷ 91 ∷ 63 ∷ 49 ∷ 48 ∷ 48 ∷ 48 ∷ 104 ∷ []) t ≡ rested t
-unfolding feed
-quiet_1000h t ground = begun (63 ∷ 49 ∷ 48 ∷ 48 ∷ 48 ∷ 104 ∷ []) t ground
+-- a sequence that changes nothing
+abbrev IsIdle : List ℕ → Type 0
+IsIdle rest = (t : Emulator) → feed rest (within Opened (rested t)) ≡ rested t
 
-quiet_1002h : (t : Emulator) → t.phase ≡ Ground → feed (27 ∷ 91 ∷ 63 ∷ 49 ∷ 48 ∷ 48 ∷ 50 ∷ 104 ∷ []) t ≡ rested t
-unfolding feed
-quiet_1002h t ground = begun (63 ∷ 49 ∷ 48 ∷ 48 ∷ 50 ∷ 104 ∷ []) t ground
+idle-read : (rest : List ℕ) → IsIdle rest → (t : Emulator) → t.phase ≡ Ground → feed (27 ∷ 91 ∷ rest) t ≡ rested t
+idle-read rest idle t ground = begun rest t ground ∙ idle t
 
-quiet_1003h : (t : Emulator) → t.phase ≡ Ground → feed (27 ∷ 91 ∷ 63 ∷ 49 ∷ 48 ∷ 48 ∷ 51 ∷ 104 ∷ []) t ≡ rested t
-unfolding feed
-quiet_1003h t ground = begun (63 ∷ 49 ∷ 48 ∷ 48 ∷ 51 ∷ 104 ∷ []) t ground
+-- sequences that change nothing, one after the other
+idle-then : (rest : List ℕ) → IsIdle rest → (after : List ℕ) → ((t : Emulator) → feed after (rested t) ≡ rested t)
+    → (t : Emulator) → t.phase ≡ Ground → feed ((27 ∷ 91 ∷ rest) ++ after) t ≡ rested t
+idle-then rest idle after quiet t ground =
+    feed-append (27 ∷ 91 ∷ rest) after t ∙ ap (feed after) (idle-read rest idle t ground) ∙ quiet t
 
-quiet_1006h : (t : Emulator) → t.phase ≡ Ground → feed (27 ∷ 91 ∷ 63 ∷ 49 ∷ 48 ∷ 48 ∷ 54 ∷ 104 ∷ []) t ≡ rested t
-unfolding feed
-quiet_1006h t ground = begun (63 ∷ 49 ∷ 48 ∷ 48 ∷ 54 ∷ 104 ∷ []) t ground
-
-quiet_1006l : (t : Emulator) → t.phase ≡ Ground → feed (27 ∷ 91 ∷ 63 ∷ 49 ∷ 48 ∷ 48 ∷ 54 ∷ 108 ∷ []) t ≡ rested t
-unfolding feed
-quiet_1006l t ground = begun (63 ∷ 49 ∷ 48 ∷ 48 ∷ 54 ∷ 108 ∷ []) t ground
-
-quiet_1003l : (t : Emulator) → t.phase ≡ Ground → feed (27 ∷ 91 ∷ 63 ∷ 49 ∷ 48 ∷ 48 ∷ 51 ∷ 108 ∷ []) t ≡ rested t
-unfolding feed
-quiet_1003l t ground = begun (63 ∷ 49 ∷ 48 ∷ 48 ∷ 51 ∷ 108 ∷ []) t ground
-
-quiet_1002l : (t : Emulator) → t.phase ≡ Ground → feed (27 ∷ 91 ∷ 63 ∷ 49 ∷ 48 ∷ 48 ∷ 50 ∷ 108 ∷ []) t ≡ rested t
-unfolding feed
-quiet_1002l t ground = begun (63 ∷ 49 ∷ 48 ∷ 48 ∷ 50 ∷ 108 ∷ []) t ground
-
-quiet_1000l : (t : Emulator) → t.phase ≡ Ground → feed (27 ∷ 91 ∷ 63 ∷ 49 ∷ 48 ∷ 48 ∷ 48 ∷ 108 ∷ []) t ≡ rested t
-unfolding feed
-quiet_1000l t ground = begun (63 ∷ 49 ∷ 48 ∷ 48 ∷ 48 ∷ 108 ∷ []) t ground
-
-quiet_2004h : (t : Emulator) → t.phase ≡ Ground → feed (27 ∷ 91 ∷ 63 ∷ 50 ∷ 48 ∷ 48 ∷ 52 ∷ 104 ∷ []) t ≡ rested t
-unfolding feed
-quiet_2004h t ground = begun (63 ∷ 50 ∷ 48 ∷ 48 ∷ 52 ∷ 104 ∷ []) t ground
-
-quiet_2004l : (t : Emulator) → t.phase ≡ Ground → feed (27 ∷ 91 ∷ 63 ∷ 50 ∷ 48 ∷ 48 ∷ 52 ∷ 108 ∷ []) t ≡ rested t
-unfolding feed
-quiet_2004l t ground = begun (63 ∷ 50 ∷ 48 ∷ 48 ∷ 52 ∷ 108 ∷ []) t ground
-
-quiet_1004h : (t : Emulator) → t.phase ≡ Ground → feed (27 ∷ 91 ∷ 63 ∷ 49 ∷ 48 ∷ 48 ∷ 52 ∷ 104 ∷ []) t ≡ rested t
-unfolding feed
-quiet_1004h t ground = begun (63 ∷ 49 ∷ 48 ∷ 48 ∷ 52 ∷ 104 ∷ []) t ground
-
-quiet_1004l : (t : Emulator) → t.phase ≡ Ground → feed (27 ∷ 91 ∷ 63 ∷ 49 ∷ 48 ∷ 48 ∷ 52 ∷ 108 ∷ []) t ≡ rested t
-unfolding feed
-quiet_1004l t ground = begun (63 ∷ 49 ∷ 48 ∷ 48 ∷ 52 ∷ 108 ∷ []) t ground
-
-quiet_2048h : (t : Emulator) → t.phase ≡ Ground → feed (27 ∷ 91 ∷ 63 ∷ 50 ∷ 48 ∷ 52 ∷ 56 ∷ 104 ∷ []) t ≡ rested t
-unfolding feed
-quiet_2048h t ground = begun (63 ∷ 50 ∷ 48 ∷ 52 ∷ 56 ∷ 104 ∷ []) t ground
-
-quiet_2048l : (t : Emulator) → t.phase ≡ Ground → feed (27 ∷ 91 ∷ 63 ∷ 50 ∷ 48 ∷ 52 ∷ 56 ∷ 108 ∷ []) t ≡ rested t
-unfolding feed
-quiet_2048l t ground = begun (63 ∷ 50 ∷ 48 ∷ 52 ∷ 56 ∷ 108 ∷ []) t ground
-
-quiet_22t : (t : Emulator) → t.phase ≡ Ground → feed (27 ∷ 91 ∷ 50 ∷ 50 ∷ 59 ∷ 50 ∷ 116 ∷ []) t ≡ rested t
-unfolding feed
-quiet_22t t ground = begun (50 ∷ 50 ∷ 59 ∷ 50 ∷ 116 ∷ []) t ground
-
-quiet_23t : (t : Emulator) → t.phase ≡ Ground → feed (27 ∷ 91 ∷ 50 ∷ 51 ∷ 59 ∷ 50 ∷ 116 ∷ []) t ≡ rested t
-unfolding feed
-quiet_23t t ground = begun (50 ∷ 51 ∷ 59 ∷ 50 ∷ 116 ∷ []) t ground
-
-quiet_pop : (t : Emulator) → t.phase ≡ Ground → feed (27 ∷ 91 ∷ 60 ∷ 49 ∷ 117 ∷ []) t ≡ rested t
-unfolding feed
-quiet_pop t ground = begun (60 ∷ 49 ∷ 117 ∷ []) t ground
+-- four modes, one after the other
+modes-read : (one two three four : List ℕ) → IsIdle one → IsIdle two → IsIdle three → IsIdle four → (t : Emulator)
+    → t.phase ≡ Ground
+    → feed ((27 ∷ 91 ∷ one) ++ ((27 ∷ 91 ∷ two) ++ ((27 ∷ 91 ∷ three) ++ (27 ∷ 91 ∷ four)))) t ≡ rested t
+modes-read one two three four first second third fourth t ground =
+    idle-then one first ((27 ∷ 91 ∷ two) ++ ((27 ∷ 91 ∷ three) ++ (27 ∷ 91 ∷ four)))
+    (λ s. idle-then two second ((27 ∷ 91 ∷ three) ++ (27 ∷ 91 ∷ four))
+    (λ u. idle-then three third (27 ∷ 91 ∷ four) (λ v. idle-read four fourth (rested v) refl) (rested u) refl)
+    (rested s) refl) t ground
 
 -- kitty's keyboard protocol changes nothing on the screen
 keyed-read : (mark n : ℕ) → is_key_mark mark ≡ true → (mark == 63) ≡ false → n < 2 ^ 64 → (t : Emulator) → t.phase ≡ Ground
@@ -525,63 +480,34 @@ keyboard-read flags small = keyed-read 62 (flag_bits flags) refl refl small
 pub keyboard_pop-read : (n : ℕ) → n < 2 ^ 64 → (t : Emulator) → t.phase ≡ Ground → feed (keyboard_pop_bytes n) t ≡ rested t
 keyboard_pop-read n small = keyed-read 60 n refl refl small
 
-quiet_6n : (t : Emulator) → t.phase ≡ Ground → feed (27 ∷ 91 ∷ 54 ∷ 110 ∷ []) t ≡ rested t
+style-idle : (style : SetCursorStyle) → IsIdle (style_digit style ++ codes " q")
 unfolding feed
-quiet_6n t ground = begun (54 ∷ 110 ∷ []) t ground
-
-mouse_on-read : (t : Emulator) → t.phase ≡ Ground
-    → feed (27 ∷ 91 ∷ 63 ∷ 49 ∷ 48 ∷ 48 ∷ 48 ∷ 104 ∷ 27 ∷ 91 ∷ 63 ∷ 49 ∷ 48 ∷ 48 ∷ 50 ∷ 104 ∷ 27 ∷ 91 ∷ 63 ∷ 49 ∷ 48 ∷ 48 ∷ 51
-    ∷ 104 ∷ 27 ∷ 91 ∷ 63 ∷ 49 ∷ 48 ∷ 48 ∷ 54 ∷ 104 ∷ []) t ≡ rested t
-mouse_on-read t ground =
-    let a0 : List ℕ = 27 ∷ 91 ∷ 63 ∷ 49 ∷ 48 ∷ 48 ∷ 48 ∷ 104 ∷ [] in
-    let a1 : List ℕ = 27 ∷ 91 ∷ 63 ∷ 49 ∷ 48 ∷ 48 ∷ 50 ∷ 104 ∷ [] in
-    let a2 : List ℕ = 27 ∷ 91 ∷ 63 ∷ 49 ∷ 48 ∷ 48 ∷ 51 ∷ 104 ∷ [] in
-    let a3 : List ℕ = 27 ∷ 91 ∷ 63 ∷ 49 ∷ 48 ∷ 48 ∷ 54 ∷ 104 ∷ [] in
-    let r2 : List ℕ = a2 ++ a3 in
-    let r1 : List ℕ = a1 ++ r2 in
-    let s : Emulator = rested t in
-    feed-append a0 r1 t ∙ ap (feed r1) (quiet_1000h t ground) ∙ feed-append a1 r2 s ∙ ap (feed r2) (quiet_1002h s refl)
-    ∙ feed-append a2 a3 s ∙ ap (feed a3) (quiet_1003h s refl) ∙ quiet_1006h s refl
-
-mouse_off-read : (t : Emulator) → t.phase ≡ Ground
-    → feed (27 ∷ 91 ∷ 63 ∷ 49 ∷ 48 ∷ 48 ∷ 54 ∷ 108 ∷ 27 ∷ 91 ∷ 63 ∷ 49 ∷ 48 ∷ 48 ∷ 51 ∷ 108 ∷ 27 ∷ 91 ∷ 63 ∷ 49 ∷ 48 ∷ 48 ∷ 50
-    ∷ 108 ∷ 27 ∷ 91 ∷ 63 ∷ 49 ∷ 48 ∷ 48 ∷ 48 ∷ 108 ∷ []) t ≡ rested t
-mouse_off-read t ground =
-    let a0 : List ℕ = 27 ∷ 91 ∷ 63 ∷ 49 ∷ 48 ∷ 48 ∷ 54 ∷ 108 ∷ [] in
-    let a1 : List ℕ = 27 ∷ 91 ∷ 63 ∷ 49 ∷ 48 ∷ 48 ∷ 51 ∷ 108 ∷ [] in
-    let a2 : List ℕ = 27 ∷ 91 ∷ 63 ∷ 49 ∷ 48 ∷ 48 ∷ 50 ∷ 108 ∷ [] in
-    let a3 : List ℕ = 27 ∷ 91 ∷ 63 ∷ 49 ∷ 48 ∷ 48 ∷ 48 ∷ 108 ∷ [] in
-    let r2 : List ℕ = a2 ++ a3 in
-    let r1 : List ℕ = a1 ++ r2 in
-    let s : Emulator = rested t in
-    feed-append a0 r1 t ∙ ap (feed r1) (quiet_1006l t ground) ∙ feed-append a1 r2 s ∙ ap (feed r2) (quiet_1003l s refl)
-    ∙ feed-append a2 a3 s ∙ ap (feed a3) (quiet_1002l s refl) ∙ quiet_1000l s refl
-
-quiet_style : (style : SetCursorStyle) (t : Emulator) → t.phase ≡ Ground
-    → feed (command_bytes (Asked.SetCursorStyle style)) t ≡ rested t
-unfolding feed
-quiet_style DefaultUserShape t ground = begun (48 ∷ 32 ∷ 113 ∷ []) t ground
-quiet_style BlinkingBlock t ground = begun (49 ∷ 32 ∷ 113 ∷ []) t ground
-quiet_style SteadyBlock t ground = begun (50 ∷ 32 ∷ 113 ∷ []) t ground
-quiet_style BlinkingUnderScore t ground = begun (51 ∷ 32 ∷ 113 ∷ []) t ground
-quiet_style SteadyUnderScore t ground = begun (52 ∷ 32 ∷ 113 ∷ []) t ground
-quiet_style BlinkingBar t ground = begun (53 ∷ 32 ∷ 113 ∷ []) t ground
-quiet_style SteadyBar t ground = begun (54 ∷ 32 ∷ 113 ∷ []) t ground
+style-idle DefaultUserShape t = refl
+style-idle BlinkingBlock t = refl
+style-idle SteadyBlock t = refl
+style-idle BlinkingUnderScore t = refl
+style-idle SteadyUnderScore t = refl
+style-idle BlinkingBar t = refl
+style-idle SteadyBar t = refl
 
 pub command-read : (command : Command) (t : Emulator) → t.phase ≡ Ground → feed (command_bytes command) t ≡ rested t
-command-read EnableMouseCapture t ground = mouse_on-read t ground
-command-read DisableMouseCapture t ground = mouse_off-read t ground
-command-read EnableBracketedPaste t ground = quiet_2004h t ground
-command-read DisableBracketedPaste t ground = quiet_2004l t ground
-command-read EnableFocusChange t ground = quiet_1004h t ground
-command-read DisableFocusChange t ground = quiet_1004l t ground
-command-read AskCursorPosition t ground = quiet_6n t ground
-command-read (Asked.SetCursorStyle style) t ground = quiet_style style t ground
-command-read EnableSizeReports t ground = quiet_2048h t ground
-command-read DisableSizeReports t ground = quiet_2048l t ground
-command-read PopKeyboardEnhancementFlags t ground = quiet_pop t ground
-command-read KeepTitle t ground = quiet_22t t ground
-command-read BringTitleBack t ground = quiet_23t t ground
+unfolding feed
+command-read EnableMouseCapture t ground = modes-read (codes "?1000h") (codes "?1002h") (codes "?1003h") (codes "?1006h")
+    (λ s. refl) (λ s. refl) (λ s. refl) (λ s. refl) t ground
+command-read DisableMouseCapture t ground = modes-read (codes "?1006l") (codes "?1003l") (codes "?1002l") (codes "?1000l")
+    (λ s. refl) (λ s. refl) (λ s. refl) (λ s. refl) t ground
+command-read EnableBracketedPaste t ground = idle-read (codes "?2004h") (λ s. refl) t ground
+command-read DisableBracketedPaste t ground = idle-read (codes "?2004l") (λ s. refl) t ground
+command-read EnableFocusChange t ground = idle-read (codes "?1004h") (λ s. refl) t ground
+command-read DisableFocusChange t ground = idle-read (codes "?1004l") (λ s. refl) t ground
+command-read AskCursorPosition t ground = idle-read (codes "6n") (λ s. refl) t ground
+command-read (Asked.SetCursorStyle style) t ground =
+    idle-read (style_digit style ++ codes " q") (style-idle style) t ground
+command-read EnableSizeReports t ground = idle-read (codes "?2048h") (λ s. refl) t ground
+command-read DisableSizeReports t ground = idle-read (codes "?2048l") (λ s. refl) t ground
+command-read PopKeyboardEnhancementFlags t ground = idle-read (codes "<1u") (λ s. refl) t ground
+command-read KeepTitle t ground = idle-read (codes "22;2t") (λ s. refl) t ground
+command-read BringTitleBack t ground = idle-read (codes "23;2t") (λ s. refl) t ground
 
 -- the end of the screen, and a question there
 pub end_asked-read : (t : Emulator) → t.phase ≡ Ground
@@ -589,7 +515,7 @@ pub end_asked-read : (t : Emulator) → t.phase ≡ Ground
     65534 (rested t)
 unfolding feed
 end_asked-read t ground = begun (54 ∷ 53 ∷ 53 ∷ 51 ∷ 53 ∷ 59 ∷ 54 ∷ 53 ∷ 53 ∷ 51 ∷ 53 ∷ 72 ∷ 27 ∷ 91 ∷ 54 ∷ 110 ∷ []) t ground
-    ∙ quiet_6n (cursor_moved 65534 65534 (rested t)) refl
+    ∙ idle-read (codes "6n") (λ s. refl) (cursor_moved 65534 65534 (rested t)) refl
 
 -- a rested terminal stays so
 pub line_fed-rested : (t : Emulator) → line_fed (rested t) ≡ rested (line_fed (rested t))

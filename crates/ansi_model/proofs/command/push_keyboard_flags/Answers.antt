@@ -1,4 +1,4 @@
-use Rattle.std.proofs.Common.{◌≡◌, ◌∷◌, [], ◌++◌, string_bytes, OnOk, decimal, arith}
+use Rattle.std.proofs.Common.{◌∷◌, [], ◌++◌, string_bytes, decimal, arith}
 use Rattle.std.proofs.lemmas.Result.{on_ok_weaker}
 use Rattle.ansi_model.specs.Emulator.{Emulator}
 use Rattle.ansi_model.specs.Commands.{flag_bits, keyboard_bytes}

@@ -1,4 +1,4 @@
-use Rattle.std.proofs.Common.{◌≡◌, ◌∷◌, [], ◌++◌, string_bytes, OnOk, List, ℕ}
+use Rattle.std.proofs.Common.{◌∷◌, [], ◌++◌, string_bytes, List, ℕ}
 use Rattle.std.proofs.lemmas.Result.{on_ok_weaker}
 use Rattle.ansi_model.specs.Emulator.{Emulator}
 use Rattle.ansi_model.specs.Commands.{shown_text, title_bytes, titled_bytes}

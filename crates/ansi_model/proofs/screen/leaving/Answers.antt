@@ -1,4 +1,4 @@
-use Rattle.std.proofs.Common.{◌≡◌, ℕ, List, [], ◌++◌, arith, ap, subst, decimal}
+use Rattle.std.proofs.Common.{◌≡◌, ℕ, List, [], ◌++◌, arith, ap, subst}
 use Rattle.ansi_model.proofs.ReadLemmas.{leaving-read, leaving_bytes, after-those}
 use Rattle.ansi_model.proofs.screen.leaving.Goals as goal
 
