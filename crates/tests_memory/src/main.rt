@@ -94,7 +94,7 @@ fn request(alloc: Global, count: usize) -> usize {
 }
 
 // The module and the request that are asked for, if they are.
-fn asked(rt: &HostRuntime) -> Option<Asked> {
+fn read_words(rt: &HostRuntime) -> Option<Asked> {
     let mut words = env::args(rt).ok()?;
     let _program = words.next()?;
     let module = words.next()?;
@@ -104,7 +104,7 @@ fn asked(rt: &HostRuntime) -> Option<Asked> {
 
 // Runs the cases between requests of its own.
 fn run(rt: &HostRuntime) -> io::Result<()> {
-    let Some(asked) = asked(rt) else {
+    let Some(asked) = read_words(rt) else {
         return report_all(rt, None);
     };
     if request(rt.alloc(), LAST.saturating_sub(asked.number)) > 0 {
