@@ -16,9 +16,9 @@ use Rattle.pager.specs.declared.piece.{More.More, Piece.Piece}
 use Rattle.pager.specs.declared.growing.Growing.{Growing}
 use Rattle.pager.specs.Paging.{OpensPaging}
 use Rattle.pager.specs.Moves.{all_lines}
-use Rattle.pager.specs.Growing.{growing, ShowsAll}
+use Rattle.pager.specs.Growing.{growing}
 use Rattle.pager.specs.GrowingRuns.{growing_on, turn_pieces, lines_of_pieces, GivesPieces, IsShownGrowing, StopsGrowing}
-use Rattle.pager.proofs.KnownLemmas.{Knows, came-knows, done-knows}
+use Rattle.pager.proofs.KnownLemmas.{came-knows, done-knows}
 
 -- the pieces of one turn more
 pieces-done : (ts : List (Turn More Piece)) (more : More) (piece : Piece)
@@ -71,43 +71,32 @@ module _ {W H O : Type 0} (coming : H → Coming) (answers : O → More → Piec
 
   turn-knows : (known : List (List ℕ)) (before now : Now Growing (OnGlass W) H O) (ts : List (Turn More Piece))
       (t : Turn More Piece) → IsTurn (growing_on coming answers) before t now
-      → Knows (known ++ lines_of_pieces (turn_pieces ts)) before.standing.state.pager
-      → Knows (known ++ lines_of_pieces (turn_pieces (ts ++ (t ∷ [])))) now.standing.state.pager
+      → all_lines before.standing.state.pager ≡ known ++ lines_of_pieces (turn_pieces ts)
+      → all_lines now.standing.state.pager ≡ known ++ lines_of_pieces (turn_pieces (ts ++ (t ∷ [])))
   turn-knows known before now ts (Came bytes passed) is knows =
-      subst (λ (b : Standing Growing). Knows (known ++ lines_of_pieces (turn_pieces (ts ++ (Came bytes passed ∷ [])))) b.state.pager)
-      (sym is.made)
-      (subst (λ (l : List Piece). Knows (known ++ lines_of_pieces l) (after_turn growing before.standing (Came bytes passed)).state.pager)
-      (sym (pieces-came ts bytes passed))
-      (came-knows _ before.standing bytes passed knows))
+      ap (λ (b : Standing Growing). all_lines b.state.pager) is.made
+      ∙ came-knows before.standing bytes passed
+      ∙ knows
+      ∙ ap (λ l. known ++ lines_of_pieces l) (sym (pieces-came ts bytes passed))
   turn-knows known before now ts (Done more piece) is knows =
-      let so : List (List ℕ) = lines_of_pieces (turn_pieces ts) in
-      subst (λ (b : Standing Growing). Knows (known ++ lines_of_pieces (turn_pieces (ts ++ (Done more piece ∷ [])))) b.state.pager)
-      (sym is.made)
-      (subst (λ (l : List (List ℕ)). Knows l (after_turn growing before.standing (Done more piece)).state.pager)
-      (append_assoc known so (lines piece.text.now)
-      ∙ ap (λ l. known ++ l) (sym (lines-append (turn_pieces ts) piece) ∙ ap lines_of_pieces (sym (pieces-done ts more piece))))
-      (done-knows _ before.standing more piece is.wanted knows))
+      ap (λ (b : Standing Growing). all_lines b.state.pager) is.made
+      ∙ done-knows before.standing more piece is.wanted
+      ∙ ap (λ l. l ++ lines piece.text.now) knows
+      ∙ append_assoc known (lines_of_pieces (turn_pieces ts)) (lines piece.text.now)
+      ∙ ap (λ l. known ++ l) (sym (lines-append (turn_pieces ts) piece) ∙ ap lines_of_pieces (sym (pieces-done ts more piece)))
 
   -- the lines that are known in a run
-  run-knows : (known : List (List ℕ)) (begun now : Now Growing (OnGlass W) H O)
-      (past : List (Past Growing More Piece (OnGlass W) H O)) → HasRun (growing_on coming answers) begun past now
-      → Knows known begun.standing.state.pager
-      → Knows (known ++ lines_of_pieces (turn_pieces (turns_of (growing_on coming answers) past))) now.standing.state.pager
-  run-knows known begun now [] is knows =
-      subst (λ (l : List (List ℕ)). Knows l now.standing.state.pager) (sym (append-nil known))
-      (subst (λ (n : Now Growing (OnGlass W) H O). Knows known n.standing.state.pager) (sym is) knows)
-  run-knows known begun now (p ∷ earlier) is knows =
-      turn-knows known p.before now (turns_of (growing_on coming answers) earlier) p.turn is.1
-      (run-knows known begun p.before earlier is.0 knows)
-
   pub run-lines : (begun now : Now Growing (OnGlass W) H O)
       (past : List (Past Growing More Piece (OnGlass W) H O)) → HasRun (growing_on coming answers) begun past now
-      → ShowsAll begun.standing.state.pager
       → all_lines now.standing.state.pager
       ≡ all_lines begun.standing.state.pager
       ++ lines_of_pieces (turn_pieces (turns_of (growing_on coming answers) past))
-  run-lines begun now past has shows =
-      (run-knows (all_lines begun.standing.state.pager) begun now past has (record { all = refl; shows = shows })).all
+  run-lines begun now [] is =
+      ap (λ (n : Now Growing (OnGlass W) H O). all_lines n.standing.state.pager) is
+      ∙ sym (append-nil (all_lines begun.standing.state.pager))
+  run-lines begun now (p ∷ earlier) is =
+      turn-knows (all_lines begun.standing.state.pager) p.before now (turns_of (growing_on coming answers) earlier) p.turn is.1
+      (run-lines begun p.before earlier is.0)
 
   module _ (size : Size) (first : Standing Growing) (ears : H) (pieces : O) (last : Standing Growing) (ears' : H)
       (pieces' : O) (before after : Option (List ℕ)) (backend : BackendState W) where

@@ -6,7 +6,7 @@ use Rattle.ratatui_events.specs.declared.key.KeyEventKind.{KeyEventKind}
 use Rattle.ratatui_events.specs.declared.key.KeyEventKind.TheVariants.{Press, Repeat, Release}
 use Rattle.pager.specs.declared.pager.Pager.{Pager}
 use Rattle.pager.specs.declared.pager.Mode.{Mode}
-use Rattle.pager.specs.declared.pager.Mode.TheVariants.{Reading, Asking, Filtering, Marking, Returning, Turning, Helping}
+use Rattle.pager.specs.declared.pager.Mode.TheVariants.{Reading, Asking, Filtering, Marking, Returning, Turning, Helping, Following}
 use Rattle.pager.specs.declared.command.Command.TheVariants.{Quit}
 use Rattle.pager.specs.declared.answer.Answer.TheVariants.{Cancel}
 use Rattle.pager.specs.Keys.{IsControlC, has_control_key, control_command, control_answer, kind_command, kind_answer}
@@ -49,6 +49,7 @@ module _ (k : KeyEvent) (is : IsControlC k) where
       ap (λ b. (if b then turned_to (event_ending (Key k)) p else p).mode) is.pressed
       ∙ ap (λ o. (turned_to o p).mode) no-ending
   reads Helping p mode = ap (λ b. (if b then record p { mode = Reading } else p).mode) is.pressed
+  reads Following p mode = ap (λ b. (if b then record p { mode = Reading } else p).mode) is.pressed
 
   over : (m : Mode) (p : Pager) → m ≡ Reading → (acted m (Key k) p).is_over ≡ true
   over m p mode =

@@ -16,3 +16,5 @@ pub mod PieceLemmas
 pub mod GrowLemmas
 pub mod KnownLemmas
 pub mod NeedsLemmas
+pub mod FollowLemmas
+pub mod HelpLemmas

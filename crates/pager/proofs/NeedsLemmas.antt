@@ -11,7 +11,7 @@ use Rattle.ratatui_events.specs.declared.event.Event.{Event}
 use Rattle.ratatui_reads.specs.Reads.{size_in}
 use Rattle.pager.specs.declared.pager.Pager.{Pager}
 use Rattle.pager.specs.declared.pager.Mode.{Mode}
-use Rattle.pager.specs.declared.pager.Mode.TheVariants.{Reading, Asking, Filtering, Marking, Returning, Turning, Helping}
+use Rattle.pager.specs.declared.pager.Mode.TheVariants.{Reading, Asking, Filtering, Marking, Returning, Turning, Helping, Following}
 use Rattle.pager.specs.declared.pager.Note.TheVariants.{Range}
 use Rattle.pager.specs.declared.answer.Answer.{Answer}
 use Rattle.pager.specs.declared.answer.Answer.TheVariants.{Change, Search, Cancel, Ignore}
@@ -19,7 +19,7 @@ use Rattle.pager.specs.declared.command.Command.{Command}
 use Rattle.pager.specs.declared.command.Command.TheVariants.{Nothing, Digit, Down, Up, PageDown, PageUp, HalfDown, HalfUp}
 use Rattle.pager.specs.declared.command.Command.TheVariants.{WheelDown, WheelUp}
 use Rattle.pager.specs.declared.command.Command.TheVariants.{ToStart, ToEnd, ToLeft, ToRight, Ask, Next, Previous, Numbers, Wrap}
-use Rattle.pager.specs.declared.command.Command.TheVariants.{Help, Quit, ToPart, Details, Mark, ToMark, Turn, Filter}
+use Rattle.pager.specs.declared.command.Command.TheVariants.{Help, Quit, ToPart, Details, Mark, ToMark, Turn, Filter, Follow}
 use Rattle.pager.specs.declared.pager.Ending.{Ending}
 use Rattle.pager.specs.declared.pager.Ending.TheVariants as ending
 use Rattle.pager.specs.declared.place.Place.{Place}
@@ -270,7 +270,7 @@ module _ (more : List (List ℕ)) (styles : List (List Run)) (has_more : Bool) w
   from-needs sought k p le = by (next_match sought p.document k) refl le
     where
       by : (o : Option ℕ) → next_match sought p.document k ≡ o
-          → match_needs (2 * length p.document + 1) p o ≤ length p.document
+          → match_needs (length p.document + every_line p) p o ≤ length p.document
           → found_at (next_match sought (p.document ++ more) k) (on p) ≡ on (found_at (next_match sought p.document k) p)
       by (Some m) is le =
           ap (λ x. found_at x (on p)) (from-more (has_match sought) k k p.document more m is) ∙ found-on (Some m) p le
@@ -284,6 +284,12 @@ module _ (more : List (List ℕ)) (styles : List (List Run)) (has_more : Bool) w
 
   abbrev stopped : Pager → Pager
   stopped p = record p { number = 0; found = None; note = Range }
+
+  follow-on : (b : Bool) (p : Pager)
+      → stopped (if b then on p else record (with_mark 0 (on p)) { mode = Following })
+      ≡ on (stopped (if b then p else record (with_mark 0 p) { mode = Following }))
+  follow-on true p = refl
+  follow-on false p = refl
 
   obeyed-on : (command : Command) (p : Pager) → command_needs command p ≤ length p.document
       → obeyed command (on p) ≡ on (obeyed command p)
@@ -314,6 +320,7 @@ module _ (more : List (List ℕ)) (styles : List (List Run)) (has_more : Bool) w
   obeyed-on Filter p le = refl
   obeyed-on ToMark p le = refl
   obeyed-on Turn p le = refl
+  obeyed-on Follow p le = follow-on (is_some p.whole) p
 
   first-on : (is_back : Bool) (p : Pager) → search_needs is_back p.sought p.top p ≤ length p.document
       → found_at (if is_back then last_match p.sought (p.document ++ more) p.top
@@ -331,7 +338,7 @@ module _ (more : List (List ℕ)) (styles : List (List Run)) (has_more : Bool) w
       → search_needs is_back sought k (record p { sought = sought }) ≡ search_needs is_back sought k p
   needs-same true k p sought = ap (max k) (match-same 0 p sought (last_match sought p.document k))
   needs-same false k p sought =
-      match-same (2 * length p.document + 1) p sought (next_match sought p.document k)
+      match-same (length p.document + every_line p) p sought (next_match sought p.document k)
 
   searched-on : (sought : Option Sought) (p : Pager) → typed_needs Asking sought p ≤ length p.document
       → taken_by Asking sought (on p) ≡ on (taken_by Asking sought p)
@@ -441,6 +448,7 @@ module _ (more : List (List ℕ)) (styles : List (List Run)) (has_more : Bool) w
   acted-on Returning event p is le = returned-on (is_press event) (event_mark event) p le
   acted-on Turning event p is le = turned-on (is_press event) (event_ending event) p
   acted-on Helping event p is le = helped-on (is_press event) p
+  acted-on Following event p is le = helped-on (is_press event) p
 
   sized-on : (size : Option (ℕ × ℕ)) (event : Event) (p : Pager) → size_needs size event p ≤ length p.document
       → updated_by size event (on p) ≡ on (updated_by size event p)

@@ -1,6 +1,6 @@
 -- The place lies in the text, whatever comes.
 use Rattle.std.proofs.Common.{◌≡◌, ℕ, ◌-◌, ◌==◌, ◌&&◌, ◌||◌, Bool, true, false, not, nat_lt, if◌then◌else◌, List, [], length}
-use Rattle.std.proofs.Common.{Option, Some, None, refl, arith}
+use Rattle.std.proofs.Common.{Option, Some, None, is_some, refl, arith}
 use Rattle.std.proofs.lemmas.Bool.Decides.{nat_tests}
 use Rattle.text_field.specs.{Field.FieldData, Keys.edited}
 use Rattle.ratatui_core.specs.Layout.{Size}
@@ -8,14 +8,14 @@ use Rattle.ratatui_events.specs.declared.event.Event.{Event}
 use Rattle.ratatui_reads.specs.Reads.{size_in}
 use Rattle.pager.specs.declared.pager.Pager.{Pager}
 use Rattle.pager.specs.declared.pager.Mode.{Mode}
-use Rattle.pager.specs.declared.pager.Mode.TheVariants.{Reading, Asking, Filtering, Marking, Returning, Turning, Helping}
+use Rattle.pager.specs.declared.pager.Mode.TheVariants.{Reading, Asking, Filtering, Marking, Returning, Turning, Helping, Following}
 use Rattle.pager.specs.declared.answer.Answer.{Answer}
 use Rattle.pager.specs.declared.answer.Answer.TheVariants.{Change, Search, Cancel, Ignore}
 use Rattle.pager.specs.declared.command.Command.{Command}
 use Rattle.pager.specs.declared.command.Command.TheVariants.{Nothing, Digit, Down, Up, PageDown, PageUp, HalfDown, HalfUp}
 use Rattle.pager.specs.declared.command.Command.TheVariants.{WheelDown, WheelUp}
 use Rattle.pager.specs.declared.command.Command.TheVariants.{ToStart, ToEnd, ToLeft, ToRight, Ask, Next, Previous, Numbers, Wrap}
-use Rattle.pager.specs.declared.command.Command.TheVariants.{Help, Quit, ToPart, Details, Mark, ToMark, Turn, Filter}
+use Rattle.pager.specs.declared.command.Command.TheVariants.{Help, Quit, ToPart, Details, Mark, ToMark, Turn, Filter, Follow}
 use Rattle.std.specs.Prelude.{replicate}
 use Rattle.pager.specs.declared.sought.Sought.{Sought}
 use Rattle.pager.specs.Search.{next_match, last_match, matching, picked}
@@ -55,6 +55,10 @@ sought_on-in : (is_back : Bool) (p : Pager) → IsInText p → IsInText (sought_
 sought_on-in true p is = found-in (last_match p.sought p.document (before_found p.found p.top)) p is
 sought_on-in false p is = found-in (next_match p.sought p.document (after_found p.found p.top)) p is
 
+follow-in : (b : Bool) (p : Pager) → IsInText p → IsInText (if b then p else record (with_mark 0 p) { mode = Following })
+follow-in true p is = is
+follow-in false p is = is
+
 moved-in : (command : Command) (p : Pager) → IsInText p → IsInText (after_move command p)
 moved-in Down p is = placed-in _ p
 moved-in Up p is = placed-in _ p
@@ -73,6 +77,7 @@ moved-in Numbers p is = placed-in (text_place p.top 0) (record p { has_numbers =
 moved-in Wrap p is = placed-in (text_place p.top 0) (record p { wraps = not p.wraps; left = 0 })
 moved-in Help p is = is
 moved-in Quit p is = is
+moved-in Follow p is = follow-in (is_some p.whole) p is
 moved-in (Digit d) p is = is
 moved-in (Ask is_back) p is = is
 moved-in Next p is = is
@@ -107,6 +112,7 @@ obeyed-in Numbers p is = moved-in Numbers p is
 obeyed-in Wrap p is = moved-in Wrap p is
 obeyed-in Help p is = is
 obeyed-in Quit p is = is
+obeyed-in Follow p is = moved-in Follow p is
 obeyed-in Details p is = is
 obeyed-in Mark p is = is
 obeyed-in Filter p is = is
@@ -147,6 +153,7 @@ taken-in Marking (Some s) p is = sought_first-in (record p { sought = s }) is
 taken-in Returning (Some s) p is = sought_first-in (record p { sought = s }) is
 taken-in Turning (Some s) p is = sought_first-in (record p { sought = s }) is
 taken-in Helping (Some s) p is = sought_first-in (record p { sought = s }) is
+taken-in Following (Some s) p is = sought_first-in (record p { sought = s }) is
 
 answered-in : (answer : Answer) (p : Pager) → IsInText p → IsInText (answered answer p)
 answered-in (Change edit) p is = edited-if (gives_up edit p) (edited edit p.typed) p is
@@ -192,6 +199,7 @@ acted-in Marking event p is = marked-if (is_press event) (event_mark event) p is
 acted-in Returning event p is = returned-if (is_press event) (marked_line (event_mark event) p) p is
 acted-in Turning event p is = turned_to-if (is_press event) (event_ending event) p is
 acted-in Helping event p is = helped-if (is_press event) p is
+acted-in Following event p is = helped-if (is_press event) p is
 
 by-size : (size : Option (ℕ × ℕ)) (event : Event) (p : Pager) → IsInText p → IsInText (updated_by size event p)
 by-size (Some size) event p is = placed-in (text_place p.top 0) (record p { columns = size.0; rows = size.1 })

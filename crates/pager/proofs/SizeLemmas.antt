@@ -1,6 +1,6 @@
 -- The size of the page, whatever comes.
 use Rattle.std.proofs.Common.{◌≡◌, ◌⊎◌, ℕ, ◌-◌, Bool, true, false, not, nat_lt, if◌then◌else◌, List, [], ◌∷◌, length, inl, inr}
-use Rattle.std.proofs.Common.{Option, Some, None, IfSome, refl, ap, sym, subst, ◌∙◌, rules}
+use Rattle.std.proofs.Common.{Option, Some, None, IfSome, refl, ap, sym, subst, ◌∙◌, rules, is_some}
 use Rattle.text_field.specs.{Field.FieldData, Field.field_text, Keys.edited}
 use Rattle.ratatui_core.specs.{Layout.Size, Backend.size_of, Terminal.TerminalData}
 use Rattle.ratatui_ansi.specs.Backend.{BackendState, shown_by}
@@ -16,17 +16,17 @@ use Rattle.ratatui_app.specs.declared.on_glass.OnGlass.{OnGlass}
 use Rattle.ratatui_app.specs.{Showing.TakesOrKeepsSize, Glass.sender, Glass.MovesAndAsks}
 use Rattle.pager.specs.declared.pager.Pager.{Pager}
 use Rattle.pager.specs.declared.pager.Mode.{Mode}
-use Rattle.pager.specs.declared.pager.Mode.TheVariants.{Reading, Asking, Filtering, Marking, Returning, Turning, Helping}
+use Rattle.pager.specs.declared.pager.Mode.TheVariants.{Reading, Asking, Filtering, Marking, Returning, Turning, Helping, Following}
 use Rattle.pager.specs.declared.answer.Answer.{Answer}
 use Rattle.pager.specs.declared.answer.Answer.TheVariants.{Change, Search, Cancel, Ignore}
 use Rattle.pager.specs.declared.command.Command.{Command}
 use Rattle.pager.specs.declared.command.Command.TheVariants.{Nothing, Digit, Down, Up, PageDown, PageUp, HalfDown, HalfUp}
 use Rattle.pager.specs.declared.command.Command.TheVariants.{WheelDown, WheelUp}
 use Rattle.pager.specs.declared.command.Command.TheVariants.{ToStart, ToEnd, ToLeft, ToRight, Ask, Next, Previous, Numbers, Wrap}
-use Rattle.pager.specs.declared.command.Command.TheVariants.{Help, Quit, ToPart, Details, Mark, ToMark, Turn, Filter}
+use Rattle.pager.specs.declared.command.Command.TheVariants.{Help, Quit, ToPart, Details, Mark, ToMark, Turn, Filter, Follow}
 use Rattle.pager.specs.declared.sought.Sought.{Sought}
 use Rattle.pager.specs.Search.{next_match, last_match, matching}
-use Rattle.pager.specs.Moves.{found_at, before_found, after_found, sought_on, obeyed, next_sought}
+use Rattle.pager.specs.Moves.{with_mark, found_at, before_found, after_found, sought_on, obeyed, next_sought}
 use Rattle.pager.specs.Moves.{answered, acted, updated_by, updated, letter_marked, marked_line, gone_back}
 use Rattle.pager.specs.Moves.{first_match, sought_first, all_lines, relined, with_lines, taken_by, has_text, turned_to, has_typed, gives_up}
 use Rattle.pager.specs.declared.pager.Ending.{Ending}
@@ -41,6 +41,10 @@ found-same None p = refl
 sought-same : (is_back : Bool) (p : Pager) → page_size (sought_on is_back p) ≡ page_size p
 sought-same true p = found-same (last_match p.sought p.document (before_found p.found p.top)) p
 sought-same false p = found-same (next_match p.sought p.document (after_found p.found p.top)) p
+
+follow-same : (b : Bool) (p : Pager) → page_size (if b then p else record (with_mark 0 p) { mode = Following }) ≡ page_size p
+follow-same true p = refl
+follow-same false p = refl
 
 obeyed-same : (command : Command) (p : Pager) → page_size (obeyed command p) ≡ page_size p
 obeyed-same (Digit d) p = refl
@@ -70,6 +74,7 @@ obeyed-same Mark p = refl
 obeyed-same Filter p = refl
 obeyed-same ToMark p = refl
 obeyed-same Turn p = refl
+obeyed-same Follow p = follow-same (is_some p.whole) p
 
 first-same : (p : Pager) → page_size (sought_first p) ≡ page_size p
 first-same p = found-same (first_match p.sought p) p
@@ -93,6 +98,7 @@ taken-same Marking (Some s) p = first-same (record p { sought = s })
 taken-same Returning (Some s) p = first-same (record p { sought = s })
 taken-same Turning (Some s) p = first-same (record p { sought = s })
 taken-same Helping (Some s) p = first-same (record p { sought = s })
+taken-same Following (Some s) p = first-same (record p { sought = s })
 
 answered-same : (answer : Answer) (p : Pager) → page_size (answered answer p) ≡ page_size p
 answered-same (Change edit) p = edited-same (gives_up edit p) (edited edit p.typed) p
@@ -133,6 +139,7 @@ acted-same Marking event p = marked-same (is_press event) (event_mark event) p
 acted-same Returning event p = returned-same (is_press event) (marked_line (event_mark event) p) p
 acted-same Turning event p = turned_to-same (is_press event) (event_ending event) p
 acted-same Helping event p = helped-same (is_press event) p
+acted-same Following event p = helped-same (is_press event) p
 
 -- the size that was told, or else another one
 abbrev told_or : Option (ℕ × ℕ) → Size → Size

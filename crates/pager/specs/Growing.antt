@@ -10,7 +10,8 @@ use Rattle.ratatui_acts.specs.declared.message.Message.TheVariants as message
 use Rattle.ratatui_acts.specs.Turns.{ActingRules}
 use Rattle.pager.specs.declared.pager.Pager.{Pager}
 use Rattle.pager.specs.declared.pager.Mode.{Mode}
-use Rattle.pager.specs.declared.pager.Mode.TheVariants.{Reading, Asking, Filtering, Returning}
+use Rattle.pager.specs.declared.pager.Mode.TheVariants.{Reading, Asking, Filtering, Returning, Following}
+use Rattle.pager.specs.declared.pager.Note.TheVariants as note
 use Rattle.pager.specs.declared.answer.Answer.{Answer}
 use Rattle.pager.specs.declared.answer.Answer.TheVariants.{Search}
 use Rattle.pager.specs.declared.command.Command.{Command}
@@ -20,17 +21,18 @@ use Rattle.pager.specs.declared.piece.{More.More, Piece.Piece}
 use Rattle.pager.specs.declared.growing.{Growing.Growing, Waiting.Waiting}
 use Rattle.pager.specs.declared.styles.Run.{Run}
 use Rattle.pager.specs.declared.sought.Sought.{Sought}
-use Rattle.pager.specs.Keys.{event_command, event_answer, event_mark}
+use Rattle.pager.specs.Keys.{event_command, event_answer, event_mark, is_press}
 use Rattle.pager.specs.Parted.{has_signs}
 use Rattle.pager.specs.Search.{next_match, last_match}
 use Rattle.pager.specs.Places.{page_rows}
 use Rattle.pager.specs.Moves.{or_number, half_page, after_found, before_found, next_sought, marked_line, updated}
+use Rattle.pager.specs.Moves.{at_line, obeyed}
 
 -- ---- how many lines an event needs
 
--- one line more than are known: whoever needs so many needs all
+-- a page more than are known: whoever needs so many needs all
 abbrev pub every_line : Pager → ℕ
-every_line p = length p.document + 1
+every_line p = length p.document + page_rows p + 1
 
 -- the lines through the page that begins at a line, and one line after it
 abbrev pub lines_through : ℕ → Pager → ℕ
@@ -49,11 +51,11 @@ abbrev pub match_needs : ℕ → Pager → Option ℕ → ℕ
 match_needs other p (Some k) = lines_through k p
 match_needs other p None = other
 
--- a search back needs the lines before its first one; a search further needs twice as many as are known, unless it
--- finds one of these
+-- a search back needs the lines before its first one; a search further needs twice as many as are known, and a page
+-- more, unless it finds one of these
 abbrev pub search_needs : Bool → Sought → ℕ → Pager → ℕ
 search_needs true sought k p = max k (match_needs 0 p (last_match sought p.document k))
-search_needs false sought k p = match_needs (2 * length p.document + 1) p (next_match sought p.document k)
+search_needs false sought k p = match_needs (length p.document + every_line p) p (next_match sought p.document k)
 
 -- what a search needs that goes on
 abbrev pub next_needs : Bool → Pager → ℕ
@@ -116,9 +118,33 @@ abbrev pub with_more : List (List ℕ) → List (List Run) → Bool → Pager �
 with_more more styles has_more p =
     record p { document = p.document ++ more; styles = styles; has_more = has_more }
 
--- no line is hidden while more may come
-abbrev pub ShowsAll : Pager → Type 0
-ShowsAll p = p.has_more ≡ true → p.whole ≡ None
+-- ---- what an event seeks
+
+-- a command that goes to one of all lines, or tells of all; the other ones go from the page to lines beside it
+abbrev pub command_seeks : Command → Bool
+command_seeks ToStart = true
+command_seeks ToEnd = true
+command_seeks ToPart = true
+command_seeks Details = true
+command_seeks Next = true
+command_seeks Previous = true
+command_seeks _ = false
+
+-- a search or a filter that is typed seeks once it is taken
+abbrev pub answer_seeks : Answer → Bool
+answer_seeks Search = true
+answer_seeks _ = false
+
+abbrev pub mode_seeks : Mode → Event → Bool
+mode_seeks Reading event = command_seeks (event_command event)
+mode_seeks Asking event = answer_seeks (event_answer event)
+mode_seeks Filtering event = answer_seeks (event_answer event)
+mode_seeks _ event = false
+
+-- an event seeks a line that isn't known, or all
+abbrev pub seeks_unknown : Pager → Event → Bool
+seeks_unknown p event =
+    mode_seeks p.mode event && nat_lt (length p.document + page_rows p) (event_needs p event)
 
 -- ---- what a piece makes of a text
 
@@ -135,31 +161,91 @@ piece_known piece p = record p {
   has_more = not piece.is_last;
 }
 
--- an event is taken if what it needs is known; else it waits
-abbrev pub heard : Event → Pager → Growing
-heard event p =
-    if knows (event_needs p event) p then record { pager = updated p event; waiting = None }
-    else record { pager = p; waiting = Some (record { event = event; lines = event_needs p event }) }
+-- the text is followed
+abbrev pub is_following : Mode → Bool
+is_following Following = true
+is_following _ = false
 
--- an event that waits is looked at again once so many lines are known
-abbrev pub resumed : Option Waiting → Pager → Growing
-resumed (Some w) p = if knows w.lines p then heard w.event p else record { pager = p; waiting = Some w }
-resumed None p = record { pager = p; waiting = None }
+-- a text that is followed shows its last page
+abbrev pub followed : Pager → Pager
+followed p = if is_following p.mode then at_line (length p.document) p else p
 
--- while an event waits no other one is taken
-abbrev pub heard_if_free : Option Waiting → Event → Growing → Growing
-heard_if_free (Some w) event g = g
-heard_if_free None event g = heard event g.pager
+-- an event is taken if what it needs is known; or if the text gives nothing now, and the event seeks nothing unknown
+abbrev pub is_taken : Bool → Event → Pager → Bool
+is_taken rests event p = knows (event_needs p event) p || (rests && not (seeks_unknown p event))
 
--- events move a pager, and pieces make its text grow
+-- a command that seeks something
+abbrev pub is_seeking_command : Mode → Event → Bool
+is_seeking_command Reading event = command_seeks (event_command event)
+is_seeking_command _ event = false
+
+-- the status tells that such a command waits
+abbrev pub told_waiting : Event → Pager → Pager
+told_waiting event p = if is_seeking_command p.mode event then record p { note = note.Waiting } else p
+
+-- an event that isn't taken waits
+abbrev pub heard : Bool → Event → Pager → Growing
+heard rests event p =
+    if is_taken rests event p then record { pager = updated p event; waiting = None; rests = rests }
+    else record {
+      pager = told_waiting event p;
+      waiting = Some (record { event = event; lines = event_needs p event; known = length p.document });
+      rests = rests;
+    }
+
+-- an event that waits is looked at again once so many lines are known; and if the text gives nothing now, also if
+-- lines came since it was looked at, or it seeks nothing
+abbrev pub is_due : Bool → Waiting → Pager → Bool
+is_due rests w p =
+    knows w.lines p || (rests && (nat_lt w.known (length p.document) || not (mode_seeks p.mode w.event)))
+
+abbrev pub resumed : Bool → Option Waiting → Pager → Growing
+resumed rests (Some w) p =
+    if is_due rests w p then heard rests w.event p
+    else record { pager = p; waiting = Some w; rests = rests }
+resumed rests None p = record { pager = p; waiting = None; rests = rests }
+
+-- the command that leaves
+abbrev pub is_quit : Command → Bool
+is_quit Quit = true
+is_quit _ = false
+
+-- a key ends the waiting: one that leaves does so, and else what waits is done with the lines that are known
+abbrev pub given_up : Waiting → Event → Pager → Pager
+given_up w event p = if is_quit (event_command event) then obeyed Quit p else updated p w.event
+
+-- while an event waits a new size is taken, a key that is pressed ends the waiting, and nothing else is taken
+abbrev pub heard_waiting : Waiting → Event → Growing → Growing
+heard_waiting w event g =
+    if is_some (size_in event) then record g { pager = updated g.pager event }
+    else if is_press event then record g { pager = given_up w event g.pager; waiting = None }
+    else g
+
+abbrev pub heard_after : Option Waiting → Event → Growing → Growing
+heard_after (Some w) event g = heard_waiting w event g
+heard_after None event g = heard g.rests event g.pager
+
+-- what a piece makes of a pager: its lines are known, too; a text that is followed shows them at its end; and the
+-- event that waits is looked at
+abbrev pub piece_taken : Growing → Piece → Growing
+piece_taken g piece = resumed piece.rests g.waiting (followed (piece_known piece g.pager))
+
+-- events move a pager, and pieces make its text grow; a text that gave nothing rests until the next tick
 unfoldable pub grown_after : Growing → Message Piece → Growing
-grown_after g (message.Event event) = heard_if_free g.waiting event g
-grown_after g (message.Tick passed) = g
-grown_after g (message.Answer piece) = resumed g.waiting (piece_known piece g.pager)
+grown_after g (message.Event event) = heard_after g.waiting event g
+grown_after g (message.Tick passed) = record g { rests = false }
+grown_after g (message.Answer piece) = piece_taken g piece
 
--- the next piece is asked for while an event waits, or the page needs more lines than are known
+-- an event waits, or the page needs more lines than are known
+abbrev pub needs_more : Growing → Bool
+needs_more g = is_some g.waiting || nat_lt (length g.pager.document) (page_needs g.pager)
+
+-- the next piece is asked for while more lines are needed and may come, and while the text is followed; but not while
+-- the text rests, or lines of it are hidden
 abbrev pub asks_more : Growing → Bool
-asks_more g = g.pager.has_more && (is_some g.waiting || nat_lt (length g.pager.document) (page_needs g.pager))
+asks_more g =
+    not (g.rests || is_some g.pager.whole)
+    && (is_following g.pager.mode || (g.pager.has_more && needs_more g))
 
 abbrev pub asked_for_more : Growing → Option More
 asked_for_more g = if asks_more g then Some (record {}) else None

@@ -17,7 +17,7 @@ use Rattle.pager.specs.declared.command.Command.TheVariants.{Nothing, Digit, Dow
 use Rattle.pager.specs.declared.command.Command.TheVariants.{HalfDown, HalfUp, WheelDown, WheelUp}
 use Rattle.pager.specs.declared.command.Command.TheVariants.{ToStart, ToEnd, ToLeft, ToRight, Ask, Next}
 use Rattle.pager.specs.declared.command.Command.TheVariants.{Previous, Numbers, Wrap, Help, Quit, ToPart}
-use Rattle.pager.specs.declared.command.Command.TheVariants.{Details, Mark, ToMark, Turn, Filter}
+use Rattle.pager.specs.declared.command.Command.TheVariants.{Details, Mark, ToMark, Turn, Filter, Follow}
 use Rattle.pager.specs.declared.pager.Ending.{Ending}
 use Rattle.pager.specs.declared.pager.Ending.TheVariants as ending
 use Rattle.pager.specs.declared.answer.Answer.{Answer}
@@ -40,7 +40,7 @@ move_command c =
     else Nothing
 
 -- a character: q, a slash, a question mark, n, N, the ampersand, l, w, h, the equals sign, m, an apostrophe,
--- a colon, a digit, or a move
+-- a colon, F, a digit, or a move
 abbrev pub character_command : ℕ → Command
 character_command c =
     if c == byte "q" then Quit
@@ -56,6 +56,7 @@ character_command c =
     else if c == byte "m" then Mark
     else if c == byte "'" then ToMark
     else if c == byte ":" then Turn
+    else if c == byte "F" then Follow
     else if nat_le (byte "0") c && nat_le c (byte "9") then Digit (c - byte "0")
     else move_command c
 
@@ -143,7 +144,7 @@ abbrev pub is_press_kind : KeyEventKind → Bool
 is_press_kind Release = false
 is_press_kind _ = true
 
--- an event that leaves the help: a key
+-- an event that leaves the help, or ends following: a key
 abbrev pub is_press : Event → Bool
 is_press (Key k) = is_press_kind k.kind
 is_press _ = false

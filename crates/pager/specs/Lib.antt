@@ -11,3 +11,4 @@ pub mod Paging
 pub mod Growing
 pub mod GrowingRuns
 pub mod Inner
+pub mod HelpTable

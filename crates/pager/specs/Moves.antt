@@ -1,7 +1,7 @@
 -- What each event makes of a pager: its place, its search, and what it shows.
 use Rattle.std.specs.Prelude.{ℕ, Bool, true, false, not, ◌+◌, ◌-◌, ◌*◌, ◌/◌, ◌==◌, nat_lt, min, max}
 use Rattle.std.specs.Prelude.{if◌then◌else◌, List, [], length, Option, Some, None, ◌^◌, replicate}
-use Rattle.std.specs.Prelude.{slice_get, slice_set, unwrap_or}
+use Rattle.std.specs.Prelude.{slice_get, slice_set, unwrap_or, is_some}
 use Rattle.ratatui_core.specs.Layout.{Size}
 use Rattle.ratatui_events.specs.declared.event.Event.{Event}
 use Rattle.ratatui_reads.specs.Reads.{size_in}
@@ -10,7 +10,7 @@ use Rattle.text_field.specs.declared.keys.Edit.{Edit}
 use Rattle.text_field.specs.declared.keys.Edit.TheVariants.{DeleteLeft}
 use Rattle.pager.specs.declared.pager.Pager.{Pager}
 use Rattle.pager.specs.declared.pager.Mode.{Mode}
-use Rattle.pager.specs.declared.pager.Mode.TheVariants.{Reading, Asking, Filtering, Marking, Returning, Turning, Helping}
+use Rattle.pager.specs.declared.pager.Mode.TheVariants.{Reading, Asking, Filtering, Marking, Returning, Turning, Helping, Following}
 use Rattle.pager.specs.declared.pager.Note.TheVariants.{Range, Bytes, Missing, Refused}
 use Rattle.pager.specs.declared.pager.Ending.{Ending}
 use Rattle.pager.specs.declared.pager.Ending.TheVariants as ending
@@ -21,7 +21,7 @@ use Rattle.pager.specs.declared.command.Command.TheVariants.{Digit, Down, Up, Pa
 use Rattle.pager.specs.declared.command.Command.TheVariants.{HalfDown, HalfUp, WheelDown, WheelUp}
 use Rattle.pager.specs.declared.command.Command.TheVariants.{ToStart, ToEnd, ToLeft, ToRight, Ask, Next}
 use Rattle.pager.specs.declared.command.Command.TheVariants.{Previous, Numbers, Wrap, Help, Quit, ToPart}
-use Rattle.pager.specs.declared.command.Command.TheVariants.{Details, Mark, ToMark, Turn, Filter}
+use Rattle.pager.specs.declared.command.Command.TheVariants.{Details, Mark, ToMark, Turn, Filter, Follow}
 use Rattle.pager.specs.Keys.{event_command, event_answer, event_mark, event_ending, is_press}
 use Rattle.pager.specs.declared.sought.Sought.{Sought}
 use Rattle.pager.specs.declared.sought.Sought.TheVariants.{Plain}
@@ -96,6 +96,10 @@ back n p = at_place (place_before (or_number n p) p) p
 abbrev pub half_width : Pager → ℕ
 half_width p = max (p.columns / 2) 1
 
+-- the text is followed, unless lines of it are hidden; the apostrophe marks where that began
+abbrev pub follow_begun : Pager → Pager
+follow_begun p = if is_some p.whole then p else record (with_mark 0 p) { mode = Following }
+
 -- what a command makes of the place, and of what is shown of each line
 abbrev pub after_move : Command → Pager → Pager
 after_move Down p = further 1 p
@@ -115,6 +119,7 @@ after_move Numbers p = at_line p.top (record p { has_numbers = not p.has_numbers
 after_move Wrap p = at_line p.top (record p { wraps = not p.wraps; left = 0 })
 after_move Help p = record p { mode = Helping }
 after_move Quit p = record p { is_over = true }
+after_move Follow p = follow_begun p
 after_move _ p = p
 
 -- a digit more of a number, which stays at the greatest one
@@ -271,6 +276,7 @@ acted Marking event p = if is_press event then letter_marked (event_mark event) 
 acted Returning event p = if is_press event then gone_back (marked_line (event_mark event) p) p else p
 acted Turning event p = if is_press event then turned_to (event_ending event) p else p
 acted Helping event p = if is_press event then record p { mode = Reading } else p
+acted Following event p = if is_press event then record p { mode = Reading } else p
 
 abbrev pub updated_by : Option (ℕ × ℕ) → Event → Pager → Pager
 updated_by (Some size) event p = at_size size p

@@ -19,9 +19,9 @@ use Rattle.pager.specs.declared.styles.Run.{Run}
 use Rattle.pager.specs.declared.help.TheConstants.{HELP}
 use Rattle.pager.specs.declared.pager.Pager.{Pager}
 use Rattle.pager.specs.declared.pager.Mode.{Mode}
-use Rattle.pager.specs.declared.pager.Mode.TheVariants.{Reading, Asking, Filtering, Marking, Returning, Turning, Helping}
+use Rattle.pager.specs.declared.pager.Mode.TheVariants.{Reading, Asking, Filtering, Marking, Returning, Turning, Helping, Following}
 use Rattle.pager.specs.declared.pager.Note.{Note}
-use Rattle.pager.specs.declared.pager.Note.TheVariants.{Range, Bytes, Missing, Refused}
+use Rattle.pager.specs.declared.pager.Note.TheVariants.{Range, Bytes, Missing, Refused, Waiting}
 use Rattle.pager.specs.declared.sought.Sought.{Sought}
 use Rattle.pager.specs.declared.sought.Sought.TheVariants.{Plain}
 use Rattle.pager.specs.Search.{numbered_line, text_of_sought}
@@ -164,6 +164,14 @@ details_text p =
     place_text p ++ codes " bytes " ++ decimal (byte_count p (last_shown p)) ++ codes "/"
     ++ decimal (byte_count p (length p.document))
 
+-- the place while the text is followed, as ` 78-100/100 100% follows: any key ends that`
+abbrev pub follow_text : Pager → List ℕ
+follow_text p = place_text p ++ codes " follows: any key ends that"
+
+-- the place while a command waits for lines, as ` 1-23/30+ waits: any key ends that`
+abbrev pub wait_text : Pager → List ℕ
+wait_text p = place_text p ++ codes " waits: any key ends that"
+
 -- what the status tells while the text is read: what the text is called, and the place; or what isn't found,
 -- or can't be sought
 abbrev pub note_name : Note → Pager → List ℕ
@@ -176,6 +184,7 @@ note_text Range p = place_text p
 note_text Bytes p = details_text p
 note_text Missing p = text_of_sought p.sought
 note_text Refused p = field_text p.typed
+note_text Waiting p = wait_text p
 
 -- the two parts of a status: such a note; or what is typed of a search; or which key is awaited
 abbrev pub first_part : Mode → Pager → List ℕ
@@ -186,6 +195,7 @@ first_part Marking p = codes "mark"
 first_part Returning p = codes "go to mark"
 first_part Turning p = codes ":"
 first_part Helping p = codes "keys"
+first_part Following p = p.name
 
 abbrev pub second_part : Mode → Pager → List ℕ
 second_part Reading p = note_text p.note p
@@ -195,6 +205,7 @@ second_part Marking p = codes ": a letter"
 second_part Returning p = codes ": a letter, or ' for where the last jump began"
 second_part Turning p = codes " n for the next text, p for the one before, q for the end"
 second_part Helping p = codes ": any key goes back"
+second_part Following p = follow_text p
 
 -- the status in a row, one part after the other
 abbrev pub PaintsStatus : Pager → Rect → ℕ → BufferData → BufferData → Type 0

@@ -57,6 +57,8 @@ pub enum Command {
     Turn,
     /// The list of the keys.
     Help,
+    /// The text followed while it grows.
+    Follow,
     /// The end.
     Quit,
 }
@@ -104,6 +106,7 @@ fn character_command(code: char) -> Command
         'm' => Command::Mark,
         '\'' => Command::ToMark,
         ':' => Command::Turn,
+        'F' => Command::Follow,
         '0'..='9' => Command::Digit((code as u32 - 48) as u8),
         _ => move_command(code),
     }

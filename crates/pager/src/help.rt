@@ -4,7 +4,7 @@ ghost use Rattle.std.specs.Prelude.{◌≡◌, [], map, slice_get, unwrap_or};
 ghost use Rattle.pager.specs.Pages.{help_text};
 
 /// The list of the keys, row by row.
-pub static HELP: [&str; 18] = [
+pub static HELP: [&str; 19] = [
     "j k  Down Up  Enter   a row further, back: or as many as the number typed before",
     "Space b  f b  PgDn PgUp   a page further, back",
     "d u                   half a page further, back",
@@ -18,6 +18,7 @@ pub static HELP: [&str; 18] = [
     "=                     how many bytes of the text end with the page",
     "l w                   numbers of lines, or none; long lines broken, or cut",
     ":n :p                 the next text, the one before, if there are several",
+    "F                     follows a text that grows: the last page, until a key",
     "h  q  Ctrl+C          this list; the end",
     "The wheel of the mouse goes three rows further or back.",
     "One of \\ . + * ? ( ) [ { | ^ $ makes what is sought a regular expression.",

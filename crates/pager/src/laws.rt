@@ -21,14 +21,20 @@ ghost use Rattle.pager.specs.Places.{places_after, breaking, last_page, earlier,
 ghost use Rattle.pager.specs.declared.command.Command.TheVariants.{PageDown};
 ghost use Rattle.pager.specs.Paging.{paging_on, page_size, IsPaged, FillsScreen, FillsAlong, TakesAlong};
 ghost use Rattle.pager.specs.declared.pager.Pager.{Pager};
-ghost use Rattle.std.specs.Prelude.{◌++◌};
+ghost use Rattle.std.specs.Prelude.{◌++◌, ◌⊎◌, None, is_some};
+ghost use Rattle.ratatui_acts.specs.declared.message.Message.TheVariants.{Answer, Event as EventCame};
+ghost use Rattle.pager.specs.declared.pager.Mode.TheVariants.{Reading, Following};
+ghost use Rattle.pager.specs.declared.command.Command.TheVariants.{Quit};
+ghost use Rattle.pager.specs.Keys.{event_command, is_press};
+ghost use Rattle.pager.specs.Growing.{grown_after, asked_for_more};
+ghost use Rattle.pager.specs.HelpTable.{help_table, AreHelped};
 ghost use Rattle.std.specs.Str.Lines.{lines};
 ghost use Rattle.ratatui_acts.specs.Runs.{turns_of};
 ghost use Rattle.pager.specs.declared.growing.Growing.{Growing as GrowingPager};
 ghost use Rattle.pager.specs.declared.piece.More.{More as AskedFor};
 ghost use Rattle.pager.specs.declared.piece.Piece.{Piece as GivenPiece};
 ghost use Rattle.pager.specs.Moves.{all_lines};
-ghost use Rattle.pager.specs.Growing.{event_needs, with_more, AreWholeLines, ShowsAll};
+ghost use Rattle.pager.specs.Growing.{event_needs, with_more, AreWholeLines};
 ghost use Rattle.pager.specs.GrowingRuns.{growing_on, turn_pieces, lines_of_pieces};
 
 use crate::growing::Growing;
@@ -135,8 +141,34 @@ pub fn the_lines_are_those_of_the_pieces<
     ensures { (begun now : Now GrowingPager (OnGlass W) S O)
         (past : List (Past GrowingPager AskedFor GivenPiece (OnGlass W) S O))
         → HasRun (growing_on S.coming O.answers) begun past now
-        → ShowsAll begun.standing.state.pager
         → all_lines now.standing.state.pager
         ≡ all_lines begun.standing.state.pager
         ++ lines_of_pieces (turn_pieces (turns_of (growing_on S.coming O.answers) past)) }
+{}
+
+/// While a text is followed its last page is shown after each piece that comes.
+pub fn the_last_page_is_followed()
+    ensures { (g : GrowingPager) (piece : GivenPiece) → g.pager.mode ≡ Following → g.waiting ≡ None
+        → page_place (grown_after g (Answer piece)).pager
+        ≡ last_page (grown_after g (Answer piece)).pager }
+{}
+
+/// After a piece that found nothing no other one is asked for: the next turn is a read of the keys.
+pub fn keys_are_read_while_the_text_rests()
+    ensures { (g : GrowingPager) (piece : GivenPiece) → piece.rests ≡ true
+        → asked_for_more (grown_after g (Answer piece)) ≡ None }
+{}
+
+/// A key that leaves does so at once, also while another one waits for lines.
+pub fn keys_leave_while_others_wait()
+    ensures { (g : GrowingPager) (k : KeyEvent) → event_command (Key k) ≡ Quit
+        → is_press (Key k) ≡ true
+        → (g.pager.mode ≡ Reading) ⊎ (is_some g.waiting ≡ true)
+        → (grown_after g (EventCame (Key k))).pager.is_over ≡ true }
+{}
+
+/// The list of the keys is right: where it names a key, that key asks for what the table of the list
+/// says.
+pub fn the_help_names_the_keys()
+    ensures { AreHelped help_table }
 {}

@@ -1,7 +1,7 @@
 //! Lines that are marked by letters, and jumps.
 
 ghost use Rattle.std.specs.Prelude.{◌≡◌, ◌<◌, IfSome};
-ghost use Rattle.pager.specs.Moves.{with_mark, jumped_to, letter_marked, marked_line, gone_back};
+ghost use Rattle.pager.specs.Moves.{with_mark, jumped_to, letter_marked, marked_line, gone_back, follow_begun};
 
 use crate::pager::{MARKS, Mode, Pager};
 
@@ -23,6 +23,17 @@ impl<'a> Pager<'a> {
     {
         self.keep(LAST_JUMP);
         self.go_to(line);
+    }
+
+    // Follows the text, unless lines of it are hidden, and marks where that began.
+    pub(crate) fn follow(&mut self)
+        ensures { self.new ≡ follow_begun self.old }
+    {
+        if self.whole.is_none() {
+            let mark = LAST_JUMP;
+            self.keep(mark);
+            self.mode = Mode::Following;
+        }
     }
 
     // Marks the first line of the page, if a mark is named.

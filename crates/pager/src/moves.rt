@@ -141,6 +141,7 @@ impl<'a> Pager<'a> {
             Command::Wrap => self.go_wrapping(),
             Command::Help => self.mode = Mode::Helping,
             Command::Quit => self.is_over = true,
+            Command::Follow => self.follow(),
             _ => {}
         }
     }

@@ -1,10 +1,12 @@
 //! How many lines an event needs.
 
-ghost use Rattle.std.specs.Prelude.{◌≡◌, ◌<◌, true, false, Some, IfOk};
+ghost use Rattle.std.specs.Prelude.{◌≡◌, ◌<◌, ◌&&◌, ◌+◌, nat_lt, length, true, false, Some, IfOk};
+ghost use Rattle.pager.specs.Places.{page_rows};
+ghost use Rattle.pager.specs.Keys.{event_command};
 ghost use Rattle.pager.specs.Moves.{next_sought};
 ghost use Rattle.pager.specs.Growing.{every_line, lines_through, page_needs, further_needs, match_needs, search_needs};
 ghost use Rattle.pager.specs.Growing.{next_needs, typed_needs, command_needs, answer_needs, mark_needs, mode_needs};
-ghost use Rattle.pager.specs.Growing.{event_needs, knows};
+ghost use Rattle.pager.specs.Growing.{event_needs, knows, command_seeks, answer_seeks, mode_seeks, is_quit};
 
 use crate::answer::{Answer, answer_of, mark_of};
 use crate::command::{Command, command_of};
@@ -14,12 +16,47 @@ use ratatui_events::Event;
 use ratatui_reads::size_in;
 use std::alloc::AllocError;
 
+// Whether a command goes to one of all lines, or tells of all.
+fn command_seeks(command: Command) -> bool
+    ensures { result ≡ command_seeks command }
+{
+    match command {
+        Command::ToStart
+        | Command::ToEnd
+        | Command::ToPart
+        | Command::Details
+        | Command::Next
+        | Command::Previous => true,
+        _ => false,
+    }
+}
+
+// Whether an answer begins a search or a filter.
+fn answer_seeks(answer: Answer) -> bool
+    ensures { result ≡ answer_seeks answer }
+{
+    match answer {
+        Answer::Search => true,
+        _ => false,
+    }
+}
+
+// Whether an event is a command that leaves.
+pub(crate) fn quits(event: Event) -> bool
+    ensures { result ≡ is_quit (event_command event) }
+{
+    match command_of(event) {
+        Command::Quit => true,
+        _ => false,
+    }
+}
+
 impl<'a> Pager<'a> {
-    // One line more than are known: whoever needs so many needs all.
+    // A page more than are known: whoever needs so many needs all.
     fn every_line(&self) -> u64
         ensures { result ≡ every_line self.now }
     {
-        u64::from(self.document.len()) + 1
+        u64::from(self.document.len()) + u64::from(self.page_rows()) + 1
     }
 
     // The lines through the page that begins at a line, and one line after it.
@@ -67,7 +104,8 @@ impl<'a> Pager<'a> {
         ensures { IfOk result (λ lines. lines ≡ search_needs false sought.now line self.now) }
     {
         let found = self.next_match(sought, line)?;
-        Ok(self.match_needs(2 * u64::from(self.document.len()) + 1, found))
+        let other = u64::from(self.document.len()) + self.every_line();
+        Ok(self.match_needs(other, found))
     }
 
     // How many lines a search needs that goes on.
@@ -186,6 +224,29 @@ impl<'a> Pager<'a> {
         match size_in(event) {
             Some((_, rows)) => Ok(self.size_needs(rows)),
             None => self.mode_needs(event),
+        }
+    }
+
+    // Whether an event seeks a line that isn't known, or all, if it needs so many lines.
+    pub(crate) fn seeks_beyond(&self, event: Event, lines: u64) -> bool
+        ensures { result
+            ≡ (mode_seeks self.now.mode event && nat_lt (length self.now.document + page_rows self.now) lines) }
+    {
+        let known = u64::from(self.document.len()) + u64::from(self.page_rows());
+        if !self.seeks(event) {
+            return false;
+        }
+        known < lines
+    }
+
+    // Whether an event seeks one of all lines, or tells of all.
+    pub(crate) fn seeks(&self, event: Event) -> bool
+        ensures { result ≡ mode_seeks self.now.mode event }
+    {
+        match self.mode {
+            Mode::Reading => command_seeks(command_of(event)),
+            Mode::Asking | Mode::Filtering => answer_seeks(answer_of(event)),
+            _ => false,
         }
     }
 

@@ -36,6 +36,8 @@ pub enum Mode {
     Turning,
     /// The list of the keys is shown; any key ends that.
     Helping,
+    /// The text is followed; any key ends that.
+    Following,
 }
 
 /// How a reader is done with a text.
@@ -60,6 +62,8 @@ pub enum Note {
     Missing,
     /// That what was typed can't be sought.
     Refused,
+    /// Which lines are shown, and that a command waits for more.
+    Waiting,
 }
 
 /// How many marks there are: one for the apostrophe, and one for each letter.
@@ -293,9 +297,10 @@ impl<'a> Pager<'a> {
         }
     }
 
-    // Leaves the help, if an event does.
-    fn end_help(&mut self, event: Event)
-        ensures { self.new ≡ acted Mode.Helping event self.old }
+    // Leaves the help, or ends following, if an event does.
+    fn go_on(&mut self, event: Event)
+        ensures help { self.new ≡ acted Mode.Helping event self.old }
+        ensures follow { self.new ≡ acted Mode.Following event self.old }
     {
         if is_press(event) {
             self.mode = Mode::Reading;
@@ -322,8 +327,8 @@ impl<'a> Pager<'a> {
                 self.take_turn(event);
                 Ok(())
             }
-            Mode::Helping => {
-                self.end_help(event);
+            Mode::Helping | Mode::Following => {
+                self.go_on(event);
                 Ok(())
             }
         }

@@ -13,6 +13,8 @@ pub struct Piece<'a> {
     pub text: &'a str,
     /// The styles of the lines.
     pub styles: Styles,
-    /// Whether no other piece comes after it.
+    /// Whether no other piece comes after it, unless the text grows.
     pub is_last: bool,
+    /// Whether there was nothing to give; the next piece is asked for after a while.
+    pub rests: bool,
 }

@@ -1,8 +1,8 @@
 //! Pieces of what a reader gives.
 
 ghost use Rattle.std.specs.Prelude.{◌≡◌, ◌≤◌, true, false, length, take, IfOk};
-ghost use Rattle.std.specs.Prelude.{◌<◌, drop, OnOk};
-ghost use Rattle.std.specs.Io.KnownBytes.{Keeps, IsAtEnd};
+ghost use Rattle.std.specs.Prelude.{◌<◌, drop, OnOk, IfSome, IsNone, Some};
+ghost use Rattle.std.specs.Io.KnownBytes.{Keeps, Consumes, IsAtEnd};
 ghost use Rattle.pager.specs.Growing.{AreWholeLines, IsPieceOf, GivesPiece, GivesKnownPiece, to_come};
 
 use crate::growing::Growing;
@@ -19,16 +19,62 @@ const FEW: usize = 1 << 16;
 
 const MANY: usize = 1 << 20;
 
+/// How often a read is made that finds nothing, before a piece says so, where the read before it
+/// found something: what writes a pipe is about to, then. That takes some milliseconds.
+const TRIES: u32 = 30_000;
+
 /// What gives a text piece by piece, as it comes from a reader. The pieces stay in an arena.
 #[derive(Drop)]
 pub struct PieceReader<'a, R> {
     alloc: Global,
     arena: &'a Bump,
     reader: R,
-    // Whether no read waits, so that one can be made only to find out whether it is the last one.
+    // Whether each read finds bytes or the end, so that one can be made only to find out whether it
+    // is the last one.
     is_file: bool,
     // What was read after the last piece.
     rest: Vec<u8>,
+    // Whether the last read found something.
+    flows: bool,
+}
+
+// What was found after what was read.
+#[derive(Clone, Copy)]
+struct Found {
+    // The end: nothing more comes, unless the text grows.
+    is_end: bool,
+    // Nothing was read.
+    rests: bool,
+}
+
+impl Found {
+    fn new(is_end: bool, rests: bool) -> Found
+        ensures { result ≡ record { is_end = is_end; rests = rests } }
+    {
+        Found { is_end, rests }
+    }
+}
+
+// Reads once if something is there, or the end, and tries so often. Answers how many bytes came, or
+// none if nothing is there yet.
+fn read_ready<R: Read>(reader: &mut R, buf: &mut [u8], tries: u32) -> io::Result<Option<usize>>
+    requires { 0 < length buf.old }
+    ensures same { length buf.new ≡ length buf.old }
+    ensures fits { IfOk result (λ count. IfSome count (λ n. n ≤ length buf.new)) }
+    ensures bytes { IfOk result (λ count. IfSome count (λ n.
+        Consumes (R.remaining reader.old) (R.remaining reader.new) (take n buf.new))) }
+    ensures end { IfOk result (λ count. count ≡ Some 0 → IsAtEnd (R.remaining reader.new)) }
+    ensures none { IfOk result (λ count. IsNone count
+        → Keeps (R.remaining reader.old) (R.remaining reader.new)) }
+{
+    for _ in 0..tries {
+        match reader.read(buf) {
+            Ok(count) => return Ok(Some(count)),
+            Err(error) if error.kind() == ErrorKind::WouldBlock => {}
+            Err(error) => return Err(error),
+        }
+    }
+    Ok(None)
 }
 
 // An error of want of memory.
@@ -62,45 +108,58 @@ impl<'a, R: Read> PieceReader<'a, R> {
             reader,
             is_file,
             rest: Vec::new(alloc),
+            flows: true,
         }
     }
 
-    // Reads once, and keeps what came. Answers how many bytes did.
-    fn read_once(&mut self, room: usize) -> io::Result<usize>
+    // Reads once, and keeps what came. Answers how many bytes did, or none if nothing is there yet.
+    fn read_once(&mut self, room: usize) -> io::Result<Option<usize>>
         requires { 0 < room }
         ensures stays { OnOk result (Keeps
             (to_come self.old.rest.items (R.remaining self.old.reader))
             (to_come self.new.rest.items (R.remaining self.new.reader))) }
-        ensures end { IfOk result (λ count. count ≡ 0 → IsAtEnd (R.remaining self.new.reader)) }
-        ensures more { OnOk result (length self.old.rest.items ≤ length self.new.rest.items) }
-    {
-        let mut buf = Vec::from_elem(self.alloc, 0u8, room).map_err(no_memory)?;
-        let count = self.reader.read(buf.as_mut_slice())?;
-        self.rest
-            .extend_from_slice(&buf[..count])
-            .map_err(no_memory)?;
-        Ok(count)
-    }
-
-    // Reads, and keeps what came. Answers whether nothing more comes.
-    fn read_on(&mut self, room: usize) -> io::Result<bool>
-        requires { 0 < room }
-        ensures stays { OnOk result (Keeps
-            (to_come self.old.rest.items (R.remaining self.old.reader))
-            (to_come self.new.rest.items (R.remaining self.new.reader))) }
-        ensures end { IfOk result (λ is_end. is_end ≡ true
+        ensures end { IfOk result (λ count. count ≡ Some 0
             → IsAtEnd (R.remaining self.new.reader)) }
         ensures more { OnOk result (length self.old.rest.items ≤ length self.new.rest.items) }
     {
-        let count = self.read_once(room)?;
-        if count == 0 {
-            return Ok(true);
+        let mut buf = Vec::from_elem(self.alloc, 0u8, room).map_err(no_memory)?;
+        let tries = if self.flows { TRIES } else { 1 };
+        self.flows = false;
+        let Some(count) = read_ready(&mut self.reader, buf.as_mut_slice(), tries)? else {
+            return Ok(None);
+        };
+        self.flows = true;
+        self.rest
+            .extend_from_slice(&buf[..count])
+            .map_err(no_memory)?;
+        Ok(Some(count))
+    }
+
+    // Reads, and keeps what came. Answers what was found after it.
+    fn read_on(&mut self, room: usize) -> io::Result<Found>
+        requires { 0 < room }
+        ensures stays { OnOk result (Keeps
+            (to_come self.old.rest.items (R.remaining self.old.reader))
+            (to_come self.new.rest.items (R.remaining self.new.reader))) }
+        ensures end { IfOk result (λ found. found.is_end ≡ true
+            → IsAtEnd (R.remaining self.new.reader)) }
+        ensures more { OnOk result (length self.old.rest.items ≤ length self.new.rest.items) }
+    {
+        match self.read_once(room)? {
+            None => return Ok(Found::new(false, true)),
+            Some(0) => return Ok(Found::new(true, true)),
+            Some(count) if !self.is_file || count == room => return Ok(Found::new(false, false)),
+            Some(_) => {}
         }
-        if !self.is_file || count == room {
-            return Ok(false);
+        match self.read_once(room)? {
+            Some(0) => Ok(Found::new(true, false)),
+            _ => Ok(Found::new(false, false)),
         }
-        let more = self.read_once(room)?;
-        Ok(more == 0)
+    }
+
+    // Whether what was read ends with a line's end, or nothing is kept.
+    fn is_whole(&self) -> bool {
+        self.rest.last().is_none_or(|byte| *byte == b'\n')
     }
 
     // Takes so many first bytes from those that were read.
@@ -117,7 +176,7 @@ impl<'a, R: Read> PieceReader<'a, R> {
     }
 
     // Makes a piece of bytes, in the arena.
-    fn piece_of(&self, bytes: Vec<u8>, is_last: bool) -> Result<Piece<'a>, AllocError>
+    fn piece_of(&self, bytes: Vec<u8>, is_last: bool, rests: bool) -> Result<Piece<'a>, AllocError>
         ensures is { IfOk result (IsPieceOf bytes.items) }
         ensures last { IfOk result (λ piece. piece.is_last ≡ is_last) }
     {
@@ -127,6 +186,7 @@ impl<'a, R: Read> PieceReader<'a, R> {
             text: arena.try_alloc_str(text.as_str())?,
             styles,
             is_last,
+            rests,
         })
     }
 
@@ -145,7 +205,7 @@ impl<'a, R: Read> PieceReader<'a, R> {
     }
 
     // Gives a piece of what was read, if there is no line's end among so many first bytes of it.
-    fn cut(&mut self, is_last: bool, from: usize) -> Result<Piece<'a>, AllocError>
+    fn cut(&mut self, is_last: bool, rests: bool, from: usize) -> Result<Piece<'a>, AllocError>
         requires { from ≤ length self.old.rest.items }
         ensures gives { IfOk result (λ piece.
             GivesPiece self.old.rest.items piece self.new.rest.items) }
@@ -154,23 +214,33 @@ impl<'a, R: Read> PieceReader<'a, R> {
     {
         let count = self.count_for(is_last, from);
         let bytes = self.take_rest(count)?;
-        self.piece_of(bytes, is_last)
+        self.piece_of(bytes, is_last, rests)
+    }
+
+    // Whether all that is kept is given: the end was found, and no line is kept until it is whole.
+    fn gives_all(&self, found: Found, is_followed: bool) -> bool
+        ensures { result ≡ true → found.is_end ≡ true }
+    {
+        found.is_end && (!is_followed || self.is_whole())
     }
 
     /// Reads, and gives the whole lines that came, which may be none yet; at the end all that is
-    /// left.
+    /// left, unless the text is followed: then a line that isn't whole is kept until it is. A reader
+    /// whose error says that a read would wait is tried again for some milliseconds, and then the
+    /// piece is empty.
     ///
     /// # Errors
     ///
-    /// If the reader fails, or memory is refused.
-    pub fn next_piece(&mut self, is_many: bool) -> io::Result<Piece<'a>>
+    /// If the reader fails otherwise, or memory is refused.
+    pub fn next_piece(&mut self, is_many: bool, is_followed: bool) -> io::Result<Piece<'a>>
         ensures { IfOk result (λ piece. GivesKnownPiece
             (to_come self.old.rest.items (R.remaining self.old.reader)) piece
             (to_come self.new.rest.items (R.remaining self.new.reader))) }
     {
         let from = self.rest.len();
-        let is_last = self.read_on(if is_many { MANY } else { FEW })?;
-        match self.cut(is_last, from) {
+        let found = self.read_on(if is_many { MANY } else { FEW })?;
+        let is_last = self.gives_all(found, is_followed);
+        match self.cut(is_last, found.rests, from) {
             Ok(piece) => Ok(piece),
             Err(error) => Err(no_memory(error)),
         }
@@ -190,6 +260,7 @@ impl<'a, G: Glass<Growing<'a>>, R: Read> Outside<Growing<'a>, G> for PieceReader
         state: &Growing<'a>,
         _command: &More,
     ) -> io::Result<Piece<'a>> {
-        self.next_piece(state.has_waiting())
+        let is_followed = state.is_following();
+        self.next_piece(is_followed || state.has_waiting(), is_followed)
     }
 }

@@ -7,7 +7,7 @@ ghost use Rattle.ratatui_core.specs.Widgets.{ChangesWithin};
 ghost use Rattle.widget_boxes.specs.Boxes.{IsBoxArea};
 ghost use Rattle.pager.specs.Symbols.{reversed};
 ghost use Rattle.pager.specs.Pages.{first_shown, last_shown, per_cent, filter_text, count_text, place_text};
-ghost use Rattle.pager.specs.Pages.{byte_count, details_text};
+ghost use Rattle.pager.specs.Pages.{byte_count, details_text, follow_text, wait_text};
 ghost use Rattle.pager.specs.Pages.{note_name, note_text, first_part, second_part, PaintsText, PaintsStatus};
 
 use crate::pager::{Mode, Note, Pager};
@@ -114,6 +114,26 @@ impl<'a> Pager<'a> {
         text
     }
 
+    // The place while the text is followed.
+    fn follow_text(&self) -> ArrayString<160>
+        ensures { result.bytes ≡ follow_text self.now }
+    {
+        let mut text = ArrayString::new();
+        text.push_str(self.place_text().as_str());
+        text.push_str(" follows: any key ends that");
+        text
+    }
+
+    // The place while a command waits for lines.
+    fn wait_text(&self) -> ArrayString<160>
+        ensures { result.bytes ≡ wait_text self.now }
+    {
+        let mut text = ArrayString::new();
+        text.push_str(self.place_text().as_str());
+        text.push_str(" waits: any key ends that");
+        text
+    }
+
     // What the text is called, or that something isn't found or can't be sought.
     fn note_name(&self) -> &str
         ensures { result.now ≡ note_name self.now.note self.now }
@@ -138,6 +158,7 @@ impl<'a> Pager<'a> {
             Mode::Returning => "go to mark",
             Mode::Turning => ":",
             Mode::Helping => "keys",
+            Mode::Following => self.name.as_str(),
         }
     }
 
@@ -167,6 +188,7 @@ impl<'a> Pager<'a> {
             Note::Bytes => paint_text(self.details_text().as_str(), room, style, x, y, part, buf),
             Note::Missing => paint_text(self.sought.text(), room, style, x, y, part, buf),
             Note::Refused => paint_text(self.typed.text(), room, style, x, y, part, buf),
+            Note::Waiting => paint_text(self.wait_text().as_str(), room, style, x, y, part, buf),
         }
     }
 
@@ -227,6 +249,17 @@ impl<'a> Pager<'a> {
             }
             Mode::Helping => {
                 paint_text(": any key goes back", room, reversed(), x, y, part, buf)
+            }
+            Mode::Following => {
+                paint_text(
+                    self.follow_text().as_str(),
+                    room,
+                    reversed(),
+                    x,
+                    y,
+                    part,
+                    buf,
+                )
             }
         }
     }

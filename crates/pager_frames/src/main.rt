@@ -6,12 +6,12 @@
 //! below what is styled: `^` reversed, `b` bold, `u` underlined, `B` both, `g` a background, `c`
 //! another colour.
 //!
-//! After a line `--` stand fewer reads, in which each kind of key is. It plays them cut at random
-//! places, and compares the last screen; and with each read, and each call of the screen in the first
-//! ones, failing in turn, and counts the faults that were told. With wrong words, or if a screen is
-//! another one, the status is 1. With a number as a fourth word it only shows these reads as bytes
-//! for a terminal while one request for memory is refused, and prints what came of it:
-//! `tools/refusals` has each request refused.
+//! After a line `--` stand fewer reads, in which each kind of key is. It plays them on half as many
+//! columns and rows, cut at random places, and compares the last screen; and with each read, and each
+//! call of the screen in the first ones, failing in turn, and counts the faults that were told. With
+//! wrong words, or if a screen is another one, the status is 1. With a number as a fourth word it
+//! only shows these reads as bytes for a terminal while one request for memory is refused, and prints
+//! what came of it: `tools/refusals` has each request refused.
 #![tactic(auto)]
 
 mod frames;
@@ -33,6 +33,14 @@ fn size_of(words: &[String]) -> Option<Size> {
     let width: u16 = words.get(2)?.as_str().parse().ok()?;
     let height: u16 = words.get(3)?.as_str().parse().ok()?;
     Some(Size { width, height })
+}
+
+// Half of the columns and rows: a small screen is drawn sooner.
+fn half_of(size: Size) -> Size {
+    Size {
+        width: size.width / 2,
+        height: size.height / 2,
+    }
 }
 
 // Plays what standard input records on the text of a file.
@@ -57,16 +65,20 @@ fn play(rt: &HostRuntime, words: &[String]) -> anyhow::Result<bool> {
         text,
         size,
     };
+    let small = Stage {
+        size: half_of(size),
+        ..stage
+    };
     if let Some(number) = words.get(4) {
         let Ok(number) = number.as_str().parse::<usize>() else {
             return Ok(false);
         };
-        print_refused(rt, stage, &fewer, number)?;
+        print_refused(rt, small, &fewer, number)?;
         return Ok(true);
     }
     let recording = Recording::read(rt.alloc(), script)?;
     let are_drawn = print_frames(rt, stage, script, &recording)?;
-    let are_told = print_trials(rt, stage, &fewer)?;
+    let are_told = print_trials(rt, small, &fewer)?;
     Ok(are_drawn && are_told)
 }
 

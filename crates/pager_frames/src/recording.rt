@@ -65,6 +65,11 @@ impl<'a> Player<'a> {
         }
     }
 
+    /// Lets so many calls more be made before one fails.
+    pub fn go_on(&mut self, calls: usize) {
+        self.calls = calls;
+    }
+
     // How many of these bytes are read at once.
     fn piece(&mut self, count: usize) -> usize {
         let Some(seed) = self.seed else {

@@ -3,7 +3,7 @@
 
 use crate::frames::Stage;
 use crate::recording::{Player, Recording};
-use pager::show;
+use pager::{Pager, show};
 use ratatui_acts::{Fault, Seat};
 use ratatui_ansi::AnsiError;
 use ratatui_core::terminal::TerminalError;
@@ -59,6 +59,9 @@ impl Owned {
     fn read(&mut self, byte: u8) {
         self.last.rotate_left(1);
         self.last[KEPT - 1] = byte;
+        if byte != b'h' && byte != b'l' {
+            return;
+        }
         let last = self.last.as_slice();
         if last.ends_with(b"[?1049h") || last.ends_with(b"[?1049l") {
             self.is_away = byte == b'h';
@@ -109,33 +112,78 @@ fn name_of_end(ended: &Result<(), Fault<TerminalError<AnsiError>>>) -> &'static 
     }
 }
 
-// What came of a recording, and whether the terminal was given back.
+// What came of a recording that is shown from where a pager is, and whether the terminal was given
+// back.
+fn shown_on(
+    stage: Stage<'_>,
+    player: &mut Player<'_>,
+    terminal: &mut Owned,
+    seat: &mut Seat<Pager<'_>>,
+) -> (&'static str, bool) {
+    let told = match show(stage.alloc, stage.size, player, true, &mut *terminal, seat) {
+        Ok(left) => name_of_end(&left.ended),
+        Err(error) => name_of(&error),
+    };
+    (told, terminal.is_given_back())
+}
+
+// What came of a recording that is shown from its beginning, and whether the terminal was given
+// back.
 fn shown(
     stage: Stage<'_>,
     player: &mut Player<'_>,
     terminal: &mut Owned,
 ) -> Option<(&'static str, bool)> {
     let mut seat = Seat::new(stage.alloc, stage.pager()?);
-    let (alloc, size) = (stage.alloc, stage.size);
-    let told = match show(alloc, size, player, true, &mut *terminal, &mut seat) {
-        Ok(left) => name_of_end(&left.ended),
-        Err(error) => name_of(&error),
-    };
-    Some((told, terminal.is_given_back()))
+    Some(shown_on(stage, player, terminal, &mut seat))
 }
 
-/// Returns how many of the reads, of which one fails in each recording, leave the terminal given
-/// back.
-pub fn reads_given_back(stage: Stage<'_>, recording: &Recording) -> usize {
-    let mut count = 0usize;
-    for calls in 0..recording.ends.len() {
-        let mut player = Player::new(recording, None, calls);
-        let mut terminal = Owned::new(usize::MAX);
-        if let Some(("no more reads", true)) = shown(stage, &mut player, &mut terminal) {
-            count = count.saturating_add(1);
+/// How many reads failed, how many of these were told as such, and how many of these left the
+/// terminal given back.
+#[derive(Debug, Clone, Copy)]
+pub struct Failed {
+    pub reads: usize,
+    pub told: usize,
+    pub given_back: usize,
+}
+
+impl Failed {
+    /// Returns that no read failed.
+    pub fn nothing() -> Failed {
+        Failed {
+            reads: 0,
+            told: 0,
+            given_back: 0,
         }
     }
-    count
+
+    fn add(&mut self, is_told: bool, is_given_back: bool) {
+        self.reads = self.reads.saturating_add(1);
+        if is_told {
+            self.told = self.told.saturating_add(1);
+        }
+        if is_given_back {
+            self.given_back = self.given_back.saturating_add(1);
+        }
+    }
+}
+
+/// Lets each read fail once before it is made, and then shows the recording on from there; returns
+/// what came of these reads, up to the one that ends the pager.
+pub fn failed_reads(stage: Stage<'_>, recording: &Recording) -> Option<Failed> {
+    let mut seat = Seat::new(stage.alloc, stage.pager()?);
+    let mut player = Player::new(recording, None, 0);
+    let mut failed = Failed::nothing();
+    for _ in 0..recording.ends.len() {
+        let mut terminal = Owned::new(usize::MAX);
+        let (told, is_given_back) = shown_on(stage, &mut player, &mut terminal, &mut seat);
+        if told == "over" {
+            return Some(failed);
+        }
+        failed.add(told == "no more reads", is_given_back);
+        player.go_on(1);
+    }
+    Some(failed)
 }
 
 /// Returns how many of the writer's calls, of which one fails in each recording of so many reads,

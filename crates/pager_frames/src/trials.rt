@@ -4,7 +4,7 @@ ghost use Rattle.ratatui_core.specs.Backend.{IsSameBackend};
 
 use crate::frames::Stage;
 use crate::recording::{Player, Recording};
-use crate::refused::{reads_given_back, writes_given_back};
+use crate::refused::{Failed, failed_reads, writes_given_back};
 use ratatui_acts::{Fault, Nothing, Seat, run};
 use ratatui_app::OnScreen;
 use ratatui_core::backend::TestBackend;
@@ -79,20 +79,6 @@ fn same_screens(stage: Stage<'_>, recording: &Recording) -> Option<u32> {
     Some(same)
 }
 
-// How many reads that fail, one in each recording, are told as such, and how many do.
-fn told_reads(stage: Stage<'_>, recording: &Recording) -> Option<(usize, usize)> {
-    let mut told = 0usize;
-    for calls in 0..recording.ends.len() {
-        let mut player = Player::new(recording, None, calls);
-        let (_, fault) = played(stage, &mut player, None)?;
-        match fault {
-            "read" => told = told.saturating_add(1),
-            _ => return Some((told, calls)),
-        }
-    }
-    Some((told, recording.ends.len()))
-}
-
 // How many calls of the screen that fail, one in each recording, are told as such, and how many do:
 // each call that its first reads lead to.
 fn told_calls(stage: Stage<'_>, recording: &Recording) -> Option<(u64, u64)> {
@@ -112,14 +98,14 @@ fn told_calls(stage: Stage<'_>, recording: &Recording) -> Option<(u64, u64)> {
 pub fn print_trials(rt: &HostRuntime, stage: Stage<'_>, recording: &Recording) -> io::Result<bool> {
     let same = same_screens(stage, recording).unwrap_or(0);
     println!(rt; "cuts: {same} of {CUTS} lead to the same screen")?;
-    let (told, reads) = told_reads(stage, recording).unwrap_or((0, 1));
+    let failed = failed_reads(stage, recording).unwrap_or(Failed::nothing());
+    let (reads, told, given_back) = (failed.reads, failed.told, failed.given_back);
     println!(rt; "reads: {told} of {reads} that fail are told")?;
     let (calls_told, calls) = told_calls(stage, recording).unwrap_or((0, 1));
     println!(rt; "calls: {calls_told} of {calls} that fail are told")?;
-    let given_back = reads_given_back(stage, recording);
     println!(rt; "reads: {given_back} of {reads} that fail give the terminal back")?;
     let (wrote, writes) = writes_given_back(stage, recording, READS);
     println!(rt; "writes: {wrote} of {writes} that fail give the terminal back, or were to")?;
-    let are_told = told == reads && calls_told == calls;
+    let are_told = reads > 0 && told == reads && calls_told == calls;
     Ok(same == CUTS && are_told && given_back == reads && wrote == writes)
 }

@@ -75,7 +75,7 @@ fn begun<'a, T: Read>(
     size: Size,
     pieces: &mut PieceReader<'a, T>,
 ) -> Result<Growing<'a>, PagerError> {
-    let first = pieces.next_piece(false).map_err(PagerError::Read)?;
+    let first = pieces.next_piece(false, false).map_err(PagerError::Read)?;
     let pager = pager_for(alloc, place, size)?;
     Growing::new(pager, first).map_err(|_| PagerError::Memory)
 }
@@ -182,11 +182,13 @@ fn page_file(
         });
     }
     let text = fs::open(rt, place.name).map_err(PagerError::Read)?;
+    // A pipe that has a name may give nothing yet.
+    let is_file = text.metadata().is_ok_and(|found| found.is_file());
     page(
         rt,
         place,
         text,
-        true,
+        is_file,
         first,
         &mut rt.reader(),
         has_ticks,

@@ -8,7 +8,7 @@ returns-in-Event-clause-ok c = rw c.in-Event.is c.take_event.ensures.ok
 
 pub returns-in-Tick-clause-ok : goal.returns-in-Tick-clause-ok
 unfolding grown_after
-returns-in-Tick-clause-ok c = rw c.in-Tick.is refl
+returns-in-Tick-clause-ok c = rw c.in-Tick.is c.tick.ensures.state
 
 pub returns-in_ok-take_piece-in-Answer-clause-ok : goal.returns-in_ok-take_piece-in-Answer-clause-ok
 unfolding grown_after
