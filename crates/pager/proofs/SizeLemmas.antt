@@ -13,7 +13,7 @@ use Rattle.ratatui_acts.specs.Runs.{Now, Past, HasRun, IsTurn}
 use Rattle.ratatui_acts.specs.Reading.{event_rules}
 use Rattle.ratatui_acts.proofs.{ReadingLemmas.turn-between, ReadingLemmas.some-none, RunLemmas.run-rests, TakingLemmas.Rests}
 use Rattle.ratatui_app.specs.declared.on_glass.OnGlass.{OnGlass}
-use Rattle.ratatui_app.specs.{Showing.TakesOrKeepsSize, Glass.sender, Glass.MovesAndAsks}
+use Rattle.ratatui_app.specs.{Glass.HasSizeTold}
 use Rattle.pager.specs.declared.pager.Pager.{Pager}
 use Rattle.pager.specs.declared.pager.Mode.{Mode}
 use Rattle.pager.specs.declared.pager.Mode.TheVariants.{Reading, Asking, Filtering, Marking, Returning, Turning, Helping, Following}
@@ -32,7 +32,7 @@ use Rattle.pager.specs.Moves.{first_match, sought_first, all_lines, relined, wit
 use Rattle.pager.specs.declared.pager.Ending.{Ending}
 use Rattle.pager.specs.Keys.{event_command, event_answer, event_mark, event_ending, is_press}
 use Rattle.pager.proofs.ShowLemmas.{asks-nothing}
-use Rattle.pager.specs.Paging.{paged_after, paging, paging_on, page_size, FillsScreen, FillsAlong, TakesAlong}
+use Rattle.pager.specs.Paging.{paged_after, paging, paging_on, page_size, FillsScreen, FillsAlong}
 
 found-same : (found : Option ℕ) (p : Pager) → page_size (found_at found p) ≡ page_size p
 found-same (Some k) p = refl
@@ -179,11 +179,10 @@ all-sized (e ∷ events) known s p sized =
 
 module _ {W : Type 0} where
   -- the terminal has the size that it was told, or its own
-  taken : (told : Option (ℕ × ℕ)) (s t : TerminalData (BackendState W)) → TakesOrKeepsSize sender told s t
-      → IfSome told (λ z. size_of (shown_by t.backend) ≡ record { width = z.0; height = z.1 })
+  taken : (told : Option (ℕ × ℕ)) (s t : TerminalData (BackendState W)) → HasSizeTold told s t
       → told_or told (size_of (shown_by s.backend)) ≡ size_of (shown_by t.backend)
-  taken None s t keeps has = sym keeps
-  taken (Some z) s t takes has = sym has
+  taken None s t has = sym has
+  taken (Some z) s t has = sym has
 
   moved : (told : Option (ℕ × ℕ)) (p : Pager) (s t : TerminalData (BackendState W))
       → IsOfSize told (size_of (shown_by s.backend)) p
@@ -197,36 +196,25 @@ module _ {W : Type 0} where
   fills-first p s t same (inl over) = inl over
   fills-first p s t same (inr sized) = inr (sized ∙ sym same)
 
-module _ {W H : Type 0} (coming : H → Coming) where
+module _ {W H : Type 0} (coming : H → Coming) (has_size : (before after : Now Pager (OnGlass W) H Outside)
+      (turn : AnyTurn Never Never) → IsTurn (paging_on coming) before turn after
+      → HasSizeTold (turn_size before.standing turn) before.glass.terminal after.glass.terminal) where
   -- a turn
   fills-turn : (before : Now Pager (OnGlass W) H Outside) (turn : AnyTurn Never Never) (after : Now Pager (OnGlass W) H Outside)
       → Rests paging before.standing → (is : IsTurn (paging_on coming) before turn after)
       → FillsScreen before.standing.state before.glass.terminal
-      → IfSome (turn_size before.standing turn)
-      (λ z. size_of (shown_by after.glass.terminal.backend) ≡ record { width = z.0; height = z.1 })
       → FillsScreen after.standing.state after.glass.terminal
-  fills-turn before (Came bytes passed) after rests is fits has =
+  fills-turn before (Came bytes passed) after rests is fits =
       let b : Standing Pager = before.standing in
       let read = turn-between paging b bytes passed asks-nothing rests in
-      let moves : MovesAndAsks is.told before.glass.terminal after.glass.terminal = is.moved in
-      let asked = ap size_of moves.asked.screen_stays in
       let sized = all-sized (told_by b.decoder bytes).0 None (size_of (shown_by before.glass.terminal.backend)) b.state fits in
       let state = ap (λ (x : Standing Pager). x.state) is.made ∙ ap (λ (x : Between Pager). x.state) read in
-      let size : TakesOrKeepsSize sender (size_told b.decoder bytes) before.glass.terminal moves.shown =
-      subst (λ (z : Option (ℕ × ℕ)). TakesOrKeepsSize sender z before.glass.terminal moves.shown) is.tells.size moves.moved.has in
       subst (λ (p : Pager). FillsScreen p after.glass.terminal) (sym state)
       (moved (size_told b.decoder bytes) (all_updated (event_rules paging) b.state (told_by b.decoder bytes).0)
       before.glass.terminal after.glass.terminal sized
       (taken (size_told b.decoder bytes) before.glass.terminal after.glass.terminal
-      (kept-on (size_told b.decoder bytes) before.glass.terminal moves.shown after.glass.terminal asked size) has))
-    where
-      kept-on : (told : Option (ℕ × ℕ)) (s u t : TerminalData (BackendState W))
-          → size_of (shown_by t.backend) ≡ size_of (shown_by u.backend)
-          → TakesOrKeepsSize sender told s u → TakesOrKeepsSize sender told s t
-      kept-on None s u t same keeps = same ∙ keeps
-      kept-on (Some z) s u t same (inl takes) = inl (same ∙ takes)
-      kept-on (Some z) s u t same (inr keeps) = inr (keeps.0, same ∙ keeps.1)
-  fills-turn before (Done command answer) after rests is fits has =
+      (has_size before after (Came bytes passed) is)))
+  fills-turn before (Done command answer) after rests is fits =
       absurd (some-none paging command before.standing.state asks-nothing is.wanted)
 
   fills-now : (past : List (Past Pager Never Never (OnGlass W) H Outside)) (now : Now Pager (OnGlass W) H Outside)
@@ -236,12 +224,12 @@ module _ {W H : Type 0} (coming : H → Coming) where
 
   pub fills-along : (begun now : Now Pager (OnGlass W) H Outside) (past : List (Past Pager Never Never (OnGlass W) H Outside))
       → begun.standing.left ≡ [] → HasRun (paging_on coming) begun past now
-      → FillsScreen begun.standing.state begun.glass.terminal → TakesAlong past now → FillsAlong past now
-  fills-along begun now [] none run fits takes =
+      → FillsScreen begun.standing.state begun.glass.terminal → FillsAlong past now
+  fills-along begun now [] none run fits =
       subst (λ (n : Now Pager (OnGlass W) H Outside). FillsScreen n.standing.state n.glass.terminal) (sym run) fits
-  fills-along begun now (p ∷ earlier) none run fits takes =
-      let before = fills-along begun p.before earlier none run.0 fits takes.1 in (
+  fills-along begun now (p ∷ earlier) none run fits =
+      let before = fills-along begun p.before earlier none run.0 fits in (
         fills-turn p.before p.turn now (run-rests (paging_on coming) begun p.before earlier none run.0) run.1
-            (fills-now earlier p.before before) takes.0,
+            (fills-now earlier p.before before),
         before,
       )

@@ -99,10 +99,3 @@ module _ {W H : Type 0} where
   FillsAlong [] now = FillsScreen now.standing.state now.glass.terminal
   FillsAlong (p ∷ earlier) now =
       FillsScreen now.standing.state now.glass.terminal × FillsAlong earlier p.before
-
-  -- the terminal has each size that the turns of a run told
-  abbrev pub TakesAlong : PagedTurns W H → Now Pager (OnGlass W) H Nothing → Type 0
-  TakesAlong [] now = ⊤
-  TakesAlong (p ∷ earlier) now = IfSome (turn_size p.before.standing p.turn)
-      (λ z. size_of (shown_by now.glass.terminal.backend) ≡ record { width = z.0; height = z.1 })
-      × TakesAlong earlier p.before

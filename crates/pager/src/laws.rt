@@ -19,7 +19,7 @@ ghost use Rattle.pager.specs.declared.styles.Run.{Run};
 ghost use Rattle.pager.specs.Places.{IsInText, columns_for_line, page_rows, page_place, text_place, place_after};
 ghost use Rattle.pager.specs.Places.{places_after, breaking, last_page, earlier, is_before};
 ghost use Rattle.pager.specs.declared.command.Command.TheVariants.{PageDown};
-ghost use Rattle.pager.specs.Paging.{paging_on, page_size, IsPaged, FillsScreen, FillsAlong, TakesAlong};
+ghost use Rattle.pager.specs.Paging.{paging_on, page_size, IsPaged, FillsScreen, FillsAlong};
 ghost use Rattle.pager.specs.declared.pager.Pager.{Pager};
 ghost use Rattle.std.specs.Prelude.{◌++◌, ◌⊎◌, None, is_some};
 ghost use Rattle.ratatui_acts.specs.declared.message.Message.TheVariants.{Answer, Event as EventCame};
@@ -42,6 +42,7 @@ use crate::pager::Pager;
 use ratatui_acts::laws::each_turn_was_made_while_its_state_was_shown;
 use ratatui_acts::{Nothing, Outside};
 use ratatui_app::OnGlass;
+use ratatui_app::laws::told_sizes_are_the_screens;
 use ratatui_reads::Source;
 use std::io::Write;
 
@@ -99,21 +100,22 @@ pub fn the_glass_shows_the_page<W: Write + Drop, S: Source>()
     each_turn_was_made_while_its_state_was_shown::<Pager<'static>, OnGlass<W>, S, Nothing>();
 }
 
-/// If the first page is as large as the screen, and the terminal takes each size that it is told,
-/// then the page is as large as the screen at each turn of a run, until the pager is over; and a
-/// pager of a terminal's size begins so.
+/// If the first page is as large as the screen, then the page is as large as the screen at each turn
+/// of a run, whatever sizes are told, until the pager is over; and a pager of a terminal's size
+/// begins so.
 pub fn the_page_fills_the_screen<W: Write + Drop, S: Source>()
     ensures runs { (begun now : Now Pager (OnGlass W) S Nothing)
         (past : List (Past Pager Never Never (OnGlass W) S Nothing))
         → begun.standing.left ≡ [] → HasRun (paging_on S.coming) begun past now
-        → FillsScreen begun.standing.state begun.glass.terminal
-        → TakesAlong past now → FillsAlong past now }
+        → FillsScreen begun.standing.state begun.glass.terminal → FillsAlong past now }
     ensures paged { (size : Size) (has_ticks : Bool) (first last : Standing Pager) (ears ears' : S)
         (before after : Option (List ℕ))
         (paged : IsPaged W S.coming size has_ticks first ears last ears' before after)
         → page_size first.state ≡ size
         → FillsScreen first.state paged.through.runs.runs.glass.terminal }
-{}
+{
+    told_sizes_are_the_screens::<W, Pager<'static>, S, Nothing>();
+}
 
 /// What an event needs is enough: where so many lines are known, it does what it does where more
 /// lines are known, in whatever styles, and makes the same page.

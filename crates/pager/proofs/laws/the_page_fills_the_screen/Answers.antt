@@ -4,7 +4,7 @@ use Rattle.pager.proofs.SizeLemmas.{fills-along, fills-first}
 use Rattle.pager.proofs.laws.the_page_fills_the_screen.Goals as goal
 
 pub returns-clause-runs : goal.returns-clause-runs
-returns-clause-runs g c = fills-along g.S.Source.coming
+returns-clause-runs g c = fills-along g.S.Source.coming c.told_sizes_are_the_screens.ensures
 
 pub returns-clause-paged : goal.returns-clause-paged
 returns-clause-paged g c = λ size has_ticks first last ears ears' before after paged sized.
