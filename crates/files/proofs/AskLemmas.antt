@@ -14,9 +14,9 @@ use Rattle.ratatui_app.specs.declared.on_glass.OnGlass.{OnGlass}
 use Rattle.files.specs.declared.browser.Browser.{Browser}
 use Rattle.files.specs.declared.browser.Mode.{Mode}
 use Rattle.files.specs.declared.browser.Mode.TheVariants.{Looking, Listing, Entering, Leaving, Trashing, Removing}
-use Rattle.files.specs.declared.browser.Mode.TheVariants.{Renaming, Making, Over}
+use Rattle.files.specs.declared.browser.Mode.TheVariants.{Renaming, Making, Over, Pasting, Sorting, Seeking}
 use Rattle.files.specs.declared.browser.Note.{Note}
-use Rattle.files.specs.declared.browser.Note.TheVariants.{Place, Failed, Narrow, NoTrash}
+use Rattle.files.specs.declared.browser.Note.TheVariants.{Place, Failed, Narrow, NoTrash, Missing, Noted, NothingNoted}
 use Rattle.files.specs.declared.list.Outcome.{Outcome}
 use Rattle.files.specs.Keys.{is_input}
 use Rattle.files.specs.Texts.{subject, note_told, failure_text, status_in}
@@ -46,6 +46,9 @@ subject-sized Trashing size b = refl
 subject-sized Removing size b = refl
 subject-sized Renaming size b = refl
 subject-sized Making size b = refl
+subject-sized Pasting size b = refl
+subject-sized Sorting size b = refl
+subject-sized Seeking size b = refl
 subject-sized Over size b = refl
 
 note-sized : (n : Note) (size : ℕ × ℕ) (b : Browser) → note_told n (browser_at_told_size (Some size) b) ≡ note_told n b
@@ -53,6 +56,9 @@ note-sized Place size b = refl
 note-sized (Failed m why) size b = ap (λ text. text ++ codes ": " ++ failure_text why) (subject-sized m size b)
 note-sized Narrow size b = refl
 note-sized NoTrash size b = refl
+note-sized Missing size b = refl
+note-sized Noted size b = refl
+note-sized NothingNoted size b = refl
 
 status-sized : (m : Mode) (size : ℕ × ℕ) (b : Browser) → status_in m (browser_at_told_size (Some size) b) ≡ status_in m b
 status-sized Looking size b = note-sized b.note size b
@@ -63,6 +69,9 @@ status-sized Trashing size b = refl
 status-sized Removing size b = refl
 status-sized Renaming size b = refl
 status-sized Making size b = refl
+status-sized Pasting size b = refl
+status-sized Sorting size b = refl
+status-sized Seeking size b = refl
 status-sized Over size b = note-sized b.note size b
 
 sized-same : (size : Option (ℕ × ℕ)) (b : Browser) → AsksTheSame b (browser_at_told_size size b)

@@ -10,17 +10,17 @@ use Rattle.files.specs.Answers.{told_of}
 use Rattle.ratatui_files.specs.declared.command.Command.{Command}
 use Rattle.ratatui_files.specs.declared.command.Command.TheVariants.{MakeFolder, List as ListFolder, Now}
 use Rattle.files.specs.declared.browser.Browser.{Browser}
-use Rattle.files.specs.declared.browser.Mode.TheVariants.{Trashing}
+use Rattle.files.specs.declared.browser.Mode.{Mode}
+use Rattle.files.specs.declared.browser.Mode.TheVariants.{Looking, Listing, Entering, Leaving, Trashing, Removing}
+use Rattle.files.specs.declared.browser.Mode.TheVariants.{Renaming, Making, Over, Pasting, Sorting, Seeking}
 use Rattle.files.specs.declared.trash.Discard.{Discard}
 use Rattle.files.specs.declared.trash.Plan.{Plan}
 use Rattle.files.specs.Trash.{discard_in, IsTrashFolder, IsStep, IsPlanOf, discard_plan}
-use Rattle.files.specs.Questions.{AsksToDiscard, IsNamedIn}
+use Rattle.files.specs.Questions.{AsksToDiscard, IsNamedIn, change_in}
 use Rattle.files.specs.Discards.{IsPreparing, ArePreparing, Did, Prepares, GivesEntries, GivesTime, EndsMoved, Ends, Discarded}
-use Rattle.files.specs.Doing.{DoesIn, DoesAsked}
+use Rattle.files.specs.Doing.{Changed, DoesIn, DoesAsked}
 use Rattle.files.specs.Moves.{browser_asked}
 use Rattle.files.proofs.SoundLemmas.{asked-self}
-use Rattle.files.specs.declared.list.Row.{Row}
-use Rattle.std.specs.declared.cmp.Ordering.{Ordering}
 
 -- ---- what a question names
 
@@ -90,9 +90,33 @@ module _ {P : Type 0} (does : P → Command → Answer → P → Type 0) where
   )
 
 -- what a browser asks for was done, where it asks whether something is to be put into the trash
-pub asked-discard : {P : Type 0} (cmp : Row → Row → Ordering) (does : P → Command → Answer → P → Type 0) (state b : Browser)
+pub asked-discard : {P : Type 0} (does : P → Command → Answer → P → Type 0) (state b : Browser)
     (files : P) (o : Outcome) (files' : P) → browser_asked state ≡ Some b → state.mode ≡ Trashing
-    → Discarded does (discard_in state) files o files' → DoesAsked cmp does b files o files'
-asked-discard cmp does state b files o files' asked at is =
-    subst (λ (x : Browser). DoesAsked cmp does x files o files') (asked-self state b asked)
-    (subst (λ mode. DoesIn cmp does mode state files o files') (sym at) is)
+    → Discarded does (discard_in state) files o files' → DoesAsked does b files o files'
+asked-discard does state b files o files' asked at is =
+    subst (λ (x : Browser). DoesAsked does x files o files') (asked-self state b asked)
+    (subst (λ mode. DoesIn does mode state files o files') (sym at) is)
+
+-- the same, where it asks for a change
+changes-in : {P : Type 0} (does : P → Command → Answer → P → Type 0) (mode : Mode) (b : Browser) (files : P) (o : Outcome) (files' : P)
+    → (mode ≡ Listing → ⊥) → (mode ≡ Entering → ⊥) → (mode ≡ Leaving → ⊥) → (mode ≡ Trashing → ⊥)
+    → Changed does (change_in mode b) files o files' → DoesIn does mode b files o files'
+changes-in does Looking b files o files' one two three four is = is
+changes-in does Listing b files o files' one two three four is = absurd (one refl)
+changes-in does Entering b files o files' one two three four is = absurd (two refl)
+changes-in does Leaving b files o files' one two three four is = absurd (three refl)
+changes-in does Trashing b files o files' one two three four is = absurd (four refl)
+changes-in does Removing b files o files' one two three four is = is
+changes-in does Renaming b files o files' one two three four is = is
+changes-in does Making b files o files' one two three four is = is
+changes-in does Pasting b files o files' one two three four is = is
+changes-in does Sorting b files o files' one two three four is = is
+changes-in does Seeking b files o files' one two three four is = is
+changes-in does Over b files o files' one two three four is = is
+
+pub asked-change : {P : Type 0} (does : P → Command → Answer → P → Type 0) (state b : Browser) (files : P) (o : Outcome) (files' : P)
+    → browser_asked state ≡ Some b → (state.mode ≡ Listing → ⊥) → (state.mode ≡ Entering → ⊥) → (state.mode ≡ Leaving → ⊥)
+    → (state.mode ≡ Trashing → ⊥) → Changed does (change_in state.mode state) files o files' → DoesAsked does b files o files'
+asked-change does state b files o files' asked one two three four is =
+    subst (λ (x : Browser). DoesAsked does x files o files') (asked-self state b asked)
+    (changes-in does state.mode state files o files' one two three four is)

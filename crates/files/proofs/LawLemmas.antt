@@ -3,6 +3,7 @@ use Rattle.std.proofs.Common.{◌≡◌, ◌==◌, ◌&&◌, ◌⊎◌, inl, inr
 use Rattle.std.proofs.Common.{arith, rules, refl, sym, ap, ◌∙◌, List, length, Option, Some, None, if◌then◌else◌}
 use Rattle.std.specs.Prelude.{is_some}
 use Rattle.std.specs.Str.{bytes_eq}
+use Rattle.std.specs.Option.{option_map_or}
 use Rattle.std.specs.declared.alloc.Global.{Global}
 use Rattle.std.proofs.lemmas.Bool.Decides.{nat_tests}
 use Rattle.ratatui_core.specs.Layout.{Size}
@@ -14,7 +15,7 @@ use Rattle.text_field.specs.Field.{FieldData}
 use Rattle.files.specs.declared.browser.Browser.{Browser}
 use Rattle.files.specs.declared.browser.Mode.{Mode}
 use Rattle.files.specs.declared.browser.Mode.TheVariants.{Looking, Listing, Entering, Leaving, Trashing, Removing}
-use Rattle.files.specs.declared.browser.Mode.TheVariants.{Renaming, Making, Over}
+use Rattle.files.specs.declared.browser.Mode.TheVariants.{Renaming, Making, Over, Pasting, Sorting, Seeking}
 use Rattle.files.specs.declared.browser.Note.TheVariants.{Narrow}
 use Rattle.files.specs.declared.keys.Wish.{Wish}
 use Rattle.files.specs.declared.keys.Wish.TheVariants as wish
@@ -22,11 +23,14 @@ use Rattle.files.specs.declared.typing.Typing.{Typing}
 use Rattle.files.specs.declared.typing.Typing.TheVariants.{Change, Accept, Cancel, Ignore}
 use Rattle.files.specs.declared.list.Outcome.{Outcome}
 use Rattle.files.specs.declared.list.Outcome.TheVariants as outcome
-use Rattle.files.specs.Keys.{event_wish, event_typing, is_input, says_yes}
+use Rattle.files.specs.Keys.{event_wish, event_typing, event_order, is_input, says_yes}
 use Rattle.files.specs.Texts.{fits}
 use Rattle.files.specs.Moves.{scrolled_list, selected_at, last_row_place, list_rows, granted, wished, typing_in}
 use Rattle.files.specs.Moves.{asks_in, confirmed, typed_into, browsed, browser_at_told_size, outcome_told, browsed_after, new_browser}
-use Rattle.files.specs.Moves.{is_folder_selected, removal_answered}
+use Rattle.files.specs.Moves.{is_folder_selected, removal_answered, next_found, previous_found, found_selected, found_note}
+use Rattle.files.specs.Moves.{typing_name, seeking_typed, sought_into, order_taken}
+use Rattle.files.specs.declared.notes.Noted.{Noted}
+use Rattle.files.specs.declared.order.Order.{Order}
 use Rattle.files.specs.Laws.{IsPlaced, ListsSame}
 
 -- ---- the selection
@@ -98,6 +102,15 @@ keeps-typing mode f b = keeps-same b _ refl refl refl refl refl refl refl
 keeps-mode : (mode : Mode) (b : Browser) → Keeps b (record b { mode = mode })
 keeps-mode mode b = keeps-same b _ refl refl refl refl refl refl refl
 
+keeps-found : (found : Option ℕ) (b : Browser) → Keeps b (found_selected found b)
+keeps-found None b = keeps-it b
+keeps-found (Some place) b = keeps-selected place b
+
+keeps-pasting : (noted : Option Noted) (b : Browser)
+    → Keeps b (option_map_or (λ it. typing_in Pasting (typing_name it.name) b) noted b)
+keeps-pasting None b = keeps-it b
+keeps-pasting (Some noted) b = keeps-typing Pasting _ b
+
 granted-keeps : (w : Wish) (b : Browser) → Keeps b (granted w b)
 granted-keeps wish.Nothing b = keeps-it b
 granted-keeps wish.Down b = keeps-selected _ b
@@ -115,12 +128,28 @@ granted-keeps wish.Rename b = keeps-if (length b.list == 0) b b _ (keeps-it b) (
 granted-keeps wish.Make b = keeps-typing Making _ b
 granted-keeps wish.Trash b =
     keeps-if (is_some b.trash && nat_lt 0 (length b.list)) b _ b (keeps-mode Trashing b) (keeps-it b)
+granted-keeps wish.Sort b = keeps-mode Sorting b
+granted-keeps wish.Seek b = keeps-typing Seeking _ b
+granted-keeps wish.SeekOn b = keeps-found (next_found b) b
+granted-keeps wish.SeekBack b = keeps-found (previous_found b) b
+granted-keeps wish.NoteCopy b = keeps-same b _ refl refl refl refl refl refl refl
+granted-keeps wish.NoteMove b = keeps-same b _ refl refl refl refl refl refl refl
+granted-keeps wish.Paste b = keeps-pasting b.noted b
 granted-keeps wish.Remove b = keeps-if (nat_lt 0 (length b.list)) b _ b (keeps-mode Removing b) (keeps-it b)
 granted-keeps wish.Quit b = keeps-mode Over b
 
 sure-if : (test : Bool) (b c d : Browser) → c.is_sure ≡ b.is_sure → d.is_sure ≡ b.is_sure → (if test then c else d).is_sure ≡ b.is_sure
 sure-if true b c d one two = one
 sure-if false b c d one two = two
+
+sure-found : (found : Option ℕ) (b : Browser) → (found_selected found b).is_sure ≡ b.is_sure
+sure-found None b = refl
+sure-found (Some place) b = refl
+
+sure-pasting : (noted : Option Noted) (b : Browser)
+    → (option_map_or (λ it. typing_in Pasting (typing_name it.name) b) noted b).is_sure ≡ b.is_sure
+sure-pasting None b = refl
+sure-pasting (Some noted) b = refl
 
 -- no wish makes a question sure
 granted-sure : (w : Wish) (b : Browser) → (granted w b).is_sure ≡ b.is_sure
@@ -139,6 +168,13 @@ granted-sure wish.Hidden b = refl
 granted-sure wish.Rename b = search rules
 granted-sure wish.Make b = refl
 granted-sure wish.Trash b = sure-if (is_some b.trash && nat_lt 0 (length b.list)) b _ b refl refl
+granted-sure wish.Sort b = refl
+granted-sure wish.Seek b = refl
+granted-sure wish.SeekOn b = sure-found (next_found b) b
+granted-sure wish.SeekBack b = sure-found (previous_found b) b
+granted-sure wish.NoteCopy b = refl
+granted-sure wish.NoteMove b = refl
+granted-sure wish.Paste b = sure-pasting b.noted b
 granted-sure wish.Remove b = search rules
 granted-sure wish.Quit b = refl
 
@@ -173,6 +209,31 @@ typed-keeps Accept b may = confirmed-keeps b may
 typed-keeps Cancel b may = keeps-mode Looking b
 typed-keeps Ignore b may = keeps-it b
 
+-- a text is sought
+keeps-sought : (found : Option ℕ) (b c : Browser) → c.list ≡ b.list → c.folder ≡ b.folder → c.unnamed ≡ b.unnamed → c.size ≡ b.size
+    → c.selected ≡ b.selected → c.top ≡ b.top → c.is_sure ≡ b.is_sure
+    → Keeps b (record (found_selected found c) { note = found_note found })
+keeps-sought None b c list folder unnamed size selected top sure =
+    keeps-same b _ folder list unnamed size selected top sure
+keeps-sought (Some place) b c list folder unnamed size selected top sure = record {
+  folder = folder;
+  list = list;
+  unnamed = unnamed;
+  placed = λ p. placed-same (selected_at place c) _ refl refl refl refl (selected-placed place c);
+  sure = inl sure;
+}
+
+sought-keeps : (t : Typing) (b : Browser) → Keeps b (sought_into t b)
+sought-keeps (Change edit) b = keeps-typing b.mode _ b
+sought-keeps Accept b =
+    keeps-sought (next_found (seeking_typed b)) b (seeking_typed b) refl refl refl refl refl refl refl
+sought-keeps Cancel b = keeps-mode Looking b
+sought-keeps Ignore b = keeps-it b
+
+order-keeps : (o : Option Order) (b : Browser) → Keeps b (order_taken o b)
+order-keeps None b = keeps-mode Looking b
+order-keeps (Some order) b = keeps-same b _ refl refl refl refl refl refl refl
+
 may-be : (mode : Mode) (b : Browser) → b.mode ≡ mode → asks_in mode true ≡ true → asks_in b.mode true ≡ true
 may-be mode b at may = ap (λ m. asks_in m true) at ∙ may
 
@@ -185,6 +246,9 @@ browsed-keeps Trashing e b at = answered-keeps e b (may-be Trashing b at refl)
 browsed-keeps Removing e b at = answered-keeps e b (may-be Removing b at refl)
 browsed-keeps Renaming e b at = typed-keeps (event_typing e) b (may-be Renaming b at refl)
 browsed-keeps Making e b at = typed-keeps (event_typing e) b (may-be Making b at refl)
+browsed-keeps Pasting e b at = typed-keeps (event_typing e) b (may-be Pasting b at refl)
+browsed-keeps Seeking e b at = sought-keeps (event_typing e) b
+browsed-keeps Sorting e b at = order-keeps (event_order e) b
 browsed-keeps Listing e b at = keeps-it b
 browsed-keeps Entering e b at = keeps-it b
 browsed-keeps Leaving e b at = keeps-it b

@@ -1,5 +1,9 @@
 pub mod PaintLemmas
 pub mod SortLemmas
+pub mod KeyLemmas
+pub mod OrderLemmas
+pub mod FindLemmas
+pub mod StayLemmas
 pub mod MoveLemmas
 pub mod NameLemmas
 pub mod DiscardLemmas

@@ -1,23 +1,25 @@
 -- What questions name.
-use Rattle.std.proofs.Common.{◌≡◌, Bool, true, false, ℕ, List, [], ◌++◌, codes, Option, Some, None, if◌then◌else◌, refl, sym, ap, ◌∙◌, arith}
+use Rattle.std.proofs.Common.{◌≡◌, ◌⊎◌, inl, inr, Bool, true, false, ℕ, List, [], ◌++◌, codes, Option, Some, None, if◌then◌else◌, refl, sym, ap, ◌∙◌, arith}
 use Rattle.std.specs.Prelude.{slice_get, option_map, string_bytes, get_or}
 use Rattle.std.specs.Option.{option_and_then, option_map_or}
 use Rattle.text_field.specs.Field.{field_text}
 use Rattle.ratatui_files.specs.Paths.{is_name, path_in}
 use Rattle.ratatui_files.specs.declared.command.Command.{Command}
-use Rattle.ratatui_files.specs.declared.command.Command.TheVariants.{Rename, Remove, RemoveFolder, MakeFolder}
+use Rattle.ratatui_files.specs.declared.command.Command.TheVariants.{Rename, Copy, Remove, RemoveFolder, MakeFolder}
 use Rattle.files.specs.declared.list.Row.{Row}
 use Rattle.files.specs.declared.browser.Browser.{Browser}
 use Rattle.files.specs.declared.browser.Mode.{Mode}
 use Rattle.files.specs.declared.browser.Mode.TheVariants.{Looking, Listing, Entering, Leaving, Trashing, Removing}
-use Rattle.files.specs.declared.browser.Mode.TheVariants.{Renaming, Making, Over}
+use Rattle.files.specs.declared.browser.Mode.TheVariants.{Renaming, Making, Over, Pasting, Sorting, Seeking}
 use Rattle.files.specs.Names.{shown_name}
 use Rattle.files.specs.Texts.{shown_row, selected_text, selected_shown, status_in}
-use Rattle.files.specs.Questions.{removal_by, removal_in, change_in}
+use Rattle.files.specs.Questions.{removal_by, removal_in, paste_by, paste_of, change_in}
 use Rattle.files.specs.declared.trash.Discard.{Discard}
 use Rattle.files.specs.Texts.{trash_shown, status_told}
 use Rattle.files.specs.Trash.{discard_of, discard_to, discard_in}
-use Rattle.files.specs.Laws.{AsksToRemove, AsksToRename, AsksToTrash}
+use Rattle.files.specs.declared.notes.Noted.{Noted}
+use Rattle.files.specs.Texts.{noted_shown, verb_if, paste_verb}
+use Rattle.files.specs.Laws.{AsksToRemove, AsksToRename, AsksToTrash, AsksToPaste}
 
 -- the path of a removal is that of the name
 removed-by : (leaf named : Bool) (path other : List ℕ)
@@ -96,6 +98,75 @@ make-no-rename false a from to is = absurd (cc)
 none-some : (c : Command) → None ≡ Some c → ⊥
 none-some c is = absurd (cc)
 
+-- what is pasted is noted
+noted-of : (b : Browser) (o : Option Noted) (c : Command) → option_and_then (paste_of b) o ≡ Some c
+    → (noted : Noted) × (o ≡ Some noted) × (paste_of b noted ≡ Some c)
+noted-of b None c is = absurd (cc)
+noted-of b (Some noted) c is = (noted, refl, is)
+
+paste-not : (moved named : Bool) (a b path : List ℕ) → option_map (paste_by moved a) (if named then Some b else None) ≡ Some (Remove path) → ⊥
+paste-not true true a b path is = absurd (cc)
+paste-not false true a b path is = absurd (cc)
+paste-not moved false a b path is = absurd (cc)
+
+paste-not-folder : (moved named : Bool) (a b path : List ℕ)
+    → option_map (paste_by moved a) (if named then Some b else None) ≡ Some (RemoveFolder path) → ⊥
+paste-not-folder true true a b path is = absurd (cc)
+paste-not-folder false true a b path is = absurd (cc)
+paste-not-folder moved false a b path is = absurd (cc)
+
+paste-no-file : (b : Browser) (o : Option Noted) (path : List ℕ) → option_and_then (paste_of b) o ≡ Some (Remove path) → ⊥
+paste-no-file b None path is = absurd (cc)
+paste-no-file b (Some noted) path is = paste-not noted.is_moved (is_name (field_text b.typed)) noted.path _ path is
+
+paste-no-folder : (b : Browser) (o : Option Noted) (path : List ℕ) → option_and_then (paste_of b) o ≡ Some (RemoveFolder path) → ⊥
+paste-no-folder b None path is = absurd (cc)
+paste-no-folder b (Some noted) path is = paste-not-folder noted.is_moved (is_name (field_text b.typed)) noted.path _ path is
+
+-- a copy leads from what was noted to a name, and so does a move
+copied-by : (moved named : Bool) (a b from to : List ℕ) → option_map (paste_by moved a) (if named then Some b else None) ≡ Some (Copy from to)
+    → (moved ≡ false) × (from ≡ a) × (to ≡ b)
+copied-by true true a b from to is = absurd (cc)
+copied-by false true a b from to is = (refl, cc, cc)
+copied-by moved false a b from to is = absurd (cc)
+
+moved-by : (moved named : Bool) (a b from to : List ℕ) → option_map (paste_by moved a) (if named then Some b else None) ≡ Some (Rename from to)
+    → (moved ≡ true) × (from ≡ a) × (to ≡ b)
+moved-by true true a b from to is = (refl, cc, cc)
+moved-by false true a b from to is = absurd (cc)
+moved-by moved false a b from to is = absurd (cc)
+
+-- the question about what is noted
+pasted-asks : (b : Browser) (noted : Noted) (moved : Bool) (from : List ℕ) → b.noted ≡ Some noted → noted.is_moved ≡ moved → from ≡ noted.path
+    → status_in Pasting b ≡ (verb_if moved ++ codes " \"" ++ (codes "/" ++ shown_name from) ++ codes "\" to \"")
+    ++ shown_name (field_text b.typed) ++ codes "\""
+pasted-asks b noted moved from is how where_is =
+    let name = shown_name (field_text b.typed) in
+    ap (λ o. (paste_verb o ++ codes " \"" ++ noted_shown o ++ codes "\" to \"") ++ name ++ codes "\"") is
+    ∙ ap (λ m. (verb_if m ++ codes " \"" ++ (codes "/" ++ shown_name noted.path) ++ codes "\" to \"") ++ name ++ codes "\"") how
+    ∙ ap (λ p. (verb_if moved ++ codes " \"" ++ (codes "/" ++ shown_name p) ++ codes "\" to \"") ++ name ++ codes "\"") (sym where_is)
+
+removal-no-copy-by : (leaf named : Bool) (path from to : List ℕ)
+    → option_map (removal_by leaf) (if named then Some path else None) ≡ Some (Copy from to) → ⊥
+removal-no-copy-by true true path from to is = absurd (cc)
+removal-no-copy-by false true path from to is = absurd (cc)
+removal-no-copy-by leaf false path from to is = absurd (cc)
+
+removal-no-copy : (b : Browser) (o : Option Row) (from to : List ℕ) → option_and_then (removal_in b) o ≡ Some (Copy from to) → ⊥
+removal-no-copy b None from to is = absurd (cc)
+removal-no-copy b (Some row) from to is = removal-no-copy-by row.is_leaf (is_name (string_bytes row.name)) _ from to is
+
+rename-no-copy : (one two : Bool) (a b from to : List ℕ)
+    → option_and_then (λ x. option_map (Rename x) (if two then Some b else None)) (if one then Some a else None)
+    ≡ Some (Copy from to) → ⊥
+rename-no-copy true true a b from to is = absurd (cc)
+rename-no-copy true false a b from to is = absurd (cc)
+rename-no-copy false two a b from to is = absurd (cc)
+
+make-no-copy : (one : Bool) (a from to : List ℕ) → option_map MakeFolder (if one then Some a else None) ≡ Some (Copy from to) → ⊥
+make-no-copy true a from to is = absurd (cc)
+make-no-copy false a from to is = absurd (cc)
+
 asks-of : (b : Browser) (row : Row) → slice_get b.list b.selected ≡ Some row
     → status_in Removing b ≡ codes "remove \"" ++ shown_row row ++ codes "\" for good? y/n"
 asks-of b row is = ap (λ shown. codes "remove \"" ++ shown ++ codes "\" for good? y/n") (shown-of b row is)
@@ -107,6 +178,9 @@ asks-file Removing b path at is =
     record { row = it.0; path_is = it.2; asks = ap (λ m. status_in m b) at ∙ asks-of b it.0 it.1 }
 asks-file Renaming b path at is = absurd (rename-not (is_name (selected_text b)) (is_name (field_text b.typed)) _ _ path is)
 asks-file Making b path at is = absurd (make-not (is_name (field_text b.typed)) _ path is)
+asks-file Pasting b path at is = absurd (paste-no-file b b.noted path is)
+asks-file Sorting b path at is = absurd (none-some _ is)
+asks-file Seeking b path at is = absurd (none-some _ is)
 asks-file Trashing b path at is = absurd (none-some _ is)
 asks-file Looking b path at is = absurd (none-some _ is)
 asks-file Listing b path at is = absurd (none-some _ is)
@@ -122,6 +196,9 @@ asks-folder Removing b path at is =
 asks-folder Renaming b path at is =
     absurd (rename-no-folder (is_name (selected_text b)) (is_name (field_text b.typed)) _ _ path is)
 asks-folder Making b path at is = absurd (make-no-folder (is_name (field_text b.typed)) _ path is)
+asks-folder Pasting b path at is = absurd (paste-no-folder b b.noted path is)
+asks-folder Sorting b path at is = absurd (none-some _ is)
+asks-folder Seeking b path at is = absurd (none-some _ is)
 asks-folder Trashing b path at is = absurd (none-some _ is)
 asks-folder Looking b path at is = absurd (none-some _ is)
 asks-folder Listing b path at is = absurd (none-some _ is)
@@ -140,11 +217,11 @@ removal-no-rename b None from to is = absurd (cc)
 removal-no-rename b (Some row) from to is = removal-by row.is_leaf (is_name (string_bytes row.name)) _ from to is
 
 pub asks-rename : (mode : Mode) (b : Browser) (from to : List ℕ) → b.mode ≡ mode → change_in mode b ≡ Some (Rename from to)
-    → AsksToRename b from to
+    → AsksToRename b from to ⊎ AsksToPaste (codes "move") b from to
 asks-rename Renaming b from to at is =
     let it = renamed-by (is_name (selected_text b)) (is_name (field_text b.typed)) _ _ from to is in
     let entry = row-of b (slice_get b.list b.selected) it.2 in
-    record {
+    inl (record {
       row = entry.0;
       name = field_text b.typed;
       from_is = it.0 ∙ ap (path_in b.folder) (text-of b entry.0 entry.1);
@@ -152,15 +229,48 @@ asks-rename Renaming b from to at is =
       asks = ap (λ m. status_in m b) at
           ∙ ap (λ shown. (codes "rename \"" ++ shown ++ codes "\" to \"") ++ shown_name (field_text b.typed) ++ codes "\"")
           (shown-of b entry.0 entry.1);
-    }
+    })
+asks-rename Pasting b from to at is =
+    let it = noted-of b b.noted (Rename from to) is in
+    let made = moved-by it.0.is_moved (is_name (field_text b.typed)) it.0.path (path_in b.folder (field_text b.typed)) from to it.2 in
+    inr (record {
+      name = field_text b.typed;
+      to_is = made.2;
+      asks = ap (λ m. status_in m b) at ∙ pasted-asks b it.0 true from it.1 made.0 made.1;
+    })
 asks-rename Removing b from to at is = absurd (removal-no-rename b (slice_get b.list b.selected) from to is)
 asks-rename Making b from to at is = absurd (make-no-rename (is_name (field_text b.typed)) _ from to is)
+asks-rename Sorting b from to at is = absurd (none-some _ is)
+asks-rename Seeking b from to at is = absurd (none-some _ is)
 asks-rename Trashing b from to at is = absurd (none-some _ is)
 asks-rename Looking b from to at is = absurd (none-some _ is)
 asks-rename Listing b from to at is = absurd (none-some _ is)
 asks-rename Entering b from to at is = absurd (none-some _ is)
 asks-rename Leaving b from to at is = absurd (none-some _ is)
 asks-rename Over b from to at is = absurd (none-some _ is)
+
+pub asks-copy : (mode : Mode) (b : Browser) (from to : List ℕ) → b.mode ≡ mode → change_in mode b ≡ Some (Copy from to)
+    → AsksToPaste (codes "copy") b from to
+asks-copy Pasting b from to at is =
+    let it = noted-of b b.noted (Copy from to) is in
+    let made = copied-by it.0.is_moved (is_name (field_text b.typed)) it.0.path (path_in b.folder (field_text b.typed)) from to it.2 in
+    record {
+      name = field_text b.typed;
+      to_is = made.2;
+      asks = ap (λ m. status_in m b) at ∙ pasted-asks b it.0 false from it.1 made.0 made.1;
+    }
+asks-copy Removing b from to at is = absurd (removal-no-copy b (slice_get b.list b.selected) from to is)
+asks-copy Renaming b from to at is =
+    absurd (rename-no-copy (is_name (selected_text b)) (is_name (field_text b.typed)) _ _ from to is)
+asks-copy Making b from to at is = absurd (make-no-copy (is_name (field_text b.typed)) _ from to is)
+asks-copy Trashing b from to at is = absurd (none-some _ is)
+asks-copy Looking b from to at is = absurd (none-some _ is)
+asks-copy Listing b from to at is = absurd (none-some _ is)
+asks-copy Entering b from to at is = absurd (none-some _ is)
+asks-copy Leaving b from to at is = absurd (none-some _ is)
+asks-copy Sorting b from to at is = absurd (none-some _ is)
+asks-copy Seeking b from to at is = absurd (none-some _ is)
+asks-copy Over b from to at is = absurd (none-some _ is)
 
 -- ---- the trash
 

@@ -12,10 +12,10 @@ use Rattle.ratatui_acts.specs.Turns.{Turn, Came, Done, Standing, taking, ticked,
 use Rattle.files.specs.declared.browser.Browser.{Browser}
 use Rattle.files.specs.declared.browser.Mode.{Mode}
 use Rattle.files.specs.declared.browser.Mode.TheVariants.{Looking, Listing, Entering, Leaving, Trashing, Removing}
-use Rattle.files.specs.declared.browser.Mode.TheVariants.{Renaming, Making, Over}
+use Rattle.files.specs.declared.browser.Mode.TheVariants.{Renaming, Making, Over, Pasting, Sorting, Seeking}
 use Rattle.files.specs.declared.list.Outcome.{Outcome}
 use Rattle.files.specs.declared.browser.Note.{Note}
-use Rattle.files.specs.declared.browser.Note.TheVariants.{Place, Failed, Narrow, NoTrash}
+use Rattle.files.specs.declared.browser.Note.TheVariants.{Place, Failed, Narrow, NoTrash, Missing, Noted, NothingNoted}
 use Rattle.files.specs.Texts.{fits, subject, note_told, failure_text, status_in}
 use Rattle.files.specs.Moves.{asks, asks_in, browser_asked, is_over, browsed_after}
 use Rattle.files.specs.Laws.{IsSound, browsing, is_change}
@@ -35,6 +35,9 @@ subject-flags Trashing s q b = refl
 subject-flags Removing s q b = refl
 subject-flags Renaming s q b = refl
 subject-flags Making s q b = refl
+subject-flags Pasting s q b = refl
+subject-flags Sorting s q b = refl
+subject-flags Seeking s q b = refl
 subject-flags Over s q b = refl
 
 note-flags : (n : Note) (s q : Bool) (b : Browser) → note_told n (flagged s q b) ≡ note_told n b
@@ -42,6 +45,9 @@ note-flags Place s q b = refl
 note-flags (Failed m why) s q b = ap (λ text. text ++ codes ": " ++ failure_text why) (subject-flags m s q b)
 note-flags Narrow s q b = refl
 note-flags NoTrash s q b = refl
+note-flags Missing s q b = refl
+note-flags Noted s q b = refl
+note-flags NothingNoted s q b = refl
 
 pub status-flags : (m : Mode) (s q : Bool) (b : Browser) → status_in m (flagged s q b) ≡ status_in m b
 status-flags Looking s q b = note-flags b.note s q b
@@ -52,6 +58,9 @@ status-flags Trashing s q b = refl
 status-flags Removing s q b = refl
 status-flags Renaming s q b = refl
 status-flags Making s q b = refl
+status-flags Pasting s q b = refl
+status-flags Sorting s q b = refl
+status-flags Seeking s q b = refl
 status-flags Over s q b = note-flags b.note s q b
 
 fits-flags : (s q : Bool) (b : Browser) → fits b.size.width b ≡ true → fits b.size.width (flagged s q b) ≡ true
@@ -137,6 +146,9 @@ sure-in Trashing sure change is = is
 sure-in Removing sure change is = is
 sure-in Renaming sure change is = is
 sure-in Making sure change is = is
+sure-in Pasting sure change is = is
+sure-in Sorting sure change is = absurd (cc)
+sure-in Seeking sure change is = absurd (cc)
 sure-in Looking sure change is = absurd (cc)
 sure-in Listing sure change is = absurd (cc)
 sure-in Entering sure change is = absurd (cc)

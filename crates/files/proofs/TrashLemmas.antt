@@ -9,7 +9,7 @@ use Rattle.ratatui_files.specs.declared.command.Command.TheVariants.{Write, Rena
 use Rattle.files.specs.declared.browser.Browser.{Browser}
 use Rattle.files.specs.declared.browser.Mode.{Mode}
 use Rattle.files.specs.declared.browser.Mode.TheVariants.{Looking, Listing, Entering, Leaving, Trashing, Removing}
-use Rattle.files.specs.declared.browser.Mode.TheVariants.{Renaming, Making, Over}
+use Rattle.files.specs.declared.browser.Mode.TheVariants.{Renaming, Making, Over, Pasting, Sorting, Seeking}
 use Rattle.files.specs.declared.trash.Discard.{Discard}
 use Rattle.files.specs.Texts.{prompt}
 use Rattle.files.specs.Trash.{numbered, info_name, info_text, discard_plan}
@@ -32,17 +32,21 @@ pub appended-one : {A E : Type 0} (r : Result A E) (new old one two : List ℕ) 
 appended-one (Ok v) new old one two same last = last ∙ ap (λ t. old ++ t) same
 appended-one (Err e) new old one two same last = tt
 
--- what stands before a name that is typed, but for a rename
-pub prompt-other : (mode : Mode) (b : Browser) → (mode ≡ Renaming → ⊥) → prompt mode b ≡ codes "make the folder \""
-prompt-other Looking b unlike = refl
-prompt-other Listing b unlike = refl
-prompt-other Entering b unlike = refl
-prompt-other Leaving b unlike = refl
-prompt-other Trashing b unlike = refl
-prompt-other Removing b unlike = refl
-prompt-other Renaming b unlike = absurd (unlike refl)
-prompt-other Making b unlike = refl
-prompt-other Over b unlike = refl
+-- what stands before a name that is typed for a new folder
+pub prompt-other : (mode : Mode) (b : Browser) → (mode ≡ Renaming → ⊥) → (mode ≡ Pasting → ⊥) → (mode ≡ Seeking → ⊥)
+    → prompt mode b ≡ codes "make the folder \""
+prompt-other Looking b one two three = refl
+prompt-other Listing b one two three = refl
+prompt-other Entering b one two three = refl
+prompt-other Leaving b one two three = refl
+prompt-other Trashing b one two three = refl
+prompt-other Removing b one two three = refl
+prompt-other Renaming b one two three = absurd (one refl)
+prompt-other Making b one two three = refl
+prompt-other Pasting b one two three = absurd (two refl)
+prompt-other Sorting b one two three = refl
+prompt-other Seeking b one two three = absurd (three refl)
+prompt-other Over b one two three = refl
 
 -- the path of a name, if it is one
 pub entry-by : (named : Bool) (path got : List ℕ) (o : Option (List ℕ)) → o ≡ (if named then Some path else None) → o ≡ Some got

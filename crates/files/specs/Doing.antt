@@ -6,8 +6,7 @@ use Rattle.ratatui_files.specs.declared.command.Command.TheVariants.{List as Lis
 use Rattle.ratatui_files.specs.declared.answer.Answer.{Answer}
 use Rattle.ratatui_files.specs.declared.answer.Answer.TheVariants as answer
 use Rattle.ratatui_files.specs.declared.answer.Failure.TheVariants as failure
-use Rattle.std.specs.declared.cmp.Ordering.{Ordering}
-use Rattle.files.specs.declared.list.Row.{Row}
+use Rattle.files.specs.declared.order.Order.{Order}
 use Rattle.files.specs.declared.list.Listing.{Listing as ListingData}
 use Rattle.files.specs.declared.list.Outcome.{Outcome}
 use Rattle.files.specs.declared.list.Outcome.TheVariants as outcome
@@ -49,19 +48,19 @@ Lists Leaving b w = IsAbove b.folder w
 Lists _ b w = ⊥
 
 -- a folder was listed with this answer: it is told in order, or why it wasn't
-pub record TellsRows (cmp : Row → Row → Ordering) (hidden : Bool) (w : Wanted) (entries : List Info) (count : ℕ)
+pub record TellsRows (order : Order) (hidden : Bool) (w : Wanted) (entries : List Info) (count : ℕ)
     (l : ListingData) : Type 0 where
   pub folder : l.folder ≡ w.folder
   pub unnamed : l.unnamed ≡ count
-  pub rows : IsListOf cmp hidden entries l.rows
+  pub rows : IsListOf order hidden entries l.rows
   pub place : IsPlaceOf w.name w.other l.rows l.place
 
-abbrev pub TellsListing : (Row → Row → Ordering) → Bool → Wanted → Answer → Outcome → Type 0
-TellsListing cmp hidden w (answer.Listed entries unnamed) (outcome.Listed l) = TellsRows cmp hidden w entries unnamed l
-TellsListing cmp hidden w (answer.Failed why) o = o ≡ outcome.Failed why
-TellsListing cmp hidden w a o = o ≡ outcome.Failed failure.Other
+abbrev pub TellsListing : Order → Bool → Wanted → Answer → Outcome → Type 0
+TellsListing order hidden w (answer.Listed entries unnamed) (outcome.Listed l) = TellsRows order hidden w entries unnamed l
+TellsListing order hidden w (answer.Failed why) o = o ≡ outcome.Failed why
+TellsListing order hidden w a o = o ≡ outcome.Failed failure.Other
 
-module _ {P : Type 0} (cmp : Row → Row → Ordering) (does : P → Command → Answer → P → Type 0) where
+module _ {P : Type 0} (does : P → Command → Answer → P → Type 0) where
   -- a change was done, this one and no other, and what came of it is told; or nothing was done
   pub record Touches (command : Command) (files : P) (o : Outcome) (files' : P) : Type 0 where
     pub answer : Answer
@@ -78,7 +77,7 @@ module _ {P : Type 0} (cmp : Row → Row → Ordering) (does : P → Command →
     pub asked : Lists b.mode b wanted
     pub answer : Answer
     pub done : does files (ListFolder wanted.folder) answer files'
-    pub tells : TellsListing cmp b.has_hidden wanted answer o ⊎ (o ≡ outcome.Failed failure.Memory)
+    pub tells : TellsListing b.order b.has_hidden wanted answer o ⊎ (o ≡ outcome.Failed failure.Memory)
 
   abbrev pub Listed : Browser → P → Outcome → P → Type 0
   Listed b files o files' = DoesNothing files o files' ⊎ Looks b files o files'

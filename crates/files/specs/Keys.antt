@@ -12,14 +12,19 @@ use Rattle.ratatui_events.specs.Key.{modifier_bits}
 use Rattle.files.specs.declared.keys.Wish.{Wish}
 use Rattle.files.specs.declared.keys.Wish.TheVariants.{Nothing, Down, Up, PageDown, PageUp, HalfDown, HalfUp}
 use Rattle.files.specs.declared.keys.Wish.TheVariants.{ToFirst, ToLast, Enter, Leave, Hidden, Rename, Make}
-use Rattle.files.specs.declared.keys.Wish.TheVariants.{Trash, Remove, Quit}
+use Rattle.files.specs.declared.keys.Wish.TheVariants.{Trash, Remove, Quit, Sort, Seek, SeekOn, SeekBack}
+use Rattle.files.specs.declared.keys.Wish.TheVariants.{NoteCopy, NoteMove, Paste}
+use Rattle.files.specs.declared.order.Order.{Order}
+use Rattle.files.specs.declared.order.SortBy.{SortBy}
+use Rattle.files.specs.declared.order.SortBy.TheVariants.{Name, Size, Date}
 use Rattle.files.specs.declared.typing.Typing.{Typing}
 use Rattle.files.specs.declared.typing.Typing.TheVariants.{Change, Accept, Cancel, Ignore}
 use Rattle.text_field.specs.declared.keys.Edit.{Edit}
 use Rattle.text_field.specs.Keys.{edit_of}
 
 -- characters: j, k, g, G move; l enters a folder, h leaves it; the dot shows hidden entries; r and a rename and make
--- a folder; D puts into the trash, and X removes for good; q ends
+-- a folder; D puts into the trash, and X removes for good; s sorts; a slash seeks a text in names, and n and N go
+-- on; y and d note what is to be copied and moved, and p does it; q ends
 abbrev pub character_wish : ℕ → Wish
 character_wish c =
     if c == byte "j" then Down
@@ -29,6 +34,13 @@ character_wish c =
     else if c == byte "l" then Enter
     else if c == byte "h" then Leave
     else if c == byte "." then Hidden
+    else if c == byte "s" then Sort
+    else if c == byte "/" then Seek
+    else if c == byte "n" then SeekOn
+    else if c == byte "N" then SeekBack
+    else if c == byte "y" then NoteCopy
+    else if c == byte "d" then NoteMove
+    else if c == byte "p" then Paste
     else if c == byte "r" then Rename
     else if c == byte "a" then Make
     else if c == byte "D" then Trash
@@ -86,6 +98,28 @@ abbrev pub is_input : Event → Bool
 is_input (Key k) = is_down_kind k.kind
 is_input (Pasted c) = true
 is_input _ = false
+
+-- the orders by letters: n by name, s by size, d by date; a capital letter turns it round
+abbrev pub order_by : SortBy → Bool → Option Order
+order_by by is_reversed = Some (record { by = by; is_reversed = is_reversed })
+
+abbrev pub order_of_char : ℕ → Option Order
+order_of_char c =
+    if c == byte "n" then order_by Name false
+    else if c == byte "N" then order_by Name true
+    else if c == byte "s" then order_by Size false
+    else if c == byte "S" then order_by Size true
+    else if c == byte "d" then order_by Date false
+    else if c == byte "D" then order_by Date true
+    else None
+
+abbrev pub code_order : KeyCode → Option Order
+code_order (key.Char c) = order_of_char c
+code_order _ = None
+
+abbrev pub event_order : Event → Option Order
+event_order (Key k) = if holds_control k then None else code_order k.code
+event_order _ = None
 
 -- yes to a question: the letter y
 abbrev pub is_yes_code : KeyCode → Bool

@@ -1,10 +1,13 @@
 pub mod Keys
 pub mod Names
+pub mod NameKeys
+pub mod Orders
 pub mod Texts
 pub mod Dates
 pub mod Trash
 pub mod Answers
 pub mod Discards
+pub mod Finding
 pub mod Moves
 pub mod Pages
 pub mod PageLemmas

@@ -1,23 +1,27 @@
 -- What each event and each answer makes of a browser.
 use Rattle.std.specs.Prelude.{ℕ, zero, suc, Bool, true, false, not, ◌+◌, ◌-◌, ◌/◌, ◌==◌, ◌&&◌, ◌||◌, min, max, nat_lt}
-use Rattle.std.specs.Prelude.{if◌then◌else◌, List, [], length, Option, Some, None, is_some, slice_get, get_or}
+use Rattle.std.specs.Prelude.{if◌then◌else◌, List, [], length, Option, Some, None, option_map, is_some, slice_get, get_or, string_bytes}
 use Rattle.std.specs.Str.{byte, bytes_eq}
-use Rattle.std.specs.Option.{option_map_or}
+use Rattle.std.specs.Option.{option_map_or, option_and_then}
 use Rattle.std.specs.declared.alloc.Global.{Global}
 use Rattle.ratatui_core.specs.Layout.{Size}
 use Rattle.ratatui_events.specs.declared.event.Event.{Event}
 use Rattle.ratatui_reads.specs.Reads.{size_in}
 use Rattle.ratatui_acts.specs.declared.message.Message.{Message}
 use Rattle.ratatui_acts.specs.declared.message.Message.TheVariants as message
-use Rattle.text_field.specs.Field.{FieldData, new_field, typing, moved_left, moved_right}
+use Rattle.text_field.specs.Field.{FieldData, field_text, new_field, typing, moved_left, moved_right}
 use Rattle.text_field.specs.{Reach.reach_left, Reach.reach_right, Keys.edited}
 use Rattle.text_field.specs.declared.reach.Reach.TheVariants.{Grapheme, All}
 use Rattle.files.specs.declared.browser.Browser.{Browser}
 use Rattle.files.specs.declared.browser.Mode.{Mode}
 use Rattle.files.specs.declared.browser.Mode.TheVariants.{Looking, Listing, Entering, Leaving, Trashing, Removing}
-use Rattle.files.specs.declared.browser.Mode.TheVariants.{Renaming, Making, Over}
+use Rattle.files.specs.declared.browser.Mode.TheVariants.{Renaming, Making, Pasting, Sorting, Seeking, Over}
 use Rattle.files.specs.declared.browser.Note.{Note}
-use Rattle.files.specs.declared.browser.Note.TheVariants.{Place, Failed, Narrow, NoTrash}
+use Rattle.files.specs.declared.browser.Note.TheVariants.{Place, Failed, Narrow, NoTrash, Missing}
+use Rattle.files.specs.declared.browser.Note.TheVariants.{Noted as TellsNoted, NothingNoted}
+use Rattle.files.specs.declared.notes.Noted.{Noted}
+use Rattle.files.specs.declared.order.Order.{Order}
+use Rattle.files.specs.declared.order.SortBy.TheVariants.{Name}
 use Rattle.files.specs.declared.keys.Wish.{Wish}
 use Rattle.files.specs.declared.keys.Wish.TheVariants as wish
 use Rattle.files.specs.declared.typing.Typing.{Typing}
@@ -26,8 +30,10 @@ use Rattle.files.specs.declared.list.Row.{Row}
 use Rattle.files.specs.declared.list.Listing.{Listing as ListingData}
 use Rattle.files.specs.declared.list.Outcome.{Outcome}
 use Rattle.files.specs.declared.list.Outcome.TheVariants as outcome
-use Rattle.files.specs.Keys.{event_wish, event_typing, is_input, says_yes}
+use Rattle.files.specs.Keys.{event_wish, event_typing, event_order, is_input, says_yes}
+use Rattle.files.specs.Finding.{next_named, previous_named}
 use Rattle.files.specs.Texts.{selected_text, column_in, fits}
+use Rattle.files.specs.Questions.{named_path}
 
 -- a browser that asks for the folder that all is in
 abbrev pub new_browser : Global → List ℕ → Size → Browser
@@ -41,6 +47,7 @@ new_browser alloc title size = record {
   list = [];
   unnamed = 0;
   has_hidden = false;
+  order = record { by = Name; is_reversed = false };
   selected = 0;
   top = 0;
   mode = Listing;
@@ -48,6 +55,8 @@ new_browser alloc title size = record {
   is_quiet = false;
   seeks_typed = false;
   note = Place;
+  sought = [];
+  noted = None;
   typed = new_field;
   column = 0;
 }
@@ -115,21 +124,22 @@ from_start f = if length f.before == 0 then moved_right (reach_right All f.after
 abbrev pub at_extension : FieldData → FieldData
 at_extension f = from_start (to_dot (length f.before) f)
 
--- the name of the entry that is selected, typed
-abbrev pub selected_field : Browser → FieldData
-selected_field b = typing (selected_text b) new_field
+-- a name, typed, with the cursor before its extension
+abbrev pub typing_name : List ℕ → FieldData
+typing_name name = at_extension (typing name new_field)
 
 -- a name is typed
 abbrev pub typing_in : Mode → FieldData → Browser → Browser
 typing_in mode typed b = record b { mode = mode; typed = typed; column = column_in mode typed b }
 
 abbrev pub renaming : Browser → Browser
-renaming b = if length b.list == 0 then b else typing_in Renaming (at_extension (selected_field b)) b
+renaming b = if length b.list == 0 then b else typing_in Renaming (typing_name (selected_text b)) b
 
 abbrev pub went : Wish → Browser → Browser
 went wish.Enter b = if is_folder_selected b then record b { mode = Entering } else b
 went wish.Leave b = if bytes_eq b.folder b.base then b else record b { mode = Leaving }
 went wish.Hidden b = record b { has_hidden = not b.has_hidden; mode = Listing }
+went wish.Sort b = record b { mode = Sorting }
 went wish.Remove b = if nat_lt 0 (length b.list) then record b { mode = Removing } else b
 went wish.Quit b = record b { mode = Over }
 went other b = selection_moved other b
@@ -142,8 +152,85 @@ abbrev pub trash_note : Option (List ℕ) → Note
 trash_note (Some trash) = Place
 trash_note None = NoTrash
 
+-- ---- searches
+
+-- the next entry whose name has what is sought, and the one before
+abbrev pub next_found : Browser → Option ℕ
+next_found b = next_named b.sought b.list b.selected
+
+abbrev pub previous_found : Browser → Option ℕ
+previous_found b = previous_named b.sought b.list b.selected
+
+-- what was found is selected, if something was
+abbrev pub found_selected : Option ℕ → Browser → Browser
+found_selected found b = option_map_or (λ place. selected_at place b) found b
+
+abbrev pub found_note : Option ℕ → Note
+found_note (Some place) = Place
+found_note None = Missing
+
+-- what is typed is sought
+abbrev pub seeking_typed : Browser → Browser
+seeking_typed b = record b { sought = field_text b.typed; mode = Looking }
+
+abbrev pub typed_sought : Browser → Browser
+typed_sought b =
+    let found = next_found (seeking_typed b) in
+    record (found_selected found (seeking_typed b)) { note = found_note found }
+
+abbrev pub sought_into : Typing → Browser → Browser
+sought_into (Change edit) b = typing_in b.mode (edited edit b.typed) b
+sought_into Accept b = typed_sought b
+sought_into Cancel b = record b { mode = Looking }
+sought_into Ignore b = b
+
+-- ---- what is noted
+
+-- an entry, if it has a path and is to be moved, or is no folder
+abbrev pub taken_row : Bool → Browser → Row → Option Noted
+taken_row is_moved b row =
+    if not is_moved && not row.is_leaf then None
+    else option_map (λ path. record { path = path; name = string_bytes row.name; is_moved = is_moved })
+    (named_path b (string_bytes row.name))
+
+-- the entry that is selected
+abbrev pub taken : Bool → Browser → Option Noted
+taken is_moved b = option_and_then (taken_row is_moved b) (slice_get b.list b.selected)
+
+abbrev pub note_taken : Bool → Browser → Browser
+note_taken is_moved b = record b { noted = taken is_moved b }
+
+abbrev pub noted_note : Option Noted → Note
+noted_note (Some noted) = TellsNoted
+noted_note None = NothingNoted
+
+-- the name is typed under which what is noted comes here
+abbrev pub pasting : Browser → Browser
+pasting b = option_map_or (λ noted. typing_in Pasting (typing_name noted.name) b) b.noted b
+
+abbrev pub paste_note : Option Noted → Note
+paste_note (Some noted) = Place
+paste_note None = NothingNoted
+
+-- what was moved is noted no longer
+abbrev pub noted_unless : Bool → Noted → Option Noted
+noted_unless true noted = None
+noted_unless false noted = Some noted
+
+abbrev pub noted_left : Mode → Option Noted → Option Noted
+noted_left Pasting noted = option_and_then (λ it. noted_unless it.is_moved it) noted
+noted_left _ noted = noted
+
+-- ---- what is wished
+
 -- what a wish makes of it, without its note
 abbrev pub granted : Wish → Browser → Browser
+granted wish.Seek b = typing_in Seeking new_field b
+granted wish.SeekOn b = found_selected (next_found b) b
+granted wish.SeekBack b = found_selected (previous_found b) b
+granted wish.NoteCopy b = note_taken false b
+granted wish.NoteMove b = note_taken true b
+granted wish.Paste b = pasting b
 granted wish.Rename b = renaming b
 granted wish.Make b = typing_in Making new_field b
 granted wish.Trash b = asking_to_trash b
@@ -151,6 +238,11 @@ granted other b = went other b
 
 abbrev pub note_of : Wish → Browser → Note
 note_of wish.Trash b = trash_note b.trash
+note_of wish.SeekOn b = found_note (next_found b)
+note_of wish.SeekBack b = found_note (previous_found b)
+note_of wish.NoteCopy b = noted_note (taken false b)
+note_of wish.NoteMove b = noted_note (taken true b)
+note_of wish.Paste b = paste_note b.noted
 note_of _ b = Place
 
 abbrev pub wished : Wish → Browser → Browser
@@ -176,12 +268,20 @@ typed_into Ignore b = b
 abbrev pub removal_answered : Event → Browser → Browser
 removal_answered event b = if says_yes event then confirmed b else record b { mode = Looking }
 
+-- an order that is named: the folder is listed anew
+abbrev pub order_taken : Option Order → Browser → Browser
+order_taken (Some order) b = record b { order = order; mode = Listing }
+order_taken None b = record b { mode = Looking }
+
 abbrev pub browsed : Mode → Event → Browser → Browser
 browsed Looking event b = wished (event_wish event) b
 browsed Trashing event b = removal_answered event b
 browsed Removing event b = removal_answered event b
 browsed Renaming event b = typed_into (event_typing event) b
 browsed Making event b = typed_into (event_typing event) b
+browsed Pasting event b = typed_into (event_typing event) b
+browsed Seeking event b = sought_into (event_typing event) b
+browsed Sorting event b = order_taken (event_order event) b
 browsed _ event b = b
 
 -- ---- what is told
@@ -208,6 +308,7 @@ told event b =
 abbrev pub names_typed : Mode → Bool
 names_typed Renaming = true
 names_typed Making = true
+names_typed Pasting = true
 names_typed _ = false
 
 -- what stands in a folder is shown
@@ -223,7 +324,8 @@ listing_shown l b = selected_at l.place (record b {
 -- what is done leads to the folder anew, and what failed to its reason
 abbrev pub outcome_taken : Outcome → Browser → Browser
 outcome_taken (outcome.Listed l) b = listing_shown l b
-outcome_taken outcome.Done b = record b { mode = Listing; seeks_typed = names_typed b.mode }
+outcome_taken outcome.Done b =
+    record b { mode = Listing; seeks_typed = names_typed b.mode; noted = noted_left b.mode b.noted }
 outcome_taken (outcome.Failed failure) b =
     record b { mode = Looking; seeks_typed = false; note = Failed b.mode failure }
 
@@ -246,6 +348,9 @@ asks_in Trashing sure = sure
 asks_in Removing sure = sure
 asks_in Renaming sure = sure
 asks_in Making sure = sure
+asks_in Pasting sure = sure
+asks_in Sorting sure = false
+asks_in Seeking sure = false
 asks_in Looking sure = false
 asks_in Over sure = false
 

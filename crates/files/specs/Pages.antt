@@ -9,7 +9,7 @@ use Rattle.ratatui_core.specs.Widgets.{ChangesWithin, OnPart}
 use Rattle.widget_boxes.specs.Titles.{InTurn}
 use Rattle.files.specs.declared.browser.Browser.{Browser}
 use Rattle.files.specs.declared.browser.Mode.{Mode}
-use Rattle.files.specs.declared.browser.Mode.TheVariants.{Renaming, Making}
+use Rattle.files.specs.declared.browser.Mode.TheVariants.{Renaming, Making, Pasting, Seeking}
 use Rattle.ratatui_core.specs.Buffer.{text_columns}
 use Rattle.ratatui_core.specs.Terminal.{TerminalData}
 use Rattle.ratatui_ansi.specs.Backend.{BackendState}
@@ -66,6 +66,8 @@ cursor_at_column column r =
 abbrev pub cursor_in_mode : Mode → Browser → Rect → Option Position
 cursor_in_mode Renaming b r = cursor_at_column b.column r
 cursor_in_mode Making b r = cursor_at_column b.column r
+cursor_in_mode Pasting b r = cursor_at_column b.column r
+cursor_in_mode Seeking b r = cursor_at_column b.column r
 cursor_in_mode _ b r = None
 
 -- the cursor is shown while a name is typed

@@ -5,11 +5,12 @@ use Rattle.std.specs.Option.{option_and_then}
 use Rattle.text_field.specs.Field.{field_text}
 use Rattle.ratatui_files.specs.Paths.{is_name, path_in}
 use Rattle.ratatui_files.specs.declared.command.Command.{Command}
-use Rattle.ratatui_files.specs.declared.command.Command.TheVariants.{Rename, Remove, RemoveFolder, MakeFolder}
+use Rattle.ratatui_files.specs.declared.command.Command.TheVariants.{Rename, Copy, Remove, RemoveFolder, MakeFolder}
 use Rattle.files.specs.declared.list.Row.{Row}
 use Rattle.files.specs.declared.browser.Browser.{Browser}
 use Rattle.files.specs.declared.browser.Mode.{Mode}
-use Rattle.files.specs.declared.browser.Mode.TheVariants.{Trashing, Removing, Renaming, Making}
+use Rattle.files.specs.declared.browser.Mode.TheVariants.{Trashing, Removing, Renaming, Making, Pasting}
+use Rattle.files.specs.declared.notes.Noted.{Noted}
 use Rattle.files.specs.declared.trash.Discard.{Discard}
 use Rattle.files.specs.Texts.{selected_text}
 use Rattle.files.specs.Trash.{discard_in, IsStep}
@@ -29,6 +30,14 @@ removal row path = removal_by row.is_leaf path
 abbrev pub removal_in : Browser → Row → Option Command
 removal_in b row = option_map (removal row) (named_path b (string_bytes row.name))
 
+-- the copying or moving of what was noted
+abbrev pub paste_by : Bool → List ℕ → List ℕ → Command
+paste_by true from to = Rename from to
+paste_by false from to = Copy from to
+
+abbrev pub paste_of : Browser → Noted → Option Command
+paste_of b noted = option_map (paste_by noted.is_moved noted.path) (named_path b (field_text b.typed))
+
 -- the change that a question is about
 abbrev pub change_in : Mode → Browser → Option Command
 change_in Removing b = option_and_then (removal_in b) (slice_get b.list b.selected)
@@ -36,6 +45,7 @@ change_in Renaming b =
     option_and_then (λ from. option_map (Rename from) (named_path b (field_text b.typed)))
     (named_path b (selected_text b))
 change_in Making b = option_map MakeFolder (named_path b (field_text b.typed))
+change_in Pasting b = option_and_then (paste_of b) b.noted
 change_in _ b = None
 
 -- a browser asks whether this is to be put into the trash

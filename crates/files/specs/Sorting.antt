@@ -1,12 +1,14 @@
 -- The rows of a folder, in order.
 use Rattle.std.specs.Prelude.{◌≡◌, ◌⊎◌, ℕ, Bool, true, false, not, ◌||◌, ◌==◌, List, [], ◌∷◌, ◌++◌, filter, slice_get}
-use Rattle.std.specs.Prelude.{Option, Some, None, string_bytes, IsPermutation, IsSorted}
-use Rattle.std.specs.{Str.byte, List.AllZip}
+use Rattle.std.specs.Prelude.{Option, Some, None, option_map, string_bytes, IsPermutation, IsSorted}
+use Rattle.std.specs.{Str.byte, List.AllZip, Duration.as_nanos}
 use Rattle.ratatui_files.specs.declared.answer.Info.{Info}
 use Rattle.ratatui_files.specs.declared.answer.Kind.{Kind}
 use Rattle.ratatui_files.specs.declared.answer.Kind.TheVariants.{Folder, File, Link}
-use Rattle.std.specs.declared.cmp.Ordering.{Ordering}
 use Rattle.files.specs.declared.list.Row.{Row}
+use Rattle.files.specs.declared.order.Order.{Order}
+use Rattle.files.specs.NameKeys.{name_sort_key}
+use Rattle.files.specs.Orders.{compare_rows}
 
 -- a name is hidden that begins with a dot
 abbrev pub begins_with_dot : List ℕ → Bool
@@ -35,6 +37,8 @@ pub record IsRowFor (info : Info) (row : Row) : Type 0 where
   pub name : string_bytes row.name ≡ info.name
   pub link : row.is_link ≡ is_a_link info.kind
   pub size : row.size ≡ told_size info.kind info.size
+  pub changed : row.changed ≡ option_map as_nanos info.modified
+  pub key : row.key.items ≡ name_sort_key info.name
 
 -- the rows of entries that are listed
 abbrev pub AreRowsFor : Bool → List Info → List Row → Type 0
@@ -49,11 +53,11 @@ abbrev pub AddsIf : Bool → Info → List Row → List Row → Type 0
 AddsIf hidden info old new = AddsBy (is_listed hidden info.name) info old new
 
 -- the rows of the entries that are listed: each of them, in an order
-pub record IsListOf (cmp : Row → Row → Ordering) (hidden : Bool) (entries : List Info) (list : List Row) : Type 0 where
+pub record IsListOf (order : Order) (hidden : Bool) (entries : List Info) (list : List Row) : Type 0 where
   pub rows : List Row
   pub are : AreRowsFor hidden entries rows
   pub all : IsPermutation rows list
-  pub ordered : IsSorted cmp list
+  pub ordered : IsSorted (compare_rows order) list
 
 -- a row has a name
 abbrev pub HasName : List ℕ → Option Row → Type 0

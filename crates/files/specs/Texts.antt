@@ -10,8 +10,14 @@ use Rattle.files.specs.declared.list.Row.{Row}
 use Rattle.files.specs.declared.browser.Browser.{Browser}
 use Rattle.files.specs.declared.browser.Mode.{Mode}
 use Rattle.files.specs.declared.browser.Mode.TheVariants.{Entering, Leaving, Trashing, Removing, Renaming, Making}
+use Rattle.files.specs.declared.browser.Mode.TheVariants.{Pasting, Sorting, Seeking}
 use Rattle.files.specs.declared.browser.Note.{Note}
-use Rattle.files.specs.declared.browser.Note.TheVariants.{Place, Failed, Narrow, NoTrash}
+use Rattle.files.specs.declared.browser.Note.TheVariants.{Place, Failed, Narrow, NoTrash, Missing}
+use Rattle.files.specs.declared.browser.Note.TheVariants.{Noted as TellsNoted, NothingNoted}
+use Rattle.files.specs.declared.notes.Noted.{Noted}
+use Rattle.files.specs.declared.order.Order.{Order}
+use Rattle.files.specs.declared.order.SortBy.{SortBy}
+use Rattle.files.specs.declared.order.SortBy.TheVariants.{Name, Size, Date}
 use Rattle.ratatui_files.specs.Paths.{after_start}
 use Rattle.files.specs.Names.{shown_name}
 
@@ -75,10 +81,23 @@ selected_shown b = option_map_or shown_row (slice_get b.list b.selected) []
 abbrev pub unnamed_text : ℕ → List ℕ
 unnamed_text n = if nat_lt 0 n then codes ", and " ++ decimal n ++ codes " whose names are no texts" else []
 
+-- what entries are sorted by, if not by their names
+abbrev pub sort_told : SortBy → Bool → List ℕ
+sort_told Name false = []
+sort_told Name true = codes ", the last name first"
+sort_told Size false = codes ", the least size first"
+sort_told Size true = codes ", the largest size first"
+sort_told Date false = codes ", the first date first"
+sort_told Date true = codes ", the last date first"
+
+abbrev pub order_told : Order → List ℕ
+order_told order = sort_told order.by order.is_reversed
+
 -- which entry is selected, of how many, as `3/120`
 abbrev pub place_told : Browser → List ℕ
 place_told b =
     decimal (min (b.selected + 1) (length b.list)) ++ codes "/" ++ decimal (length b.list) ++ unnamed_text b.unnamed
+    ++ order_told b.order
 
 -- why something wasn't done
 abbrev pub failure_text : Failure → List ℕ
@@ -96,6 +115,32 @@ failure_text failure.BadName = codes "not a name"
 failure_text failure.Memory = codes "no memory"
 failure_text failure.Other = codes "the system refused"
 
+-- where it is that is noted, from the folder on that all is in
+abbrev pub noted_shown : Option Noted → List ℕ
+noted_shown (Some noted) = codes "/" ++ shown_name noted.path
+noted_shown None = []
+
+-- what is done to it
+abbrev pub verb_if : Bool → List ℕ
+verb_if true = codes "move"
+verb_if false = codes "copy"
+
+abbrev pub paste_verb : Option Noted → List ℕ
+paste_verb noted = verb_if (option_map_or (λ it. it.is_moved) noted false)
+
+-- what is noted, and how it comes to another folder
+abbrev pub paste_note_told : Browser → List ℕ
+paste_note_told b =
+    codes "p will " ++ paste_verb b.noted ++ codes " \"" ++ noted_shown b.noted ++ codes "\" here"
+
+-- no name has what is sought
+abbrev pub missing_told : Browser → List ℕ
+missing_told b = codes "\"" ++ shown_name b.sought ++ codes "\" is in no name"
+
+-- what stands before the name under which what is noted comes here
+abbrev pub paste_prompt : Browser → List ℕ
+paste_prompt b = paste_verb b.noted ++ codes " \"" ++ noted_shown b.noted ++ codes "\" to \""
+
 -- what it was that wasn't done
 abbrev pub subject : Mode → Browser → List ℕ
 subject Entering b = selected_shown b
@@ -103,6 +148,7 @@ subject Trashing b = selected_shown b
 subject Removing b = selected_shown b
 subject Renaming b = selected_shown b
 subject Making b = shown_name (field_text b.typed)
+subject Pasting b = noted_shown b.noted
 subject Leaving b = codes "the folder above"
 subject _ b = codes "this folder"
 
@@ -112,10 +158,15 @@ note_told Place b = place_told b
 note_told (Failed mode failure) b = subject mode b ++ codes ": " ++ failure_text failure
 note_told Narrow b = codes "the screen is too narrow for the question"
 note_told NoTrash b = codes "there is no trash: X removes for good"
+note_told Missing b = missing_told b
+note_told TellsNoted b = paste_note_told b
+note_told NothingNoted b = codes "nothing is noted: y takes a file, d a file or a folder"
 
 -- what stands before a name that is typed
 abbrev pub prompt : Mode → Browser → List ℕ
 prompt Renaming b = codes "rename \"" ++ selected_shown b ++ codes "\" to \""
+prompt Pasting b = paste_prompt b
+prompt Seeking b = codes "/"
 prompt _ b = codes "make the folder \""
 
 -- where the trash is, from the folder on that all is in
@@ -141,6 +192,9 @@ status_in Trashing b = trash_question b
 status_in Removing b = removal_question b
 status_in Renaming b = name_question Renaming b
 status_in Making b = name_question Making b
+status_in Pasting b = name_question Pasting b
+status_in Seeking b = prompt Seeking b ++ shown_name (field_text b.typed)
+status_in Sorting b = codes "sort by n name, s size, d date; N S D the other way round"
 status_in _ b = note_told b.note b
 
 abbrev pub status_told : Browser → List ℕ

@@ -1,11 +1,13 @@
 //! The state of a file manager.
 
 ghost use Rattle.std.specs.Prelude.{◌≡◌, false, Some, IfOk, OnOk, OnErr};
-ghost use Rattle.files.specs.Moves.{new_browser, within_folder, removal_answered, browsed, browser_at_told_size, told, outcome_told, browsed_after};
+ghost use Rattle.files.specs.Moves.{new_browser, within_folder, removal_answered, order_taken, browsed, browser_at_told_size, told, outcome_told, browsed_after};
 ghost use Rattle.files.specs.Moves.{asks, browser_asked};
 
-use crate::keys::{is_input, says_yes, wish_of};
+use crate::keys::{is_input, order_of, says_yes, wish_of};
 use crate::list::{Outcome, Rows};
+use crate::notes::Noted;
+use crate::order::{Order, SortBy};
 use crate::typing::typing_of;
 use ratatui_acts::{Acts, Message};
 use ratatui_core::layout::Size;
@@ -34,6 +36,12 @@ pub enum Mode {
     Renaming,
     /// The name of a new folder is typed.
     Making,
+    /// The name is typed under which what was noted comes here.
+    Pasting,
+    /// A key names the order of the entries.
+    Sorting,
+    /// A text is typed that names are to have.
+    Seeking,
     /// Nothing more is done.
     Over,
 }
@@ -49,6 +57,12 @@ pub enum Note {
     Narrow,
     /// That there is no trash.
     NoTrash,
+    /// That no name has what is sought.
+    Missing,
+    /// What is noted to be copied, or moved.
+    Noted,
+    /// That nothing is noted.
+    NothingNoted,
 }
 
 /// A folder in rows, of which one is selected. What it asks for is told by itself: it is a function
@@ -72,6 +86,8 @@ pub struct Browser {
     pub(crate) unnamed: u64,
     /// Whether entries are listed whose name begins with a dot.
     pub(crate) has_hidden: bool,
+    /// In which order they are listed.
+    pub(crate) order: Order,
     /// The entry that is selected, and the one in the first row of the list.
     pub(crate) selected: usize,
     pub(crate) top: usize,
@@ -83,7 +99,11 @@ pub struct Browser {
     /// Whether the entry with the typed name is to be selected once the folder is listed.
     pub(crate) seeks_typed: bool,
     pub(crate) note: Note,
-    /// What is typed of a name, and how many columns of the status stand before its cursor.
+    /// What names are searched for.
+    pub(crate) sought: Text,
+    /// What is to be copied, or moved, if something is.
+    pub(crate) noted: Option<Noted>,
+    /// What is typed, and how many columns of the status stand before its cursor.
     pub(crate) typed: TextField,
     pub(crate) column: usize,
 }
@@ -104,6 +124,10 @@ impl Browser {
             list: Rows::new(Vec::new(alloc)),
             unnamed: 0,
             has_hidden: false,
+            order: Order {
+                by: SortBy::Name,
+                is_reversed: false,
+            },
             selected: 0,
             top: 0,
             mode: Mode::Listing,
@@ -111,6 +135,8 @@ impl Browser {
             is_quiet: false,
             seeks_typed: false,
             note: Note::Place,
+            sought: Text::new(String::new(alloc)),
+            noted: None,
             typed: TextField::new(alloc),
             column: 0,
         }
@@ -163,6 +189,19 @@ impl Browser {
         Ok(())
     }
 
+    // Takes an order, if one is named: the folder is listed anew.
+    fn take_order(&mut self, order: Option<Order>)
+        ensures { self.new ≡ order_taken order self.old }
+    {
+        match order {
+            Some(order) => {
+                self.order = order;
+                self.mode = Mode::Listing;
+            }
+            None => self.mode = Mode::Looking,
+        }
+    }
+
     // Takes what is typed or pasted.
     fn act(&mut self, event: Event) -> Result<(), AllocError>
         ensures ok { OnOk result (self.new ≡ browsed self.old.mode event self.old) }
@@ -171,7 +210,12 @@ impl Browser {
         match self.mode {
             Mode::Looking => self.obey(wish_of(event)),
             Mode::Trashing | Mode::Removing => self.take_answer(event),
-            Mode::Renaming | Mode::Making => self.take_typing(typing_of(event)),
+            Mode::Renaming | Mode::Making | Mode::Pasting => self.take_typing(typing_of(event)),
+            Mode::Seeking => self.take_sought(typing_of(event)),
+            Mode::Sorting => {
+                self.take_order(order_of(event));
+                Ok(())
+            }
             Mode::Listing | Mode::Entering | Mode::Leaving | Mode::Over => Ok(()),
         }
     }
@@ -198,6 +242,7 @@ impl Browser {
             Outcome::Listed(listing) => self.take_listing(listing),
             Outcome::Done => {
                 self.seeks_typed = self.names_typed();
+                self.forget_moved();
                 self.mode = Mode::Listing;
             }
             Outcome::Failed(failure) => {
@@ -216,8 +261,9 @@ impl Browser {
     {
         match self.mode {
             Mode::Listing | Mode::Entering | Mode::Leaving => true,
-            Mode::Trashing | Mode::Removing | Mode::Renaming | Mode::Making => self.is_sure,
-            Mode::Looking | Mode::Over => false,
+            Mode::Trashing | Mode::Removing | Mode::Renaming | Mode::Making | Mode::Pasting =>
+                self.is_sure,
+            Mode::Looking | Mode::Sorting | Mode::Seeking | Mode::Over => false,
         }
     }
 }

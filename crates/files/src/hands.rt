@@ -10,7 +10,8 @@ ghost use Rattle.files.specs.Doing.{IsAbove, Lists, TellsListing, Listed, Change
 ghost use Rattle.files.specs.Answers.{told_of};
 
 use crate::browser::{Browser, Mode};
-use crate::list::{Listing, Outcome, Row};
+use crate::list::{Listing, Outcome};
+use crate::order::Order;
 use crate::sorting::{place_of, sorted};
 use ratatui_acts::Outside;
 use ratatui_app::OnGlass;
@@ -104,14 +105,15 @@ fn folder_for(alloc: Global, browser: &Browser) -> Result<Option<Wanted>, AllocE
 fn listing_shown(
     alloc: Global,
     has_hidden: bool,
+    order: Order,
     wanted: Wanted,
     answer: Answer,
 ) -> Result<Outcome, AllocError>
-    ensures { IfOk result (TellsListing ⟦<Row as Ord>⟧.cmp has_hidden wanted answer) }
+    ensures { IfOk result (TellsListing order has_hidden wanted answer) }
 {
     match answer {
         Answer::Listed(entries, unnamed) => {
-            let rows = sorted(alloc, entries, has_hidden)?;
+            let rows = sorted(alloc, entries, has_hidden, order)?;
             let place = place_of(rows.as_slice(), wanted.name.as_str(), wanted.other);
             Ok(Outcome::Listed(Listing {
                 folder: wanted.folder,
@@ -173,7 +175,7 @@ impl<P: Performs + Drop> Hands<P> {
     fn change<W: Write + Drop>(&mut self, glass: &OnGlass<W>, browser: &Browser) -> Outcome
         requires shown { StandsOnGlass (PaintsBrowser browser.now) (browser_cursor browser.now)
             glass.now.terminal }
-        ensures { Changed ⟦<Row as Ord>⟧.cmp P.does (change_in browser.now.mode browser.now)
+        ensures { Changed P.does (change_in browser.now.mode browser.now)
             self.old.files result self.new.files }
     {
         let Ok(wanted) = browser.change() else {
@@ -192,7 +194,7 @@ impl<P: Performs + Drop> Hands<P> {
 
     // Lists the folder that a browser asks for.
     fn list(&mut self, browser: &Browser) -> Outcome
-        ensures { Listed ⟦<Row as Ord>⟧.cmp P.does browser.now self.old.files result self.new.files }
+        ensures { Listed P.does browser.now self.old.files result self.new.files }
     {
         let Ok(found) = folder_for(self.alloc, browser) else {
             return Outcome::Failed(Failure::Memory);
@@ -204,7 +206,8 @@ impl<P: Performs + Drop> Hands<P> {
             return Outcome::Failed(Failure::Memory);
         };
         let answer = self.files.perform(&Command::List(folder));
-        match listing_shown(self.alloc, browser.has_hidden, wanted, answer) {
+        let has_hidden = browser.has_hidden;
+        match listing_shown(self.alloc, has_hidden, browser.order, wanted, answer) {
             Ok(outcome) => outcome,
             Err(_) => Outcome::Failed(Failure::Memory),
         }
@@ -214,7 +217,7 @@ impl<P: Performs + Drop> Hands<P> {
 impl<P: Performs + Drop, W: Write + Drop> Outside<Browser, OnGlass<W>> for Hands<P> {
     ghost use Rattle.files.specs.Doing.{DoesAsked};
 
-    ghost answers = { λ before b outcome after. DoesAsked ⟦<Row as Ord>⟧.cmp P.does b before.files outcome after.files };
+    ghost answers = { λ before b outcome after. DoesAsked P.does b before.files outcome after.files };
 
     fn perform(
         &mut self,

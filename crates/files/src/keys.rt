@@ -4,7 +4,9 @@ ghost use Rattle.std.specs.Prelude.{◌≡◌, ◌==◌};
 ghost use Rattle.ratatui_events.specs.Key.{modifier_bits};
 ghost use Rattle.files.specs.Keys.{character_wish, control_wish, code_wish, kind_wish, event_wish};
 ghost use Rattle.files.specs.Keys.{holds_control, is_down_kind, is_input, is_yes_code, says_yes};
+ghost use Rattle.files.specs.Keys.{order_of_char, code_order, event_order};
 
+use crate::order::{Order, SortBy};
 use ratatui_events::{Event, KeyCode, KeyEvent, KeyEventKind, KeyModifiers};
 
 /// What a person asks for.
@@ -30,6 +32,17 @@ pub enum Wish {
     Leave,
     /// Hidden entries too, or no longer.
     Hidden,
+    /// Another order.
+    Sort,
+    /// A text that names have.
+    Seek,
+    /// The next entry whose name has it, or the one before.
+    SeekOn,
+    SeekBack,
+    /// That the entry be copied, or moved, to where `Paste` is asked for.
+    NoteCopy,
+    NoteMove,
+    Paste,
     /// Another name for the entry.
     Rename,
     /// A new folder.
@@ -61,6 +74,13 @@ fn character_wish(code: char) -> Wish
         'l' => Wish::Enter,
         'h' => Wish::Leave,
         '.' => Wish::Hidden,
+        's' => Wish::Sort,
+        '/' => Wish::Seek,
+        'n' => Wish::SeekOn,
+        'N' => Wish::SeekBack,
+        'y' => Wish::NoteCopy,
+        'd' => Wish::NoteMove,
+        'p' => Wish::Paste,
         'r' => Wish::Rename,
         'a' => Wish::Make,
         'D' => Wish::Trash,
@@ -123,6 +143,42 @@ pub fn wish_of(event: Event) -> Wish
     match event {
         Event::Key(key) => key_wish(key),
         _ => Wish::Nothing,
+    }
+}
+
+// The order that a letter names: a capital one turns it round.
+fn order_of_char(letter: char) -> Option<Order>
+    ensures { result ≡ order_of_char letter }
+{
+    let (by, is_reversed) = match letter {
+        'n' => (SortBy::Name, false),
+        'N' => (SortBy::Name, true),
+        's' => (SortBy::Size, false),
+        'S' => (SortBy::Size, true),
+        'd' => (SortBy::Date, false),
+        'D' => (SortBy::Date, true),
+        _ => return None,
+    };
+    Some(Order { by, is_reversed })
+}
+
+// The order that a key names.
+fn code_order(code: KeyCode) -> Option<Order>
+    ensures { result ≡ code_order code }
+{
+    match code {
+        KeyCode::Char(letter) => order_of_char(letter),
+        _ => None,
+    }
+}
+
+/// Returns the order that an event names, which is no key that is let go.
+pub fn order_of(event: Event) -> Option<Order>
+    ensures { result ≡ event_order event }
+{
+    match event {
+        Event::Key(key) if !holds_control(key) => code_order(key.code),
+        _ => None,
     }
 }
 

@@ -1,6 +1,16 @@
 //! Laws of browsers.
 
-ghost use Rattle.std.specs.Prelude.{◌≡◌, ◌≢◌, ◌+◌, ◌<◌, ◌≤◌, ℕ, true, false, not, Some, List, length, filter, codes};
+ghost use Rattle.std.specs.Prelude.{◌≡◌, ◌≢◌, ◌⊎◌, ◌+◌, ◌<◌, ◌≤◌, ℕ, true, false, not, Some, None, List, length, filter, codes};
+ghost use Rattle.std.specs.Prelude.{IsSorted, slice_get, slice_index_or};
+ghost use Rattle.std.specs.Ordering.{is_lt};
+ghost use Rattle.files.specs.declared.list.Row.{Row};
+ghost use Rattle.files.specs.declared.order.Order.{Order};
+ghost use Rattle.files.specs.Orders.{compare_rows};
+ghost use Rattle.files.specs.Finding.{next_named, previous_named, NoneBetween, IsNextNamed, IsPreviousNamed};
+ghost use Rattle.files.specs.declared.hands.Wanted.{Wanted};
+ghost use Rattle.files.specs.Doing.{Lists};
+ghost use Rattle.files.specs.Sorting.{HasName, IsPlaceOf};
+ghost use Rattle.files.specs.Keys.{is_input, event_order};
 ghost use Rattle.std.specs.List.{range_with_len};
 ghost use Rattle.percent_encoding.specs.AsciiSet.{should_percent_encode};
 ghost use Rattle.files.specs.declared.trash.TheConstants.{KEPT};
@@ -12,22 +22,22 @@ ghost use Rattle.ratatui_events.specs.declared.event.Event.{Event};
 ghost use Rattle.ratatui_acts.specs.declared.message.Message.TheVariants as message;
 ghost use Rattle.ratatui_acts.specs.declared.message.Message.{Message};
 ghost use Rattle.ratatui_files.specs.declared.answer.Failure.{Failure};
-ghost use Rattle.ratatui_files.specs.declared.command.Command.TheVariants.{Rename, Remove, RemoveFolder};
+ghost use Rattle.ratatui_files.specs.declared.command.Command.TheVariants.{Rename, Copy, Remove, RemoveFolder};
 ghost use Rattle.files.specs.declared.browser.Browser.{Browser};
-ghost use Rattle.files.specs.declared.browser.Mode.TheVariants.{Trashing, Removing};
+ghost use Rattle.files.specs.declared.browser.Mode.TheVariants.{Listing, Sorting, Trashing, Removing};
 ghost use Rattle.files.specs.declared.trash.Discard.{Discard};
-ghost use Rattle.files.specs.declared.list.Listing.{Listing};
+ghost use Rattle.files.specs.declared.list.Listing.{Listing as ListingData};
 ghost use Rattle.files.specs.declared.list.Outcome.{Outcome};
 ghost use Rattle.files.specs.declared.list.Outcome.TheVariants as outcome;
 ghost use Rattle.files.specs.Names.{shown_name};
-ghost use Rattle.files.specs.Texts.{fits, status_told};
+ghost use Rattle.files.specs.Texts.{selected_text, fits, status_told};
 ghost use Rattle.files.specs.Trash.{discard_in};
 ghost use Rattle.files.specs.Moves.{new_browser, browsed_after, list_rows, scrolled_list};
 ghost use Rattle.files.specs.Questions.{change_in};
 ghost use Rattle.ratatui_acts.specs.Runs.{Now, Past, HasRun};
 ghost use Rattle.ratatui_app.specs.declared.on_glass.OnGlass.{OnGlass};
 ghost use Rattle.files.specs.RunLaws.{browsing_on, WereOnTheGlass, WereAsked};
-ghost use Rattle.files.specs.Laws.{IsSound, IsPlaced, ListsSame, AsksToRemove, AsksToRename, AsksToTrash};
+ghost use Rattle.files.specs.Laws.{IsSound, IsPlaced, ListsSame, AsksToRemove, AsksToRename, AsksToTrash, AsksToPaste};
 
 use crate::browser::Browser;
 use ratatui_acts::{Hears, Outside};
@@ -52,7 +62,7 @@ pub fn the_selection_is_in_its_rows()
 
 /// What is listed is what was answered last of a folder; nothing else changes it.
 pub fn only_listings_change_the_list()
-    ensures listed { (b : Browser) (l : Listing)
+    ensures listed { (b : Browser) (l : ListingData)
         → let c = browsed_after b (message.Answer (outcome.Listed l)) in
         (c.folder ≡ l.folder) × (c.list ≡ l.rows) × (c.unnamed ≡ l.unnamed) }
     ensures event { (b : Browser) (e : Event) → ListsSame b (browsed_after b (message.Event e)) }
@@ -64,15 +74,19 @@ pub fn only_listings_change_the_list()
 {}
 
 /// A question that removes or renames something names it, whole, and the name that it is given, or
-/// the trash; and none whether something is to be put into the trash can be taken for one whether it
-/// is to be removed for good.
+/// the trash; one that copies or moves something names where it is, whole, and the name that it gets
+/// in the folder that is shown. None whether something is to be put into the trash can be taken for
+/// one whether it is to be removed for good.
 pub fn questions_name_what_they_change()
     ensures file { (b : Browser) (path : List ℕ) → change_in b.mode b ≡ Some (Remove path)
         → AsksToRemove b path }
     ensures folder { (b : Browser) (path : List ℕ) → change_in b.mode b ≡ Some (RemoveFolder path)
         → AsksToRemove b path }
     ensures renamed { (b : Browser) (from to : List ℕ)
-        → change_in b.mode b ≡ Some (Rename from to) → AsksToRename b from to }
+        → change_in b.mode b ≡ Some (Rename from to)
+        → AsksToRename b from to ⊎ AsksToPaste (codes "move") b from to }
+    ensures copied { (b : Browser) (from to : List ℕ) → change_in b.mode b ≡ Some (Copy from to)
+        → AsksToPaste (codes "copy") b from to }
     ensures trashed { (b : Browser) (d : Discard) → b.mode ≡ Trashing → discard_in b ≡ Some d
         → AsksToTrash b d }
     ensures verbs { (b c : Browser) → b.mode ≡ Trashing → c.mode ≡ Removing
@@ -100,6 +114,44 @@ pub fn a_yes_counts_after_a_pause()
 pub fn paths_are_written_in_these_characters()
     ensures { filter (λ b. not (should_percent_encode KEPT b)) (range_with_len 0 128)
         ≡ codes "-./0123456789ABCDEFGHIJKLMNOPQRSTUVWXYZ_abcdefghijklmnopqrstuvwxyz~" }
+{}
+
+/// No row whose name has what is sought is passed over.
+pub fn no_name_is_passed_over()
+    ensures next { (text : List ℕ) (rows : List Row) (place found : ℕ)
+        → next_named text rows place ≡ Some found → IsNextNamed text rows place found }
+    ensures previous { (text : List ℕ) (rows : List Row) (place found : ℕ)
+        → previous_named text rows place ≡ Some found → IsPreviousNamed text rows place found }
+    ensures none { (text : List ℕ) (rows : List Row) (place : ℕ) → next_named text rows place ≡ None
+        → NoneBetween text rows 0 (length rows) }
+    ensures none_before { (text : List ℕ) (rows : List Row) (place : ℕ)
+        → previous_named text rows place ≡ None → NoneBetween text rows 0 (length rows) }
+{}
+
+/// In a list that is in order no row stands after one that it comes before; and folders stand first,
+/// whatever the order.
+pub fn rows_stand_in_order()
+    ensures order { (order : Order) (rows : List Row) (i j : ℕ) (other : Row)
+        → IsSorted (compare_rows order) rows → i ≤ j → j < length rows
+        → is_lt (compare_rows order (slice_index_or rows j other) (slice_index_or rows i other))
+        ≡ false }
+    ensures folders { (order : Order) (rows : List Row) (i j : ℕ) (other : Row)
+        → IsSorted (compare_rows order) rows → i ≤ j → j < length rows
+        → (slice_index_or rows i other).is_leaf ≡ true
+        → (slice_index_or rows j other).is_leaf ≡ true }
+{}
+
+/// The selection stays on its entry if the folder is listed anew, in whatever order: it is told of
+/// the row with the name that was asked for, if there is one.
+pub fn the_selection_stays_on_its_entry()
+    ensures asked { (b : Browser) (w : Wanted) → b.seeks_typed ≡ false → Lists Listing b w
+        → w.name ≡ selected_text b }
+    ensures stays { (b : Browser) (l : ListingData) (name : List ℕ) (other k : ℕ)
+        → IsPlaceOf name other l.rows l.place → HasName name (slice_get l.rows k)
+        → selected_text (browsed_after b (message.Answer (outcome.Listed l))) ≡ name }
+    ensures sorted { (b : Browser) (e : Event) (o : Order) → b.mode ≡ Sorting → is_input e ≡ true
+        → event_order e ≡ Some o → browsed_after b (message.Event e)
+        ≡ record b { order = o; mode = Listing; is_quiet = false } }
 {}
 
 // ---- runs

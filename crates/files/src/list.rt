@@ -5,9 +5,8 @@ ghost use Rattle.std.specs.Prelude.{◌≡◌, length, option_map, slice_get};
 use ratatui_files::{Failure, Path};
 use std::marker::Model;
 
-/// A row of the list: what is told of an entry. Rows are in order if their fields are: folders
-/// first, then by name.
-#[derive(Drop, PartialEq, Eq, PartialOrd, Ord)]
+/// A row of the list: what is told of an entry, and what its name is compared by.
+#[derive(Drop)]
 pub struct Row {
     /// Whether it is no folder.
     pub is_leaf: bool,
@@ -17,6 +16,10 @@ pub struct Row {
     pub is_link: bool,
     /// How many bytes a file has.
     pub size: Option<u64>,
+    /// When it was changed last, in nanoseconds since 1970, if that is known.
+    pub changed: Option<u128>,
+    /// What its name is compared by: its numbers as numbers.
+    pub key: Vec<u64>,
 }
 
 /// Rows of a list.

@@ -3,12 +3,14 @@
 ghost use Rattle.std.specs.Prelude.{◌≡◌, ◌+◌, ◌-◌, if◌then◌else◌, length, IfOk, OnOk, OnErr};
 ghost use Rattle.text_field.specs.Keys.{edited};
 ghost use Rattle.files.specs.Moves.{list_rows, last_row_place, scrolled_list, selected_at, selection_moved, is_folder_selected};
-ghost use Rattle.files.specs.Moves.{follows_dot, to_dot, at_extension, selected_field, typing_in, renaming, went, asking_to_trash, trash_note, wished};
+ghost use Rattle.files.specs.Moves.{follows_dot, to_dot, at_extension, typing_in, typing_name, renaming, went, asking_to_trash, trash_note, wished};
+ghost use Rattle.files.specs.Texts.{selected_text};
 ghost use Rattle.files.specs.Moves.{confirmed, typed_into, names_typed, listing_shown};
 
 use crate::browser::{Browser, Mode, Note};
 use crate::keys::Wish;
 use crate::list::Listing;
+use crate::notes::typed_name;
 use crate::typing::Typing;
 use std::alloc::AllocError;
 use text_field::{Edit, Reach, TextField};
@@ -39,7 +41,7 @@ fn go_to_dot(field: &mut TextField)
 }
 
 // Brings the cursor from the end of a name before its extension, if it has one.
-fn go_to_extension(field: &mut TextField)
+pub(crate) fn go_to_extension(field: &mut TextField)
     ensures { field.new ≡ at_extension field.old }
 {
     go_to_dot(field);
@@ -74,7 +76,7 @@ impl Browser {
     }
 
     // Selects an entry, or the last one.
-    fn select(&mut self, place: usize)
+    pub(crate) fn select(&mut self, place: usize)
         ensures { self.new ≡ selected_at place self.old }
     {
         self.selected = place.min(self.last_row_place());
@@ -129,16 +131,13 @@ impl Browser {
 
     // The name of the entry that is selected, with the cursor before its extension.
     fn selected_name(&self) -> Result<TextField, AllocError>
-        ensures { IfOk result (λ field. field ≡ at_extension (selected_field self.now)) }
+        ensures { IfOk result (λ field. field ≡ typing_name (selected_text self.now)) }
     {
-        let mut field = TextField::new(self.alloc);
-        field.set_text(self.selected_text())?;
-        go_to_extension(&mut field);
-        Ok(field)
+        typed_name(self.alloc, self.selected_text())
     }
 
     // Begins to type a name, with this in the field.
-    fn begin(&mut self, mode: Mode, typed: TextField) -> Result<(), AllocError>
+    pub(crate) fn begin(&mut self, mode: Mode, typed: TextField) -> Result<(), AllocError>
         ensures ok { OnOk result (self.new ≡ typing_in mode typed self.old) }
         ensures err { OnErr result (self.new ≡ self.old) }
     {
@@ -186,6 +185,7 @@ impl Browser {
                 self.has_hidden = !self.has_hidden;
                 self.mode = Mode::Listing;
             }
+            Wish::Sort => self.mode = Mode::Sorting,
             Wish::Remove => {
                 let may = self.list.len() > 0;
                 self.turn_if(may, Mode::Removing);
@@ -218,6 +218,12 @@ impl Browser {
             Wish::Rename => self.rename()?,
             Wish::Make => self.begin(Mode::Making, TextField::new(self.alloc))?,
             Wish::Trash => note = self.ask_to_trash(),
+            Wish::Seek => self.begin(Mode::Seeking, TextField::new(self.alloc))?,
+            Wish::SeekOn => note = self.seek_on(),
+            Wish::SeekBack => note = self.seek_back(),
+            Wish::NoteCopy => note = self.note_entry(false)?,
+            Wish::NoteMove => note = self.note_entry(true)?,
+            Wish::Paste => note = self.paste()?,
             other => self.go(other),
         }
         self.note = note;
@@ -225,7 +231,7 @@ impl Browser {
     }
 
     // Edits what is typed.
-    fn edit(&mut self, edit: Edit) -> Result<(), AllocError>
+    pub(crate) fn edit(&mut self, edit: Edit) -> Result<(), AllocError>
         ensures ok { OnOk result
             (self.new ≡ typing_in self.old.mode (edited edit self.old.typed) self.old) }
         ensures err { OnErr result (self.new ≡ self.old) }
@@ -274,7 +280,7 @@ impl Browser {
         ensures { result ≡ names_typed self.now.mode }
     {
         match self.mode {
-            Mode::Renaming | Mode::Making => true,
+            Mode::Renaming | Mode::Making | Mode::Pasting => true,
             _ => false,
         }
     }

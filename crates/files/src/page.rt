@@ -112,7 +112,9 @@ impl Application for Browser {
 
     fn cursor(&self, area: Rect) -> Option<Position> {
         match self.mode {
-            Mode::Renaming | Mode::Making => cursor_at_column(self.column, area),
+            Mode::Renaming | Mode::Making | Mode::Pasting | Mode::Seeking => {
+                cursor_at_column(self.column, area)
+            }
             _ => None,
         }
     }

@@ -56,6 +56,24 @@ impl Browser {
         }
     }
 
+    // The copying or moving of what was noted.
+    fn pasting(&self) -> Result<Option<Command>, AllocError>
+        ensures { IfOk result (λ command. command ≡ change_in Mode.Pasting self.now) }
+    {
+        let Some(noted) = &self.noted else {
+            return Ok(None);
+        };
+        let Some(to) = self.folder.entry(self.alloc, self.typed.text())? else {
+            return Ok(None);
+        };
+        let from = noted.path.copy(self.alloc)?;
+        if noted.is_moved {
+            Ok(Some(Command::Rename(from, to)))
+        } else {
+            Ok(Some(Command::Copy(from, to)))
+        }
+    }
+
     /// Returns what the question is about: what is done to files if it is answered by yes. None if
     /// nothing is asked, or a name can't be one.
     ///
@@ -69,6 +87,7 @@ impl Browser {
             Mode::Removing => self.removing(),
             Mode::Renaming => self.renaming(),
             Mode::Making => self.making(),
+            Mode::Pasting => self.pasting(),
             _ => Ok(None),
         }
     }

@@ -1,11 +1,15 @@
 //! Entries of a folder, in order.
 
-ghost use Rattle.std.specs.Prelude.{◌≡◌, IfOk, OnOk};
+ghost use Rattle.std.specs.Prelude.{◌≡◌, IfOk, OnOk, option_map};
+ghost use Rattle.std.specs.Duration.{as_nanos};
 ghost use Rattle.files.specs.Sorting.{is_listed, IsRowFor, AddsIf, IsListOf, IsPlaceOf};
 
 use crate::list::{Row, Rows};
+use crate::name_keys::name_sort_key;
+use crate::order::Order;
 use ratatui_files::{Entries, Info, Kind};
 use std::alloc::{AllocError, Global};
+use std::time::Duration;
 
 // Whether an entry of this name is listed.
 fn is_listed(has_hidden: bool, name: &str) -> bool
@@ -14,47 +18,67 @@ fn is_listed(has_hidden: bool, name: &str) -> bool
     has_hidden || !name.starts_with('.')
 }
 
-// What is told of an entry in its row.
-fn row_of(info: Info) -> Row
-    ensures { IsRowFor info result }
+// A time in nanoseconds.
+fn nanos(time: Option<Duration>) -> Option<u128>
+    ensures { result ≡ option_map as_nanos time }
 {
+    match time {
+        Some(time) => Some(time.as_nanos()),
+        None => None,
+    }
+}
+
+// What is told of an entry in its row.
+fn row_of(alloc: Global, info: Info) -> Result<Row, AllocError>
+    ensures { IfOk result (IsRowFor info) }
+{
+    let key = name_sort_key(alloc, info.name.as_str())?;
     let Info {
         name,
         kind,
         size,
+        modified,
         ..
     } = info;
     let size = match kind {
         Kind::File => Some(size),
         _ => None,
     };
-    Row {
+    Ok(Row {
         is_leaf: kind != Kind::Folder,
         name: name.into_string(),
         is_link: kind == Kind::Link,
         size,
-    }
+        changed: nanos(modified),
+        key,
+    })
 }
 
 // Appends the row of an entry, if it is listed.
-fn add(info: Info, has_hidden: bool, rows: &mut Vec<Row>) -> Result<(), AllocError>
+fn add(alloc: Global, info: Info, has_hidden: bool, rows: &mut Vec<Row>) -> Result<(), AllocError>
     ensures { OnOk result (AddsIf has_hidden info rows.old.items rows.new.items) }
 {
     if is_listed(has_hidden, info.name.as_str()) {
-        rows.push(row_of(info))?;
+        let row = row_of(alloc, info)?;
+        rows.push(row)?;
     }
     Ok(())
 }
 
 /// Returns the rows of entries, in order.
-pub(crate) fn sorted(alloc: Global, entries: Entries, has_hidden: bool) -> Result<Rows, AllocError>
-    ensures { IfOk result (IsListOf ⟦<Row as Ord>⟧.cmp has_hidden entries) }
+pub(crate) fn sorted(
+    alloc: Global,
+    entries: Entries,
+    has_hidden: bool,
+    order: Order,
+) -> Result<Rows, AllocError>
+    ensures { IfOk result (IsListOf order has_hidden entries) }
 {
     let mut rows = Vec::new(alloc);
     for info in entries.into_vec() {
-        add(info, has_hidden, &mut rows)?;
+        add(alloc, info, has_hidden, &mut rows)?;
     }
-    rows.sort()?;
+    order.sort(&mut rows)?;
     Ok(Rows::new(rows))
 }
 

@@ -6,10 +6,12 @@ ghost use Rattle.files.specs.Texts.{failure_text, shown_row, file_size_text, siz
 ghost use Rattle.files.specs.Texts.{without_start, inner_text, trash_shown, trash_question};
 ghost use Rattle.files.specs.Texts.{selected_shown, place_told, subject, note_told, prompt, status_told, column_in};
 ghost use Rattle.files.specs.Texts.{fits, text_in, entry_at, place_in_row};
+ghost use Rattle.files.specs.Texts.{noted_shown, paste_verb, paste_note_told, missing_told, paste_prompt, order_told, unnamed_text};
 
 use crate::browser::{Browser, Mode, Note};
 use crate::list::Row;
 use crate::names::push_name;
+use crate::order::{Order, SortBy};
 use itoa::Buffer as Digits;
 use ratatui_core::text::Span;
 use ratatui_files::Failure;
@@ -64,6 +66,33 @@ fn push_size(alloc: Global, text: &mut String, size: &str, width: u16) -> Result
     let blanks = " ".repeat(alloc, gap)?;
     text.push_str(blanks.as_str())?;
     text.push_str(size)
+}
+
+// Appends how many more entries there are, whose names are no texts.
+fn push_unnamed(text: &mut String, count: u64) -> Result<(), AllocError>
+    ensures { OnOk result (string_bytes text.new ≡ string_bytes text.old ++ unnamed_text count) }
+{
+    if count == 0 {
+        return Ok(());
+    }
+    text.push_str(", and ")?;
+    let mut digits = Digits::new();
+    text.push_str(digits.format(count))?;
+    text.push_str(" whose names are no texts")
+}
+
+// Appends what entries are sorted by, if not by their names.
+fn push_order(text: &mut String, order: Order) -> Result<(), AllocError>
+    ensures { OnOk result (string_bytes text.new ≡ string_bytes text.old ++ order_told order) }
+{
+    match (order.by, order.is_reversed) {
+        (SortBy::Name, false) => Ok(()),
+        (SortBy::Name, true) => text.push_str(", the last name first"),
+        (SortBy::Size, false) => text.push_str(", the least size first"),
+        (SortBy::Size, true) => text.push_str(", the largest size first"),
+        (SortBy::Date, false) => text.push_str(", the first date first"),
+        (SortBy::Date, true) => text.push_str(", the last date first"),
+    }
 }
 
 // What follows a beginning of a text, or the text if it begins otherwise.
@@ -152,12 +181,66 @@ impl Browser {
         text.push_str(digits.format(self.selected.saturating_add(1).min(count)))?;
         text.push_str("/")?;
         text.push_str(digits.format(count))?;
-        if self.unnamed > 0 {
-            text.push_str(", and ")?;
-            text.push_str(digits.format(self.unnamed))?;
-            text.push_str(" whose names are no texts")?;
+        push_unnamed(text, self.unnamed)?;
+        push_order(text, self.order)
+    }
+
+    // Appends where it is that is noted, from the folder on that all is in.
+    fn push_noted(&self, text: &mut String) -> Result<(), AllocError>
+        ensures { OnOk result (string_bytes text.new
+            ≡ string_bytes text.old ++ noted_shown self.now.noted) }
+    {
+        match &self.noted {
+            Some(noted) => {
+                text.push_str("/")?;
+                push_name(text, noted.path.as_str())
+            }
+            None => Ok(()),
         }
-        Ok(())
+    }
+
+    // Appends what is done to what is noted.
+    fn push_verb(&self, text: &mut String) -> Result<(), AllocError>
+        ensures { OnOk result (string_bytes text.new
+            ≡ string_bytes text.old ++ paste_verb self.now.noted) }
+    {
+        match &self.noted {
+            Some(noted) if noted.is_moved => text.push_str("move"),
+            _ => text.push_str("copy"),
+        }
+    }
+
+    // Appends what is noted, and how it comes to another folder.
+    fn push_paste_note(&self, text: &mut String) -> Result<(), AllocError>
+        ensures { OnOk result (string_bytes text.new
+            ≡ string_bytes text.old ++ paste_note_told self.now) }
+    {
+        text.push_str("p will ")?;
+        self.push_verb(text)?;
+        text.push_str(" \"")?;
+        self.push_noted(text)?;
+        text.push_str("\" here")
+    }
+
+    // Appends that no name has what is sought.
+    fn push_missing(&self, text: &mut String) -> Result<(), AllocError>
+        ensures { OnOk result (string_bytes text.new
+            ≡ string_bytes text.old ++ missing_told self.now) }
+    {
+        text.push_str("\"")?;
+        push_name(text, self.sought.as_str())?;
+        text.push_str("\" is in no name")
+    }
+
+    // Appends what stands before the name under which what is noted comes here.
+    fn push_paste_prompt(&self, text: &mut String) -> Result<(), AllocError>
+        ensures { OnOk result (string_bytes text.new
+            ≡ string_bytes text.old ++ paste_prompt self.now) }
+    {
+        self.push_verb(text)?;
+        text.push_str(" \"")?;
+        self.push_noted(text)?;
+        text.push_str("\" to \"")
     }
 
     // Appends what it was that wasn't done.
@@ -170,6 +253,7 @@ impl Browser {
                 self.push_selected(text)
             }
             Mode::Making => push_name(text, self.typed.text()),
+            Mode::Pasting => self.push_noted(text),
             Mode::Leaving => text.push_str("the folder above"),
             _ => text.push_str("this folder"),
         }
@@ -184,6 +268,11 @@ impl Browser {
             Note::Place => self.push_place(text),
             Note::Narrow => text.push_str("the screen is too narrow for the question"),
             Note::NoTrash => text.push_str("there is no trash: X removes for good"),
+            Note::Missing => self.push_missing(text),
+            Note::Noted => self.push_paste_note(text),
+            Note::NothingNoted => {
+                text.push_str("nothing is noted: y takes a file, d a file or a folder")
+            }
             Note::Failed(mode, failure) => {
                 self.push_subject(mode, text)?;
                 text.push_str(": ")?;
@@ -203,6 +292,8 @@ impl Browser {
                 self.push_selected(text)?;
                 text.push_str("\" to \"")
             }
+            Mode::Pasting => self.push_paste_prompt(text),
+            Mode::Seeking => text.push_str("/"),
             _ => text.push_str("make the folder \""),
         }
     }
@@ -245,10 +336,17 @@ impl Browser {
                 self.push_selected(&mut text)?;
                 text.push_str("\" for good? y/n")?;
             }
-            Mode::Renaming | Mode::Making => {
+            Mode::Renaming | Mode::Making | Mode::Pasting => {
                 self.push_prompt(self.mode, &mut text)?;
                 push_name(&mut text, self.typed.text())?;
                 text.push_str("\"")?;
+            }
+            Mode::Seeking => {
+                self.push_prompt(Mode::Seeking, &mut text)?;
+                push_name(&mut text, self.typed.text())?;
+            }
+            Mode::Sorting => {
+                text.push_str("sort by n name, s size, d date; N S D the other way round")?;
             }
             _ => self.push_note(&mut text)?,
         }

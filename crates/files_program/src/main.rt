@@ -26,8 +26,11 @@ static HELP: &str =
 above it is reached.
 j k g G, Ctrl+D Ctrl+U, arrows, Home, End, PageUp and PageDown select an entry. l, Enter and Right
 show the folder that is selected; h, Left and Backspace the one above. A dot shows hidden entries.
+s and then n, s or d sorts by name, size or date, and N, S or D the other way round; folders stay
+first. / finds a text in names, whatever letters are capitals unless one is typed; n and N go on.
 r gives the entry another name, a makes a folder, D puts the entry into the trash. X removes it for
-good, if it is no folder that holds something. Each asks first: y, or Enter after a name, says yes
+good, if it is no folder that holds something. y notes a file to be copied, d an entry to be moved,
+and p does so, to the folder that is shown. Each asks first: y, or Enter after a name, says yes
 once the question has stood for a tenth of a second, any other key or Esc says no. q ends.
 The trash is $XDG_DATA_HOME/Trash, or $HOME/.local/share/Trash, if no other one is named.
 ";

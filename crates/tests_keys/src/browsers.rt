@@ -52,6 +52,16 @@ fn begun(alloc: Global, size: Size) -> Result<OnScreen<TestBackend>, AllocError>
 
 // Plays reads on the tree, and shows the last state on a screen in memory.
 fn play(alloc: Global, width: u16, reads: &[&[u8]]) -> Result<Played, AllocError> {
+    play_on(alloc, width, tree(alloc)?, reads)
+}
+
+// Plays reads on a tree.
+fn play_on(
+    alloc: Global,
+    width: u16,
+    tree: InMemory,
+    reads: &[&[u8]],
+) -> Result<Played, AllocError> {
     let size = Size { width, height: 6 };
     let Ok(backend) = AnsiBackend::new(alloc, Vec::new(alloc), size) else {
         return Err(AllocError);
@@ -62,7 +72,7 @@ fn play(alloc: Global, width: u16, reads: &[&[u8]]) -> Result<Played, AllocError
     let title = Text::copy(alloc, "tree")?;
     let browser = Browser::new(alloc, title, size).with_trash(path(alloc, "trash")?);
     let mut seat = Seat::new(alloc, browser);
-    let mut hands = Hands::new(alloc, tree(alloc)?);
+    let mut hands = Hands::new(alloc, tree);
     let mut source = Pieces::new(reads);
     match run(&mut source, &mut hands, true, &mut glass, &mut seat) {
         Ok(()) => {}
@@ -155,5 +165,65 @@ fn moves_to_the_trash(rt: HostRuntime) -> Result<(), Fail> {
     assert!(rt; is_written(rt.alloc(), &end, "a.txt", "a.txt")?);
     assert!(rt; is_written(rt.alloc(), &end, "a.txt.2", "a.txt")?);
     assert!(rt; is_written(rt.alloc(), &end, "a b%~", "a%20b%25~")?);
+    Ok(())
+}
+
+// Three files with numbers in their names: the one of the largest number is the smallest.
+fn numbered(alloc: Global) -> Result<InMemory, AllocError> {
+    let mut tree = InMemory::new(alloc, Duration::ZERO);
+    let bytes = Bytes::copy(alloc, b"1")?;
+    let _written = tree.perform(&Command::Write(path(alloc, "x10")?, bytes));
+    let bytes = Bytes::copy(alloc, b"333")?;
+    let _written = tree.perform(&Command::Write(path(alloc, "x9")?, bytes));
+    let bytes = Bytes::copy(alloc, b"22")?;
+    let _written = tree.perform(&Command::Write(path(alloc, "x09")?, bytes));
+    Ok(tree)
+}
+
+#[test]
+fn sorts_numbers_as_numbers(rt: HostRuntime) -> Result<(), Fail> {
+    let tree = numbered(rt.alloc())?;
+    let end = play_on(rt.alloc(), 60, tree, &[b"GX", b"", b"y", b"q"])?;
+    assert!(rt; !has(&end, "x10"));
+    assert!(rt; has(&end, "x9"));
+    Ok(())
+}
+
+#[test]
+fn sorts_and_keeps_its_selection(rt: HostRuntime) -> Result<(), Fail> {
+    let tree = numbered(rt.alloc())?;
+    let end = play_on(
+        rt.alloc(),
+        60,
+        tree,
+        &[b"GsSX", b"", b"y", b"gX", b"", b"y", b"q"],
+    )?;
+    assert!(rt; !has(&end, "x10"));
+    assert!(rt; !has(&end, "x9"));
+    assert!(rt; has(&end, "x09"));
+    Ok(())
+}
+
+#[test]
+fn finds_names(rt: HostRuntime) -> Result<(), Fail> {
+    let end = play(rt.alloc(), 60, &[b"/TXT\r", b"X", b"", b"y", b"q"])?;
+    assert!(rt; has(&end, "a.txt"));
+    assert!(rt; has(&end, "b.txt"));
+    let end = play(rt.alloc(), 60, &[b"/txt\rn", b"nNX", b"", b"y", b"q"])?;
+    assert!(rt; has(&end, "a.txt"));
+    assert!(rt; !has(&end, "b.txt"));
+    Ok(())
+}
+
+#[test]
+fn copies_and_moves(rt: HostRuntime) -> Result<(), Fail> {
+    let keys: &[&[u8]] = &[
+        b"jykl", b"p", b"", b"\r", b"p", b"", b"\r", b"hGdgl", b"p", b"", b"\r", b"q",
+    ];
+    let end = play(rt.alloc(), 60, keys)?;
+    assert!(rt; bytes_at(&end, "a.txt") == b"tea".as_slice());
+    assert!(rt; bytes_at(&end, "docs/a.txt") == b"tea".as_slice());
+    assert!(rt; bytes_at(&end, "docs/b.txt") == b"apples".as_slice());
+    assert!(rt; !has(&end, "b.txt"));
     Ok(())
 }

@@ -1,5 +1,5 @@
 use Rattle.std.proofs.Common.{refl}
-use Rattle.files.proofs.QuestionLemmas.{asks-file, asks-folder, asks-rename, asks-trash, verbs-differ}
+use Rattle.files.proofs.QuestionLemmas.{asks-file, asks-folder, asks-rename, asks-copy, asks-trash, verbs-differ}
 use Rattle.files.proofs.laws.questions_name_what_they_change.Goals as goal
 
 pub returns-clause-file : goal.returns-clause-file
@@ -10,6 +10,9 @@ returns-clause-folder c = λ b path is. asks-folder b.mode b path refl is
 
 pub returns-clause-renamed : goal.returns-clause-renamed
 returns-clause-renamed c = λ b from to is. asks-rename b.mode b from to refl is
+
+pub returns-clause-copied : goal.returns-clause-copied
+returns-clause-copied c = λ b from to is. asks-copy b.mode b from to refl is
 
 pub returns-clause-trashed : goal.returns-clause-trashed
 returns-clause-trashed c = asks-trash

@@ -7,7 +7,7 @@ pub returns-in_ok-push : goal.returns-in_ok-push
 returns-in_ok-push c =
     let is : is_listed c.args.has_hidden c.args.info.name ≡ true =
     ap (is_listed c.args.has_hidden) (sym c.as_str.ensures) ∙ sym c.is_listed.ensures ∙ c.if-is_listed.true in
-    adds-row c.args.has_hidden c.args.info c.row_of.result c.args.rows.now.items c.push.new.self.items is c.row_of.ensures
+    adds-row c.args.has_hidden c.args.info c.in_ok-row.row c.args.rows.now.items c.push.new.self.items is c.in_ok-row.ensures
     c.in_ok-push.ensures.items
 
 pub returns-else-is_listed : goal.returns-else-is_listed

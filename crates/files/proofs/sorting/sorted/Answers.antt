@@ -18,6 +18,6 @@ returns c =
       rows = c.loop-info.rows.items;
       are = subst (λ es. AreRowsFor c.args.has_hidden es c.loop-info.rows.items) (sym (map-id c.loop-info.yielded) ∙ all.0)
           c.loop-info.invariant;
-      all = rw c.new.ensures c.in_ok-sort.ensures.permutation;
-      ordered = rw c.new.ensures c.in_ok-sort.ensures.sorted;
+      all = rw c.new.ensures c.in_ok-sort.ensures.all;
+      ordered = rw c.new.ensures c.in_ok-sort.ensures.ordered;
     }
