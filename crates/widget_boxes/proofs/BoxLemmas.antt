@@ -130,7 +130,7 @@ pub inside-within : (area : Rect) (old new : BufferData) → IsInside area old.a
     → IsInside area new.area
 inside-within area old new inside is = λ p h. rw is.same_area (inside p h)
 
-titles-inside : (b : Block) (r : Rect) (position : TitlePosition) → IsBoxArea r → IsInside (titles_area b r position) r
+pub titles-inside : (b : Block) (r : Rect) (position : TitlePosition) → IsBoxArea r → IsInside (titles_area b r position) r
 titles-inside b r Top box = λ p h. let x = h.left in let e = h.right in let t = h.top in let d = h.bottom in
     let c = box.columns in let o = box.rows in let a = box.across in let w = box.down in
     record { left = omega arith; right = omega arith; top = omega arith; bottom = omega arith }

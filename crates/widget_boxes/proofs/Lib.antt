@@ -8,3 +8,8 @@ pub mod ShortLemmas
 pub mod FrameLemmas
 pub mod PaintLemmas
 pub mod InnerLemmas
+pub mod HighlightLemmas
+pub mod WholeRowLemmas
+pub mod ApartLemmas
+pub mod ApartBoxLemmas
+pub mod ApartTitleLemmas

@@ -6,6 +6,7 @@ use Rattle.std.proofs.lemmas.List.Elements.{All-nil, All-cons, All-head, All-tai
 use Rattle.ratatui_core.specs.Layout.{Rect, Position, HasPosition, has_position, intersected}
 use Rattle.ratatui_core.specs.declared.layout.HorizontalAlignment.{HorizontalAlignment}
 use Rattle.ratatui_core.specs.declared.layout.HorizontalAlignment.TheVariants.{Left, Center, Right}
+use Rattle.ratatui_core.specs.Symbols.{border_texts}
 use Rattle.ratatui_core.specs.{Style.Style, Text.LineData, declared.symbols.merge.MergeStrategy.MergeStrategy}
 use Rattle.ratatui_core.specs.Buffer.{BufferData, Cell, cell_in, joined, styled, with_symbol, symbol_text, width_of, text_width}
 use Rattle.ratatui_core.specs.Buffer.{IsStyled, IsPlain, IsPlainFrom, PaintsPieces, pieces_at}
@@ -41,8 +42,12 @@ plain-stroked b (s ∷ ss) p c all is =
     (plain-if (strikes s p) (drawn b.merge_borders b.border_style s.symbol c) c
     (plain-drawn b.merge_borders b.border_style s.symbol c is all.0) is)
 
-narrow-strokes : (b : Block) (r : Rect) → IsNarrowBox b → AreNarrow (strokes b r)
-narrow-strokes b r is = let all = is.symbols in (
+-- each symbol of the border takes at most one column
+abbrev pub HasNarrowSymbols : Block → Type 0
+HasNarrowSymbols b = All (λ symbol. text_width symbol ≤ 1) (border_texts b.border_set)
+
+narrow-strokes : (b : Block) (r : Rect) → HasNarrowSymbols b → AreNarrow (strokes b r)
+narrow-strokes b r all = (
   all 4 [] (lit< tt),
   (
     all 6 [] (lit< tt),
@@ -56,7 +61,7 @@ narrow-strokes b r is = let all = is.symbols in (
   ),
 )
 
-plain-cell : (b : Block) (r : Rect) (p : Position) (c : Cell) → IsNarrowBox b → IsPlain c → IsPlain (box_cell b r p c)
+pub plain-cell : (b : Block) (r : Rect) (p : Position) (c : Cell) → HasNarrowSymbols b → IsPlain c → IsPlain (box_cell b r p c)
 plain-cell b r p c is plain =
     plain-if (has_position r p) (stroked b (strokes b r) p (styled b.style c)) c
     (plain-stroked b (strokes b r) p (styled b.style c) (narrow-strokes b r is) (plain-styled b.style c plain)) plain
@@ -158,7 +163,7 @@ narrow-placed b position alignment ts all =
 both-titles : (ts us : List PlacedTitle) → AreNarrowTitles ts → AreNarrowTitles us → AreNarrowTitles (ts ++ us)
 both-titles ts us a b = All-append IsNarrowPlaced ts us a b
 
-narrow-row : (b : Block) (row : Rect) (position : TitlePosition) → All IsNarrowTitle b.titles.items
+pub narrow-row : (b : Block) (row : Rect) (position : TitlePosition) → All IsNarrowTitle b.titles.items
     → AreNarrowTitles (row_titles b row position)
 narrow-row b row position all =
     let centre = lines_placed b position Center b.titles.items in
@@ -185,7 +190,7 @@ plain-titled : (b : Block) (r : Rect) (old new : BufferData) → IsNarrowBox b �
 plain-titled b r old new is plain titled =
     let framed : IsPlainFrom 0 titled.framed = λ p in_framed le.
     let in_own : HasPosition old.area p = subst (λ a. HasPosition a p) titled.frame.area in_framed in
-    subst IsPlain (sym (titled.frame.at p in_own)) (plain-cell b r p (cell_in old p) is (plain p in_own le)) in
+    subst IsPlain (sym (titled.frame.at p in_own)) (plain-cell b r p (cell_in old p) is.symbols (plain p in_own le)) in
     plain-titles b.titles_style (placed_titles b r) titled.framed new
     (both-titles (row_titles b (titles_area b r Top) Top) (row_titles b (titles_area b r Bottom) Bottom)
     (narrow-row b (titles_area b r Top) Top is.titles) (narrow-row b (titles_area b r Bottom) Bottom is.titles))

@@ -129,7 +129,7 @@ by-test : (t : Bool) (a b : List PlacedTitle) → a ≡ [] → b ≡ [] → (if 
 by-test true a b ea eb = ea
 by-test false a b ea eb = eb
 
-centre-none : (r : Rect) → from_centre r [] ≡ []
+pub centre-none : (r : Rect) → from_centre r [] ≡ []
 centre-none r = by-test (nat_le (titles_width []) r.width) (from_left (without_first ((r.width - titles_width []) / 2) r) [])
     (from_outside ((titles_width [] - r.width) / 2) r []) refl refl
 

@@ -7,3 +7,5 @@ pub mod Framed
 pub mod Kinds
 pub mod Names
 pub mod Inner
+pub mod Highlights
+pub mod Apart

@@ -16,7 +16,7 @@ use Rattle.ratatui_core.specs.{Widgets.RendersLine}
 use Rattle.ratatui_core.proofs.BufferLemmas.{plain-with_symbol, plain-changed, line-stays}
 use Rattle.widget_boxes.proofs.{InnerLemmas.plain-inside, PlainBoxLemmas.plain-laid, PlainBoxLemmas.plain-done}
 use Rattle.rtui_dots.specs.declared.{scale.Scale.Scale, painter.DotCell.DotCell}
-use Rattle.rtui_dots.specs.Grids.{Dot as GridDot, has_point, has_dot, far, dot_number, index_of, is_lower, with_dot_number}
+use Rattle.rtui_dots.specs.Grids.{Dot as GridDot, lies_within, has_dot, far, dot_number, index_of, is_lower, with_dot_number}
 use Rattle.rtui_dots.specs.Grids.{has_one_color, no_dots, with_dot, with_dots, empty_grid, braille_dots}
 use Rattle.rtui_dots.specs.Grids.{pixels}
 use Rattle.widget_canvas.proofs.RunLemmas.{all_run, from-runs}
@@ -241,7 +241,7 @@ labels-stay : (s : Scale) (r : Rect) (ls : List Label) (old new : BufferData)
 labels-stay s r [] old new narrow plain same = rw same plain
 labels-stay s r (l ∷ ls) old new narrow plain is =
     labels-stay s r ls is.between new (All-tail (λ (l : Label). EachLineGrapheme TakesOneColumn l.line) l ls narrow)
-    (plain-done (has_point s l.x l.y) (RendersLine l.line (label_area s r l)) old is.between plain
+    (plain-done (lies_within s l.x l.y) (RendersLine l.line (label_area s r l)) old is.between plain
     (λ shown. line-stays (label_area s r l) old is.between plain l.line
     (All-head (λ (l : Label). EachLineGrapheme TakesOneColumn l.line) l ls narrow) shown) is.first) is.second
 

@@ -1,6 +1,6 @@
 -- A canvas: what its dots and labels make of a buffer.
 use Rattle.std.specs.Prelude.{◌≡◌, ℕ, ◌+◌, ◌-◌, ◌*◌, ◌/◌, ◌%◌, ◌==◌, List, [], ◌∷◌, pos}
-use Rattle.std.specs.Prelude.{None, slice_index, slice_index_or, encode_utf8, ◌<◌, ◌≤◌, if◌then◌else◌}
+use Rattle.std.specs.Prelude.{None, slice_index, slice_index_or, encode_utf8, ◌<◌, ◌≤◌, if◌then◌else◌, ℤ, int_lt}
 use Rattle.ratatui_core.specs.Layout.{Rect, Position}
 use Rattle.ratatui_core.specs.Text.{LineData}
 use Rattle.ratatui_core.specs.Style.{Reset, new_style, with_bg}
@@ -14,7 +14,7 @@ use Rattle.widget_boxes.specs.Framed.{RendersInFrame}
 use Rattle.rtui_dots.specs.declared.{scale.Scale.Scale, painter.DotCell.DotCell}
 use Rattle.widget_canvas.specs.declared.{label.Label.Label, canvas.Canvas.Canvas}
 use Rattle.widget_canvas.specs.declared.shown.TheConstants.{QUADRANTS, SEXTANTS, OCTANTS}
-use Rattle.rtui_dots.specs.Grids.{Dot as GridDot, has_point, column_of_cell, row_of_cell, no_dots, empty_grid}
+use Rattle.rtui_dots.specs.Grids.{Dot as GridDot, lies_within, column_of_cell, row_of_cell, no_dots, empty_grid}
 use Rattle.rtui_dots.specs.Grids.{has_one_color, with_dots}
 use Rattle.rtui_dots.specs.Layers.{layers_of}
 
@@ -82,13 +82,20 @@ label_from r column row line =
       height = 1;
     })
 
+-- the column and the row among the cells where a label begins; the first ones if the bounds have no extent
+abbrev pub label_column : Scale → ℤ → ℕ
+label_column s x = if int_lt s.left s.right then column_of_cell s x else 0
+
+abbrev pub label_row : Scale → ℤ → ℕ
+label_row s y = if int_lt s.bottom s.top then row_of_cell s y else 0
+
 -- where a label stands
 abbrev pub label_area : Scale → Rect → Label → Rect
-label_area s r l = label_from r (column_of_cell s l.x) (row_of_cell s l.y) l.line
+label_area s r l = label_from r (label_column s l.x) (label_row s l.y) l.line
 
--- a label at its point, if that lies within the bounds
+-- a label at its point, if that lies within the bounds or on them
 abbrev pub RendersLabel : Scale → Rect → Label → BufferData → BufferData → Type 0
-RendersLabel s r l = DoesIf (has_point s l.x l.y) (RendersLine l.line (label_area s r l))
+RendersLabel s r l = DoesIf (lies_within s l.x l.y) (RendersLine l.line (label_area s r l))
 
 abbrev pub RendersLabels : Scale → Rect → List Label → BufferData → BufferData → Type 0
 RendersLabels s r [] old new = new ≡ old

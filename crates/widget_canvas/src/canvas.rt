@@ -42,7 +42,7 @@ pub struct Canvas<'a> {
 
 impl<'a> Canvas<'a> {
     /// Makes a canvas of nothing, without a box, that marks dots in Braille. Its bounds are 0 on
-    /// each side, so it shows nothing before it is given others. Takes no memory.
+    /// each side, so it shows no dots before it is given others. Takes no memory.
     pub fn new() -> Canvas<'a>
         ensures { IsNewCanvas result }
     {
@@ -67,8 +67,8 @@ impl<'a> Canvas<'a> {
         self
     }
 
-    /// Sets the coordinates at the left and the right side. The canvas shows nothing unless the
-    /// left one is less.
+    /// Sets the coordinates at the left and the right side. The canvas shows no dots unless the
+    /// left one is less. If both are the same, the labels that lie there stand at the left.
     pub fn x_bounds(mut self, bounds: [i64; 2]) -> Canvas<'a>
         ensures { let left = slice_index_or bounds 0 (pos 0) in
             let right = slice_index_or bounds 1 (pos 0) in
@@ -79,8 +79,8 @@ impl<'a> Canvas<'a> {
         self
     }
 
-    /// Sets the coordinates at the lower and the upper side. The canvas shows nothing unless the
-    /// lower one is less.
+    /// Sets the coordinates at the lower and the upper side. The canvas shows no dots unless the
+    /// lower one is less. If both are the same, the labels that lie there stand in the first row.
     pub fn y_bounds(mut self, bounds: [i64; 2]) -> Canvas<'a>
         ensures { let bottom = slice_index_or bounds 0 (pos 0) in
             let top = slice_index_or bounds 1 (pos 0) in

@@ -5,8 +5,9 @@ ghost use Rattle.ratatui_core.specs.Layout.{IsInside};
 ghost use Rattle.ratatui_core.specs.Widgets.{ChangesWithin};
 ghost use Rattle.widget_boxes.specs.Boxes.{IsBoxArea};
 ghost use Rattle.widget_boxes.specs.Titles.{title_width};
-ghost use Rattle.rtui_dots.specs.Grids.{has_point};
-ghost use Rattle.widget_canvas.specs.Canvases.{label_from, label_area, RendersLabel};
+ghost use Rattle.rtui_dots.specs.Grids.{lies_between, lies_within};
+ghost use Rattle.widget_canvas.specs.Canvases.{label_column, label_row, label_from, label_area};
+ghost use Rattle.widget_canvas.specs.Canvases.{RendersLabel};
 
 use ratatui_core::buffer::Buffer;
 use ratatui_core::layout::Rect;
@@ -61,20 +62,62 @@ impl<'a> Label<'a> {
         }
     }
 
+    // Whether the label lies within the bounds or on them.
+    fn lies_within(&self, scale: &Scale) -> bool
+        ensures { result ≡ lies_within scale.now self.now.x self.now.y }
+    {
+        let (left, right) = (scale.left, scale.right);
+        lies_between(left, right, self.x) && lies_between(scale.bottom, scale.top, self.y)
+    }
+
+    // The column among the cells of a label within the bounds.
+    fn column(&self, scale: &Scale) -> u16
+        requires { IsTrue (lies_between scale.now.left scale.now.right self.now.x) }
+        ensures value { result ≡ label_column scale.now self.now.x }
+        ensures within { result ≤ scale.now.columns - 1 }
+    {
+        if scale.left >= scale.right {
+            return 0;
+        }
+        let across = Scale {
+            bottom: 0,
+            top: 1,
+            ..*scale
+        };
+        across.cell_of(self.x, 0).0
+    }
+
+    // The row among the cells of a label within the bounds.
+    fn row(&self, scale: &Scale) -> u16
+        requires { IsTrue (lies_between scale.now.bottom scale.now.top self.now.y) }
+        ensures value { result ≡ label_row scale.now self.now.y }
+        ensures within { result ≤ scale.now.rows - 1 }
+    {
+        if scale.bottom >= scale.top {
+            return 0;
+        }
+        let down = Scale {
+            left: 0,
+            right: 1,
+            ..*scale
+        };
+        down.cell_of(0, self.y).1
+    }
+
     // Where the label stands, if it lies within the bounds.
     fn area(&self, scale: &Scale, inner: Rect) -> Rect
         requires some { IsBoxArea inner }
         requires columns { scale.now.columns ≡ inner.width }
         requires rows { scale.now.rows ≡ inner.height }
-        requires within { IsTrue (has_point scale.now self.now.x self.now.y) }
+        requires within { IsTrue (lies_within scale.now self.now.x self.now.y) }
         ensures value { result ≡ label_area scale.now inner self.now }
         ensures inside { IsInside result inner }
     {
-        let cell = scale.cell_of(self.x, self.y);
+        let cell = (self.column(scale), self.row(scale));
         self.area_from(inner, cell)
     }
 
-    // Renders the label, if it lies within the bounds.
+    // Renders the label, if it lies within the bounds or on them.
     pub(crate) fn render(
         &self,
         scale: &Scale,
@@ -87,12 +130,19 @@ impl<'a> Label<'a> {
         ensures within { ChangesWithin inner buf.old buf.new }
         ensures ok { OnOk result (RendersLabel scale.now inner self.now buf.old buf.new) }
     {
-        if !scale.has_point(self.x, self.y) {
+        if !self.lies_within(scale) {
             return Ok(());
         }
         let line = &self.line;
         line.render(self.area(scale, inner), buf)
     }
+}
+
+// Whether a number lies between two others, or is one of them.
+fn lies_between(low: i64, high: i64, n: i64) -> bool
+    ensures { result ≡ lies_between low high n }
+{
+    low <= n && n <= high
 }
 
 // How many columns a line takes, at most 65535.

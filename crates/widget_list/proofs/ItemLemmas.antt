@@ -1,20 +1,24 @@
 -- The items of a list, drawn one after the other.
-use Rattle.std.proofs.Common.{◌≡◌, ℕ, zero, suc, ◌+◌, ◌-◌, ◌<◌, ◌≤◌, Bool, List, [], ◌∷◌, length, take, drop, All, nat_lt, nat_eq}
-use Rattle.std.proofs.Common.{min, refl, ap, arith, is_some, Option, Some, None, MatchOption, IsSomeAnd, IfSome, true, false}
+use Rattle.std.proofs.Common.{◌≡◌, ℕ, zero, suc, ◌+◌, ◌-◌, ◌<◌, ◌≤◌, Bool, List, [], ◌∷◌, length, take, drop, nat_lt, nat_eq}
+use Rattle.std.proofs.Common.{min, refl, ap, arith, Option, Some, None, MatchOption, IsSomeAnd, IfSome, true, false}
+use Rattle.std.proofs.Common.{Result, Ok, Err, OnOk}
+use Rattle.std.specs.declared.alloc.AllocError.{AllocError}
 use Rattle.std.specs.Option.{option_eq}
 use Rattle.std.proofs.Math.ListN.{get_or}
-use Rattle.std.proofs.lemmas.List.Elements.{All-head, All-tail, All-take, All-drop}
-use Rattle.ratatui_core.specs.{Layout.Rect, Text.LineData, Buffer.BufferData}
-use Rattle.ratatui_core.proofs.WidgetLemmas.{element-next}
-use Rattle.widget_boxes.specs.Lines.{IsShortTitle}
+use Rattle.ratatui_core.specs.{Layout.Rect, Style.Style, Text.LineData, Buffer.BufferData, Widgets.ChangesWithin}
+use Rattle.ratatui_core.proofs.WidgetLemmas.{element-next, within-then}
+use Rattle.ratatui_core.proofs.BufferLemmas.{within-same}
+use Rattle.widget_boxes.specs.{Lines.IsShortTitle, Titles.DoesIf, Highlights.IsHighlighted}
+use Rattle.widget_boxes.proofs.ApartLemmas.{lit-within}
 use Rattle.rtui_drawing.specs.Cuts.{cut_from}
 use Rattle.rtui_drawing.specs.declared.cut.Cut.TheVariants.{First, After}
-use Rattle.rtui_drawing.specs.Drawings.{Drawing, over, draw_if, put_style, IsShortDrawing}
+use Rattle.rtui_drawing.specs.Drawings.{Drawing, over, draw_if, DrawsAll, IsDone, IsShortDrawing}
+use Rattle.rtui_drawing.proofs.DrawingLemmas.{draws-within, done-within}
 use Rattle.widget_list.specs.{declared.list.List.List as ListData, declared.list.ListDirection.ListDirection}
 use Rattle.widget_list.specs.declared.list.ListDirection.TheVariants.{TopToBottom, BottomToTop}
 use Rattle.widget_list.specs.{declared.item.ListItem.ListItem, Windows.item_rows, Windows.rows_before, Windows.Fit}
-use Rattle.widget_list.specs.Items.{item_cut, symbol_or_blanks, marks_drawing, is_marked, item_drawing, items_drawing, list_drawing}
-use Rattle.widget_list.specs.Items.{is_selected_at, columns_kept_free, at_most, IsShortItem, HasShortItems}
+use Rattle.widget_list.specs.Items.{item_cut, symbol_or_blanks, marks_drawing, is_marked, marks_over, item_drawing}
+use Rattle.widget_list.specs.Items.{ShowsItem, is_selected_at, at_most, IsShortItem}
 use Rattle.widget_list.proofs.WindowLemmas.{rows-next, rows-grow}
 
 -- one row more
@@ -58,6 +62,10 @@ if-short : (own : Rect) (b : Bool) (d : Drawing) (r : Rect) → IsShortDrawing o
 if-short own true d r short = short
 if-short own false d r short = tt
 
+pub text-short : (s : BufferData) (l : ListData) (n : ℕ) (i : ListItem) (r : Rect) → IsShortItem i
+    → IsShortDrawing s.area (item_drawing l n i) r
+text-short s l n i r text = (tt, λ k le. text (cut_from (After n) r) s k (omega arith))
+
 module _ (s : BufferData) (l : ListData) (short : IfSome l.highlight_symbol IsShortTitle) where
   mark-short : (symbol : Option LineData) (t : Bool) (r : Rect) → IfSome symbol IsShortTitle
       → IsShortDrawing s.area (symbol_or_blanks symbol t) r
@@ -70,33 +78,33 @@ module _ (s : BufferData) (l : ListData) (short : IfSome l.highlight_symbol IsSh
   marks-short is_selected j (suc more) r =
       (mark-short l.highlight_symbol (is_marked l is_selected j) _ short, marks-short is_selected (j + 1) more r)
 
-  item-short : (is_selected : Bool) (n : ℕ) (i : ListItem) (r : Rect) → IsShortItem i
-      → IsShortDrawing s.area (item_drawing l is_selected n i) r
-  item-short is_selected n i r text = (
-    tt,
-    (
-      (λ k le. text (cut_from (After n) r) s k (omega arith)),
-      (
-        if-short s.area is_selected (put_style l.highlight_style) r tt,
-        if-short s.area (nat_lt 0 n) (over (First n) (marks_drawing l is_selected 0 (item_rows i))) r
-            (marks-short is_selected 0 (item_rows i) _),
-      ),
-    ),
-  )
+  pub over-short : (is_selected : Bool) (n rows : ℕ) (r : Rect) → IsShortDrawing s.area (marks_over l is_selected n rows) r
+  over-short is_selected n rows r =
+      if-short s.area (nat_lt 0 n) (over (First n) (marks_drawing l is_selected 0 rows)) r (marks-short is_selected 0 rows _)
 
-  items-short : (selected : Option ℕ) (r : Rect) (k used : ℕ) (items : List ListItem) → All IsShortItem items
-      → IsShortDrawing s.area (items_drawing l selected r k used items) r
-  items-short selected r k used [] all = tt
-  items-short selected r k used (i ∷ items) all = (
-    item-short (is_selected_at selected k) (columns_kept_free l (is_some selected) r) i _ (All-head IsShortItem i items all),
-    items-short selected r (k + 1) (used + item_rows i) items (All-tail IsShortItem i items all),
-  )
+-- an item: its text, the highlight, and the symbol
+pub highlight-within : (t : Bool) (style : Style) (r : Rect) (old new : BufferData) → DoesIf t (IsHighlighted r style) old new
+    → ChangesWithin r old new
+highlight-within true style r old new is = lit-within style r old new is
+highlight-within false style r old new same = rw same (within-same r old)
 
-pub list-short : (s : BufferData) (l : ListData) (selected : Option ℕ) (offset count : ℕ) (r : Rect) → HasShortItems l
-    → IsShortDrawing s.area (list_drawing l selected offset count r) r
-list-short s l selected offset count r short =
-    items-short s l short.symbol selected r offset 0 (take count (drop offset l.items.items))
-    (All-take IsShortItem count (drop offset l.items.items) (All-drop IsShortItem offset l.items.items short.items))
+module _ {A : Type 0} (result : Result A AllocError) (l : ListData) (is_selected : Bool) (n : ℕ) (i : ListItem) (r : Rect)
+    (old texted lit new : BufferData) (text : DrawsAll (item_drawing l n i) r old texted)
+    (highlight : DoesIf is_selected (IsHighlighted r l.highlight_style) texted lit)
+    (marks : IsDone (marks_over l is_selected n (item_rows i)) r result lit new) where
+  pub item-within : ChangesWithin r old new
+  item-within =
+      within-then r old texted new (draws-within (item_drawing l n i) r old texted text)
+      (within-then r texted lit new (highlight-within is_selected l.highlight_style r texted lit highlight)
+      (done-within result marks))
+
+  pub item-shown : OnOk result (ShowsItem l is_selected n i r old new)
+  item-shown = shown result marks.ok
+    where
+      shown : (answer : Result A AllocError) → OnOk answer (DrawsAll (marks_over l is_selected n (item_rows i)) r lit new)
+          → OnOk answer (ShowsItem l is_selected n i r old new)
+      shown (Ok x) ok = record { texted = texted; lit = lit; text = text; highlight = highlight; marks = ok }
+      shown (Err e) ok = tt
 
 -- the selected number is asked for by equality
 pub selected-by : (selected : Option ℕ) (k : ℕ) → option_eq nat_eq selected (Some k) ≡ is_selected_at selected k

@@ -4,3 +4,4 @@ pub mod NarrowListLemmas
 pub mod ShownLemmas
 pub mod SettledLemmas
 pub mod SettledFrameLemmas
+pub mod ApartListLemmas

@@ -363,6 +363,6 @@ list-leads l = record {
     state = next-again l r.height s t shows.state;
     count = shows.count;
     is_count = shows.is_count;
-    drawn = shows.drawn;
+    shown = shows.shown;
   };
 }

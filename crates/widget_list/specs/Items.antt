@@ -7,6 +7,9 @@ use Rattle.ratatui_core.specs.Text.{LineData, raw_text, line_width, TakesOneColu
 use Rattle.ratatui_core.specs.Text.{EachTextGrapheme}
 use Rattle.ratatui_core.specs.{Buffer.BufferData, Buffer.Cell, Buffer.with_symbol, Widgets.RendersShortText}
 use Rattle.widget_boxes.specs.{Framed.RendersStateInFrame, Framed.IsShortFrame, Lines.IsShortTitle}
+use Rattle.widget_boxes.specs.{Titles.InTurn, Titles.DoesIf, Highlights.IsHighlighted}
+use Rattle.widget_boxes.specs.Apart.{IsShowable, IsShowableText}
+use Rattle.rtui_drawing.specs.Cuts.{cut_from}
 use Rattle.rtui_drawing.specs.declared.cut.Cut.{Cut}
 use Rattle.rtui_drawing.specs.declared.cut.Cut.TheVariants.{First, After, Rows}
 use Rattle.rtui_drawing.specs.Drawings.{Drawing, nothing, over, ◌before◌, draw_if, put_style, put_line, put_text}
@@ -79,18 +82,23 @@ marks_drawing l is_selected j (suc more) =
     over (Rows j 1) (symbol_or_blanks l.highlight_symbol (is_marked l is_selected j))
     before marks_drawing l is_selected (j + 1) more
 
--- over an item of so many rows: the highlight if it is selected, and the symbol in its columns
-abbrev pub highlight_and_symbol : ListData → Bool → ℕ → ℕ → Drawing
-highlight_and_symbol l is_selected n rows =
-    draw_if is_selected (put_style l.highlight_style)
-    before draw_if (nat_lt 0 n) (over (First n) (marks_drawing l is_selected 0 rows))
+-- the symbol or blanks over an item of so many rows, if columns stay free for it
+abbrev pub marks_over : ListData → Bool → ℕ → ℕ → Drawing
+marks_over l is_selected n rows =
+    draw_if (nat_lt 0 n) (over (First n) (marks_drawing l is_selected 0 rows))
 
--- an item beside so many columns of the symbol: its style over the list's, its text, and what stands over it
-abbrev pub item_drawing : ListData → Bool → ℕ → ListItem → Drawing
-item_drawing l is_selected n i =
-    put_style (patch l.style i.style)
-    before over (After n) (put_text i.content)
-    before highlight_and_symbol l is_selected n (item_rows i)
+-- an item beside so many columns of the symbol: its style over the list's, and its text
+abbrev pub item_drawing : ListData → ℕ → ListItem → Drawing
+item_drawing l n i = put_style (patch l.style i.style) before over (After n) (put_text i.content)
+
+-- an item over a part: its text, over it the highlight if it is selected, and the symbol in its columns
+pub record ShowsItem (l : ListData) (is_selected : Bool) (n : ℕ) (i : ListItem) (r : Rect)
+    (old new : BufferData) : Type 0 where
+  pub texted : BufferData
+  pub lit : BufferData
+  pub text : DrawsAll (item_drawing l n i) r old texted
+  pub highlight : DoesIf is_selected (IsHighlighted r l.highlight_style) texted lit
+  pub marks : DrawsAll (marks_over l is_selected n (item_rows i)) r lit new
 
 -- the number is the one that is selected
 abbrev pub is_selected_at : Option ℕ → ℕ → Bool
@@ -98,17 +106,12 @@ is_selected_at None k = false
 is_selected_at (Some selected) k = selected == k
 
 -- items one after the other, the first of them of this number, after others that take so many rows
-abbrev pub items_drawing : ListData → Option ℕ → Rect → ℕ → ℕ → List ListItem → Drawing
-items_drawing l selected r k used [] = nothing
-items_drawing l selected r k used (i ∷ items) =
-    over (item_cut l.direction r used (item_rows i))
-    (item_drawing l (is_selected_at selected k) (columns_kept_free l (is_some selected) r) i)
-    before items_drawing l selected r (k + 1) (used + item_rows i) items
-
--- so many items from one on
-abbrev pub list_drawing : ListData → Option ℕ → ℕ → ℕ → Rect → Drawing
-list_drawing l selected offset count r =
-    items_drawing l selected r offset 0 (take count (drop offset l.items.items))
+abbrev pub ShowsItems : ListData → Option ℕ → Rect → ℕ → ℕ → List ListItem → BufferData → BufferData → Type 0
+ShowsItems l selected r k used [] old new = new ≡ old
+ShowsItems l selected r k used (i ∷ items) old new = InTurn
+    (ShowsItem l (is_selected_at selected k) (columns_kept_free l (is_some selected) r) i
+    (cut_from (item_cut l.direction r used (item_rows i)) r))
+    (ShowsItems l selected r (k + 1) (used + item_rows i) items) old new
 
 -- a number, but at most another one
 abbrev pub at_most : ℕ → Option ℕ → Option ℕ
@@ -134,6 +137,11 @@ pub record HasNarrowItems (l : ListData) : Type 0 where
   pub symbol : IfSome l.highlight_symbol (EachLineGrapheme TakesOneColumn)
   pub items : All (λ item. EachTextGrapheme TakesOneColumn item.content) l.items.items
 
+-- a screen can show all that a list shows inside its box
+pub record HasShowableItems (l : ListData) : Type 0 where
+  pub symbol : IfSome l.highlight_symbol IsShowable
+  pub items : All (λ item. IsShowableText item.content) l.items.items
+
 -- The state after a list was shown in so many rows: the selection is at most the last item, and the first item
 -- is such that the selected one is in view. Without items nothing is selected.
 pub record IsNextListState (l : ListData) (height : ℕ) (s t : ListState) : Type 0 where
@@ -147,7 +155,7 @@ pub record ShowsList (l : ListData) (s t : ListState) (r : Rect) (old new : Buff
   pub state : IsNextListState l r.height s t
   pub count : ℕ
   pub is_count : IsCount l.items.items r.height t.offset count
-  pub drawn : DrawsAll (list_drawing l t.selected t.offset count r) r old new
+  pub shown : ShowsItems l t.selected r t.offset 0 (take count (drop t.offset l.items.items)) old new
 
 -- a list in its style and its box, over the part of an area that a buffer has
 abbrev pub RendersList : ListData → ListState → ListState → Rect → BufferData → BufferData → Type 0

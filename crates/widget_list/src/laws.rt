@@ -3,6 +3,7 @@
 ghost use Rattle.std.specs.Prelude.{◌≡◌, ℕ, ◌+◌, ◌<◌, ◌≤◌, Some, IfSome};
 ghost use Rattle.ratatui_core.specs.Layout.{Rect, intersected};
 ghost use Rattle.ratatui_core.specs.Buffer.{BufferData, IsPlainFrom};
+ghost use Rattle.widget_boxes.specs.Apart.{StandsApart, IsReadyIn};
 ghost use Rattle.widget_boxes.specs.Boxes.{IsNarrowBox};
 ghost use Rattle.widget_list.specs.declared.list.List.{List as ListData};
 ghost use Rattle.widget_list.specs.declared.state.ListState.{ListState};
@@ -10,19 +11,27 @@ ghost use Rattle.widget_list.specs.declared.list.HighlightSpacing.{HighlightSpac
 ghost use Rattle.widget_list.specs.declared.list.HighlightSpacing.TheVariants.{WhenSelected};
 ghost use Rattle.widget_list.specs.declared.list.ListDirection.{ListDirection};
 ghost use Rattle.widget_list.specs.declared.list.ListDirection.TheVariants.{TopToBottom};
-ghost use Rattle.widget_list.specs.Items.{HasNarrowItems, RendersList, ShowsList};
+ghost use Rattle.widget_list.specs.Items.{HasNarrowItems, HasShowableItems, RendersList, ShowsList};
 ghost use Rattle.widget_list.specs.Settled.{SettlesList, settled_list};
 ghost use Rattle.widget_list.specs.Windows.{Fit};
 
 use crate::list::{HighlightSpacing, ListDirection};
 
 /// A list whose texts and whose symbol take one column for each grapheme leaves a buffer of plain
-/// cells one of plain cells, if it has no box or a narrow one; so a screen can show it. Under a
-/// highlight a wide grapheme's second column is no blank any more.
+/// cells one of plain cells, if it has no box or a narrow one; so a screen can show it.
 pub fn lists_keep_cells_plain()
     ensures { (l : ListData) (s t : ListState) (area : Rect) (old new : BufferData)
         → IfSome l.block IsNarrowBox → HasNarrowItems l → IsPlainFrom 0 old
         → RendersList l s t area old new → IsPlainFrom 0 new }
+{}
+
+/// A list over an area that is ready leaves the area apart, with wide graphemes, too, under a
+/// highlight, too, if a screen can show its texts and its symbol, and it has no box or a narrow one;
+/// so the buffer is settled.
+pub fn lists_leave_areas_apart()
+    ensures { (l : ListData) (s t : ListState) (area : Rect) (old new : BufferData)
+        → IfSome l.block IsNarrowBox → HasShowableItems l → IsReadyIn area old
+        → RendersList l s t area old new → StandsApart area new }
 {}
 
 /// The selected item is shown if its rows fit: it is one of those from the state's offset on.

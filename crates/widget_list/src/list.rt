@@ -1,14 +1,18 @@
 //! A list of items.
 
 ghost use Rattle.std.specs.Prelude.{◌≡◌, ◌==◌, ◌≤◌, ◌+◌, Some, OnOk, OnErr, IsOk, IfOk, length, true, map};
+ghost use Rattle.std.specs.Prelude.{take, drop, IfSome};
 ghost use Rattle.std.specs.Prelude.{List as Sequence};
 ghost use Rattle.std.specs.Iterator.{IsFinite, Drains};
 ghost use Rattle.ratatui_core.specs.Widgets.{ChangesWithin};
-ghost use Rattle.rtui_drawing.specs.Drawings.{draw_if, put_style, DrawsAll, IsDone};
+ghost use Rattle.widget_boxes.specs.Highlights.{IsHighlighted};
+ghost use Rattle.widget_boxes.specs.Lines.{IsShortTitle};
+ghost use Rattle.widget_boxes.specs.Titles.{DoesIf};
+ghost use Rattle.rtui_drawing.specs.Drawings.{IsDone};
 ghost use Rattle.widget_list.specs.Windows.{item_rows, Fit};
 ghost use Rattle.widget_list.specs.Items.{is_marked, has_mark_columns, columns_kept_free, item_cut, symbol_or_blanks};
-ghost use Rattle.widget_list.specs.Items.{marks_drawing, highlight_and_symbol, item_drawing, list_drawing, ShowsList};
-ghost use Rattle.widget_list.specs.Items.{IsNewList, HasShortItems, raw_item, IsNextListState};
+ghost use Rattle.widget_list.specs.Items.{marks_drawing, marks_over, item_drawing, ShowsItem, ShowsItems, ShowsList};
+ghost use Rattle.widget_list.specs.Items.{IsNewList, HasShortItems, IsShortItem, raw_item, IsNextListState};
 ghost use Rattle.widget_list.specs.Settled.{SettlesList, settled_list};
 ghost use Rattle.widget_list.specs.declared.item.ListItem.{ListItem as ItemData};
 
@@ -22,7 +26,7 @@ use ratatui_core::text::Line;
 use ratatui_core::widgets::StatefulWidget;
 use rtui_drawing::{Cut, put_change, put_line, put_style, put_text};
 use std::alloc::{AllocError, Global};
-use widget_boxes::{Block, cloned_block, cloned_line, inner_if, render_frame};
+use widget_boxes::{Block, cloned_block, cloned_line, highlight, inner_if, render_frame};
 
 /// From where the items stand one after the other.
 #[derive(Debug, Default, Clone, Copy, PartialEq, Eq, Hash)]
@@ -167,7 +171,8 @@ impl<'a> List<'a> {
         self
     }
 
-    /// Sets the style of the selected item.
+    /// Sets the style of the selected item. A wide character's second column isn't styled: it shows
+    /// that character, in its own style.
     pub fn highlight_style(mut self, style: Style) -> List<'a>
         ensures { result ≡ record self.entry { highlight_style = style } }
     {
@@ -346,28 +351,43 @@ impl<'a> List<'a> {
         Ok(())
     }
 
-    // Lays the highlight's style over the selected item.
+    // Draws an item's text, beside so many columns of the symbol.
+    #[tactic(auto, using(rtui_drawing::proofs::DrawingLemmas::drawing_steps))]
+    fn draw_text(
+        &self,
+        item: &ListItem<'a>,
+        mark: u16,
+        part: Rect,
+        buf: &mut Buffer,
+    ) -> Result<(), AllocError>
+        ensures { let d = item_drawing self.now mark item.now in
+            IsDone d part result buf.old buf.new }
+    {
+        put_style(self.style.patch(item.style), part, buf);
+        put_text(&item.content, Cut::After(mark).of(part), buf)
+    }
+
+    // Highlights the selected item.
     fn highlight_if(&self, is_selected: bool, part: Rect, buf: &mut Buffer)
-        ensures { let d = draw_if is_selected (put_style self.now.highlight_style) in
-            DrawsAll d part buf.old buf.new }
+        ensures { let f = IsHighlighted part self.now.highlight_style in
+            DoesIf is_selected f buf.old buf.new }
     {
         if is_selected {
-            put_style(self.highlight_style, part, buf);
+            highlight(self.highlight_style, part, buf);
         }
     }
 
-    // Draws what stands over the text of an item: the highlight if it is selected, and the symbol.
-    fn draw_highlight(
+    // Draws the symbol or blanks over an item, if columns stay free for it.
+    fn draw_marks_over(
         &self,
         is_selected: bool,
         mark: u16,
         part: Rect,
         buf: &mut Buffer,
     ) -> Result<(), AllocError>
-        ensures { let d = highlight_and_symbol self.now is_selected mark part.height in
+        ensures { let d = marks_over self.now is_selected mark part.height in
             IsDone d part result buf.old buf.new }
     {
-        self.highlight_if(is_selected, part, buf);
         if mark == 0 {
             return Ok(());
         }
@@ -375,7 +395,6 @@ impl<'a> List<'a> {
     }
 
     // Draws an item beside so many columns of the symbol.
-    #[tactic(auto, using(rtui_drawing::proofs::DrawingLemmas::drawing_steps))]
     fn draw_item(
         &self,
         item: &ListItem<'a>,
@@ -385,12 +404,15 @@ impl<'a> List<'a> {
         buf: &mut Buffer,
     ) -> Result<(), AllocError>
         requires { part.height ≡ item_rows item.now }
-        ensures { let d = item_drawing self.now is_selected mark item.now in
-            IsDone d part result buf.old buf.new }
+        ensures within { ChangesWithin part buf.old buf.new }
+        ensures ok { let f = ShowsItem self.now is_selected mark item.now part in
+            OnOk result (f buf.old buf.new) }
+        ensures short { IfSome self.now.highlight_symbol IsShortTitle → IsShortItem item.now
+            → IsOk result }
     {
-        put_style(self.style.patch(item.style), part, buf);
-        put_text(&item.content, Cut::After(mark).of(part), buf)?;
-        self.draw_highlight(is_selected, mark, part, buf)
+        self.draw_text(item, mark, part, buf)?;
+        self.highlight_if(is_selected, part, buf);
+        self.draw_marks_over(is_selected, mark, part, buf)
     }
 
     // Draws so many items from one on, which fit.
@@ -404,8 +426,11 @@ impl<'a> List<'a> {
     ) -> Result<(), AllocError>
         requires items { offset + count ≤ length self.now.items.items }
         requires fits { Fit self.now.items.items inner.height offset (offset + count) }
-        ensures { let d = list_drawing self.now selected offset count inner in
-            IsDone d inner result buf.old buf.new }
+        ensures within { ChangesWithin inner buf.old buf.new }
+        ensures ok { let items = take count (drop offset self.now.items.items) in
+            let f = ShowsItems self.now selected inner offset 0 items in
+            OnOk result (f buf.old buf.new) }
+        ensures short { HasShortItems self.now → IsOk result }
     {
         let mark = self.columns_kept_free(selected.is_some(), inner);
         let items = self.items.as_slice();

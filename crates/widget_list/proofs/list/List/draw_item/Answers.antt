@@ -1,13 +1,35 @@
-use Rattle.std.proofs.Common.{refl, subst}
-use Rattle.rtui_drawing.specs.{Cuts.cut_from, declared.cut.Cut.TheVariants.After, Drawings.IsDone}
-use Rattle.rtui_drawing.proofs.DrawingLemmas.{done-in, done-then, draws-then}
-use Rattle.widget_list.specs.Items.{highlight_and_symbol}
+use Rattle.std.proofs.Common.{◌≡◌, false, true, Err, subst}
+use Rattle.rtui_drawing.specs.Drawings.{IsDone}
+use Rattle.rtui_drawing.proofs.DrawingLemmas.{done-within, done-short}
+use Rattle.widget_list.specs.Items.{marks_over}
+use Rattle.widget_list.proofs.ItemLemmas.{item-within, item-shown, text-short, over-short}
 use Rattle.widget_list.proofs.list.List.draw_item.Goals as goal
 
-pub returns : goal.returns
-returns c =
-    let cut = After c.args.mark in
-    draws-then _ (rw c.patch.ensures at c.put_style.ensures)
-    (done-then _ (done-in cut (cut_from cut c.args.part) _ (rw c.of.ensures at c.in_ok-put_text.ensures) refl)
-    (subst (λ n. IsDone (highlight_and_symbol c.args.self.now c.args.is_selected c.args.mark n) c.args.part
-    c.draw_highlight.result c.put_text.new.buf c.draw_highlight.new.buf) c.requires c.draw_highlight.ensures))
+pub returns-in_err-draw_text-clause-within : goal.returns-in_err-draw_text-clause-within
+returns-in_err-draw_text-clause-within c = done-within _ c.in_err-draw_text.ensures
+
+pub returns-in_err-draw_text-clause-short : goal.returns-in_err-draw_text-clause-short
+returns-in_err-draw_text-clause-short c = λ symbol text.
+    let no : false ≡ true = done-short (Err c.in_err-draw_text.field-0.0)
+    (text-short c.args.buf.now c.args.self.now c.args.mark c.args.item.now c.args.part text) c.in_err-draw_text.ensures in
+    absurd (cc)
+
+pub returns-clause-within : goal.returns-clause-within
+returns-clause-within c =
+    let marks = subst (λ n. IsDone (marks_over c.args.self.now c.args.is_selected c.args.mark n) c.args.part
+    c.draw_marks_over.result c.highlight_if.new.buf c.draw_marks_over.new.buf) c.requires c.draw_marks_over.ensures in
+    item-within c.draw_marks_over.result c.args.self.now c.args.is_selected c.args.mark c.args.item.now c.args.part c.args.buf.now
+    c.draw_text.new.buf c.highlight_if.new.buf c.draw_marks_over.new.buf c.in_ok-draw_text.ensures.ok c.highlight_if.ensures marks
+
+pub returns-clause-ok : goal.returns-clause-ok
+returns-clause-ok c =
+    let marks = subst (λ n. IsDone (marks_over c.args.self.now c.args.is_selected c.args.mark n) c.args.part
+    c.draw_marks_over.result c.highlight_if.new.buf c.draw_marks_over.new.buf) c.requires c.draw_marks_over.ensures in
+    item-shown c.draw_marks_over.result c.args.self.now c.args.is_selected c.args.mark c.args.item.now c.args.part c.args.buf.now
+    c.draw_text.new.buf c.highlight_if.new.buf c.draw_marks_over.new.buf c.in_ok-draw_text.ensures.ok c.highlight_if.ensures marks
+
+pub returns-clause-short : goal.returns-clause-short
+returns-clause-short c = λ symbol text.
+    done-short c.draw_marks_over.result
+    (over-short c.highlight_if.new.buf c.args.self.now symbol c.args.is_selected c.args.mark c.args.part.height c.args.part)
+    c.draw_marks_over.ensures
