@@ -52,10 +52,6 @@ fn highlight_part(style: Style, part: Rect, buf: &mut Buffer)
 /// Lays a style over the cells of an area, as far as the buffer has them, but for the columns that
 /// a wide symbol of the area covers: they show that symbol, in its own style. A settled buffer
 /// stays settled, if no symbol left of the area reaches into it.
-///
-/// ```
-/// highlight(Style::new().reversed(), row, buf);
-/// ```
 pub fn highlight(style: Style, area: Rect, buf: &mut Buffer)
     ensures { IsHighlighted area style buf.old buf.new }
 {
