@@ -197,8 +197,8 @@ module _ {W : Type 0} where
   fills-first p s t same (inr sized) = inr (sized ∙ sym same)
 
 module _ {W H : Type 0} (coming : H → Coming) (has_size : (before after : Now Pager (OnGlass W) H Outside)
-      (turn : AnyTurn Never Never) → IsTurn (paging_on coming) before turn after
-      → HasSizeTold (turn_size before.standing turn) before.glass.terminal after.glass.terminal) where
+    (turn : AnyTurn Never Never) → IsTurn (paging_on coming) before turn after
+    → HasSizeTold (turn_size before.standing turn) before.glass.terminal after.glass.terminal) where
   -- a turn
   fills-turn : (before : Now Pager (OnGlass W) H Outside) (turn : AnyTurn Never Never) (after : Now Pager (OnGlass W) H Outside)
       → Rests paging before.standing → (is : IsTurn (paging_on coming) before turn after)
