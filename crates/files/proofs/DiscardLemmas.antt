@@ -8,7 +8,7 @@ use Rattle.std.specs.declared.time.Duration.{Duration}
 use Rattle.files.specs.declared.list.Outcome.{Outcome}
 use Rattle.files.specs.Answers.{told_of}
 use Rattle.ratatui_files.specs.declared.command.Command.{Command}
-use Rattle.ratatui_files.specs.declared.command.Command.TheVariants.{MakeFolder, List as ListFolder, Now}
+use Rattle.ratatui_files.specs.declared.command.Command.TheVariants.{List as ListFolder, Now}
 use Rattle.files.specs.declared.browser.Browser.{Browser}
 use Rattle.files.specs.declared.browser.Mode.{Mode}
 use Rattle.files.specs.declared.browser.Mode.TheVariants.{Looking, Listing, Entering, Leaving, Trashing, Removing}

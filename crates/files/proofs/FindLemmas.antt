@@ -1,16 +1,15 @@
 -- Rows whose names have a text: where a text stands in a name, and which row has it.
-use Rattle.std.proofs.Common.{◌≡◌, ◌⊎◌, inl, inr, ℕ, zero, suc, subst, ◌+◌, ◌-◌, ◌<◌, ◌≤◌, ⊎_elim, ◌==◌, if◌then◌else◌, Bool, true, false, Decides}
-use Rattle.std.proofs.Common.{List, [], ◌∷◌, ◌++◌, map, drop, length, Option, Some, None, refl, sym, ap}
+use Rattle.std.proofs.Common.{◌≡◌, inl, inr, ℕ, zero, suc, subst, ◌+◌, ◌<◌, ◌≤◌, ⊎_elim, ◌==◌, if◌then◌else◌, Bool, true, false, Decides}
+use Rattle.std.proofs.Common.{List, [], ◌∷◌, ◌++◌, drop, length, Option, Some, None, refl, sym, ap}
 use Rattle.std.proofs.Common.{◌∙◌, arith, add-one}
 use Rattle.std.specs.Prelude.{slice_get}
 use Rattle.std.specs.Str.Iter.{HasSubslice}
 use Rattle.std.specs.List.{position_from, starts_with}
 use Rattle.std.specs.Option.{option_map_or, option_or}
-use Rattle.std.specs.{Char.to_ascii_lowercase, Str.str_eq_ignore_ascii_case}
 use Rattle.std.proofs.lemmas.Bool.{cases_Bool, cases_lt, or_right}
 use Rattle.std.proofs.lemmas.{Bool.Decides.Decides-eqb}
 use Rattle.std.proofs.lemmas.Option.{slice_get_within}
-use Rattle.std.proofs.lemmas.{Slice.Eq.starts_is, Slice.Eq.bytes_eq-Decides, List.drop_more, List.drop_all}
+use Rattle.std.proofs.lemmas.{Slice.Eq.starts_is, List.drop_more, List.drop_all}
 use Rattle.files.specs.declared.list.Row.{Row}
 use Rattle.files.specs.Finding.{has_upper, starts_as, stands_in, row_has, has_at, first_named, last_named, next_named, previous_named}
 use Rattle.files.specs.Finding.{NoneBetween, IsNextNamed, IsPreviousNamed}
@@ -74,9 +73,6 @@ stands-later text name k lt is =
     ap (stands_in text) more ∙ later-is text _ (drop (k + 1) name) (ap (starts_as text) (sym more) ∙ is)
 
 -- ---- where the case of letters doesn't count
-
-pub same-letters : (a b : List ℕ) → Decides (str_eq_ignore_ascii_case a b) (map to_ascii_lowercase a ≡ map to_ascii_lowercase b)
-same-letters a b = bytes_eq-Decides (map to_ascii_lowercase a) (map to_ascii_lowercase b)
 
 if-false : (b : Bool) → (if b then false else false) ≡ false
 if-false true = refl

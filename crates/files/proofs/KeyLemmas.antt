@@ -1,5 +1,5 @@
 -- What names are compared by, byte by byte.
-use Rattle.std.proofs.Common.{◌≡◌, ℕ, ◌+◌, ◌-◌, ◌++◌, ◌≤◌, List, [], ◌∷◌, Bool, true, false, Option, Some, None, refl, ap, sym, ◌∙◌, append_assoc, append-nil}
+use Rattle.std.proofs.Common.{◌≡◌, ℕ, ◌+◌, ◌-◌, ◌++◌, List, [], ◌∷◌, true, false, Option, Some, None, refl, ap, sym, ◌∙◌, append_assoc, append-nil}
 use Rattle.std.specs.Str.{byte}
 use Rattle.files.specs.NameKeys.{is_digit_byte, digit_added, sort_key_in}
 
@@ -31,6 +31,3 @@ key-pushed key one two n b rest is first second =
     ap (λ k. k ++ sort_key_in None rest) (second ∙ ap (λ k. k ++ (b + 1) ∷ []) first ∙ append_assoc key (sort_key_in n []) ((b + 1) ∷ []))
     ∙ append_assoc key (sort_key_in n [] ++ (b + 1) ∷ []) (sort_key_in None rest)
     ∙ ap (λ k. key ++ k) (sym (key-other n b rest is))
-
-pub key-start : (name : List ℕ) → [] ++ sort_key_in None name ≡ sort_key_in None name
-key-start name = refl

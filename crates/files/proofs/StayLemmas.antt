@@ -1,5 +1,5 @@
 -- The selection stays on its entry.
-use Rattle.std.proofs.Common.{◌≡◌, ◌⊎◌, inl, inr, ◌<◌, ◌≤◌, ◌-◌, ℕ, Bool, true, false, if◌then◌else◌, List, [], length, Option, Some, None, min, refl, sym, ap, ◌∙◌, subst, arith}
+use Rattle.std.proofs.Common.{◌≡◌, inl, inr, ◌<◌, ◌-◌, ℕ, Bool, true, false, if◌then◌else◌, List, [], length, Option, Some, None, min, refl, ap, ◌∙◌, arith}
 use Rattle.std.specs.Prelude.{slice_get, string_bytes}
 use Rattle.std.specs.Option.{option_map_or}
 use Rattle.std.proofs.lemmas.Option.{slice_get_within}
@@ -14,7 +14,7 @@ use Rattle.files.specs.declared.list.Listing.{Listing as ListingData}
 use Rattle.files.specs.declared.list.Outcome.TheVariants as outcome
 use Rattle.files.specs.declared.order.Order.{Order}
 use Rattle.files.specs.declared.hands.Wanted.{Wanted}
-use Rattle.files.specs.Texts.{selected_text, sought_text}
+use Rattle.files.specs.Texts.{selected_text}
 use Rattle.files.specs.Keys.{is_input, event_order}
 use Rattle.files.specs.Moves.{browsed, browser_at_told_size, browsed_after, order_taken}
 use Rattle.files.specs.Sorting.{HasName, IsPlaceOf}

@@ -1,4 +1,4 @@
-use Rattle.std.proofs.Common.{◌≡◌, ◌++◌, ◌<◌, ◌≤◌, drop, length, ap, sym, ◌∙◌, arith, [], subst, get_or, ◌+◌}
+use Rattle.std.proofs.Common.{◌≡◌, ◌++◌, drop, ap, sym, ◌∙◌, arith, [], ◌+◌}
 use Rattle.std.proofs.lemmas.List.{at_drop_more, drop_all}
 use Rattle.files.specs.NameKeys.{sort_key_in, name_sort_key}
 use Rattle.files.proofs.name_keys.name_sort_key.Goals as goal

@@ -1,4 +1,3 @@
-use Rattle.std.proofs.Common.{rules, refl}
 use Rattle.files.proofs.KeyLemmas.{key-none, key-number}
 use Rattle.files.proofs.name_keys.push_number.Goals as goal
 

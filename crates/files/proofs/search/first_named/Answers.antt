@@ -1,4 +1,4 @@
-use Rattle.std.proofs.Common.{◌≡◌, sym, ◌∙◌, arith}
+use Rattle.std.proofs.Common.{sym, ◌∙◌, arith}
 use Rattle.files.proofs.FindLemmas.{first-here, first-later, first-none}
 use Rattle.files.proofs.search.first_named.Goals as goal
 

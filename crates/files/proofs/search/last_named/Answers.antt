@@ -1,4 +1,4 @@
-use Rattle.std.proofs.Common.{◌≡◌, ◌-◌, sym, ◌∙◌, arith}
+use Rattle.std.proofs.Common.{sym, ◌∙◌, arith}
 use Rattle.files.proofs.FindLemmas.{last-here, last-earlier, last-none}
 use Rattle.files.proofs.search.last_named.Goals as goal
 
