@@ -17,31 +17,77 @@ use std::env;
 use std::io::{self, BufWriter, Read, Write};
 use std::process::ExitCode;
 
-static HELP: &str =
-    "keys: prints each event of a terminal as it comes, with its bytes. Ctrl+D ends it.
-keys WORD.. asks the terminal for more first: mouse, focus, paste, or all for what a keyboard can
-tell of itself. tools/raw keys puts the terminal into raw mode.
-";
+/// A word of the command line: what it asks a terminal to tell, and what takes that back.
+struct Asked {
+    word: &'static str,
+    about: &'static str,
+    on: &'static str,
+    off: &'static str,
+}
+
+/// The words.
+static WORDS: [Asked; 4] = [
+    Asked {
+        word: "mouse",
+        about: "buttons, the wheel, and where the pointer goes",
+        on: "\x1b[?1003h\x1b[?1006h",
+        off: "\x1b[?1006l\x1b[?1003l",
+    },
+    Asked {
+        word: "focus",
+        about: "that the window is looked at, or no longer",
+        on: "\x1b[?1004h",
+        off: "\x1b[?1004l",
+    },
+    Asked {
+        word: "paste",
+        about: "what is pasted, as such",
+        on: "\x1b[?2004h",
+        off: "\x1b[?2004l",
+    },
+    Asked {
+        word: "all",
+        about: "all that a keyboard can tell of itself",
+        on: "\x1b[>15u",
+        off: "\x1b[<u",
+    },
+];
 
 /// How many reads that find nothing, one after the other, end the program: an hour of them.
 const PATIENCE: u32 = 36_000;
 
-// What asks a terminal for more, and what takes that back.
-fn asked(word: &str) -> Option<(&'static str, &'static str)> {
-    match word {
-        "mouse" => Some(("\x1b[?1003h\x1b[?1006h", "\x1b[?1006l\x1b[?1003l")),
-        "focus" => Some(("\x1b[?1004h", "\x1b[?1004l")),
-        "paste" => Some(("\x1b[?2004h", "\x1b[?2004l")),
-        "all" => Some(("\x1b[>15u", "\x1b[<u")),
-        _ => None,
+// What a word asks for, if it is one of them.
+fn named(word: &str) -> Option<&'static Asked> {
+    WORDS.iter().find(|asked| asked.word == word)
+}
+
+// Prints what the program is, and its words.
+fn print_help(rt: &HostRuntime) -> io::Result<()> {
+    print!(rt;
+        "keys: prints each event of a terminal as it comes, with its bytes. Ctrl+D ends it.\n"
+    )?;
+    print!(rt; "keys WORD.. asks the terminal to tell more first:\n")?;
+    for Asked { word, about, .. } in WORDS.iter() {
+        print!(rt; "    {word}  {about}\n")?;
     }
+    print!(rt; "tools/raw keys puts the terminal into raw mode.\n")
+}
+
+// Tells that a word is none of them.
+fn refuse(rt: &HostRuntime, word: &str) -> io::Result<()> {
+    eprint!(rt; "keys: {word} is none of its words:")?;
+    for asked in WORDS.iter() {
+        eprint!(rt; " {}", asked.word)?;
+    }
+    eprintln!(rt; "; --help")
 }
 
 // Writes what asks for each word, or what takes it back.
 fn ask<W: Write>(words: &[String], out: &mut W, is_on: bool) -> io::Result<()> {
     for word in words {
-        if let Some((on, off)) = asked(word.as_str()) {
-            out.write_all(if is_on { on.as_bytes() } else { off.as_bytes() })?;
+        if let Some(asked) = named(word.as_str()) {
+            let bytes = if is_on { asked.on } else { asked.off };
+            out.write_all(bytes.as_bytes())?;
         }
     }
     out.flush()
@@ -86,7 +132,7 @@ fn play(rt: &HostRuntime, words: &[String]) -> io::Result<()> {
 fn start(rt: &HostRuntime) -> io::Result<ExitCode> {
     let words: Vec<String> = env::args(rt)?.skip(1).collect(rt.alloc())?;
     if words.iter().any(|word| word.as_str() == "--help") {
-        print!(rt; "{HELP}")?;
+        print_help(rt)?;
         return Ok(ExitCode::SUCCESS);
     }
     if words.iter().any(|word| word.as_str() == "--version") {
@@ -94,8 +140,8 @@ fn start(rt: &HostRuntime) -> io::Result<ExitCode> {
         return Ok(ExitCode::SUCCESS);
     }
     for word in words.iter() {
-        if asked(word.as_str()).is_none() {
-            eprintln!(rt; "keys: {word} is none of its words: mouse, focus, paste, all; --help")?;
+        if named(word.as_str()).is_none() {
+            refuse(rt, word.as_str())?;
             return Ok(ExitCode::from(2));
         }
     }

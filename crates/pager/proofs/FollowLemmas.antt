@@ -197,39 +197,3 @@ leaves-now g k quit press at = by g.waiting at
     by (Some w) at = waits w
     by None (inl mode) = free mode
     by None (inr never) = absurd (false-true never)
-
--- ---- a piece that was taken and is forgotten again
-
-styles-kept : (count : ℕ) (styles more : List (List Run)) → take (length styles) (more_styles count styles more) ≡ styles
-styles-kept count styles [] = take_all (length styles) styles (omega arith)
-styles-kept count styles (r ∷ rs) = take-append_seam styles (replicate (count - length styles) [] ++ r ∷ rs)
-
-forgotten : (p : Pager) (piece : Piece) (b : Bool)
-    → (let q : Pager = (if b then at_line (length (piece_known piece p).document) (piece_known piece p) else piece_known piece p) in
-    record q {
-      document = take (length p.document) q.document;
-      styles = take (length p.styles) q.styles;
-      has_more = p.has_more;
-      top = p.top;
-      row = p.row;
-    }) ≡ p
-forgotten p piece true = rw (take-append_seam p.document (lines piece.text.now)) (rw (styles-kept (length p.document) p.styles piece.styles) refl)
-forgotten p piece false = rw (take-append_seam p.document (lines piece.text.now)) (rw (styles-kept (length p.document) p.styles piece.styles) refl)
-
-pub forgets : (p q : Pager) (piece : Piece) → q ≡ followed (piece_known piece p)
-    → record q {
-      document = take (length p.document) q.document;
-      styles = take (length p.styles) q.styles;
-      has_more = p.has_more;
-      top = p.top;
-      row = p.row;
-    } ≡ p
-forgets p q piece is =
-    ap (λ (q : Pager). record q {
-      document = take (length p.document) q.document;
-      styles = take (length p.styles) q.styles;
-      has_more = p.has_more;
-      top = p.top;
-      row = p.row;
-    }) is
-    ∙ forgotten p piece (is_following p.mode)

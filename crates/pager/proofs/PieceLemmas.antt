@@ -6,23 +6,6 @@ use Rattle.pager.specs.declared.piece.Piece.{Piece}
 use Rattle.pager.specs.Growing.{AreWholeLines, IsPieceOf, GivesPiece, GivesKnownPiece, to_come}
 use Rattle.std.proofs.lemmas.List.{drop_all, take-append-drop}
 
--- reads that gave nothing lose nothing
-pub keeps-after : (a b c : Option (List ℕ)) → Keeps a b → Keeps b c → Keeps a c
-keeps-after None b c first next = tt
-keeps-after (Some xs) None c first next = absurd first
-keeps-after (Some xs) (Some ys) None first next = absurd next
-keeps-after (Some xs) (Some ys) (Some zs) first next = next ∙ first
-
-pub consumes-after : (a b c : Option (List ℕ)) (bs : List ℕ) → Keeps a b → Consumes b c bs → Consumes a c bs
-consumes-after None b c bs first next = tt
-consumes-after (Some xs) None c bs first next = absurd first
-consumes-after (Some xs) (Some ys) None bs first next = absurd next
-consumes-after (Some xs) (Some ys) (Some zs) bs first next = sym first ∙ next
-
-pub keeps-same : (a : Option (List ℕ)) → Keeps a a
-keeps-same None = tt
-keeps-same (Some xs) = refl
-
 -- a piece of what is kept is one of what is to come
 pub gives-on : (rest rest' : List ℕ) (old left : Option (List ℕ)) (now : List ℕ) (piece : Piece)
     → Keeps (to_come rest old) (to_come now left) → (piece.is_last ≡ true → IsAtEnd left)
