@@ -1,9 +1,10 @@
 -- Moves of the cursor, its visibility, and the screen emptied.
 use Rattle.std.proofs.Common.{◌≡◌, ◌⊎◌, inl, inr, ℕ, ◌+◌, ◌-◌, ◌<◌, ◌≤◌, ◌&&◌, ◌||◌, min, nat_lt, nat_le, nat_eq, if◌then◌else◌, Bool}
-use Rattle.std.proofs.Common.{true, false, List, [], ◌++◌, map, refl, sym, ap, ap₂, subst, ◌∙◌, arith}
+use Rattle.std.proofs.Common.{true, false, List, [], ◌∷◌, ◌++◌, map, refl, sym, ap, ap₂, subst, ◌∙◌, arith}
 use Rattle.std.proofs.lemmas.Bool.Decides.{nat_tests}
 use Rattle.std.proofs.Math.Path.{fun_ext}
 use Rattle.std.specs.List.{range_with_len}
+use Rattle.std.proofs.lemmas.List.FromFn.{map-range_with_len_more}
 use Rattle.ratatui_core.specs.Backend.{Motion, scrolling_up, scrolling_down, clearing, Clears, with_cursor, with_visible, All, BeforeCursor}
 use Rattle.ratatui_core.specs.Backend.{is_cleared}
 use Rattle.ansi_model.specs.Columns.{Columns, look_in, is_met, blank_column, overwritten}
@@ -13,7 +14,7 @@ use Rattle.ansi_model.specs.Emulator.{cursor_moved, erased, columns_moved, witho
 use Rattle.ansi_model.specs.Emulator as terminal
 use Rattle.ansi_model.specs.Beginnings.{IsAsFound, anew, MakesBlank, SavesScreen, SavesHigher, SavesFirstRows, AreKnown}
 use Rattle.ansi_model.specs.Inner.{without_modes, scrolled_off_by}
-use Rattle.ansi_model.specs.Beginnings.{scrolled_off, screen_rows}
+use Rattle.ansi_model.specs.Beginnings.{scrolled_off, screen_rows, empty_row, saved_rows}
 use Rattle.ansi_model.specs.{Columns.Column.Shows, Sgr.inked, Modes.no_modes, Symbols.is_plain_char, Symbols.printed_columns}
 use Rattle.ansi_model.specs.{Sends.Sends, Sends.typed}
 use lib.Utf8.{encode}
@@ -22,7 +23,7 @@ use Rattle.ansi_model.proofs.{SymbolLemmas.plain-printed, SymbolLemmas.plain-sin
 use Rattle.ansi_model.specs.Screens.{screen_shown, IsIdle, IsBlankBeyond, Becomes}
 use Rattle.ansi_model.proofs.{MotionLemmas.moved-tidy, MotionLemmas.not_met, ScrollLemmas.KeepsReady, ScrollLemmas.stays-idle}
 use Rattle.ansi_model.proofs.{ScrollLemmas.moved-placed, ScrollLemmas.Feeds, ScrollLemmas.fed-feeds, ScrollLemmas.region_row}
-use Rattle.ansi_model.proofs.{ScrollLemmas.region-rows}
+use Rattle.ansi_model.proofs.{ScrollLemmas.region-rows, ScrollLemmas.region-past}
 
 pub cursor-moved : (w h x y : ℕ) → 0 < w → 0 < h
     → KeepsReady w h (cursor_moved x y) (λ s. Becomes (λ p q. q ≡ with_cursor x y p) s.columns s)
@@ -266,13 +267,14 @@ makes-blank w h old first second new wide high owns letters empties =
 
 -- ---- the screen scrolled into the history
 
--- where as many rows scroll as there are, nothing is left
-gone : (h : ℕ) (c : Columns) (a b : ℕ) → (h ≤ b → c a b ≡ blank_column) → columns_moved (scrolling_up 0 h h) c a b ≡ blank_column
-gone h c a b off =
+-- where as many rows scroll as there are, or more, nothing is left
+gone : (h n : ℕ) (c : Columns) (a b : ℕ) → h ≤ n → (h ≤ b → c a b ≡ blank_column)
+    → columns_moved (scrolling_up 0 h n) c a b ≡ blank_column
+gone h n c a b all off =
     let low : nat_le 0 b ≡ true = grind (arith, nat_tests) in
     elim (nat_lt b h) as (λ p. nat_lt b h ≡ p
-    → (if nat_le 0 b && p then (if nat_lt (b + h) h then c a (b + h) else blank_column) else c a b) ≡ blank_column) [
-      | true ↦ λ inside. let past : nat_lt (b + h) h ≡ false = grind (arith, nat_tests) in rw (low, past) refl
+    → (if nat_le 0 b && p then (if nat_lt (b + n) h then c a (b + n) else blank_column) else c a b) ≡ blank_column) [
+      | true ↦ λ inside. let past : nat_lt (b + n) h ≡ false = grind (arith, nat_tests) in rw (low, past) refl
       | false ↦ λ below. rw low (off (grind (arith, nat_tests)))
     ] refl
 
@@ -289,19 +291,27 @@ blank-moved m c blank a b =
     ]
 
 screen-saved : (w h : ℕ) (s : Emulator) → 0 < w → 0 < h → h ≤ 65535 → IsAsFound w h s → s.sure ≡ true → AreKnown s.columns
-    → scrolled_off_by h (own s) ≡ scrolled_off w h (s.history ++ screen_rows s) s
+    → scrolled_off_by h (own s) ≡ scrolled_off w h (s.history ++ saved_rows w s) s
 screen-saved w h s wide high most left sure known =
     let width : s.width ≡ w = left.width in
     let height : s.height ≡ h = left.height in
     let v : Emulator = returned (cursor_moved 0 65534 (own s)) in
-    let feeds : Feeds s.height h v (fed h v) = fed-feeds h v refl (λ some. omega arith) in
-    let columns : (a b : ℕ) → (fed h v).columns a b ≡ blank_column = λ a b.
-    feeds.columns a b ∙ ap (λ end. columns_moved (scrolling_up 0 end h) s.columns a b) height
-    ∙ gone h s.columns a b (λ below. left.off a b (inr below)) in
-    let rows : map (region_row s.height v) (range_with_len 0 h) ≡ screen_rows s
+    let feeds : Feeds s.height (h + 1) v (fed (h + 1) v) = fed-feeds (h + 1) v refl (λ some. omega arith) in
+    let columns : (a b : ℕ) → (fed (h + 1) v).columns a b ≡ blank_column = λ a b.
+    feeds.columns a b ∙ ap (λ end. columns_moved (scrolling_up 0 end (h + 1)) s.columns a b) height
+    ∙ gone h (h + 1) s.columns a b (omega arith) (λ below. left.off a b (inr below)) in
+    let first : map (region_row s.height v) (range_with_len 0 h) ≡ screen_rows s
     = ap (λ n. map (region_row s.height v) (range_with_len 0 n)) (sym height) ∙ region-rows s.height v 0 s.height (omega arith) in
+    let last : region_row s.height v h ≡ empty_row w
+    = region-past s.height v h (omega arith) ∙ ap empty_row width in
+    let rows : map (region_row s.height v) (range_with_len 0 (h + 1)) ≡ saved_rows w s
+    = map-range_with_len_more (region_row s.height v) 0 h h (omega arith) ∙ ap₂ (λ xs row. xs ++ row ∷ []) first last in
     let n = min (h + 1) 65535 in
-    let u : Emulator = record v { columns = (fed h v).columns; history = (fed h v).history; sure = (fed h v).sure } in
+    let u : Emulator = record v {
+      columns = (fed (h + 1) v).columns;
+      history = (fed (h + 1) v).history;
+      sure = (fed (h + 1) v).sure;
+    } in
     let z : Emulator = lines_inserted n (cursor_moved 0 0 u) in
     let side : min 0 (s.width - 1) ≡ 0 = omega arith in
     let top : min 0 (s.height - 1) ≡ 0 = omega arith in
@@ -310,9 +320,9 @@ screen-saved w h s wide high most left sure known =
     let first : nat_eq (min 0 (s.width - 1)) 0 ≡ true = grind (arith, nat_tests) in
     let still : z.sure ≡ true = rw (feeds.sure sure refl (omega arith) known, corner, inside, first) refl in
     let all : (a b : ℕ) → z.columns a b ≡ blank_column
-    = blank-moved (scrolling_down (min 0 (s.height - 1)) s.height n) (fed h v).columns columns in
+    = blank-moved (scrolling_down (min 0 (s.height - 1)) s.height n) (fed (h + 1) v).columns columns in
     ap (λ (x : Emulator). lines_inserted n (cursor_moved 0 0 x)) feeds.rest
-    ∙ same-fields z (scrolled_off w h (s.history ++ screen_rows s) s) width height left.phase left.text refl side top refl height
+    ∙ same-fields z (scrolled_off w h (s.history ++ saved_rows w s) s) width height left.phase left.text refl side top refl height
     (fun_ext (λ a. fun_ext (λ b. all a b))) (feeds.history ∙ ap (λ xs. s.history ++ xs) rows) refl refl still
 
 pub saves-screen : (w h : ℕ) (old new : List ℕ) → 0 < w → 0 < h → h ≤ 65535
@@ -333,34 +343,35 @@ higher-saved w h t wide more most =
     let high = t.height in
     let v : Emulator = returned (cursor_moved 0 65534 (own (anew t))) in
     let n = min (h + 1) 65535 in
-    let feeds : Feeds high h v (fed h v) = fed-feeds h v refl (λ some. omega arith) in
-    let c : Columns = (fed h v).columns in
+    let feeds : Feeds high (h + 1) v (fed (h + 1) v) = fed-feeds (h + 1) v refl (λ some. omega arith) in
+    let c : Columns = (fed (h + 1) v).columns in
     let z : Emulator = lines_inserted n (cursor_moved 0 0 (record v {
       columns = c;
-      history = (fed h v).history;
-      sure = (fed h v).sure;
+      history = (fed (h + 1) v).history;
+      sure = (fed (h + 1) v).sure;
     })) in
     let is : scrolled_off_by h (own (anew t)) ≡ z = ap (λ (x : Emulator). lines_inserted n (cursor_moved 0 0 x)) feeds.rest in
     let top : min 0 (high - 1) ≡ 0 = omega arith in
     subst (λ u. SavesFirstRows h t u) (sym is) (record {
-      history = feeds.history ∙ ap (λ xs. t.history ++ xs) (region-rows high v 0 h (omega arith));
+      history = feeds.history ∙ ap (λ xs. t.history ++ xs) (region-rows high v 0 (h + 1) (omega arith));
       blank = λ a b within.
           let low : nat_le 0 b ≡ true = grind (arith, nat_tests) in
           let inside : nat_lt b high ≡ true = grind (arith, nat_tests) in
           let none : nat_le (0 + n) b ≡ false = grind (arith, nat_tests) in
           ap (λ k. columns_moved (scrolling_down k high n) c a b) top ∙ rw (low, inside, none) refl;
       below = λ a b from end.
-          let low : nat_le 0 (b + 1) ≡ true = grind (arith, nat_tests) in
-          let inside : nat_lt (b + 1) high ≡ true = grind (arith, nat_tests) in
-          let some : nat_le (0 + n) (b + 1) ≡ true = grind (arith, nat_tests) in
-          let source : b + 1 - n ≡ b - h = omega arith in
-          let low_there : nat_le 0 (b - h) ≡ true = grind (arith, nat_tests) in
-          let inside_there : nat_lt (b - h) high ≡ true = grind (arith, nat_tests) in
-          let some_there : nat_lt (b - h + h) high ≡ true = grind (arith, nat_tests) in
-          let back : b - h + h ≡ b = omega arith in
-          let there : c a (b - h) ≡ t.columns a b = feeds.columns a (b - h)
+          let low : nat_le 0 b ≡ true = grind (arith, nat_tests) in
+          let inside : nat_lt b high ≡ true = grind (arith, nat_tests) in
+          let some : nat_le (0 + n) b ≡ true = grind (arith, nat_tests) in
+          let k = b - (h + 1) in
+          let source : b - n ≡ k = omega arith in
+          let low_there : nat_le 0 k ≡ true = grind (arith, nat_tests) in
+          let inside_there : nat_lt k high ≡ true = grind (arith, nat_tests) in
+          let some_there : nat_lt (k + (h + 1)) high ≡ true = grind (arith, nat_tests) in
+          let back : k + (h + 1) ≡ b = omega arith in
+          let there : c a k ≡ t.columns a b = feeds.columns a k
           ∙ rw (low_there, inside_there, some_there, back) refl in
-          ap (λ k. columns_moved (scrolling_down k high n) c a (b + 1)) top ∙ rw (low, inside, some, source) there;
+          ap (λ j. columns_moved (scrolling_down j high n) c a b) top ∙ rw (low, inside, some, source) there;
     })
 
 pub saves-higher : (w h : ℕ) (old new : List ℕ) → 0 < w → Performs old new (λ t. scrolled_off_by h (own t))

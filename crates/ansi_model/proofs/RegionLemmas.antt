@@ -2,6 +2,7 @@
 use Rattle.std.proofs.Common.{◌≡◌, ℕ, ◌+◌, ◌-◌, ◌<◌, ◌≤◌, ◌++◌, ◌==◌, ◌&&◌, min, nat_lt, nat_le, nat_eq, if◌then◌else◌, Bool}
 use Rattle.std.proofs.Common.{List, zero, suc, true, false, refl, sym, ap, ap₂, map, ◌∙◌, arith, append-nil, subst}
 use Rattle.std.proofs.lemmas.Bool.Decides.{nat_tests}
+use Rattle.std.proofs.Math.Path.{fun_ext}
 use Rattle.std.specs.List.{range_with_len}
 use Rattle.ratatui_core.specs.Buffer.{Look}
 use Rattle.ratatui_core.specs.Backend.{Screen, Motion, ScrollsRegion, ScrollsUp, ScrollsDown, scrolling_up, scrolling_down}
@@ -17,7 +18,7 @@ use Rattle.ansi_model.proofs.ReadLemmas.{Leads-so, Leads-none, Sends-then, line_
 use Rattle.ratatui_core.proofs.BackendLemmas.{moved-through}
 use Rattle.ansi_model.proofs.MotionLemmas.{IsOfRows, moved-tidy, row-emptied, up-still, down-still, up-and-down}
 use Rattle.ansi_model.proofs.ScrollLemmas.{all-known, KeepsReady, stays-idle, moved-placed, Feeds, feeds-none, feeds-next}
-use Rattle.ansi_model.proofs.ScrollLemmas.{fed-feeds, region_row}
+use Rattle.ansi_model.proofs.ScrollLemmas.{fed-feeds, fed-plus, region_row}
 
 -- one action after another
 pub Does-then : (a b c : List ℕ) (f g : Emulator → Emulator) → Performs a b f → Performs b c g
@@ -26,15 +27,22 @@ Does-then a b c f g first second stays =
     Leads-so (Sends-then a b c (λ t. f (rested t)) (λ t. g (rested t)) first second
     (λ t. ap (λ (u : Emulator). u.phase) (sym (stays t)))) (λ t ground. ground) (λ t u ground e. e ∙ ap g (stays t))
 
+-- so many line feeds in a row, and one more
+pub feeds-one-more : (a b c : List ℕ) (h : ℕ) → Performs a b (λ t. fed h (returned t)) → Performs b c line_fed
+    → Performs a c (λ t. fed (h + 1) (returned t))
+feeds-one-more a b c h feeds one =
+    subst (λ f. Performs a c f) (fun_ext (λ t. sym (fed-plus h 1 (h + 1) (returned t) refl)))
+    (Does-then a b c (λ t. fed h (returned t)) line_fed feeds one (λ t. sym (fed-rested h (returned (rested t)))))
+
 -- rows scrolled off, and blank ones that come in
 pub scrolls-off : (a b c d e : List ℕ) (h n : ℕ) → n ≡ min (h + 1) 65535 → Performs a b (cursor_moved 0 65534)
-    → Performs b c (λ t. fed h (returned t)) → Performs c d (cursor_moved 0 0) → Performs d e (lines_inserted n)
+    → Performs b c (λ t. fed (h + 1) (returned t)) → Performs c d (cursor_moved 0 0) → Performs d e (lines_inserted n)
     → Performs a e (scrolled_off_by h)
 scrolls-off a b c d e h n is down feeds up inserts =
-    let left : Emulator → Emulator = λ t. fed h (returned (cursor_moved 0 65534 t)) in
+    let left : Emulator → Emulator = λ t. fed (h + 1) (returned (cursor_moved 0 65534 t)) in
     let rests : (t : Emulator) → left (rested t) ≡ rested (left (rested t)) =
-    λ t. fed-rested h (returned (cursor_moved 0 65534 (rested t))) in
-    let one : Performs a c left = Does-then a b c (cursor_moved 0 65534) (λ t. fed h (returned t)) down feeds (λ t. refl) in
+    λ t. fed-rested (h + 1) (returned (cursor_moved 0 65534 (rested t))) in
+    let one : Performs a c left = Does-then a b c (cursor_moved 0 65534) (λ t. fed (h + 1) (returned t)) down feeds (λ t. refl) in
     let two : Performs a d (λ t. cursor_moved 0 0 (left t)) = Does-then a c d left (cursor_moved 0 0) one up (λ t. sym (rests t)) in
     subst (λ k. Performs a e (λ t. lines_inserted k (cursor_moved 0 0 (left t)))) is
     (Does-then a d e (λ t. cursor_moved 0 0 (left t)) (lines_inserted n) two inserts

@@ -10,7 +10,7 @@ use Rattle.ansi_model.specs.{Sgr.default_sgr, Emulator.Phase.Ground, Sends.Perfo
 use Rattle.ansi_model.specs.Emulator.{Emulator, blank_terminal, rested, printed, line_fed, fed, scrolled, returned, cursor_moved}
 use Rattle.ansi_model.specs.Emulator.{columns_moved, if_so, row_shown, is_row_known}
 use Rattle.ansi_model.specs.Screens.{screen_shown, HaveOwnWidths, IsTidy, IsIdle, Turns, Becomes}
-use Rattle.ansi_model.specs.Beginnings.{AreKnown}
+use Rattle.ansi_model.specs.Beginnings.{AreKnown, empty_row}
 use Rattle.ansi_model.proofs.{ReadLemmas.Leads-so, TextLemmas.blank-sized, TextLemmas.sized-known}
 use Rattle.ratatui_core.proofs.BackendLemmas.{moved-through, moved-along}
 use Rattle.ansi_model.proofs.MotionLemmas.{moved-known, moved-tidy, tidy-along, blank-whole, up-still, up-again}
@@ -141,6 +141,13 @@ region-rows end t m zero inside = refl
 region-rows end t m (suc n) inside = ap₂ (λ x xs. x ∷ xs) (region-row end t m (omega arith))
     (region-rows end t (m + 1) n (omega arith))
 
+-- a row past the region's end is empty
+pub region-past : (end : ℕ) (t : Emulator) (k : ℕ) → end ≤ k → region_row end t k ≡ empty_row t.width
+region-past end t k past =
+    let e : nat_lt k end ≡ false = grind (arith, nat_tests) in
+    map_same (λ a. if nat_lt k end then look_in (t.columns a k) else empty_look) (λ a. empty_look) (λ a. rw e refl)
+    (range_with_len 0 t.width)
+
 first_row : (end : ℕ) (t : Emulator) → 0 < end → row_shown t 0 ≡ region_row end t 0
 first_row end t some = sym (region-row end t 0 some)
 
@@ -203,7 +210,7 @@ fed-above (suc n) t bottom sure x fits =
     let more : t.y + 1 + n ≡ t.y + suc n = omega arith in
     ap (fed n) here ∙ fed-above n (record t { y = t.y + 1 }) bottom sure x (omega arith) ∙ ap (λ k. record t { y = k }) more
 
-fed-plus : (m k j : ℕ) (t : Emulator) → m + k ≡ j → fed j t ≡ fed k (fed m t)
+pub fed-plus : (m k j : ℕ) (t : Emulator) → m + k ≡ j → fed j t ≡ fed k (fed m t)
 fed-plus zero k j t e = let f : j ≡ k = omega arith in ap (λ i. fed i t) f
 fed-plus (suc m) k zero t e = absurd (omega arith)
 fed-plus (suc m) k (suc j) t e = fed-plus m k j (line_fed t) (omega arith)

@@ -1,7 +1,7 @@
 -- Terminals as other programs may have left them, and what makes one blank.
-use Rattle.std.specs.Prelude.{◌≡◌, ◌⊎◌, ℕ, ◌+◌, ◌<◌, ◌≤◌, true, List, [], ◌++◌, map, Some, None}
+use Rattle.std.specs.Prelude.{◌≡◌, ◌⊎◌, ℕ, ◌+◌, ◌<◌, ◌≤◌, true, List, [], ◌∷◌, ◌++◌, map, Some, None}
 use Rattle.std.specs.List.{range_with_len}
-use Rattle.ratatui_core.specs.Buffer.{Look}
+use Rattle.ratatui_core.specs.Buffer.{Look, empty_look}
 use Rattle.ansi_model.specs.{Columns.Columns, Columns.blank_column, Columns.is_known_column}
 use Rattle.ansi_model.specs.{Emulator.Emulator, Emulator.blank_terminal, Emulator.row_shown}
 use Rattle.ansi_model.specs.{Emulator.with_sgr, Emulator.Phase.Ground, Sgr.default_sgr}
@@ -42,22 +42,30 @@ AreKnown columns = (a b : ℕ) → is_known_column (columns a b) ≡ true
 abbrev pub screen_rows : Emulator → List (List Look)
 screen_rows t = map (row_shown t) (range_with_len 0 t.height)
 
+-- an empty row of so many columns
+abbrev pub empty_row : ℕ → List Look
+empty_row w = map (λ a. empty_look) (range_with_len 0 w)
+
+-- what is saved of a screen: its rows, and an empty one
+abbrev pub saved_rows : ℕ → Emulator → List (List Look)
+saved_rows w t = screen_rows t ++ empty_row w ∷ []
+
 -- a blank terminal of this size, with these rows in its history, and its cursor shown or not
 abbrev pub scrolled_off : ℕ → ℕ → List (List Look) → Emulator → Emulator
 scrolled_off w h rows t = record (blank_terminal w h) { history = rows; visible = t.visible }
 
--- bytes were appended that scroll the screen of each terminal of this size into its history, however it was
--- left
+-- bytes were appended that scroll the screen of each terminal of this size into its history, and an empty row
+-- after it, however it was left
 abbrev pub SavesScreen : ℕ → ℕ → List ℕ → List ℕ → Type 0
 SavesScreen w h old new = LeadsBy feed_anew old new (λ t. IsAsFound w h t × AreKnown t.columns)
-    (λ t u. u ≡ scrolled_off w h (t.history ++ screen_rows t) t)
+    (λ t u. u ≡ scrolled_off w h (t.history ++ saved_rows w t) t)
 
--- a higher terminal, of which h rows were saved so: they are in its history, as many rows and one more are
--- blank, and each row below them stands one row lower, but the last one
+-- a higher terminal, of which the first rows were saved so: h of them and the next one are in its history, as
+-- many are blank, and each row below them stays
 pub record SavesFirstRows (h : ℕ) (t u : Emulator) : Type 0 where
-  pub history : u.history ≡ t.history ++ map (row_shown t) (range_with_len 0 h)
+  pub history : u.history ≡ t.history ++ map (row_shown t) (range_with_len 0 (h + 1))
   pub blank : (a b : ℕ) → b ≤ h → u.columns a b ≡ blank_column
-  pub below : (a b : ℕ) → h ≤ b → b + 1 < t.height → u.columns a (b + 1) ≡ t.columns a b
+  pub below : (a b : ℕ) → h < b → b < t.height → u.columns a b ≡ t.columns a b
 
 -- bytes were appended that do this to each higher terminal, however it was left
 abbrev pub SavesHigher : ℕ → ℕ → List ℕ → List ℕ → Type 0

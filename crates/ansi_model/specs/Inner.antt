@@ -10,10 +10,10 @@ use Rattle.ratatui_core.specs.Style.{Color, Rgb, Indexed}
 abbrev pub without_modes : Emulator → Emulator
 without_modes t = record t { modes = no_modes; x = 0; y = 0 }
 
--- as many rows as these scrolled off a terminal at the top, and as many blank ones and one more come in there
+-- as many rows as these and one more scrolled off a terminal at the top, and as many blank ones came in there
 abbrev pub scrolled_off_by : ℕ → Emulator → Emulator
 scrolled_off_by h t =
-    lines_inserted (min (h + 1) 65535) (cursor_moved 0 0 (fed h (returned (cursor_moved 0 65534 t))))
+    lines_inserted (min (h + 1) 65535) (cursor_moved 0 0 (fed (h + 1) (returned (cursor_moved 0 65534 t))))
 
 -- a line feed in the second row, and then a blank row in place of the first
 abbrev pub fed_and_lowered : Emulator → Emulator

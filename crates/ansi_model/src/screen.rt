@@ -153,23 +153,23 @@ fn move_to_last_row(out: &mut String) -> Result<(), AllocError>
     out.push_str("\u{1b}[65535;1H")
 }
 
-// Scrolls rows off at the top, and has blank ones come in there: as many, and one more, so that in a
-// higher terminal a blank row stands after them.
+// Scrolls rows off at the top, as many and one more, and has as many blank ones come in there: so in a
+// higher terminal a blank row stands after them, and those below stand where they stood.
 fn scroll_off(out: &mut String, height: u16) -> Result<(), AllocError>
     ensures { OnOk result (Performs (string_bytes out.old) (string_bytes out.new)
         (scrolled_off_by height)) }
 {
     move_to_last_row(out)?;
     line_feeds(out, height)?;
+    line_feed(out)?;
     move_to(out, 0, 0)?;
     insert_lines(out, height.saturating_add(1))
 }
 
 /// Scrolls what stands on the screen of a terminal of so many rows, at least one, into its history,
-/// however another program left it. Then its screen is empty, its colours its own, its cursor in
-/// the corner, and no mode that changes how it takes text is set. Of a higher terminal so many rows
-/// go to the history, too, and the others stand one row lower, below a blank one; only its last row
-/// is lost.
+/// with an empty row after it, however another program left it. Then its screen is empty, its
+/// colours its own, its cursor in the corner, and no mode that changes how it takes text is set. Of a
+/// higher terminal so many rows and the next one go to the history, and the others stay.
 ///
 /// # Errors
 ///

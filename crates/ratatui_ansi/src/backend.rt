@@ -150,9 +150,9 @@ impl<W: Write + Drop> AnsiBackend<W> {
     }
 
     /// Makes a backend of a screen of this size in columns and rows, over a terminal that is made
-    /// blank: what stood on it is scrolled into its history, and then what makes it blank is
-    /// written. On a terminal that is higher these are its first rows; what stood in those below
-    /// stays, one row lower, but for the last row.
+    /// blank: what stood on it is scrolled into its history, with an empty row after it, and then
+    /// what makes it blank is written. On a terminal that is higher these are its first rows; the
+    /// row after them is scrolled off, too, and what stands below it stays.
     ///
     /// ```
     /// let writer = BufWriter::new(alloc, rt.stdout())?;

@@ -64,7 +64,7 @@ const BLANK_4_3: &str =
 // What scrolls its screen into its history.
 const SAVE_4_3: &str =
     "\u{1b}\\\u{f}\u{1b}*B\u{1b}}\u{1b})B\u{1b}(B\u{1b}%G\u{1b}[4l\u{1b}[?6l\u{1b}[?69l\u{1b}[?7h\u{1b}[?2026l\
-     \u{1b}[0m\u{1b}[r\u{1b}[65535;1H\r\n\n\n\u{1b}[1;1H\u{1b}[4L";
+     \u{1b}[0m\u{1b}[r\u{1b}[65535;1H\r\n\n\n\n\u{1b}[1;1H\u{1b}[4L";
 
 // Whether a text is two others, one after the other.
 fn is_joined(text: &str, first: &str, second: &str) -> bool {
