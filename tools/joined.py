@@ -39,18 +39,18 @@ fn main(rt: HostRuntime) -> ExitCode {{
     }}
 }}
 """
-# What begins a program, by what its `main` answers.
+# What begins a program, by what its `main` answers, or holds if that is a `Result`.
 ARMS = {
     "ExitCode": "crate::{name}::main(rt)",
-    "anyhow::Result<()>": "match crate::{name}::main(rt) {{ Ok(()) => ExitCode::SUCCESS, Err(_) => ExitCode::FAILURE }}",
-    "anyhow::Result<ExitCode>": "match crate::{name}::main(rt) {{ Ok(status) => status, Err(_) => ExitCode::FAILURE }}",
+    "Result<()>": "match crate::{name}::main(rt) {{ Ok(()) => ExitCode::SUCCESS, Err(_) => ExitCode::FAILURE }}",
+    "Result<ExitCode>": "match crate::{name}::main(rt) {{ Ok(status) => status, Err(_) => ExitCode::FAILURE }}",
 }
 
 
 def answer_of(name):
     """What a program's `main` answers."""
     with open(f"{TOP}/crates/{name}/src/main.rt", encoding="utf-8") as file:
-        found = re.search(r"^fn main\(rt: HostRuntime\) -> (.+) \{$", file.read(), re.MULTILINE)
+        found = re.search(r"^fn main\(rt: HostRuntime\) -> (?:anyhow::|io::)?(.+) \{$", file.read(), re.MULTILINE)
     if not found or found[1] not in ARMS:
         raise NotBuilt(f"the `main` of {name} isn't one that programs are joined by; tools/joined.py has those that are")
     return found[1]
