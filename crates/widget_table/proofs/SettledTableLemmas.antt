@@ -152,6 +152,6 @@ table-leads t = record {
     state = next-table-again t (rows_area t.header t.footer r).height s u shows.state;
     columns = shows.columns;
     are_columns = shows.are_columns;
-    drawn = shows.drawn;
+    parts = shows.parts;
   };
 }
