@@ -8,13 +8,11 @@ use Rattle.std.proofs.lemmas.Bool.Decides.{nat_tests}
 use Rattle.ratatui_core.specs.Layout.{Rect, Position, HasPosition, IsInside, intersected, inner, right_edge}
 use Rattle.ratatui_core.specs.{Style.Style, Text.TextData, Widgets.ChangesWithin, Buffer.BufferData}
 use Rattle.ratatui_core.specs.declared.layout.Direction.TheVariants.{Horizontal}
-use Rattle.ratatui_core.proofs.BufferLemmas.{within-same, within-wider}
-use Rattle.ratatui_core.proofs.WidgetLemmas.{within-then}
 use Rattle.rtui_split.specs.Cut.{InOrder}
 use Rattle.widget_boxes.specs.{Framed.inner_if, Boxes.IsNarrowBox, Highlights.IsHighlighted, Titles.DoesIf, Titles.InTurn}
 use Rattle.widget_boxes.specs.Apart.{StandsApart, IsReadyIn, IsShowableText}
 use Rattle.widget_boxes.proofs.ApartLemmas.{ready-apart, ready-styled, ready-inside, ready-beside, ready-lit, apart-around}
-use Rattle.widget_boxes.proofs.ApartLemmas.{text-apart, lit-apart, lit-within}
+use Rattle.widget_boxes.proofs.ApartLemmas.{text-apart, lit-apart}
 use Rattle.widget_boxes.proofs.ApartBoxLemmas.{frame-apart, clip-in}
 use Rattle.rtui_drawing.specs.{Cuts.cut_from, Drawings.DrawsAll, Drawings.over}
 use Rattle.rtui_drawing.specs.declared.cut.Cut.TheVariants.{First, Within}
@@ -26,7 +24,7 @@ use Rattle.widget_table.specs.Rows.{PlacedRow, stacked_rows, rows_area, footer_a
 use Rattle.widget_table.specs.Tables.{styled_text, cells_drawing, symbol_drawing, symbol_if, row_drawing, rows_drawing}
 use Rattle.widget_table.specs.Tables.{outer_drawing, area_if, selected_row_area, selected_column, placed_rows, symbol_columns}
 use Rattle.widget_table.specs.Tables.{without_columns}
-use Rattle.widget_table.specs.Tables.{AreColumns, Highlights, ShowsBody, ShowsParts, ShowsTable, RendersTable}
+use Rattle.widget_table.specs.Tables.{Highlights, ShowsBody, ShowsParts, ShowsTable, RendersTable}
 use Rattle.widget_table.specs.Tables.{HasShowableCells, HasShowableRows}
 use Rattle.widget_table.proofs.BodyLemmas.{parts-within}
 use Rattle.widget_table.proofs.ApartPartLemmas.{styled-apart, highlighted-apart, beside-apart, HasColumns, rows-apart}

@@ -2,24 +2,22 @@
 use Rattle.std.proofs.Common.{◌≡◌, ℕ, ◌+◌, ◌-◌, ◌<◌, ◌≤◌, ⊎_elim, inl, inr, min, Bool, true, false, List, refl, sym, ap, subst}
 use Rattle.std.proofs.Common.{◌∙◌, arith, take}
 use Rattle.std.proofs.lemmas.Bool.{cases_lt}
-use Rattle.ratatui_core.specs.Layout.{Rect, Position, HasPosition, IsInside, corner}
+use Rattle.ratatui_core.specs.Layout.{Rect, Position, HasPosition, corner}
 use Rattle.ratatui_core.specs.{Style.Style, Style.new_style, Text.LineData, Widgets.ChangesWithin}
-use Rattle.ratatui_core.specs.Buffer.{BufferData, Cell, cell_in, position_of, empty_cell, width_of, IsUnmarked, IsPlain, IsStyled}
+use Rattle.ratatui_core.specs.Buffer.{BufferData, cell_in, position_of, empty_cell, width_of, IsUnmarked, IsPlain}
 use Rattle.ratatui_core.specs.Buffer.{text_pieces, columns}
 use Rattle.ratatui_core.proofs.BufferLemmas.{width-empty, changed-plain, Changes-within, within-wider, PaintsByColumns-paints}
-use Rattle.ratatui_core.proofs.WidgetLemmas.{within-then}
 use Rattle.rtui_buffer.specs.{Painting.Piece, Painting.piece_at, Painting.piece_width, Painting.shown}
-use Rattle.rtui_buffer.specs.PaintedText.{PaintsByColumns, right_by}
+use Rattle.rtui_buffer.specs.PaintedText.{PaintsByColumns}
 use Rattle.rtui_buffer.proofs.SettledLemmas.{IsIn, is_in, width-shown}
 use Rattle.widget_boxes.specs.Apart.{StandsApart, IsReadyIn, IsShowable}
 use Rattle.widget_boxes.proofs.ApartLemmas.{IsMadeAt, made-plain, apart-made, ready-apart, ready-stays, ready-styled, ready-inside}
 use Rattle.widget_boxes.proofs.ApartLemmas.{ready-beside, apart-part, apart-around, line-apart}
-use Rattle.rtui_drawing.specs.{Cuts.cut_from, Drawings.DrawsAll, Drawings.WritesIn, Drawings.IsRowIn, Drawings.over}
-use Rattle.rtui_drawing.specs.Drawings.{put_pieces}
+use Rattle.rtui_drawing.specs.{Cuts.cut_from, Drawings.DrawsAll, Drawings.WritesIn, Drawings.IsRowIn}
 use Rattle.rtui_drawing.specs.declared.cut.Cut.TheVariants.{First, After}
 use Rattle.rtui_drawing.proofs.{DrawingLemmas.cut-inside, DrawingLemmas.draws-within, WriteLemmas.row-after, WriteLemmas.text-fits}
 use Rattle.widget_tree.specs.declared.{tree.Tree.Tree}
-use Rattle.widget_tree.specs.Trees.{blank_in_place, mark_drawing, left_drawing, node_label, line_row_drawing}
+use Rattle.widget_tree.specs.Trees.{blank_in_place, mark_drawing, node_label, line_row_drawing}
 use Rattle.widget_tree.proofs.NarrowTreeLemmas.{blank-plain}
 
 -- ---- a text at the left of a row

@@ -1,6 +1,6 @@
 -- A tree on an area that is ready leaves it apart, with wide graphemes, too.
-use Rattle.std.proofs.Common.{◌≡◌, ℕ, zero, suc, ◌+◌, ◌-◌, ◌*◌, ◌<◌, ◌≤◌, ⊎_elim, inl, inr, min, Bool, true, false, if◌then◌else◌}
-use Rattle.std.proofs.Common.{List, [], ◌∷◌, All, Option, Some, None, IfSome, is_some, length, take, refl, sym, subst, ◌∙◌, arith}
+use Rattle.std.proofs.Common.{◌≡◌, ℕ, zero, suc, ◌+◌, ◌<◌, ◌≤◌, ⊎_elim, min, Bool, true, false, if◌then◌else◌}
+use Rattle.std.proofs.Common.{List, [], ◌∷◌, All, Option, Some, None, IfSome, is_some, length, refl, sym, ◌∙◌, arith}
 use Rattle.std.specs.Option.{option_or}
 use Rattle.std.proofs.lemmas.List.{length-take}
 use Rattle.std.proofs.lemmas.List.Elements.{All-head, All-tail}
@@ -9,7 +9,7 @@ use Rattle.ratatui_core.specs.{Widgets.ChangesWithin, Buffer.BufferData, Buffer.
 use Rattle.ratatui_core.proofs.BufferLemmas.{within-same, within-wider}
 use Rattle.ratatui_core.proofs.WidgetLemmas.{within-then}
 use Rattle.widget_boxes.specs.declared.block.Block.{Block}
-use Rattle.widget_boxes.specs.{Framed.inner_if, Framed.IsBare, Framed.IsInner, Boxes.IsBoxArea, Highlights.IsHighlighted}
+use Rattle.widget_boxes.specs.{Framed.inner_if, Framed.IsBare, Framed.IsInner, Boxes.IsBoxArea}
 use Rattle.widget_boxes.specs.Apart.{StandsApart, IsReadyIn, IsShowable}
 use Rattle.widget_boxes.proofs.{BoxLemmas.box-area, InnerLemmas.bare-or, InnerLemmas.clipped, FrameLemmas.inner-in}
 use Rattle.widget_boxes.proofs.ApartLemmas.{ready-apart, ready-stays, ready-inside, ready-beside, apart-around, lit-apart, lit-within}

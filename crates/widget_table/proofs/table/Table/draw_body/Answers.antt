@@ -1,4 +1,4 @@
-use Rattle.std.proofs.Common.{◌≡◌, ◌==◌, true, false, length, sym, ◌∙◌}
+use Rattle.std.proofs.Common.{sym, ◌∙◌}
 use Rattle.rtui_drawing.proofs.DrawingLemmas.{done-within}
 use Rattle.widget_table.proofs.BodyLemmas.{body-none, body-made, body-within}
 use Rattle.widget_table.proofs.table.Table.draw_body.Goals as goal
