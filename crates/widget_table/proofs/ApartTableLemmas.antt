@@ -24,7 +24,7 @@ use Rattle.widget_table.specs.Rows.{PlacedRow, stacked_rows, rows_area, footer_a
 use Rattle.widget_table.specs.Tables.{styled_text, cells_drawing, symbol_drawing, symbol_if, row_drawing, rows_drawing}
 use Rattle.widget_table.specs.Tables.{outer_drawing, area_if, selected_row_area, selected_column, placed_rows, symbol_columns}
 use Rattle.widget_table.specs.Tables.{without_columns}
-use Rattle.widget_table.specs.Tables.{Highlights, ShowsBody, ShowsParts, ShowsTable, RendersTable}
+use Rattle.widget_table.specs.Tables.{Highlights, ShowsBody, ShowsTableParts, ShowsTable, RendersTable}
 use Rattle.widget_table.specs.Tables.{HasShowableCells, HasShowableRows}
 use Rattle.widget_table.proofs.BodyLemmas.{parts-within}
 use Rattle.widget_table.proofs.ApartPartLemmas.{styled-apart, highlighted-apart, beside-apart, HasColumns, rows-apart}
@@ -462,7 +462,7 @@ module _ (t : TableData) (u : TableState) (columns : List Rect) (r : Rect) (x en
   foot_place = footer_area t.header t.footer r
 
   table-stands : (old new : BufferData) → n ≡ symbol_columns t (is_some u.selected) r → IsReadyIn r old
-      → ShowsParts t u columns r old new → StandsApart r new
+      → ShowsTableParts t u columns r old new → StandsApart r new
   table-stands old new e ready is =
       let first : Stands r c (from_row r.y r) old = record {
         whole = ready-apart r old ready;

@@ -12,7 +12,7 @@ use Rattle.rtui_drawing.proofs.DrawingLemmas.{draws-within}
 use Rattle.widget_table.specs.{declared.table.Table.Table as TableData, declared.state.TableState.TableState}
 use Rattle.widget_table.specs.Rows.{PlacedRow, rows_area, footer_area}
 use Rattle.widget_table.specs.Tables.{rows_drawing, outer_drawing, selected_row_area, selected_column, placed_rows, symbol_columns}
-use Rattle.widget_table.specs.Tables.{Highlights, ShowsBody, ShowsParts}
+use Rattle.widget_table.specs.Tables.{Highlights, ShowsBody, ShowsTableParts}
 
 -- highlights change nothing outside the area
 highlights-within : (t : TableData) (row column : Option Rect) (place r : Rect) (old new : BufferData)
@@ -56,7 +56,7 @@ module _ (t : TableData) (u : TableState) (n : ℕ) (columns : List Rect) (place
 
 -- nor does the whole
 pub parts-within : (t : TableData) (u : TableState) (columns : List Rect) (r : Rect) (old new : BufferData)
-    → ShowsParts t u columns r old new → ChangesWithin r old new
+    → ShowsTableParts t u columns r old new → ChangesWithin r old new
 parts-within t u columns r old new is =
     within-then r old is.headed new (draws-within (outer_drawing columns t.header r) r old is.headed is.header)
     (within-then r is.headed is.filled new
@@ -79,7 +79,7 @@ pub parts-made : {A : Type 0} (result : Result A AllocError) (t : TableData) (u 
     (old headed filled new : BufferData) → DrawsAll (outer_drawing columns t.header r) r old headed
     → ShowsBody t u (symbol_columns t (is_some u.selected) r) columns (rows_area t.header t.footer r) r headed filled
     → IsDone (outer_drawing columns t.footer (footer_area t.header t.footer r)) r result filled new
-    → OnOk result (ShowsParts t u columns r old new)
+    → OnOk result (ShowsTableParts t u columns r old new)
 parts-made (Ok x) t u columns r old headed filled new header body footer =
     record { headed = headed; filled = filled; header = header; body = body; footer = footer.ok }
 parts-made (Err e) t u columns r old headed filled new header body footer = tt

@@ -17,7 +17,7 @@ use Rattle.widget_table.specs.{declared.state.TableState.TableState}
 use Rattle.widget_table.specs.Rows.{PlacedRow, stacked_rows, rows_area, footer_area, cells_area, below, full_height}
 use Rattle.widget_table.specs.Tables.{styled_text, cells_drawing, symbol_drawing, symbol_if, row_drawing, rows_drawing}
 use Rattle.widget_table.specs.Tables.{outer_drawing, Highlights, selected_row_area, selected_column, placed_rows}
-use Rattle.widget_table.specs.Tables.{symbol_columns, ShowsBody, ShowsParts, ShowsTable, RendersTable}
+use Rattle.widget_table.specs.Tables.{symbol_columns, ShowsBody, ShowsTableParts, ShowsTable, RendersTable}
 use Rattle.widget_table.specs.Tables.{HasNarrowRows, HasNarrowCells}
 
 -- each grapheme of a text takes one column, if there is one
@@ -111,7 +111,7 @@ module _ (t : TableData) (u : TableState) (n : ℕ) (columns : List Rect) (place
       by-test false same = rw same plain
 
 parts-narrow : (t : TableData) (u : TableState) (columns : List Rect) (r : Rect) (old new : BufferData) → HasNarrowRows t
-    → IsPlainFrom 0 old → ShowsParts t u columns r old new → IsPlainFrom 0 new
+    → IsPlainFrom 0 old → ShowsTableParts t u columns r old new → IsPlainFrom 0 new
 parts-narrow t u columns r old new narrow plain is =
     let foot = footer_area t.header t.footer r in
     let headed = draws-plain (outer_drawing columns t.header r) r old is.headed (outer-narrow columns t.header r narrow.header) plain

@@ -176,7 +176,7 @@ ShowsBody t u n columns place r =
     (Highlights t row (selected_column u.selected_column columns) place r))
 
 -- what stands in an area: the header, the rows with the highlights, and the footer
-pub record ShowsParts (t : TableData) (u : TableState) (columns : List Rect) (r : Rect)
+pub record ShowsTableParts (t : TableData) (u : TableState) (columns : List Rect) (r : Rect)
     (old new : BufferData) : Type 0 where
   pub headed : BufferData
   pub filled : BufferData
@@ -203,7 +203,7 @@ pub record ShowsTable (t : TableData) (s u : TableState) (r : Rect) (old new : B
   pub state : IsNextState t (rows_area t.header t.footer r).height s u
   pub columns : List Rect
   pub are_columns : AreColumns t (symbol_columns t (is_some u.selected) r) r columns
-  pub parts : ShowsParts t u columns r old new
+  pub parts : ShowsTableParts t u columns r old new
 
 -- a table in its style and its box, over the part of an area that a buffer has
 abbrev pub RendersTable : TableData → TableState → TableState → Rect → BufferData → BufferData → Type 0

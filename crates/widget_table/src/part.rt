@@ -6,7 +6,7 @@ ghost use Rattle.rtui_drawing.specs.Drawings.{IsDone};
 ghost use Rattle.widget_table.specs.Rows.{rows_area, footer_area};
 ghost use Rattle.widget_table.specs.Tables.{cells_drawing, symbol_drawing, symbol_if, row_drawing, rows_drawing};
 ghost use Rattle.widget_table.specs.Tables.{outer_drawing, area_if, selected_row_area, selected_column};
-ghost use Rattle.widget_table.specs.Tables.{placed_rows, symbol_columns, Highlights, ShowsBody, ShowsParts};
+ghost use Rattle.widget_table.specs.Tables.{placed_rows, symbol_columns, Highlights, ShowsBody, ShowsTableParts};
 ghost use Rattle.widget_table.specs.Inner.{IsTableArea};
 
 use crate::cell::Cell;
@@ -235,7 +235,7 @@ impl<'a> Table<'a> {
         requires below { IsTableArea places.footer }
         ensures within { ChangesWithin places.whole buf.old buf.new }
         ensures ok { OnOk result
-            (ShowsParts self.now state columns.now places.whole buf.old buf.new) }
+            (ShowsTableParts self.now state columns.now places.whole buf.old buf.new) }
     {
         let area = places.whole;
         self.draw_outer(&self.header, columns, area, area, buf)?;
