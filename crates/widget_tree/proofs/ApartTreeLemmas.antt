@@ -19,10 +19,10 @@ use Rattle.rtui_drawing.specs.declared.cut.Cut.TheVariants.{Rows, Below}
 use Rattle.rtui_drawing.proofs.DrawingLemmas.{cut-inside, draws-within}
 use Rattle.rtui_inside.proofs.InsideLemmas.{row-inside}
 use Rattle.widget_tree.specs.declared.{item.TreeItem.TreeItem, state.TreeState.TreeState, tree.Tree.Tree}
-use Rattle.widget_tree.specs.{Depths.shows_node, Depths.shown_nodes, Nodes.node_item, Moves.same_node}
+use Rattle.widget_tree.specs.{Depths.shows_node, Depths.shown_nodes, Rows.nodes_in_rows, Nodes.node_item, Moves.same_node}
 use Rattle.widget_tree.specs.TreeStates.{tree_depths, opened_of}
-use Rattle.widget_tree.specs.Trees.{each_in_row, node_drawing, node_symbol, mark_columns, indent_columns, tree_drawing, next_tree_state}
-use Rattle.widget_tree.specs.Trees.{row_if, selected_row, HighlightsRow, ShowsTree, RendersTree, IsShowableTree, drawn_nodes}
+use Rattle.widget_tree.specs.Trees.{each_in_row, node_drawing, node_symbol, mark_columns, indent_columns, next_tree_state}
+use Rattle.widget_tree.specs.Trees.{row_if, selected_row, node_rows_drawing, HighlightsRow, ShowsNodes, ShowsTree, RendersTree, IsShowableTree, drawn_nodes}
 use Rattle.widget_tree.proofs.{ApartRowLemmas.row-stands, NarrowTreeLemmas.all-shown, SettledTreeLemmas.bare-inside}
 use Rattle.widget_tree.proofs.{ShownLemmas.shown-from, BuildLemmas.length-depths}
 
@@ -69,13 +69,13 @@ module _ (t : Tree) (r : Rect) where
       apart-around r row old new inside was (lit-within t.highlight_style row old new lit)
       (lit-apart t.highlight_style row old new lit there)
 
--- what a tree changes lies in its area
-pub shows-within : (t : Tree) (s s' : TreeState) (r : Rect) (old new : BufferData) → ShowsTree t s s' r old new
+-- what is drawn of nodes changes nothing outside the area
+pub nodes-within : (t : Tree) (s : TreeState) (first : ℕ) (r : Rect) (old new : BufferData) → ShowsNodes t s first r old new
     → ChangesWithin r old new
-shows-within t s s' r old new is =
-    within-then r old is.drawn new (draws-within (tree_drawing t s r) r old is.drawn is.nodes)
-    (highlight-within t r (selected_row s.selected r 0 (drawn_nodes t s r)) is.drawn new
-    (selected-is s.selected r 0 (drawn_nodes t s r)) is.highlight)
+nodes-within t s first r old new is =
+    let nodes = nodes_in_rows (tree_depths t) (opened_of s) first r.height in
+    within-then r old is.drawn new (draws-within (node_rows_drawing t s first r) r old is.drawn is.nodes)
+    (highlight-within t r (selected_row s.selected r 0 nodes) is.drawn new (selected-is s.selected r 0 nodes) is.highlight)
 
 -- ---- the nodes
 
@@ -147,11 +147,12 @@ module _ (t : Tree) (s s' : TreeState) (r : Rect) (old new : BufferData) (shows 
   tree-stands ready is =
       let nodes = drawn_nodes t s r in
       let fit = nodes-fit in
+      let shown = is.shown in
       let drawn = rows-stand (node_drawing t s mark r.width) (λ k. shows_node (tree_depths t) (opened_of s) k ≡ true) r old.area
-      node-stands 0 nodes old is.drawn (omega arith)
+      node-stands 0 nodes old shown.drawn (omega arith)
       (all-shown (tree_depths t) (opened_of s) (next_tree_state t s r).offset r.height) refl (ready-apart r old ready)
-      (ready-inside r (cut_from (Below 0) r) old (cut-inside (Below 0) r) ready) is.nodes in
-      highlight-stands t r (selected_row s.selected r 0 nodes) is.drawn new (selected-is s.selected r 0 nodes) is.highlight drawn
+      (ready-inside r (cut_from (Below 0) r) old (cut-inside (Below 0) r) ready) shown.nodes in
+      highlight-stands t r (selected_row s.selected r 0 nodes) shown.drawn new (selected-is s.selected r 0 nodes) shown.highlight drawn
 
 -- ---- the tree
 
@@ -178,7 +179,7 @@ tree-apart t s s' area old new shows ready is =
     let part = intersected area old.area in
     let r = inner_if t.block part in
     frame-apart t.style t.block (ShowsTree t) s s' area old new shows.box ready (λ framed inside shown.
-    let within = shows-within t s s' r framed new shown in (
+    let within = nodes-within t s (next_tree_state t s r).offset r framed new shown.shown in (
       within,
       bare-or r (λ bare. bare-stands r framed new bare inside within) (λ wide high.
           let inner = inner-of-part t.block area old.area ready.edges wide high in

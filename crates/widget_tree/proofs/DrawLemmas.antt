@@ -1,5 +1,5 @@
 -- The parts of a row one after the other, and rows one below the other.
-use Rattle.std.proofs.Common.{◌≡◌, ℕ, ◌+◌, ◌-◌, ◌<◌, ◌≤◌, Bool, true, List, [], Some, Result, Ok, Err, OnErr, Option, sym, ap, subst, ◌∙◌, arith}
+use Rattle.std.proofs.Common.{◌≡◌, ℕ, ◌+◌, ◌-◌, ◌<◌, ◌≤◌, Bool, true, List, [], Some, Result, Ok, Err, OnErr, sym, ap, subst, arith}
 use Rattle.std.specs.Result.{IsErr}
 use Rattle.std.specs.declared.alloc.AllocError.{AllocError}
 use Rattle.ratatui_core.specs.{Layout.Rect, Style.new_style, Text.LineData, Buffer.BufferData, Buffer.text_pieces, Buffer.columns}
@@ -13,8 +13,7 @@ use Rattle.rtui_drawing.proofs.DrawingLemmas.{done-within, draws-within, done-th
 use Rattle.widget_tree.specs.declared.{item.TreeItem.TreeItem, state.TreeState.TreeState, tree.Tree.Tree}
 use Rattle.widget_tree.specs.{Nodes.node_item, Moves.same_node}
 use Rattle.widget_tree.specs.Trees.{node_label, each_in_row, left_drawing, line_row_drawing, node_drawing, node_symbol, indent_columns}
-use Rattle.widget_tree.specs.{Rows.nodes_in_rows, TreeStates.tree_depths, TreeStates.opened_of}
-use Rattle.widget_tree.specs.Trees.{tree_drawing, node_rows_drawing, next_tree_state, selected_row, HighlightsRow, ShowsTree, LeavesTree}
+use Rattle.widget_tree.specs.Trees.{tree_drawing, LeavesTree}
 use Rattle.widget_tree.specs.Inner.{IsNext}
 use Rattle.widget_tree.specs.Depths.{shows_node}
 use Rattle.widget_tree.proofs.RowLemmas.{rows_left, rows-here, rows-next}
@@ -135,17 +134,4 @@ tree-left {A = A} t s s' area inner old framed new is (Err e) state stopped = re
   state = state;
   drawn = filled-left {A = A} t.style t.block area inner old framed new is (tree_drawing t s) (Err e)
       (record { ok = tt; err = stopped });
-}
-
--- the nodes, and the highlight over the selected one's row
-pub tree-shown : (t : Tree) (s s' : TreeState) (r : Rect) (first : ℕ) (selected : Option Rect) (old mid new : BufferData)
-    → first ≡ (next_tree_state t s r).offset → DrawsAll (node_rows_drawing t s first r) r old mid
-    → selected ≡ selected_row s.selected r 0 (nodes_in_rows (tree_depths t) (opened_of s) first r.height)
-    → HighlightsRow t selected mid new → s' ≡ record s { offset = first } → ShowsTree t s s' r old new
-tree-shown t s s' r first selected old mid new is nodes there lit state = record {
-  state = state ∙ ap (λ n. record s { offset = n }) is;
-  drawn = mid;
-  nodes = subst (λ n. DrawsAll (node_rows_drawing t s n r) r old mid) is nodes;
-  highlight = subst (λ o. HighlightsRow t o mid new) (there ∙ ap (λ n. selected_row s.selected r 0
-      (nodes_in_rows (tree_depths t) (opened_of s) n r.height)) is) lit;
 }

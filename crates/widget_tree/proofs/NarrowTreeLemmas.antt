@@ -115,5 +115,5 @@ tree-plain t s s' area old new narrow plain =
     (λ k shown. node-narrow t s (mark_columns t s r.width) r.width k narrow (mark-small t s r.width le) le shown) 0
     (drawn_nodes t s r) (all-shown ds os (next_tree_state t s r).offset r.height) in
     plain-inside t.style t.block (ShowsTree t) s s' area old new narrow.box plain (λ framed cells shown.
-    highlight-plain t (selected_row s.selected r 0 (drawn_nodes t s r)) shown.drawn new shown.highlight
-    (draws-plain (tree_drawing t s r) r framed shown.drawn drawing cells shown.nodes))
+    highlight-plain t (selected_row s.selected r 0 (drawn_nodes t s r)) shown.shown.drawn new shown.shown.highlight
+    (draws-plain (tree_drawing t s r) r framed shown.shown.drawn drawing cells shown.shown.nodes))

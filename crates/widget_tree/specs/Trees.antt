@@ -122,12 +122,17 @@ abbrev pub HighlightsRow : Tree → Option Rect → BufferData → BufferData �
 HighlightsRow t None old new = new ≡ old
 HighlightsRow t (Some row) old new = IsHighlighted row t.highlight_style old new
 
--- a tree over an area: the nodes, a row each, and the highlight over the selected one's
+-- the nodes that are shown from one on, a row each, and the highlight over the selected one's
+pub record ShowsNodes (t : Tree) (s : TreeState) (first : ℕ) (r : Rect) (old new : BufferData) : Type 0 where
+  pub drawn : BufferData
+  pub nodes : DrawsAll (node_rows_drawing t s first r) r old drawn
+  pub highlight : let nodes = nodes_in_rows (tree_depths t) (opened_of s) first r.height in
+      HighlightsRow t (selected_row s.selected r 0 nodes) drawn new
+
+-- a tree over an area: its nodes, from the next state's first one on
 pub record ShowsTree (t : Tree) (s s' : TreeState) (r : Rect) (old new : BufferData) : Type 0 where
   pub state : s' ≡ next_tree_state t s r
-  pub drawn : BufferData
-  pub nodes : DrawsAll (tree_drawing t s r) r old drawn
-  pub highlight : HighlightsRow t (selected_row s.selected r 0 (drawn_nodes t s r)) drawn new
+  pub shown : ShowsNodes t s (next_tree_state t s r).offset r old new
 
 -- A tree in its style and its box, over the part of an area that a buffer has. Nothing outside the area changes.
 abbrev pub RendersTree : Tree → TreeState → TreeState → Rect → BufferData → BufferData → Type 0

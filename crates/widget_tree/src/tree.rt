@@ -12,7 +12,8 @@ ghost use Rattle.widget_tree.specs.TreeStates.{tree_depths, opened_of};
 ghost use Rattle.widget_tree.specs.Trees.{IsNewTree, mark_columns, indent_columns, node_symbol};
 ghost use Rattle.widget_tree.specs.Trees.{mark_drawing, left_drawing, node_label};
 ghost use Rattle.widget_tree.specs.Trees.{line_row_drawing, node_drawing, node_rows_drawing, tree_drawing};
-ghost use Rattle.widget_tree.specs.Trees.{row_if, selected_row, HighlightsRow, ShowsTree, settled_tree};
+ghost use Rattle.widget_tree.specs.Trees.{row_if, selected_row, HighlightsRow, ShowsNodes, ShowsTree};
+ghost use Rattle.widget_tree.specs.Trees.{settled_tree};
 
 use crate::item::TreeItem;
 use crate::nodes::Nodes;
@@ -380,8 +381,32 @@ impl<'a> Tree<'a> {
         }
     }
 
+    // Draws the nodes that are shown from one on, a row each, and highlights the selected one's row.
+    fn draw_nodes(
+        &self,
+        first: usize,
+        inner: Rect,
+        buf: &mut Buffer,
+        state: &TreeState,
+    ) -> Result<(), AllocError>
+        requires some { IsBoxArea inner }
+        requires inside { IsInside inner buf.old.area }
+        requires shown { 0 < length self.now.nodes.items.items
+            → shows_node (tree_depths self.now) (opened_of state.now) first ≡ true }
+        ensures within { ChangesWithin inner buf.old buf.new }
+        ensures ok { OnOk result (ShowsNodes self.now state.now first inner buf.old buf.new) }
+        ensures stopped { let d = node_rows_drawing self.now state.now first inner in
+            OnErr result (IsStopped d inner buf.old buf.new) }
+        ensures short { let d = node_rows_drawing self.now state.now first inner in
+            IsShortDrawing buf.old.area d inner → IsOk result }
+    {
+        let selected = self.draw_rows(first, inner, buf, state)?;
+        self.highlight_row(selected, buf);
+        Ok(())
+    }
+
     // Draws the nodes that are shown, from the state's first one on or so that the selected one is
-    // in view, and the highlight, and brings the state up to date.
+    // in view, and brings the state up to date.
     fn draw_tree(
         &self,
         inner: Rect,
@@ -400,8 +425,7 @@ impl<'a> Tree<'a> {
             IsShortDrawing buf.old.area d inner → IsOk result }
     {
         let first = self.first_row(usize::from(inner.height), state);
-        let selected = self.draw_rows(first, inner, buf, state)?;
-        self.highlight_row(selected, buf);
+        self.draw_nodes(first, inner, buf, state)?;
         state.offset = first;
         Ok(())
     }
