@@ -1,9 +1,9 @@
 -- The next state of a table is one state, and it is its own next one.
-use Rattle.std.proofs.Common.{◌≡◌, ℕ, zero, suc, ◌+◌, ◌-◌, ◌<◌, ◌≤◌, ⊎_elim, min, nat_le, Bool, true, false, if◌then◌else◌}
+use Rattle.std.proofs.Common.{◌≡◌, ℕ, zero, suc, ◌+◌, ◌-◌, ◌<◌, ◌≤◌, ⊎_elim, min, Bool, true, false, if◌then◌else◌}
 use Rattle.std.proofs.Common.{List, [], ◌∷◌, length, Option, Some, None, refl, sym, ap, subst, ◌∙◌, arith}
 use Rattle.std.proofs.lemmas.Bool.{cases_lt}
 use Rattle.widget_list.specs.Settled.{first_passing}
-use Rattle.widget_list.proofs.SettledLemmas.{first-made, fit-test, test-fit, test-over}
+use Rattle.widget_list.proofs.SettledLemmas.{first-made, test-fit, test-over}
 use Rattle.widget_list.proofs.SettledFrameLemmas.{LeadsOn}
 use Rattle.widget_table.specs.{declared.table.Table.Table as TableData, declared.row.Row.Row}
 use Rattle.widget_table.specs.{declared.state.TableState.TableState}
@@ -152,6 +152,6 @@ table-leads t = record {
     state = next-table-again t (rows_area t.header t.footer r).height s u shows.state;
     columns = shows.columns;
     are_columns = shows.are_columns;
-    drawn = shows.drawn;
+    parts = shows.parts;
   };
 }

@@ -9,9 +9,11 @@ use Rattle.ratatui_core.specs.declared.layout.Constraint.TheVariants.{Length}
 use Rattle.ratatui_core.specs.declared.layout.Direction.TheVariants.{Horizontal}
 use Rattle.ratatui_core.specs.declared.layout.Spacing.TheVariants.{Space}
 use Rattle.ratatui_core.specs.declared.layout.Flex.TheVariants as flex
+use Rattle.ratatui_core.specs.Layout.{intersected}
 use Rattle.ratatui_core.specs.{Style.Style, Style.new_style, Text.TextData, Text.widest, Buffer.BufferData}
 use Rattle.ratatui_core.specs.Text.{TakesOneColumn, EachTextGrapheme}
-use Rattle.widget_boxes.specs.{Framed.RendersStateInFrame}
+use Rattle.widget_boxes.specs.{Framed.RendersStateInFrame, Highlights.IsHighlighted, Apart.IsShowableText}
+use Rattle.widget_boxes.specs.Titles.{InTurn, DoesIf}
 use Rattle.rtui_drawing.specs.declared.cut.Cut.TheVariants.{First, Within}
 use Rattle.rtui_drawing.specs.Drawings.{Drawing, nothing, over, ◌before◌, draw_if, put_style, put_text, DrawsAll}
 use Rattle.widget_list.specs.Items.{has_mark_columns, is_selected_at}
@@ -143,15 +145,17 @@ abbrev pub selected_column : Option ℕ → List Rect → Option Rect
 selected_column None columns = None
 selected_column (Some k) columns = slice_get columns k
 
--- the highlights: over the selected row, over the selected column where rows stand, and where they meet
-abbrev pub highlights : TableData → Option Rect → Option Rect → Rect → Drawing
-highlights t None None r = nothing
-highlights t (Some row) None r = over (Within row) (put_style t.row_highlight_style)
-highlights t None (Some column) r = over (Within r) (over (Within column) (put_style t.column_highlight_style))
-highlights t (Some row) (Some column) r =
-    over (Within row) (put_style t.row_highlight_style)
-    before over (Within r) (over (Within column) (put_style t.column_highlight_style))
-    before over (Within row) (over (Within column) (put_style t.cell_highlight_style))
+-- The highlights, as far as an area has them: over the selected row, over the selected column where rows
+-- stand, and where they meet. None changes the columns that wide symbols cover.
+abbrev pub Highlights : TableData → Option Rect → Option Rect → Rect → Rect → BufferData → BufferData → Type 0
+Highlights t None None place r old new = new ≡ old
+Highlights t (Some row) None place r old new = IsHighlighted (intersected r row) t.row_highlight_style old new
+Highlights t None (Some column) place r old new =
+    IsHighlighted (intersected (intersected r place) column) t.column_highlight_style old new
+Highlights t (Some row) (Some column) place r old new =
+    InTurn (IsHighlighted (intersected r row) t.row_highlight_style)
+    (InTurn (IsHighlighted (intersected (intersected r place) column) t.column_highlight_style)
+    (IsHighlighted (intersected (intersected r row) column) t.cell_highlight_style)) old new
 
 -- the rows of a table over their area, from the state's first one on, and the highlights over them
 abbrev pub placed_rows : TableData → TableState → Rect → List PlacedRow
@@ -163,21 +167,23 @@ pub record IsShownWhole (t : TableData) (u : TableState) (r : Rect) (selected : 
   pub stands : selected_row_area u.selected (placed_rows t u r) ≡ Some area
   pub whole : area.height ≡ cells_at t.rows.items selected
 
--- what stands in the area of the rows: the rows, and the highlights over them; nothing without rows
-abbrev pub body_drawing : TableData → TableState → ℕ → List Rect → Rect → Drawing
-body_drawing t u n columns r =
-    let rows = placed_rows t u r in
+-- what stands where rows do: the rows, and the highlights over them; nothing without rows
+abbrev pub ShowsBody : TableData → TableState → ℕ → List Rect → Rect → Rect → BufferData → BufferData → Type 0
+ShowsBody t u n columns place r =
+    let rows = placed_rows t u place in
     let row = selected_row_area u.selected rows in
-    draw_if (not (length t.rows.items == 0)) (rows_drawing t u.selected n columns rows
-    before highlights t row (selected_column u.selected_column columns) r)
+    DoesIf (not (length t.rows.items == 0)) (InTurn (DrawsAll (rows_drawing t u.selected n columns rows) r)
+    (Highlights t row (selected_column u.selected_column columns) place r))
 
--- what a table draws in an area: the header, the rows, and the footer
-abbrev pub table_drawing : TableData → TableState → List Rect → Rect → Drawing
-table_drawing t u columns r =
-    let n = symbol_columns t (is_some u.selected) r in
-    outer_drawing columns t.header r
-    before body_drawing t u n columns (rows_area t.header t.footer r)
-    before outer_drawing columns t.footer (footer_area t.header t.footer r)
+-- what stands in an area: the header, the rows with the highlights, and the footer
+pub record ShowsTableParts (t : TableData) (u : TableState) (columns : List Rect) (r : Rect)
+    (old new : BufferData) : Type 0 where
+  pub headed : BufferData
+  pub filled : BufferData
+  pub header : DrawsAll (outer_drawing columns t.header r) r old headed
+  pub body : let n = symbol_columns t (is_some u.selected) r in
+      ShowsBody t u n columns (rows_area t.header t.footer r) r headed filled
+  pub footer : DrawsAll (outer_drawing columns t.footer (footer_area t.header t.footer r)) r filled new
 
 -- a number, but at most the last one of so many; none of none
 abbrev pub within_count : ℕ → Option ℕ → Option ℕ
@@ -197,7 +203,7 @@ pub record ShowsTable (t : TableData) (s u : TableState) (r : Rect) (old new : B
   pub state : IsNextState t (rows_area t.header t.footer r).height s u
   pub columns : List Rect
   pub are_columns : AreColumns t (symbol_columns t (is_some u.selected) r) r columns
-  pub drawn : DrawsAll (table_drawing t u columns r) r old new
+  pub parts : ShowsTableParts t u columns r old new
 
 -- a table in its style and its box, over the part of an area that a buffer has
 abbrev pub RendersTable : TableData → TableState → TableState → Rect → BufferData → BufferData → Type 0
@@ -213,6 +219,17 @@ pub record HasNarrowRows (t : TableData) : Type 0 where
   pub header : IfSome t.header HasNarrowCells
   pub footer : IfSome t.footer HasNarrowCells
   pub symbol : IfSome t.highlight_symbol (EachTextGrapheme TakesOneColumn)
+
+-- a screen can show the cells of a row
+abbrev pub HasShowableCells : Row → Type 0
+HasShowableCells row = All (λ cell. IsShowableText cell.content) row.cells.items
+
+-- a screen can show all that a table shows inside its box
+pub record HasShowableRows (t : TableData) : Type 0 where
+  pub rows : All HasShowableCells t.rows.items
+  pub header : IfSome t.header HasShowableCells
+  pub footer : IfSome t.footer HasShowableCells
+  pub symbol : IfSome t.highlight_symbol IsShowableText
 
 -- a table without a state of its own: from the first row on, nothing selected
 abbrev pub RendersTableFresh : TableData → Rect → BufferData → BufferData → Type 0

@@ -3,20 +3,30 @@
 ghost use Rattle.std.specs.Prelude.{◌≡◌, ℕ, ◌≤◌, ◌<◌, Some, IfSome};
 ghost use Rattle.ratatui_core.specs.Layout.{Rect, intersected};
 ghost use Rattle.ratatui_core.specs.Buffer.{BufferData, IsPlainFrom};
+ghost use Rattle.widget_boxes.specs.Apart.{StandsApart, IsReadyIn};
 ghost use Rattle.widget_boxes.specs.Boxes.{IsNarrowBox};
 ghost use Rattle.widget_table.specs.declared.table.Table.{Table as TableData};
 ghost use Rattle.widget_table.specs.declared.state.TableState.{TableState};
 ghost use Rattle.widget_table.specs.Rows.{IsInView, rows_area, upper_at, cells_at};
 ghost use Rattle.widget_table.specs.SettledTables.{SettlesTable, settled_table};
-ghost use Rattle.widget_table.specs.Tables.{HasNarrowRows, RendersTable, ShowsTable, IsShownWhole};
+ghost use Rattle.widget_table.specs.Tables.{HasNarrowRows, HasShowableRows, RendersTable, ShowsTable};
+ghost use Rattle.widget_table.specs.Tables.{IsShownWhole};
 
 /// A table whose texts and whose symbol take one column for each grapheme leaves a buffer of plain
-/// cells one of plain cells, if it has no box or a narrow one; so a screen can show it. Under a
-/// highlight a wide grapheme's second column is no blank any more.
+/// cells one of plain cells, if it has no box or a narrow one; so a screen can show it.
 pub fn tables_keep_cells_plain()
     ensures { (t : TableData) (s u : TableState) (area : Rect) (old new : BufferData)
         → IfSome t.block IsNarrowBox → HasNarrowRows t → IsPlainFrom 0 old
         → RendersTable t s u area old new → IsPlainFrom 0 new }
+{}
+
+/// A table over an area that is ready leaves the area apart, with wide graphemes, too, under its
+/// highlights, too, if a screen can show its texts and its symbol, and it has no box or a narrow one;
+/// so the buffer is settled.
+pub fn tables_leave_areas_apart()
+    ensures { (t : TableData) (s u : TableState) (area : Rect) (old new : BufferData)
+        → IfSome t.block IsNarrowBox → HasShowableRows t → IsReadyIn area old
+        → RendersTable t s u area old new → StandsApart area new }
 {}
 
 /// The selected row is in view from the state's first one on, if the rows' area has room for it with

@@ -1,11 +1,12 @@
 //! What a table draws.
 
-ghost use Rattle.std.specs.Prelude.{◌≡◌, is_some, IfOk};
-ghost use Rattle.rtui_drawing.specs.Drawings.{DrawsAll, IsDone};
+ghost use Rattle.std.specs.Prelude.{◌≡◌, is_some, IfOk, OnOk};
+ghost use Rattle.ratatui_core.specs.Widgets.{ChangesWithin};
+ghost use Rattle.rtui_drawing.specs.Drawings.{IsDone};
 ghost use Rattle.widget_table.specs.Rows.{rows_area, footer_area};
 ghost use Rattle.widget_table.specs.Tables.{cells_drawing, symbol_drawing, symbol_if, row_drawing, rows_drawing};
 ghost use Rattle.widget_table.specs.Tables.{outer_drawing, area_if, selected_row_area, selected_column};
-ghost use Rattle.widget_table.specs.Tables.{highlights, body_drawing, placed_rows, symbol_columns, table_drawing};
+ghost use Rattle.widget_table.specs.Tables.{placed_rows, symbol_columns, Highlights, ShowsBody, ShowsTableParts};
 ghost use Rattle.widget_table.specs.Inner.{IsTableArea};
 
 use crate::cell::Cell;
@@ -17,6 +18,7 @@ use ratatui_core::layout::Rect;
 use ratatui_core::style::Style;
 use rtui_drawing::{Cut, put_style, put_text};
 use std::alloc::AllocError;
+use widget_boxes::highlight;
 
 // Where a table stands, and in it its rows and its footer.
 #[derive(Clone, Copy)]
@@ -157,8 +159,8 @@ impl<'a> Table<'a> {
         Ok(selected)
     }
 
-    // Lays the highlights over the selected row, over the selected column, and where they meet.
-    fn highlight(
+    // Highlights the selected row, the selected column, and where they meet.
+    fn draw_highlights(
         &self,
         row: Option<Rect>,
         column: Option<Rect>,
@@ -166,22 +168,22 @@ impl<'a> Table<'a> {
         area: Rect,
         buf: &mut Buffer,
     )
-        ensures { DrawsAll (highlights self.now row column place) area buf.old buf.new }
+        ensures { Highlights self.now row column place area buf.old buf.new }
     {
         let rows = Cut::Within(place).of(area);
         match (row, column) {
             (Some(row), Some(column)) => {
                 let row = Cut::Within(row).of(area);
                 let column = Cut::Within(column);
-                put_style(self.row_highlight_style, row, buf);
-                put_style(self.column_highlight_style, column.of(rows), buf);
-                put_style(self.cell_highlight_style, column.of(row), buf);
+                highlight(self.row_highlight_style, row, buf);
+                highlight(self.column_highlight_style, column.of(rows), buf);
+                highlight(self.cell_highlight_style, column.of(row), buf);
             }
             (Some(row), None) => {
-                put_style(self.row_highlight_style, Cut::Within(row).of(area), buf);
+                highlight(self.row_highlight_style, Cut::Within(row).of(area), buf);
             }
             (None, Some(column)) => {
-                put_style(
+                highlight(
                     self.column_highlight_style,
                     Cut::Within(column).of(rows),
                     buf,
@@ -202,20 +204,20 @@ impl<'a> Table<'a> {
         buf: &mut Buffer,
     ) -> Result<(), AllocError>
         requires { IsTableArea place }
-        ensures { let d = body_drawing self.now state symbol_columns columns.now place in
-            IsDone d area result buf.old buf.new }
+        ensures within { ChangesWithin area buf.old buf.new }
+        ensures ok { let f = ShowsBody self.now state symbol_columns columns.now place area in
+            OnOk result (f buf.old buf.new) }
     {
         if self.rows.as_slice().is_empty() {
             return Ok(());
         }
         let row = self.draw_rows(state, symbol_columns, columns, place, area, buf)?;
         let column = selected_column(state.selected_column, columns);
-        self.highlight(row, column, place, area, buf);
+        self.draw_highlights(row, column, place, area, buf);
         Ok(())
     }
 
     // Draws the header, the rows and the footer.
-    #[tactic(auto, using(rtui_drawing::proofs::DrawingLemmas::drawing_steps))]
     pub(crate) fn draw_table(
         &self,
         state: TableState,
@@ -231,8 +233,9 @@ impl<'a> Table<'a> {
         requires all { IsTableArea places.whole }
         requires between { IsTableArea places.rows }
         requires below { IsTableArea places.footer }
-        ensures { let d = table_drawing self.now state columns.now places.whole in
-            IsDone d places.whole result buf.old buf.new }
+        ensures within { ChangesWithin places.whole buf.old buf.new }
+        ensures ok { OnOk result
+            (ShowsTableParts self.now state columns.now places.whole buf.old buf.new) }
     {
         let area = places.whole;
         self.draw_outer(&self.header, columns, area, area, buf)?;

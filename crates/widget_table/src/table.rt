@@ -162,7 +162,8 @@ impl<'a> Table<'a> {
         self
     }
 
-    /// Sets the style of the selected row.
+    /// Sets the style of the selected row. A wide character's second column isn't styled: it shows
+    /// that character, in its own style. So it is of the styles below.
     pub fn row_highlight_style(mut self, style: Style) -> Table<'a>
         ensures { result ≡ record self.entry { row_highlight_style = style } }
     {

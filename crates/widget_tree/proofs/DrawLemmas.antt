@@ -1,16 +1,19 @@
 -- The parts of a row one after the other, and rows one below the other.
-use Rattle.std.proofs.Common.{◌≡◌, ℕ, ◌+◌, ◌-◌, ◌<◌, ◌≤◌, Bool, true, List, [], Some, Result, Ok, Err, sym, ap, subst, arith}
+use Rattle.std.proofs.Common.{◌≡◌, ℕ, ◌+◌, ◌-◌, ◌<◌, ◌≤◌, Bool, true, List, [], Some, Result, Ok, Err, OnErr, sym, ap, subst, arith}
 use Rattle.std.specs.Result.{IsErr}
 use Rattle.std.specs.declared.alloc.AllocError.{AllocError}
 use Rattle.ratatui_core.specs.{Layout.Rect, Style.new_style, Text.LineData, Buffer.BufferData, Buffer.text_pieces, Buffer.columns}
 use Rattle.rtui_drawing.specs.{Cuts.cut_from, Drawings.Drawing, Drawings.IsDone, Drawings.DrawsAll, Drawings.IsRowIn}
-use Rattle.rtui_drawing.specs.Drawings.{put_pieces, put_line, put_style, over}
+use Rattle.rtui_drawing.specs.Drawings.{put_pieces, put_line, put_style, over, IsStopped}
+use Rattle.rtui_inside.proofs.InsideLemmas.{filled-left}
+use Rattle.widget_boxes.specs.Framed.{FramesInside}
 use Rattle.rtui_drawing.specs.declared.cut.Cut.TheVariants.{After, Rows}
 use Rattle.rtui_drawing.proofs.Laws.{Continues}
-use Rattle.rtui_drawing.proofs.DrawingLemmas.{done-within, draws-within, done-all, done-then, draws-then, done-stop, done-in, continues-next, continues-stop, continues-end}
+use Rattle.rtui_drawing.proofs.DrawingLemmas.{done-within, draws-within, done-then, draws-then, done-stop, done-in, continues-next, continues-stop, continues-end}
 use Rattle.widget_tree.specs.declared.{item.TreeItem.TreeItem, state.TreeState.TreeState, tree.Tree.Tree}
 use Rattle.widget_tree.specs.{Nodes.node_item, Moves.same_node}
-use Rattle.widget_tree.specs.Trees.{node_label, each_in_row, left_drawing, highlight_drawing, line_row_drawing, node_drawing, node_symbol, indent_columns}
+use Rattle.widget_tree.specs.Trees.{node_label, each_in_row, left_drawing, line_row_drawing, node_drawing, node_symbol, indent_columns}
+use Rattle.widget_tree.specs.Trees.{tree_drawing, LeavesTree}
 use Rattle.widget_tree.specs.Inner.{IsNext}
 use Rattle.widget_tree.specs.Depths.{shows_node}
 use Rattle.widget_tree.proofs.RowLemmas.{rows_left, rows-here, rows-next}
@@ -64,20 +67,11 @@ module _ (t : Tree) (line : LineData) (is_selected : Bool) (mark left : ℕ) (sy
       let width : rest.width ≡ row.width - left = ap (λ (r : Rect). r.width) at in
       done-in (After left) rest result (subst (λ n. IsDone (node_label symbol line n) rest result marked new) width two) at
 
-  pub label-stop : {A B C : Type 0} {x : A} {e : AllocError} {new : BufferData} (result : Result C AllocError) → IsErr result
+  pub line-done : {A B : Type 0} {x : A} {new : BufferData} (result : Result B AllocError)
       → IsDone (left_drawing t is_selected mark left) row (Ok x) laid marked
-      → IsDone {A = B} (node_label symbol line rest.width) rest (Err e) marked new
+      → IsDone (node_label symbol line rest.width) rest result marked new
       → IsDone (line_row_drawing t line is_selected mark left symbol row.width) row result old new
-  label-stop {e = e} result err one two =
-      draws-then result styled (done-then result one (done-stop result err (label-in (Err e) two)))
-
-  pub line-all : {A B C : Type 0} {x : A} {y : B} {z : C} {labelled new : BufferData}
-      → IsDone (left_drawing t is_selected mark left) row (Ok x) laid marked
-      → IsDone (node_label symbol line rest.width) rest (Ok y) marked labelled
-      → DrawsAll (highlight_drawing t is_selected) row labelled new
-      → IsDone (line_row_drawing t line is_selected mark left symbol row.width) row (Ok z) old new
-  line-all {y = y} {z = z} one two three =
-      draws-then (Ok z) styled (done-then (Ok z) one (done-then (Ok z) (label-in (Ok y) two) (done-all three)))
+  line-done result one two = draws-then result styled (done-then result one (label-in result two))
 
 -- a node's row
 pub node-done : {A : Type 0} (t : Tree) (s : TreeState) (mark k : ℕ) (item : TreeItem) (is_selected : Bool) (left : ℕ)
@@ -130,3 +124,14 @@ module _ (ds : List ℕ) (os : List Bool) (f : ℕ → Drawing) (r : Rect) (all 
       → rows_left ds os r.height y node ≡ [] → IsDone all r (Ok x) old now
   rows-end y node {x = x} {old = old} {now = now} rest none =
       continues-end (subst (λ ks. Continues (each_in_row f y ks) r all r old now) none rest)
+
+-- what a refusal leaves
+pub tree-left : {A : Type 0} (t : Tree) (s s' : TreeState) (area inner : Rect) (old framed new : BufferData)
+    → FramesInside t.style t.block area old framed inner → (result : Result A AllocError) → OnErr result (s' ≡ s)
+    → OnErr result (IsStopped (tree_drawing t s inner) inner framed new) → OnErr result (LeavesTree t s s' area old new)
+tree-left t s s' area inner old framed new is (Ok x) state stopped = tt
+tree-left {A = A} t s s' area inner old framed new is (Err e) state stopped = record {
+  state = state;
+  drawn = filled-left {A = A} t.style t.block area inner old framed new is (tree_drawing t s) (Err e)
+      (record { ok = tt; err = stopped });
+}

@@ -10,3 +10,5 @@ pub mod RowLemmas
 pub mod DrawLemmas
 pub mod NarrowTreeLemmas
 pub mod SettledTreeLemmas
+pub mod ApartRowLemmas
+pub mod ApartTreeLemmas

@@ -1,30 +1,32 @@
 -- Trees of narrow texts keep cells plain.
 use Rattle.std.proofs.Common.{◌≡◌, ℕ, zero, suc, ◌+◌, ◌-◌, ◌<◌, ◌≤◌, min, length, Bool, true, false, if◌then◌else◌, List, [], ◌∷◌, All, arith}
-use Rattle.std.proofs.Common.{Some, codes, is_some}
+use Rattle.std.proofs.Common.{Option, Some, None, codes, is_some}
 use Rattle.std.proofs.lemmas.List.Elements.{All-head, All-tail, All-take, filter_passes}
 use Rattle.std.specs.List.{filter, range_with_len}
 use Rattle.ratatui_core.specs.{Layout.Rect, Layout.intersected, Style.new_style, Text.LineData}
 use Rattle.ratatui_core.specs.Text.{EachGrapheme, EachLineGrapheme, TakesOneColumn}
 use Rattle.ratatui_core.specs.Buffer.{BufferData, Cell, width_of, text_width, text_columns, text_pieces, IsPlain, IsPlainFrom}
-use Rattle.ratatui_core.proofs.BufferLemmas.{width-empty}
+use Rattle.ratatui_core.proofs.BufferLemmas.{width-empty, over-all, from-over}
 use Rattle.widget_boxes.specs.Framed.{inner_if}
+use Rattle.widget_boxes.proofs.{InnerLemmas.plain-inside, ApartLemmas.plain-lit}
 use Rattle.rtui_drawing.specs.declared.cut.Cut.TheVariants.{First}
-use Rattle.rtui_drawing.specs.Drawings.{Drawing, over, put_pieces, put_style}
-use Rattle.rtui_drawing.proofs.{Laws.IsNarrowDrawing, NarrowLemmas.text-narrow, DrawingLemmas.if-narrow}
-use Rattle.rtui_inside.proofs.InsideLemmas.{state-plain, inner-columns}
+use Rattle.rtui_drawing.specs.Drawings.{Drawing, over, put_pieces}
+use Rattle.rtui_drawing.proofs.{Laws.IsNarrowDrawing, NarrowLemmas.text-narrow, DrawingLemmas.if-narrow, DrawingLemmas.draws-plain}
+use Rattle.rtui_inside.proofs.InsideLemmas.{inner-columns}
 use Rattle.widget_tree.specs.declared.{item.TreeItem.TreeItem, state.TreeState.TreeState, tree.Tree.Tree}
 use Rattle.widget_tree.specs.Depths.{has_children, is_opened, shows_node, shown_nodes}
 use Rattle.widget_tree.specs.{Nodes.node_item, Moves.same_node, Rows.nodes_in_rows}
 use Rattle.widget_tree.specs.TreeStates.{tree_depths, opened_of}
 use Rattle.widget_tree.specs.Trees.{blank_in_place, mark_columns, indent_columns, node_symbol}
-use Rattle.widget_tree.specs.Trees.{node_drawing, each_in_row, drawn_nodes, tree_drawing, next_tree_state, IsNarrowTree, RendersTree}
+use Rattle.widget_tree.specs.Trees.{node_drawing, each_in_row, drawn_nodes, tree_drawing, next_tree_state, selected_row}
+use Rattle.widget_tree.specs.Trees.{HighlightsRow, ShowsTree, IsNarrowTree, RendersTree}
 use Rattle.widget_tree.proofs.{ShownLemmas.shown-from, BuildLemmas.length-depths}
 
 blank-width : text_width (codes " ") ≡ 1
 unfolding width_of
 blank-width = width-empty
 
-blank-plain : (c : Cell) → IsPlain c → IsPlain (blank_in_place c)
+pub blank-plain : (c : Cell) → IsPlain c → IsPlain (blank_in_place c)
 unfolding width_of
 blank-plain c is =
     let e = is.unmarked.option in
@@ -79,11 +81,8 @@ node-narrow t s mark width k narrow few le shown =
               (text-narrow mark new_style t.highlight_symbol.now few narrow.mark),
         ),
         (
-          (
-            text-narrow (width - left) new_style symbol (omega arith) is_narrow,
-            item-narrow t.nodes.items.items k (omega (arith, length-depths t.nodes.items.items)) narrow.lines,
-          ),
-          if-narrow is_selected (put_style t.highlight_style) tt,
+          text-narrow (width - left) new_style symbol (omega arith) is_narrow,
+          item-narrow t.nodes.items.items k (omega (arith, length-depths t.nodes.items.items)) narrow.lines,
         ),
       ),
     )
@@ -93,11 +92,18 @@ rows-narrow : (f : ℕ → Drawing) (P : ℕ → Type 0) → ((k : ℕ) → P k 
 rows-narrow f P each y [] all = tt
 rows-narrow f P each y (k ∷ ks) all = (each k (All-head P k ks all), rows-narrow f P each (y + 1) ks (All-tail P k ks all))
 
-all-shown : (ds : List ℕ) (os : List Bool) (first height : ℕ) → All (λ k. shows_node ds os k ≡ true) (nodes_in_rows ds os first height)
+pub all-shown : (ds : List ℕ) (os : List Bool) (first height : ℕ) → All (λ k. shows_node ds os k ≡ true) (nodes_in_rows ds os first height)
 unfolding shown_nodes
 all-shown ds os first height =
     All-take (λ k. shows_node ds os k ≡ true) height (filter (shows_node ds os) (range_with_len first (length ds - first)))
     (filter_passes (shows_node ds os) (range_with_len first (length ds - first)))
+
+-- the highlight
+highlight-plain : (t : Tree) (row : Option Rect) (old new : BufferData) → HighlightsRow t row old new → IsPlainFrom 0 old
+    → IsPlainFrom 0 new
+highlight-plain t None old new same plain = rw same plain
+highlight-plain t (Some row) old new is plain =
+    from-over old new is.area (plain-lit t.highlight_style row old new is old.area (over-all old plain))
 
 pub tree-plain : (t : Tree) (s s' : TreeState) (area : Rect) (old new : BufferData) → IsNarrowTree t → IsPlainFrom 0 old
     → RendersTree t s s' area old new → IsPlainFrom 0 new
@@ -105,7 +111,9 @@ tree-plain t s s' area old new narrow plain =
     let r = inner_if t.block (intersected area old.area) in
     let le = inner-columns t.block area old.area in
     let ds = tree_depths t in let os = opened_of s in
-    state-plain t.style t.block area old new narrow.box plain (tree_drawing t) (next_tree_state t) s s'
-    (rows-narrow (node_drawing t s (mark_columns t s r.width) r.width) (λ k. shows_node ds os k ≡ true)
+    let drawing = rows-narrow (node_drawing t s (mark_columns t s r.width) r.width) (λ k. shows_node ds os k ≡ true)
     (λ k shown. node-narrow t s (mark_columns t s r.width) r.width k narrow (mark-small t s r.width le) le shown) 0
-    (drawn_nodes t s r) (all-shown ds os (next_tree_state t s r).offset r.height))
+    (drawn_nodes t s r) (all-shown ds os (next_tree_state t s r).offset r.height) in
+    plain-inside t.style t.block (ShowsTree t) s s' area old new narrow.box plain (λ framed cells shown.
+    highlight-plain t (selected_row s.selected r 0 (drawn_nodes t s r)) shown.shown.drawn new shown.shown.highlight
+    (draws-plain (tree_drawing t s r) r framed shown.shown.drawn drawing cells shown.shown.nodes))

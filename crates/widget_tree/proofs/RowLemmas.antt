@@ -1,6 +1,9 @@
 -- The nodes that stand in rows.
 use Rattle.std.proofs.Common.{◌≡◌, ℕ, zero, suc, ◌+◌, ◌-◌, ◌<◌, ◌≤◌, Bool, true, List, [], ◌∷◌, Some, take}
-use Rattle.std.proofs.Common.{slice_get, length, refl, ap, ◌∙◌, arith}
+use Rattle.std.proofs.Common.{slice_get, length, refl, sym, ap, ◌∙◌, arith, Option, None}
+use Rattle.std.specs.Option.{option_or}
+use Rattle.ratatui_core.specs.Layout.{Rect}
+use Rattle.widget_tree.specs.{Moves.same_node, Trees.row_if, Trees.selected_row}
 use Rattle.widget_tree.specs.Depths.{shows_node, shown_nodes}
 use Rattle.widget_tree.specs.Inner.{IsNext}
 use Rattle.widget_tree.specs.Rows.{nodes_in_rows, offset_for}
@@ -37,6 +40,28 @@ rows-here ds os height y node lt shown =
 pub rows-past : (ds : List ℕ) (os : List Bool) (height y node : ℕ) → length ds ≤ node → rows_left ds os height y node ≡ []
 rows-past ds os height y node past =
     ap (λ xs. take (height - y) xs) (in-none ds os node (length ds) past) ∙ take-none (height - y)
+
+pub rows-all : (ds : List ℕ) (os : List Bool) (height y node : ℕ) → height ≤ y → rows_left ds os height y node ≡ []
+rows-all ds os height y node end =
+    let none : height - y ≡ 0 = omega arith in
+    ap (λ n. take n (shown_nodes ds os node (length ds))) none
+
+-- the selected node's row: it is the next one's, or one of those after it
+module _ (selected : Option ℕ) (r : Rect) where
+  pub selected-next : (was all : Option Rect) (y node : ℕ) (nodes more : List ℕ) → nodes ≡ node ∷ more
+      → option_or was (selected_row selected r y nodes) ≡ all
+      → option_or (option_or was (row_if (same_node selected (Some node)) y r)) (selected_row selected r (y + 1) more) ≡ all
+  selected-next was all y node nodes more is so_far =
+      or-assoc was _ _ ∙ ap (λ ks. option_or was (selected_row selected r y ks)) (sym is) ∙ so_far
+    where
+      or-assoc : (a b c : Option Rect) → option_or (option_or a b) c ≡ option_or a (option_or b c)
+      or-assoc None b c = refl
+      or-assoc (Some x) b c = refl
+
+  pub selected-end : (was all : Option Rect) (y : ℕ) (nodes : List ℕ) → nodes ≡ []
+      → option_or was (selected_row selected r y nodes) ≡ all → was ≡ all
+  selected-end None all y nodes none is = sym (ap (selected_row selected r y) none) ∙ is
+  selected-end (Some row) all y nodes none is = is
 
 -- the selected node stands in one of them
 get-take : {A : Type 0} (xs : List A) (n y : ℕ) → y < n → slice_get (take n xs) y ≡ slice_get xs y

@@ -4,7 +4,6 @@ use Rattle.std.proofs.Common.{None, slice_get, length, refl, sym, ap, subst, ◌
 use Rattle.std.proofs.lemmas.Bool.{cases_Bool, false≢true}
 use Rattle.std.proofs.lemmas.Bool.Decides.{nat_tests}
 use Rattle.ratatui_core.specs.{Layout.Rect, Layout.intersected, Buffer.BufferData}
-use Rattle.rtui_drawing.specs.Drawings.{DrawsAll}
 use Rattle.widget_boxes.specs.declared.block.Block.{Block}
 use Rattle.widget_boxes.specs.Framed.{inner_if, IsBare}
 use Rattle.widget_boxes.proofs.InnerLemmas.{bare-or}
@@ -12,7 +11,8 @@ use Rattle.widget_tree.specs.declared.{state.TreeState.TreeState, tree.Tree.Tree
 use Rattle.widget_tree.specs.Depths.{shows_node, shown_nodes, first_node, last_node}
 use Rattle.widget_tree.specs.Rows.{row_start, scrolled_to, offset_for}
 use Rattle.widget_tree.specs.TreeStates.{tree_depths, opened_of}
-use Rattle.widget_tree.specs.Trees.{next_tree_state, settled_tree, node_rows_drawing, RendersTree}
+use Rattle.widget_tree.specs.Trees.{next_tree_state, settled_tree, ShowsNodes}
+use Rattle.widget_tree.specs.Trees.{RendersTree}
 use Rattle.widget_tree.proofs.ShownLemmas.{shown-from, in-here}
 use Rattle.widget_tree.proofs.ScrollLemmas.{start-first, start-last, offset-none, offset-shown, offset-hidden}
 use Rattle.widget_tree.proofs.LawLemmas.{first-of-shown, last-of-shown, last-nothing, scrolled-shows, scroll-stays}
@@ -84,7 +84,7 @@ next-twice t s r some =
     ap (λ (n : ℕ). record s { offset = n }) (offset-twice (tree_depths t) (opened_of s) r.height s.offset s.selected some)
 
 -- nothing is inside of nothing
-bare-inside : (o : Option Block) (part : Rect) → IsBare part → IsBare (inner_if o part)
+pub bare-inside : (o : Option Block) (part : Rect) → IsBare part → IsBare (inner_if o part)
 bare-inside None part bare = bare
 bare-inside (Some b) part bare =
     ⊎_elim (λ (e : part.width ≡ 0). inl (omega arith)) (λ (e : part.height ≡ 0). inr (omega arith)) bare
@@ -144,12 +144,12 @@ module _ (t : Tree) (s s' : TreeState) (area : Rect) (old new : BufferData) (is 
             let shows = there.inside wide high in
             let again : next_tree_state t s' r ≡ s' =
             ap (λ u. next_tree_state t u r) shows.state ∙ next-twice t s r high ∙ sym shows.state in
+            let offset = sym (offset-twice (tree_depths t) (opened_of s) r.height s.offset s.selected high) in
+            let moved = subst (λ n. ShowsNodes t s n r there.framed new) offset shows.shown in
             record {
-              drawn = subst (λ (u : TreeState). DrawsAll (node_rows_drawing t u (next_tree_state t u r).offset r) r there.framed new)
-                  (sym shows.state)
-                  (subst (λ n. DrawsAll (node_rows_drawing t s n r) r there.framed new)
-                  (sym (offset-twice (tree_depths t) (opened_of s) r.height s.offset s.selected high)) shows.drawn);
               state = sym again;
+              shown = subst (λ (u : TreeState). ShowsNodes t u (next_tree_state t u r).offset r there.framed new) (sym shows.state)
+                  (record { drawn = moved.drawn; nodes = moved.nodes; highlight = moved.highlight });
             };
       };
     };

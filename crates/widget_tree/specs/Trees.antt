@@ -1,13 +1,17 @@
 -- What a tree draws.
 use Rattle.std.specs.Prelude.{◌≡◌, ℕ, ◌+◌, ◌-◌, ◌*◌, ◌==◌, ◌||◌, min, Bool, if◌then◌else◌, List, [], ◌∷◌, codes, encode_utf8_all}
-use Rattle.std.specs.Prelude.{Some, None, is_some, IfSome, All, ⊤}
+use Rattle.std.specs.Prelude.{Option, Some, None, is_some, IfSome, All, ⊤, true, false}
+use Rattle.std.specs.Option.{option_or}
 use Rattle.ratatui_core.specs.{Layout.Rect, Style.new_style}
 use Rattle.ratatui_core.specs.Text.{LineData, EachGrapheme, EachLineGrapheme, TakesOneColumn}
 use Rattle.ratatui_core.specs.Buffer.{BufferData, Cell, with_symbol, text_pieces, columns, text_columns}
-use Rattle.widget_boxes.specs.{Boxes.IsNarrowBox, Framed.inner_if}
+use Rattle.widget_boxes.specs.{Boxes.IsNarrowBox, Framed.inner_if, Framed.RendersStateInFrame}
+use Rattle.widget_boxes.specs.{Highlights.IsHighlighted, Apart.IsShowable}
+use Rattle.rtui_drawing.specs.Cuts.{cut_from}
 use Rattle.rtui_drawing.specs.declared.cut.Cut.TheVariants.{First, After, Rows}
 use Rattle.rtui_drawing.specs.Drawings.{Drawing, nothing, over, ◌before◌, draw_if, put_style, put_pieces, put_line, put_change}
-use Rattle.rtui_inside.specs.Inside.{DrawsStateInside, LeavesInside, IsShortInside}
+use Rattle.rtui_drawing.specs.Drawings.{DrawsAll}
+use Rattle.rtui_inside.specs.Inside.{LeavesInside, IsShortInside}
 use Rattle.widget_tree.specs.declared.{item.TreeItem.TreeItem, state.TreeState.TreeState, tree.Tree.Tree}
 use Rattle.widget_tree.specs.Depths.{has_children, is_opened}
 use Rattle.widget_tree.specs.{Nodes.node_item, Moves.same_node, Rows.nodes_in_rows, Rows.offset_for}
@@ -58,17 +62,12 @@ abbrev pub node_label : List ℕ → LineData → ℕ → Drawing
 node_label symbol line room =
     let ps = text_pieces room new_style symbol in put_pieces ps before over (After (columns ps)) (put_line line)
 
--- the highlight's style over the selected node's row
-abbrev pub highlight_drawing : Tree → Bool → Drawing
-highlight_drawing t is_selected = draw_if is_selected (put_style t.highlight_style)
-
 -- A row of so many columns with a line: the line's style over all of it; at the left the highlight symbol or
--- blanks, and blanks further on; then a symbol and the line; and over all the highlight's style, if the row is
--- the selected node's.
+-- blanks, and blanks further on; then a symbol and the line.
 abbrev pub line_row_drawing : Tree → LineData → Bool → ℕ → ℕ → List ℕ → ℕ → Drawing
 line_row_drawing t line is_selected mark left symbol width =
     put_style line.style before left_drawing t is_selected mark left
-    before over (After left) (node_label symbol line (width - left)) before highlight_drawing t is_selected
+    before over (After left) (node_label symbol line (width - left))
 
 -- a node in such a row: two columns for each level, its symbol and its line
 abbrev pub node_drawing : Tree → TreeState → ℕ → ℕ → ℕ → Drawing
@@ -103,13 +102,41 @@ settled_tree t area s =
 abbrev pub drawn_nodes : Tree → TreeState → Rect → List ℕ
 drawn_nodes t s r = nodes_in_rows (tree_depths t) (opened_of s) (next_tree_state t s r).offset r.height
 
--- all that a tree draws in an area
+-- all that a tree draws in an area, but for the highlight
 abbrev pub tree_drawing : Tree → TreeState → Rect → Drawing
 tree_drawing t s r = node_rows_drawing t s (next_tree_state t s r).offset r
 
+-- an area's row, if there is to be one
+abbrev pub row_if : Bool → ℕ → Rect → Option Rect
+row_if true y r = Some (cut_from (Rows y 1) r)
+row_if false y r = None
+
+-- the selected node's row, if it is one of these, which stand in an area's rows from one on
+abbrev pub selected_row : Option ℕ → Rect → ℕ → List ℕ → Option Rect
+selected_row selected r y [] = None
+selected_row selected r y (k ∷ ks) =
+    option_or (row_if (same_node selected (Some k)) y r) (selected_row selected r (y + 1) ks)
+
+-- the selected node's row is highlighted, if it is shown: all but the columns that wide symbols cover
+abbrev pub HighlightsRow : Tree → Option Rect → BufferData → BufferData → Type 0
+HighlightsRow t None old new = new ≡ old
+HighlightsRow t (Some row) old new = IsHighlighted row t.highlight_style old new
+
+-- the nodes that are shown from one on, a row each, and the highlight over the selected one's
+pub record ShowsNodes (t : Tree) (s : TreeState) (first : ℕ) (r : Rect) (old new : BufferData) : Type 0 where
+  pub drawn : BufferData
+  pub nodes : DrawsAll (node_rows_drawing t s first r) r old drawn
+  pub highlight : let nodes = nodes_in_rows (tree_depths t) (opened_of s) first r.height in
+      HighlightsRow t (selected_row s.selected r 0 nodes) drawn new
+
+-- a tree over an area: its nodes, from the next state's first one on
+pub record ShowsTree (t : Tree) (s s' : TreeState) (r : Rect) (old new : BufferData) : Type 0 where
+  pub state : s' ≡ next_tree_state t s r
+  pub shown : ShowsNodes t s (next_tree_state t s r).offset r old new
+
 -- A tree in its style and its box, over the part of an area that a buffer has. Nothing outside the area changes.
 abbrev pub RendersTree : Tree → TreeState → TreeState → Rect → BufferData → BufferData → Type 0
-RendersTree t = DrawsStateInside t.style t.block (tree_drawing t) (next_tree_state t)
+RendersTree t = RendersStateInFrame t.style t.block (ShowsTree t)
 
 -- what a refusal leaves: if the box takes no memory, style and box stand, and all before one of the parts; the
 -- state stays
@@ -129,3 +156,8 @@ pub record IsNarrowTree (t : Tree) : Type 0 where
   pub closed_symbol : EachGrapheme TakesOneColumn t.node_closed_symbol.now
   pub no_children_symbol : EachGrapheme TakesOneColumn t.node_no_children_symbol.now
   pub lines : All (λ item. EachLineGrapheme TakesOneColumn item.line) t.nodes.items.items
+
+-- a screen can show its lines, and it has no box or a narrow one; its symbols may be any
+pub record IsShowableTree (t : Tree) : Type 0 where
+  pub box : IfSome t.block IsNarrowBox
+  pub lines : All (λ item. IsShowable item.line) t.nodes.items.items

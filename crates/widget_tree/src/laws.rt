@@ -5,6 +5,7 @@ ghost use Rattle.std.specs.Prelude.{List as Sequence, length, slice_get};
 ghost use Rattle.std.specs.Prelude.{Some, None, Option, IfSome};
 ghost use Rattle.ratatui_core.specs.Layout.{Rect, intersected};
 ghost use Rattle.ratatui_core.specs.Buffer.{BufferData, IsPlainFrom};
+ghost use Rattle.widget_boxes.specs.Apart.{StandsApart, IsReadyIn};
 ghost use Rattle.widget_tree.specs.declared.state.TreeState.{TreeState};
 ghost use Rattle.widget_tree.specs.declared.tree.Tree.{Tree};
 ghost use Rattle.widget_tree.specs.Depths.{is_ancestor, parent_of, has_children, is_opened};
@@ -12,7 +13,7 @@ ghost use Rattle.widget_tree.specs.Depths.{shows_node, shown_nodes, first_node};
 ghost use Rattle.widget_tree.specs.Moves.{MarksOnly, node_below, node_above};
 ghost use Rattle.widget_tree.specs.Rows.{scrolled_to};
 ghost use Rattle.widget_tree.specs.TreeStates.{tree_depths, opened_of};
-ghost use Rattle.widget_tree.specs.Trees.{drawn_nodes, settled_tree, IsNarrowTree, RendersTree};
+ghost use Rattle.widget_tree.specs.Trees.{drawn_nodes, settled_tree, IsNarrowTree, IsShowableTree, RendersTree};
 
 /// A node without a parent is always shown, and if all nodes are closed no other one is.
 pub fn closed_trees_show_their_roots()
@@ -98,4 +99,12 @@ pub fn settled_states_stay()
 pub fn trees_keep_cells_plain()
     ensures { (t : Tree) (s s' : TreeState) (area : Rect) (old new : BufferData) → IsNarrowTree t
         → IsPlainFrom 0 old → RendersTree t s s' area old new → IsPlainFrom 0 new }
+{}
+
+/// A tree over an area that is ready leaves the area apart, with wide graphemes, too, under a
+/// highlight, too, if a screen can show its lines, and it has no box or a narrow one; so the buffer
+/// is settled. Its symbols may be any: what of them takes no column isn't written.
+pub fn trees_leave_areas_apart()
+    ensures { (t : Tree) (s s' : TreeState) (area : Rect) (old new : BufferData) → IsShowableTree t
+        → IsReadyIn area old → RendersTree t s s' area old new → StandsApart area new }
 {}

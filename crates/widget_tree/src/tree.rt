@@ -1,17 +1,19 @@
 //! A tree.
 
-ghost use Rattle.std.specs.Prelude.{◌≡◌, ◌==◌, ◌<◌, ◌≤◌, Some, IfOk, true, length, map};
+ghost use Rattle.std.specs.Prelude.{◌≡◌, ◌==◌, ◌<◌, ◌≤◌, Some, IsOk, IfOk, OnOk, OnErr, true, length, map};
 ghost use Rattle.ratatui_core.specs.Layout.{IsInside};
+ghost use Rattle.ratatui_core.specs.Widgets.{ChangesWithin};
 ghost use Rattle.widget_boxes.specs.Boxes.{IsBoxArea};
-ghost use Rattle.rtui_drawing.specs.Drawings.{DrawsAll, IsDone, IsRowIn};
+ghost use Rattle.rtui_drawing.specs.Drawings.{IsDone, IsStopped, IsShortDrawing, IsRowIn};
 ghost use Rattle.widget_tree.specs.Depths.{parent_of, has_children, shows_node};
 ghost use Rattle.widget_tree.specs.Nodes.{raw_node};
-ghost use Rattle.widget_tree.specs.Rows.{offset_for};
+ghost use Rattle.widget_tree.specs.Rows.{offset_for, nodes_in_rows};
 ghost use Rattle.widget_tree.specs.TreeStates.{tree_depths, opened_of};
 ghost use Rattle.widget_tree.specs.Trees.{IsNewTree, mark_columns, indent_columns, node_symbol};
 ghost use Rattle.widget_tree.specs.Trees.{mark_drawing, left_drawing, node_label};
-ghost use Rattle.widget_tree.specs.Trees.{highlight_drawing, line_row_drawing, node_drawing};
-ghost use Rattle.widget_tree.specs.Trees.{node_rows_drawing, settled_tree};
+ghost use Rattle.widget_tree.specs.Trees.{line_row_drawing, node_drawing, node_rows_drawing, tree_drawing};
+ghost use Rattle.widget_tree.specs.Trees.{row_if, selected_row, HighlightsRow, ShowsNodes, ShowsTree};
+ghost use Rattle.widget_tree.specs.Trees.{settled_tree};
 
 use crate::item::TreeItem;
 use crate::nodes::Nodes;
@@ -22,9 +24,8 @@ use ratatui_core::style::Style;
 use ratatui_core::text::{Line, text_columns};
 use ratatui_core::widgets::StatefulWidget;
 use rtui_drawing::{Cut, put_change, put_line, put_style, write};
-use rtui_inside::{DrawStateInside, render_state_inside};
 use std::alloc::{AllocError, Global};
-use widget_boxes::{Block, cloned_block, inner_if};
+use widget_boxes::{Block, cloned_block, highlight, inner_if, render_frame};
 
 /// Nodes one below the other, each in a row of its own. A node is shown if all its ancestors are
 /// opened, and stands two columns further right than what is one less deep, after a symbol that
@@ -101,7 +102,8 @@ impl<'a> Tree<'a> {
         self
     }
 
-    /// Sets the style of the selected node's row.
+    /// Sets the style of the selected node's row. A wide character's second column isn't styled: it
+    /// shows that character, in its own style.
     pub fn highlight_style(mut self, style: Style) -> Tree<'a>
         ensures { result ≡ record self.entry { highlight_style = style } }
     {
@@ -290,15 +292,6 @@ impl<'a> Tree<'a> {
         self.draw_mark_if(is_selected, mark, row, buf)
     }
 
-    // Lays the highlight's style over a row, if it is the selected node's.
-    fn highlight_if(&self, is_selected: bool, row: Rect, buf: &mut Buffer)
-        ensures { DrawsAll (highlight_drawing self.now is_selected) row buf.old buf.new }
-    {
-        if is_selected {
-            put_style(self.highlight_style, row, buf);
-        }
-    }
-
     // Draws a line in a row, after a symbol and so many columns.
     fn draw_line(
         &self,
@@ -320,9 +313,7 @@ impl<'a> Tree<'a> {
         let style = style_of(line);
         put_style(style, row, buf);
         self.draw_left(is_selected, mark, left, row, buf)?;
-        draw_label(symbol, line, Cut::After(left).of(row), buf)?;
-        self.highlight_if(is_selected, row, buf);
-        Ok(())
+        draw_label(symbol, line, Cut::After(left).of(row), buf)
     }
 
     // Draws a node in a row.
@@ -347,8 +338,51 @@ impl<'a> Tree<'a> {
         self.draw_line(&item.line, is_selected, mark, left, symbol, row, buf)
     }
 
-    // Draws the nodes that are shown from one on, a row each, as far as there are rows.
+    // Draws the nodes that are shown from one on, a row each, as far as there are rows; answers the
+    // selected one's row.
     fn draw_rows(
+        &self,
+        first: usize,
+        inner: Rect,
+        buf: &mut Buffer,
+        state: &TreeState,
+    ) -> Result<Option<Rect>, AllocError>
+        requires some { IsBoxArea inner }
+        requires inside { IsInside inner buf.old.area }
+        requires shown { 0 < length self.now.nodes.items.items
+            → shows_node (tree_depths self.now) (opened_of state.now) first ≡ true }
+        ensures done { let d = node_rows_drawing self.now state.now first inner in
+            IsDone d inner result buf.old buf.new }
+        ensures selected { let s = state.now in let os = opened_of s in
+            let nodes = nodes_in_rows (tree_depths self.now) os first inner.height in
+            IfOk result (λ row. row ≡ selected_row s.selected inner 0 nodes) }
+    {
+        let opened = state.opened.as_slice();
+        let mark = self.mark_columns(state, inner.width);
+        let mut node = first;
+        let mut selected = None;
+        for y in 0..inner.height {
+            if node >= self.nodes.len() {
+                return Ok(selected);
+            }
+            self.draw_node(node, mark, Cut::Rows(y, 1).of(inner), buf, state)?;
+            selected = selected.or(row_if(state.selects(node), y, inner));
+            node = self.nodes.next(opened, node);
+        }
+        Ok(selected)
+    }
+
+    // Highlights the selected node's row, if there is one.
+    fn highlight_row(&self, row: Option<Rect>, buf: &mut Buffer)
+        ensures { HighlightsRow self.now row buf.old buf.new }
+    {
+        if let Some(row) = row {
+            highlight(self.highlight_style, row, buf);
+        }
+    }
+
+    // Draws the nodes that are shown from one on, a row each, and highlights the selected one's row.
+    fn draw_nodes(
         &self,
         first: usize,
         inner: Rect,
@@ -359,19 +393,40 @@ impl<'a> Tree<'a> {
         requires inside { IsInside inner buf.old.area }
         requires shown { 0 < length self.now.nodes.items.items
             → shows_node (tree_depths self.now) (opened_of state.now) first ≡ true }
-        ensures { let d = node_rows_drawing self.now state.now first inner in
-            IsDone d inner result buf.old buf.new }
+        ensures within { ChangesWithin inner buf.old buf.new }
+        ensures ok { OnOk result (ShowsNodes self.now state.now first inner buf.old buf.new) }
+        ensures stopped { let d = node_rows_drawing self.now state.now first inner in
+            OnErr result (IsStopped d inner buf.old buf.new) }
+        ensures short { let d = node_rows_drawing self.now state.now first inner in
+            IsShortDrawing buf.old.area d inner → IsOk result }
     {
-        let opened = state.opened.as_slice();
-        let mark = self.mark_columns(state, inner.width);
-        let mut node = first;
-        for y in 0..inner.height {
-            if node >= self.nodes.len() {
-                return Ok(());
-            }
-            self.draw_node(node, mark, Cut::Rows(y, 1).of(inner), buf, state)?;
-            node = self.nodes.next(opened, node);
-        }
+        let selected = self.draw_rows(first, inner, buf, state)?;
+        self.highlight_row(selected, buf);
+        Ok(())
+    }
+
+    // Draws the nodes that are shown, from the state's first one on or so that the selected one is
+    // in view, and brings the state up to date.
+    fn draw_tree(
+        &self,
+        inner: Rect,
+        buf: &mut Buffer,
+        state: &mut TreeState,
+    ) -> Result<(), AllocError>
+        requires some { IsBoxArea inner }
+        requires inside { IsInside inner buf.old.area }
+        ensures within { ChangesWithin inner buf.old buf.new }
+        ensures ok { OnOk result
+            (ShowsTree self.now state.old state.new inner buf.old buf.new) }
+        ensures stopped { let d = tree_drawing self.now state.old inner in
+            OnErr result (IsStopped d inner buf.old buf.new) }
+        ensures left { OnErr result (state.new ≡ state.old) }
+        ensures short { let d = tree_drawing self.now state.old inner in
+            IsShortDrawing buf.old.area d inner → IsOk result }
+    {
+        let first = self.first_row(usize::from(inner.height), state);
+        self.draw_nodes(first, inner, buf, state)?;
+        state.offset = first;
         Ok(())
     }
 }
@@ -386,6 +441,17 @@ fn raw_nodes<'a>(alloc: Global, items: &[(u16, &'a str)]) -> Result<Vec<TreeItem
         nodes.push(TreeItem::raw(alloc, item.0, item.1)?)?;
     }
     Ok(nodes)
+}
+
+// A row of an area, if there is to be one.
+fn row_if(is_some: bool, y: u16, area: Rect) -> Option<Rect>
+    ensures { result ≡ row_if is_some y area }
+{
+    if is_some {
+        Some(Cut::Rows(y, 1).of(area))
+    } else {
+        None
+    }
 }
 
 // The style of a line.
@@ -430,29 +496,6 @@ impl CellChange for Blank {
     }
 }
 
-// The nodes that are shown, from the state's first one on or so that the selected one is in view.
-impl<'a> DrawStateInside for Tree<'a> {
-    type State = TreeState;
-
-    ghost use Rattle.widget_tree.specs.Trees.{tree_drawing, next_tree_state};
-
-    ghost drawing = { tree_drawing };
-
-    ghost next = { next_tree_state };
-
-    fn draw_state_inside(
-        &self,
-        inner: Rect,
-        buf: &mut Buffer,
-        state: &mut TreeState,
-    ) -> Result<(), AllocError> {
-        let first = self.first_row(usize::from(inner.height), state);
-        self.draw_rows(first, inner, buf, state)?;
-        state.offset = first;
-        Ok(())
-    }
-}
-
 /// Over the area, as far as the buffer has it: the style, the box, and inside the nodes that are
 /// shown, a row each, from the state's first one on. A row has the style of its node's line; if a
 /// node is selected, columns for the highlight symbol; two columns for each level; the node's
@@ -471,7 +514,10 @@ impl<'b, 'a> StatefulWidget for &'b Tree<'a> {
     ghost is_short = { λ tree. IsShortTree tree.now };
 
     fn render(self, area: Rect, buf: &mut Buffer, state: &mut TreeState) -> Result<(), AllocError> {
-        render_state_inside(self, self.style, &self.block, area, buf, state)
+        let Some(inner) = render_frame(self.style, &self.block, area, buf)? else {
+            return Ok(());
+        };
+        self.draw_tree(inner, buf, state)
     }
 }
 

@@ -1,5 +1,4 @@
 use Rattle.std.proofs.Common.{◌≡◌, is_some, refl}
-use Rattle.rtui_drawing.proofs.DrawingLemmas.{done-within}
 use Rattle.widget_table.specs.Rows.{rows_area}
 use Rattle.widget_table.specs.Tables.{symbol_columns}
 use Rattle.widget_table.proofs.table.Table.render_table.Goals as goal
@@ -16,12 +15,6 @@ draw_table-requires-clause-footer c =
     rw (c.below.ensures, c.from.ensures, c.above-area.ensures, c.below-left.ensures, c.height_if.ensures, c.height_if-2.ensures)
     refl
 
-pub returns-in_err-draw_table-clause-within : goal.returns-in_err-draw_table-clause-within
-returns-in_err-draw_table-clause-within c = done-within _ c.in_err-draw_table.ensures
-
-pub returns-clause-within : goal.returns-clause-within
-returns-clause-within c = done-within _ c.in_ok-draw_table.ensures
-
 pub returns-clause-ok : goal.returns-clause-ok
 returns-clause-ok c =
     let area : c.above-area.result ≡ rows_area c.args.self.now.header c.args.self.now.footer c.args.inner =
@@ -32,5 +25,5 @@ returns-clause-ok c =
       state = rw area at c.next_state-next.ensures;
       columns = c.in_ok-columns.columns.items;
       are_columns = rw n at c.in_ok-columns.ensures;
-      drawn = (rw c.as_slice.ensures.value at c.in_ok-draw_table.ensures).ok;
+      parts = rw c.as_slice.ensures.value at c.in_ok-draw_table.ensures.ok;
     }

@@ -1,5 +1,5 @@
 use Rattle.std.proofs.Common.{refl}
-use Rattle.widget_tree.proofs.DrawLemmas.{line-row, line-stop, label-stop, line-all}
+use Rattle.widget_tree.proofs.DrawLemmas.{line-row, line-stop, line-done}
 use Rattle.widget_tree.proofs.tree.Tree.draw_line.Goals as goal
 
 pub returns-in_err-draw_left : goal.returns-in_err-draw_left
@@ -14,15 +14,8 @@ draw_label-requires c =
     c.args.buf.now c.put_style.new.buf c.draw_left.new.buf (rw c.style_of-style.ensures at c.put_style.ensures) c.of.ensures
     c.draw_left.result c.draw_left.ensures c.requires.left c.requires.row
 
-pub returns-in_err-draw_label : goal.returns-in_err-draw_label
-returns-in_err-draw_label c =
-    label-stop c.args.self.now c.args.line.now c.args.is_selected c.args.mark c.args.left c.args.symbol.now c.args.row c.of.result
-    c.args.buf.now c.put_style.new.buf c.draw_left.new.buf (rw c.style_of-style.ensures at c.put_style.ensures) c.of.ensures
-    c.from_residual-in_err-draw_label.result c.from_residual-in_err-draw_label.ensures.0 c.in_ok-draw_left.ensures
-    c.in_err-draw_label.ensures
-
 pub returns : goal.returns
 returns c =
-    line-all c.args.self.now c.args.line.now c.args.is_selected c.args.mark c.args.left c.args.symbol.now c.args.row c.of.result
+    line-done c.args.self.now c.args.line.now c.args.is_selected c.args.mark c.args.left c.args.symbol.now c.args.row c.of.result
     c.args.buf.now c.put_style.new.buf c.draw_left.new.buf (rw c.style_of-style.ensures at c.put_style.ensures) c.of.ensures
-    c.in_ok-draw_left.ensures c.in_ok-draw_label.ensures c.highlight_if.ensures
+    c.draw_label.result c.in_ok-draw_left.ensures c.draw_label.ensures
