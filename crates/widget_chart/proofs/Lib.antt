@@ -1,2 +1,3 @@
 pub mod NarrowPlotLemmas
 pub mod PlotLemmas
+pub mod ShortPlotLemmas

@@ -1,7 +1,9 @@
 //! Axes.
 
-ghost use Rattle.std.specs.Prelude.{◌≡◌, Some, IfOk, slice_index_or, pos};
-ghost use Rattle.widget_chart.specs.Charts.{IsNewAxis, axis_labels};
+ghost use Rattle.std.specs.Prelude.{◌≡◌, ◌<◌, Some, IfOk, slice_index_or, pos, length, map};
+ghost use Rattle.widget_boxes.specs.Titles.{aligned};
+ghost use Rattle.widget_chart.specs.Charts.{IsNewAxis, axis_labels, other_side, side_below};
+ghost use Rattle.widget_chart.specs.Charts.{aligned_from, aligned_below, aligned_beside};
 
 use ratatui_core::layout::HorizontalAlignment;
 use ratatui_core::style::Style;
@@ -118,6 +120,26 @@ impl<'a> Axis<'a> {
         })
     }
 
+    // The axis with labels that are aligned as they stand below.
+    pub(crate) fn aligned_below(mut self) -> Axis<'a>
+        ensures { result ≡ aligned_below self.entry }
+    {
+        if let Some(labels) = &mut self.labels {
+            align_below(self.labels_alignment, labels.as_mut_slice());
+        }
+        self
+    }
+
+    // The axis with labels that are aligned as they stand at the left.
+    pub(crate) fn aligned_beside(mut self) -> Axis<'a>
+        ensures { result ≡ aligned_beside self.entry }
+    {
+        if let Some(labels) = &mut self.labels {
+            align_all(self.labels_alignment, labels.as_mut_slice());
+        }
+        self
+    }
+
     // Its labels.
     pub(crate) fn lines(&self) -> &[Line<'a>]
         ensures { result.now ≡ axis_labels self.now }
@@ -126,5 +148,56 @@ impl<'a> Axis<'a> {
             Some(labels) => labels.as_slice(),
             None => &[],
         }
+    }
+}
+
+// How the first label below is aligned, whose axis aligns it so.
+fn other_side(alignment: HorizontalAlignment) -> HorizontalAlignment
+    ensures { result ≡ other_side alignment }
+{
+    match alignment {
+        HorizontalAlignment::Left => HorizontalAlignment::Right,
+        HorizontalAlignment::Center => HorizontalAlignment::Center,
+        HorizontalAlignment::Right => HorizontalAlignment::Left,
+    }
+}
+
+// How label i of n below is aligned.
+fn side_below(alignment: HorizontalAlignment, n: usize, i: usize) -> HorizontalAlignment
+    requires { i < n }
+    ensures { result ≡ side_below alignment n i }
+{
+    if i == 0 {
+        other_side(alignment)
+    } else if i + 1 == n {
+        HorizontalAlignment::Right
+    } else {
+        HorizontalAlignment::Center
+    }
+}
+
+// Aligns a label.
+fn align(label: &mut Line<'_>, alignment: HorizontalAlignment)
+    ensures { label.new ≡ aligned alignment label.old }
+{
+    label.alignment = Some(alignment);
+}
+
+// Aligns the labels below.
+fn align_below(alignment: HorizontalAlignment, labels: &mut [Line<'_>])
+    ensures { labels.new ≡ aligned_from alignment (length labels.old) 0 labels.old }
+{
+    let n = labels.len();
+    for i in 0..n {
+        align(&mut labels[i], side_below(alignment, n, i));
+    }
+}
+
+// Aligns all of some labels.
+fn align_all(alignment: HorizontalAlignment, labels: &mut [Line<'_>])
+    ensures { labels.new ≡ map (aligned alignment) labels.old }
+{
+    for label in labels.iter_mut() {
+        align(label, alignment);
     }
 }

@@ -1,103 +1,161 @@
 //! The labels, the axes and the titles of a chart.
 
-ghost use Rattle.std.specs.Prelude.{◌≡◌, ◌≤◌, ◌<◌, ◌+◌, ◌-◌, ◌*◌, ◌/◌, length, max, OnOk};
-ghost use Rattle.ratatui_core.specs.Layout.{IsInside};
-ghost use Rattle.ratatui_core.specs.Widgets.{ChangesWithin, RendersLine};
-ghost use Rattle.ratatui_core.specs.Buffer.{ChangesEach};
-ghost use Rattle.widget_boxes.specs.Boxes.{IsBoxArea};
-ghost use Rattle.widget_boxes.specs.Titles.{aligned, title_width};
+ghost use Rattle.std.specs.Prelude.{◌≡◌, ◌<◌, ◌-◌, ◌*◌, ◌/◌, length, max};
+ghost use Rattle.rtui_drawing.specs.Drawings.{IsDone};
 ghost use Rattle.widget_chart.specs.Charts.{axis_labels};
-ghost use Rattle.widget_chart.specs.ChartParts.{other_side, first_label_area, x_label_at, y_label_at};
-ghost use Rattle.widget_chart.specs.ChartParts.{RendersXLabels, RendersYLabels, ruled_cell, RendersAxes};
-ghost use Rattle.widget_chart.specs.ChartParts.{RendersLabelsOf, RendersAxisTitle};
-ghost use Rattle.widget_chart.specs.Inner.{AreLabelRows, AreParts};
+ghost use Rattle.widget_chart.specs.ChartParts.{label_share, label_start, label_columns, x_label, y_label};
+ghost use Rattle.widget_chart.specs.ChartParts.{numbered, x_labels, y_labels, ruled, rules, axes};
+ghost use Rattle.widget_chart.specs.ChartParts.{axis_title, x_title, y_title};
 
 use crate::axis::Axis;
-use crate::layout::{ChartLayout, columns_of};
-use ratatui_core::buffer::{Buffer, Cell, CellChange, change_area};
+use crate::layout::{Margins, columns_of, title_columns};
+use ratatui_core::buffer::{Buffer, Cell, CellChange};
 use ratatui_core::layout::{HorizontalAlignment, Position, Rect};
 use ratatui_core::style::Style;
 use ratatui_core::symbols::line;
 use ratatui_core::text::Line;
-use ratatui_core::widgets::Widget;
+use rtui_drawing::{Cut, put_change, put_line, put_style};
 use std::alloc::{AllocError, Global};
 
-// How the first label below is aligned, whose axis aligns it so.
-fn other_side(alignment: HorizontalAlignment) -> HorizontalAlignment
-    ensures { result ≡ other_side alignment }
-{
-    match alignment {
-        HorizontalAlignment::Left => HorizontalAlignment::Right,
-        HorizontalAlignment::Center => HorizontalAlignment::Center,
-        HorizontalAlignment::Right => HorizontalAlignment::Left,
+impl<'a> Axis<'a> {
+    // How many columns of the dots each label below has.
+    fn label_share(&self, before: u16, width: u16) -> u16
+        requires { 0 < length (axis_labels self.now) }
+        ensures { result ≡ label_share self.now before width }
+    {
+        (usize::from(width.saturating_sub(before)) / self.lines().len()) as u16
     }
-}
 
-// Renders a line over an area, aligned so, if the area has cells.
-fn render_label(
-    label: &Line<'_>,
-    alignment: HorizontalAlignment,
-    area: Rect,
-    buf: &mut Buffer,
-) -> Result<(), AllocError>
-    ensures within { ChangesWithin area buf.old buf.new }
-    ensures ok { OnOk result (RendersLine (aligned alignment label.now) area buf.old buf.new) }
-{
-    let label = label.clone(buf.allocator())?.alignment(alignment);
-    label.render(area, buf)
-}
-
-// Where the first label below stands.
-fn first_label_area(alignment: HorizontalAlignment, n: u16, w: u16, graph: Rect, row: Rect) -> Rect
-    requires rows { AreLabelRows graph row }
-    requires within { w ≤ graph.width }
-    ensures { result ≡ first_label_area alignment n w graph row }
-{
-    let before = graph.x - row.x;
-    match alignment {
-        HorizontalAlignment::Left => Rect {
-            width: before,
-            ..row
-        },
-        HorizontalAlignment::Center => Rect {
-            width: before + w.min(n),
-            ..row
-        },
-        HorizontalAlignment::Right => {
-            let x = graph.x.saturating_sub(1).max(row.x);
-            Rect {
-                x,
-                width: graph.x + w - x,
-                ..row
+    // In which column of a row label i below begins.
+    fn label_start(&self, i: usize, before: u16, width: u16) -> u16
+        requires one { i < length (axis_labels self.now) }
+        requires some { before < width }
+        ensures { result ≡ label_start self.now before width i }
+    {
+        let share = self.label_share(before, width);
+        if i == 0 {
+            match self.labels_alignment {
+                HorizontalAlignment::Right => before.saturating_sub(1),
+                _ => 0,
             }
+        } else if i + 1 == self.lines().len() {
+            width - share
+        } else {
+            before + columns_before(i, share) + 1
         }
     }
-}
 
-// Where the last label below stands.
-fn last_label_area(w: u16, graph: Rect, row: Rect) -> Rect
-    requires rows { AreLabelRows graph row }
-    requires within { w ≤ graph.width }
-    ensures { result ≡ record row { x = graph.x + graph.width - w; width = w } }
-{
-    Rect {
-        x: graph.x + (graph.width - w),
-        width: w,
-        ..row
+    // How many columns of a row label i below has, which takes so many.
+    fn label_columns(&self, i: usize, columns: u16, before: u16, width: u16) -> u16
+        requires one { i < length (axis_labels self.now) }
+        requires some { before < width }
+        ensures { result ≡ label_columns self.now before width i columns }
+    {
+        let share = self.label_share(before, width);
+        if i == 0 {
+            match self.labels_alignment {
+                HorizontalAlignment::Left => before,
+                HorizontalAlignment::Center => before + share.min(columns),
+                HorizontalAlignment::Right => share + before.min(1),
+            }
+        } else if i + 1 == self.lines().len() {
+            share
+        } else {
+            share.saturating_sub(1)
+        }
     }
-}
 
-// Where a label below stands that begins so many columns right of the dots' first one.
-fn middle_label_area(from: u16, w: u16, graph: Rect, row: Rect) -> Rect
-    requires rows { AreLabelRows graph row }
-    requires within { from + w ≤ graph.width }
-    requires more { from < graph.width }
-    ensures { result ≡ record row { x = graph.x + from + 1; width = w - 1 } }
-{
-    Rect {
-        x: graph.x + from + 1,
-        width: w.saturating_sub(1),
-        ..row
+    // Puts label i below in its columns of a row.
+    fn put_x_label(
+        &self,
+        i: usize,
+        label: &Line<'a>,
+        before: u16,
+        row: Rect,
+        buf: &mut Buffer,
+    ) -> Result<(), AllocError>
+        requires one { i < length (axis_labels self.now) }
+        requires some { before < row.width }
+        ensures { let d = x_label self.now before row.width i label.now in
+            IsDone d row result buf.old buf.new }
+    {
+        let start = self.label_start(i, before, row.width);
+        let columns = self.label_columns(i, columns_of(label), before, row.width);
+        put_line(
+            label,
+            Cut::First(columns).of(Cut::After(start).of(row)),
+            buf,
+        )
+    }
+
+    // Puts all labels below in a row.
+    fn put_each_x_label(&self, before: u16, row: Rect, buf: &mut Buffer) -> Result<(), AllocError>
+        requires { before < row.width }
+        ensures { let d = numbered (x_label self.now before row.width) 0 (axis_labels self.now) in
+            IsDone d row result buf.old buf.new }
+    {
+        for (i, label) in self.lines().iter().enumerate() {
+            self.put_x_label(i, label, before, row, buf)?;
+        }
+        Ok(())
+    }
+
+    // Puts the labels below, if there are at least two, in the row for them.
+    fn put_x_labels(&self, margins: Margins, area: Rect, buf: &mut Buffer) -> Result<(), AllocError>
+        requires { margins.before < area.width }
+        ensures { IsDone (x_labels self.now margins area) area result buf.old buf.new }
+    {
+        if self.lines().len() < 2 {
+            return Ok(());
+        }
+        let rows = margins.below.saturating_sub(margins.rows);
+        let row = Cut::Rows(area.height.saturating_sub(rows), rows).of(area);
+        self.put_each_x_label(margins.before, row, buf)
+    }
+
+    // How far over the last row of so many the label of this number stands.
+    fn rows_above(&self, i: usize, height: u16) -> u16
+        requires { i < length (axis_labels self.now) }
+        ensures { let n = length (axis_labels self.now) in
+            result ≡ i * (height - 1) / max (n - 1) 1 }
+    {
+        let between = self.lines().len().saturating_sub(1).max(1) as u128;
+        (i as u128 * u128::from(height.saturating_sub(1)) / between) as u16
+    }
+
+    // Puts label i at the left in its row.
+    fn put_y_label(
+        &self,
+        i: usize,
+        label: &Line<'a>,
+        area: Rect,
+        buf: &mut Buffer,
+    ) -> Result<(), AllocError>
+        requires { i < length (axis_labels self.now) }
+        ensures { IsDone (y_label self.now area.height i label.now) area result buf.old buf.new }
+    {
+        let above = self.rows_above(i, area.height);
+        let row = area.height.saturating_sub(1).saturating_sub(above);
+        put_line(label, Cut::Rows(row, 1).of(area), buf)
+    }
+
+    // Puts the labels at the left, from the last row up.
+    fn put_each_y_label(&self, area: Rect, buf: &mut Buffer) -> Result<(), AllocError>
+        ensures { let d = numbered (y_label self.now area.height) 0 (axis_labels self.now) in
+            IsDone d area result buf.old buf.new }
+    {
+        for (i, label) in self.lines().iter().enumerate() {
+            self.put_y_label(i, label, area, buf)?;
+        }
+        Ok(())
+    }
+
+    // Puts the labels at the left in the columns for them.
+    fn put_y_labels(&self, margins: Margins, area: Rect, buf: &mut Buffer) -> Result<(), AllocError>
+        ensures { IsDone (y_labels self.now margins area) area result buf.old buf.new }
+    {
+        let columns = Cut::First(margins.before.saturating_sub(1)).of(area);
+        self.put_each_y_label(Cut::Above(margins.below).of(columns), buf)
     }
 }
 
@@ -109,104 +167,6 @@ fn columns_before(index: usize, width: u16) -> u16
     (index * usize::from(width)) as u16
 }
 
-impl<'a> Axis<'a> {
-    // Renders label i of the labels below.
-    fn render_x_label(
-        &self,
-        i: usize,
-        label: &Line<'a>,
-        graph: Rect,
-        row: Rect,
-        buf: &mut Buffer,
-    ) -> Result<(), AllocError>
-        requires rows { AreLabelRows graph row }
-        requires one { i < length (axis_labels self.now) }
-        ensures within { ChangesWithin row buf.old buf.new }
-        ensures ok { let t = x_label_at self.now graph row (length (axis_labels self.now)) i label.now in
-            OnOk result (RendersLine t.line t.area buf.old buf.new) }
-    {
-        let n = self.lines().len();
-        let w = (usize::from(graph.width) / n) as u16;
-        let alignment = self.labels_alignment;
-        if i == 0 {
-            let area = first_label_area(alignment, columns_of(label), w, graph, row);
-            return render_label(label, other_side(alignment), area, buf);
-        }
-        if i + 1 == n {
-            let area = last_label_area(w, graph, row);
-            return render_label(label, HorizontalAlignment::Right, area, buf);
-        }
-        let area = middle_label_area(columns_before(i, w), w, graph, row);
-        render_label(label, HorizontalAlignment::Center, area, buf)
-    }
-
-    // Renders the labels below, if there are at least two and a row for them.
-    fn render_x_labels(&self, graph: Rect, row: Rect, buf: &mut Buffer) -> Result<(), AllocError>
-        requires { AreLabelRows graph row }
-        ensures within { ChangesWithin row buf.old buf.new }
-        ensures ok { OnOk result (RendersXLabels self.now graph row buf.old buf.new) }
-    {
-        if self.lines().len() < 2 {
-            return Ok(());
-        }
-        for (i, label) in self.lines().iter().enumerate() {
-            self.render_x_label(i, label, graph, row, buf)?;
-        }
-        Ok(())
-    }
-
-    // How far over the last row of so many the label of this number stands.
-    fn rows_above(&self, i: usize, height: u16) -> u16
-        requires rows { 0 < height }
-        requires one { i < length (axis_labels self.now) }
-        ensures value { let n = length (axis_labels self.now) in
-            result ≡ i * (height - 1) / max (n - 1) 1 }
-        ensures within { result < height }
-    {
-        let between = self.lines().len().saturating_sub(1).max(1) as u128;
-        (i as u128 * u128::from(height - 1) / between) as u16
-    }
-
-    // Renders label i of the labels at the left.
-    fn render_y_label(
-        &self,
-        i: usize,
-        label: &Line<'a>,
-        graph: Rect,
-        area: Rect,
-        buf: &mut Buffer,
-    ) -> Result<(), AllocError>
-        requires rows { 0 < graph.height }
-        requires same { (area.y ≡ graph.y) × (area.height ≡ graph.height) }
-        requires down { area.y + area.height ≤ 65535 }
-        requires one { i < length (axis_labels self.now) }
-        ensures within { ChangesWithin area buf.old buf.new }
-        ensures ok { let t = y_label_at self.now graph area (length (axis_labels self.now)) i label.now in
-            OnOk result (RendersLine t.line t.area buf.old buf.new) }
-    {
-        let row = Rect {
-            y: graph.y + (graph.height - 1 - self.rows_above(i, graph.height)),
-            height: 1,
-            ..area
-        };
-        render_label(label, self.labels_alignment, row, buf)
-    }
-
-    // Renders the labels at the left, from the last row up.
-    fn render_y_labels(&self, graph: Rect, area: Rect, buf: &mut Buffer) -> Result<(), AllocError>
-        requires rows { 0 < graph.height }
-        requires same { (area.y ≡ graph.y) × (area.height ≡ graph.height) }
-        requires down { area.y + area.height ≤ 65535 }
-        ensures within { ChangesWithin area buf.old buf.new }
-        ensures ok { OnOk result (RendersYLabels self.now graph area buf.old buf.new) }
-    {
-        for (i, label) in self.lines().iter().enumerate() {
-            self.render_y_label(i, label, graph, area, buf)?;
-        }
-        Ok(())
-    }
-}
-
 // The cells of an axis.
 #[derive(Drop)]
 struct Ruling {
@@ -215,12 +175,12 @@ struct Ruling {
 }
 
 impl CellChange for Ruling {
-    ghost use Rattle.std.specs.Prelude.{⊤};
+    ghost use Rattle.ratatui_core.specs.Buffer.{IsShort};
     ghost use Rattle.widget_chart.specs.ChartParts.{ruled_cell};
 
     ghost made = { λ f. ruled_cell f.style f.symbol.now };
 
-    ghost is_light = { λ _ _ _. ⊥ };
+    ghost is_light = { λ f _ _. IsShort f.symbol.now };
 
     fn change(&self, alloc: Global, _: Position, cell: &mut Cell) -> Result<(), AllocError> {
         cell.put(alloc, self.symbol, self.style)
@@ -229,61 +189,100 @@ impl CellChange for Ruling {
 
 // Rules an area: this symbol in each cell.
 fn rule(symbol: &'static str, style: Style, area: Rect, buf: &mut Buffer) -> Result<(), AllocError>
-    ensures within { ChangesWithin area buf.old buf.new }
-    ensures ok { OnOk result (ChangesEach area (ruled_cell style symbol.now) buf.old buf.new) }
+    ensures { IsDone (ruled style symbol.now) area result buf.old buf.new }
 {
-    change_area(buf, area, &Ruling { symbol, style })
+    put_change(&Ruling { symbol, style }, area, buf)
 }
 
-// Renders the labels of both axes.
-fn render_labels(
-    x: &Axis<'_>,
-    y: &Axis<'_>,
-    parts: &ChartLayout,
+// Rules the axes and the corner between them.
+fn put_rules(
+    x: Style,
+    y: Style,
+    margins: Margins,
     area: Rect,
     buf: &mut Buffer,
 ) -> Result<(), AllocError>
-    requires { AreParts parts.now area }
-    ensures within { ChangesWithin area buf.old buf.new }
-    ensures ok { OnOk result (RendersLabelsOf x.now y.now parts.now buf.old buf.new) }
+    ensures { IsDone (rules x y margins area) area result buf.old buf.new }
 {
-    x.render_x_labels(parts.graph, parts.x_labels, buf)?;
-    y.render_y_labels(parts.graph, parts.y_labels, buf)
+    let rows = Cut::Rows(area.height.saturating_sub(margins.below), margins.rows);
+    let left = margins.before.saturating_sub(margins.columns);
+    let beside = Cut::First(margins.columns).of(Cut::After(left).of(area));
+    rule(
+        line::HORIZONTAL,
+        x,
+        rows.of(Cut::After(margins.before).of(area)),
+        buf,
+    )?;
+    rule(line::VERTICAL, y, Cut::Above(margins.below).of(beside), buf)?;
+    rule(line::BOTTOM_LEFT, x, rows.of(beside), buf)
 }
 
-// Renders the labels, the axes and the corner between them.
-pub(crate) fn render_axes(
+// Draws the labels and the axes around the dots.
+pub(crate) fn draw_axes(
     x: &Axis<'_>,
     y: &Axis<'_>,
-    parts: &ChartLayout,
+    margins: Margins,
     area: Rect,
     buf: &mut Buffer,
 ) -> Result<(), AllocError>
-    requires { AreParts parts.now area }
-    ensures within { ChangesWithin area buf.old buf.new }
-    ensures ok { OnOk result (RendersAxes x.now y.now parts.now buf.old buf.new) }
+    requires { margins.before < area.width }
+    ensures { IsDone (axes x.now y.now margins area) area result buf.old buf.new }
 {
-    render_labels(x, y, parts, area, buf)?;
-    rule(line::HORIZONTAL, x.style, parts.x_axis, buf)?;
-    rule(line::VERTICAL, y.style, parts.y_axis, buf)?;
-    rule(line::BOTTOM_LEFT, x.style, parts.corner, buf)
+    x.put_x_labels(margins, area, buf)?;
+    y.put_y_labels(margins, area, buf)?;
+    put_rules(x.style, y.style, margins, area, buf)
 }
 
-// Renders the title of an axis over an area, over a style, if there is one.
-pub(crate) fn render_axis_title(
+// Puts the title of an axis over a style, if there is one.
+fn put_title(
     title: &Option<Line<'_>>,
     style: Style,
     area: Rect,
     buf: &mut Buffer,
 ) -> Result<(), AllocError>
-    ensures within { ChangesWithin area buf.old buf.new }
-    ensures ok { OnOk result (RendersAxisTitle style title.now area buf.old buf.new) }
+    ensures { IsDone (axis_title style title.now) area result buf.old buf.new }
 {
     match title {
         Some(line) => {
-            buf.set_style(area, style);
-            line.render(area, buf)
+            put_style(style, area, buf);
+            put_line(line, area, buf)
         }
         None => Ok(()),
     }
+}
+
+// Puts the title of the axis below over the dots.
+pub(crate) fn put_x_title(
+    title: &Option<Line<'_>>,
+    style: Style,
+    graph: Rect,
+    buf: &mut Buffer,
+) -> Result<(), AllocError>
+    ensures { IsDone (x_title style title.now graph) graph result buf.old buf.new }
+{
+    let row = Cut::Rows(graph.height.saturating_sub(1), 1).of(graph);
+    put_title(
+        title,
+        style,
+        Cut::Last(title_columns(title, 0, graph)).of(row),
+        buf,
+    )
+}
+
+// Puts the title of the axis at the left over the dots.
+pub(crate) fn put_y_title(
+    title: &Option<Line<'_>>,
+    style: Style,
+    graph: Rect,
+    buf: &mut Buffer,
+) -> Result<(), AllocError>
+    ensures { IsDone (y_title style title.now graph) graph result buf.old buf.new }
+{
+    let row = Cut::Rows(0, 1).of(graph);
+    put_title(
+        title,
+        style,
+        Cut::First(title_columns(title, 1, graph)).of(row),
+        buf,
+    )
 }
