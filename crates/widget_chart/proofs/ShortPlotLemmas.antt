@@ -1,37 +1,20 @@
 -- A chart of short texts takes no memory but for grids.
-use Rattle.std.proofs.Common.{◌≡◌, ℕ, ◌+◌, ◌-◌, ◌≤◌, Bool, true, false, List, [], ◌∷◌, IfSome, All, Option, Some, None, sym, subst}
-use Rattle.std.proofs.Common.{arith, lit<, refl, nat_le, nat_lt, length, ⊎_elim, ◌⊎◌, Err, Result, ⊤}
-use Rattle.std.specs.{Char.encode_utf8, List.list_all}
+use Rattle.std.proofs.Common.{◌≡◌, ℕ, ◌+◌, Bool, true, false, List, [], ◌∷◌, IfSome, All, Option, Some, None}
+use Rattle.std.proofs.Common.{lit<, nat_lt, length, ⊎_elim, ◌⊎◌, Err, ⊤}
 use Rattle.std.specs.declared.alloc.AllocError.{AllocError}
-use Rattle.std.proofs.lemmas.{Bool.and_parts, Bool.Decides.nat_tests}
-use Rattle.std.proofs.lemmas.List.Elements.{All-nil, All-cons, All-head, All-tail}
+use Rattle.std.proofs.lemmas.List.Elements.{All-head, All-tail}
 use Rattle.ratatui_core.specs.Layout.{Rect}
-use Rattle.ratatui_core.specs.{Style.Style, Text.LineData, Symbols.plain_border}
+use Rattle.ratatui_core.specs.{Style.Style, Text.LineData}
 use Rattle.ratatui_core.specs.Buffer.{BufferData, IsShort}
-use Rattle.rtui_drawing.specs.{Cuts.cut_from, declared.cut.Cut.TheVariants.After, declared.cut.Cut.TheVariants.Above}
 use Rattle.rtui_drawing.specs.Drawings.{over, Drawing, draw_if, DrawsAll, IsStopped, IsShortDrawing}
-use Rattle.rtui_drawing.proofs.DrawingLemmas.{done-short, draws-within}
-use Rattle.widget_boxes.specs.{declared.block.Block.Block, Boxes.IsNewBlock, Boxes.HasShortSymbols, Lines.IsShortTitle}
+use Rattle.rtui_drawing.proofs.DrawingLemmas.{done-short}
+use Rattle.widget_boxes.specs.{Lines.IsShortTitle}
 use Rattle.widget_chart.specs.declared.{axis.Axis.Axis, dataset.Dataset.Dataset, chart.Chart.Chart, layout.Margins.Margins}
 use Rattle.widget_chart.specs.{Charts.axis_labels, ChartLayouts.margins_of, ChartLayouts.graph_in}
-use Rattle.widget_chart.specs.ChartParts.{numbered, x_label, y_label, axes, all_dotted, axis_title}
-use Rattle.widget_chart.specs.Legends.{name_if, under_name, names, legend_at}
+use Rattle.widget_chart.specs.ChartParts.{numbered, label_at, axes, all_dotted, axis_title}
+use Rattle.widget_chart.specs.Legends.{name_if, under_name, names, box_row, legend_at}
 use Rattle.widget_chart.specs.Plots.{names_of, chart_drawing, first_style, StopsPlot}
 use Rattle.widget_chart.specs.ShortCharts.{HasShortTexts, HasShortName, HasShortWords, StopsAtGrid}
-use Rattle.widget_chart.proofs.PlotLemmas.{level-mark, upright-mark, corner-mark}
-
--- the border of a new box is short
-abbrev is_short : List ℕ → Bool
-is_short text = nat_le (length text) 22
-
-all-short : (texts : List (List ℕ)) → list_all is_short texts ≡ true → All IsShort texts
-all-short [] all = All-nil IsShort
-all-short (t ∷ ts) all =
-    let parts = and_parts (is_short t) (list_all is_short ts) all in
-    All-cons IsShort t ts (grind (arith, nat_tests, parts.0)) (all-short ts parts.1)
-
-border-short : (b : Block) → IsNewBlock 15 b → HasShortSymbols b
-border-short b is = subst (All IsShort) (sym is.lines) (all-short plain_border refl)
 
 module _ (s : BufferData) where
   if-short : (t : Bool) (d : Drawing) (r : Rect) → IsShortDrawing s.area d r → IsShortDrawing s.area (draw_if t d) r
@@ -48,14 +31,11 @@ module _ (s : BufferData) where
 
   axes-short : (x y : Axis) (m : Margins) (r : Rect) → HasShortTexts x → HasShortTexts y → IsShortDrawing s.area (axes x y m r) r
   axes-short x y m r below beside = (
-    if-short (nat_lt 1 (length (axis_labels x))) (over _ (numbered (x_label x m.before r.width) 0 (axis_labels x))) r
-        (numbered-short (x_label x m.before r.width) _ (λ i l short. short _ s) 0 (axis_labels x) below.labels),
+    if-short (nat_lt 1 (length (axis_labels x))) (over _ (numbered (label_at x (Some m.before) _) 0 (axis_labels x))) r
+        (numbered-short (label_at x (Some m.before) _) _ (λ i l short. short _ s) 0 (axis_labels x) below.labels),
     (
-      numbered-short (y_label y (r.height - m.below)) _ (λ i l short. short _ s) 0 (axis_labels y) beside.labels,
-      (
-        λ p c. rw level-mark (lit< tt),
-        (λ p c. rw upright-mark (lit< tt), λ p c. rw corner-mark (lit< tt)),
-      ),
+      numbered-short (label_at y None _) _ (λ i l short. short _ s) 0 (axis_labels y) beside.labels,
+      (λ p c. lit< tt, (λ p c. lit< tt, λ p c. lit< tt)),
     ),
   )
 
@@ -81,28 +61,36 @@ module _ (s : BufferData) where
     under-short d.name (names ds) r (λ q. names-short ds q (All-tail HasShortName d ds all)),
   )
 
-  legend-short : (b : Block) (style : Style) (ds : List Dataset) (at g : Rect) → IsNewBlock 15 b → All HasShortName ds
-      → IsShortDrawing s.area (legend_at b style ds at g) g
-  legend-short b style ds at g new all =
-      if-short (nat_lt 0 at.width) _ g (tt, (λ p c. border-short b new, names-short ds _ all))
+  row-short : (left right : List ℕ) (r : Rect) → IsShort left → IsShort right → IsShortDrawing s.area (box_row left right) r
+  row-short left right r first last = (λ p c. lit< tt, (λ p c. first, λ p c. last))
 
-  over-short : (c : Chart) (b : Block) (style : Style) (g : Rect) → IsNewBlock 15 b → HasShortWords c
-      → IsShortDrawing s.area (names_of c b style g) g
-  over-short c b style g new short = (
+  legend-short : (style : Style) (ds : List Dataset) (at g : Rect) → All HasShortName ds
+      → IsShortDrawing s.area (legend_at style ds at g) g
+  legend-short style ds at g all =
+      if-short (nat_lt 0 at.width) _ g (
+        tt,
+        (
+          (λ p c. lit< tt, (λ p c. lit< tt, (row-short _ _ _ (lit< tt) (lit< tt), row-short _ _ _ (lit< tt) (lit< tt)))),
+          names-short ds _ all,
+        ),
+      )
+
+  over-short : (c : Chart) (style : Style) (g : Rect) → HasShortWords c → IsShortDrawing s.area (names_of c style g) g
+  over-short c style g short = (
     title-short style c.x_axis.title _ short.x_axis.title,
-    (title-short style c.y_axis.title _ short.y_axis.title, legend-short b style c.datasets.items _ g new short.names),
+    (title-short style c.y_axis.title _ short.y_axis.title, legend-short style c.datasets.items _ g short.names),
   )
 
   no-dots : (c : Chart) (g : Rect) (ds : List Dataset) → ds ≡ [] → IsShortDrawing s.area (all_dotted c g ds) g
   no-dots c g ds none = rw none tt
 
-  pub short-plot : (c : Chart) (b : Block) (style : Style) (r : Rect) → IsNewBlock 15 b → HasShortWords c
-      → c.datasets.items ≡ [] → IsShortDrawing s.area (chart_drawing c b style r) r
-  short-plot c b style r new short none =
+  pub short-plot : (c : Chart) (style : Style) (r : Rect) → HasShortWords c → c.datasets.items ≡ []
+      → IsShortDrawing s.area (chart_drawing c style r) r
+  short-plot c style r short none =
       let m = margins_of c.x_axis c.y_axis r in
       let g = graph_in m r in (
         axes-short c.x_axis c.y_axis m r short.x_axis short.y_axis,
-        (no-dots c g c.datasets.items none, over-short c b style g new short),
+        (no-dots c g c.datasets.items none, over-short c style g short),
       )
 
 -- what is short isn't refused
@@ -121,12 +109,12 @@ grid-stops c r old new short is =
     let style = first_style r old in
     let around = axes c.x_axis c.y_axis m r in
     let dots = all_dotted c g c.datasets.items in
-    let over_dots = names_of c is.box style g in
+    let over_dots = names_of c style g in
     ⊎_elim
     (λ (one : IsStopped around r old new). not-stopped around r old new (axes-short old c.x_axis c.y_axis m r short.x_axis short.y_axis) one)
     (λ (two : (mid : BufferData) × DrawsAll around r old mid × (IsStopped dots g mid new ⊎ ((end : BufferData) × DrawsAll dots g mid end × IsStopped over_dots g end new))).
     ⊎_elim
     (λ (grid : IsStopped dots g two.0 new). record { drawn = two.0; around = two.1; grid = grid })
     (λ (last : (end : BufferData) × DrawsAll dots g two.0 end × IsStopped over_dots g end new).
-    not-stopped over_dots g last.0 new (over-short last.0 c is.box style g is.bordered short) last.2)
-    two.2) is.stopped
+    not-stopped over_dots g last.0 new (over-short last.0 c style g short) last.2)
+    two.2) is

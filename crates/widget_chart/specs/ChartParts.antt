@@ -1,6 +1,6 @@
 -- The parts of a chart: what each of them draws.
 use Rattle.std.specs.Prelude.{ℕ, ◌+◌, ◌-◌, ◌*◌, ◌/◌, ◌==◌, nat_lt, min, max, List, [], ◌∷◌, length, ⊥}
-use Rattle.std.specs.Prelude.{Option, Some, None, unwrap_or, encode_utf8, if◌then◌else◌}
+use Rattle.std.specs.Prelude.{Option, Some, None, unwrap_or, if◌then◌else◌}
 use Rattle.std.specs.List.{flat_map}
 use Rattle.ratatui_core.specs.{Layout.Rect, Layout.Position, Text.LineData}
 use Rattle.ratatui_core.specs.Style.{Style, Color, Reset, new_style, with_bg}
@@ -12,6 +12,8 @@ use Rattle.rtui_dots.specs.declared.{drawing.Drawing.Drawing as Shape, scale.Sca
 use Rattle.rtui_dots.specs.declared.drawing.Drawing.TheVariants.{Points as PointsOf, Path as PathOf}
 use Rattle.rtui_dots.specs.declared.drawing.Drawing.TheVariants.{Bars as BarsOf}
 use Rattle.rtui_dots.specs.{Grids.Dot, Grids.with_dots, Grids.empty_grid, Layers.drawn_dots}
+use Rattle.rtui_symbols.specs.declared.line.TheConstants as line_symbol
+use Rattle.rtui_drawing.specs.{Cuts.cut_from}
 use Rattle.rtui_drawing.specs.declared.cut.Cut.TheVariants.{First, After, Last, Rows, Above}
 use Rattle.rtui_drawing.specs.Drawings.{Drawing, nothing, over, ◌before◌, put_style, put_line, put_change}
 use Rattle.rtui_drawing.specs.Drawings.{draw_if}
@@ -64,6 +66,11 @@ y_label a height i l =
     let up = i * (height - 1) / max (length (axis_labels a) - 1) 1 in
     over (Rows (height - 1 - up) 1) (put_line l)
 
+-- label i in an area below the dots, so many columns before them, or at the left
+abbrev pub label_at : Axis → Option ℕ → Rect → ℕ → LineData → Drawing
+label_at a None r i l = y_label a r.height i l
+label_at a (Some before) r i l = x_label a before r.width i l
+
 -- labels, each where it stands by its number, one after the other
 abbrev pub numbered : (ℕ → LineData → Drawing) → ℕ → List LineData → Drawing
 numbered place i [] = nothing
@@ -72,13 +79,14 @@ numbered place i (l ∷ ls) = place i l before numbered place (i + 1) ls
 -- those below, if there are at least two and a row for them, and those at the left
 abbrev pub x_labels : Axis → Margins → Rect → Drawing
 x_labels a m r =
-    let rows = m.below - m.rows in
-    draw_if (nat_lt 1 (length (axis_labels a)))
-    (over (Rows (r.height - rows) rows) (numbered (x_label a m.before r.width) 0 (axis_labels a)))
+    let rows = Rows (r.height - (m.below - m.rows)) (m.below - m.rows) in
+    let ls = axis_labels a in
+    draw_if (nat_lt 1 (length ls)) (over rows (numbered (label_at a (Some m.before) (cut_from rows r)) 0 ls))
 
 abbrev pub y_labels : Axis → Margins → Rect → Drawing
 y_labels a m r =
-    over (First (m.before - 1)) (over (Above m.below) (numbered (y_label a (r.height - m.below)) 0 (axis_labels a)))
+    let q = cut_from (Above m.below) (cut_from (First (m.before - 1)) r) in
+    over (First (m.before - 1)) (over (Above m.below) (numbered (label_at a None q) 0 (axis_labels a)))
 
 -- a cell of an axis, and an area of such cells
 abbrev pub ruled_cell : Style → List ℕ → Position → Cell → Cell
@@ -87,13 +95,13 @@ ruled_cell style symbol p c = styled style (with_symbol symbol c)
 abbrev pub ruled : Style → List ℕ → Drawing
 ruled style symbol = put_change (ruled_cell style symbol) (λ _ _. IsShort symbol)
 
--- the axes (U+2500, U+2502) in these styles, and the corner between them (U+2514)
+-- the axes in these styles, and the corner between them
 abbrev pub rules : Style → Style → Margins → Rect → Drawing
 rules x y m r =
     let rows = Rows (r.height - m.below) m.rows in
-    over (After m.before) (over rows (ruled x (encode_utf8 0x2500)))
+    over (After m.before) (over rows (ruled x line_symbol.HORIZONTAL.now))
     before over (After (m.before - m.columns)) (over (First m.columns)
-    (over (Above m.below) (ruled y (encode_utf8 0x2502)) before over rows (ruled x (encode_utf8 0x2514))))
+    (over (Above m.below) (ruled y line_symbol.VERTICAL.now) before over rows (ruled x line_symbol.BOTTOM_LEFT.now)))
 
 -- what stands around the dots
 abbrev pub axes : Axis → Axis → Margins → Rect → Drawing

@@ -1,20 +1,20 @@
 -- The legend of a chart: where it stands, and what it draws.
 use Rattle.std.specs.Prelude.{ℕ, Bool, ◌+◌, ◌-◌, ◌*◌, ◌/◌, ◌&&◌, nat_lt, nat_le, min, max, List}
 use Rattle.std.specs.Prelude.{[], ◌∷◌, length, Option, Some, None, if◌then◌else◌}
-use Rattle.ratatui_core.specs.{Layout.Rect, Text.LineData, Style.Style}
+use Rattle.ratatui_core.specs.{Layout.Rect, Text.LineData, Style.Style, Style.new_style}
 use Rattle.ratatui_core.specs.declared.layout.Constraint.{Constraint}
 use Rattle.ratatui_core.specs.declared.layout.Constraint.TheVariants.{Min, Max, Length}
 use Rattle.ratatui_core.specs.declared.layout.Constraint.TheVariants.{Percentage, Ratio, Fill}
-use Rattle.widget_boxes.specs.{declared.block.Block.Block, Boxes.box_cell, Boxes.HasShortSymbols}
+use Rattle.rtui_symbols.specs.declared.line.TheConstants as line_symbol
 use Rattle.rtui_drawing.specs.Cuts.{cut_from}
-use Rattle.rtui_drawing.specs.declared.cut.Cut.TheVariants.{First, After, BeforeLast, Rows, Below}
-use Rattle.rtui_drawing.specs.Drawings.{Drawing, nothing, over, ◌before◌, put_style, put_line, put_change}
+use Rattle.rtui_drawing.specs.declared.cut.Cut.TheVariants.{First, After, Last, BeforeLast, Rows, Below}
+use Rattle.rtui_drawing.specs.Drawings.{Drawing, nothing, over, ◌before◌, put_style, put_line}
 use Rattle.rtui_drawing.specs.Drawings.{draw_if}
 use Rattle.widget_chart.specs.declared.{dataset.Dataset.Dataset, legend.LegendPosition.LegendPosition}
 use Rattle.widget_chart.specs.declared.legend.LegendPosition.TheVariants.{Top, TopRight, TopLeft}
 use Rattle.widget_chart.specs.declared.legend.LegendPosition.TheVariants.{Left as AtLeft, Right as AtRight}
 use Rattle.widget_chart.specs.declared.legend.LegendPosition.TheVariants.{Bottom, BottomRight, BottomLeft}
-use Rattle.widget_chart.specs.{ChartLayouts.widest_line}
+use Rattle.widget_chart.specs.{ChartLayouts.widest_line, ChartParts.ruled}
 
 -- the names of data sets
 abbrev pub with_name : Option LineData → List LineData → List LineData
@@ -101,19 +101,29 @@ abbrev pub names : List Dataset → Drawing
 names [] = nothing
 names (d ∷ ds) = name_if d.name before under_name d.name (names ds)
 
--- a box without titles
-abbrev pub boxed : Block → Rect → Drawing
-boxed b r = put_change (box_cell b r) (λ _ _. HasShortSymbols b)
+-- a row of a box: a line between corners
+abbrev pub box_row : List ℕ → List ℕ → Drawing
+box_row left right =
+    ruled new_style line_symbol.HORIZONTAL.now
+    before over (First 1) (ruled new_style left)
+    before over (Last 1) (ruled new_style right)
 
--- a legend over an area: a style, a box with borders, and the names
-abbrev pub legend_in : Block → Style → List Dataset → Rect → Drawing
-legend_in b style ds r =
-    put_style style before boxed b r
-    before over (Below 1) (over (After 1) (over (BeforeLast 1) (names ds)))
+-- a box: lines at both sides, and rows with the upper corners and with the lower ones
+abbrev pub box_of : Rect → Drawing
+box_of r =
+    over (First 1) (ruled new_style line_symbol.VERTICAL.now)
+    before over (Last 1) (ruled new_style line_symbol.VERTICAL.now)
+    before over (Rows 0 1) (box_row line_symbol.TOP_LEFT.now line_symbol.TOP_RIGHT.now)
+    before over (Rows (r.height - 1) 1) (box_row line_symbol.BOTTOM_LEFT.now line_symbol.BOTTOM_RIGHT.now)
+
+-- a legend over an area: a style, a box, and the names
+abbrev pub legend_in : Style → List Dataset → Rect → Drawing
+legend_in style ds r =
+    put_style style before box_of r before over (Below 1) (over (After 1) (over (BeforeLast 1) (names ds)))
 
 -- the same where it stands in an area, if it has columns
-abbrev pub legend_at : Block → Style → List Dataset → Rect → Rect → Drawing
-legend_at b style ds at g =
+abbrev pub legend_at : Style → List Dataset → Rect → Rect → Drawing
+legend_at style ds at g =
     let rows = Rows at.y at.height in
     let r = cut_from rows (cut_from (First at.width) (cut_from (After at.x) g)) in
-    draw_if (nat_lt 0 at.width) (over (After at.x) (over (First at.width) (over rows (legend_in b style ds r))))
+    draw_if (nat_lt 0 at.width) (over (After at.x) (over (First at.width) (over rows (legend_in style ds r))))

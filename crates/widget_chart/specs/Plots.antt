@@ -1,8 +1,7 @@
 -- What a chart draws, and what it makes of a buffer.
 use Rattle.ratatui_core.specs.{Layout.Rect, Layout.corner, Style.Style}
 use Rattle.ratatui_core.specs.Buffer.{BufferData, cell_in, style_of}
-use Rattle.widget_boxes.specs.{declared.block.Block.Block, Boxes.IsNewBlock, Framed.RendersInFrame}
-use Rattle.widget_boxes.specs.{Framed.IsShortFrame}
+use Rattle.widget_boxes.specs.Framed.{RendersInFrame, IsShortFrame}
 use Rattle.rtui_drawing.specs.declared.cut.Cut.TheVariants.{After, Above}
 use Rattle.rtui_drawing.specs.Drawings.{Drawing, over, ◌before◌, DrawsAll, IsStopped}
 use Rattle.widget_chart.specs.declared.chart.Chart.{Chart}
@@ -11,46 +10,42 @@ use Rattle.widget_chart.specs.ChartParts.{axes, all_dotted, x_title, y_title}
 use Rattle.widget_chart.specs.Legends.{legend_names, legend_box, legend_at}
 
 -- the legend of a chart over its dots
-abbrev pub legend_of : Chart → Block → Style → Rect → Drawing
-legend_of c b style g =
+abbrev pub legend_of : Chart → Style → Rect → Drawing
+legend_of c style g =
     let ds = c.datasets.items in
     let tx = title_columns c.x_axis.title 0 g in
     let ty = title_columns c.y_axis.title 1 g in
     let at = legend_box c.legend_position c.hidden_legend_constraints.0 c.hidden_legend_constraints.1
     (legend_names ds) g tx ty in
-    legend_at b style ds at g
+    legend_at style ds at g
 
 -- what stands over the dots: the titles of the axes, and over them the legend
-abbrev pub names_of : Chart → Block → Style → Rect → Drawing
-names_of c b style g =
-    x_title style c.x_axis.title g before y_title style c.y_axis.title g before legend_of c b style g
+abbrev pub names_of : Chart → Style → Rect → Drawing
+names_of c style g =
+    x_title style c.x_axis.title g before y_title style c.y_axis.title g before legend_of c style g
 
 -- the area of the dots: the data sets, and the names over them
-abbrev pub plot_of : Chart → Block → Style → Rect → Drawing
-plot_of c b style g = all_dotted c g c.datasets.items before names_of c b style g
+abbrev pub plot_of : Chart → Style → Rect → Drawing
+plot_of c style g = all_dotted c g c.datasets.items before names_of c style g
 
 -- what a chart draws in an area: around its dots the axes with their labels, and then the dots and the names,
--- in a style and with a box
-abbrev pub chart_drawing : Chart → Block → Style → Rect → Drawing
-chart_drawing c b style r =
+-- in a style
+abbrev pub chart_drawing : Chart → Style → Rect → Drawing
+chart_drawing c style r =
     let m = margins_of c.x_axis c.y_axis r in
-    axes c.x_axis c.y_axis m r before over (After m.before) (over (Above m.below) (plot_of c b style (graph_in m r)))
+    axes c.x_axis c.y_axis m r before over (After m.before) (over (Above m.below) (plot_of c style (graph_in m r)))
 
 -- the style that the first cell of an area has
 abbrev pub first_style : Rect → BufferData → Style
 first_style r s = style_of (cell_in s (corner r))
 
--- a chart over an area, its legend in a new box with borders, its names in the style of the first cell
-pub record ShowsPlot (c : Chart) (r : Rect) (old new : BufferData) : Type 0 where
-  pub box : Block
-  pub bordered : IsNewBlock 15 box
-  pub drawn : DrawsAll (chart_drawing c box (first_style r old) r) r old new
+-- a chart over an area, its names in the style that the first cell had before; and one for which memory was
+-- refused: all before one thing stands
+abbrev pub ShowsPlot : Chart → Rect → BufferData → BufferData → Type 0
+ShowsPlot c r old new = DrawsAll (chart_drawing c (first_style r old) r) r old new
 
--- such a chart for which memory was refused: all before one thing stands
-pub record StopsPlot (c : Chart) (r : Rect) (old new : BufferData) : Type 0 where
-  pub box : Block
-  pub bordered : IsNewBlock 15 box
-  pub stopped : IsStopped (chart_drawing c box (first_style r old) r) r old new
+abbrev pub StopsPlot : Chart → Rect → BufferData → BufferData → Type 0
+StopsPlot c r old new = IsStopped (chart_drawing c (first_style r old) r) r old new
 
 -- A chart over the part of an area that a buffer has: its style, its box, and inside its parts. Nothing
 -- outside the area changes.

@@ -3,7 +3,7 @@
 ghost use Rattle.std.specs.Prelude.{◌≡◌, ◌<◌, Some, IfOk, true, map};
 ghost use Rattle.ratatui_core.specs.Layout.{IsInside};
 ghost use Rattle.rtui_drawing.specs.Drawings.{IsDone, IsPartOf};
-ghost use Rattle.widget_boxes.specs.Boxes.{IsBoxArea, IsNewBlock};
+ghost use Rattle.widget_boxes.specs.Boxes.{IsBoxArea};
 ghost use Rattle.widget_chart.specs.Charts.{IsNewChart, aligned_below, aligned_beside, with_styled_name};
 ghost use Rattle.widget_chart.specs.ChartParts.{drawings_of, dotted, all_dotted};
 ghost use Rattle.widget_chart.specs.Inner.{IsCanvasOf};
@@ -11,7 +11,7 @@ ghost use Rattle.widget_chart.specs.Plots.{legend_of, names_of, plot_of, chart_d
 
 use crate::axis::Axis;
 use crate::dataset::{Dataset, GraphType};
-use crate::layout::{margins, title_columns};
+use crate::layout::{margins_in, title_columns};
 use crate::legend::{LegendPosition, draw_legend_at, legend_box};
 use crate::parts::{draw_axes, put_x_title, put_y_title};
 use ratatui_core::buffer::Buffer;
@@ -206,16 +206,9 @@ impl<'a> Chart<'a> {
     }
 
     // Draws the legend over the dots, if there is room for it.
-    fn draw_legend(
-        &self,
-        block: &Block<'_>,
-        style: Style,
-        graph: Rect,
-        buf: &mut Buffer,
-    ) -> Result<(), AllocError>
-        requires new { IsNewBlock 15 block.now }
-        requires part { IsPartOf buf.old.area graph }
-        ensures { let d = legend_of self.now block.now style graph in
+    #[tactic(auto, using(crate::proofs::PlotLemmas::chart_steps))]
+    fn draw_legend(&self, style: Style, graph: Rect, buf: &mut Buffer) -> Result<(), AllocError>
+        ensures { let d = legend_of self.now style graph in
             IsDone d graph result buf.old buf.new }
     {
         let x = title_columns(&self.x_axis.title, 0, graph);
@@ -223,62 +216,43 @@ impl<'a> Chart<'a> {
         let (place, most) = (self.legend_position, self.hidden_legend_constraints);
         let datasets = self.datasets.as_slice();
         let at = legend_box(place, most, datasets, (x, y), graph);
-        draw_legend_at(datasets, block, style, at, graph, buf)
+        draw_legend_at(datasets, style, at, graph, buf)
     }
 
     // Draws the titles of the axes over the dots, and over them the legend.
-    fn draw_names(
-        &self,
-        block: &Block<'_>,
-        style: Style,
-        graph: Rect,
-        buf: &mut Buffer,
-    ) -> Result<(), AllocError>
-        requires new { IsNewBlock 15 block.now }
-        requires part { IsPartOf buf.old.area graph }
-        ensures { let d = names_of self.now block.now style graph in
+    #[tactic(auto, using(crate::proofs::PlotLemmas::chart_steps))]
+    fn draw_names(&self, style: Style, graph: Rect, buf: &mut Buffer) -> Result<(), AllocError>
+        ensures { let d = names_of self.now style graph in
             IsDone d graph result buf.old buf.new }
     {
         put_x_title(&self.x_axis.title, style, graph, buf)?;
         put_y_title(&self.y_axis.title, style, graph, buf)?;
-        self.draw_legend(block, style, graph, buf)
+        self.draw_legend(style, graph, buf)
     }
 
     // Draws the data sets, and the names over them.
-    fn draw_plot(
-        &self,
-        block: &Block<'_>,
-        style: Style,
-        graph: Rect,
-        buf: &mut Buffer,
-    ) -> Result<(), AllocError>
-        requires new { IsNewBlock 15 block.now }
+    #[tactic(auto, using(crate::proofs::PlotLemmas::chart_steps))]
+    fn draw_plot(&self, style: Style, graph: Rect, buf: &mut Buffer) -> Result<(), AllocError>
         requires some { IsBoxArea graph }
         requires part { IsPartOf buf.old.area graph }
-        ensures { let d = plot_of self.now block.now style graph in
+        ensures { let d = plot_of self.now style graph in
             IsDone d graph result buf.old buf.new }
     {
         self.put_datasets(graph, buf)?;
-        self.draw_names(block, style, graph, buf)
+        self.draw_names(style, graph, buf)
     }
 
-    // Draws what is inside the box, the names over a style, and a box around the legend.
-    fn draw(
-        &self,
-        block: &Block<'_>,
-        style: Style,
-        inner: Rect,
-        buf: &mut Buffer,
-    ) -> Result<(), AllocError>
-        requires new { IsNewBlock 15 block.now }
+    // Draws what is inside the box, the names over a style.
+    #[tactic(auto, using(crate::proofs::PlotLemmas::chart_steps))]
+    fn draw(&self, style: Style, inner: Rect, buf: &mut Buffer) -> Result<(), AllocError>
         requires some { IsBoxArea inner }
         requires inside { IsInside inner buf.old.area }
-        ensures { let d = chart_drawing self.now block.now style inner in
+        ensures { let d = chart_drawing self.now style inner in
             IsDone d inner result buf.old buf.new }
     {
-        let margins = margins(&self.x_axis, &self.y_axis, inner);
+        let margins = margins_in(&self.x_axis, &self.y_axis, inner);
         draw_axes(&self.x_axis, &self.y_axis, margins, inner, buf)?;
-        self.draw_plot(block, style, margins.graph(inner), buf)
+        self.draw_plot(style, margins.graph(inner), buf)
     }
 }
 
@@ -343,8 +317,7 @@ impl<'b, 'a> Widget for &'b Chart<'a> {
         let Some(inner) = render_frame(self.style, &self.block, area, buf)? else {
             return Ok(());
         };
-        let block = Block::bordered(buf.allocator());
-        self.draw(&block, first_style(inner, buf), inner, buf)
+        self.draw(first_style(inner, buf), inner, buf)
     }
 }
 

@@ -142,7 +142,7 @@ impl<'a> Axis<'a> {
 }
 
 // What a chart has around its dots in an area.
-pub(crate) fn margins(x: &Axis<'_>, y: &Axis<'_>, area: Rect) -> Margins
+pub(crate) fn margins_in(x: &Axis<'_>, y: &Axis<'_>, area: Rect) -> Margins
     ensures value { result ≡ margins_of x.now y.now area }
     ensures across { 0 < area.width → result.before < area.width }
     ensures down { 0 < area.height → result.below < area.height }

@@ -1,24 +1,23 @@
 //! The legend of a chart.
 
 ghost use Rattle.std.specs.Prelude.{◌≡◌, ◌≤◌, ◌<◌, ◌+◌, ◌*◌, ◌/◌, min, length, [], IfOk};
-ghost use Rattle.rtui_drawing.specs.Drawings.{IsDone, IsPartOf};
-ghost use Rattle.widget_boxes.specs.Boxes.{IsNewBlock};
+ghost use Rattle.rtui_drawing.specs.Drawings.{IsDone};
 ghost use Rattle.widget_chart.specs.ChartLayouts.{widest_line};
 ghost use Rattle.widget_chart.specs.Legends.{legend_names, room_in, legend_fits, legend_column, legend_row};
-ghost use Rattle.widget_chart.specs.Legends.{one_row_if, legend_box, name_if, below_name, names, boxed};
+ghost use Rattle.widget_chart.specs.Legends.{one_row_if, legend_box, name_if, below_name, names, box_row, box_of};
 ghost use Rattle.widget_chart.specs.Legends.{legend_in, legend_at};
 ghost use Rattle.widget_chart.specs.Inner.{name_columns, name_count, HasLegendRoom};
 
 use crate::dataset::Dataset;
 use crate::layout::columns_of;
+use crate::parts::rule;
 use ratatui_core::buffer::Buffer;
 use ratatui_core::layout::{Constraint, Rect};
 use ratatui_core::style::Style;
+use ratatui_core::symbols::line;
 use ratatui_core::text::Line;
-use ratatui_core::widgets::Widget;
 use rtui_drawing::{Cut, put_line, put_style};
 use std::alloc::AllocError;
-use widget_boxes::Block;
 
 /// Where the legend of a chart stands over the dots. It gives way by a row to a title that it would
 /// cover.
@@ -219,6 +218,7 @@ pub(crate) fn legend_box(
 }
 
 // Puts a name in the first row of an area, if there is one, and answers what is left of the area.
+#[tactic(auto, using(crate::proofs::PlotLemmas::chart_steps))]
 fn put_name(name: &Option<Line<'_>>, area: Rect, buf: &mut Buffer) -> Result<Rect, AllocError>
     ensures done { IsDone (name_if name.now) area result buf.old buf.new }
     ensures rest { IfOk result (λ rest. rest ≡ below_name name.now area) }
@@ -241,57 +241,74 @@ fn put_names(datasets: &[Dataset<'_>], area: Rect, buf: &mut Buffer) -> Result<(
     Ok(())
 }
 
-// Puts a box without titles over an area.
-fn put_box(block: &Block<'_>, area: Rect, buf: &mut Buffer) -> Result<(), AllocError>
-    requires new { IsNewBlock 15 block.now }
-    requires part { IsPartOf buf.old.area area }
-    ensures { IsDone (boxed block.now area) area result buf.old buf.new }
+// Puts a row of a box over an area: a line between these corners.
+#[tactic(auto, using(crate::proofs::PlotLemmas::chart_steps))]
+fn put_box_row(
+    left: &'static str,
+    right: &'static str,
+    row: Rect,
+    buf: &mut Buffer,
+) -> Result<(), AllocError>
+    ensures { IsDone (box_row left.now right.now) row result buf.old buf.new }
 {
-    block.render(area, buf)
+    let plain = Style::new();
+    rule(line::HORIZONTAL, plain, row, buf)?;
+    rule(left, plain, Cut::First(1).of(row), buf)?;
+    rule(right, plain, Cut::Last(1).of(row), buf)
 }
 
-// Draws a legend over an area: a style, a box with borders, and the names.
+// Puts a box over an area.
+#[tactic(auto, using(crate::proofs::PlotLemmas::chart_steps))]
+fn put_box(area: Rect, buf: &mut Buffer) -> Result<(), AllocError>
+    ensures { IsDone (box_of area) area result buf.old buf.new }
+{
+    let (plain, last) = (Style::new(), area.height.saturating_sub(1));
+    rule(line::VERTICAL, plain, Cut::First(1).of(area), buf)?;
+    rule(line::VERTICAL, plain, Cut::Last(1).of(area), buf)?;
+    put_box_row(
+        line::TOP_LEFT,
+        line::TOP_RIGHT,
+        Cut::Rows(0, 1).of(area),
+        buf,
+    )?;
+    put_box_row(
+        line::BOTTOM_LEFT,
+        line::BOTTOM_RIGHT,
+        Cut::Rows(last, 1).of(area),
+        buf,
+    )
+}
+
+// Draws a legend over an area: a style, a box, and the names.
+#[tactic(auto, using(crate::proofs::PlotLemmas::chart_steps))]
 fn draw_legend_in(
     datasets: &[Dataset<'_>],
-    block: &Block<'_>,
     style: Style,
     area: Rect,
     buf: &mut Buffer,
 ) -> Result<(), AllocError>
-    requires new { IsNewBlock 15 block.now }
-    requires part { IsPartOf buf.old.area area }
-    ensures { let d = legend_in block.now style datasets.now area in
-        IsDone d area result buf.old buf.new }
+    ensures { IsDone (legend_in style datasets.now area) area result buf.old buf.new }
 {
     put_style(style, area, buf);
-    put_box(block, area, buf)?;
+    put_box(area, buf)?;
     let inside = Cut::BeforeLast(1).of(Cut::After(1).of(Cut::Below(1).of(area)));
     put_names(datasets, inside, buf)
 }
 
 // Draws a legend in a box that is counted from an area's corner, if the box has columns.
+#[tactic(auto, using(crate::proofs::PlotLemmas::chart_steps))]
 pub(crate) fn draw_legend_at(
     datasets: &[Dataset<'_>],
-    block: &Block<'_>,
     style: Style,
     at: Rect,
     area: Rect,
     buf: &mut Buffer,
 ) -> Result<(), AllocError>
-    requires new { IsNewBlock 15 block.now }
-    requires part { IsPartOf buf.old.area area }
-    ensures { let d = legend_at block.now style datasets.now at area in
-        IsDone d area result buf.old buf.new }
+    ensures { IsDone (legend_at style datasets.now at area) area result buf.old buf.new }
 {
     if at.width == 0 {
         return Ok(());
     }
     let columns = Cut::First(at.width).of(Cut::After(at.x).of(area));
-    draw_legend_in(
-        datasets,
-        block,
-        style,
-        Cut::Rows(at.y, at.height).of(columns),
-        buf,
-    )
+    draw_legend_in(datasets, style, Cut::Rows(at.y, at.height).of(columns), buf)
 }

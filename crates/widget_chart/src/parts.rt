@@ -1,10 +1,10 @@
 //! The labels, the axes and the titles of a chart.
 
-ghost use Rattle.std.specs.Prelude.{◌≡◌, ◌<◌, ◌-◌, ◌*◌, ◌/◌, length, max};
+ghost use Rattle.std.specs.Prelude.{◌≡◌, ◌≤◌, ◌<◌, ◌-◌, ◌*◌, ◌/◌, length, max, IfSome};
 ghost use Rattle.rtui_drawing.specs.Drawings.{IsDone};
 ghost use Rattle.widget_chart.specs.Charts.{axis_labels};
 ghost use Rattle.widget_chart.specs.ChartParts.{label_share, label_start, label_columns, x_label, y_label};
-ghost use Rattle.widget_chart.specs.ChartParts.{numbered, x_labels, y_labels, ruled, rules, axes};
+ghost use Rattle.widget_chart.specs.ChartParts.{label_at, numbered, x_labels, y_labels, ruled, rules, axes};
 ghost use Rattle.widget_chart.specs.ChartParts.{axis_title, x_title, y_title};
 
 use crate::axis::Axis;
@@ -66,6 +66,7 @@ impl<'a> Axis<'a> {
     }
 
     // Puts label i below in its columns of a row.
+    #[tactic(auto, using(crate::proofs::PlotLemmas::chart_steps))]
     fn put_x_label(
         &self,
         i: usize,
@@ -88,19 +89,8 @@ impl<'a> Axis<'a> {
         )
     }
 
-    // Puts all labels below in a row.
-    fn put_each_x_label(&self, before: u16, row: Rect, buf: &mut Buffer) -> Result<(), AllocError>
-        requires { before < row.width }
-        ensures { let d = numbered (x_label self.now before row.width) 0 (axis_labels self.now) in
-            IsDone d row result buf.old buf.new }
-    {
-        for (i, label) in self.lines().iter().enumerate() {
-            self.put_x_label(i, label, before, row, buf)?;
-        }
-        Ok(())
-    }
-
     // Puts the labels below, if there are at least two, in the row for them.
+    #[tactic(auto, using(crate::proofs::PlotLemmas::chart_steps))]
     fn put_x_labels(&self, margins: Margins, area: Rect, buf: &mut Buffer) -> Result<(), AllocError>
         requires { margins.before < area.width }
         ensures { IsDone (x_labels self.now margins area) area result buf.old buf.new }
@@ -110,7 +100,7 @@ impl<'a> Axis<'a> {
         }
         let rows = margins.below.saturating_sub(margins.rows);
         let row = Cut::Rows(area.height.saturating_sub(rows), rows).of(area);
-        self.put_each_x_label(margins.before, row, buf)
+        self.put_all(Some(margins.before), row, buf)
     }
 
     // How far over the last row of so many the label of this number stands.
@@ -124,6 +114,7 @@ impl<'a> Axis<'a> {
     }
 
     // Puts label i at the left in its row.
+    #[tactic(auto, using(crate::proofs::PlotLemmas::chart_steps))]
     fn put_y_label(
         &self,
         i: usize,
@@ -139,23 +130,45 @@ impl<'a> Axis<'a> {
         put_line(label, Cut::Rows(row, 1).of(area), buf)
     }
 
-    // Puts the labels at the left, from the last row up.
-    fn put_each_y_label(&self, area: Rect, buf: &mut Buffer) -> Result<(), AllocError>
-        ensures { let d = numbered (y_label self.now area.height) 0 (axis_labels self.now) in
+    // Puts label i in its place in an area: below the dots, so many columns before them, or at
+    // the left.
+    fn put_label(
+        &self,
+        before: Option<u16>,
+        i: usize,
+        label: &Line<'a>,
+        area: Rect,
+        buf: &mut Buffer,
+    ) -> Result<(), AllocError>
+        requires one { i < length (axis_labels self.now) }
+        requires some { IfSome before (λ n. n < area.width) }
+        ensures { IsDone (label_at self.now before area i label.now) area result buf.old buf.new }
+    {
+        match before {
+            Some(before) => self.put_x_label(i, label, before, area, buf),
+            None => self.put_y_label(i, label, area, buf),
+        }
+    }
+
+    // Puts all labels in their places in an area.
+    fn put_all(&self, before: Option<u16>, area: Rect, buf: &mut Buffer) -> Result<(), AllocError>
+        requires { IfSome before (λ n. n < area.width) }
+        ensures { let d = numbered (label_at self.now before area) 0 (axis_labels self.now) in
             IsDone d area result buf.old buf.new }
     {
         for (i, label) in self.lines().iter().enumerate() {
-            self.put_y_label(i, label, area, buf)?;
+            self.put_label(before, i, label, area, buf)?;
         }
         Ok(())
     }
 
     // Puts the labels at the left in the columns for them.
+    #[tactic(auto, using(crate::proofs::PlotLemmas::chart_steps))]
     fn put_y_labels(&self, margins: Margins, area: Rect, buf: &mut Buffer) -> Result<(), AllocError>
         ensures { IsDone (y_labels self.now margins area) area result buf.old buf.new }
     {
         let columns = Cut::First(margins.before.saturating_sub(1)).of(area);
-        self.put_each_y_label(Cut::Above(margins.below).of(columns), buf)
+        self.put_all(None, Cut::Above(margins.below).of(columns), buf)
     }
 }
 
@@ -188,13 +201,19 @@ impl CellChange for Ruling {
 }
 
 // Rules an area: this symbol in each cell.
-fn rule(symbol: &'static str, style: Style, area: Rect, buf: &mut Buffer) -> Result<(), AllocError>
+pub(crate) fn rule(
+    symbol: &'static str,
+    style: Style,
+    area: Rect,
+    buf: &mut Buffer,
+) -> Result<(), AllocError>
     ensures { IsDone (ruled style symbol.now) area result buf.old buf.new }
 {
     put_change(&Ruling { symbol, style }, area, buf)
 }
 
 // Rules the axes and the corner between them.
+#[tactic(auto, using(crate::proofs::PlotLemmas::chart_steps))]
 fn put_rules(
     x: Style,
     y: Style,
@@ -218,6 +237,7 @@ fn put_rules(
 }
 
 // Draws the labels and the axes around the dots.
+#[tactic(auto, using(crate::proofs::PlotLemmas::chart_steps))]
 pub(crate) fn draw_axes(
     x: &Axis<'_>,
     y: &Axis<'_>,
@@ -234,6 +254,7 @@ pub(crate) fn draw_axes(
 }
 
 // Puts the title of an axis over a style, if there is one.
+#[tactic(auto, using(crate::proofs::PlotLemmas::chart_steps))]
 fn put_title(
     title: &Option<Line<'_>>,
     style: Style,
@@ -252,6 +273,7 @@ fn put_title(
 }
 
 // Puts the title of the axis below over the dots.
+#[tactic(auto, using(crate::proofs::PlotLemmas::chart_steps))]
 pub(crate) fn put_x_title(
     title: &Option<Line<'_>>,
     style: Style,
@@ -270,6 +292,7 @@ pub(crate) fn put_x_title(
 }
 
 // Puts the title of the axis at the left over the dots.
+#[tactic(auto, using(crate::proofs::PlotLemmas::chart_steps))]
 pub(crate) fn put_y_title(
     title: &Option<Line<'_>>,
     style: Style,
