@@ -27,39 +27,25 @@ use Rattle.widget_chart.specs.declared.dataset.GraphType.TheVariants.{Scatter, L
 abbrev pub label_share : Axis → ℕ → ℕ → ℕ
 label_share a before width = (width - before) / length (axis_labels a)
 
--- The first label below stands left of the dots, across their first column, or from the axis at the left on:
--- where it begins, and how many columns it has. It takes n, and each label has w of those of the dots.
-abbrev pub first_start : HorizontalAlignment → ℕ → ℕ
-first_start Left before = 0
-first_start Center before = 0
-first_start Right before = before - 1
+-- In which column of a row a label below begins, and how many it has: the first one, which takes n, left of the
+-- dots, across their first column, or from the axis at the left on; and label i: those between after a blank
+-- column, and the last one at the right.
+abbrev pub first_place : HorizontalAlignment → ℕ → ℕ → ℕ → ℕ × ℕ
+first_place Left before w n = (0, before)
+first_place Center before w n = (0, before + min w n)
+first_place Right before w n = (before - 1, w + min before 1)
 
-abbrev pub columns_of_first : HorizontalAlignment → ℕ → ℕ → ℕ → ℕ
-columns_of_first Left before w n = before
-columns_of_first Center before w n = before + min w n
-columns_of_first Right before w n = w + min before 1
-
--- the same of label i below: the first one, those between, after a blank column, and the last one at the
--- right
-abbrev pub label_start : Axis → ℕ → ℕ → ℕ → ℕ
-label_start a before width i =
+abbrev pub label_place : Axis → ℕ → ℕ → ℕ → ℕ → ℕ × ℕ
+label_place a before width i n =
     let w = label_share a before width in
-    if i == 0 then first_start a.labels_alignment before
-    else if i + 1 == length (axis_labels a) then width - w
-    else before + i * w + 1
-
-abbrev pub label_columns : Axis → ℕ → ℕ → ℕ → ℕ → ℕ
-label_columns a before width i n =
-    let w = label_share a before width in
-    if i == 0 then columns_of_first a.labels_alignment before w n
-    else if i + 1 == length (axis_labels a) then w
-    else w - 1
+    if i == 0 then first_place a.labels_alignment before w n
+    else if i + 1 == length (axis_labels a) then (width - w, w)
+    else (before + i * w + 1, w - 1)
 
 -- label i below in a row, and label i at the left: from the last row up, over all rows
 abbrev pub x_label : Axis → ℕ → ℕ → ℕ → LineData → Drawing
 x_label a before width i l =
-    over (After (label_start a before width i))
-    (over (First (label_columns a before width i (title_width l))) (put_line l))
+    let place = label_place a before width i (title_width l) in over (After place.0) (over (First place.1) (put_line l))
 
 abbrev pub y_label : Axis → ℕ → ℕ → LineData → Drawing
 y_label a height i l =

@@ -1,9 +1,9 @@
 //! The labels, the axes and the titles of a chart.
 
-ghost use Rattle.std.specs.Prelude.{◌≡◌, ◌≤◌, ◌<◌, ◌-◌, ◌*◌, ◌/◌, length, max, IfSome};
+ghost use Rattle.std.specs.Prelude.{◌≡◌, ◌≤◌, ◌<◌, ◌+◌, ◌-◌, ◌*◌, ◌/◌, length, max, IfSome};
 ghost use Rattle.rtui_drawing.specs.Drawings.{IsDone};
 ghost use Rattle.widget_chart.specs.Charts.{axis_labels};
-ghost use Rattle.widget_chart.specs.ChartParts.{label_share, label_start, label_columns, x_label, y_label};
+ghost use Rattle.widget_chart.specs.ChartParts.{label_share, first_place, label_place, x_label, y_label};
 ghost use Rattle.widget_chart.specs.ChartParts.{label_at, numbered, x_labels, y_labels, ruled, rules, axes};
 ghost use Rattle.widget_chart.specs.ChartParts.{axis_title, x_title, y_title};
 
@@ -26,43 +26,27 @@ impl<'a> Axis<'a> {
         (usize::from(width.saturating_sub(before)) / self.lines().len()) as u16
     }
 
-    // In which column of a row label i below begins.
-    fn label_start(&self, i: usize, before: u16, width: u16) -> u16
+    // In which column of a row label i below begins, which takes so many columns, and how many it
+    // has.
+    fn label_place(&self, i: usize, columns: u16, before: u16, width: u16) -> (u16, u16)
         requires one { i < length (axis_labels self.now) }
         requires some { before < width }
-        ensures { result ≡ label_start self.now before width i }
+        ensures start { let place = label_place self.now before width i columns in
+            result.0 ≡ place.0 }
+        ensures columns { let place = label_place self.now before width i columns in
+            result.1 ≡ place.1 }
     {
         let share = self.label_share(before, width);
         if i == 0 {
-            match self.labels_alignment {
-                HorizontalAlignment::Right => before.saturating_sub(1),
-                _ => 0,
-            }
-        } else if i + 1 == self.lines().len() {
-            width - share
-        } else {
-            before + columns_before(i, share) + 1
+            return first_place(self.labels_alignment, before, share, columns);
         }
-    }
-
-    // How many columns of a row label i below has, which takes so many.
-    fn label_columns(&self, i: usize, columns: u16, before: u16, width: u16) -> u16
-        requires one { i < length (axis_labels self.now) }
-        requires some { before < width }
-        ensures { result ≡ label_columns self.now before width i columns }
-    {
-        let share = self.label_share(before, width);
-        if i == 0 {
-            match self.labels_alignment {
-                HorizontalAlignment::Left => before,
-                HorizontalAlignment::Center => before + share.min(columns),
-                HorizontalAlignment::Right => share + before.min(1),
-            }
-        } else if i + 1 == self.lines().len() {
-            share
-        } else {
-            share.saturating_sub(1)
+        if i + 1 == self.lines().len() {
+            return (width - share, share);
         }
+        (
+            before + columns_before(i, share) + 1,
+            share.saturating_sub(1),
+        )
     }
 
     // Puts label i below in its columns of a row.
@@ -80,8 +64,7 @@ impl<'a> Axis<'a> {
         ensures { let d = x_label self.now before row.width i label.now in
             IsDone d row result buf.old buf.new }
     {
-        let start = self.label_start(i, before, row.width);
-        let columns = self.label_columns(i, columns_of(label), before, row.width);
+        let (start, columns) = self.label_place(i, columns_of(label), before, row.width);
         put_line(
             label,
             Cut::First(columns).of(Cut::After(start).of(row)),
@@ -169,6 +152,19 @@ impl<'a> Axis<'a> {
     {
         let columns = Cut::First(margins.before.saturating_sub(1)).of(area);
         self.put_all(None, Cut::Above(margins.below).of(columns), buf)
+    }
+}
+
+// In which column the first label below begins, and how many it has.
+fn first_place(alignment: HorizontalAlignment, before: u16, w: u16, n: u16) -> (u16, u16)
+    requires { before + w ≤ 65535 }
+    ensures start { result.0 ≡ (first_place alignment before w n).0 }
+    ensures columns { result.1 ≡ (first_place alignment before w n).1 }
+{
+    match alignment {
+        HorizontalAlignment::Left => (0, before),
+        HorizontalAlignment::Center => (0, before + w.min(n)),
+        HorizontalAlignment::Right => (before.saturating_sub(1), w + before.min(1)),
     }
 }
 
