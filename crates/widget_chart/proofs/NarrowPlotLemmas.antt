@@ -1,5 +1,5 @@
 -- A chart of narrow texts and marks keeps cells plain.
-use Rattle.std.proofs.Common.{◌≡◌, ℕ, ◌+◌, ◌≤◌, List, [], ◌∷◌, IfSome, All, Option, Some, None, lit<, nat_lt, length}
+use Rattle.std.proofs.Common.{◌≡◌, ℕ, ◌+◌, ◌-◌, ◌≤◌, List, [], ◌∷◌, IfSome, All, Option, Some, None, lit<, nat_lt, length}
 use Rattle.std.proofs.lemmas.List.Elements.{All-head, All-tail}
 use Rattle.unicode_width.proofs.Computing.{unicode_width}
 use Rattle.rtui_symbols.specs.declared.line.TheConstants as line_symbol
@@ -8,7 +8,8 @@ use Rattle.ratatui_core.specs.{Style.Style, Style.new_style, Style.with_bg, Text
 use Rattle.ratatui_core.specs.Text.{EachLineGrapheme}
 use Rattle.ratatui_core.specs.Buffer.{BufferData, text_width, IsPlainFrom}
 use Rattle.ratatui_core.proofs.BufferLemmas.{plain-styled, plain-with_symbol}
-use Rattle.rtui_drawing.specs.Drawings.{over, Drawing}
+use Rattle.rtui_drawing.specs.{Cuts.cut_from, Drawings.over, Drawings.Drawing}
+use Rattle.rtui_drawing.specs.declared.cut.Cut.TheVariants.{First, Rows, Above}
 use Rattle.rtui_drawing.proofs.{Laws.IsNarrowDrawing, DrawingLemmas.if-narrow, DrawingLemmas.draws-plain}
 use Rattle.widget_boxes.specs.{Boxes.IsNarrowBox, Framed.inner_if}
 use Rattle.widget_boxes.proofs.InnerLemmas.{plain-inside}
@@ -58,18 +59,27 @@ upper-right-narrow = lit< tt
 ruled-narrow : (style : Style) (symbol : List ℕ) → text_width symbol ≤ 1 → IsNarrowDrawing (ruled style symbol)
 ruled-narrow style symbol narrow = λ p c cell. plain-styled style _ (plain-with_symbol symbol c cell narrow)
 
+label-narrow : (a : Axis) (left : Option ℕ) (r : Rect) (i : ℕ) (l : LineData) → EachLineGrapheme TakesOneColumn l
+    → IsNarrowDrawing (label_at a left r i l)
+label-narrow a None r i l narrow = narrow
+label-narrow a (Some left) r i l narrow = narrow
+
 axes-narrow : (x y : Axis) (m : Margins) (r : Rect) → HasNarrowTexts x → HasNarrowTexts y → IsNarrowDrawing (axes x y m r)
-axes-narrow x y m r below beside = (
-  if-narrow (nat_lt 1 (length (axis_labels x))) (over _ (numbered (label_at x (Some m.before) _) 0 (axis_labels x)))
-      (numbered-narrow (label_at x (Some m.before) _) (λ i l narrow. narrow) 0 (axis_labels x) below.labels),
-  (
-    numbered-narrow (label_at y None _) (λ i l narrow. narrow) 0 (axis_labels y) beside.labels,
-    (
-      ruled-narrow x.style _ level-narrow,
-      (ruled-narrow y.style _ upright-narrow, ruled-narrow x.style _ lower-left-narrow),
-    ),
-  ),
-)
+axes-narrow x y m r below beside =
+    let rows = Rows (r.height - (m.below - m.rows)) (m.below - m.rows) in
+    let p = cut_from rows r in
+    let q = cut_from (Above m.below) (cut_from (First (m.left - 1)) r) in
+    let labels = numbered (label_at x (Some m.left) p) 0 (axis_labels x) in (
+      if-narrow (nat_lt 1 (length (axis_labels x))) (over rows labels)
+          (numbered-narrow (label_at x (Some m.left) p) (label-narrow x (Some m.left) p) 0 (axis_labels x) below.labels),
+      (
+        numbered-narrow (label_at y None q) (label-narrow y None q) 0 (axis_labels y) beside.labels,
+        (
+          ruled-narrow x.style _ level-narrow,
+          (ruled-narrow y.style _ upright-narrow, ruled-narrow x.style _ lower-left-narrow),
+        ),
+      ),
+    )
 
 -- the dots of data sets
 dotted-narrow : (ch : Chart) (g : Rect) (ds : List Dataset) → All IsNarrowDataset ds → IsNarrowDrawing (all_dotted ch g ds)
@@ -144,4 +154,5 @@ pub chart-plain : (c : Chart) (area : Rect) (old new : BufferData) → IfSome c.
 chart-plain c area old new box narrow plain is =
     let r = inner_if c.block (intersected area old.area) in
     plain-inside c.style c.block (λ _ _. ShowsPlot c) tt tt area old new box plain
-    (λ framed cells shown. draws-plain _ r framed new (plot-narrow c (first_style r framed) r narrow) cells shown) is
+    (λ framed cells shown. let style = first_style r framed in
+    draws-plain (chart_drawing c style r) r framed new (plot-narrow c style r narrow) cells shown) is

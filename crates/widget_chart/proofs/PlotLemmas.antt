@@ -1,31 +1,33 @@
 -- What the parts of a chart draw.
 use Rattle.std.proofs.Common.{◌≡◌, ℕ, ◌+◌, ◌-◌, ◌*◌, ◌/◌, ◌<◌, ◌≤◌, max, min, List, [], ◌∷◌, length, ⊎_elim, Option, Some, None}
-use Rattle.std.proofs.Common.{arith, refl, sym, subst, ap, ◌∙◌, Result, Ok, Err, OnOk, OnErr}
+use Rattle.std.proofs.Common.{arith, refl, sym, subst, ap, ◌∙◌, unwrap_or, Result, Ok, Err, OnOk, OnErr}
 use Rattle.std.specs.List.{flat_map}
 use Rattle.std.specs.declared.alloc.AllocError.{AllocError}
 use Rattle.std.proofs.lemmas.{Bool.cases_lt}
 use Rattle.std.proofs.Math.Nat.{mul-div-le, mul-le-mul_right, mul-zero}
-use Rattle.ratatui_core.specs.Layout.{Rect, Position, corner, intersected, HasPosition, IsInside, right_edge, bottom_edge}
-use Rattle.ratatui_core.specs.{Style.Style, Style.new_style, Text.LineData, Widgets.ChangesWithin}
+use Rattle.ratatui_core.specs.Layout.{Rect, Position, corner, intersected, HasPosition, right_edge, bottom_edge}
+use Rattle.ratatui_core.specs.{Style.Style, Style.new_style, Style.with_bg, Style.Reset, Text.LineData}
+use Rattle.ratatui_core.specs.Widgets.{ChangesWithin}
 use Rattle.ratatui_core.specs.Buffer.{BufferData, Cell, cell_in, styled, IsStyled, ChangesEach}
 use Rattle.rtui_drawing.specs.Drawings.{Drawing, IsDone, IsPartOf}
-use Rattle.rtui_drawing.specs.declared.cut.Cut.TheVariants.{After, Above, Below}
+use Rattle.rtui_drawing.specs.declared.cut.Cut.TheVariants.{Below}
 use Rattle.rtui_drawing.proofs.{Laws.Continues, WriteLemmas.row-of}
-use Rattle.rtui_drawing.proofs.DrawingLemmas.{part-cut, continues-in, done-within}
+use Rattle.rtui_drawing.proofs.DrawingLemmas.{continues-in, done-within}
 use Rattle.rtui_drawing.proofs.DrawingLemmas.{drawing_steps, drawing_choices}
-use Rattle.rtui_dots.specs.{declared.scale.Scale.Scale, Layers.layers_of, Layers.drawn_dots}
-use Rattle.widget_boxes.specs.{Boxes.IsBoxArea, Framed.InFrame, Framed.FramesInside}
+use Rattle.rtui_dots.specs.{declared.scale.Scale.Scale, Layers.layers_of, Layers.drawn_dots, Grids.with_dots, Grids.empty_grid}
+use Rattle.widget_boxes.specs.{declared.block.Block.Block, Boxes.IsBoxArea, Framed.InFrame, Framed.FramesInside}
 use Rattle.widget_boxes.proofs.FrameLemmas.{frame-filled}
 use Rattle.widget_canvas.specs.{declared.canvas.Canvas.Canvas, Canvases.RendersCanvas, Canvases.ShowsCanvas}
+use Rattle.widget_canvas.specs.Canvases.{shown_at}
 use Rattle.widget_chart.specs.declared.{chart.Chart.Chart, dataset.Dataset.Dataset, dataset.GraphType.GraphType}
 use Rattle.widget_chart.specs.declared.dataset.GraphType.TheVariants.{Scatter, Line, Bar}
-use Rattle.widget_chart.specs.{declared.layout.Margins.Margins, ChartLayouts.graph_in, ChartLayouts.widest_line}
-use Rattle.widget_chart.specs.ChartParts.{drawings_of, dotted, dotted_cell}
+use Rattle.widget_chart.specs.{ChartLayouts.widest_line}
+use Rattle.widget_chart.specs.ChartParts.{drawings_of, dots_of, scale_of, dotted, dotted_cell}
 use Rattle.widget_chart.specs.Legends.{with_name, under_name, below_name}
 use Rattle.widget_chart.specs.Inner.{name_count, name_columns, IsCanvasOf}
 use Rattle.widget_chart.specs.Plots.{chart_drawing, first_style, ShowsPlot, StopsPlot, RendersChart, LeavesChart}
 
--- n shares of so many columns: a place before the last one is less than all columns
+-- n shares of so many columns: a place left the last one is less than all columns
 pub share-below : (i n g : ℕ) → i < n → 0 < g → i * (g / n) < g
 share-below i n g lt some =
     let whole : n * (g / n) ≤ g = mul-div-le g n in
@@ -68,22 +70,6 @@ part-whole own r w h is =
     let height : min (bottom_edge r) (bottom_edge own) - r.y ≡ r.height = omega arith in
     rw (x, y, width, height) refl
 
--- the area of the dots has cells, and is a part of the buffer
-pub graph-box : {m : Margins} {r : Rect} → IsBoxArea r → m.before < r.width → m.below < r.height → IsBoxArea (graph_in m r)
-graph-box box across down = let a = box.across in let d = box.down in record {
-  columns = omega arith;
-  rows = omega arith;
-  across = omega arith;
-  down = omega arith;
-}
-
-pub graph-part : {own r : Rect} (m : Margins) → IsBoxArea r → IsInside r own → IsPartOf own (graph_in m r)
-graph-part m box inside =
-    part-cut (Above m.below) (part-cut (After m.before) (record {
-      inside = inside;
-      edges = λ w h. record { right = box.across; bottom = box.down };
-    }))
-
 -- a data set has one layer of dots
 layers-one : (s : Scale) (d : Dataset) (t : GraphType)
     → layers_of s (drawings_of t d) ≡ flat_map (λ shape. drawn_dots shape s) (drawings_of t d) ∷ []
@@ -114,12 +100,17 @@ module _ (ch : Chart) (d : Dataset) (c : Canvas) (g : Rect) (old new : BufferDat
   canvas-cells : RendersCanvas c g old new → ChangesEach g (dotted_cell ch d g) old new
   canvas-cells is =
       let whole = part-whole old.area g box.columns box.rows part in
+      let there = is.parts.part (subst (λ q. 0 < q.width) (sym whole) box.columns) (subst (λ q. 0 < q.height) (sym whole) box.rows) in
       let cells : InFrame new_style None (λ _ _. ShowsCanvas c) tt tt g old new =
-      rw (of.no_box, whole) at (is.parts.part (rw whole box.columns) (rw whole box.rows)) in
+      subst (λ q. InFrame new_style None (λ _ _. ShowsCanvas c) tt tt q old new) whole
+      (subst (λ (o : Option Block). InFrame new_style o (λ _ _. ShowsCanvas c) tt tt (intersected g old.area) old new)
+      of.no_box there) in
       let shows = cells.inside box.columns box.rows in
       let layers = rw (of.left, of.right, of.bottom, of.top, of.marker, of.drawn, layers-one _ d d.graph_type) at shows.layers in
       let last = rw of.unlabelled at shows.labels in
-      styled-changed g new_style _ _ old cells.framed shows.laid new
+      let s = scale_of ch d g in
+      styled-changed g new_style (with_bg (unwrap_or ch.style.bg Reset) new_style)
+      (shown_at s g (with_dots s (dots_of s d) (empty_grid s))) old cells.framed shows.laid new
       (rw cells.frame.boxed cells.frame.styled) (rw of.background at shows.background)
       (rw (last, layers.second) layers.first)
 

@@ -1,18 +1,21 @@
 -- A chart of short texts takes no memory but for grids.
 use Rattle.std.proofs.Common.{◌≡◌, ℕ, ◌+◌, Bool, true, false, List, [], ◌∷◌, IfSome, All, Option, Some, None}
-use Rattle.std.proofs.Common.{lit<, nat_lt, length, ⊎_elim, ◌⊎◌, Err, ⊤}
+use Rattle.std.proofs.Common.{lit<, nat_lt, length, ⊎_elim, ◌⊎◌, Result, Err, ◌-◌, ◌*◌, ◌/◌, max}
+use Rattle.std.specs.Prelude.{⊤}
 use Rattle.std.specs.declared.alloc.AllocError.{AllocError}
 use Rattle.std.proofs.lemmas.List.Elements.{All-head, All-tail}
 use Rattle.ratatui_core.specs.Layout.{Rect}
 use Rattle.ratatui_core.specs.{Style.Style, Text.LineData}
 use Rattle.ratatui_core.specs.Buffer.{BufferData, IsShort}
+use Rattle.rtui_drawing.specs.{Cuts.cut_from}
+use Rattle.rtui_drawing.specs.declared.cut.Cut.TheVariants.{First, After, Rows, Above}
 use Rattle.rtui_drawing.specs.Drawings.{over, Drawing, draw_if, DrawsAll, IsStopped, IsShortDrawing}
 use Rattle.rtui_drawing.proofs.DrawingLemmas.{done-short}
-use Rattle.widget_boxes.specs.{Lines.IsShortTitle}
+use Rattle.widget_boxes.specs.{Lines.IsShortTitle, Titles.title_width}
 use Rattle.widget_chart.specs.declared.{axis.Axis.Axis, dataset.Dataset.Dataset, chart.Chart.Chart, layout.Margins.Margins}
 use Rattle.widget_chart.specs.{Charts.axis_labels, ChartLayouts.margins_of, ChartLayouts.graph_in}
-use Rattle.widget_chart.specs.ChartParts.{numbered, label_at, axes, all_dotted, axis_title}
-use Rattle.widget_chart.specs.Legends.{name_if, under_name, names, box_row, legend_at}
+use Rattle.widget_chart.specs.ChartParts.{numbered, label_at, label_place, axes, all_dotted, axis_title}
+use Rattle.widget_chart.specs.Legends.{name_if, under_name, names, legend_at}
 use Rattle.widget_chart.specs.Plots.{names_of, chart_drawing, first_style, StopsPlot}
 use Rattle.widget_chart.specs.ShortCharts.{HasShortTexts, HasShortName, HasShortWords, StopsAtGrid}
 
@@ -29,15 +32,27 @@ module _ (s : BufferData) where
   numbered-short place r each i (l ∷ ls) all =
       (each i l (All-head IsShortTitle l ls all), numbered-short place r each (i + 1) ls (All-tail IsShortTitle l ls all))
 
+  label-short : (a : Axis) (left : Option ℕ) (r : Rect) (i : ℕ) (l : LineData) → IsShortTitle l
+      → IsShortDrawing s.area (label_at a left r i l) r
+  label-short a None r i l short =
+      let up = i * (r.height - 1) / max (length (axis_labels a) - 1) 1 in short (cut_from (Rows (r.height - 1 - up) 1) r) s
+  label-short a (Some left) r i l short =
+      let place = label_place a left r.width i (title_width l) in
+      short (cut_from (First place.1) (cut_from (After place.0) r)) s
+
   axes-short : (x y : Axis) (m : Margins) (r : Rect) → HasShortTexts x → HasShortTexts y → IsShortDrawing s.area (axes x y m r) r
-  axes-short x y m r below beside = (
-    if-short (nat_lt 1 (length (axis_labels x))) (over _ (numbered (label_at x (Some m.before) _) 0 (axis_labels x))) r
-        (numbered-short (label_at x (Some m.before) _) _ (λ i l short. short _ s) 0 (axis_labels x) below.labels),
-    (
-      numbered-short (label_at y None _) _ (λ i l short. short _ s) 0 (axis_labels y) beside.labels,
-      (λ p c. lit< tt, (λ p c. lit< tt, λ p c. lit< tt)),
-    ),
-  )
+  axes-short x y m r below beside =
+      let rows = Rows (r.height - (m.below - m.rows)) (m.below - m.rows) in
+      let p = cut_from rows r in
+      let q = cut_from (Above m.below) (cut_from (First (m.left - 1)) r) in
+      let labels = numbered (label_at x (Some m.left) p) 0 (axis_labels x) in (
+        if-short (nat_lt 1 (length (axis_labels x))) (over rows labels) r
+            (numbered-short (label_at x (Some m.left) p) p (label-short x (Some m.left) p) 0 (axis_labels x) below.labels),
+        (
+          numbered-short (label_at y None q) q (label-short y None q) 0 (axis_labels y) beside.labels,
+          (λ p c. lit< tt, (λ p c. lit< tt, λ p c. lit< tt)),
+        ),
+      )
 
   title-short : (style : Style) (title : Option LineData) (r : Rect) → IfSome title IsShortTitle
       → IsShortDrawing s.area (axis_title style title) r
@@ -47,7 +62,7 @@ module _ (s : BufferData) where
   -- the names of data sets
   name-short : (name : Option LineData) (r : Rect) → IfSome name IsShortTitle → IsShortDrawing s.area (name_if name) r
   name-short None r short = tt
-  name-short (Some line) r short = short _ s
+  name-short (Some line) r short = short (cut_from (Rows 0 1) r) s
 
   under-short : (name : Option LineData) (d : Drawing) (r : Rect) → ((r : Rect) → IsShortDrawing s.area d r)
       → IsShortDrawing s.area (under_name name d) r
@@ -61,16 +76,22 @@ module _ (s : BufferData) where
     under-short d.name (names ds) r (λ q. names-short ds q (All-tail HasShortName d ds all)),
   )
 
-  row-short : (left right : List ℕ) (r : Rect) → IsShort left → IsShort right → IsShortDrawing s.area (box_row left right) r
-  row-short left right r first last = (λ p c. lit< tt, (λ p c. first, λ p c. last))
-
   legend-short : (style : Style) (ds : List Dataset) (at g : Rect) → All HasShortName ds
       → IsShortDrawing s.area (legend_at style ds at g) g
   legend-short style ds at g all =
       if-short (nat_lt 0 at.width) _ g (
         tt,
         (
-          (λ p c. lit< tt, (λ p c. lit< tt, (row-short _ _ _ (lit< tt) (lit< tt), row-short _ _ _ (lit< tt) (lit< tt)))),
+          (
+            λ p c. lit< tt,
+            (
+              λ p c. lit< tt,
+              (
+                (λ p c. lit< tt, (λ p c. lit< tt, λ p c. lit< tt)),
+                (λ p c. lit< tt, (λ p c. lit< tt, λ p c. lit< tt)),
+              ),
+            ),
+          ),
           names-short ds _ all,
         ),
       )
@@ -98,7 +119,8 @@ not-stopped : {P : Type 0} (d : Drawing) (r : Rect) (old new : BufferData) → I
     → P
 not-stopped d r old new short stopped =
     let e : AllocError = record {} in
-    let no : false ≡ true = done-short {d = d} {r = r} {old = old} {new = new} (Err {A = ⊤} e) short
+    let result : Result ⊤ AllocError = Err e in
+    let no : false ≡ true = done-short {d = d} {r = r} {old = old} {new = new} result short
     (record { ok = tt; err = stopped }) in
     absurd (cc)
 

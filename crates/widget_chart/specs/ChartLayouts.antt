@@ -55,11 +55,11 @@ margins_of x y r =
     let left = columns_beside x y r.width in
     let columns = axis_columns y left r.width in
     let rows = axis_rows x r.height in
-    record { columns = columns; before = left + columns; rows = rows; below = rows + label_rows x r.height }
+    record { columns = columns; left = left + columns; rows = rows; below = rows + label_rows x r.height }
 
 -- the area of the dots
 abbrev pub graph_in : Margins → Rect → Rect
-graph_in m r = cut_from (Above m.below) (cut_from (After m.before) r)
+graph_in m r = cut_from (Above m.below) (cut_from (After m.left) r)
 
 -- the columns of a title over the dots: all of them, if there are more columns, some of them left over, and
 -- more than two rows; else none

@@ -1,5 +1,5 @@
 -- The parts of a chart: what each of them draws.
-use Rattle.std.specs.Prelude.{ℕ, ◌+◌, ◌-◌, ◌*◌, ◌/◌, ◌==◌, nat_lt, min, max, List, [], ◌∷◌, length, ⊥}
+use Rattle.std.specs.Prelude.{ℕ, ◌+◌, ◌-◌, ◌*◌, ◌/◌, ◌==◌, nat_lt, min, max, List, [], ◌∷◌, length}
 use Rattle.std.specs.Prelude.{Option, Some, None, unwrap_or, if◌then◌else◌}
 use Rattle.std.specs.List.{flat_map}
 use Rattle.ratatui_core.specs.{Layout.Rect, Layout.Position, Text.LineData}
@@ -25,37 +25,37 @@ use Rattle.widget_chart.specs.declared.dataset.GraphType.TheVariants.{Scatter, L
 
 -- how many columns of the dots each label below has
 abbrev pub label_share : Axis → ℕ → ℕ → ℕ
-label_share a before width = (width - before) / length (axis_labels a)
+label_share a left width = (width - left) / length (axis_labels a)
 
 -- In which column of a row a label below begins, and how many it has: the first one, which takes n, left of the
 -- dots, across their first column, or from the axis at the left on; and label i: those between after a blank
 -- column, and the last one at the right.
 abbrev pub first_place : HorizontalAlignment → ℕ → ℕ → ℕ → ℕ × ℕ
-first_place Left before w n = (0, before)
-first_place Center before w n = (0, before + min w n)
-first_place Right before w n = (before - 1, w + min before 1)
+first_place Left left w n = (0, left)
+first_place Center left w n = (0, left + min w n)
+first_place Right left w n = (left - 1, w + min left 1)
 
 abbrev pub label_place : Axis → ℕ → ℕ → ℕ → ℕ → ℕ × ℕ
-label_place a before width i n =
-    let w = label_share a before width in
-    if i == 0 then first_place a.labels_alignment before w n
+label_place a left width i n =
+    let w = label_share a left width in
+    if i == 0 then first_place a.labels_alignment left w n
     else if i + 1 == length (axis_labels a) then (width - w, w)
-    else (before + i * w + 1, w - 1)
+    else (left + i * w + 1, w - 1)
 
 -- label i below in a row, and label i at the left: from the last row up, over all rows
 abbrev pub x_label : Axis → ℕ → ℕ → ℕ → LineData → Drawing
-x_label a before width i l =
-    let place = label_place a before width i (title_width l) in over (After place.0) (over (First place.1) (put_line l))
+x_label a left width i l =
+    let place = label_place a left width i (title_width l) in over (After place.0) (over (First place.1) (put_line l))
 
 abbrev pub y_label : Axis → ℕ → ℕ → LineData → Drawing
 y_label a height i l =
     let up = i * (height - 1) / max (length (axis_labels a) - 1) 1 in
     over (Rows (height - 1 - up) 1) (put_line l)
 
--- label i in an area below the dots, so many columns before them, or at the left
+-- label i in an area below the dots, so many columns left of them, or at the left
 abbrev pub label_at : Axis → Option ℕ → Rect → ℕ → LineData → Drawing
 label_at a None r i l = y_label a r.height i l
-label_at a (Some before) r i l = x_label a before r.width i l
+label_at a (Some left) r i l = x_label a left r.width i l
 
 -- labels, each where it stands by its number, one after the other
 abbrev pub numbered : (ℕ → LineData → Drawing) → ℕ → List LineData → Drawing
@@ -67,12 +67,12 @@ abbrev pub x_labels : Axis → Margins → Rect → Drawing
 x_labels a m r =
     let rows = Rows (r.height - (m.below - m.rows)) (m.below - m.rows) in
     let ls = axis_labels a in
-    draw_if (nat_lt 1 (length ls)) (over rows (numbered (label_at a (Some m.before) (cut_from rows r)) 0 ls))
+    draw_if (nat_lt 1 (length ls)) (over rows (numbered (label_at a (Some m.left) (cut_from rows r)) 0 ls))
 
 abbrev pub y_labels : Axis → Margins → Rect → Drawing
 y_labels a m r =
-    let q = cut_from (Above m.below) (cut_from (First (m.before - 1)) r) in
-    over (First (m.before - 1)) (over (Above m.below) (numbered (label_at a None q) 0 (axis_labels a)))
+    let q = cut_from (Above m.below) (cut_from (First (m.left - 1)) r) in
+    over (First (m.left - 1)) (over (Above m.below) (numbered (label_at a None q) 0 (axis_labels a)))
 
 -- a cell of an axis, and an area of such cells
 abbrev pub ruled_cell : Style → List ℕ → Position → Cell → Cell
@@ -85,8 +85,8 @@ ruled style symbol = put_change (ruled_cell style symbol) (λ _ _. IsShort symbo
 abbrev pub rules : Style → Style → Margins → Rect → Drawing
 rules x y m r =
     let rows = Rows (r.height - m.below) m.rows in
-    over (After m.before) (over rows (ruled x line_symbol.HORIZONTAL.now))
-    before over (After (m.before - m.columns)) (over (First m.columns)
+    over (After m.left) (over rows (ruled x line_symbol.HORIZONTAL.now))
+    before over (After (m.left - m.columns)) (over (First m.columns)
     (over (Above m.below) (ruled y line_symbol.VERTICAL.now) before over rows (ruled x line_symbol.BOTTOM_LEFT.now)))
 
 -- what stands around the dots

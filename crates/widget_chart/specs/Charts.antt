@@ -1,5 +1,5 @@
 -- Axes, data sets and charts, as they begin.
-use Rattle.std.specs.Prelude.{◌≡◌, ℕ, ◌+◌, ◌==◌, List, [], ◌∷◌, Option, Some, None, unwrap_or, option_map, pos}
+use Rattle.std.specs.Prelude.{◌≡◌, ℕ, Bool, true, false, ◌+◌, ◌==◌, List, [], ◌∷◌, Option, Some, None, unwrap_or, option_map, pos}
 use Rattle.std.specs.Prelude.{length, map, if◌then◌else◌}
 use Rattle.ratatui_core.specs.{Style.new_style, Style.patch, Style.Style, Text.LineData}
 use Rattle.ratatui_core.specs.declared.layout.HorizontalAlignment.{HorizontalAlignment}
@@ -30,24 +30,25 @@ other_side Left = Right
 other_side Center = Center
 other_side Right = Left
 
--- how label i of n below is aligned: the last one ends with the dots, those between stand in the middle
-abbrev pub side_below : HorizontalAlignment → ℕ → ℕ → HorizontalAlignment
-side_below alignment n i =
+-- how label i of n is aligned, below or at the left: the last one below ends with the dots, and those between
+-- stand in the middle
+abbrev pub side_of : Bool → HorizontalAlignment → ℕ → ℕ → HorizontalAlignment
+side_of false alignment n i = alignment
+side_of true alignment n i =
     if i == 0 then other_side alignment
     else if i + 1 == n then Right
     else Center
 
--- those of n labels below that are left from label i on, aligned so
-abbrev pub aligned_from : HorizontalAlignment → ℕ → ℕ → List LineData → List LineData
-aligned_from alignment n i [] = []
-aligned_from alignment n i (l ∷ ls) = aligned (side_below alignment n i) l ∷ aligned_from alignment n (i + 1) ls
+-- those of n labels that are left from label i on, aligned so
+abbrev pub aligned_from : Bool → HorizontalAlignment → ℕ → ℕ → List LineData → List LineData
+aligned_from below alignment n i [] = []
+aligned_from below alignment n i (l ∷ ls) =
+    aligned (side_of below alignment n i) l ∷ aligned_from below alignment n (i + 1) ls
 
--- an axis with labels that are aligned as they stand below, or at the left
-abbrev pub aligned_below : Axis → Axis
-aligned_below a = record a { labels = option_map (λ ls. aligned_from a.labels_alignment (length ls) 0 ls) a.labels }
-
-abbrev pub aligned_beside : Axis → Axis
-aligned_beside a = record a { labels = option_map (map (aligned a.labels_alignment)) a.labels }
+-- an axis with labels that are aligned as they stand, below or at the left
+abbrev pub with_aligned : Bool → Axis → Axis
+with_aligned below a =
+    record a { labels = option_map (λ ls. aligned_from below a.labels_alignment (length ls) 0 ls) a.labels }
 
 -- a data set of no points, without a name, as dots
 pub record IsNewDataset (d : Dataset) : Type 0 where

@@ -33,14 +33,14 @@ plot_of c style g = all_dotted c g c.datasets.items before names_of c style g
 abbrev pub chart_drawing : Chart → Style → Rect → Drawing
 chart_drawing c style r =
     let m = margins_of c.x_axis c.y_axis r in
-    axes c.x_axis c.y_axis m r before over (After m.before) (over (Above m.below) (plot_of c style (graph_in m r)))
+    axes c.x_axis c.y_axis m r before over (After m.left) (over (Above m.below) (plot_of c style (graph_in m r)))
 
 -- the style that the first cell of an area has
 abbrev pub first_style : Rect → BufferData → Style
 first_style r s = style_of (cell_in s (corner r))
 
 -- a chart over an area, its names in the style that the first cell had before; and one for which memory was
--- refused: all before one thing stands
+-- refused: all left one thing stands
 abbrev pub ShowsPlot : Chart → Rect → BufferData → BufferData → Type 0
 ShowsPlot c r old new = DrawsAll (chart_drawing c (first_style r old) r) r old new
 
@@ -52,6 +52,6 @@ StopsPlot c r old new = IsStopped (chart_drawing c (first_style r old) r) r old 
 abbrev pub RendersChart : Chart → Rect → BufferData → BufferData → Type 0
 RendersChart c = RendersInFrame c.style c.block (ShowsPlot c)
 
--- what a refusal leaves, if the box takes no memory: style and box stand, and inside all before one thing
+-- what a refusal leaves, if the box takes no memory: style and box stand, and inside all left one thing
 abbrev pub LeavesChart : Chart → Rect → BufferData → BufferData → Type 0
 LeavesChart c area old new = IsShortFrame c.block old → RendersInFrame c.style c.block (StopsPlot c) area old new

@@ -1,9 +1,9 @@
 //! Axes.
 
-ghost use Rattle.std.specs.Prelude.{◌≡◌, ◌<◌, Some, IfOk, slice_index_or, pos, length, map};
+ghost use Rattle.std.specs.Prelude.{◌≡◌, ◌<◌, Some, IfOk, slice_index_or, pos, length, option_map};
 ghost use Rattle.widget_boxes.specs.Titles.{aligned};
-ghost use Rattle.widget_chart.specs.Charts.{IsNewAxis, axis_labels, other_side, side_below};
-ghost use Rattle.widget_chart.specs.Charts.{aligned_from, aligned_below, aligned_beside};
+ghost use Rattle.widget_chart.specs.Charts.{IsNewAxis, axis_labels, other_side, side_of};
+ghost use Rattle.widget_chart.specs.Charts.{aligned_from, with_aligned};
 
 use ratatui_core::layout::HorizontalAlignment;
 use ratatui_core::style::Style;
@@ -120,24 +120,26 @@ impl<'a> Axis<'a> {
         })
     }
 
-    // The axis with labels that are aligned as they stand below.
-    pub(crate) fn aligned_below(mut self) -> Axis<'a>
-        ensures { result ≡ aligned_below self.entry }
+    // The axis with labels that are aligned as they stand, below or at the left.
+    pub(crate) fn aligned(self, is_below: bool) -> Axis<'a>
+        ensures { result ≡ with_aligned is_below self.entry }
     {
-        if let Some(labels) = &mut self.labels {
-            align_below(self.labels_alignment, labels.as_mut_slice());
+        let Axis {
+            title,
+            low,
+            high,
+            labels,
+            labels_alignment,
+            style,
+        } = self;
+        Axis {
+            title,
+            low,
+            high,
+            labels: aligned_labels(is_below, labels_alignment, labels),
+            labels_alignment,
+            style,
         }
-        self
-    }
-
-    // The axis with labels that are aligned as they stand at the left.
-    pub(crate) fn aligned_beside(mut self) -> Axis<'a>
-        ensures { result ≡ aligned_beside self.entry }
-    {
-        if let Some(labels) = &mut self.labels {
-            align_all(self.labels_alignment, labels.as_mut_slice());
-        }
-        self
     }
 
     // Its labels.
@@ -162,12 +164,19 @@ fn other_side(alignment: HorizontalAlignment) -> HorizontalAlignment
     }
 }
 
-// How label i of n below is aligned.
-fn side_below(alignment: HorizontalAlignment, n: usize, i: usize) -> HorizontalAlignment
+// How label i of n is aligned, below or at the left.
+fn side_of(
+    is_below: bool,
+    alignment: HorizontalAlignment,
+    n: usize,
+    i: usize,
+) -> HorizontalAlignment
     requires { i < n }
-    ensures { result ≡ side_below alignment n i }
+    ensures { result ≡ side_of is_below alignment n i }
 {
-    if i == 0 {
+    if !is_below {
+        alignment
+    } else if i == 0 {
         other_side(alignment)
     } else if i + 1 == n {
         HorizontalAlignment::Right
@@ -183,21 +192,27 @@ fn align(label: &mut Line<'_>, alignment: HorizontalAlignment)
     label.alignment = Some(alignment);
 }
 
-// Aligns the labels below.
-fn align_below(alignment: HorizontalAlignment, labels: &mut [Line<'_>])
-    ensures { labels.new ≡ aligned_from alignment (length labels.old) 0 labels.old }
+// Aligns labels, below or at the left.
+fn align_all(is_below: bool, alignment: HorizontalAlignment, labels: &mut [Line<'_>])
+    ensures { let n = length labels.old in
+        labels.new ≡ aligned_from is_below alignment n 0 labels.old }
 {
     let n = labels.len();
     for i in 0..n {
-        align(&mut labels[i], side_below(alignment, n, i));
+        align(&mut labels[i], side_of(is_below, alignment, n, i));
     }
 }
 
-// Aligns all of some labels.
-fn align_all(alignment: HorizontalAlignment, labels: &mut [Line<'_>])
-    ensures { labels.new ≡ map (aligned alignment) labels.old }
+// Labels that are aligned as they stand, below or at the left.
+fn aligned_labels(
+    is_below: bool,
+    alignment: HorizontalAlignment,
+    labels: Option<Lines<'_>>,
+) -> Option<Lines<'_>>
+    ensures { result
+        ≡ option_map (λ ls. aligned_from is_below alignment (length ls) 0 ls) labels.entry }
 {
-    for label in labels.iter_mut() {
-        align(label, alignment);
-    }
+    let mut labels = labels?;
+    align_all(is_below, alignment, labels.as_mut_slice());
+    Some(labels)
 }

@@ -1,10 +1,10 @@
 //! A chart.
 
-ghost use Rattle.std.specs.Prelude.{◌≡◌, ◌<◌, Some, IfOk, true, map};
+ghost use Rattle.std.specs.Prelude.{◌≡◌, ◌<◌, Some, IfOk, true, false, map};
 ghost use Rattle.ratatui_core.specs.Layout.{IsInside};
 ghost use Rattle.rtui_drawing.specs.Drawings.{IsDone, IsPartOf};
 ghost use Rattle.widget_boxes.specs.Boxes.{IsBoxArea};
-ghost use Rattle.widget_chart.specs.Charts.{IsNewChart, aligned_below, aligned_beside, with_styled_name};
+ghost use Rattle.widget_chart.specs.Charts.{IsNewChart, with_aligned, with_styled_name};
 ghost use Rattle.widget_chart.specs.ChartParts.{drawings_of, dotted, all_dotted};
 ghost use Rattle.widget_chart.specs.Inner.{IsCanvasOf};
 ghost use Rattle.widget_chart.specs.Plots.{legend_of, names_of, plot_of, chart_drawing, first_style};
@@ -79,20 +79,20 @@ impl<'a> Chart<'a> {
 
     /// Sets the axis below, and aligns its labels as they stand there.
     pub fn x_axis(self, axis: Axis<'a>) -> Chart<'a>
-        ensures { result ≡ record self.entry { x_axis = aligned_below axis.entry } }
+        ensures { result ≡ record self.entry { x_axis = with_aligned true axis.entry } }
     {
         Chart {
-            x_axis: axis.aligned_below(),
+            x_axis: axis.aligned(true),
             ..self
         }
     }
 
     /// Sets the axis at the left, and aligns its labels as they stand there.
     pub fn y_axis(self, axis: Axis<'a>) -> Chart<'a>
-        ensures { result ≡ record self.entry { y_axis = aligned_beside axis.entry } }
+        ensures { result ≡ record self.entry { y_axis = with_aligned false axis.entry } }
     {
         Chart {
-            y_axis: axis.aligned_beside(),
+            y_axis: axis.aligned(false),
             ..self
         }
     }
@@ -281,8 +281,8 @@ fn style_name(dataset: &mut Dataset<'_>)
 fn style_names(datasets: &mut [Dataset<'_>])
     ensures { datasets.new ≡ map with_styled_name datasets.old }
 {
-    for dataset in datasets.iter_mut() {
-        style_name(dataset);
+    for i in 0..datasets.len() {
+        style_name(&mut datasets[i]);
     }
 }
 

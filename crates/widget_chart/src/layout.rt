@@ -1,6 +1,6 @@
 //! How many columns and rows the parts of a chart take.
 
-ghost use Rattle.std.specs.Prelude.{◌≡◌, ◌≤◌, ◌<◌, ◌*◌};
+ghost use Rattle.std.specs.Prelude.{◌≡◌, ◌≤◌, ◌<◌, ◌+◌, ◌*◌};
 ghost use Rattle.widget_boxes.specs.Titles.{title_width};
 ghost use Rattle.widget_chart.specs.ChartLayouts.{is_labelled, widest_line, first_width, left_of_axis};
 ghost use Rattle.widget_chart.specs.ChartLayouts.{columns_beside, axis_columns, axis_rows, label_rows};
@@ -16,7 +16,7 @@ use rtui_drawing::Cut;
 #[derive(Debug, Clone, Copy)]
 pub(crate) struct Margins {
     pub(crate) columns: u16,
-    pub(crate) before: u16,
+    pub(crate) left: u16,
     pub(crate) rows: u16,
     pub(crate) below: u16,
 }
@@ -26,7 +26,7 @@ impl Margins {
     pub(crate) fn graph(self, area: Rect) -> Rect
         ensures { result ≡ graph_in self area }
     {
-        Cut::Above(self.below).of(Cut::After(self.before).of(area))
+        Cut::Above(self.below).of(Cut::After(self.left).of(area))
     }
 }
 
@@ -144,15 +144,15 @@ impl<'a> Axis<'a> {
 // What a chart has around its dots in an area.
 pub(crate) fn margins_in(x: &Axis<'_>, y: &Axis<'_>, area: Rect) -> Margins
     ensures value { result ≡ margins_of x.now y.now area }
-    ensures across { 0 < area.width → result.before < area.width }
+    ensures across { 0 < area.width → result.left < area.width }
     ensures down { 0 < area.height → result.below < area.height }
 {
-    let left = columns_beside(x, y, area.width);
-    let columns = y.axis_columns(left, area.width);
+    let labels = columns_beside(x, y, area.width);
+    let columns = y.axis_columns(labels, area.width);
     let rows = x.axis_rows(area.height);
     Margins {
         columns,
-        before: left + columns,
+        left: labels + columns,
         rows,
         below: rows + x.label_rows(area.height),
     }

@@ -1,7 +1,9 @@
 //! The legend of a chart.
 
 ghost use Rattle.std.specs.Prelude.{◌≡◌, ◌≤◌, ◌<◌, ◌+◌, ◌*◌, ◌/◌, min, length, [], IfOk};
+ghost use Rattle.ratatui_core.specs.Style.{new_style};
 ghost use Rattle.rtui_drawing.specs.Drawings.{IsDone};
+ghost use Rattle.widget_chart.specs.ChartParts.{ruled};
 ghost use Rattle.widget_chart.specs.ChartLayouts.{widest_line};
 ghost use Rattle.widget_chart.specs.Legends.{legend_names, room_in, legend_fits, legend_column, legend_row};
 ghost use Rattle.widget_chart.specs.Legends.{one_row_if, legend_box, name_if, below_name, names, box_row, box_of};
@@ -241,6 +243,13 @@ fn put_names(datasets: &[Dataset<'_>], area: Rect, buf: &mut Buffer) -> Result<(
     Ok(())
 }
 
+// Rules an area of a box: this symbol in each cell.
+fn rule_plain(symbol: &'static str, area: Rect, buf: &mut Buffer) -> Result<(), AllocError>
+    ensures { IsDone (ruled new_style symbol.now) area result buf.old buf.new }
+{
+    rule(symbol, Style::new(), area, buf)
+}
+
 // Puts a row of a box over an area: a line between these corners.
 #[tactic(auto, using(crate::proofs::PlotLemmas::chart_steps))]
 fn put_box_row(
@@ -251,10 +260,9 @@ fn put_box_row(
 ) -> Result<(), AllocError>
     ensures { IsDone (box_row left.now right.now) row result buf.old buf.new }
 {
-    let plain = Style::new();
-    rule(line::HORIZONTAL, plain, row, buf)?;
-    rule(left, plain, Cut::First(1).of(row), buf)?;
-    rule(right, plain, Cut::Last(1).of(row), buf)
+    rule_plain(line::HORIZONTAL, row, buf)?;
+    rule_plain(left, Cut::First(1).of(row), buf)?;
+    rule_plain(right, Cut::Last(1).of(row), buf)
 }
 
 // Puts a box over an area.
@@ -262,21 +270,11 @@ fn put_box_row(
 fn put_box(area: Rect, buf: &mut Buffer) -> Result<(), AllocError>
     ensures { IsDone (box_of area) area result buf.old buf.new }
 {
-    let (plain, last) = (Style::new(), area.height.saturating_sub(1));
-    rule(line::VERTICAL, plain, Cut::First(1).of(area), buf)?;
-    rule(line::VERTICAL, plain, Cut::Last(1).of(area), buf)?;
-    put_box_row(
-        line::TOP_LEFT,
-        line::TOP_RIGHT,
-        Cut::Rows(0, 1).of(area),
-        buf,
-    )?;
-    put_box_row(
-        line::BOTTOM_LEFT,
-        line::BOTTOM_RIGHT,
-        Cut::Rows(last, 1).of(area),
-        buf,
-    )
+    let last = area.height.saturating_sub(1);
+    rule_plain(line::VERTICAL, Cut::First(1).of(area), buf)?;
+    rule_plain(line::VERTICAL, Cut::Last(1).of(area), buf)?;
+    put_box_row(line::TOP_LEFT, line::TOP_RIGHT, Cut::Rows(0, 1).of(area), buf)?;
+    put_box_row(line::BOTTOM_LEFT, line::BOTTOM_RIGHT, Cut::Rows(last, 1).of(area), buf)
 }
 
 // Draws a legend over an area: a style, a box, and the names.

@@ -19,34 +19,31 @@ use std::alloc::{AllocError, Global};
 
 impl<'a> Axis<'a> {
     // How many columns of the dots each label below has.
-    fn label_share(&self, before: u16, width: u16) -> u16
+    fn label_share(&self, left: u16, width: u16) -> u16
         requires { 0 < length (axis_labels self.now) }
-        ensures { result ≡ label_share self.now before width }
+        ensures { result ≡ label_share self.now left width }
     {
-        (usize::from(width.saturating_sub(before)) / self.lines().len()) as u16
+        (usize::from(width.saturating_sub(left)) / self.lines().len()) as u16
     }
 
     // In which column of a row label i below begins, which takes so many columns, and how many it
     // has.
-    fn label_place(&self, i: usize, columns: u16, before: u16, width: u16) -> (u16, u16)
+    fn label_place(&self, i: usize, columns: u16, left: u16, width: u16) -> (u16, u16)
         requires one { i < length (axis_labels self.now) }
-        requires some { before < width }
-        ensures start { let place = label_place self.now before width i columns in
+        requires some { left < width }
+        ensures start { let place = label_place self.now left width i columns in
             result.0 ≡ place.0 }
-        ensures columns { let place = label_place self.now before width i columns in
+        ensures columns { let place = label_place self.now left width i columns in
             result.1 ≡ place.1 }
     {
-        let share = self.label_share(before, width);
+        let (n, share) = (self.lines().len(), self.label_share(left, width));
         if i == 0 {
-            return first_place(self.labels_alignment, before, share, columns);
+            return first_place(self.labels_alignment, left, share, columns);
         }
-        if i + 1 == self.lines().len() {
+        if i + 1 == n {
             return (width - share, share);
         }
-        (
-            before + columns_before(i, share) + 1,
-            share.saturating_sub(1),
-        )
+        (left + columns_before(i, share) + 1, share.saturating_sub(1))
     }
 
     // Puts label i below in its columns of a row.
@@ -55,16 +52,16 @@ impl<'a> Axis<'a> {
         &self,
         i: usize,
         label: &Line<'a>,
-        before: u16,
+        left: u16,
         row: Rect,
         buf: &mut Buffer,
     ) -> Result<(), AllocError>
         requires one { i < length (axis_labels self.now) }
-        requires some { before < row.width }
-        ensures { let d = x_label self.now before row.width i label.now in
+        requires some { left < row.width }
+        ensures { let d = x_label self.now left row.width i label.now in
             IsDone d row result buf.old buf.new }
     {
-        let (start, columns) = self.label_place(i, columns_of(label), before, row.width);
+        let (start, columns) = self.label_place(i, columns_of(label), left, row.width);
         put_line(
             label,
             Cut::First(columns).of(Cut::After(start).of(row)),
@@ -75,7 +72,7 @@ impl<'a> Axis<'a> {
     // Puts the labels below, if there are at least two, in the row for them.
     #[tactic(auto, using(crate::proofs::PlotLemmas::chart_steps))]
     fn put_x_labels(&self, margins: Margins, area: Rect, buf: &mut Buffer) -> Result<(), AllocError>
-        requires { margins.before < area.width }
+        requires { margins.left < area.width }
         ensures { IsDone (x_labels self.now margins area) area result buf.old buf.new }
     {
         if self.lines().len() < 2 {
@@ -83,7 +80,7 @@ impl<'a> Axis<'a> {
         }
         let rows = margins.below.saturating_sub(margins.rows);
         let row = Cut::Rows(area.height.saturating_sub(rows), rows).of(area);
-        self.put_all(Some(margins.before), row, buf)
+        self.put_all(Some(margins.left), row, buf)
     }
 
     // How far over the last row of so many the label of this number stands.
@@ -113,34 +110,34 @@ impl<'a> Axis<'a> {
         put_line(label, Cut::Rows(row, 1).of(area), buf)
     }
 
-    // Puts label i in its place in an area: below the dots, so many columns before them, or at
+    // Puts label i in its place in an area: below the dots, so many columns left of them, or at
     // the left.
     fn put_label(
         &self,
-        before: Option<u16>,
+        left: Option<u16>,
         i: usize,
         label: &Line<'a>,
         area: Rect,
         buf: &mut Buffer,
     ) -> Result<(), AllocError>
         requires one { i < length (axis_labels self.now) }
-        requires some { IfSome before (λ n. n < area.width) }
-        ensures { IsDone (label_at self.now before area i label.now) area result buf.old buf.new }
+        requires some { IfSome left (λ n. n < area.width) }
+        ensures { IsDone (label_at self.now left area i label.now) area result buf.old buf.new }
     {
-        match before {
-            Some(before) => self.put_x_label(i, label, before, area, buf),
+        match left {
+            Some(left) => self.put_x_label(i, label, left, area, buf),
             None => self.put_y_label(i, label, area, buf),
         }
     }
 
     // Puts all labels in their places in an area.
-    fn put_all(&self, before: Option<u16>, area: Rect, buf: &mut Buffer) -> Result<(), AllocError>
-        requires { IfSome before (λ n. n < area.width) }
-        ensures { let d = numbered (label_at self.now before area) 0 (axis_labels self.now) in
+    fn put_all(&self, left: Option<u16>, area: Rect, buf: &mut Buffer) -> Result<(), AllocError>
+        requires { IfSome left (λ n. n < area.width) }
+        ensures { let d = numbered (label_at self.now left area) 0 (axis_labels self.now) in
             IsDone d area result buf.old buf.new }
     {
         for (i, label) in self.lines().iter().enumerate() {
-            self.put_label(before, i, label, area, buf)?;
+            self.put_label(left, i, label, area, buf)?;
         }
         Ok(())
     }
@@ -150,21 +147,21 @@ impl<'a> Axis<'a> {
     fn put_y_labels(&self, margins: Margins, area: Rect, buf: &mut Buffer) -> Result<(), AllocError>
         ensures { IsDone (y_labels self.now margins area) area result buf.old buf.new }
     {
-        let columns = Cut::First(margins.before.saturating_sub(1)).of(area);
+        let columns = Cut::First(margins.left.saturating_sub(1)).of(area);
         self.put_all(None, Cut::Above(margins.below).of(columns), buf)
     }
 }
 
 // In which column the first label below begins, and how many it has.
-fn first_place(alignment: HorizontalAlignment, before: u16, w: u16, n: u16) -> (u16, u16)
-    requires { before + w ≤ 65535 }
-    ensures start { result.0 ≡ (first_place alignment before w n).0 }
-    ensures columns { result.1 ≡ (first_place alignment before w n).1 }
+fn first_place(alignment: HorizontalAlignment, left: u16, w: u16, n: u16) -> (u16, u16)
+    requires { left + w ≤ 65535 }
+    ensures start { result.0 ≡ (first_place alignment left w n).0 }
+    ensures columns { result.1 ≡ (first_place alignment left w n).1 }
 {
     match alignment {
-        HorizontalAlignment::Left => (0, before),
-        HorizontalAlignment::Center => (0, before + w.min(n)),
-        HorizontalAlignment::Right => (before.saturating_sub(1), w + before.min(1)),
+        HorizontalAlignment::Left => (0, left),
+        HorizontalAlignment::Center => (0, left + w.min(n)),
+        HorizontalAlignment::Right => (left.saturating_sub(1), w + left.min(1)),
     }
 }
 
@@ -220,12 +217,12 @@ fn put_rules(
     ensures { IsDone (rules x y margins area) area result buf.old buf.new }
 {
     let rows = Cut::Rows(area.height.saturating_sub(margins.below), margins.rows);
-    let left = margins.before.saturating_sub(margins.columns);
+    let left = margins.left.saturating_sub(margins.columns);
     let beside = Cut::First(margins.columns).of(Cut::After(left).of(area));
     rule(
         line::HORIZONTAL,
         x,
-        rows.of(Cut::After(margins.before).of(area)),
+        rows.of(Cut::After(margins.left).of(area)),
         buf,
     )?;
     rule(line::VERTICAL, y, Cut::Above(margins.below).of(beside), buf)?;
@@ -241,7 +238,7 @@ pub(crate) fn draw_axes(
     area: Rect,
     buf: &mut Buffer,
 ) -> Result<(), AllocError>
-    requires { margins.before < area.width }
+    requires { margins.left < area.width }
     ensures { IsDone (axes x.now y.now margins area) area result buf.old buf.new }
 {
     x.put_x_labels(margins, area, buf)?;

@@ -6,5 +6,5 @@ use Rattle.widget_chart.proofs.axis.Axis.put_all.Given as goal
 abbrev pub invariant-loop-i : goal.invariant-loop-i
 invariant-loop-i l =
     let ls = axis_labels l.fn.self in
-    let place = label_at l.fn.self l.fn.before l.fn.area in
+    let place = label_at l.fn.self l.fn.left l.fn.area in
     Continues (numbered place l.i (drop l.i ls)) l.fn.area (numbered place 0 ls) l.fn.area l.fn.buf l.buf
