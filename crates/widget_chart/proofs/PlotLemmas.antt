@@ -9,10 +9,11 @@ use Rattle.ratatui_core.specs.Layout.{Rect, Position, corner, intersected, HasPo
 use Rattle.ratatui_core.specs.{Style.Style, Style.new_style, Style.with_bg, Style.Reset, Text.LineData}
 use Rattle.ratatui_core.specs.Widgets.{ChangesWithin}
 use Rattle.ratatui_core.specs.Buffer.{BufferData, Cell, cell_in, styled, IsStyled, ChangesEach}
-use Rattle.rtui_drawing.specs.Drawings.{Drawing, IsDone, IsPartOf}
-use Rattle.rtui_drawing.specs.declared.cut.Cut.TheVariants.{Below}
+use Rattle.rtui_drawing.specs.{Cuts.cut_from}
+use Rattle.rtui_drawing.specs.Drawings.{Drawing, over, ◌before◌, IsDone, IsPartOf}
+use Rattle.rtui_drawing.specs.declared.cut.Cut.TheVariants.{After, Above, Below}
 use Rattle.rtui_drawing.proofs.{Laws.Continues, WriteLemmas.row-of}
-use Rattle.rtui_drawing.proofs.DrawingLemmas.{continues-in, done-within}
+use Rattle.rtui_drawing.proofs.DrawingLemmas.{continues-in, done-within, done-in, done-then}
 use Rattle.rtui_drawing.proofs.DrawingLemmas.{drawing_steps, drawing_choices}
 use Rattle.rtui_dots.specs.{declared.scale.Scale.Scale, Layers.layers_of, Layers.drawn_dots, Grids.with_dots, Grids.empty_grid}
 use Rattle.widget_boxes.specs.{declared.block.Block.Block, Boxes.IsBoxArea, Framed.InFrame, Framed.FramesInside}
@@ -21,11 +22,12 @@ use Rattle.widget_canvas.specs.{declared.canvas.Canvas.Canvas, Canvases.RendersC
 use Rattle.widget_canvas.specs.Canvases.{shown_at}
 use Rattle.widget_chart.specs.declared.{chart.Chart.Chart, dataset.Dataset.Dataset, dataset.GraphType.GraphType}
 use Rattle.widget_chart.specs.declared.dataset.GraphType.TheVariants.{Scatter, Line, Bar}
-use Rattle.widget_chart.specs.{ChartLayouts.widest_line}
-use Rattle.widget_chart.specs.ChartParts.{drawings_of, dots_of, scale_of, dotted, dotted_cell}
+use Rattle.widget_chart.specs.declared.layout.Margins.{Margins}
+use Rattle.widget_chart.specs.ChartLayouts.{margins_of, graph_in, widest_line}
+use Rattle.widget_chart.specs.ChartParts.{axes, drawings_of, dots_of, scale_of, dotted, dotted_cell}
 use Rattle.widget_chart.specs.Legends.{with_name, under_name, below_name}
 use Rattle.widget_chart.specs.Inner.{name_count, name_columns, IsCanvasOf}
-use Rattle.widget_chart.specs.Plots.{chart_drawing, first_style, ShowsPlot, StopsPlot, RendersChart, LeavesChart}
+use Rattle.widget_chart.specs.Plots.{plot_of, chart_drawing, first_style, ShowsPlot, StopsPlot, RendersChart, LeavesChart}
 
 -- n shares of so many columns: a place left the last one is less than all columns
 pub share-below : (i n g : ℕ) → i < n → 0 < g → i * (g / n) < g
@@ -121,6 +123,18 @@ module _ (ch : Chart) (d : Dataset) (c : Canvas) (g : Rect) (old new : BufferDat
     ok = tt;
     err = record { within = err; left = tt; long = λ short. short (corner g) (cell_in old (corner g)) };
   }
+
+-- the axes of a chart, and then what is in the area of its dots
+pub plot-done : {A B : Type 0} (c : Chart) (style : Style) (m : Margins) (r g : Rect) {x : A} {old mid new : BufferData}
+    (result : Result B AllocError) → m ≡ margins_of c.x_axis c.y_axis r → g ≡ graph_in m r
+    → IsDone (axes c.x_axis c.y_axis m r) r (Ok x) old mid → IsDone (plot_of c style g) g result mid new
+    → IsDone (chart_drawing c style r) r result old new
+plot-done c style m r g {old = old} {mid = mid} {new = new} result is at one two =
+    let inside = subst (λ (q : Rect). IsDone (plot_of c style q) q result mid new) at two in
+    let dots = done-in (After m.left) (cut_from (After m.left) r) result
+    (done-in (Above m.below) (graph_in m r) result inside refl) refl in
+    subst (λ (n : Margins). IsDone (axes c.x_axis c.y_axis n r before over (After n.left) (over (Above n.below)
+    (plot_of c style (graph_in n r)))) r result old new) is (done-then result one dots)
 
 -- a chart inside its box
 pub plot-ok : {A : Type 0} (c : Chart) (style : Style) (area inner : Rect) (old framed new : BufferData)

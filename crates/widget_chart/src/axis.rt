@@ -212,7 +212,7 @@ fn aligned_labels(
     ensures { result
         ≡ option_map (λ ls. aligned_from is_below alignment (length ls) 0 ls) labels.entry }
 {
-    let mut labels = labels?;
+    let mut labels = labels?.into_vec();
     align_all(is_below, alignment, labels.as_mut_slice());
-    Some(labels)
+    Some(Lines::from(labels))
 }

@@ -273,8 +273,18 @@ fn put_box(area: Rect, buf: &mut Buffer) -> Result<(), AllocError>
     let last = area.height.saturating_sub(1);
     rule_plain(line::VERTICAL, Cut::First(1).of(area), buf)?;
     rule_plain(line::VERTICAL, Cut::Last(1).of(area), buf)?;
-    put_box_row(line::TOP_LEFT, line::TOP_RIGHT, Cut::Rows(0, 1).of(area), buf)?;
-    put_box_row(line::BOTTOM_LEFT, line::BOTTOM_RIGHT, Cut::Rows(last, 1).of(area), buf)
+    put_box_row(
+        line::TOP_LEFT,
+        line::TOP_RIGHT,
+        Cut::Rows(0, 1).of(area),
+        buf,
+    )?;
+    put_box_row(
+        line::BOTTOM_LEFT,
+        line::BOTTOM_RIGHT,
+        Cut::Rows(last, 1).of(area),
+        buf,
+    )
 }
 
 // Draws a legend over an area: a style, a box, and the names.

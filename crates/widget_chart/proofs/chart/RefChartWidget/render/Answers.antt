@@ -1,3 +1,4 @@
+use Rattle.std.proofs.Common.{◌∙◌}
 use Rattle.ratatui_core.proofs.WidgetLemmas.{holds_anyway}
 use Rattle.rtui_drawing.proofs.DrawingLemmas.{done-within, done-short}
 use Rattle.widget_boxes.proofs.FrameLemmas.{frame-alone, frame-own, frame-within}
@@ -14,6 +15,9 @@ pub draw-requires-clause-inside : goal.draw-requires-clause-inside
 draw-requires-clause-inside c =
     frame-own c.args.self.now.style c.args.self.now.block c.args.area c.in-Some.inner c.args.buf.now c.render_frame.new.buf
     c.render_frame.new.buf (rw c.in-Some.is at c.in_ok-inner.ensures.inner)
+
+pub returns-clause-area : goal.returns-clause-area
+returns-clause-area c = (done-within c.draw.result c.draw.ensures).same_area ∙ c.render_frame.ensures.within.same_area
 
 pub returns-clause-ok : goal.returns-clause-ok
 returns-clause-ok c =
