@@ -1,6 +1,6 @@
 -- Axes, data sets and charts, as they begin.
 use Rattle.std.specs.Prelude.{◌≡◌, ℕ, Bool, true, false, ◌+◌, ◌==◌, List, [], ◌∷◌, Option, Some, None, unwrap_or, option_map, pos}
-use Rattle.std.specs.Prelude.{length, map, if◌then◌else◌}
+use Rattle.std.specs.Prelude.{length, map, if◌then◌else◌, All, IfSome}
 use Rattle.ratatui_core.specs.{Style.new_style, Style.patch, Style.Style, Text.LineData}
 use Rattle.ratatui_core.specs.declared.layout.HorizontalAlignment.{HorizontalAlignment}
 use Rattle.ratatui_core.specs.declared.layout.HorizontalAlignment.TheVariants.{Left, Center, Right}
@@ -23,6 +23,11 @@ pub record IsNewAxis (a : Axis) : Type 0 where
 -- the labels of an axis; one that was given none has none
 abbrev pub axis_labels : Axis → List LineData
 axis_labels a = unwrap_or a.labels []
+
+-- an axis's title and its labels are so
+pub record HasTexts (T : LineData → Type 0) (a : Axis) : Type 0 where
+  pub title : IfSome a.title T
+  pub labels : All T (axis_labels a)
 
 -- how the first label below is aligned, whose axis aligns it so
 abbrev pub other_side : HorizontalAlignment → HorizontalAlignment

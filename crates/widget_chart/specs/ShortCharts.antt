@@ -3,14 +3,13 @@ use Rattle.std.specs.Prelude.{◌≡◌, All, IfSome, []}
 use Rattle.ratatui_core.specs.{Layout.Rect, Buffer.BufferData}
 use Rattle.widget_boxes.specs.{Lines.IsShortTitle, Framed.IsShortFrame}
 use Rattle.rtui_drawing.specs.Drawings.{DrawsAll, IsStopped}
-use Rattle.widget_chart.specs.{Charts.axis_labels, ChartLayouts.margins_of, ChartLayouts.graph_in}
+use Rattle.widget_chart.specs.{Charts.HasTexts, ChartLayouts.margins_of, ChartLayouts.graph_in}
 use Rattle.widget_chart.specs.ChartParts.{axes, all_dotted}
 use Rattle.widget_chart.specs.declared.{axis.Axis.Axis, dataset.Dataset.Dataset, chart.Chart.Chart}
 
 -- an axis's title and its labels take no memory, wherever they stand
-pub record HasShortTexts (a : Axis) : Type 0 where
-  pub title : IfSome a.title IsShortTitle
-  pub labels : All IsShortTitle (axis_labels a)
+abbrev pub HasShortTexts : Axis → Type 0
+HasShortTexts = HasTexts IsShortTitle
 
 -- nor does a data set's name
 abbrev pub HasShortName : Dataset → Type 0
