@@ -10,7 +10,7 @@ use Rattle.rtui_drawing.specs.declared.cut.Cut.TheVariants.{First, After, Rows, 
 use Rattle.rtui_drawing.specs.Drawings.{Thing, a_style, a_line, a_change, Drawing, nothing, put, over, ◌before◌, draw_if}
 use Rattle.widget_chart.specs.declared.{axis.Axis.Axis, dataset.Dataset.Dataset, chart.Chart.Chart, layout.Margins.Margins}
 use Rattle.widget_chart.specs.Charts.{axis_labels, HasTexts}
-use Rattle.widget_chart.specs.ChartParts.{numbered, label_at, ruled_cell, ruled, axes, dotted_cell, all_dotted, axis_title}
+use Rattle.widget_chart.specs.ChartParts.{numbered, label_at, ruled_cell, axes, dotted_cell, all_dotted, axis_title}
 use Rattle.widget_chart.specs.{Legends.name_if, Legends.under_name, Legends.names, Legends.legend_in, Legends.legend_at}
 use Rattle.widget_chart.specs.Plots.{names_of}
 

@@ -9,7 +9,7 @@ use Rattle.rtui_drawing.proofs.{Laws.IsNarrowThing, Laws.IsNarrowDrawing, Drawin
 use Rattle.widget_boxes.specs.{Boxes.IsNarrowBox, Framed.inner_if}
 use Rattle.widget_boxes.proofs.InnerLemmas.{plain-inside}
 use Rattle.widget_canvas.proofs.NarrowCanvasLemmas.{shown-plain}
-use Rattle.widget_chart.specs.declared.{dataset.Dataset.Dataset, chart.Chart.Chart}
+use Rattle.widget_chart.specs.declared.{chart.Chart.Chart}
 use Rattle.widget_chart.specs.{ChartLayouts.margins_of, ChartLayouts.graph_in, ChartParts.scale_of, ChartParts.dots_of}
 use Rattle.widget_chart.specs.Plots.{chart_drawing, first_style, ShowsPlot, RendersChart}
 use Rattle.widget_chart.specs.NarrowCharts.{IsNarrowDataset, IsNarrowChart}

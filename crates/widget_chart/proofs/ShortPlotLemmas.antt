@@ -1,5 +1,5 @@
 -- A chart of short texts takes no memory but for grids.
-use Rattle.std.proofs.Common.{◌≡◌, true, false, List, [], All, ⊎_elim, ◌⊎◌, Result, Err}
+use Rattle.std.proofs.Common.{◌≡◌, true, false, List, [], ⊎_elim, ◌⊎◌, Result, Err}
 use Rattle.std.specs.Prelude.{⊤}
 use Rattle.std.specs.declared.alloc.AllocError.{AllocError}
 use Rattle.ratatui_core.specs.{Layout.Rect, Style.Style, Buffer.BufferData}

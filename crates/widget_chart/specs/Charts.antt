@@ -1,5 +1,5 @@
 -- Axes, data sets and charts, as they begin.
-use Rattle.std.specs.Prelude.{◌≡◌, ℕ, Bool, true, false, ◌+◌, ◌==◌, List, [], ◌∷◌, Option, Some, None, unwrap_or, option_map, pos}
+use Rattle.std.specs.Prelude.{◌≡◌, ℕ, Bool, true, false, ◌+◌, ◌==◌, List, [], ◌∷◌, Some, None, unwrap_or, option_map, pos}
 use Rattle.std.specs.Prelude.{length, map, if◌then◌else◌, All, IfSome}
 use Rattle.ratatui_core.specs.{Style.new_style, Style.patch, Style.Style, Text.LineData}
 use Rattle.ratatui_core.specs.declared.layout.HorizontalAlignment.{HorizontalAlignment}
