@@ -10,7 +10,7 @@ use Rattle.rtui_drawing.specs.declared.cut.Cut.TheVariants.{First, After, Rows, 
 use Rattle.rtui_drawing.specs.Drawings.{Thing, a_style, a_line, a_change, Drawing, nothing, put, over, ◌before◌, draw_if}
 use Rattle.widget_chart.specs.declared.{axis.Axis.Axis, dataset.Dataset.Dataset, chart.Chart.Chart, layout.Margins.Margins}
 use Rattle.widget_chart.specs.Charts.{axis_labels, HasTexts}
-use Rattle.widget_chart.specs.ChartParts.{numbered, label_at, ruled_cell, axes, dotted_cell, all_dotted, axis_title}
+use Rattle.widget_chart.specs.ChartParts.{each_numbered, label_at, ruled_cell, axes, dotted_cell, all_dotted, axis_title}
 use Rattle.widget_chart.specs.{Legends.name_if, Legends.under_name, Legends.names, Legends.legend_in, Legends.legend_at}
 use Rattle.widget_chart.specs.Plots.{names_of}
 
@@ -61,7 +61,7 @@ module _ (Q : Thing → Type 0) (T : LineData → Type 0) (styled : (style : Sty
   label-each a (Some left) r i l is = written l is
 
   numbered-each : (place : ℕ → LineData → Drawing) → ((i : ℕ) (l : LineData) → T l → EachThing Q (place i l)) → (i : ℕ)
-      (ls : List LineData) → All T ls → EachThing Q (numbered place i ls)
+      (ls : List LineData) → All T ls → EachThing Q (each_numbered place i ls)
   numbered-each place each i [] all = tt
   numbered-each place each i (l ∷ ls) all =
       (each i l (All-head T l ls all), numbered-each place each (i + 1) ls (All-tail T l ls all))
@@ -71,7 +71,7 @@ module _ (Q : Thing → Type 0) (T : LineData → Type 0) (styled : (style : Sty
       let rows = Rows (r.height - (m.below - m.rows)) (m.below - m.rows) in
       let p = cut_from rows r in
       let q = cut_from (Above m.below) (cut_from (First (m.left - 1)) r) in
-      let labels = numbered (label_at x (Some m.left) p) 0 (axis_labels x) in (
+      let labels = each_numbered (label_at x (Some m.left) p) 0 (axis_labels x) in (
         if-each (nat_lt 1 (length (axis_labels x))) (over rows labels)
             (numbered-each (label_at x (Some m.left) p) (label-each x (Some m.left) p) 0 (axis_labels x) below.labels),
         (

@@ -1,10 +1,8 @@
 -- What the parts of a chart draw.
-use Rattle.std.proofs.Common.{◌≡◌, ℕ, ◌+◌, ◌-◌, ◌*◌, ◌/◌, ◌<◌, ◌≤◌, max, min, List, [], ◌∷◌, length, ⊎_elim, Option, Some, None}
+use Rattle.std.proofs.Common.{◌≡◌, ◌+◌, ◌-◌, ◌<◌, max, min, List, [], ◌∷◌, length, Option, Some, None}
 use Rattle.std.proofs.Common.{arith, refl, sym, subst, ap, ◌∙◌, unwrap_or, Result, Ok, Err, OnOk, OnErr}
 use Rattle.std.specs.List.{flat_map}
 use Rattle.std.specs.declared.alloc.AllocError.{AllocError}
-use Rattle.std.proofs.lemmas.{Bool.cases_lt}
-use Rattle.std.proofs.Math.Nat.{mul-div-le, mul-le-mul_right, mul-zero}
 use Rattle.ratatui_core.specs.Layout.{Rect, Position, corner, intersected, HasPosition, right_edge, bottom_edge}
 use Rattle.ratatui_core.specs.{Style.Style, Style.new_style, Style.with_bg, Style.Reset, Text.LineData}
 use Rattle.ratatui_core.specs.Widgets.{ChangesWithin}
@@ -24,18 +22,10 @@ use Rattle.widget_chart.specs.declared.{chart.Chart.Chart, dataset.Dataset.Datas
 use Rattle.widget_chart.specs.declared.dataset.GraphType.TheVariants.{Scatter, Line, Bar}
 use Rattle.widget_chart.specs.declared.layout.Margins.{Margins}
 use Rattle.widget_chart.specs.ChartLayouts.{margins_of, graph_in, widest_line}
-use Rattle.widget_chart.specs.ChartParts.{axes, drawings_of, dots_of, scale_of, dotted, dotted_cell}
+use Rattle.widget_chart.specs.ChartParts.{axes, drawings_of, dots_of_data, scale_of_data, dotted, dotted_cell}
 use Rattle.widget_chart.specs.Legends.{with_name, under_name, below_name}
 use Rattle.widget_chart.specs.Inner.{name_count, name_columns, IsCanvasOf}
-use Rattle.widget_chart.specs.Plots.{plot_of, chart_drawing, first_style, ShowsPlot, StopsPlot, RendersChart, LeavesChart}
-
--- n shares of so many columns: a place left the last one is less than all columns
-pub share-below : (i n g : ℕ) → i < n → 0 < g → i * (g / n) < g
-share-below i n g lt some =
-    let whole : n * (g / n) ≤ g = mul-div-le g n in
-    let more : (i + 1) * (g / n) ≤ n * (g / n) = mul-le-mul_right (g / n) (omega arith) in
-    ⊎_elim (λ (wide : 0 < g / n). omega arith)
-    (λ (none : g / n ≤ 0). let e : g / n ≡ 0 = omega arith in rw (e, mul-zero i) some) (cases_lt 0 (g / n))
+use Rattle.widget_chart.specs.Plots.{plot_of, plot_drawing, style_at_first, ShowsPlot, StopsPlot, RendersChart, LeavesChart}
 
 -- what is drawn of a chart, step by step
 pub ruleset chart_steps = (drawing_steps, drawing_choices)
@@ -110,9 +100,9 @@ module _ (ch : Chart) (d : Dataset) (c : Canvas) (g : Rect) (old new : BufferDat
       let shows = cells.inside box.columns box.rows in
       let layers = rw (of.left, of.right, of.bottom, of.top, of.marker, of.drawn, layers-one _ d d.graph_type) at shows.layers in
       let last = rw of.unlabelled at shows.labels in
-      let s = scale_of ch d g in
+      let s = scale_of_data ch d g in
       styled-changed g new_style (with_bg (unwrap_or ch.style.bg Reset) new_style)
-      (shown_at s g (with_dots s (dots_of s d) (empty_grid s))) old cells.framed shows.laid new
+      (shown_at s g (with_dots s (dots_of_data s d) (empty_grid s))) old cells.framed shows.laid new
       (rw cells.frame.boxed cells.frame.styled) (rw of.background at shows.background)
       (rw (last, layers.second) layers.first)
 
@@ -128,7 +118,7 @@ module _ (ch : Chart) (d : Dataset) (c : Canvas) (g : Rect) (old new : BufferDat
 pub plot-done : {A B : Type 0} (c : Chart) (style : Style) (m : Margins) (r g : Rect) {x : A} {old mid new : BufferData}
     (result : Result B AllocError) → m ≡ margins_of c.x_axis c.y_axis r → g ≡ graph_in m r
     → IsDone (axes c.x_axis c.y_axis m r) r (Ok x) old mid → IsDone (plot_of c style g) g result mid new
-    → IsDone (chart_drawing c style r) r result old new
+    → IsDone (plot_drawing c style r) r result old new
 plot-done c style m r g {old = old} {mid = mid} {new = new} result is at one two =
     let inside = subst (λ (q : Rect). IsDone (plot_of c style q) q result mid new) at two in
     let dots = done-in (After m.left) (cut_from (After m.left) r) result
@@ -138,16 +128,16 @@ plot-done c style m r g {old = old} {mid = mid} {new = new} result is at one two
 
 -- a chart inside its box
 pub plot-ok : {A : Type 0} (c : Chart) (style : Style) (area inner : Rect) (old framed new : BufferData)
-    → FramesInside c.style c.block area old framed inner → style ≡ first_style inner framed
-    → (result : Result A AllocError) → IsDone (chart_drawing c style inner) inner result framed new
+    → FramesInside c.style c.block area old framed inner → style ≡ style_at_first inner framed
+    → (result : Result A AllocError) → IsDone (plot_drawing c style inner) inner result framed new
     → OnOk result (RendersChart c area old new)
 plot-ok c style area inner old framed new is at result done =
     frame-filled c.style c.block area inner old framed new is (λ _ _. ShowsPlot c) tt tt result (done-within result done)
     (rw at at done).ok
 
 pub plot-left : {A : Type 0} (c : Chart) (style : Style) (area inner : Rect) (old framed new : BufferData)
-    → FramesInside c.style c.block area old framed inner → style ≡ first_style inner framed
-    → (result : Result A AllocError) → IsDone (chart_drawing c style inner) inner result framed new
+    → FramesInside c.style c.block area old framed inner → style ≡ style_at_first inner framed
+    → (result : Result A AllocError) → IsDone (plot_drawing c style inner) inner result framed new
     → OnErr result (LeavesChart c area old new)
 plot-left c style area inner old framed new is at (Ok x) done = tt
 plot-left c style area inner old framed new is at (Err e) done = λ _.

@@ -9,7 +9,7 @@ use Rattle.rtui_drawing.proofs.DrawingLemmas.{done-short}
 use Rattle.widget_boxes.specs.{Lines.IsShortTitle}
 use Rattle.widget_chart.specs.declared.{dataset.Dataset.Dataset, chart.Chart.Chart}
 use Rattle.widget_chart.specs.{ChartLayouts.margins_of, ChartLayouts.graph_in, ChartParts.axes, ChartParts.all_dotted}
-use Rattle.widget_chart.specs.Plots.{names_of, chart_drawing, first_style, StopsPlot}
+use Rattle.widget_chart.specs.Plots.{names_of, plot_drawing, style_at_first, StopsPlot}
 use Rattle.widget_chart.specs.ShortCharts.{HasShortName, HasShortWords, StopsAtGrid}
 use Rattle.widget_chart.proofs.EachThingLemmas.{EachThing, axes-each, over-each}
 
@@ -40,7 +40,7 @@ module _ (s : BufferData) where
   no-dots c g ds none = rw none tt
 
   pub short-plot : (c : Chart) (style : Style) (r : Rect) → HasShortWords c → c.datasets.items ≡ []
-      → IsShortDrawing s.area (chart_drawing c style r) r
+      → IsShortDrawing s.area (plot_drawing c style r) r
   short-plot c style r short none =
       let g = graph_in (margins_of c.x_axis c.y_axis r) r in
       (axes-short c r short, (no-dots c g c.datasets.items none, over-short c style g short))
@@ -59,7 +59,7 @@ pub grid-stops : (c : Chart) (r : Rect) (old new : BufferData) → HasShortWords
 grid-stops c r old new short is =
     let m = margins_of c.x_axis c.y_axis r in
     let g = graph_in m r in
-    let style = first_style r old in
+    let style = style_at_first r old in
     let around = axes c.x_axis c.y_axis m r in
     let dots = all_dotted c g c.datasets.items in
     let over_dots = names_of c style g in

@@ -58,21 +58,21 @@ label_at a None r i l = y_label a r.height i l
 label_at a (Some left) r i l = x_label a left r.width i l
 
 -- labels, each where it stands by its number, one after the other
-abbrev pub numbered : (ℕ → LineData → Drawing) → ℕ → List LineData → Drawing
-numbered place i [] = nothing
-numbered place i (l ∷ ls) = place i l before numbered place (i + 1) ls
+abbrev pub each_numbered : (ℕ → LineData → Drawing) → ℕ → List LineData → Drawing
+each_numbered place i [] = nothing
+each_numbered place i (l ∷ ls) = place i l before each_numbered place (i + 1) ls
 
 -- those below, if there are at least two and a row for them, and those at the left
 abbrev pub x_labels : Axis → Margins → Rect → Drawing
 x_labels a m r =
     let rows = Rows (r.height - (m.below - m.rows)) (m.below - m.rows) in
     let ls = axis_labels a in
-    draw_if (nat_lt 1 (length ls)) (over rows (numbered (label_at a (Some m.left) (cut_from rows r)) 0 ls))
+    draw_if (nat_lt 1 (length ls)) (over rows (each_numbered (label_at a (Some m.left) (cut_from rows r)) 0 ls))
 
 abbrev pub y_labels : Axis → Margins → Rect → Drawing
 y_labels a m r =
     let q = cut_from (Above m.below) (cut_from (First (m.left - 1)) r) in
-    over (First (m.left - 1)) (over (Above m.below) (numbered (label_at a None q) 0 (axis_labels a)))
+    over (First (m.left - 1)) (over (Above m.below) (each_numbered (label_at a None q) 0 (axis_labels a)))
 
 -- a cell of an axis, and an area of such cells
 abbrev pub ruled_cell : Style → List ℕ → Position → Cell → Cell
@@ -109,8 +109,8 @@ drawings_of Bar d =
     ∷ []
 
 -- the bounds of the axes over the cells of the dots, in a data set's marker
-abbrev pub scale_of : Chart → Dataset → Rect → Scale
-scale_of ch d g = record {
+abbrev pub scale_of_data : Chart → Dataset → Rect → Scale
+scale_of_data ch d g = record {
   left = ch.x_axis.low;
   right = ch.x_axis.high;
   bottom = ch.y_axis.low;
@@ -120,8 +120,8 @@ scale_of ch d g = record {
   marker = d.marker;
 }
 
-abbrev pub dots_of : Scale → Dataset → List Dot
-dots_of s d = flat_map (λ shape. drawn_dots shape s) (drawings_of d.graph_type d)
+abbrev pub dots_of_data : Scale → Dataset → List Dot
+dots_of_data s d = flat_map (λ shape. drawn_dots shape s) (drawings_of d.graph_type d)
 
 -- a cell in the chart's background, as a canvas lays it over its own style, and under a data set's dots
 abbrev pub in_background : Chart → Cell → Cell
@@ -129,7 +129,7 @@ in_background ch c = styled (with_bg (unwrap_or ch.style.bg Reset) new_style) (s
 
 abbrev pub dotted_cell : Chart → Dataset → Rect → Position → Cell → Cell
 dotted_cell ch d g p c =
-    let s = scale_of ch d g in shown_at s g (with_dots s (dots_of s d) (empty_grid s)) p (in_background ch c)
+    let s = scale_of_data ch d g in shown_at s g (with_dots s (dots_of_data s d) (empty_grid s)) p (in_background ch c)
 
 -- a data set over the area of the dots, for whose grid memory may be refused, and data sets, each over those
 -- before it

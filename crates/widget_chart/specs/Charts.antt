@@ -37,9 +37,9 @@ other_side Right = Left
 
 -- how label i of n is aligned, below or at the left: the last one below ends with the dots, and those between
 -- stand in the middle
-abbrev pub side_of : Bool → HorizontalAlignment → ℕ → ℕ → HorizontalAlignment
-side_of false alignment n i = alignment
-side_of true alignment n i =
+abbrev pub side_of_label : Bool → HorizontalAlignment → ℕ → ℕ → HorizontalAlignment
+side_of_label false alignment n i = alignment
+side_of_label true alignment n i =
     if i == 0 then other_side alignment
     else if i + 1 == n then Right
     else Center
@@ -48,7 +48,7 @@ side_of true alignment n i =
 abbrev pub aligned_from : Bool → HorizontalAlignment → ℕ → ℕ → List LineData → List LineData
 aligned_from below alignment n i [] = []
 aligned_from below alignment n i (l ∷ ls) =
-    aligned (side_of below alignment n i) l ∷ aligned_from below alignment n (i + 1) ls
+    aligned (side_of_label below alignment n i) l ∷ aligned_from below alignment n (i + 1) ls
 
 -- an axis with labels that are aligned as they stand, below or at the left
 abbrev pub with_aligned : Bool → Axis → Axis
@@ -64,11 +64,11 @@ pub record IsNewDataset (d : Dataset) : Type 0 where
   pub unstyled : d.style ≡ new_style
 
 -- a data set whose style lies over its name
-abbrev pub in_style : Style → LineData → LineData
-in_style style line = record line { style = patch line.style style }
+abbrev pub in_own_style : Style → LineData → LineData
+in_own_style style line = record line { style = patch line.style style }
 
 abbrev pub with_styled_name : Dataset → Dataset
-with_styled_name d = record d { name = option_map (in_style d.style) d.name }
+with_styled_name d = record d { name = option_map (in_own_style d.style) d.name }
 
 -- a chart of these data sets, without a box and styles, its legend at the upper right, over a quarter at most
 pub record IsNewChart (ds : List Dataset) (c : Chart) : Type 0 where

@@ -30,22 +30,22 @@ plot_of c style g = all_dotted c g c.datasets.items before names_of c style g
 
 -- what a chart draws in an area: around its dots the axes with their labels, and then the dots and the names,
 -- in a style
-abbrev pub chart_drawing : Chart → Style → Rect → Drawing
-chart_drawing c style r =
+abbrev pub plot_drawing : Chart → Style → Rect → Drawing
+plot_drawing c style r =
     let m = margins_of c.x_axis c.y_axis r in
     axes c.x_axis c.y_axis m r before over (After m.left) (over (Above m.below) (plot_of c style (graph_in m r)))
 
 -- the style that the first cell of an area has
-abbrev pub first_style : Rect → BufferData → Style
-first_style r s = style_of (cell_in s (corner r))
+abbrev pub style_at_first : Rect → BufferData → Style
+style_at_first r s = style_of (cell_in s (corner r))
 
 -- a chart over an area, its names in the style that the first cell had before; and one for which memory was
 -- refused: all left one thing stands
 abbrev pub ShowsPlot : Chart → Rect → BufferData → BufferData → Type 0
-ShowsPlot c r old new = DrawsAll (chart_drawing c (first_style r old) r) r old new
+ShowsPlot c r old new = DrawsAll (plot_drawing c (style_at_first r old) r) r old new
 
 abbrev pub StopsPlot : Chart → Rect → BufferData → BufferData → Type 0
-StopsPlot c r old new = IsStopped (chart_drawing c (first_style r old) r) r old new
+StopsPlot c r old new = IsStopped (plot_drawing c (style_at_first r old) r) r old new
 
 -- A chart over the part of an area that a buffer has: its style, its box, and inside its parts. Nothing
 -- outside the area changes.

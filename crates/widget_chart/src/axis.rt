@@ -2,7 +2,7 @@
 
 ghost use Rattle.std.specs.Prelude.{◌≡◌, ◌<◌, Some, IfOk, slice_index_or, pos, length, option_map};
 ghost use Rattle.widget_boxes.specs.Titles.{aligned};
-ghost use Rattle.widget_chart.specs.Charts.{IsNewAxis, axis_labels, other_side, side_of};
+ghost use Rattle.widget_chart.specs.Charts.{IsNewAxis, axis_labels, other_side, side_of_label};
 ghost use Rattle.widget_chart.specs.Charts.{aligned_from, with_aligned};
 
 use ratatui_core::layout::HorizontalAlignment;
@@ -165,14 +165,14 @@ fn other_side(alignment: HorizontalAlignment) -> HorizontalAlignment
 }
 
 // How label i of n is aligned, below or at the left.
-fn side_of(
+fn side_of_label(
     is_below: bool,
     alignment: HorizontalAlignment,
     n: usize,
     i: usize,
 ) -> HorizontalAlignment
     requires { i < n }
-    ensures { result ≡ side_of is_below alignment n i }
+    ensures { result ≡ side_of_label is_below alignment n i }
 {
     if !is_below {
         alignment
@@ -199,7 +199,7 @@ fn align_all(is_below: bool, alignment: HorizontalAlignment, labels: &mut [Line<
 {
     let n = labels.len();
     for i in 0..n {
-        align(&mut labels[i], side_of(is_below, alignment, n, i));
+        align(&mut labels[i], side_of_label(is_below, alignment, n, i));
     }
 }
 

@@ -7,7 +7,7 @@ ghost use Rattle.widget_boxes.specs.Boxes.{IsBoxArea};
 ghost use Rattle.widget_chart.specs.Charts.{IsNewChart, with_aligned, with_styled_name};
 ghost use Rattle.widget_chart.specs.ChartParts.{drawings_of, dotted, all_dotted};
 ghost use Rattle.widget_chart.specs.Inner.{IsCanvasOf};
-ghost use Rattle.widget_chart.specs.Plots.{legend_of, names_of, plot_of, chart_drawing, first_style};
+ghost use Rattle.widget_chart.specs.Plots.{legend_of, names_of, plot_of, plot_drawing, style_at_first};
 
 use crate::axis::Axis;
 use crate::dataset::{Dataset, GraphType};
@@ -247,7 +247,7 @@ impl<'a> Chart<'a> {
     fn draw(&self, style: Style, inner: Rect, buf: &mut Buffer) -> Result<(), AllocError>
         requires some { IsBoxArea inner }
         requires inside { IsInside inner buf.old.area }
-        ensures { let d = chart_drawing self.now style inner in
+        ensures { let d = plot_drawing self.now style inner in
             IsDone d inner result buf.old buf.new }
     {
         let margins = margins_in(&self.x_axis, &self.y_axis, inner);
@@ -257,10 +257,10 @@ impl<'a> Chart<'a> {
 }
 
 // The style of the first cell of an area.
-fn first_style(area: Rect, buf: &Buffer) -> Style
+fn style_at_first(area: Rect, buf: &Buffer) -> Style
     requires some { IsBoxArea area }
     requires inside { IsInside area buf.now.area }
-    ensures { result ≡ first_style area buf.now }
+    ensures { result ≡ style_at_first area buf.now }
 {
     match buf.cell(Position::new(area.x, area.y)) {
         Some(cell) => cell.style(),
@@ -317,7 +317,7 @@ impl<'b, 'a> Widget for &'b Chart<'a> {
         let Some(inner) = render_frame(self.style, &self.block, area, buf)? else {
             return Ok(());
         };
-        self.draw(first_style(inner, buf), inner, buf)
+        self.draw(style_at_first(inner, buf), inner, buf)
     }
 }
 

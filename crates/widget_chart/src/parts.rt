@@ -4,7 +4,7 @@ ghost use Rattle.std.specs.Prelude.{◌≡◌, ◌≤◌, ◌<◌, ◌+◌, ◌-
 ghost use Rattle.rtui_drawing.specs.Drawings.{IsDone};
 ghost use Rattle.widget_chart.specs.Charts.{axis_labels};
 ghost use Rattle.widget_chart.specs.ChartParts.{label_share, first_place, label_place, x_label, y_label};
-ghost use Rattle.widget_chart.specs.ChartParts.{label_at, numbered, x_labels, y_labels, ruled, rules, axes};
+ghost use Rattle.widget_chart.specs.ChartParts.{label_at, each_numbered, x_labels, y_labels, ruled, rules, axes};
 ghost use Rattle.widget_chart.specs.ChartParts.{axis_title, x_title, y_title};
 
 use crate::axis::Axis;
@@ -133,7 +133,7 @@ impl<'a> Axis<'a> {
     // Puts all labels in their places in an area.
     fn put_all(&self, left: Option<u16>, area: Rect, buf: &mut Buffer) -> Result<(), AllocError>
         requires { IfSome left (λ n. n < area.width) }
-        ensures { let d = numbered (label_at self.now left area) 0 (axis_labels self.now) in
+        ensures { let d = each_numbered (label_at self.now left area) 0 (axis_labels self.now) in
             IsDone d area result buf.old buf.new }
     {
         for (i, label) in self.lines().iter().enumerate() {

@@ -21,8 +21,8 @@ returns-clause-area c = (done-within c.draw.result c.draw.ensures).same_area ∙
 
 pub returns-clause-ok : goal.returns-clause-ok
 returns-clause-ok c =
-    plot-ok c.args.self.now c.first_style.result c.args.area c.in-Some.inner c.args.buf.now
-    c.render_frame.new.buf c.draw.new.buf (rw c.in-Some.is at c.in_ok-inner.ensures.inner) c.first_style.ensures
+    plot-ok c.args.self.now c.style_at_first.result c.args.area c.in-Some.inner c.args.buf.now
+    c.render_frame.new.buf c.draw.new.buf (rw c.in-Some.is at c.in_ok-inner.ensures.inner) c.style_at_first.ensures
     c.draw.result c.draw.ensures
 
 pub returns-clause-err : goal.returns-clause-err
@@ -33,12 +33,12 @@ returns-clause-err c =
 
 pub returns-clause-left : goal.returns-clause-left
 returns-clause-left c =
-    plot-left c.args.self.now c.first_style.result c.args.area c.in-Some.inner c.args.buf.now
-    c.render_frame.new.buf c.draw.new.buf (rw c.in-Some.is at c.in_ok-inner.ensures.inner) c.first_style.ensures
+    plot-left c.args.self.now c.style_at_first.result c.args.area c.in-Some.inner c.args.buf.now
+    c.render_frame.new.buf c.draw.new.buf (rw c.in-Some.is at c.in_ok-inner.ensures.inner) c.style_at_first.ensures
     c.draw.result c.draw.ensures
 
 pub returns-clause-short : goal.returns-clause-short
 returns-clause-short c = λ short.
     done-short c.draw.result
-    (short-plot c.render_frame.new.buf c.args.self.now c.first_style.result c.in-Some.inner short.words short.no_data)
+    (short-plot c.render_frame.new.buf c.args.self.now c.style_at_first.result c.in-Some.inner short.words short.no_data)
     c.draw.ensures
