@@ -52,10 +52,12 @@ fn box_rendered(alloc: Global) -> Result<Outcome, AllocError> {
 // An axis with two labels and a title.
 fn axis_of<'a>(alloc: Global) -> Result<Axis<'a>, AllocError> {
     let labels = vec![in alloc; Line::raw(alloc, "0")?, Line::raw(alloc, "コン")?]?;
-    Ok(Axis::new()
-        .title(Line::raw(alloc, "n")?)
-        .bounds([0, 9])
-        .labels(labels))
+    Ok(
+        Axis::new()
+            .title(Line::raw(alloc, "n")?)
+            .bounds([0, 9])
+            .labels(labels),
+    )
 }
 
 // Renders a chart of these data sets over a buffer of 24 columns and eight rows.
