@@ -1,4 +1,4 @@
-//! Paragraphs and boxes.
+//! Paragraphs, boxes and charts.
 use crate::outcome::{Cases, LONG, Outcome, judged};
 use rtui_buffer::Buffer;
 use rtui_geometry::Rect;
@@ -6,6 +6,7 @@ use rtui_text::Line;
 use rtui_widgets::Widget;
 use std::alloc::{AllocError, Global};
 use widget_boxes::Block;
+use widget_chart::{Axis, Chart, Dataset};
 use widget_paragraph::{Paragraph, Wrap};
 
 // A text of two lines, of which no symbol takes memory.
@@ -48,13 +49,46 @@ fn box_rendered(alloc: Global) -> Result<Outcome, AllocError> {
     Ok(judged(is_refused, true, is_right))
 }
 
-/// Paragraphs that take memory.
+// An axis with two labels and a title.
+fn axis_of<'a>(alloc: Global) -> Result<Axis<'a>, AllocError> {
+    let labels = vec![in alloc; Line::raw(alloc, "0")?, Line::raw(alloc, "コン")?]?;
+    Ok(
+        Axis::new()
+            .title(Line::raw(alloc, "n")?)
+            .bounds([0, 9])
+            .labels(labels),
+    )
+}
+
+// Renders a chart of these data sets over a buffer of 24 columns and eight rows.
+fn chart_rendered(alloc: Global, datasets: Vec<Dataset<'_>>) -> Result<Outcome, AllocError> {
+    let area = Rect::new(0, 0, 24, 8);
+    let chart = Chart::new(datasets)
+        .block(Block::bordered(alloc))
+        .x_axis(axis_of(alloc)?)
+        .y_axis(axis_of(alloc)?);
+    let mut buffer = Buffer::empty(alloc, area)?;
+    let is_refused = (&chart).render(area, &mut buffer).is_err();
+    let is_again = !is_refused || (&chart).render(area, &mut buffer).is_ok();
+    Ok(judged(is_refused, true, is_again && has_symbol(&buffer, 125, "└")))
+}
+
+// A data set with a name.
+fn named<'a>(alloc: Global) -> Result<Vec<Dataset<'a>>, AllocError> {
+    let dataset = Dataset::new().data(&[(0, 3), (5, 8)]);
+    let mut datasets = Vec::new(alloc);
+    datasets.push(dataset.name(Line::raw(alloc, "コ")?))?;
+    Ok(datasets)
+}
+
+/// Widgets that take memory.
 pub struct Widgets;
 
-static WIDGETS: [&str; 3] = [
+static WIDGETS: [&str; 4] = [
     "render of a paragraph",
     "render of a wrapped paragraph",
     "line_count of a wrapped paragraph",
+    "render of a chart of points",
 ];
 
 impl Cases for Widgets {
@@ -67,20 +101,22 @@ impl Cases for Widgets {
         match number {
             0 => rendered(alloc, &Paragraph::raw(alloc, LONG)?, LONG),
             1 => rendered(alloc, &Paragraph::raw(alloc, SHORT)?.wrap(wrap), "T"),
-            _ => counted(alloc, &Paragraph::raw(alloc, SHORT)?.wrap(wrap), 3),
+            2 => counted(alloc, &Paragraph::raw(alloc, SHORT)?.wrap(wrap), 3),
+            _ => chart_rendered(alloc, named(alloc)?),
         }
     }
 }
 
-/// Paragraphs and boxes that take no memory.
+/// Widgets that take no memory.
 pub struct WithoutMemory;
 
-static WITHOUT_MEMORY: [&str; 5] = [
+static WITHOUT_MEMORY: [&str; 6] = [
     "render of a paragraph of short symbols: no memory",
     "render of a paragraph at the right: no memory",
     "render of a paragraph in a box: no memory",
     "line_count of a paragraph: no memory",
     "render of a box with titles: no memory",
+    "render of a chart of labels: no memory",
 ];
 
 impl Cases for WithoutMemory {
@@ -97,7 +133,8 @@ impl Cases for WithoutMemory {
                 rendered(alloc, &Paragraph::raw(alloc, SHORT)?.block(block), "┌")
             }
             3 => counted(alloc, &Paragraph::raw(alloc, SHORT)?, 2),
-            _ => box_rendered(alloc),
+            4 => box_rendered(alloc),
+            _ => chart_rendered(alloc, Vec::new(alloc)),
         }
     }
 }

@@ -6,7 +6,7 @@ use Rattle.std.specs.{Char.encode_utf8}
 use Rattle.std.proofs.lemmas.{Bool.Decides.nat_tests, Nat.or_lt}
 use Rattle.std.proofs.lemmas.List.Elements.{All-nil, All-cons, All-head, All-tail}
 use Rattle.unicode_width.proofs.Computing.{unicode_width}
-use Rattle.ratatui_core.specs.Layout.{Rect, intersected}
+use Rattle.ratatui_core.specs.Layout.{Rect, Position, intersected}
 use Rattle.ratatui_core.specs.{Style.Color, Style.new_style, Style.with_bg}
 use Rattle.ratatui_core.specs.declared.symbols.Marker.{Marker}
 use Rattle.ratatui_core.specs.declared.symbols.Marker.TheVariants.{Dot, Block, Bar, Braille, HalfBlock, Quadrant, Sextant, Octant}
@@ -225,15 +225,20 @@ under-plain m narrow d c small is = by_test (d.pattern == 0)
     by_test false = in-color-plain m d _ (plain-with_symbol _ c is (narrow d small))
 
 module _ (s : Scale) (narrow : HasNarrowDots s.marker) where
+  pub shown-plain : (r : Rect) (layer : List GridDot) (p : Position) (c : Cell) → IsPlain c
+      → IsPlain (shown_at s r (with_dots s layer (empty_grid s)) p c)
+  shown-plain r layer p c is =
+      let small = small-dots s layer (empty_grid s) (small-empty (s.columns * s.rows)) in
+      under-plain s.marker narrow _ c
+      (small-at (with_dots s layer (empty_grid s)) ((p.y - r.y) * s.columns + (p.x - r.x)) small) is
+
   layers-stay : (r : Rect) (layers : List (List GridDot)) (old new : BufferData) → IsPlainFrom 0 old
       → ShowsLayers s r layers old new → IsPlainFrom 0 new
   layers-stay r [] old new plain same = rw same plain
   layers-stay r (layer ∷ layers) old new plain is =
-      let cells = with_dots s layer (empty_grid s) in
-      let small = small-dots s layer (empty_grid s) (small-empty (s.columns * s.rows)) in
       layers-stay r layers is.between new
-      (plain-changed r (shown_at s r cells) old is.between (λ p c cell. under-plain s.marker narrow _ c
-      (small-at cells ((p.y - r.y) * s.columns + (p.x - r.x)) small) cell) is.first plain) is.second
+      (plain-changed r (shown_at s r (with_dots s layer (empty_grid s))) old is.between (shown-plain r layer) is.first plain)
+      is.second
 
 labels-stay : (s : Scale) (r : Rect) (ls : List Label) (old new : BufferData)
     → All (λ (l : Label). EachLineGrapheme TakesOneColumn l.line) ls

@@ -1,2 +1,4 @@
+pub mod EachThingLemmas
 pub mod NarrowPlotLemmas
 pub mod PlotLemmas
+pub mod ShortPlotLemmas

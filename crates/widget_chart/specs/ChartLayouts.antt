@@ -1,12 +1,13 @@
--- Where the parts of a chart stand.
+-- How many columns and rows the parts of a chart take.
 use Rattle.std.specs.Prelude.{ℕ, Bool, true, false, ◌+◌, ◌-◌, ◌/◌, ◌&&◌, nat_lt, min, max, List, [], ◌∷◌}
 use Rattle.std.specs.Prelude.{length, Option, Some, None, if◌then◌else◌}
 use Rattle.ratatui_core.specs.{Layout.Rect, Text.LineData}
 use Rattle.ratatui_core.specs.declared.layout.HorizontalAlignment.{HorizontalAlignment}
 use Rattle.ratatui_core.specs.declared.layout.HorizontalAlignment.TheVariants.{Left, Center, Right}
 use Rattle.widget_boxes.specs.Titles.{title_width}
-use Rattle.widget_chart.specs.{declared.axis.Axis.Axis, declared.layout.ChartLayout.ChartLayout}
-use Rattle.widget_chart.specs.{Charts.axis_labels}
+use Rattle.rtui_drawing.specs.Cuts.{cut_from}
+use Rattle.rtui_drawing.specs.declared.cut.Cut.TheVariants.{After, Above}
+use Rattle.widget_chart.specs.{declared.axis.Axis.Axis, declared.layout.Margins.Margins, Charts.axis_labels}
 
 -- whether an axis has labels; one without them isn't shown
 abbrev pub is_labelled : Axis → Bool
@@ -47,13 +48,18 @@ axis_rows x height = if is_labelled x && nat_lt 2 height then 1 else 0
 abbrev pub label_rows : Axis → ℕ → ℕ
 label_rows x height = if is_labelled x && nat_lt 1 height then 1 else 0
 
--- the area of the dots
-abbrev pub graph_of : Axis → Axis → Rect → Rect
-graph_of x y r =
+-- what a chart has around its dots in an area: the columns of the axis at the left, all columns there, the
+-- rows of the axis below, and all rows there
+abbrev pub margins_of : Axis → Axis → Rect → Margins
+margins_of x y r =
     let left = columns_beside x y r.width in
-    let before = left + axis_columns y left r.width in
-    let below = axis_rows x r.height + label_rows x r.height in
-    record { x = r.x + before; y = r.y; width = r.width - before; height = r.height - below }
+    let columns = axis_columns y left r.width in
+    let rows = axis_rows x r.height in
+    record { columns = columns; left = left + columns; rows = rows; below = rows + label_rows x r.height }
+
+-- the area of the dots
+abbrev pub graph_in : Margins → Rect → Rect
+graph_in m r = cut_from (Above m.below) (cut_from (After m.left) r)
 
 -- the columns of a title over the dots: all of them, if there are more columns, some of them left over, and
 -- more than two rows; else none
@@ -61,34 +67,3 @@ abbrev pub title_columns : Option LineData → ℕ → Rect → ℕ
 title_columns None over g = 0
 title_columns (Some line) over g =
     if nat_lt (title_width line + over) g.width && nat_lt 2 g.height then title_width line else 0
-
--- the row of a title over the dots: at the right of their last row, or at the left of their first
-abbrev pub x_title_area : Option LineData → Rect → Rect
-x_title_area title g =
-    let n = title_columns title 0 g in
-    record { x = g.x + (g.width - n); y = g.y + (g.height - 1); width = n; height = 1 }
-
-abbrev pub y_title_area : Option LineData → Rect → Rect
-y_title_area title g = record { x = g.x; y = g.y; width = title_columns title 1 g; height = 1 }
-
--- the parts of a chart, each without columns or rows if it isn't shown: dots, labels, axes and titles
-abbrev pub chart_layout : Axis → Axis → Rect → ChartLayout
-chart_layout x y r =
-    let g = graph_of x y r in
-    let columns = axis_columns y (columns_beside x y r.width) r.width in
-    let rows = axis_rows x r.height in
-    record {
-      graph = g;
-      x_labels = record {
-        x = r.x;
-        y = g.y + g.height + rows;
-        width = r.width;
-        height = label_rows x r.height;
-      };
-      y_labels = record { x = r.x; y = g.y; width = g.x - r.x - 1; height = g.height };
-      x_axis = record { x = g.x; y = g.y + g.height; width = g.width; height = rows };
-      y_axis = record { x = g.x - columns; y = g.y; width = columns; height = g.height };
-      corner = record { x = g.x - columns; y = g.y + g.height; width = columns; height = rows };
-      x_title = x_title_area x.title g;
-      y_title = y_title_area y.title g;
-    }

@@ -1,94 +1,103 @@
--- The parts of a chart, and what it makes of a buffer.
-use Rattle.std.specs.Prelude.{◌≡◌, ℕ, Bool, true, false, ◌+◌, ◌-◌, ◌*◌, ◌/◌, ◌==◌, nat_lt, min, max, List, []}
-use Rattle.std.specs.Prelude.{◌∷◌, length, Option, Some, None, unwrap_or, encode_utf8, if◌then◌else◌}
-use Rattle.ratatui_core.specs.Layout.{Rect, Position}
-use Rattle.ratatui_core.specs.{Text.LineData, Widgets.RendersLine}
-use Rattle.ratatui_core.specs.Style.{Style, Color, Reset}
-use Rattle.ratatui_core.specs.Buffer.{BufferData, Cell, styled, with_symbol, ChangesEach}
+-- The parts of a chart: what each of them draws.
+use Rattle.std.specs.Prelude.{ℕ, ◌+◌, ◌-◌, ◌*◌, ◌/◌, ◌==◌, nat_lt, min, max, List, [], ◌∷◌, length}
+use Rattle.std.specs.Prelude.{Option, Some, None, unwrap_or, if◌then◌else◌}
+use Rattle.std.specs.List.{flat_map}
+use Rattle.ratatui_core.specs.{Layout.Rect, Layout.Position, Text.LineData}
+use Rattle.ratatui_core.specs.Style.{Style, Color, Reset, new_style, with_bg}
+use Rattle.ratatui_core.specs.Buffer.{Cell, styled, with_symbol, IsShort}
 use Rattle.ratatui_core.specs.declared.layout.HorizontalAlignment.{HorizontalAlignment}
 use Rattle.ratatui_core.specs.declared.layout.HorizontalAlignment.TheVariants.{Left, Center, Right}
-use Rattle.widget_boxes.specs.Titles.{InTurn, PlacedTitle, RendersTitle, title_at, title_width, aligned}
-use Rattle.rtui_dots.specs.declared.{drawing.Drawing.Drawing}
+use Rattle.widget_boxes.specs.Titles.{title_width}
+use Rattle.rtui_dots.specs.declared.{drawing.Drawing.Drawing as Shape, scale.Scale.Scale}
 use Rattle.rtui_dots.specs.declared.drawing.Drawing.TheVariants.{Points as PointsOf, Path as PathOf}
 use Rattle.rtui_dots.specs.declared.drawing.Drawing.TheVariants.{Bars as BarsOf}
-use Rattle.widget_canvas.specs.{declared.canvas.Canvas.Canvas, Canvases.RendersCanvas}
-use Rattle.widget_chart.specs.Charts.{axis_labels}
+use Rattle.rtui_dots.specs.{Grids.Dot, Grids.with_dots, Grids.empty_grid, Layers.drawn_dots}
+use Rattle.rtui_symbols.specs.declared.line.TheConstants as line_symbol
+use Rattle.rtui_drawing.specs.{Cuts.cut_from}
+use Rattle.rtui_drawing.specs.declared.cut.Cut.TheVariants.{First, After, Last, Rows, Above}
+use Rattle.rtui_drawing.specs.Drawings.{Drawing, nothing, over, ◌before◌, put_style, put_line, put_change}
+use Rattle.rtui_drawing.specs.Drawings.{draw_if}
+use Rattle.widget_canvas.specs.Canvases.{shown_at}
+use Rattle.widget_chart.specs.{Charts.axis_labels, ChartLayouts.title_columns}
 use Rattle.widget_chart.specs.declared.{axis.Axis.Axis, dataset.Dataset.Dataset, dataset.GraphType.GraphType}
-use Rattle.widget_chart.specs.declared.{chart.Chart.Chart, layout.ChartLayout.ChartLayout}
+use Rattle.widget_chart.specs.declared.{chart.Chart.Chart, layout.Margins.Margins}
 use Rattle.widget_chart.specs.declared.dataset.GraphType.TheVariants.{Scatter, Line, Bar}
 
--- how the first label below is aligned, whose axis aligns it so
-abbrev pub other_side : HorizontalAlignment → HorizontalAlignment
-other_side Left = Right
-other_side Center = Center
-other_side Right = Left
+-- how many columns of the dots each label below has
+abbrev pub label_share : Axis → ℕ → ℕ → ℕ
+label_share a left width = (width - left) / length (axis_labels a)
 
--- The first label below: left of the dots, across their first column, or from the axis at the left on; n is
--- its columns, and w how many columns of the dots each label has.
-abbrev pub first_label_area : HorizontalAlignment → ℕ → ℕ → Rect → Rect → Rect
-first_label_area Left n w g r = record r { width = g.x - r.x }
-first_label_area Center n w g r = record r { width = g.x - r.x + min w n }
-first_label_area Right n w g r = record r { x = max r.x (g.x - 1); width = g.x + w - max r.x (g.x - 1) }
+-- In which column of a row a label below begins, and how many it has: the first one, which takes n, left of the
+-- dots, across their first column, or from the axis at the left on; and label i: those between after a blank
+-- column, and the last one at the right.
+abbrev pub first_place : HorizontalAlignment → ℕ → ℕ → ℕ → ℕ × ℕ
+first_place Left left w n = (0, left)
+first_place Center left w n = (0, left + min w n)
+first_place Right left w n = (left - 1, w + min left 1)
 
--- where label i of n below the dots stands: the first one, those between, after a blank column, and the last
--- one at the right
-abbrev pub x_label_at : Axis → Rect → Rect → ℕ → ℕ → LineData → PlacedTitle
-x_label_at a g r n i l =
-    let w = g.width / n in
-    if i == 0 then title_at (aligned (other_side a.labels_alignment) l)
-    (first_label_area a.labels_alignment (title_width l) w g r)
-    else if i + 1 == n then title_at (aligned Right l) (record r { x = g.x + g.width - w; width = w })
-    else title_at (aligned Center l) (record r { x = g.x + i * w + 1; width = w - 1 })
+abbrev pub label_place : Axis → ℕ → ℕ → ℕ → ℕ → ℕ × ℕ
+label_place a left width i n =
+    let w = label_share a left width in
+    if i == 0 then first_place a.labels_alignment left w n
+    else if i + 1 == length (axis_labels a) then (width - w, w)
+    else (left + i * w + 1, w - 1)
 
--- where label i of n left of the dots stands: from the last row up, over all rows
-abbrev pub y_label_at : Axis → Rect → Rect → ℕ → ℕ → LineData → PlacedTitle
-y_label_at a g r n i l =
-    let up = i * (g.height - 1) / max (n - 1) 1 in
-    title_at (aligned a.labels_alignment l) (record r { y = g.y + (g.height - 1 - up); height = 1 })
+-- label i below in a row, and label i at the left: from the last row up, over all rows
+abbrev pub x_label : Axis → ℕ → ℕ → ℕ → LineData → Drawing
+x_label a left width i l =
+    let place = label_place a left width i (title_width l) in over (After place.0) (over (First place.1) (put_line l))
+
+abbrev pub y_label : Axis → ℕ → ℕ → LineData → Drawing
+y_label a height i l =
+    let up = i * (height - 1) / max (length (axis_labels a) - 1) 1 in
+    over (Rows (height - 1 - up) 1) (put_line l)
+
+-- label i in an area below the dots, so many columns left of them, or at the left
+abbrev pub label_at : Axis → Option ℕ → Rect → ℕ → LineData → Drawing
+label_at a None r i l = y_label a r.height i l
+label_at a (Some left) r i l = x_label a left r.width i l
 
 -- labels, each where it stands by its number, one after the other
-abbrev pub RendersNumbered : (ℕ → LineData → PlacedTitle) → ℕ → List LineData → BufferData → BufferData
-    → Type 0
-RendersNumbered place i [] old new = new ≡ old
-RendersNumbered place i (l ∷ ls) old new =
-    InTurn (RendersLine (place i l).line (place i l).area) (RendersNumbered place (i + 1) ls) old new
+abbrev pub each_numbered : (ℕ → LineData → Drawing) → ℕ → List LineData → Drawing
+each_numbered place i [] = nothing
+each_numbered place i (l ∷ ls) = place i l before each_numbered place (i + 1) ls
 
 -- those below, if there are at least two and a row for them, and those at the left
-abbrev pub RendersUnless : Bool → (BufferData → BufferData → Type 0) → BufferData → BufferData → Type 0
-RendersUnless true f old new = new ≡ old
-RendersUnless false f old new = f old new
+abbrev pub x_labels : Axis → Margins → Rect → Drawing
+x_labels a m r =
+    let rows = Rows (r.height - (m.below - m.rows)) (m.below - m.rows) in
+    let ls = axis_labels a in
+    draw_if (nat_lt 1 (length ls)) (over rows (each_numbered (label_at a (Some m.left) (cut_from rows r)) 0 ls))
 
-abbrev pub RendersXLabels : Axis → Rect → Rect → BufferData → BufferData → Type 0
-RendersXLabels a g r =
-    let n = length (axis_labels a) in
-    RendersUnless (nat_lt n 2) (RendersNumbered (x_label_at a g r n) 0 (axis_labels a))
+abbrev pub y_labels : Axis → Margins → Rect → Drawing
+y_labels a m r =
+    let q = cut_from (Above m.below) (cut_from (First (m.left - 1)) r) in
+    over (First (m.left - 1)) (over (Above m.below) (each_numbered (label_at a None q) 0 (axis_labels a)))
 
-abbrev pub RendersYLabels : Axis → Rect → Rect → BufferData → BufferData → Type 0
-RendersYLabels a g r = RendersNumbered (y_label_at a g r (length (axis_labels a))) 0 (axis_labels a)
-
--- a cell of an axis
+-- a cell of an axis, and an area of such cells
 abbrev pub ruled_cell : Style → List ℕ → Position → Cell → Cell
 ruled_cell style symbol p c = styled style (with_symbol symbol c)
 
--- the labels of both axes
-abbrev pub RendersLabelsOf : Axis → Axis → ChartLayout → BufferData → BufferData → Type 0
-RendersLabelsOf x y l = InTurn (RendersXLabels x l.graph l.x_labels) (RendersYLabels y l.graph l.y_labels)
+abbrev pub ruled : Style → List ℕ → Drawing
+ruled style symbol = put_change (ruled_cell style symbol) (λ _ _. IsShort symbol)
 
--- the labels, the axes (U+2500, U+2502) and the corner between them (U+2514)
-pub record RendersAxes (x y : Axis) (l : ChartLayout) (old new : BufferData) : Type 0 where
-  pub labelled : BufferData
-  pub across : BufferData
-  pub ruled : BufferData
-  pub labels : RendersLabelsOf x y l old labelled
-  pub x_axis : ChangesEach l.x_axis (ruled_cell x.style (encode_utf8 0x2500)) labelled across
-  pub y_axis : ChangesEach l.y_axis (ruled_cell y.style (encode_utf8 0x2502)) across ruled
-  pub corner : ChangesEach l.corner (ruled_cell x.style (encode_utf8 0x2514)) ruled new
+-- the axes in these styles, and the corner between them
+abbrev pub rules : Style → Style → Margins → Rect → Drawing
+rules x y m r =
+    let rows = Rows (r.height - m.below) m.rows in
+    over (After m.left) (over rows (ruled x line_symbol.HORIZONTAL.now))
+    before over (After (m.left - m.columns)) (over (First m.columns)
+    (over (Above m.below) (ruled y line_symbol.VERTICAL.now) before over rows (ruled x line_symbol.BOTTOM_LEFT.now)))
+
+-- what stands around the dots
+abbrev pub axes : Axis → Axis → Margins → Rect → Drawing
+axes x y m r = x_labels x m r before y_labels y m r before rules x.style y.style m r
 
 -- what is drawn of a data set: its points, and lines between them or down from them if it is shown so
 abbrev pub dots_color : Style → Color
 dots_color s = unwrap_or s.fg Reset
 
-abbrev pub drawings_of : GraphType → Dataset → List Drawing
+abbrev pub drawings_of : GraphType → Dataset → List Shape
 drawings_of Scatter d = PointsOf (record { coords = d.points; color = dots_color d.style }) ∷ []
 drawings_of Line d =
     PointsOf (record { coords = d.points; color = dots_color d.style })
@@ -99,27 +108,47 @@ drawings_of Bar d =
     ∷ BarsOf (record { coords = d.points; color = dots_color d.style })
     ∷ []
 
--- the canvas of a data set: over the bounds of the axes, in its marker, and over the chart's background
-pub record IsCanvasOf (ch : Chart) (d : Dataset) (c : Canvas) : Type 0 where
-  pub no_box : c.block ≡ None
-  pub left : c.left ≡ ch.x_axis.low
-  pub right : c.right ≡ ch.x_axis.high
-  pub bottom : c.bottom ≡ ch.y_axis.low
-  pub top : c.top ≡ ch.y_axis.high
-  pub background : c.background_color ≡ unwrap_or ch.style.bg Reset
-  pub marker : c.marker ≡ d.marker
-  pub drawn : c.drawings.now ≡ drawings_of d.graph_type d
-  pub unlabelled : c.labels.now ≡ []
+-- the bounds of the axes over the cells of the dots, in a data set's marker
+abbrev pub scale_of_data : Chart → Dataset → Rect → Scale
+scale_of_data ch d g = record {
+  left = ch.x_axis.low;
+  right = ch.x_axis.high;
+  bottom = ch.y_axis.low;
+  top = ch.y_axis.high;
+  columns = g.width;
+  rows = g.height;
+  marker = d.marker;
+}
 
--- a data set over the area of the dots, as a canvas shows it
-abbrev pub RendersDataset : Chart → Rect → Dataset → BufferData → BufferData → Type 0
-RendersDataset ch g d old new = (c : Canvas) × IsCanvasOf ch d c × RendersCanvas c g old new
+abbrev pub dots_of_data : Scale → Dataset → List Dot
+dots_of_data s d = flat_map (λ shape. drawn_dots shape s) (drawings_of d.graph_type d)
 
-abbrev pub RendersDatasets : Chart → Rect → List Dataset → BufferData → BufferData → Type 0
-RendersDatasets ch g [] old new = new ≡ old
-RendersDatasets ch g (d ∷ ds) old new = InTurn (RendersDataset ch g d) (RendersDatasets ch g ds) old new
+-- a cell in the chart's background, as a canvas lays it over its own style, and under a data set's dots
+abbrev pub in_background : Chart → Cell → Cell
+in_background ch c = styled (with_bg (unwrap_or ch.style.bg Reset) new_style) (styled new_style c)
 
--- the title of an axis over the dots, in the style that the chart's first cell had before
-abbrev pub RendersAxisTitle : Style → Option LineData → Rect → BufferData → BufferData → Type 0
-RendersAxisTitle style None r old new = new ≡ old
-RendersAxisTitle style (Some line) r old new = RendersTitle style (title_at line r) old new
+abbrev pub dotted_cell : Chart → Dataset → Rect → Position → Cell → Cell
+dotted_cell ch d g p c =
+    let s = scale_of_data ch d g in shown_at s g (with_dots s (dots_of_data s d) (empty_grid s)) p (in_background ch c)
+
+-- a data set over the area of the dots, for whose grid memory may be refused, and data sets, each over those
+-- before it
+abbrev pub dotted : Chart → Rect → Dataset → Drawing
+dotted ch g d = put_change (dotted_cell ch d g) (λ _ _. ⊥)
+
+abbrev pub all_dotted : Chart → Rect → List Dataset → Drawing
+all_dotted ch g [] = nothing
+all_dotted ch g (d ∷ ds) = dotted ch g d before all_dotted ch g ds
+
+-- the title of an axis, in the style that the chart's first cell had before, and where both of them stand
+-- over the dots: at the right of the last row, and at the left of the first one
+abbrev pub axis_title : Style → Option LineData → Drawing
+axis_title style None = nothing
+axis_title style (Some line) = put_style style before put_line line
+
+abbrev pub x_title : Style → Option LineData → Rect → Drawing
+x_title style title g =
+    over (Rows (g.height - 1) 1) (over (Last (title_columns title 0 g)) (axis_title style title))
+
+abbrev pub y_title : Style → Option LineData → Rect → Drawing
+y_title style title g = over (Rows 0 1) (over (First (title_columns title 1 g)) (axis_title style title))

@@ -4,4 +4,5 @@ pub mod ChartParts
 pub mod Legends
 pub mod NarrowCharts
 pub mod Plots
+pub mod ShortCharts
 pub mod Inner

@@ -1,7 +1,9 @@
 //! Axes.
 
-ghost use Rattle.std.specs.Prelude.{◌≡◌, Some, IfOk, slice_index_or, pos};
-ghost use Rattle.widget_chart.specs.Charts.{IsNewAxis, axis_labels};
+ghost use Rattle.std.specs.Prelude.{◌≡◌, ◌<◌, Some, IfOk, slice_index_or, pos, length, option_map};
+ghost use Rattle.widget_boxes.specs.Titles.{aligned};
+ghost use Rattle.widget_chart.specs.Charts.{IsNewAxis, axis_labels, other_side, side_of_label};
+ghost use Rattle.widget_chart.specs.Charts.{aligned_from, with_aligned};
 
 use ratatui_core::layout::HorizontalAlignment;
 use ratatui_core::style::Style;
@@ -118,6 +120,28 @@ impl<'a> Axis<'a> {
         })
     }
 
+    // The axis with labels that are aligned as they stand, below or at the left.
+    pub(crate) fn aligned(self, is_below: bool) -> Axis<'a>
+        ensures { result ≡ with_aligned is_below self.entry }
+    {
+        let Axis {
+            title,
+            low,
+            high,
+            labels,
+            labels_alignment,
+            style,
+        } = self;
+        Axis {
+            title,
+            low,
+            high,
+            labels: aligned_labels(is_below, labels_alignment, labels),
+            labels_alignment,
+            style,
+        }
+    }
+
     // Its labels.
     pub(crate) fn lines(&self) -> &[Line<'a>]
         ensures { result.now ≡ axis_labels self.now }
@@ -127,4 +151,68 @@ impl<'a> Axis<'a> {
             None => &[],
         }
     }
+}
+
+// How the first label below is aligned, whose axis aligns it so.
+fn other_side(alignment: HorizontalAlignment) -> HorizontalAlignment
+    ensures { result ≡ other_side alignment }
+{
+    match alignment {
+        HorizontalAlignment::Left => HorizontalAlignment::Right,
+        HorizontalAlignment::Center => HorizontalAlignment::Center,
+        HorizontalAlignment::Right => HorizontalAlignment::Left,
+    }
+}
+
+// How label i of n is aligned, below or at the left.
+fn side_of_label(
+    is_below: bool,
+    alignment: HorizontalAlignment,
+    n: usize,
+    i: usize,
+) -> HorizontalAlignment
+    requires { i < n }
+    ensures { result ≡ side_of_label is_below alignment n i }
+{
+    if !is_below {
+        alignment
+    } else if i == 0 {
+        other_side(alignment)
+    } else if i + 1 == n {
+        HorizontalAlignment::Right
+    } else {
+        HorizontalAlignment::Center
+    }
+}
+
+// Aligns a label.
+fn align(label: &mut Line<'_>, alignment: HorizontalAlignment)
+    ensures { label.new ≡ aligned alignment label.old }
+{
+    label.alignment = Some(alignment);
+}
+
+// Aligns labels, below or at the left.
+fn align_all(is_below: bool, alignment: HorizontalAlignment, labels: &mut [Line<'_>])
+    ensures { let n = length labels.old in
+        labels.new ≡ aligned_from is_below alignment n 0 labels.old }
+{
+    let n = labels.len();
+    for i in 0..n {
+        align(&mut labels[i], side_of_label(is_below, alignment, n, i));
+    }
+}
+
+// Labels that are aligned as they stand, below or at the left.
+fn aligned_labels(
+    is_below: bool,
+    alignment: HorizontalAlignment,
+    labels: Option<Lines<'_>>,
+) -> Option<Lines<'_>>
+    ensures { result
+        ≡ option_map (λ ls. aligned_from is_below alignment (length ls) 0 ls) labels.entry }
+{
+    let mut labels = labels?.into_vec();
+    align_all(is_below, alignment, labels.as_mut_slice());
+    Some(Lines::from(labels))
 }

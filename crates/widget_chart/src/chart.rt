@@ -1,20 +1,19 @@
 //! A chart.
 
-ghost use Rattle.std.specs.Prelude.{◌≡◌, Some, OnOk, IfOk, true};
-ghost use Rattle.ratatui_core.specs.Layout.{IsInside, corner};
-ghost use Rattle.ratatui_core.specs.Widgets.{ChangesWithin};
-ghost use Rattle.ratatui_core.specs.Buffer.{cell_in, style_of};
+ghost use Rattle.std.specs.Prelude.{◌≡◌, ◌<◌, Some, IfOk, true, false, map};
+ghost use Rattle.ratatui_core.specs.Layout.{IsInside};
+ghost use Rattle.rtui_drawing.specs.Drawings.{IsDone, IsPartOf};
 ghost use Rattle.widget_boxes.specs.Boxes.{IsBoxArea};
-ghost use Rattle.widget_chart.specs.Charts.{IsNewChart};
-ghost use Rattle.widget_chart.specs.ChartParts.{drawings_of, RendersDataset, RendersDatasets};
-ghost use Rattle.widget_chart.specs.Plots.{ShowsTitles, ShowsLegend, ShowsPlot};
-ghost use Rattle.widget_chart.specs.Inner.{AreParts};
+ghost use Rattle.widget_chart.specs.Charts.{IsNewChart, with_aligned, with_styled_name};
+ghost use Rattle.widget_chart.specs.ChartParts.{drawings_of, dotted, all_dotted};
+ghost use Rattle.widget_chart.specs.Inner.{IsCanvasOf};
+ghost use Rattle.widget_chart.specs.Plots.{legend_of, names_of, plot_of, plot_drawing, style_at_first};
 
 use crate::axis::Axis;
 use crate::dataset::{Dataset, GraphType};
-use crate::layout::{ChartLayout, layout};
-use crate::legend::{LegendPosition, legend_box, render_legend};
-use crate::parts::{render_axes, render_axis_title};
+use crate::layout::{margins_in, title_columns};
+use crate::legend::{LegendPosition, draw_legend_at, legend_box};
+use crate::parts::{draw_axes, put_x_title, put_y_title};
 use ratatui_core::buffer::Buffer;
 use ratatui_core::layout::{Constraint, Position, Rect};
 use ratatui_core::style::{Color, Style};
@@ -45,11 +44,12 @@ pub struct Chart<'a> {
 }
 
 impl<'a> Chart<'a> {
-    /// Makes a chart of these data sets, without a box, with axes that show nothing. Takes no
-    /// memory.
-    pub fn new(datasets: Vec<Dataset<'a>>) -> Chart<'a>
+    /// Makes a chart of these data sets, without a box, with axes that show nothing; the style of
+    /// each data set is laid over its name. Takes no memory.
+    pub fn new(mut datasets: Vec<Dataset<'a>>) -> Chart<'a>
         ensures { IsNewChart datasets.entry.items result }
     {
+        style_names(datasets.as_mut_slice());
         Chart {
             block: None,
             x_axis: Axis::new(),
@@ -77,22 +77,22 @@ impl<'a> Chart<'a> {
         self
     }
 
-    /// Sets the axis below.
+    /// Sets the axis below, and aligns its labels as they stand there.
     pub fn x_axis(self, axis: Axis<'a>) -> Chart<'a>
-        ensures { result ≡ record self.entry { x_axis = axis.entry } }
+        ensures { result ≡ record self.entry { x_axis = with_aligned true axis.entry } }
     {
         Chart {
-            x_axis: axis,
+            x_axis: axis.aligned(true),
             ..self
         }
     }
 
-    /// Sets the axis at the left.
+    /// Sets the axis at the left, and aligns its labels as they stand there.
     pub fn y_axis(self, axis: Axis<'a>) -> Chart<'a>
-        ensures { result ≡ record self.entry { y_axis = axis.entry } }
+        ensures { result ≡ record self.entry { y_axis = with_aligned false axis.entry } }
     {
         Chart {
-            y_axis: axis,
+            y_axis: axis.aligned(false),
             ..self
         }
     }
@@ -135,126 +135,154 @@ impl<'a> Chart<'a> {
         })
     }
 
-    // Shows what is drawn over the area of the dots.
-    fn render_drawings(
+    // The canvas of a data set of which this is drawn.
+    fn canvas<'b>(&self, dataset: &Dataset<'a>, drawings: &'b [Drawing<'b>]) -> Canvas<'b>
+        requires { drawings.now ≡ drawings_of dataset.now.graph_type dataset.now }
+        ensures { IsCanvasOf self.now dataset.now result }
+    {
+        Canvas::new()
+            .background_color(self.style.bg.unwrap_or(Color::Reset))
+            .x_bounds([self.x_axis.low, self.x_axis.high])
+            .y_bounds([self.y_axis.low, self.y_axis.high])
+            .marker(dataset.marker)
+            .paint(drawings)
+    }
+
+    // Puts the dots of what is drawn of a data set over their area.
+    fn put_dots(
         &self,
         dataset: &Dataset<'a>,
         drawings: &[Drawing<'a>],
         graph: Rect,
         buf: &mut Buffer,
     ) -> Result<(), AllocError>
-        requires { drawings.now ≡ drawings_of dataset.now.graph_type dataset.now }
-        ensures within { ChangesWithin graph buf.old buf.new }
-        ensures ok { OnOk result (RendersDataset self.now graph dataset.now buf.old buf.new) }
+        requires drawings { drawings.now ≡ drawings_of dataset.now.graph_type dataset.now }
+        requires some { IsBoxArea graph }
+        requires part { IsPartOf buf.old.area graph }
+        ensures { IsDone (dotted self.now graph dataset.now) graph result buf.old buf.new }
     {
-        let canvas = Canvas::new()
-            .background_color(self.style.bg.unwrap_or(Color::Reset))
-            .x_bounds([self.x_axis.low, self.x_axis.high])
-            .y_bounds([self.y_axis.low, self.y_axis.high])
-            .marker(dataset.marker)
-            .paint(drawings);
+        let canvas = self.canvas(dataset, drawings);
         (&canvas).render(graph, buf)
     }
 
-    // Renders a data set over the area of the dots.
-    fn render_dataset(
+    // Puts the dots of a data set over their area.
+    fn put_dataset(
         &self,
         dataset: &Dataset<'a>,
         graph: Rect,
         buf: &mut Buffer,
     ) -> Result<(), AllocError>
-        ensures within { ChangesWithin graph buf.old buf.new }
-        ensures ok { OnOk result (RendersDataset self.now graph dataset.now buf.old buf.new) }
+        requires some { IsBoxArea graph }
+        requires part { IsPartOf buf.old.area graph }
+        ensures { IsDone (dotted self.now graph dataset.now) graph result buf.old buf.new }
     {
         let color = dataset.style.fg.unwrap_or(Color::Reset);
         let coords = dataset.points;
         let points = Drawing::Points(Points { coords, color });
         match dataset.graph_type {
-            GraphType::Scatter => self.render_drawings(dataset, &[points], graph, buf),
+            GraphType::Scatter => self.put_dots(dataset, &[points], graph, buf),
             GraphType::Line => {
                 let path = Drawing::Path(Path { coords, color });
-                self.render_drawings(dataset, &[points, path], graph, buf)
+                self.put_dots(dataset, &[points, path], graph, buf)
             }
             GraphType::Bar => {
                 let bars = Drawing::Bars(Bars { coords, color });
-                self.render_drawings(dataset, &[points, bars], graph, buf)
+                self.put_dots(dataset, &[points, bars], graph, buf)
             }
         }
     }
 
-    // Renders the data sets, each over those before it.
-    fn render_datasets(&self, graph: Rect, buf: &mut Buffer) -> Result<(), AllocError>
-        ensures within { ChangesWithin graph buf.old buf.new }
-        ensures ok { let ds = self.now.datasets.items in
-            OnOk result (RendersDatasets self.now graph ds buf.old buf.new) }
+    // Puts the dots of all data sets over their area, each over those before it.
+    fn put_datasets(&self, graph: Rect, buf: &mut Buffer) -> Result<(), AllocError>
+        requires some { IsBoxArea graph }
+        requires part { IsPartOf buf.old.area graph }
+        ensures { let d = all_dotted self.now graph self.now.datasets.items in
+            IsDone d graph result buf.old buf.new }
     {
         for dataset in self.datasets.as_slice() {
-            self.render_dataset(dataset, graph, buf)?;
+            self.put_dataset(dataset, graph, buf)?;
         }
         Ok(())
     }
 
-    // Renders the titles of the axes over a style.
-    fn render_titles(
-        &self,
-        style: Style,
-        parts: &ChartLayout,
-        area: Rect,
-        buf: &mut Buffer,
-    ) -> Result<(), AllocError>
-        requires { AreParts parts.now area }
-        ensures within { ChangesWithin area buf.old buf.new }
-        ensures ok { OnOk result (ShowsTitles self.now style parts.now buf.old buf.new) }
+    // Draws the legend over the dots, if there is room for it.
+    #[tactic(auto, using(crate::proofs::PlotLemmas::chart_steps))]
+    fn draw_legend(&self, style: Style, graph: Rect, buf: &mut Buffer) -> Result<(), AllocError>
+        ensures { let d = legend_of self.now style graph in
+            IsDone d graph result buf.old buf.new }
     {
-        render_axis_title(&self.x_axis.title, style, parts.x_title, buf)?;
-        render_axis_title(&self.y_axis.title, style, parts.y_title, buf)
-    }
-
-    // Renders the legend over a style, if there is room for it.
-    fn render_names(
-        &self,
-        style: Style,
-        parts: &ChartLayout,
-        area: Rect,
-        buf: &mut Buffer,
-    ) -> Result<(), AllocError>
-        requires { AreParts parts.now area }
-        ensures within { ChangesWithin area buf.old buf.new }
-        ensures ok { OnOk result (ShowsLegend self.now style parts.now buf.old buf.new) }
-    {
-        let place = self.legend_position;
-        let constraints = self.hidden_legend_constraints;
-        let titles = (parts.x_title.width, parts.y_title.width);
+        let x = title_columns(&self.x_axis.title, 0, graph);
+        let y = title_columns(&self.y_axis.title, 1, graph);
+        let (place, most) = (self.legend_position, self.hidden_legend_constraints);
         let datasets = self.datasets.as_slice();
-        let area = legend_box(place, constraints, datasets, titles, parts.graph);
-        render_legend(datasets, style, area, buf)
+        let at = legend_box(place, most, datasets, (x, y), graph);
+        draw_legend_at(datasets, style, at, graph, buf)
     }
 
-    // Shows what is inside the box.
-    fn render_plot(&self, inner: Rect, buf: &mut Buffer) -> Result<(), AllocError>
+    // Draws the titles of the axes over the dots, and over them the legend.
+    #[tactic(auto, using(crate::proofs::PlotLemmas::chart_steps))]
+    fn draw_names(&self, style: Style, graph: Rect, buf: &mut Buffer) -> Result<(), AllocError>
+        ensures { let d = names_of self.now style graph in
+            IsDone d graph result buf.old buf.new }
+    {
+        put_x_title(&self.x_axis.title, style, graph, buf)?;
+        put_y_title(&self.y_axis.title, style, graph, buf)?;
+        self.draw_legend(style, graph, buf)
+    }
+
+    // Draws the data sets, and the names over them.
+    #[tactic(auto, using(crate::proofs::PlotLemmas::chart_steps))]
+    fn draw_plot(&self, style: Style, graph: Rect, buf: &mut Buffer) -> Result<(), AllocError>
+        requires some { IsBoxArea graph }
+        requires part { IsPartOf buf.old.area graph }
+        ensures { let d = plot_of self.now style graph in
+            IsDone d graph result buf.old buf.new }
+    {
+        self.put_datasets(graph, buf)?;
+        self.draw_names(style, graph, buf)
+    }
+
+    // Draws what is inside the box, the names over a style.
+    #[tactic(auto, using(crate::proofs::PlotLemmas::chart_steps))]
+    fn draw(&self, style: Style, inner: Rect, buf: &mut Buffer) -> Result<(), AllocError>
         requires some { IsBoxArea inner }
         requires inside { IsInside inner buf.old.area }
-        ensures within { ChangesWithin inner buf.old buf.new }
-        ensures ok { OnOk result (ShowsPlot self.now inner buf.old buf.new) }
+        ensures { let d = plot_drawing self.now style inner in
+            IsDone d inner result buf.old buf.new }
     {
-        let style = first_style(inner, buf);
-        let parts = layout(&self.x_axis, &self.y_axis, inner);
-        render_axes(&self.x_axis, &self.y_axis, &parts, inner, buf)?;
-        self.render_datasets(parts.graph, buf)?;
-        self.render_titles(style, &parts, inner, buf)?;
-        self.render_names(style, &parts, inner, buf)
+        let margins = margins_in(&self.x_axis, &self.y_axis, inner);
+        draw_axes(&self.x_axis, &self.y_axis, margins, inner, buf)?;
+        self.draw_plot(style, margins.graph(inner), buf)
     }
 }
 
 // The style of the first cell of an area.
-fn first_style(area: Rect, buf: &Buffer) -> Style
+fn style_at_first(area: Rect, buf: &Buffer) -> Style
     requires some { IsBoxArea area }
     requires inside { IsInside area buf.now.area }
-    ensures { result ≡ style_of (cell_in buf.now (corner area)) }
+    ensures { result ≡ style_at_first area buf.now }
 {
     match buf.cell(Position::new(area.x, area.y)) {
         Some(cell) => cell.style(),
         None => Style::new(),
+    }
+}
+
+// Lays the style of a data set over its name.
+fn style_name(dataset: &mut Dataset<'_>)
+    ensures { dataset.new ≡ with_styled_name dataset.old }
+{
+    if let Some(name) = &mut dataset.name {
+        name.style = name.style.patch(dataset.style);
+    }
+}
+
+// Lays the style of each data set over its name.
+fn style_names(datasets: &mut [Dataset<'_>])
+    ensures { datasets.new ≡ map with_styled_name datasets.old }
+{
+    for i in 0..datasets.len() {
+        style_name(&mut datasets[i]);
     }
 }
 
@@ -273,25 +301,35 @@ fn cloned_datasets<'a>(
 }
 
 /// Over the area, as far as the buffer has it: the style, the box, and inside the labels, the axes,
-/// the dots of each data set and the titles. It takes memory for a grid of the cells of the dots,
-/// and for labels while they are rendered.
+/// the dots of each data set, the titles and the legend. It takes memory for a grid of the cells of
+/// the dots for each data set, and none for texts that are short.
 impl<'b, 'a> Widget for &'b Chart<'a> {
-    ghost use Rattle.widget_chart.specs.Plots.{RendersChart};
+    ghost use Rattle.widget_chart.specs.Plots.{RendersChart, LeavesChart};
+    ghost use Rattle.widget_chart.specs.ShortCharts.{IsShortChart};
 
     ghost renders = { λ chart. RendersChart chart.now };
+
+    ghost leaves = { λ chart. LeavesChart chart.now };
+
+    ghost is_short = { λ chart _. IsShortChart chart.now };
 
     fn render(self, area: Rect, buf: &mut Buffer) -> Result<(), AllocError> {
         let Some(inner) = render_frame(self.style, &self.block, area, buf)? else {
             return Ok(());
         };
-        self.render_plot(inner, buf)
+        self.draw(style_at_first(inner, buf), inner, buf)
     }
 }
 
 impl<'a> Widget for Chart<'a> {
-    ghost use Rattle.widget_chart.specs.Plots.{RendersChart};
+    ghost use Rattle.widget_chart.specs.Plots.{RendersChart, LeavesChart};
+    ghost use Rattle.widget_chart.specs.ShortCharts.{IsShortChart};
 
     ghost renders = { RendersChart };
+
+    ghost leaves = { LeavesChart };
+
+    ghost is_short = { λ chart _. IsShortChart chart };
 
     fn render(self, area: Rect, buf: &mut Buffer) -> Result<(), AllocError> {
         (&self).render(area, buf)

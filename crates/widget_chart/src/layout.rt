@@ -1,28 +1,33 @@
-//! Where the parts of a chart stand.
+//! How many columns and rows the parts of a chart take.
 
-ghost use Rattle.std.specs.Prelude.{◌≡◌, ◌≤◌, ◌<◌, ◌+◌, ◌-◌, ◌*◌};
+ghost use Rattle.std.specs.Prelude.{◌≡◌, ◌≤◌, ◌<◌, ◌+◌, ◌*◌};
 ghost use Rattle.widget_boxes.specs.Titles.{title_width};
-ghost use Rattle.widget_boxes.specs.Boxes.{IsBoxArea};
 ghost use Rattle.widget_chart.specs.ChartLayouts.{is_labelled, widest_line, first_width, left_of_axis};
 ghost use Rattle.widget_chart.specs.ChartLayouts.{columns_beside, axis_columns, axis_rows, label_rows};
-ghost use Rattle.widget_chart.specs.ChartLayouts.{x_title_area, y_title_area, title_columns, chart_layout};
-ghost use Rattle.widget_chart.specs.Inner.{AreParts};
+ghost use Rattle.widget_chart.specs.ChartLayouts.{margins_of, graph_in, title_columns};
 
 use crate::axis::Axis;
 use ratatui_core::layout::{HorizontalAlignment, Rect};
 use ratatui_core::text::Line;
+use rtui_drawing::Cut;
 
-// The areas of a chart's parts; what isn't shown has none.
+// What a chart has around its dots: the columns of the axis at the left, all columns there, the rows
+// of the axis below, and all rows there.
 #[derive(Debug, Clone, Copy)]
-pub(crate) struct ChartLayout {
-    pub(crate) graph: Rect,
-    pub(crate) x_labels: Rect,
-    pub(crate) y_labels: Rect,
-    pub(crate) x_axis: Rect,
-    pub(crate) y_axis: Rect,
-    pub(crate) corner: Rect,
-    pub(crate) x_title: Rect,
-    pub(crate) y_title: Rect,
+pub(crate) struct Margins {
+    pub(crate) columns: u16,
+    pub(crate) left: u16,
+    pub(crate) rows: u16,
+    pub(crate) below: u16,
+}
+
+impl Margins {
+    // The area of the dots.
+    pub(crate) fn graph(self, area: Rect) -> Rect
+        ensures { result ≡ graph_in self area }
+    {
+        Cut::Above(self.below).of(Cut::After(self.left).of(area))
+    }
 }
 
 // How many columns a line takes, at most 65535.
@@ -76,9 +81,8 @@ fn columns_beside(x: &Axis<'_>, y: &Axis<'_>, width: u16) -> u16
 }
 
 // The columns of a title over the dots, if there is room for it and some columns more.
-fn title_columns(title: &Option<Line<'_>>, over: u16, graph: Rect) -> u16
-    ensures value { result ≡ title_columns title.now over graph }
-    ensures within { result ≤ graph.width }
+pub(crate) fn title_columns(title: &Option<Line<'_>>, over: u16, graph: Rect) -> u16
+    ensures { result ≡ title_columns title.now over graph }
 {
     match title {
         Some(line) => {
@@ -137,98 +141,19 @@ impl<'a> Axis<'a> {
     }
 }
 
-// An area without so many columns at its left and so many rows below.
-fn graph_in(area: Rect, before: u16, below: u16) -> Rect
-    requires some { IsBoxArea area }
-    requires across { before < area.width }
-    requires down { below < area.height }
-    ensures { let x = area.x + before in let width = area.width - before in
-        result ≡ record { x = x; y = area.y; width = width; height = area.height - below } }
+// What a chart has around its dots in an area.
+pub(crate) fn margins_in(x: &Axis<'_>, y: &Axis<'_>, area: Rect) -> Margins
+    ensures value { result ≡ margins_of x.now y.now area }
+    ensures across { 0 < area.width → result.left < area.width }
+    ensures down { 0 < area.height → result.below < area.height }
 {
-    Rect {
-        x: area.x + before,
-        y: area.y,
-        width: area.width - before,
-        height: area.height - below,
-    }
-}
-
-// The row of a title at the right of the dots, over their last row.
-fn x_title_area(title: &Option<Line<'_>>, graph: Rect) -> Rect
-    requires { IsBoxArea graph }
-    ensures { result ≡ x_title_area title.now graph }
-{
-    let width = title_columns(title, 0, graph);
-    Rect {
-        x: graph.x + (graph.width - width),
-        y: graph.y + (graph.height - 1),
-        width,
-        height: 1,
-    }
-}
-
-// The row of a title at the left of the dots, over their first row.
-fn y_title_area(title: &Option<Line<'_>>, graph: Rect) -> Rect
-    requires { IsBoxArea graph }
-    ensures { result ≡ y_title_area title.now graph }
-{
-    Rect {
-        width: title_columns(title, 1, graph),
-        height: 1,
-        ..graph
-    }
-}
-
-// What an area has at the left of the dots and their axis.
-fn left_of_graph(area: Rect, graph: Rect) -> Rect
-    requires { area.x ≤ graph.x }
-    ensures { let width = graph.x - area.x - 1 in
-        result ≡ record { x = area.x; y = graph.y; width = width; height = graph.height } }
-{
-    Rect {
-        x: area.x,
-        width: (graph.x - area.x).saturating_sub(1),
-        ..graph
-    }
-}
-
-// Where the parts of a chart stand.
-pub(crate) fn layout(x: &Axis<'_>, y: &Axis<'_>, area: Rect) -> ChartLayout
-    requires { IsBoxArea area }
-    ensures value { result ≡ chart_layout x.now y.now area }
-    ensures parts { AreParts result area }
-{
-    let left = columns_beside(x, y, area.width);
-    let columns = y.axis_columns(left, area.width);
+    let labels = columns_beside(x, y, area.width);
+    let columns = y.axis_columns(labels, area.width);
     let rows = x.axis_rows(area.height);
-    let labels = x.label_rows(area.height);
-    let graph = graph_in(area, left + columns, rows + labels);
-    let below = Rect {
-        y: graph.y + graph.height,
-        height: rows,
-        ..graph
-    };
-    let before = Rect {
-        x: graph.x - columns,
-        width: columns,
-        ..graph
-    };
-    ChartLayout {
-        graph,
-        x_labels: Rect {
-            y: below.y + rows,
-            height: labels,
-            ..area
-        },
-        y_labels: left_of_graph(area, graph),
-        x_axis: below,
-        y_axis: before,
-        corner: Rect {
-            x: before.x,
-            width: columns,
-            ..below
-        },
-        x_title: x_title_area(&x.title, graph),
-        y_title: y_title_area(&y.title, graph),
+    Margins {
+        columns,
+        left: labels + columns,
+        rows,
+        below: rows + x.label_rows(area.height),
     }
 }

@@ -1,27 +1,25 @@
 //! The legend of a chart.
 
-ghost use Rattle.std.specs.Prelude.{◌≡◌, ◌≤◌, ◌<◌, ◌+◌, ◌*◌, ◌/◌, min, length, OnOk, IfOk};
-ghost use Rattle.ratatui_core.specs.Widgets.{ChangesWithin, RendersLine};
-ghost use Rattle.ratatui_core.specs.Layout.{IsInside};
-ghost use Rattle.ratatui_core.specs.Style.{patch};
-ghost use Rattle.widget_boxes.specs.Boxes.{IsBoxArea};
+ghost use Rattle.std.specs.Prelude.{◌≡◌, ◌≤◌, ◌<◌, ◌+◌, ◌*◌, ◌/◌, min, length, [], IfOk};
+ghost use Rattle.ratatui_core.specs.Style.{new_style};
+ghost use Rattle.rtui_drawing.specs.Drawings.{IsDone};
+ghost use Rattle.widget_chart.specs.ChartParts.{ruled};
 ghost use Rattle.widget_chart.specs.ChartLayouts.{widest_line};
-ghost use Rattle.widget_chart.specs.ChartParts.{RendersNumbered};
-ghost use Rattle.widget_chart.specs.Legends.{legend_names, room_in};
-ghost use Rattle.widget_chart.specs.Inner.{name_columns, name_count};
-ghost use Rattle.widget_chart.specs.Legends.{legend_fits, legend_column, legend_row, one_row_if, legend_box};
-ghost use Rattle.widget_chart.specs.Legends.{name_at, RendersLegendIn, RendersLegend};
-ghost use Rattle.widget_chart.specs.Inner.{HasLegendRoom, RendersNext};
+ghost use Rattle.widget_chart.specs.Legends.{legend_names, room_in, legend_fits, legend_column, legend_row};
+ghost use Rattle.widget_chart.specs.Legends.{one_row_if, legend_box, name_if, below_name, names, box_row, box_of};
+ghost use Rattle.widget_chart.specs.Legends.{legend_in, legend_at};
+ghost use Rattle.widget_chart.specs.Inner.{name_columns, name_count, HasLegendRoom};
 
 use crate::dataset::Dataset;
 use crate::layout::columns_of;
+use crate::parts::rule;
 use ratatui_core::buffer::Buffer;
 use ratatui_core::layout::{Constraint, Rect};
 use ratatui_core::style::Style;
+use ratatui_core::symbols::line;
 use ratatui_core::text::Line;
-use ratatui_core::widgets::Widget;
+use rtui_drawing::{Cut, put_line, put_style};
 use std::alloc::AllocError;
-use widget_boxes::Block;
 
 /// Where the legend of a chart stands over the dots. It gives way by a row to a title that it would
 /// cover.
@@ -86,23 +84,21 @@ fn one_row_if(test: bool) -> u16
 }
 
 impl LegendPosition {
-    // The first column of a legend of so many.
+    // How far from the left a legend of so many columns begins.
     fn column(self, columns: u16, graph: Rect) -> u16
-        requires across { graph.x + graph.width ≤ 65535 }
-        requires within { columns ≤ graph.width }
-        ensures { result ≡ legend_column self columns graph }
+        requires { columns ≤ graph.width }
+        ensures { result ≡ legend_column self columns graph.width }
     {
         let left = graph.width - columns;
         match self {
-            LegendPosition::TopLeft | LegendPosition::Left | LegendPosition::BottomLeft => graph.x,
-            LegendPosition::Top | LegendPosition::Bottom => graph.x + left / 2,
-            _ => graph.x + left,
+            LegendPosition::TopLeft | LegendPosition::Left | LegendPosition::BottomLeft => 0,
+            LegendPosition::Top | LegendPosition::Bottom => left / 2,
+            _ => left,
         }
     }
 
-    // The first row of a legend.
+    // How far from the top a legend begins.
     fn row(self, size: LegendSize, graph: Rect) -> u16
-        requires down { graph.y + graph.height ≤ 65535 }
         requires within { size.columns ≤ graph.width }
         requires rows { HasLegendRoom size graph }
         ensures { result ≡ legend_row self size.columns size.rows graph size.x_title size.y_title }
@@ -110,9 +106,9 @@ impl LegendPosition {
         let left = graph.height - size.rows;
         let (above, below) = (size.y_title.min(1), size.x_title.min(1));
         let middle = (graph.width - size.columns) / 2;
-        let row = match self {
+        match self {
             LegendPosition::TopLeft => above,
-            LegendPosition::TopRight => { one_row_if(graph.width - size.columns < size.y_title) }
+            LegendPosition::TopRight => one_row_if(graph.width - size.columns < size.y_title),
             LegendPosition::Top => one_row_if(middle < size.y_title),
             LegendPosition::Left | LegendPosition::Right => (left / 2 + above).saturating_sub(
                 below,
@@ -125,8 +121,7 @@ impl LegendPosition {
                 let shown = graph.width.saturating_sub(size.x_title);
                 left.saturating_sub(one_row_if(shown < middle + size.columns))
             }
-        };
-        graph.y + row
+        }
     }
 }
 
@@ -189,7 +184,8 @@ fn legend_fits(
         && size.1.saturating_add(beside) <= u64::from(graph.height)
 }
 
-// The box of the legend around the names of data sets, without columns if there is none.
+// The box of the legend around the names of data sets, counted from the corner of the dots' area,
+// without columns if there is none.
 pub(crate) fn legend_box(
     position: Option<LegendPosition>,
     constraints: (Constraint, Constraint),
@@ -197,27 +193,17 @@ pub(crate) fn legend_box(
     titles: (u16, u16),
     graph: Rect,
 ) -> Rect
-    requires { IsBoxArea graph }
-    ensures value { let names = legend_names datasets.now in
+    ensures { let names = legend_names datasets.now in
         result ≡ legend_box position constraints.0 constraints.1 names graph titles.0 titles.1 }
-    ensures inside { IsInside result graph }
-    ensures room { 0 < result.width → 2 < result.width }
-    ensures rows { 0 < result.width → result.height ≡ length (legend_names datasets.now) + 2 }
-    ensures fits { (result.x + result.width ≤ 65535) × (result.y + result.height ≤ 65535) }
 {
-    let nothing = Rect {
-        width: 0,
-        height: 0,
-        ..graph
-    };
     let Some(position) = position else {
-        return nothing;
+        return Rect::default();
     };
     let columns = u32::from(widest_name(datasets)) + 2;
     let rows = (count_names(datasets) as u64).saturating_add(2);
     let (across, down) = constraints;
     if !(2 < columns && legend_fits(across, down, (columns, rows), titles, graph)) {
-        return nothing;
+        return Rect::default();
     }
     let size = LegendSize {
         columns: columns as u16,
@@ -233,96 +219,104 @@ pub(crate) fn legend_box(
     }
 }
 
-// Renders a name over a row, in the style of its data set.
-fn render_name(name: &Line<'_>, style: Style, row: Rect, buf: &mut Buffer) -> Result<(), AllocError>
-    ensures within { ChangesWithin row buf.old buf.new }
-    ensures ok { let line = record name.now { style = patch name.now.style style } in
-        OnOk result (RendersLine line row buf.old buf.new) }
+// Puts a name in the first row of an area, if there is one, and answers what is left of the area.
+#[tactic(auto, using(crate::proofs::PlotLemmas::chart_steps))]
+fn put_name(name: &Option<Line<'_>>, area: Rect, buf: &mut Buffer) -> Result<Rect, AllocError>
+    ensures done { IsDone (name_if name.now) area result buf.old buf.new }
+    ensures rest { IfOk result (λ rest. rest ≡ below_name name.now area) }
 {
-    let line = name.clone(buf.allocator())?.patch_style(style);
-    line.render(row, buf)
+    let Some(line) = name else {
+        return Ok(area);
+    };
+    put_line(line, Cut::Rows(0, 1).of(area), buf)?;
+    Ok(Cut::Below(1).of(area))
 }
 
-// Renders what is next in the box, if it is a name, and answers how many names there are by then.
-fn render_next(
-    dataset: &Dataset<'_>,
-    i: u16,
-    area: Rect,
-    buf: &mut Buffer,
-) -> Result<u16, AllocError>
-    requires fits { (area.x + area.width ≤ 65535) × (area.y + area.height ≤ 65535) }
-    requires columns { 2 < area.width }
-    requires room { i + name_count dataset.now.name + 2 ≤ area.height }
-    ensures within { ChangesWithin area buf.old buf.new }
-    ensures next { IfOk result (λ n. n ≡ i + name_count dataset.now.name) }
-    ensures ok { let n = i + name_count dataset.now.name in
-        OnOk result (RendersNext area dataset.now i n buf.old buf.new) }
+// Puts the names of data sets in an area, one in each row.
+fn put_names(datasets: &[Dataset<'_>], area: Rect, buf: &mut Buffer) -> Result<(), AllocError>
+    ensures { IsDone (names datasets.now) area result buf.old buf.new }
 {
-    let Some(name) = &dataset.name else {
-        return Ok(i);
-    };
-    let row = Rect {
-        x: area.x + 1,
-        y: area.y + 1 + i,
-        width: area.width - 2,
-        height: 1,
-    };
-    render_name(name, dataset.style, row, buf)?;
-    Ok(i + 1)
-}
-
-// Renders the names in the box, one in each row.
-fn render_names(datasets: &[Dataset<'_>], area: Rect, buf: &mut Buffer) -> Result<(), AllocError>
-    requires fits { (area.x + area.width ≤ 65535) × (area.y + area.height ≤ 65535) }
-    requires columns { 2 < area.width }
-    requires rows { area.height ≡ length (legend_names datasets.now) + 2 }
-    ensures within { ChangesWithin area buf.old buf.new }
-    ensures ok { let names = legend_names datasets.now in
-        OnOk result (RendersNumbered (name_at area) 0 names buf.old buf.new) }
-{
-    let mut i = 0;
+    let mut left = area;
     for dataset in datasets {
-        i = render_next(dataset, i, area, buf)?;
+        left = put_name(&dataset.name, left, buf)?;
     }
     Ok(())
 }
 
-// Renders a legend over an area: a style, a box with borders, and the names.
-fn render_box(
-    datasets: &[Dataset<'_>],
-    style: Style,
-    area: Rect,
-    buf: &mut Buffer,
-) -> Result<(), AllocError>
-    requires columns { 2 < area.width }
-    requires rows { area.height ≡ length (legend_names datasets.now) + 2 }
-    requires fits { (area.x + area.width ≤ 65535) × (area.y + area.height ≤ 65535) }
-    ensures within { ChangesWithin area buf.old buf.new }
-    ensures ok { let names = legend_names datasets.now in
-        OnOk result (RendersLegendIn style names area buf.old buf.new) }
+// Rules an area of a box: this symbol in each cell.
+fn rule_plain(symbol: &'static str, area: Rect, buf: &mut Buffer) -> Result<(), AllocError>
+    ensures { IsDone (ruled new_style symbol.now) area result buf.old buf.new }
 {
-    buf.set_style(area, style);
-    let block = Block::bordered(buf.allocator());
-    (&block).render(area, buf)?;
-    render_names(datasets, area, buf)
+    rule(symbol, Style::new(), area, buf)
 }
 
-// Renders a legend over an area, if it has columns.
-pub(crate) fn render_legend(
+// Puts a row of a box over an area: a line between these corners.
+#[tactic(auto, using(crate::proofs::PlotLemmas::chart_steps))]
+fn put_box_row(
+    left: &'static str,
+    right: &'static str,
+    row: Rect,
+    buf: &mut Buffer,
+) -> Result<(), AllocError>
+    ensures { IsDone (box_row left.now right.now) row result buf.old buf.new }
+{
+    rule_plain(line::HORIZONTAL, row, buf)?;
+    rule_plain(left, Cut::First(1).of(row), buf)?;
+    rule_plain(right, Cut::Last(1).of(row), buf)
+}
+
+// Puts a box over an area.
+#[tactic(auto, using(crate::proofs::PlotLemmas::chart_steps))]
+fn put_box(area: Rect, buf: &mut Buffer) -> Result<(), AllocError>
+    ensures { IsDone (box_of area) area result buf.old buf.new }
+{
+    let last = area.height.saturating_sub(1);
+    rule_plain(line::VERTICAL, Cut::First(1).of(area), buf)?;
+    rule_plain(line::VERTICAL, Cut::Last(1).of(area), buf)?;
+    put_box_row(
+        line::TOP_LEFT,
+        line::TOP_RIGHT,
+        Cut::Rows(0, 1).of(area),
+        buf,
+    )?;
+    put_box_row(
+        line::BOTTOM_LEFT,
+        line::BOTTOM_RIGHT,
+        Cut::Rows(last, 1).of(area),
+        buf,
+    )
+}
+
+// Draws a legend over an area: a style, a box, and the names.
+#[tactic(auto, using(crate::proofs::PlotLemmas::chart_steps))]
+fn draw_legend_in(
     datasets: &[Dataset<'_>],
     style: Style,
     area: Rect,
     buf: &mut Buffer,
 ) -> Result<(), AllocError>
-    requires columns { 0 < area.width → 2 < area.width }
-    requires rows { 0 < area.width → area.height ≡ length (legend_names datasets.now) + 2 }
-    requires fits { (area.x + area.width ≤ 65535) × (area.y + area.height ≤ 65535) }
-    ensures within { ChangesWithin area buf.old buf.new }
-    ensures ok { let names = legend_names datasets.now in
-        OnOk result (RendersLegend style names area buf.old buf.new) }
+    ensures { IsDone (legend_in style datasets.now area) area result buf.old buf.new }
 {
-    if area.width == 0 {
+    put_style(style, area, buf);
+    put_box(area, buf)?;
+    let inside = Cut::BeforeLast(1).of(Cut::After(1).of(Cut::Below(1).of(area)));
+    put_names(datasets, inside, buf)
+}
+
+// Draws a legend in a box that is counted from an area's corner, if the box has columns.
+#[tactic(auto, using(crate::proofs::PlotLemmas::chart_steps))]
+pub(crate) fn draw_legend_at(
+    datasets: &[Dataset<'_>],
+    style: Style,
+    at: Rect,
+    area: Rect,
+    buf: &mut Buffer,
+) -> Result<(), AllocError>
+    ensures { IsDone (legend_at style datasets.now at area) area result buf.old buf.new }
+{
+    if at.width == 0 {
         return Ok(());
     }
-    render_box(datasets, style, area, buf)
+    let columns = Cut::First(at.width).of(Cut::After(at.x).of(area));
+    draw_legend_in(datasets, style, Cut::Rows(at.y, at.height).of(columns), buf)
 }

@@ -1,9 +1,10 @@
 //! A chart: the points of data sets by dots, in whole numbers, between two axes.
 //!
-//! It stands on `ratatui_core`, `widget_boxes` and `widget_canvas`, which shows the dots.
-//! `specs/ChartLayouts` says where the parts of a chart stand, `specs/ChartParts` what they make of
-//! a buffer, `specs/Legends` the same of the legend, `specs/Plots` what a whole chart makes of one,
-//! and `specs/NarrowCharts` which charts have texts and marks of one column.
+//! It stands on `ratatui_core`, `widget_boxes`, `rtui_drawing` and `widget_canvas`, which shows the
+//! dots. `specs/ChartLayouts` says how many columns and rows the parts of a chart take,
+//! `specs/ChartParts` what they draw, `specs/Legends` the same of the legend, `specs/Plots` what a
+//! whole chart draws, `specs/NarrowCharts` which charts have texts and marks of one column, and
+//! `specs/ShortCharts` which take no memory.
 #![tactic(auto)]
 
 mod axis;

@@ -9,7 +9,7 @@ loop-dataset-preserved c =
     let k = c.loop-dataset.dataset-index in
     let d = c.dataset-item.result in
     let item = element-next c.args.datasets.now k d (omega arith) c.dataset-item.is in
-    let more = name-widest d.name d.style (legend_names (drop (k + 1) c.args.datasets.now)) in
+    let more = name-widest d.name (legend_names (drop (k + 1) c.args.datasets.now)) in
     let was = rw (item, more) at c.loop-dataset.invariant in
     let own = c.name_columns.ensures in
     omega arith
