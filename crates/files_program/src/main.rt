@@ -15,7 +15,7 @@ use ratatui_acts::Seat;
 use ratatui_ansi::{AnsiBackend, size_told};
 use ratatui_app::run_and_leave;
 use ratatui_core::layout::Size;
-use ratatui_files::{Answer, Command, Failure, OnDisk, Path, Performs, Text};
+use ratatui_files::{Failure, OnDisk, Path, Text};
 use std::alloc::Global;
 use std::io::BufWriter;
 use std::process::ExitCode;
@@ -47,12 +47,10 @@ fn title(folder: &str) -> &str {
     folder.trim_end_matches('/')
 }
 
-// Whether a folder can be listed.
-fn look<P: Performs>(alloc: Global, files: &mut P) -> anyhow::Result<()> {
-    match files.perform(&Command::List(Path::root(alloc))) {
-        Answer::Failed(failure) => Err(failure.into()),
-        _ => Ok(()),
-    }
+// Fails where a folder can't be listed.
+fn look(rt: &HostRuntime, folder: &str) -> anyhow::Result<()> {
+    let _opened = fs::read_dir(rt, folder)?;
+    Ok(())
 }
 
 // The path, from the root on, of a place that the system has.
@@ -124,7 +122,7 @@ fn browser(rt: &HostRuntime, wanted: &Wanted, size: Size) -> anyhow::Result<Brow
 // Shows a folder, until `q`.
 fn show(rt: &HostRuntime, wanted: &Wanted) -> anyhow::Result<()> {
     let alloc = rt.alloc();
-    look(alloc, &mut OnDisk::new(rt, wanted.folder.as_str()))?;
+    look(rt, wanted.folder.as_str())?;
     let size = size_told(rt);
     let browser = browser(rt, wanted, size)?;
     let writer = BufWriter::new(alloc, rt.stdout())?;
