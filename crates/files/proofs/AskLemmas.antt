@@ -15,8 +15,9 @@ use Rattle.files.specs.declared.browser.Browser.{Browser}
 use Rattle.files.specs.declared.browser.Mode.{Mode}
 use Rattle.files.specs.declared.browser.Mode.TheVariants.{Looking, Listing, Entering, Leaving, Trashing, Removing}
 use Rattle.files.specs.declared.browser.Mode.TheVariants.{Renaming, Making, Over, Pasting, Sorting, Seeking}
+use Rattle.files.specs.declared.browser.Mode.TheVariants.{Returning, Undoing, Helping, Chosen}
 use Rattle.files.specs.declared.browser.Note.{Note}
-use Rattle.files.specs.declared.browser.Note.TheVariants.{Place, Failed, Narrow, NoTrash, Missing, Noted, NothingNoted}
+use Rattle.files.specs.declared.browser.Note.TheVariants.{Place, Failed, Narrow, NoTrash, Missing, Noted, NothingNoted, NothingMoved}
 use Rattle.files.specs.declared.list.Outcome.{Outcome}
 use Rattle.files.specs.Keys.{is_input}
 use Rattle.files.specs.Texts.{subject, note_told, failure_text, status_in}
@@ -50,6 +51,10 @@ subject-sized Pasting size b = refl
 subject-sized Sorting size b = refl
 subject-sized Seeking size b = refl
 subject-sized Over size b = refl
+subject-sized Returning size b = refl
+subject-sized Undoing size b = refl
+subject-sized Helping size b = refl
+subject-sized Chosen size b = refl
 
 note-sized : (n : Note) (size : ℕ × ℕ) (b : Browser) → note_told n (browser_at_told_size (Some size) b) ≡ note_told n b
 note-sized Place size b = refl
@@ -59,6 +64,7 @@ note-sized NoTrash size b = refl
 note-sized Missing size b = refl
 note-sized Noted size b = refl
 note-sized NothingNoted size b = refl
+note-sized NothingMoved size b = refl
 
 status-sized : (m : Mode) (size : ℕ × ℕ) (b : Browser) → status_in m (browser_at_told_size (Some size) b) ≡ status_in m b
 status-sized Looking size b = note-sized b.note size b
@@ -72,6 +78,10 @@ status-sized Making size b = refl
 status-sized Pasting size b = refl
 status-sized Sorting size b = refl
 status-sized Seeking size b = refl
+status-sized Undoing size b = refl
+status-sized Helping size b = refl
+status-sized Returning size b = note-sized b.note size b
+status-sized Chosen size b = note-sized b.note size b
 status-sized Over size b = note-sized b.note size b
 
 sized-same : (size : Option (ℕ × ℕ)) (b : Browser) → AsksTheSame b (browser_at_told_size size b)

@@ -125,6 +125,19 @@ pub last-none : (text : List ℕ) (rows : List Row) (k : ℕ) → k ≡ 0 → la
 unfolding last_named
 last-none text rows k none = ap (last_named text rows) none
 
+if-none : (b : Bool) (x : ℕ) (o : Option ℕ) → (if b then Some x else o) ≡ None → o ≡ None
+if-none true x o is = absurd (cc)
+if-none false x o is = is
+
+-- before fewer rows there are fewer
+pub last-less : (text : List ℕ) (rows : List Row) (k n : ℕ) → k ≤ n → last_named text rows n ≡ None → last_named text rows k ≡ None
+unfolding last_named
+last-less text rows k zero le none = let same : k ≡ 0 = omega arith in ap (last_named text rows) same ∙ none
+last-less text rows k (suc n) le none = ⊎_elim
+    (λ (below : k < suc n). last-less text rows k n (omega arith) (if-none (has_at text rows n) n (last_named text rows n) none))
+    (λ (above : suc n ≤ k). let same : k ≡ suc n = omega arith in ap (last_named text rows) same ∙ none)
+    (cases_lt k (suc n))
+
 -- ---- none that has the text is passed over
 
 abbrev FirstOf : List ℕ → List Row → ℕ → Option ℕ → Type 0

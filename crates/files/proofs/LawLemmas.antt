@@ -1,5 +1,5 @@
 -- What laws of browsers stand on.
-use Rattle.std.proofs.Common.{◌≡◌, ◌==◌, ◌&&◌, ◌⊎◌, inl, inr, ℕ, ◌+◌, ◌<◌, ◌≤◌, min, nat_lt, Bool, true, false, not}
+use Rattle.std.proofs.Common.{◌≡◌, ◌==◌, ◌&&◌, ◌⊎◌, inl, inr, ℕ, ◌+◌, ◌-◌, ◌<◌, ◌≤◌, min, nat_lt, Bool, true, false, not}
 use Rattle.std.proofs.Common.{arith, rules, refl, sym, ap, ◌∙◌, List, length, Option, Some, None, if◌then◌else◌}
 use Rattle.std.specs.Prelude.{is_some}
 use Rattle.std.specs.Str.{bytes_eq}
@@ -16,6 +16,7 @@ use Rattle.files.specs.declared.browser.Browser.{Browser}
 use Rattle.files.specs.declared.browser.Mode.{Mode}
 use Rattle.files.specs.declared.browser.Mode.TheVariants.{Looking, Listing, Entering, Leaving, Trashing, Removing}
 use Rattle.files.specs.declared.browser.Mode.TheVariants.{Renaming, Making, Over, Pasting, Sorting, Seeking}
+use Rattle.files.specs.declared.browser.Mode.TheVariants.{Returning, Undoing, Helping, Chosen}
 use Rattle.files.specs.declared.browser.Note.TheVariants.{Narrow}
 use Rattle.files.specs.declared.keys.Wish.{Wish}
 use Rattle.files.specs.declared.keys.Wish.TheVariants as wish
@@ -26,9 +27,11 @@ use Rattle.files.specs.declared.list.Outcome.TheVariants as outcome
 use Rattle.files.specs.Keys.{event_wish, event_typing, event_order, is_input, says_yes}
 use Rattle.files.specs.Texts.{fits}
 use Rattle.files.specs.Moves.{scrolled_list, selected_at, last_row_place, list_rows, granted, wished, typing_in}
-use Rattle.files.specs.Moves.{asks_in, confirmed, typed_into, browsed, browser_at_told_size, outcome_told, browsed_after, new_browser}
+use Rattle.files.specs.Moves.{asks, asks_in, confirmed, typed_into, browsed, browser_at_told_size, outcome_told, browsed_after, new_browser}
 use Rattle.files.specs.Moves.{is_folder_selected, removal_answered, next_found, previous_found, found_selected, found_note}
-use Rattle.files.specs.Moves.{typing_name, seeking_typed, sought_into, order_taken}
+use Rattle.files.specs.Moves.{typing_name, seeking_typed, sought_into, order_taken, is_entry_row, entered, clicked, help_left}
+use Rattle.files.specs.Help.{help_rows}
+use Rattle.files.specs.Texts.{place_in_row}
 use Rattle.files.specs.declared.notes.Noted.{Noted}
 use Rattle.files.specs.declared.order.Order.{Order}
 use Rattle.files.specs.Laws.{IsPlaced, ListsSame}
@@ -111,6 +114,13 @@ keeps-pasting : (noted : Option Noted) (b : Browser)
 keeps-pasting None b = keeps-it b
 keeps-pasting (Some noted) b = keeps-typing Pasting _ b
 
+keeps-entered : (b : Browser) → Keeps b (entered b)
+keeps-entered b = keeps-if (is_folder_selected b) b _ b (keeps-mode Entering b) (keeps-it b)
+
+keeps-clicked : (row : ℕ) (b : Browser) → Keeps b (clicked row b)
+keeps-clicked row b = keeps-if (not (is_entry_row row b)) b _ _ (keeps-it b)
+    (keeps-if (place_in_row row b == b.selected) b _ _ (keeps-entered b) (keeps-selected _ b))
+
 granted-keeps : (w : Wish) (b : Browser) → Keeps b (granted w b)
 granted-keeps wish.Nothing b = keeps-it b
 granted-keeps wish.Down b = keeps-selected _ b
@@ -121,7 +131,14 @@ granted-keeps wish.HalfDown b = keeps-selected _ b
 granted-keeps wish.HalfUp b = keeps-selected _ b
 granted-keeps wish.ToFirst b = keeps-selected _ b
 granted-keeps wish.ToLast b = keeps-selected _ b
-granted-keeps wish.Enter b = keeps-if (is_folder_selected b) b _ b (keeps-mode Entering b) (keeps-it b)
+granted-keeps wish.WheelDown b = keeps-selected _ b
+granted-keeps wish.WheelUp b = keeps-selected _ b
+granted-keeps (wish.Click row) b = keeps-clicked row b
+granted-keeps wish.Enter b = keeps-entered b
+granted-keeps wish.Base b = keeps-if (bytes_eq b.folder b.base) b b _ (keeps-it b) (keeps-mode Returning b)
+granted-keeps wish.Undo b = keeps-if (is_some b.last_move) b _ b (keeps-mode Undoing b) (keeps-it b)
+granted-keeps wish.Help b = keeps-same b _ refl refl refl refl refl refl refl
+granted-keeps wish.Choose b = keeps-mode Chosen b
 granted-keeps wish.Leave b = keeps-if (bytes_eq b.folder b.base) b b _ (keeps-it b) (keeps-mode Leaving b)
 granted-keeps wish.Hidden b = keeps-same b _ refl refl refl refl refl refl refl
 granted-keeps wish.Rename b = keeps-if (length b.list == 0) b b _ (keeps-it b) (keeps-typing Renaming _ b)
@@ -151,6 +168,13 @@ sure-pasting : (noted : Option Noted) (b : Browser)
 sure-pasting None b = refl
 sure-pasting (Some noted) b = refl
 
+sure-entered : (b : Browser) → (entered b).is_sure ≡ b.is_sure
+sure-entered b = sure-if (is_folder_selected b) b _ b refl refl
+
+sure-clicked : (row : ℕ) (b : Browser) → (clicked row b).is_sure ≡ b.is_sure
+sure-clicked row b = sure-if (not (is_entry_row row b)) b _ _ refl
+    (sure-if (place_in_row row b == b.selected) b _ _ (sure-entered b) refl)
+
 -- no wish makes a question sure
 granted-sure : (w : Wish) (b : Browser) → (granted w b).is_sure ≡ b.is_sure
 granted-sure wish.Nothing b = refl
@@ -162,7 +186,14 @@ granted-sure wish.HalfDown b = refl
 granted-sure wish.HalfUp b = refl
 granted-sure wish.ToFirst b = refl
 granted-sure wish.ToLast b = refl
-granted-sure wish.Enter b = search rules
+granted-sure wish.WheelDown b = refl
+granted-sure wish.WheelUp b = refl
+granted-sure (wish.Click row) b = sure-clicked row b
+granted-sure wish.Enter b = sure-entered b
+granted-sure wish.Base b = sure-if (bytes_eq b.folder b.base) b _ _ refl refl
+granted-sure wish.Undo b = sure-if (is_some b.last_move) b _ _ refl refl
+granted-sure wish.Help b = refl
+granted-sure wish.Choose b = refl
 granted-sure wish.Leave b = search rules
 granted-sure wish.Hidden b = refl
 granted-sure wish.Rename b = search rules
@@ -240,6 +271,10 @@ may-be mode b at may = ap (λ m. asks_in m true) at ∙ may
 answered-keeps : (e : Event) (b : Browser) → asks_in b.mode true ≡ true → Keeps b (removal_answered e b)
 answered-keeps e b may = keeps-if (says_yes e) b _ _ (confirmed-keeps b may) (keeps-mode Looking b)
 
+help-keeps : (b : Browser) → Keeps b (help_left b)
+help-keeps b = keeps-if (nat_lt 0 (list_rows b) && nat_lt (list_rows b) (help_rows - b.helped)) b _ _
+    (keeps-same b _ refl refl refl refl refl refl refl) (keeps-mode Looking b)
+
 browsed-keeps : (mode : Mode) (e : Event) (b : Browser) → b.mode ≡ mode → Keeps b (browsed mode e b)
 browsed-keeps Looking e b at = wished-keeps (event_wish e) b
 browsed-keeps Trashing e b at = answered-keeps e b (may-be Trashing b at refl)
@@ -247,12 +282,16 @@ browsed-keeps Removing e b at = answered-keeps e b (may-be Removing b at refl)
 browsed-keeps Renaming e b at = typed-keeps (event_typing e) b (may-be Renaming b at refl)
 browsed-keeps Making e b at = typed-keeps (event_typing e) b (may-be Making b at refl)
 browsed-keeps Pasting e b at = typed-keeps (event_typing e) b (may-be Pasting b at refl)
+browsed-keeps Undoing e b at = answered-keeps e b (may-be Undoing b at refl)
+browsed-keeps Helping e b at = help-keeps b
 browsed-keeps Seeking e b at = sought-keeps (event_typing e) b
 browsed-keeps Sorting e b at = order-keeps (event_order e) b
 browsed-keeps Listing e b at = keeps-it b
 browsed-keeps Entering e b at = keeps-it b
 browsed-keeps Leaving e b at = keeps-it b
 browsed-keeps Over e b at = keeps-it b
+browsed-keeps Returning e b at = keeps-it b
+browsed-keeps Chosen e b at = keeps-it b
 
 -- ---- what is told
 
@@ -359,3 +398,43 @@ pub quiet-stays : (b : Browser) (e : Event) → (browsed_after b (message.Event 
     × ((browsed_after b (message.Event e)).is_sure ≡ b.is_sure)
 unfolding browsed_after
 quiet-stays b e is = told-quiet (is_input e) e b is
+
+-- ---- the list of the keys
+
+help-asks : (more : Bool) (b : Browser) → b.mode ≡ Helping
+    → asks (record (if more then record b { helped = b.helped + list_rows b } else record b { mode = Looking }) { is_quiet = false })
+    ≡ false
+help-asks true b at = ap (λ m. asks_in m b.is_sure) at
+help-asks false b at = refl
+
+helping-browsed : (mode : Mode) (e : Event) (b : Browser) → mode ≡ Helping → b.mode ≡ Helping
+    → asks (record (browsed mode e b) { is_quiet = false }) ≡ false
+helping-browsed Helping e b is at = help-asks (nat_lt 0 (list_rows b) && nat_lt (list_rows b) (help_rows - b.helped)) b at
+helping-browsed Looking e b is at = absurd (cc)
+helping-browsed Listing e b is at = absurd (cc)
+helping-browsed Entering e b is at = absurd (cc)
+helping-browsed Leaving e b is at = absurd (cc)
+helping-browsed Returning e b is at = absurd (cc)
+helping-browsed Trashing e b is at = absurd (cc)
+helping-browsed Removing e b is at = absurd (cc)
+helping-browsed Renaming e b is at = absurd (cc)
+helping-browsed Making e b is at = absurd (cc)
+helping-browsed Pasting e b is at = absurd (cc)
+helping-browsed Sorting e b is at = absurd (cc)
+helping-browsed Seeking e b is at = absurd (cc)
+helping-browsed Undoing e b is at = absurd (cc)
+helping-browsed Over e b is at = absurd (cc)
+helping-browsed Chosen e b is at = absurd (cc)
+
+helping-sized : (size : Option (ℕ × ℕ)) (b : Browser) → b.mode ≡ Helping → asks (browser_at_told_size size b) ≡ false
+helping-sized None b at = ap (λ m. asks_in m b.is_sure) at
+helping-sized (Some size) b at = ap (λ m. asks_in m b.is_sure) at
+
+helping-told : (input : Bool) (e : Event) (b : Browser) → b.mode ≡ Helping
+    → asks (if input then record (browsed b.mode e b) { is_quiet = false } else browser_at_told_size (size_in e) b) ≡ false
+helping-told true e b at = helping-browsed b.mode e b at at
+helping-told false e b at = helping-sized (size_in e) b at
+
+pub helping-asks : (b : Browser) (e : Event) → b.mode ≡ Helping → asks (browsed_after b (message.Event e)) ≡ false
+unfolding browsed_after
+helping-asks b e at = helping-told (is_input e) e b at

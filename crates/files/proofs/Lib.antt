@@ -8,6 +8,7 @@ pub mod MoveLemmas
 pub mod NameLemmas
 pub mod DiscardLemmas
 pub mod TrashLemmas
+pub mod HelpLemmas
 pub mod LawLemmas
 pub mod QuestionLemmas
 pub mod SoundLemmas

@@ -1,7 +1,8 @@
 -- What questions name.
 use Rattle.std.proofs.Common.{◌≡◌, ◌⊎◌, inl, inr, Bool, true, false, ℕ, List, [], ◌++◌, codes, Option, Some, None, if◌then◌else◌, refl, sym, ap, ◌∙◌, arith}
 use Rattle.std.specs.Prelude.{slice_get, option_map, string_bytes, get_or}
-use Rattle.std.specs.Option.{option_and_then, option_map_or}
+use Rattle.std.specs.Option.{option_and_then, option_map_or, option_or}
+use Rattle.files.specs.Moves.{move_of, move_made}
 use Rattle.text_field.specs.Field.{field_text}
 use Rattle.ratatui_files.specs.Paths.{is_name, path_in}
 use Rattle.ratatui_files.specs.declared.command.Command.{Command}
@@ -11,6 +12,7 @@ use Rattle.files.specs.declared.browser.Browser.{Browser}
 use Rattle.files.specs.declared.browser.Mode.{Mode}
 use Rattle.files.specs.declared.browser.Mode.TheVariants.{Looking, Listing, Entering, Leaving, Trashing, Removing}
 use Rattle.files.specs.declared.browser.Mode.TheVariants.{Renaming, Making, Over, Pasting, Sorting, Seeking}
+use Rattle.files.specs.declared.browser.Mode.TheVariants.{Returning, Undoing, Helping, Chosen}
 use Rattle.files.specs.Names.{shown_name}
 use Rattle.files.specs.Texts.{shown_row, selected_text, selected_shown, status_in}
 use Rattle.files.specs.Questions.{removal_by, removal_in, paste_by, paste_of, change_in}
@@ -19,7 +21,10 @@ use Rattle.files.specs.Texts.{trash_shown, status_told}
 use Rattle.files.specs.Trash.{discard_of, discard_to, discard_in}
 use Rattle.files.specs.declared.notes.Noted.{Noted}
 use Rattle.files.specs.Texts.{noted_shown, verb_if, paste_verb}
-use Rattle.files.specs.Laws.{AsksToRemove, AsksToRename, AsksToTrash, AsksToPaste}
+use Rattle.files.specs.declared.undo.Moved.{Moved}
+use Rattle.files.specs.Questions.{way_back}
+use Rattle.files.specs.Texts.{now_shown, was_shown, place_shown}
+use Rattle.files.specs.Laws.{AsksToRemove, AsksToRename, AsksToTrash, AsksToPaste, AsksToUndo}
 
 -- the path of a removal is that of the name
 removed-by : (leaf named : Bool) (path other : List ℕ)
@@ -167,6 +172,33 @@ make-no-copy : (one : Bool) (a from to : List ℕ) → option_map MakeFolder (if
 make-no-copy true a from to is = absurd (cc)
 make-no-copy false a from to is = absurd (cc)
 
+-- what is moved back is renamed
+back-no-file : (o : Option Moved) (path : List ℕ) → option_map way_back o ≡ Some (Remove path) → ⊥
+back-no-file None path is = absurd (cc)
+back-no-file (Some moved) path is = absurd (cc)
+
+back-no-folder : (o : Option Moved) (path : List ℕ) → option_map way_back o ≡ Some (RemoveFolder path) → ⊥
+back-no-folder None path is = absurd (cc)
+back-no-folder (Some moved) path is = absurd (cc)
+
+back-no-copy : (o : Option Moved) (from to : List ℕ) → option_map way_back o ≡ Some (Copy from to) → ⊥
+back-no-copy None from to is = absurd (cc)
+back-no-copy (Some moved) from to is = absurd (cc)
+
+back-of : (o : Option Moved) (from to : List ℕ) → option_map way_back o ≡ Some (Rename from to)
+    → (moved : Moved) × (o ≡ Some moved) × (moved.to ≡ from) × (moved.from ≡ to)
+back-of None from to is = absurd (cc)
+back-of (Some moved) from to is = (moved, refl, cc, cc)
+
+-- the question about it
+back-asks : (b : Browser) (moved : Moved) (from to : List ℕ) → b.last_move ≡ Some moved → moved.to ≡ from → moved.from ≡ to
+    → status_in Undoing b
+    ≡ codes "move \"" ++ (codes "/" ++ shown_name from) ++ codes "\" back to \"" ++ (codes "/" ++ shown_name to) ++ codes "\"? y/n"
+back-asks b moved from to is one two =
+    ap (λ o. codes "move \"" ++ now_shown o ++ codes "\" back to \"" ++ was_shown o ++ codes "\"? y/n") is
+    ∙ ap (λ p. codes "move \"" ++ place_shown p ++ codes "\" back to \"" ++ place_shown moved.from ++ codes "\"? y/n") one
+    ∙ ap (λ p. codes "move \"" ++ place_shown from ++ codes "\" back to \"" ++ place_shown p ++ codes "\"? y/n") two
+
 asks-of : (b : Browser) (row : Row) → slice_get b.list b.selected ≡ Some row
     → status_in Removing b ≡ codes "remove \"" ++ shown_row row ++ codes "\" for good? y/n"
 asks-of b row is = ap (λ shown. codes "remove \"" ++ shown ++ codes "\" for good? y/n") (shown-of b row is)
@@ -179,6 +211,10 @@ asks-file Removing b path at is =
 asks-file Renaming b path at is = absurd (rename-not (is_name (selected_text b)) (is_name (field_text b.typed)) _ _ path is)
 asks-file Making b path at is = absurd (make-not (is_name (field_text b.typed)) _ path is)
 asks-file Pasting b path at is = absurd (paste-no-file b b.noted path is)
+asks-file Undoing b path at is = absurd (back-no-file b.last_move path is)
+asks-file Returning b path at is = absurd (none-some _ is)
+asks-file Helping b path at is = absurd (none-some _ is)
+asks-file Chosen b path at is = absurd (none-some _ is)
 asks-file Sorting b path at is = absurd (none-some _ is)
 asks-file Seeking b path at is = absurd (none-some _ is)
 asks-file Trashing b path at is = absurd (none-some _ is)
@@ -197,6 +233,10 @@ asks-folder Renaming b path at is =
     absurd (rename-no-folder (is_name (selected_text b)) (is_name (field_text b.typed)) _ _ path is)
 asks-folder Making b path at is = absurd (make-no-folder (is_name (field_text b.typed)) _ path is)
 asks-folder Pasting b path at is = absurd (paste-no-folder b b.noted path is)
+asks-folder Undoing b path at is = absurd (back-no-folder b.last_move path is)
+asks-folder Returning b path at is = absurd (none-some _ is)
+asks-folder Helping b path at is = absurd (none-some _ is)
+asks-folder Chosen b path at is = absurd (none-some _ is)
 asks-folder Sorting b path at is = absurd (none-some _ is)
 asks-folder Seeking b path at is = absurd (none-some _ is)
 asks-folder Trashing b path at is = absurd (none-some _ is)
@@ -217,7 +257,7 @@ removal-no-rename b None from to is = absurd (cc)
 removal-no-rename b (Some row) from to is = removal-by row.is_leaf (is_name (string_bytes row.name)) _ from to is
 
 pub asks-rename : (mode : Mode) (b : Browser) (from to : List ℕ) → b.mode ≡ mode → change_in mode b ≡ Some (Rename from to)
-    → AsksToRename b from to ⊎ AsksToPaste (codes "move") b from to
+    → AsksToRename b from to ⊎ AsksToPaste (codes "move") b from to ⊎ AsksToUndo b from to
 asks-rename Renaming b from to at is =
     let it = renamed-by (is_name (selected_text b)) (is_name (field_text b.typed)) _ _ from to is in
     let entry = row-of b (slice_get b.list b.selected) it.2 in
@@ -233,11 +273,17 @@ asks-rename Renaming b from to at is =
 asks-rename Pasting b from to at is =
     let it = noted-of b b.noted (Rename from to) is in
     let made = moved-by it.0.is_moved (is_name (field_text b.typed)) it.0.path (path_in b.folder (field_text b.typed)) from to it.2 in
-    inr (record {
+    inr (inl (record {
       name = field_text b.typed;
       to_is = made.2;
       asks = ap (λ m. status_in m b) at ∙ pasted-asks b it.0 true from it.1 made.0 made.1;
-    })
+    }))
+asks-rename Undoing b from to at is =
+    let it = back-of b.last_move from to is in
+    inr (inr (record { asks = ap (λ m. status_in m b) at ∙ back-asks b it.0 from to it.1 it.2 it.3 }))
+asks-rename Returning b from to at is = absurd (none-some _ is)
+asks-rename Helping b from to at is = absurd (none-some _ is)
+asks-rename Chosen b from to at is = absurd (none-some _ is)
 asks-rename Removing b from to at is = absurd (removal-no-rename b (slice_get b.list b.selected) from to is)
 asks-rename Making b from to at is = absurd (make-no-rename (is_name (field_text b.typed)) _ from to is)
 asks-rename Sorting b from to at is = absurd (none-some _ is)
@@ -263,6 +309,10 @@ asks-copy Removing b from to at is = absurd (removal-no-copy b (slice_get b.list
 asks-copy Renaming b from to at is =
     absurd (rename-no-copy (is_name (selected_text b)) (is_name (field_text b.typed)) _ _ from to is)
 asks-copy Making b from to at is = absurd (make-no-copy (is_name (field_text b.typed)) _ from to is)
+asks-copy Undoing b from to at is = absurd (back-no-copy b.last_move from to is)
+asks-copy Returning b from to at is = absurd (none-some _ is)
+asks-copy Helping b from to at is = absurd (none-some _ is)
+asks-copy Chosen b from to at is = absurd (none-some _ is)
 asks-copy Trashing b from to at is = absurd (none-some _ is)
 asks-copy Looking b from to at is = absurd (none-some _ is)
 asks-copy Listing b from to at is = absurd (none-some _ is)
@@ -304,3 +354,12 @@ verbs-differ b c moves removes same =
     let texts = sym (ap (λ m. status_in m b) moves) ∙ same ∙ ap (λ m. status_in m c) removes in
     let letters : 109 ≡ 114 = ap (λ text. get_or text 0 0) texts in
     absurd (omega (arith, letters))
+
+-- ---- what was moved
+
+pub noted-move : (b : Browser) (from to : List ℕ) → change_in b.mode b ≡ Some (Rename from to)
+    → option_or (move_made b) b.last_move ≡ Some (record { from = from; to = to })
+noted-move b from to is = ap (λ o. option_or (option_and_then move_of o) b.last_move) is
+
+pub moved-back : (b : Browser) (moved : Moved) → b.last_move ≡ Some moved → change_in Undoing b ≡ Some (Rename moved.to moved.from)
+moved-back b moved is = ap (option_map way_back) is

@@ -13,9 +13,10 @@ use Rattle.files.specs.declared.browser.Browser.{Browser}
 use Rattle.files.specs.declared.browser.Mode.{Mode}
 use Rattle.files.specs.declared.browser.Mode.TheVariants.{Looking, Listing, Entering, Leaving, Trashing, Removing}
 use Rattle.files.specs.declared.browser.Mode.TheVariants.{Renaming, Making, Over, Pasting, Sorting, Seeking}
+use Rattle.files.specs.declared.browser.Mode.TheVariants.{Returning, Undoing, Helping, Chosen}
 use Rattle.files.specs.declared.list.Outcome.{Outcome}
 use Rattle.files.specs.declared.browser.Note.{Note}
-use Rattle.files.specs.declared.browser.Note.TheVariants.{Place, Failed, Narrow, NoTrash, Missing, Noted, NothingNoted}
+use Rattle.files.specs.declared.browser.Note.TheVariants.{Place, Failed, Narrow, NoTrash, Missing, Noted, NothingNoted, NothingMoved}
 use Rattle.files.specs.Texts.{fits, subject, note_told, failure_text, status_in}
 use Rattle.files.specs.Moves.{asks, asks_in, browser_asked, is_over, browsed_after}
 use Rattle.files.specs.Laws.{IsSound, browsing, is_change}
@@ -39,6 +40,10 @@ subject-flags Pasting s q b = refl
 subject-flags Sorting s q b = refl
 subject-flags Seeking s q b = refl
 subject-flags Over s q b = refl
+subject-flags Returning s q b = refl
+subject-flags Undoing s q b = refl
+subject-flags Helping s q b = refl
+subject-flags Chosen s q b = refl
 
 note-flags : (n : Note) (s q : Bool) (b : Browser) → note_told n (flagged s q b) ≡ note_told n b
 note-flags Place s q b = refl
@@ -48,6 +53,7 @@ note-flags NoTrash s q b = refl
 note-flags Missing s q b = refl
 note-flags Noted s q b = refl
 note-flags NothingNoted s q b = refl
+note-flags NothingMoved s q b = refl
 
 pub status-flags : (m : Mode) (s q : Bool) (b : Browser) → status_in m (flagged s q b) ≡ status_in m b
 status-flags Looking s q b = note-flags b.note s q b
@@ -61,6 +67,10 @@ status-flags Making s q b = refl
 status-flags Pasting s q b = refl
 status-flags Sorting s q b = refl
 status-flags Seeking s q b = refl
+status-flags Undoing s q b = refl
+status-flags Helping s q b = refl
+status-flags Returning s q b = note-flags b.note s q b
+status-flags Chosen s q b = note-flags b.note s q b
 status-flags Over s q b = note-flags b.note s q b
 
 fits-flags : (s q : Bool) (b : Browser) → fits b.size.width b ≡ true → fits b.size.width (flagged s q b) ≡ true
@@ -147,6 +157,10 @@ sure-in Removing sure change is = is
 sure-in Renaming sure change is = is
 sure-in Making sure change is = is
 sure-in Pasting sure change is = is
+sure-in Undoing sure change is = is
+sure-in Returning sure change is = absurd (cc)
+sure-in Helping sure change is = absurd (cc)
+sure-in Chosen sure change is = absurd (cc)
 sure-in Sorting sure change is = absurd (cc)
 sure-in Seeking sure change is = absurd (cc)
 sure-in Looking sure change is = absurd (cc)

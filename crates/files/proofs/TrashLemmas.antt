@@ -10,6 +10,7 @@ use Rattle.files.specs.declared.browser.Browser.{Browser}
 use Rattle.files.specs.declared.browser.Mode.{Mode}
 use Rattle.files.specs.declared.browser.Mode.TheVariants.{Looking, Listing, Entering, Leaving, Trashing, Removing}
 use Rattle.files.specs.declared.browser.Mode.TheVariants.{Renaming, Making, Over, Pasting, Sorting, Seeking}
+use Rattle.files.specs.declared.browser.Mode.TheVariants.{Returning, Undoing, Helping, Chosen}
 use Rattle.files.specs.declared.trash.Discard.{Discard}
 use Rattle.files.specs.Texts.{prompt}
 use Rattle.files.specs.Trash.{numbered, info_name, info_text, discard_plan}
@@ -47,6 +48,10 @@ prompt-other Pasting b one two three = absurd (two refl)
 prompt-other Sorting b one two three = refl
 prompt-other Seeking b one two three = absurd (three refl)
 prompt-other Over b one two three = refl
+prompt-other Returning b one two three = refl
+prompt-other Undoing b one two three = refl
+prompt-other Helping b one two three = refl
+prompt-other Chosen b one two three = refl
 
 -- the path of a name, if it is one
 pub entry-by : (named : Bool) (path got : List ℕ) (o : Option (List ℕ)) → o ≡ (if named then Some path else None) → o ≡ Some got

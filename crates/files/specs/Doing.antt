@@ -12,7 +12,7 @@ use Rattle.files.specs.declared.list.Outcome.{Outcome}
 use Rattle.files.specs.declared.list.Outcome.TheVariants as outcome
 use Rattle.files.specs.declared.browser.Browser.{Browser}
 use Rattle.files.specs.declared.browser.Mode.{Mode}
-use Rattle.files.specs.declared.browser.Mode.TheVariants.{Listing, Entering, Leaving, Trashing}
+use Rattle.files.specs.declared.browser.Mode.TheVariants.{Listing, Entering, Leaving, Returning, Trashing}
 use Rattle.files.specs.declared.hands.Wanted.{Wanted}
 use Rattle.ratatui_files.specs.declared.answer.Info.{Info}
 use Rattle.files.specs.Texts.{selected_text, sought_text}
@@ -40,11 +40,18 @@ pub record WantsSelected (b : Browser) (w : Wanted) : Type 0 where
   pub name : w.name ≡ []
   pub other : w.other ≡ 0
 
--- the folder that is asked for: the one that is shown, the one that is selected, or the one above
+-- the folder is wanted above which nothing is reached, with its first entry selected
+pub record WantsBase (b : Browser) (w : Wanted) : Type 0 where
+  pub folder : w.folder ≡ b.base
+  pub name : w.name ≡ []
+  pub other : w.other ≡ 0
+
+-- the folder that is asked for: the one that is shown, the one that is selected, the one above, or the one that all is in
 abbrev pub Lists : Mode → Browser → Wanted → Type 0
 Lists Listing b w = WantsShown b w
 Lists Entering b w = WantsSelected b w
 Lists Leaving b w = IsAbove b.folder w
+Lists Returning b w = WantsBase b w
 Lists _ b w = ⊥
 
 -- a folder was listed with this answer: it is told in order, or why it wasn't
@@ -86,6 +93,7 @@ module _ {P : Type 0} (does : P → Command → Answer → P → Type 0) where
   DoesIn Listing b files o files' = Listed b files o files'
   DoesIn Entering b files o files' = Listed b files o files'
   DoesIn Leaving b files o files' = Listed b files o files'
+  DoesIn Returning b files o files' = Listed b files o files'
   DoesIn Trashing b files o files' = Discarded does (discard_in b) files o files'
   DoesIn mode b files o files' = Changed (change_in mode b) files o files'
 

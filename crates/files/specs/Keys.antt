@@ -2,7 +2,11 @@
 use Rattle.std.specs.Prelude.{ℕ, Bool, true, false, not, ◌==◌, ◌&&◌, if◌then◌else◌, Option, Some, None}
 use Rattle.std.specs.Str.{byte}
 use Rattle.ratatui_events.specs.declared.event.Event.{Event}
-use Rattle.ratatui_events.specs.declared.event.Event.TheVariants.{Key, Pasted}
+use Rattle.ratatui_events.specs.declared.event.Event.TheVariants.{Key, Pasted, Mouse}
+use Rattle.ratatui_events.specs.declared.mouse.MouseButton.{MouseButton}
+use Rattle.ratatui_events.specs.declared.mouse.MouseButton.TheVariants as button
+use Rattle.ratatui_events.specs.declared.mouse.MouseEventKind.{MouseEventKind}
+use Rattle.ratatui_events.specs.declared.mouse.MouseEventKind.TheVariants as mouse
 use Rattle.ratatui_events.specs.declared.key.KeyEvent.{KeyEvent}
 use Rattle.ratatui_events.specs.declared.key.KeyEventKind.{KeyEventKind}
 use Rattle.ratatui_events.specs.declared.key.KeyEventKind.TheVariants.{Release}
@@ -13,7 +17,8 @@ use Rattle.files.specs.declared.keys.Wish.{Wish}
 use Rattle.files.specs.declared.keys.Wish.TheVariants.{Nothing, Down, Up, PageDown, PageUp, HalfDown, HalfUp}
 use Rattle.files.specs.declared.keys.Wish.TheVariants.{ToFirst, ToLast, Enter, Leave, Hidden, Rename, Make}
 use Rattle.files.specs.declared.keys.Wish.TheVariants.{Trash, Remove, Quit, Sort, Seek, SeekOn, SeekBack}
-use Rattle.files.specs.declared.keys.Wish.TheVariants.{NoteCopy, NoteMove, Paste}
+use Rattle.files.specs.declared.keys.Wish.TheVariants.{NoteCopy, NoteMove, Paste, WheelDown, WheelUp, Click}
+use Rattle.files.specs.declared.keys.Wish.TheVariants.{Base, Undo, Help, Choose}
 use Rattle.files.specs.declared.order.Order.{Order}
 use Rattle.files.specs.declared.order.SortBy.{SortBy}
 use Rattle.files.specs.declared.order.SortBy.TheVariants.{Name, Size, Date}
@@ -22,9 +27,10 @@ use Rattle.files.specs.declared.typing.Typing.TheVariants.{Change, Accept, Cance
 use Rattle.text_field.specs.declared.keys.Edit.{Edit}
 use Rattle.text_field.specs.Keys.{edit_of}
 
--- characters: j, k, g, G move; l enters a folder, h leaves it; the dot shows hidden entries; r and a rename and make
--- a folder; D puts into the trash, and X removes for good; s sorts; a slash seeks a text in names, and n and N go
--- on; y and d note what is to be copied and moved, and p does it; q ends
+-- characters: j, k, g, G move; l enters a folder, h leaves it, and the tilde leads to the one that all is in; the dot
+-- shows hidden entries; r and a rename and make a folder; D puts into the trash, and X removes for good; s sorts; a slash
+-- seeks a text in names, and n and N go on; y and d note what is to be copied and moved, and p does it; z takes back what
+-- was renamed or moved last; a question mark shows the keys; q ends, and Q tells the folder
 abbrev pub character_wish : ℕ → Wish
 character_wish c =
     if c == byte "j" then Down
@@ -33,6 +39,7 @@ character_wish c =
     else if c == byte "G" then ToLast
     else if c == byte "l" then Enter
     else if c == byte "h" then Leave
+    else if c == byte "~" then Base
     else if c == byte "." then Hidden
     else if c == byte "s" then Sort
     else if c == byte "/" then Seek
@@ -45,7 +52,10 @@ character_wish c =
     else if c == byte "a" then Make
     else if c == byte "D" then Trash
     else if c == byte "X" then Remove
+    else if c == byte "z" then Undo
+    else if c == byte "?" then Help
     else if c == byte "q" then Quit
+    else if c == byte "Q" then Choose
     else Nothing
 
 -- a character with Control: d, u, c
@@ -60,9 +70,14 @@ abbrev pub control_wish : KeyCode → Wish
 control_wish (key.Char c) = control_character_wish c
 control_wish _ = Nothing
 
+-- F1 shows the keys, too
+abbrev pub function_wish : ℕ → Wish
+function_wish n = if n == 1 then Help else Nothing
+
 -- a key without Control
 abbrev pub code_wish : KeyCode → Wish
 code_wish (key.Char c) = character_wish c
+code_wish (key.F n) = function_wish n
 code_wish key.Enter = Enter
 code_wish key.Right = Enter
 code_wish key.Backspace = Leave
@@ -84,12 +99,34 @@ abbrev pub kind_wish : KeyEventKind → KeyEvent → Wish
 kind_wish Release k = Nothing
 kind_wish _ k = if holds_control k then control_wish k.code else code_wish k.code
 
+-- the mouse: a press of the left button in a row, and the wheel
+abbrev pub press_wish : MouseButton → ℕ → Wish
+press_wish button.Left row = Click row
+press_wish _ row = Nothing
+
+abbrev pub mouse_wish : MouseEventKind → ℕ → Wish
+mouse_wish (mouse.Down b) row = press_wish b row
+mouse_wish mouse.ScrollDown row = WheelDown
+mouse_wish mouse.ScrollUp row = WheelUp
+mouse_wish _ row = Nothing
+
 -- what an event asks for while an entry is selected
 abbrev pub event_wish : Event → Wish
 event_wish (Key k) = kind_wish k.kind k
+event_wish (Mouse m) = mouse_wish m.kind m.row
 event_wish _ = Nothing
 
--- an event that a person typed or pasted
+-- an event that a person typed or pasted, or a press of the left button, or a turn of the wheel
+abbrev pub is_left : MouseButton → Bool
+is_left button.Left = true
+is_left _ = false
+
+abbrev pub is_press_or_turn : MouseEventKind → Bool
+is_press_or_turn (mouse.Down b) = is_left b
+is_press_or_turn mouse.ScrollDown = true
+is_press_or_turn mouse.ScrollUp = true
+is_press_or_turn _ = false
+
 abbrev pub is_down_kind : KeyEventKind → Bool
 is_down_kind Release = false
 is_down_kind _ = true
@@ -97,6 +134,7 @@ is_down_kind _ = true
 abbrev pub is_input : Event → Bool
 is_input (Key k) = is_down_kind k.kind
 is_input (Pasted c) = true
+is_input (Mouse m) = is_press_or_turn m.kind
 is_input _ = false
 
 -- the orders by letters: n by name, s by size, d by date; a capital letter turns it round

@@ -7,7 +7,7 @@ use Rattle.files.specs.declared.list.Outcome.{Outcome}
 use Rattle.files.specs.declared.trash.Discard.{Discard}
 use Rattle.files.specs.declared.browser.Browser.{Browser}
 use Rattle.files.specs.declared.browser.Mode.{Mode}
-use Rattle.files.specs.declared.browser.Mode.TheVariants.{Trashing, Removing, Renaming, Making, Pasting}
+use Rattle.files.specs.declared.browser.Mode.TheVariants.{Trashing, Removing, Renaming, Making, Pasting, Undoing}
 use Rattle.files.specs.Moves.{last_row_place, list_rows, asks, browsed_after, browser_asked, is_over}
 use Rattle.files.specs.Names.{shown_name}
 use Rattle.files.specs.Texts.{shown_row, status_told, fits}
@@ -52,6 +52,12 @@ pub record AsksToPaste (verb : List ℕ) (b : Browser) (from to : List ℕ) : Ty
   pub asks : status_told b
       ≡ (verb ++ codes " \"" ++ (codes "/" ++ shown_name from) ++ codes "\" to \"") ++ shown_name name ++ codes "\""
 
+-- the status asks whether what is at a path is to get its old place back, and names both, whole
+pub record AsksToUndo (b : Browser) (from to : List ℕ) : Type 0 where
+  pub asks : status_told b
+      ≡ codes "move \"" ++ (codes "/" ++ shown_name from) ++ codes "\" back to \"" ++ (codes "/" ++ shown_name to)
+      ++ codes "\"? y/n"
+
 -- nothing is sure, or a question is that the screen shows whole
 abbrev pub IsSound : Browser → Type 0
 IsSound b = (b.is_sure ≡ false) ⊎ ((asks b ≡ true) × (fits b.size.width b ≡ true))
@@ -67,4 +73,5 @@ is_change Removing = true
 is_change Renaming = true
 is_change Making = true
 is_change Pasting = true
+is_change Undoing = true
 is_change _ = false

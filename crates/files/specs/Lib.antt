@@ -1,4 +1,6 @@
 pub mod Keys
+pub mod Help
+pub mod HelpTable
 pub mod Names
 pub mod NameKeys
 pub mod Orders

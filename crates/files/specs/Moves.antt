@@ -1,8 +1,8 @@
 -- What each event and each answer makes of a browser.
 use Rattle.std.specs.Prelude.{ℕ, zero, suc, Bool, true, false, not, ◌+◌, ◌-◌, ◌/◌, ◌==◌, ◌&&◌, ◌||◌, min, max, nat_lt}
-use Rattle.std.specs.Prelude.{if◌then◌else◌, List, [], length, Option, Some, None, option_map, is_some, slice_get, get_or, string_bytes}
+use Rattle.std.specs.Prelude.{if◌then◌else◌, List, [], length, Option, Some, None, option_map, is_some, slice_get, get_or, string_bytes, nat_le}
 use Rattle.std.specs.Str.{byte, bytes_eq}
-use Rattle.std.specs.Option.{option_map_or, option_and_then}
+use Rattle.std.specs.Option.{option_map_or, option_and_then, option_or}
 use Rattle.std.specs.declared.alloc.Global.{Global}
 use Rattle.ratatui_core.specs.Layout.{Size}
 use Rattle.ratatui_events.specs.declared.event.Event.{Event}
@@ -16,9 +16,10 @@ use Rattle.files.specs.declared.browser.Browser.{Browser}
 use Rattle.files.specs.declared.browser.Mode.{Mode}
 use Rattle.files.specs.declared.browser.Mode.TheVariants.{Looking, Listing, Entering, Leaving, Trashing, Removing}
 use Rattle.files.specs.declared.browser.Mode.TheVariants.{Renaming, Making, Pasting, Sorting, Seeking, Over}
+use Rattle.files.specs.declared.browser.Mode.TheVariants.{Returning, Undoing, Helping, Chosen}
 use Rattle.files.specs.declared.browser.Note.{Note}
 use Rattle.files.specs.declared.browser.Note.TheVariants.{Place, Failed, Narrow, NoTrash, Missing}
-use Rattle.files.specs.declared.browser.Note.TheVariants.{Noted as TellsNoted, NothingNoted}
+use Rattle.files.specs.declared.browser.Note.TheVariants.{Noted as TellsNoted, NothingNoted, NothingMoved}
 use Rattle.files.specs.declared.notes.Noted.{Noted}
 use Rattle.files.specs.declared.order.Order.{Order}
 use Rattle.files.specs.declared.order.SortBy.TheVariants.{Name}
@@ -32,8 +33,12 @@ use Rattle.files.specs.declared.list.Outcome.{Outcome}
 use Rattle.files.specs.declared.list.Outcome.TheVariants as outcome
 use Rattle.files.specs.Keys.{event_wish, event_typing, event_order, is_input, says_yes}
 use Rattle.files.specs.Finding.{next_named, previous_named}
-use Rattle.files.specs.Texts.{selected_text, column_in, fits}
-use Rattle.files.specs.Questions.{named_path}
+use Rattle.files.specs.declared.undo.Moved.{Moved}
+use Rattle.ratatui_files.specs.declared.command.Command.{Command}
+use Rattle.ratatui_files.specs.declared.command.Command.TheVariants.{Rename}
+use Rattle.files.specs.Help.{help_rows}
+use Rattle.files.specs.Texts.{selected_text, column_in, fits, place_in_row}
+use Rattle.files.specs.Questions.{named_path, change_in}
 
 -- a browser that asks for the folder that all is in
 abbrev pub new_browser : Global → List ℕ → Size → Browser
@@ -57,6 +62,8 @@ new_browser alloc title size = record {
   note = Place;
   sought = [];
   noted = None;
+  last_move = None;
+  helped = 0;
   typed = new_field;
   column = 0;
 }
@@ -91,6 +98,8 @@ selection_moved wish.PageDown b = selected_at (b.selected + list_rows b) b
 selection_moved wish.PageUp b = selected_at (b.selected - list_rows b) b
 selection_moved wish.HalfDown b = selected_at (b.selected + list_rows b / 2) b
 selection_moved wish.HalfUp b = selected_at (b.selected - list_rows b / 2) b
+selection_moved wish.WheelDown b = selected_at (b.selected + 3) b
+selection_moved wish.WheelUp b = selected_at (b.selected - 3) b
 selection_moved wish.ToFirst b = selected_at 0 b
 selection_moved wish.ToLast b = selected_at (last_row_place b) b
 selection_moved _ b = b
@@ -135,13 +144,31 @@ typing_in mode typed b = record b { mode = mode; typed = typed; column = column_
 abbrev pub renaming : Browser → Browser
 renaming b = if length b.list == 0 then b else typing_in Renaming (typing_name (selected_text b)) b
 
+abbrev pub entered : Browser → Browser
+entered b = if is_folder_selected b then record b { mode = Entering } else b
+
+-- a row of the screen has an entry of the list
+abbrev pub is_entry_row : ℕ → Browser → Bool
+is_entry_row row b = nat_lt 0 row && nat_le row (list_rows b) && nat_lt (place_in_row row b) (length b.list)
+
+-- the left button is pressed in a row: its entry is selected; if it is selected already, its folder is asked for
+abbrev pub clicked : ℕ → Browser → Browser
+clicked row b =
+    if not (is_entry_row row b) then b
+    else if place_in_row row b == b.selected then entered b
+    else selected_at (place_in_row row b) b
+
 abbrev pub went : Wish → Browser → Browser
-went wish.Enter b = if is_folder_selected b then record b { mode = Entering } else b
+went wish.Enter b = entered b
+went (wish.Click row) b = clicked row b
 went wish.Leave b = if bytes_eq b.folder b.base then b else record b { mode = Leaving }
+went wish.Base b = if bytes_eq b.folder b.base then b else record b { mode = Returning }
 went wish.Hidden b = record b { has_hidden = not b.has_hidden; mode = Listing }
 went wish.Sort b = record b { mode = Sorting }
 went wish.Remove b = if nat_lt 0 (length b.list) then record b { mode = Removing } else b
+went wish.Help b = record b { mode = Helping; helped = 0 }
 went wish.Quit b = record b { mode = Over }
+went wish.Choose b = record b { mode = Chosen }
 went other b = selection_moved other b
 
 -- the question whether the entry that is selected is to be put into the trash, if there is one
@@ -151,6 +178,14 @@ asking_to_trash b = if is_some b.trash && nat_lt 0 (length b.list) then record b
 abbrev pub trash_note : Option (List ℕ) → Note
 trash_note (Some trash) = Place
 trash_note None = NoTrash
+
+-- the question whether what was renamed or moved last is to get its old place back, if something was
+abbrev pub asking_to_undo : Browser → Browser
+asking_to_undo b = if is_some b.last_move then record b { mode = Undoing } else b
+
+abbrev pub undo_note : Option Moved → Note
+undo_note (Some moved) = Place
+undo_note None = NothingMoved
 
 -- ---- searches
 
@@ -234,10 +269,12 @@ granted wish.Paste b = pasting b
 granted wish.Rename b = renaming b
 granted wish.Make b = typing_in Making new_field b
 granted wish.Trash b = asking_to_trash b
+granted wish.Undo b = asking_to_undo b
 granted other b = went other b
 
 abbrev pub note_of : Wish → Browser → Note
 note_of wish.Trash b = trash_note b.trash
+note_of wish.Undo b = undo_note b.last_move
 note_of wish.SeekOn b = found_note (next_found b)
 note_of wish.SeekBack b = found_note (previous_found b)
 note_of wish.NoteCopy b = noted_note (taken false b)
@@ -268,6 +305,12 @@ typed_into Ignore b = b
 abbrev pub removal_answered : Event → Browser → Browser
 removal_answered event b = if says_yes event then confirmed b else record b { mode = Looking }
 
+-- what is left of the list of the keys is shown, or the list of the entries again
+abbrev pub help_left : Browser → Browser
+help_left b =
+    if nat_lt 0 (list_rows b) && nat_lt (list_rows b) (help_rows - b.helped) then record b { helped = b.helped + list_rows b }
+    else record b { mode = Looking }
+
 -- an order that is named: the folder is listed anew
 abbrev pub order_taken : Option Order → Browser → Browser
 order_taken (Some order) b = record b { order = order; mode = Listing }
@@ -282,6 +325,8 @@ browsed Making event b = typed_into (event_typing event) b
 browsed Pasting event b = typed_into (event_typing event) b
 browsed Seeking event b = sought_into (event_typing event) b
 browsed Sorting event b = order_taken (event_order event) b
+browsed Undoing event b = removal_answered event b
+browsed Helping event b = help_left b
 browsed _ event b = b
 
 -- ---- what is told
@@ -311,6 +356,26 @@ names_typed Making = true
 names_typed Pasting = true
 names_typed _ = false
 
+-- what a command renames or moves
+abbrev pub move_of : Command → Option Moved
+move_of (Rename from to) = Some (record { from = from; to = to })
+move_of _ = None
+
+-- what is renamed or moved by the change that is asked about
+abbrev pub move_made : Browser → Option Moved
+move_made b = option_and_then move_of (change_in b.mode b)
+
+abbrev pub move_noted : Browser → Browser
+move_noted b = record b { last_move = option_or (move_made b) b.last_move }
+
+-- a change was done: the folder is listed anew
+abbrev pub finished : Browser → Browser
+finished b = record (move_noted b) {
+  mode = Listing;
+  seeks_typed = names_typed b.mode;
+  noted = noted_left b.mode b.noted;
+}
+
 -- what stands in a folder is shown
 abbrev pub listing_shown : ListingData → Browser → Browser
 listing_shown l b = selected_at l.place (record b {
@@ -324,8 +389,7 @@ listing_shown l b = selected_at l.place (record b {
 -- what is done leads to the folder anew, and what failed to its reason
 abbrev pub outcome_taken : Outcome → Browser → Browser
 outcome_taken (outcome.Listed l) b = listing_shown l b
-outcome_taken outcome.Done b =
-    record b { mode = Listing; seeks_typed = names_typed b.mode; noted = noted_left b.mode b.noted }
+outcome_taken outcome.Done b = finished b
 outcome_taken (outcome.Failed failure) b =
     record b { mode = Looking; seeks_typed = false; note = Failed b.mode failure }
 
@@ -344,11 +408,15 @@ abbrev pub asks_in : Mode → Bool → Bool
 asks_in Listing sure = true
 asks_in Entering sure = true
 asks_in Leaving sure = true
+asks_in Returning sure = true
 asks_in Trashing sure = sure
 asks_in Removing sure = sure
 asks_in Renaming sure = sure
 asks_in Making sure = sure
 asks_in Pasting sure = sure
+asks_in Undoing sure = sure
+asks_in Helping sure = false
+asks_in Chosen sure = false
 asks_in Sorting sure = false
 asks_in Seeking sure = false
 asks_in Looking sure = false
@@ -363,7 +431,16 @@ browser_asked b = if asks b then Some b else None
 
 abbrev pub is_over_mode : Mode → Bool
 is_over_mode Over = true
+is_over_mode Chosen = true
 is_over_mode _ = false
 
 abbrev pub is_over : Browser → Bool
 is_over b = is_over_mode b.mode
+
+-- the folder that is told in the end
+abbrev pub chosen_in : Mode → Browser → Option (List ℕ)
+chosen_in Chosen b = Some b.folder
+chosen_in _ b = None
+
+abbrev pub chosen : Browser → Option (List ℕ)
+chosen b = chosen_in b.mode b

@@ -1,6 +1,6 @@
 -- What a browser paints: a text in each row.
 use Rattle.std.specs.Prelude.{◌≡◌, ◌≤◌, ℕ, zero, suc, ◌+◌, ◌-◌, ◌==◌, ◌&&◌, min, nat_lt, if◌then◌else◌}
-use Rattle.std.specs.Prelude.{List, Option, Some, None}
+use Rattle.std.specs.Prelude.{List, Option, Some, None, Bool, true, false}
 use Rattle.ratatui_core.specs.{Layout.Rect, Layout.Position, Layout.EdgesFit, Style.Style, Style.new_style}
 use Rattle.ratatui_core.specs.Style.{with_modifier, modifier_of}
 use Rattle.ratatui_core.specs.Buffer.{BufferData, PaintsPieces, IsPlainFrom, IsSettledBuffer, text_pieces}
@@ -9,7 +9,7 @@ use Rattle.ratatui_core.specs.Widgets.{ChangesWithin, OnPart}
 use Rattle.widget_boxes.specs.Titles.{InTurn}
 use Rattle.files.specs.declared.browser.Browser.{Browser}
 use Rattle.files.specs.declared.browser.Mode.{Mode}
-use Rattle.files.specs.declared.browser.Mode.TheVariants.{Renaming, Making, Pasting, Seeking}
+use Rattle.files.specs.declared.browser.Mode.TheVariants.{Renaming, Making, Pasting, Seeking, Helping}
 use Rattle.ratatui_core.specs.Buffer.{text_columns}
 use Rattle.ratatui_core.specs.Terminal.{TerminalData}
 use Rattle.ratatui_ansi.specs.Backend.{BackendState}
@@ -27,12 +27,17 @@ bold = with_modifier (modifier_of 1) new_style
 abbrev pub reversed_row : Style
 reversed_row = with_modifier (modifier_of 64) new_style
 
+-- the rows show entries, and not the list of the keys
+abbrev pub shows_entries : Mode → Bool
+shows_entries Helping = false
+shows_entries _ = true
+
 -- the title is bold, and the entry that is selected reversed
 abbrev pub style_in : ℕ → ℕ → Browser → Style
 style_in k height b =
     if k == height - 1 then new_style
     else if k == 0 then bold
-    else if place_in_row k b == b.selected then reversed_row
+    else if shows_entries b.mode && (place_in_row k b == b.selected) then reversed_row
     else new_style
 
 -- a row

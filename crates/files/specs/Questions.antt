@@ -9,8 +9,9 @@ use Rattle.ratatui_files.specs.declared.command.Command.TheVariants.{Rename, Cop
 use Rattle.files.specs.declared.list.Row.{Row}
 use Rattle.files.specs.declared.browser.Browser.{Browser}
 use Rattle.files.specs.declared.browser.Mode.{Mode}
-use Rattle.files.specs.declared.browser.Mode.TheVariants.{Trashing, Removing, Renaming, Making, Pasting}
+use Rattle.files.specs.declared.browser.Mode.TheVariants.{Trashing, Removing, Renaming, Making, Pasting, Undoing}
 use Rattle.files.specs.declared.notes.Noted.{Noted}
+use Rattle.files.specs.declared.undo.Moved.{Moved}
 use Rattle.files.specs.declared.trash.Discard.{Discard}
 use Rattle.files.specs.Texts.{selected_text}
 use Rattle.files.specs.Trash.{discard_in, IsStep}
@@ -38,6 +39,10 @@ paste_by false from to = Copy from to
 abbrev pub paste_of : Browser → Noted → Option Command
 paste_of b noted = option_map (paste_by noted.is_moved noted.path) (named_path b (field_text b.typed))
 
+-- the way back of what was renamed or moved
+abbrev pub way_back : Moved → Command
+way_back moved = Rename moved.to moved.from
+
 -- the change that a question is about
 abbrev pub change_in : Mode → Browser → Option Command
 change_in Removing b = option_and_then (removal_in b) (slice_get b.list b.selected)
@@ -46,6 +51,7 @@ change_in Renaming b =
     (named_path b (selected_text b))
 change_in Making b = option_map MakeFolder (named_path b (field_text b.typed))
 change_in Pasting b = option_and_then (paste_of b) b.noted
+change_in Undoing b = option_map way_back b.last_move
 change_in _ b = None
 
 -- a browser asks whether this is to be put into the trash

@@ -10,11 +10,13 @@ use Rattle.files.specs.declared.list.Row.{Row}
 use Rattle.files.specs.declared.browser.Browser.{Browser}
 use Rattle.files.specs.declared.browser.Mode.{Mode}
 use Rattle.files.specs.declared.browser.Mode.TheVariants.{Entering, Leaving, Trashing, Removing, Renaming, Making}
-use Rattle.files.specs.declared.browser.Mode.TheVariants.{Pasting, Sorting, Seeking}
+use Rattle.files.specs.declared.browser.Mode.TheVariants.{Pasting, Sorting, Seeking, Returning, Undoing, Helping}
 use Rattle.files.specs.declared.browser.Note.{Note}
 use Rattle.files.specs.declared.browser.Note.TheVariants.{Place, Failed, Narrow, NoTrash, Missing}
-use Rattle.files.specs.declared.browser.Note.TheVariants.{Noted as TellsNoted, NothingNoted}
+use Rattle.files.specs.declared.browser.Note.TheVariants.{Noted as TellsNoted, NothingNoted, NothingMoved}
 use Rattle.files.specs.declared.notes.Noted.{Noted}
+use Rattle.files.specs.declared.undo.Moved.{Moved}
+use Rattle.files.specs.Help.{help_text}
 use Rattle.files.specs.declared.order.Order.{Order}
 use Rattle.files.specs.declared.order.SortBy.{SortBy}
 use Rattle.files.specs.declared.order.SortBy.TheVariants.{Name, Size, Date}
@@ -141,6 +143,19 @@ missing_told b = codes "\"" ++ shown_name b.sought ++ codes "\" is in no name"
 abbrev pub paste_prompt : Browser → List ℕ
 paste_prompt b = paste_verb b.noted ++ codes " \"" ++ noted_shown b.noted ++ codes "\" to \""
 
+-- where something is, from the folder on that all is in
+abbrev pub place_shown : List ℕ → List ℕ
+place_shown path = codes "/" ++ shown_name path
+
+-- where it is that was renamed or moved last, and where it was
+abbrev pub now_shown : Option Moved → List ℕ
+now_shown (Some moved) = place_shown moved.to
+now_shown None = []
+
+abbrev pub was_shown : Option Moved → List ℕ
+was_shown (Some moved) = place_shown moved.from
+was_shown None = []
+
 -- what it was that wasn't done
 abbrev pub subject : Mode → Browser → List ℕ
 subject Entering b = selected_shown b
@@ -149,7 +164,9 @@ subject Removing b = selected_shown b
 subject Renaming b = selected_shown b
 subject Making b = shown_name (field_text b.typed)
 subject Pasting b = noted_shown b.noted
+subject Undoing b = now_shown b.last_move
 subject Leaving b = codes "the folder above"
+subject Returning b = codes "the folder that all is in"
 subject _ b = codes "this folder"
 
 -- what is told while an entry is selected
@@ -161,6 +178,7 @@ note_told NoTrash b = codes "there is no trash: X removes for good"
 note_told Missing b = missing_told b
 note_told TellsNoted b = paste_note_told b
 note_told NothingNoted b = codes "nothing is noted: y takes a file, d a file or a folder"
+note_told NothingMoved b = codes "nothing was renamed or moved"
 
 -- what stands before a name that is typed
 abbrev pub prompt : Mode → Browser → List ℕ
@@ -186,10 +204,16 @@ trash_question b =
 abbrev pub removal_question : Browser → List ℕ
 removal_question b = codes "remove \"" ++ selected_shown b ++ codes "\" for good? y/n"
 
+abbrev pub undo_question : Browser → List ℕ
+undo_question b =
+    codes "move \"" ++ now_shown b.last_move ++ codes "\" back to \"" ++ was_shown b.last_move ++ codes "\"? y/n"
+
 -- what the last row tells
 abbrev pub status_in : Mode → Browser → List ℕ
 status_in Trashing b = trash_question b
 status_in Removing b = removal_question b
+status_in Undoing b = undo_question b
+status_in Helping b = codes "any key goes on, or back"
 status_in Renaming b = name_question Renaming b
 status_in Making b = name_question Making b
 status_in Pasting b = name_question Pasting b
@@ -210,14 +234,24 @@ fits width b = nat_le (text_columns (status_told b)) width
 
 -- ---- the rows
 
--- the place of the entry in a row of the list; so many entries as a number has no more are nowhere
+-- the place of what stands in a row of the list, whose first row has this one; so many as a number has no more are
+-- nowhere
+abbrev pub row_place : ℕ → ℕ → ℕ
+row_place first k = min (first + k) (2 ^ 64 - 1) - 1
+
+-- the place of the entry in a row
 abbrev pub place_in_row : ℕ → Browser → ℕ
-place_in_row k b = min (b.top + k) (2 ^ 64 - 1) - 1
+place_in_row k b = row_place b.top k
+
+-- what stands between the title and the status: an entry, or a row of the list of the keys
+abbrev pub body_in : Mode → ℕ → ℕ → Browser → List ℕ
+body_in Helping width k b = help_text (row_place b.helped k)
+body_in _ width k b = entry_at width (place_in_row k b) b
 
 -- what stands in a row, of as many as there are: the status in the last one, the title in the first one, and
--- entries between them
+-- entries between them, or the list of the keys
 abbrev pub text_in : ℕ → ℕ → ℕ → Browser → List ℕ
 text_in k width height b =
     if k == height - 1 then status_told b
     else if k == 0 then title_text b
-    else entry_at width (place_in_row k b) b
+    else body_in b.mode width k b

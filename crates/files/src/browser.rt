@@ -1,14 +1,16 @@
 //! The state of a file manager.
 
-ghost use Rattle.std.specs.Prelude.{◌≡◌, false, Some, IfOk, OnOk, OnErr};
+ghost use Rattle.std.specs.Prelude.{◌≡◌, false, Some, IfOk, OnOk, OnErr, option_map};
 ghost use Rattle.files.specs.Moves.{new_browser, within_folder, removal_answered, order_taken, browsed, browser_at_told_size, told, outcome_told, browsed_after};
-ghost use Rattle.files.specs.Moves.{asks, browser_asked};
+ghost use Rattle.files.specs.Moves.{asks, browser_asked, help_left, finished, chosen};
 
+use crate::help::HELP;
 use crate::keys::{is_input, order_of, says_yes, wish_of};
 use crate::list::{Outcome, Rows};
 use crate::notes::Noted;
 use crate::order::{Order, SortBy};
 use crate::typing::typing_of;
+use crate::undo::Moved;
 use ratatui_acts::{Acts, Message};
 use ratatui_core::layout::Size;
 use ratatui_events::Event;
@@ -28,6 +30,8 @@ pub enum Mode {
     Entering,
     /// The folder above is listed.
     Leaving,
+    /// The folder is listed above which nothing is reached.
+    Returning,
     /// Keys say whether the entry is to be put into the trash.
     Trashing,
     /// Keys say whether the entry is to be removed for good.
@@ -42,8 +46,14 @@ pub enum Mode {
     Sorting,
     /// A text is typed that names are to have.
     Seeking,
+    /// Keys say whether what was renamed or moved last is to get its old place back.
+    Undoing,
+    /// The list of the keys is shown, until one of them.
+    Helping,
     /// Nothing more is done.
     Over,
+    /// Nothing more is done, and the folder that is shown is told.
+    Chosen,
 }
 
 /// What the status tells while an entry is selected.
@@ -63,6 +73,8 @@ pub enum Note {
     Noted,
     /// That nothing is noted.
     NothingNoted,
+    /// That nothing was renamed or moved.
+    NothingMoved,
 }
 
 /// A folder in rows, of which one is selected. What it asks for is told by itself: it is a function
@@ -103,6 +115,10 @@ pub struct Browser {
     pub(crate) sought: Text,
     /// What is to be copied, or moved, if something is.
     pub(crate) noted: Option<Noted>,
+    /// What was renamed or moved last, if something was.
+    pub(crate) last_move: Option<Moved>,
+    /// The row of the list of the keys that is shown first.
+    pub(crate) helped: usize,
     /// What is typed, and how many columns of the status stand before its cursor.
     pub(crate) typed: TextField,
     pub(crate) column: usize,
@@ -137,6 +153,8 @@ impl Browser {
             note: Note::Place,
             sought: Text::new(String::new(alloc)),
             noted: None,
+            last_move: None,
+            helped: 0,
             typed: TextField::new(alloc),
             column: 0,
         }
@@ -202,21 +220,42 @@ impl Browser {
         }
     }
 
-    // Takes what is typed or pasted.
+    // Shows what is left of the list of the keys, or goes back.
+    fn leave_help(&mut self)
+        ensures { self.new ≡ help_left self.old }
+    {
+        let rows = self.list_rows();
+        if rows > 0 && rows < HELP.len().saturating_sub(self.helped) {
+            self.helped += rows;
+        } else {
+            self.mode = Mode::Looking;
+        }
+    }
+
+    // Takes what is typed, pasted or done with the mouse.
     fn act(&mut self, event: Event) -> Result<(), AllocError>
         ensures ok { OnOk result (self.new ≡ browsed self.old.mode event self.old) }
         ensures err { OnErr result (self.new ≡ self.old) }
     {
         match self.mode {
             Mode::Looking => self.obey(wish_of(event)),
-            Mode::Trashing | Mode::Removing => self.take_answer(event),
+            Mode::Trashing | Mode::Removing | Mode::Undoing => self.take_answer(event),
             Mode::Renaming | Mode::Making | Mode::Pasting => self.take_typing(typing_of(event)),
             Mode::Seeking => self.take_sought(typing_of(event)),
             Mode::Sorting => {
                 self.take_order(order_of(event));
                 Ok(())
             }
-            Mode::Listing | Mode::Entering | Mode::Leaving | Mode::Over => Ok(()),
+            Mode::Helping => {
+                self.leave_help();
+                Ok(())
+            }
+            Mode::Listing
+            | Mode::Entering
+            | Mode::Leaving
+            | Mode::Returning
+            | Mode::Over
+            | Mode::Chosen => Ok(()),
         }
     }
 
@@ -234,17 +273,26 @@ impl Browser {
         Ok(())
     }
 
+    // Takes note of what was done: the folder is listed anew.
+    fn finish(&mut self) -> Result<(), AllocError>
+        ensures ok { OnOk result (self.new ≡ finished self.old) }
+        ensures err { OnErr result (self.new ≡ self.old) }
+    {
+        self.note_move()?;
+        self.seeks_typed = self.names_typed();
+        self.forget_moved();
+        self.mode = Mode::Listing;
+        Ok(())
+    }
+
     // Takes an answer.
-    fn take_outcome(&mut self, outcome: Outcome)
-        ensures { self.new ≡ outcome_told outcome self.old }
+    fn take_outcome(&mut self, outcome: Outcome) -> Result<(), AllocError>
+        ensures ok { OnOk result (self.new ≡ outcome_told outcome self.old) }
+        ensures err { OnErr result (self.new ≡ self.old) }
     {
         match outcome {
             Outcome::Listed(listing) => self.take_listing(listing),
-            Outcome::Done => {
-                self.seeks_typed = self.names_typed();
-                self.forget_moved();
-                self.mode = Mode::Listing;
-            }
+            Outcome::Done => self.finish()?,
             Outcome::Failed(failure) => {
                 self.seeks_typed = false;
                 self.note = Note::Failed(self.mode, failure);
@@ -253,6 +301,17 @@ impl Browser {
         }
         self.is_sure = false;
         self.is_quiet = false;
+        Ok(())
+    }
+
+    /// Returns the folder that is told in the end, if one is.
+    pub fn chosen(&self) -> Option<&Path>
+        ensures { option_map (λ path. path.now) result ≡ chosen self.now }
+    {
+        match self.mode {
+            Mode::Chosen => Some(&self.folder),
+            _ => None,
+        }
     }
 
     /// Returns whether it asks for something.
@@ -260,10 +319,19 @@ impl Browser {
         ensures { result ≡ asks self.now }
     {
         match self.mode {
-            Mode::Listing | Mode::Entering | Mode::Leaving => true,
-            Mode::Trashing | Mode::Removing | Mode::Renaming | Mode::Making | Mode::Pasting =>
-                self.is_sure,
-            Mode::Looking | Mode::Sorting | Mode::Seeking | Mode::Over => false,
+            Mode::Listing | Mode::Entering | Mode::Leaving | Mode::Returning => true,
+            Mode::Trashing
+            | Mode::Removing
+            | Mode::Renaming
+            | Mode::Making
+            | Mode::Pasting
+            | Mode::Undoing => self.is_sure,
+            Mode::Looking
+            | Mode::Sorting
+            | Mode::Seeking
+            | Mode::Helping
+            | Mode::Over
+            | Mode::Chosen => false,
         }
     }
 }
@@ -289,7 +357,7 @@ impl Acts for Browser {
         match message {
             Message::Event(event) => self.hear(event)?,
             Message::Tick(_) => self.is_quiet = true,
-            Message::Answer(outcome) => self.take_outcome(outcome),
+            Message::Answer(outcome) => self.take_outcome(outcome)?,
         }
         Ok(true)
     }
@@ -300,7 +368,7 @@ impl Acts for Browser {
 
     fn is_over(&self) -> bool {
         match self.mode {
-            Mode::Over => true,
+            Mode::Over | Mode::Chosen => true,
             _ => false,
         }
     }

@@ -89,6 +89,17 @@ fn shown(alloc: Global, browser: &Browser) -> Result<Wanted, AllocError>
     })
 }
 
+// The folder above which nothing is reached.
+fn base(alloc: Global, browser: &Browser) -> Result<Wanted, AllocError>
+    ensures { IfOk result (Lists Mode.Returning browser.now) }
+{
+    Ok(Wanted {
+        folder: browser.base.copy(alloc)?,
+        name: Text::copy(alloc, "")?,
+        other: 0,
+    })
+}
+
 // The folder that a browser asks for.
 fn folder_for(alloc: Global, browser: &Browser) -> Result<Option<Wanted>, AllocError>
     ensures { IfOk result (λ wanted. IfSome wanted (Lists browser.now.mode browser.now)) }
@@ -97,6 +108,7 @@ fn folder_for(alloc: Global, browser: &Browser) -> Result<Option<Wanted>, AllocE
         Mode::Listing => Ok(Some(shown(alloc, browser)?)),
         Mode::Entering => selected(alloc, browser),
         Mode::Leaving => above(alloc, &browser.folder),
+        Mode::Returning => Ok(Some(base(alloc, browser)?)),
         _ => Ok(None),
     }
 }
@@ -226,7 +238,9 @@ impl<P: Performs + Drop, W: Write + Drop> Outside<Browser, OnGlass<W>> for Hands
         _command: &Browser,
     ) -> io::Result<Outcome> {
         match state.mode {
-            Mode::Listing | Mode::Entering | Mode::Leaving => Ok(self.list(state)),
+            Mode::Listing | Mode::Entering | Mode::Leaving | Mode::Returning => {
+                Ok(self.list(state))
+            }
             Mode::Trashing => Ok(self.discard(glass, state)),
             _ => Ok(self.change(glass, state)),
         }

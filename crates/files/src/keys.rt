@@ -3,11 +3,14 @@
 ghost use Rattle.std.specs.Prelude.{◌≡◌, ◌==◌};
 ghost use Rattle.ratatui_events.specs.Key.{modifier_bits};
 ghost use Rattle.files.specs.Keys.{character_wish, control_wish, code_wish, kind_wish, event_wish};
+ghost use Rattle.files.specs.Keys.{function_wish, press_wish, mouse_wish, is_left, is_press_or_turn};
 ghost use Rattle.files.specs.Keys.{holds_control, is_down_kind, is_input, is_yes_code, says_yes};
 ghost use Rattle.files.specs.Keys.{order_of_char, code_order, event_order};
 
 use crate::order::{Order, SortBy};
-use ratatui_events::{Event, KeyCode, KeyEvent, KeyEventKind, KeyModifiers};
+use ratatui_events::{
+    Event, KeyCode, KeyEvent, KeyEventKind, KeyModifiers, MouseButton, MouseEvent, MouseEventKind,
+};
 
 /// What a person asks for.
 #[derive(Debug, Clone, Copy, PartialEq, Eq)]
@@ -26,10 +29,17 @@ pub enum Wish {
     /// The first entry, or the last one.
     ToFirst,
     ToLast,
+    /// The entry three rows further, or three rows back.
+    WheelDown,
+    WheelUp,
+    /// The entry in a row of the screen; if that is selected, and a folder, that folder.
+    Click(u16),
     /// The folder that is selected.
     Enter,
     /// The folder above.
     Leave,
+    /// The folder above which nothing is reached.
+    Base,
     /// Hidden entries too, or no longer.
     Hidden,
     /// Another order.
@@ -51,8 +61,14 @@ pub enum Wish {
     Trash,
     /// That the entry be removed for good.
     Remove,
+    /// That what was renamed or moved last get its old place back.
+    Undo,
+    /// The list of the keys.
+    Help,
     /// The end.
     Quit,
+    /// The end, and that the folder be told that is shown then.
+    Choose,
 }
 
 // Whether Control is held, and nothing else.
@@ -73,6 +89,7 @@ fn character_wish(code: char) -> Wish
         'G' => Wish::ToLast,
         'l' => Wish::Enter,
         'h' => Wish::Leave,
+        '~' => Wish::Base,
         '.' => Wish::Hidden,
         's' => Wish::Sort,
         '/' => Wish::Seek,
@@ -85,7 +102,10 @@ fn character_wish(code: char) -> Wish
         'a' => Wish::Make,
         'D' => Wish::Trash,
         'X' => Wish::Remove,
+        'z' => Wish::Undo,
+        '?' => Wish::Help,
         'q' => Wish::Quit,
+        'Q' => Wish::Choose,
         _ => Wish::Nothing,
     }
 }
@@ -102,12 +122,24 @@ fn control_wish(code: KeyCode) -> Wish
     }
 }
 
+// What a function key asks for.
+fn function_wish(number: u8) -> Wish
+    ensures { result ≡ function_wish number }
+{
+    if number == 1 {
+        Wish::Help
+    } else {
+        Wish::Nothing
+    }
+}
+
 // What a key asks for without Control.
 fn code_wish(code: KeyCode) -> Wish
     ensures { result ≡ code_wish code }
 {
     match code {
         KeyCode::Char(character) => character_wish(character),
+        KeyCode::F(number) => function_wish(number),
         KeyCode::Enter | KeyCode::Right => Wish::Enter,
         KeyCode::Backspace | KeyCode::Left => Wish::Leave,
         KeyCode::Down => Wish::Down,
@@ -136,12 +168,35 @@ fn key_wish(key: KeyEvent) -> Wish
     }
 }
 
+// What a button of the mouse asks for that is pressed in a row.
+fn press_wish(button: MouseButton, row: u16) -> Wish
+    ensures { result ≡ press_wish button row }
+{
+    match button {
+        MouseButton::Left => Wish::Click(row),
+        _ => Wish::Nothing,
+    }
+}
+
+// What the mouse asks for.
+fn mouse_wish(mouse: MouseEvent) -> Wish
+    ensures { result ≡ mouse_wish mouse.kind mouse.row }
+{
+    match mouse.kind {
+        MouseEventKind::Down(button) => press_wish(button, mouse.row),
+        MouseEventKind::ScrollDown => Wish::WheelDown,
+        MouseEventKind::ScrollUp => Wish::WheelUp,
+        _ => Wish::Nothing,
+    }
+}
+
 /// Returns what an event asks for.
 pub fn wish_of(event: Event) -> Wish
     ensures { result ≡ event_wish event }
 {
     match event {
         Event::Key(key) => key_wish(key),
+        Event::Mouse(mouse) => mouse_wish(mouse),
         _ => Wish::Nothing,
     }
 }
@@ -192,13 +247,37 @@ fn is_down_kind(kind: KeyEventKind) -> bool
     }
 }
 
-/// Returns whether an event is typed or pasted.
+// Whether a button is the left one.
+fn is_left(button: MouseButton) -> bool
+    ensures { result ≡ is_left button }
+{
+    match button {
+        MouseButton::Left => true,
+        _ => false,
+    }
+}
+
+// Whether the mouse did something that it is heard for: the left button is pressed, or the wheel
+// turns.
+fn is_press_or_turn(kind: MouseEventKind) -> bool
+    ensures { result ≡ is_press_or_turn kind }
+{
+    match kind {
+        MouseEventKind::Down(button) => is_left(button),
+        MouseEventKind::ScrollDown | MouseEventKind::ScrollUp => true,
+        _ => false,
+    }
+}
+
+/// Returns whether an event is typed or pasted, or is a click of the left button or a turn of the
+/// wheel.
 pub fn is_input(event: Event) -> bool
     ensures { result ≡ is_input event }
 {
     match event {
         Event::Key(key) => is_down_kind(key.kind),
         Event::Pasted(_) => true,
+        Event::Mouse(mouse) => is_press_or_turn(mouse.kind),
         _ => false,
     }
 }

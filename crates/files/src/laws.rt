@@ -10,7 +10,12 @@ ghost use Rattle.files.specs.Finding.{next_named, previous_named, NoneBetween, I
 ghost use Rattle.files.specs.declared.hands.Wanted.{Wanted};
 ghost use Rattle.files.specs.Doing.{Lists};
 ghost use Rattle.files.specs.Sorting.{HasName, IsPlaceOf};
-ghost use Rattle.files.specs.Keys.{is_input, event_order};
+ghost use Rattle.files.specs.Keys.{is_input, event_order, event_wish};
+ghost use Rattle.ratatui_events.specs.declared.event.Event.TheVariants.{Key};
+ghost use Rattle.ratatui_events.specs.declared.key.KeyEvent.{KeyEvent};
+ghost use Rattle.files.specs.declared.keys.Wish.TheVariants.{Nothing};
+ghost use Rattle.files.specs.declared.undo.Moved.{Moved};
+ghost use Rattle.files.specs.declared.browser.Mode.TheVariants.{Helping, Undoing};
 ghost use Rattle.std.specs.List.{range_with_len};
 ghost use Rattle.percent_encoding.specs.AsciiSet.{should_percent_encode};
 ghost use Rattle.files.specs.declared.trash.TheConstants.{KEPT};
@@ -32,12 +37,13 @@ ghost use Rattle.files.specs.declared.list.Outcome.TheVariants as outcome;
 ghost use Rattle.files.specs.Names.{shown_name};
 ghost use Rattle.files.specs.Texts.{selected_text, fits, status_told};
 ghost use Rattle.files.specs.Trash.{discard_in};
-ghost use Rattle.files.specs.Moves.{new_browser, browsed_after, list_rows, scrolled_list};
+ghost use Rattle.files.specs.Moves.{new_browser, browsed_after, list_rows, scrolled_list, asks};
 ghost use Rattle.files.specs.Questions.{change_in};
 ghost use Rattle.ratatui_acts.specs.Runs.{Now, Past, HasRun};
 ghost use Rattle.ratatui_app.specs.declared.on_glass.OnGlass.{OnGlass};
 ghost use Rattle.files.specs.RunLaws.{browsing_on, WereOnTheGlass, WereAsked};
-ghost use Rattle.files.specs.Laws.{IsSound, IsPlaced, ListsSame, AsksToRemove, AsksToRename, AsksToTrash, AsksToPaste};
+ghost use Rattle.files.specs.Laws.{IsSound, IsPlaced, ListsSame, AsksToRemove, AsksToRename, AsksToTrash, AsksToPaste, AsksToUndo};
+ghost use Rattle.files.specs.HelpTable.{help_table, AreHelped, HasEntryFor};
 
 use crate::browser::Browser;
 use ratatui_acts::{Hears, Outside};
@@ -75,7 +81,7 @@ pub fn only_listings_change_the_list()
 
 /// A question that removes or renames something names it, whole, and the name that it is given, or
 /// the trash; one that copies or moves something names where it is, whole, and the name that it gets
-/// in the folder that is shown. None whether something is to be put into the trash can be taken for
+/// in the folder that is shown; one that moves something back names both places, whole. None whether something is to be put into the trash can be taken for
 /// one whether it is to be removed for good.
 pub fn questions_name_what_they_change()
     ensures file { (b : Browser) (path : List ℕ) → change_in b.mode b ≡ Some (Remove path)
@@ -84,7 +90,7 @@ pub fn questions_name_what_they_change()
         → AsksToRemove b path }
     ensures renamed { (b : Browser) (from to : List ℕ)
         → change_in b.mode b ≡ Some (Rename from to)
-        → AsksToRename b from to ⊎ AsksToPaste (codes "move") b from to }
+        → AsksToRename b from to ⊎ AsksToPaste (codes "move") b from to ⊎ AsksToUndo b from to }
     ensures copied { (b : Browser) (from to : List ℕ) → change_in b.mode b ≡ Some (Copy from to)
         → AsksToPaste (codes "copy") b from to }
     ensures trashed { (b : Browser) (d : Discard) → b.mode ≡ Trashing → discard_in b ≡ Some d
@@ -152,6 +158,29 @@ pub fn the_selection_stays_on_its_entry()
     ensures sorted { (b : Browser) (e : Event) (o : Order) → b.mode ≡ Sorting → is_input e ≡ true
         → event_order e ≡ Some o → browsed_after b (message.Event e)
         ≡ record b { order = o; mode = Listing; is_quiet = false } }
+{}
+
+/// The list of the keys is right: where it names a key, that key asks for what the table of the list
+/// says, and the row has the words for it. And it is whole: each key that asks for something stands
+/// in the table.
+pub fn the_help_names_the_keys()
+    ensures right { AreHelped help_table }
+    ensures whole { (k : KeyEvent) → event_wish (Key k) ≢ Nothing → HasEntryFor k help_table }
+{}
+
+/// While the list of the keys is shown, no event makes a question sure or asks for anything.
+pub fn nothing_is_asked_while_the_keys_are_shown()
+    ensures { (b : Browser) (e : Event) → b.mode ≡ Helping
+        → asks (browsed_after b (message.Event e)) ≡ false }
+{}
+
+/// What was renamed or moved is what is moved back if that is asked for: the other way round.
+pub fn what_was_moved_is_moved_back()
+    ensures noted { (b : Browser) (from to : List ℕ) → change_in b.mode b ≡ Some (Rename from to)
+        → (browsed_after b (message.Answer outcome.Done)).last_move
+        ≡ Some (record { from = from; to = to }) }
+    ensures back { (b : Browser) (moved : Moved) → b.last_move ≡ Some moved
+        → change_in Undoing b ≡ Some (Rename moved.to moved.from) }
 {}
 
 // ---- runs

@@ -1,11 +1,12 @@
 //! What is made of a wish, and of what is typed.
 
-ghost use Rattle.std.specs.Prelude.{◌≡◌, ◌+◌, ◌-◌, if◌then◌else◌, length, IfOk, OnOk, OnErr};
+ghost use Rattle.std.specs.Prelude.{◌≡◌, ◌+◌, ◌-◌, if◌then◌else◌, not, length, IfOk, OnOk, OnErr};
+ghost use Rattle.std.specs.Str.{bytes_eq};
 ghost use Rattle.text_field.specs.Keys.{edited};
 ghost use Rattle.files.specs.Moves.{list_rows, last_row_place, scrolled_list, selected_at, selection_moved, is_folder_selected};
 ghost use Rattle.files.specs.Moves.{follows_dot, to_dot, at_extension, typing_in, typing_name, renaming, went, asking_to_trash, trash_note, wished};
 ghost use Rattle.files.specs.Texts.{selected_text};
-ghost use Rattle.files.specs.Moves.{confirmed, typed_into, names_typed, listing_shown};
+ghost use Rattle.files.specs.Moves.{confirmed, typed_into, names_typed, listing_shown, entered, is_entry_row, clicked};
 
 use crate::browser::{Browser, Mode, Note};
 use crate::keys::Wish;
@@ -110,6 +111,8 @@ impl Browser {
             Wish::PageUp => self.go_up(page),
             Wish::HalfDown => self.go_down(page / 2),
             Wish::HalfUp => self.go_up(page / 2),
+            Wish::WheelDown => self.go_down(3),
+            Wish::WheelUp => self.go_up(3),
             Wish::ToFirst => self.select(0),
             Wish::ToLast => {
                 let last = self.last_row_place();
@@ -126,6 +129,45 @@ impl Browser {
         match self.list.get(self.selected) {
             Some(row) => !row.is_leaf || row.is_link,
             None => false,
+        }
+    }
+
+    // Whether the folder that is shown isn't the one above which nothing is reached.
+    fn is_inside(&self) -> bool
+        ensures { result ≡ not (bytes_eq self.now.folder self.now.base) }
+    {
+        self.folder.as_str() != self.base.as_str()
+    }
+
+    // Asks for the folder that is selected, if one is.
+    fn enter(&mut self)
+        ensures { self.new ≡ entered self.old }
+    {
+        if self.is_folder_selected() {
+            self.mode = Mode::Entering;
+        }
+    }
+
+    // Whether a row of the screen has an entry of the list.
+    fn is_entry_row(&self, row: u16) -> bool
+        ensures { result ≡ is_entry_row row self.now }
+    {
+        row > 0 && usize::from(row) <= self.list_rows() && self.place_in_row(row) < self.list.len()
+    }
+
+    // Selects the entry in a row of the screen, if it has one; asks for the folder that is selected
+    // if that is the one.
+    fn click(&mut self, row: u16)
+        ensures { self.new ≡ clicked row self.old }
+    {
+        if !self.is_entry_row(row) {
+            return;
+        }
+        let place = self.place_in_row(row);
+        if place == self.selected {
+            self.enter();
+        } else {
+            self.select(place);
         }
     }
 
@@ -173,13 +215,15 @@ impl Browser {
         ensures { self.new ≡ went wish self.old }
     {
         match wish {
-            Wish::Enter => {
-                let may = self.is_folder_selected();
-                self.turn_if(may, Mode::Entering);
-            }
+            Wish::Enter => self.enter(),
+            Wish::Click(row) => self.click(row),
             Wish::Leave => {
-                let may = self.folder.as_str() != self.base.as_str();
+                let may = self.is_inside();
                 self.turn_if(may, Mode::Leaving);
+            }
+            Wish::Base => {
+                let may = self.is_inside();
+                self.turn_if(may, Mode::Returning);
             }
             Wish::Hidden => {
                 self.has_hidden = !self.has_hidden;
@@ -190,7 +234,12 @@ impl Browser {
                 let may = self.list.len() > 0;
                 self.turn_if(may, Mode::Removing);
             }
+            Wish::Help => {
+                self.helped = 0;
+                self.mode = Mode::Helping;
+            }
             Wish::Quit => self.mode = Mode::Over,
+            Wish::Choose => self.mode = Mode::Chosen,
             other => self.move_by(other),
         }
     }
@@ -218,6 +267,7 @@ impl Browser {
             Wish::Rename => self.rename()?,
             Wish::Make => self.begin(Mode::Making, TextField::new(self.alloc))?,
             Wish::Trash => note = self.ask_to_trash(),
+            Wish::Undo => note = self.ask_to_undo(),
             Wish::Seek => self.begin(Mode::Seeking, TextField::new(self.alloc))?,
             Wish::SeekOn => note = self.seek_on(),
             Wish::SeekBack => note = self.seek_back(),

@@ -5,7 +5,7 @@ ghost use Rattle.ratatui_core.specs.Layout.{IsInside};
 ghost use Rattle.ratatui_core.specs.Buffer.{IsReadyFrom};
 ghost use Rattle.ratatui_core.specs.Widgets.{ChangesWithin};
 ghost use Rattle.widget_boxes.specs.Boxes.{IsBoxArea};
-ghost use Rattle.files.specs.Pages.{style_in, PaintsRowText, PaintsListRow, PaintsFirstRows, cursor_at_column};
+ghost use Rattle.files.specs.Pages.{shows_entries, style_in, PaintsRowText, PaintsListRow, PaintsFirstRows, cursor_at_column};
 
 use crate::browser::{Browser, Mode};
 use ratatui_app::Application;
@@ -48,6 +48,16 @@ fn cursor_at_column(column: usize, area: Rect) -> Option<Position>
 }
 
 impl Browser {
+    // Whether the rows show entries.
+    fn shows_entries(&self) -> bool
+        ensures { result ≡ shows_entries self.now.mode }
+    {
+        match self.mode {
+            Mode::Helping => false,
+            _ => true,
+        }
+    }
+
     // The style of a row.
     fn style_in(&self, k: u16, height: u16) -> Style
         requires { k < height }
@@ -57,7 +67,7 @@ impl Browser {
             Style::new()
         } else if k == 0 {
             Style::new().add_modifier(Modifier::BOLD)
-        } else if self.place_in_row(k) == self.selected {
+        } else if self.shows_entries() && self.place_in_row(k) == self.selected {
             Style::new().add_modifier(Modifier::REVERSED)
         } else {
             Style::new()

@@ -74,6 +74,20 @@ impl Browser {
         }
     }
 
+    // The way back of what was renamed or moved last.
+    fn undoing(&self) -> Result<Option<Command>, AllocError>
+        ensures { IfOk result (λ command. command ≡ change_in Mode.Undoing self.now) }
+    {
+        match &self.last_move {
+            Some(moved) => {
+                let to = moved.from.copy(self.alloc)?;
+                let from = moved.to.copy(self.alloc)?;
+                Ok(Some(Command::Rename(from, to)))
+            }
+            None => Ok(None),
+        }
+    }
+
     /// Returns what the question is about: what is done to files if it is answered by yes. None if
     /// nothing is asked, or a name can't be one.
     ///
@@ -88,6 +102,7 @@ impl Browser {
             Mode::Renaming => self.renaming(),
             Mode::Making => self.making(),
             Mode::Pasting => self.pasting(),
+            Mode::Undoing => self.undoing(),
             _ => Ok(None),
         }
     }

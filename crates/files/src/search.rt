@@ -1,6 +1,7 @@
 //! Entries whose names have a text.
 
-ghost use Rattle.std.specs.Prelude.{◌≡◌, ◌<◌, false, length, OnOk, OnErr};
+ghost use Rattle.std.specs.Prelude.{◌≡◌, ◌<◌, true, false, length, take, None, OnOk, OnErr};
+ghost use Rattle.std.specs.Str.{str_eq_ignore_ascii_case};
 ghost use Rattle.files.specs.Finding.{has_upper, starts_as, stands_in, row_has, has_at};
 ghost use Rattle.files.specs.Finding.{first_named, last_named, next_named, previous_named};
 ghost use Rattle.files.specs.Moves.{next_found, previous_found, found_selected, found_note, typed_sought, sought_into};
@@ -18,11 +19,24 @@ fn has_upper(text: &[u8]) -> bool
     text.iter().any(|byte| byte.is_ascii_uppercase())
 }
 
+// Whether the first bytes of a text and a name are others, whatever letters are capitals.
+fn begins_otherwise(text: &[u8], name: &[u8]) -> bool
+    ensures { result ≡ true → str_eq_ignore_ascii_case text.now (take (length text.now) name.now) ≡ false }
+{
+    match (text.first(), name.first()) {
+        (Some(first), Some(other)) => !first.eq_ignore_ascii_case(other),
+        _ => false,
+    }
+}
+
 // Whether a name begins as a text does, whatever letters are capitals.
 fn starts_as(text: &[u8], name: &[u8]) -> bool
     requires { has_upper text.now ≡ false }
     ensures { result ≡ starts_as text.now name.now }
 {
+    if begins_otherwise(text, name) {
+        return false;
+    }
     match name.get(..text.len()) {
         Some(start) => start.eq_ignore_ascii_case(text),
         None => false,
@@ -98,13 +112,42 @@ fn last_named(text: &str, rows: &[Row], before: usize) -> Option<usize>
     None
 }
 
+// The first row of all whose name has a text, where none from one on has it.
+fn first_of_all(text: &str, rows: &[Row], end: usize) -> Option<usize>
+    requires { first_named text.now rows.now end ≡ None }
+    ensures { result ≡ first_named text.now rows.now 0 }
+{
+    for place in 0..end.min(rows.len()) {
+        if has_at(text, rows, place) {
+            return Some(place);
+        }
+    }
+    None
+}
+
+// The last row of all whose name has a text, where none before one has it.
+fn last_of_all(text: &str, rows: &[Row], start: usize) -> Option<usize>
+    requires { last_named text.now rows.now start ≡ None }
+    ensures { result ≡ last_named text.now rows.now (length rows.now) }
+{
+    let mut place = rows.len();
+    while place > start {
+        place -= 1;
+        if has_at(text, rows, place) {
+            return Some(place);
+        }
+    }
+    None
+}
+
 // The next row after one whose name has a text; after the last one the first.
 fn next_named(text: &str, rows: &[Row], place: usize) -> Option<usize>
     ensures { result ≡ next_named text.now rows.now place }
 {
-    match first_named(text, rows, place.saturating_add(1)) {
+    let next = place.saturating_add(1);
+    match first_named(text, rows, next) {
         Some(found) => Some(found),
-        None => first_named(text, rows, 0),
+        None => first_of_all(text, rows, next),
     }
 }
 
@@ -114,7 +157,7 @@ fn previous_named(text: &str, rows: &[Row], place: usize) -> Option<usize>
 {
     match last_named(text, rows, place) {
         Some(found) => Some(found),
-        None => last_named(text, rows, rows.len()),
+        None => last_of_all(text, rows, place),
     }
 }
 

@@ -5,16 +5,18 @@ ghost use Rattle.ratatui_core.specs.Buffer.{text_columns};
 ghost use Rattle.files.specs.Texts.{failure_text, shown_row, file_size_text, size_beside, row_told, title_text, selected_text, sought_text};
 ghost use Rattle.files.specs.Texts.{without_start, inner_text, trash_shown, trash_question};
 ghost use Rattle.files.specs.Texts.{selected_shown, place_told, subject, note_told, prompt, status_told, column_in};
-ghost use Rattle.files.specs.Texts.{fits, text_in, entry_at, place_in_row};
+ghost use Rattle.files.specs.Texts.{fits, text_in, entry_at, row_place, place_in_row, body_in};
+ghost use Rattle.files.specs.Texts.{place_shown, now_shown, was_shown, undo_question};
 ghost use Rattle.files.specs.Texts.{noted_shown, paste_verb, paste_note_told, missing_told, paste_prompt, order_told, unnamed_text};
 
 use crate::browser::{Browser, Mode, Note};
+use crate::help::help_text;
 use crate::list::Row;
 use crate::names::push_name;
 use crate::order::{Order, SortBy};
 use itoa::Buffer as Digits;
 use ratatui_core::text::Span;
-use ratatui_files::Failure;
+use ratatui_files::{Failure, Path};
 use std::alloc::{AllocError, Global};
 use text_field::TextField;
 
@@ -93,6 +95,21 @@ fn push_order(text: &mut String, order: Order) -> Result<(), AllocError>
         (SortBy::Date, false) => text.push_str(", the first date first"),
         (SortBy::Date, true) => text.push_str(", the last date first"),
     }
+}
+
+// The place of what stands in a row of the list, whose first row has this one.
+fn row_place(first: usize, k: u16) -> usize
+    ensures { result ≡ row_place first k }
+{
+    first.saturating_add(usize::from(k)).saturating_sub(1)
+}
+
+// Appends where something is, from the folder on that all is in.
+fn push_place_of(text: &mut String, path: &Path) -> Result<(), AllocError>
+    ensures { OnOk result (string_bytes text.new ≡ string_bytes text.old ++ place_shown path.now) }
+{
+    text.push_str("/")?;
+    push_name(text, path.as_str())
 }
 
 // What follows a beginning of a text, or the text if it begins otherwise.
@@ -254,7 +271,9 @@ impl Browser {
             }
             Mode::Making => push_name(text, self.typed.text()),
             Mode::Pasting => self.push_noted(text),
+            Mode::Undoing => self.push_now(text),
             Mode::Leaving => text.push_str("the folder above"),
+            Mode::Returning => text.push_str("the folder that all is in"),
             _ => text.push_str("this folder"),
         }
     }
@@ -273,6 +292,7 @@ impl Browser {
             Note::NothingNoted => {
                 text.push_str("nothing is noted: y takes a file, d a file or a folder")
             }
+            Note::NothingMoved => text.push_str("nothing was renamed or moved"),
             Note::Failed(mode, failure) => {
                 self.push_subject(mode, text)?;
                 text.push_str(": ")?;
@@ -324,6 +344,41 @@ impl Browser {
         text.push_str("\"? y/n")
     }
 
+    // Appends where it is that was renamed or moved last.
+    fn push_now(&self, text: &mut String) -> Result<(), AllocError>
+        ensures { OnOk result (string_bytes text.new
+            ≡ string_bytes text.old ++ now_shown self.now.last_move) }
+    {
+        match &self.last_move {
+            Some(moved) => push_place_of(text, &moved.to),
+            None => Ok(()),
+        }
+    }
+
+    // Appends where it was.
+    fn push_was(&self, text: &mut String) -> Result<(), AllocError>
+        ensures { OnOk result (string_bytes text.new
+            ≡ string_bytes text.old ++ was_shown self.now.last_move) }
+    {
+        match &self.last_move {
+            Some(moved) => push_place_of(text, &moved.from),
+            None => Ok(()),
+        }
+    }
+
+    // Appends the question whether it is to get its old place back.
+    fn push_undo_question(&self, text: &mut String) -> Result<(), AllocError>
+        ensures { OnOk result (string_bytes text.new
+            ≡ string_bytes text.old ++ undo_question self.now) }
+    {
+        let beginning = "move \"";
+        text.push_str(beginning)?;
+        self.push_now(text)?;
+        text.push_str("\" back to \"")?;
+        self.push_was(text)?;
+        text.push_str("\"? y/n")
+    }
+
     /// Returns what the last row tells.
     pub(crate) fn status_told(&self) -> Result<String, AllocError>
         ensures { IfOk result (λ text. string_bytes text ≡ status_told self.now) }
@@ -331,6 +386,8 @@ impl Browser {
         let mut text = String::new(self.alloc);
         match self.mode {
             Mode::Trashing => self.push_trash_question(&mut text)?,
+            Mode::Undoing => self.push_undo_question(&mut text)?,
+            Mode::Helping => text.push_str("any key goes on, or back")?,
             Mode::Removing => {
                 text.push_str("remove \"")?;
                 self.push_selected(&mut text)?;
@@ -391,7 +448,18 @@ impl Browser {
         } else if k == 0 {
             self.title_text()
         } else {
-            self.entry_text(self.place_in_row(k), width)
+            self.body_text(k, width)
+        }
+    }
+
+    // What stands in a row between the title and the status: an entry, or a row of the list of the
+    // keys.
+    fn body_text(&self, k: u16, width: u16) -> Result<String, AllocError>
+        ensures { IfOk result (λ text. string_bytes text ≡ body_in self.now.mode width k self.now) }
+    {
+        match self.mode {
+            Mode::Helping => String::from_str(self.alloc, help_text(row_place(self.helped, k))),
+            _ => self.entry_text(self.place_in_row(k), width),
         }
     }
 
@@ -399,6 +467,6 @@ impl Browser {
     pub(crate) fn place_in_row(&self, k: u16) -> usize
         ensures { result ≡ place_in_row k self.now }
     {
-        self.top.saturating_add(usize::from(k)).saturating_sub(1)
+        row_place(self.top, k)
     }
 }

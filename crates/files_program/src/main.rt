@@ -7,6 +7,9 @@
 //! renames a file can be called only while each terminal that has read what was sent shows the
 //! question that names it, whole. The terminal has to be in raw mode: `tools/play files_program
 //! FOLDER` sees to that.
+//!
+//! `Q` ends the program, and prints the folder that is shown. In a shell, `cd "$(files)"` goes there:
+//! where standard output is no terminal, the program draws on `/dev/tty`.
 #![tactic(auto)]
 
 use files::{Browser, Hands};
@@ -15,9 +18,10 @@ use ratatui_acts::Seat;
 use ratatui_ansi::{AnsiBackend, size_told};
 use ratatui_app::run_and_leave;
 use ratatui_core::layout::Size;
-use ratatui_files::{Answer, Command, Failure, OnDisk, Path, Performs, Text};
+use ratatui_files::{Failure, OnDisk, Path, Text};
 use std::alloc::Global;
-use std::io::BufWriter;
+use std::fs::OpenOptions;
+use std::io::{BufWriter, Write};
 use std::process::ExitCode;
 use std::{env, fs};
 
@@ -25,13 +29,16 @@ static HELP: &str =
     "files [--trash TRASH] [FOLDER]: shows a folder, the one it is begun in if none is named. Nothing
 above it is reached.
 j k g G, Ctrl+D Ctrl+U, arrows, Home, End, PageUp and PageDown select an entry. l, Enter and Right
-show the folder that is selected; h, Left and Backspace the one above. A dot shows hidden entries.
+show the folder that is selected; h, Left and Backspace the one above, ~ the first one. A dot shows
+hidden entries. The wheel moves by three, a click selects an entry, and enters the selected folder.
 s and then n, s or d sorts by name, size or date, and N, S or D the other way round; folders stay
 first. / finds a text in names, whatever letters are capitals unless one is typed; n and N go on.
 r gives the entry another name, a makes a folder, D puts the entry into the trash. X removes it for
 good, if it is no folder that holds something. y notes a file to be copied, d an entry to be moved,
-and p does so, to the folder that is shown. Each asks first: y, or Enter after a name, says yes
-once the question has stood for a tenth of a second, any other key or Esc says no. q ends.
+and p does so, to the folder that is shown; z moves back what was moved or renamed last. Each asks
+first: y, or Enter after a name, says yes once the question has stood for a tenth of a second, any
+other key or Esc says no. ? and F1 list the keys. q ends. Q ends and prints the folder that is
+shown: where standard output is no terminal, as in cd \"$(files)\", the terminal itself is drawn on.
 The trash is $XDG_DATA_HOME/Trash, or $HOME/.local/share/Trash, if no other one is named.
 ";
 
@@ -47,12 +54,10 @@ fn title(folder: &str) -> &str {
     folder.trim_end_matches('/')
 }
 
-// Whether a folder can be listed.
-fn look<P: Performs>(alloc: Global, files: &mut P) -> anyhow::Result<()> {
-    match files.perform(&Command::List(Path::root(alloc))) {
-        Answer::Failed(failure) => Err(failure.into()),
-        _ => Ok(()),
-    }
+// Fails where a folder can't be listed.
+fn look(rt: &HostRuntime, folder: &str) -> anyhow::Result<()> {
+    let _opened = fs::read_dir(rt, folder)?;
+    Ok(())
 }
 
 // The path, from the root on, of a place that the system has.
@@ -121,14 +126,18 @@ fn browser(rt: &HostRuntime, wanted: &Wanted, size: Size) -> anyhow::Result<Brow
     }
 }
 
-// Shows a folder, until `q`.
-fn show(rt: &HostRuntime, wanted: &Wanted) -> anyhow::Result<()> {
+// Shows a folder on a terminal, until `q` or `Q`, and returns the folder that is to be told.
+fn show_on<W: Write + Drop>(
+    rt: &HostRuntime,
+    wanted: &Wanted,
+    terminal: W,
+) -> anyhow::Result<Option<String>> {
     let alloc = rt.alloc();
-    look(alloc, &mut OnDisk::new(rt, wanted.folder.as_str()))?;
     let size = size_told(rt);
     let browser = browser(rt, wanted, size)?;
-    let writer = BufWriter::new(alloc, rt.stdout())?;
-    let backend = AnsiBackend::new_on_alternate_screen(alloc, writer, size)?;
+    let writer = BufWriter::new(alloc, terminal)?;
+    let mut backend = AnsiBackend::new_on_alternate_screen(alloc, writer, size)?;
+    backend.set_mouse_capture(true)?;
     let mut seat = Seat::new(alloc, browser);
     let mut hands = Hands::new(alloc, OnDisk::new(rt, "/"));
     let has_ticks = is_terminal(rt, Stream::Input);
@@ -141,15 +150,39 @@ fn show(rt: &HostRuntime, wanted: &Wanted) -> anyhow::Result<()> {
         &mut seat,
     )?
     .ended?;
+    match seat.state().chosen() {
+        Some(folder) => Ok(Some(String::from_str(alloc, folder.as_str())?)),
+        None => Ok(None),
+    }
+}
+
+// Shows a folder. Where keys are typed on a terminal and what is written goes elsewhere, that
+// terminal is drawn on.
+fn show(rt: &HostRuntime, wanted: &Wanted) -> anyhow::Result<()> {
+    look(rt, wanted.folder.as_str())?;
+    let told = if is_terminal(rt, Stream::Input) && !is_terminal(rt, Stream::Output) {
+        show_on(
+            rt,
+            wanted,
+            OpenOptions::new().write(true).open(rt, "/dev/tty")?,
+        )?
+    } else {
+        show_on(rt, wanted, rt.stdout())?
+    };
+    if let Some(folder) = told {
+        // A terminal in raw mode goes down by a line feed, and not to the left.
+        let end = if is_terminal(rt, Stream::Output) {
+            "\r\n"
+        } else {
+            "\n"
+        };
+        print!(rt; "/{folder}{end}")?;
+    }
     Ok(())
 }
 
 // Shows what is wanted, or says why it can't be shown.
 fn try_show(rt: &HostRuntime, wanted: &Wanted) -> anyhow::Result<ExitCode> {
-    if is_terminal(rt, Stream::Input) && !is_terminal(rt, Stream::Output) {
-        eprintln!(rt; "files: standard output is no terminal")?;
-        return Ok(ExitCode::FAILURE);
-    }
     if let Err(error) = show(rt, wanted) {
         eprintln!(rt; "files: {}: {error}", wanted.folder)?;
         return Ok(ExitCode::FAILURE);

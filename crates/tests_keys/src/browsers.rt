@@ -227,3 +227,45 @@ fn copies_and_moves(rt: HostRuntime) -> Result<(), Fail> {
     assert!(rt; !has(&end, "b.txt"));
     Ok(())
 }
+
+#[test]
+fn moves_back_what_was_renamed(rt: HostRuntime) -> Result<(), Fail> {
+    let keys: &[&[u8]] = &[
+        b"zjr", b"\x01n", b"", b"\r", b"z", b"", b"n", b"z", b"", b"y", b"q",
+    ];
+    let end = play(rt.alloc(), 60, keys)?;
+    assert!(rt; bytes_at(&end, "a.txt") == b"tea".as_slice());
+    assert!(rt; !has(&end, "na.txt"));
+    Ok(())
+}
+
+#[test]
+fn goes_to_the_first_folder(rt: HostRuntime) -> Result<(), Fail> {
+    let end = play(rt.alloc(), 60, &[b"l~GX", b"", b"y", b"Q"])?;
+    assert!(rt; !has(&end, "b.txt"));
+    Ok(())
+}
+
+#[test]
+fn does_nothing_while_the_keys_are_shown(rt: HostRuntime) -> Result<(), Fail> {
+    let keys: &[&[u8]] = &[b"j?", b"X", b"", b"y", b"", b"DyX", b"", b"yq", b"q"];
+    let end = play(rt.alloc(), 40, keys)?;
+    assert!(rt; has(&end, "a.txt"));
+    Ok(())
+}
+
+#[test]
+fn clicks_and_turns_of_the_wheel_select(rt: HostRuntime) -> Result<(), Fail> {
+    let keys: &[&[u8]] = &[
+        b"\x1b[<65;1;1M\x1b[<0;5;3MX",
+        b"",
+        b"y",
+        b"\x1b[<0;5;2M",
+        b"q",
+    ];
+    let end = play(rt.alloc(), 40, keys)?;
+    assert!(rt; !has(&end, "a.txt"));
+    assert!(rt; has(&end, "b.txt"));
+    assert_stored!(rt; end.screen.terminal().backend(), screens::CLICKED);
+    Ok(())
+}

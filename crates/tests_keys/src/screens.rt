@@ -51,3 +51,12 @@ pub(crate) const NAMED: &[&str] = &[
     "na.txt                                                     3",
     "2/4                                                         ",
 ];
+
+pub(crate) const CLICKED: &[&str] = &[
+    "tree/                                   ",
+    "docs/                                   ",
+    "b.txt                                  6",
+    "                                        ",
+    "                                        ",
+    "1/2                                     ",
+];

@@ -10,6 +10,6 @@ pub returns-in-Tick-clause-ok : goal.returns-in-Tick-clause-ok
 unfolding browsed_after
 returns-in-Tick-clause-ok c = rw c.in-Tick.is refl
 
-pub returns-in-Answer-clause-ok : goal.returns-in-Answer-clause-ok
+pub returns-in_ok-take_outcome-in-Answer-clause-ok : goal.returns-in_ok-take_outcome-in-Answer-clause-ok
 unfolding browsed_after
-returns-in-Answer-clause-ok c = rw c.in-Answer.is c.take_outcome.ensures
+returns-in_ok-take_outcome-in-Answer-clause-ok c = rw c.in-Answer.is c.in_ok-take_outcome-in-Answer.ensures.ok

@@ -1,0 +1,47 @@
+//! The list of the keys.
+
+ghost use Rattle.std.specs.Prelude.{◌≡◌, [], map, slice_get, unwrap_or};
+ghost use Rattle.files.specs.Help.{help_text};
+
+/// The list of the keys, row by row.
+pub static HELP: [&str; 22] = [
+    "j k  Down Up    next, previous entry",
+    "PgDn PgUp       a page down, up",
+    "Ctrl+D Ctrl+U   half a page down, up",
+    "g G  Home End   first, last entry",
+    "l  Enter Right  opens the folder",
+    "h  Back Left    the folder above",
+    "~               the folder all is in",
+    ".               hidden entries, or not",
+    "s  then n s d   by name, size, date;",
+    "      or N S D  the other way round",
+    "/               seeks a text in names",
+    "n N             next, previous found",
+    "y d             notes to copy, to move",
+    "p               pastes what is noted",
+    "r               another name",
+    "a               a new folder",
+    "D X             to the trash, for good",
+    "z               undoes the last move",
+    "wheel  click    moves; selects, opens",
+    "?  F1           this list",
+    "q  Ctrl+C       the end",
+    "Q               the end, told where",
+];
+
+// A row of a list, and after it an empty one.
+fn row_of(rows: &[&'static str], k: usize) -> &'static str
+    ensures { result.now ≡ unwrap_or (slice_get (map (λ row. row.now) rows.now) k) [] }
+{
+    match rows.get(k) {
+        Some(row) => row,
+        None => "",
+    }
+}
+
+/// Returns a row of the list of the keys, from 0 on, and after it an empty one.
+pub(crate) fn help_text(k: usize) -> &'static str
+    ensures { result.now ≡ help_text k }
+{
+    row_of(&HELP, k)
+}

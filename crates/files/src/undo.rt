@@ -1,0 +1,55 @@
+//! What was renamed or moved last, and how it gets its old place back.
+
+ghost use Rattle.std.specs.Prelude.{◌≡◌, IfOk, OnOk, OnErr};
+ghost use Rattle.files.specs.Moves.{move_made, move_noted, asking_to_undo, undo_note};
+
+use crate::browser::{Browser, Mode, Note};
+use ratatui_files::{Command, Path};
+use std::alloc::AllocError;
+
+/// Something that was renamed or moved.
+#[derive(Drop)]
+pub struct Moved {
+    /// Where it was.
+    pub from: Path,
+    /// Where it is.
+    pub to: Path,
+}
+
+impl Browser {
+    // What is renamed or moved by the change that is asked about.
+    fn move_made(&self) -> Result<Option<Moved>, AllocError>
+        ensures { IfOk result (λ moved. moved ≡ move_made self.now) }
+    {
+        match self.change()? {
+            Some(Command::Rename(from, to)) => Ok(Some(Moved { from, to })),
+            _ => Ok(None),
+        }
+    }
+
+    /// Takes note of what was renamed or moved by a change that was done.
+    pub(crate) fn note_move(&mut self) -> Result<(), AllocError>
+        ensures ok { OnOk result (self.new ≡ move_noted self.old) }
+        ensures err { OnErr result (self.new ≡ self.old) }
+    {
+        match self.move_made()? {
+            Some(moved) => self.last_move = Some(moved),
+            None => {}
+        }
+        Ok(())
+    }
+
+    /// Asks whether what was renamed or moved last is to get its old place back, and answers what is
+    /// told.
+    pub(crate) fn ask_to_undo(&mut self) -> Note
+        ensures mode { self.new ≡ asking_to_undo self.old }
+        ensures note { result ≡ undo_note self.old.last_move }
+    {
+        match &self.last_move {
+            Some(_) => {}
+            None => return Note::NothingMoved,
+        }
+        self.mode = Mode::Undoing;
+        Note::Place
+    }
+}
