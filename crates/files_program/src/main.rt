@@ -12,14 +12,19 @@
 //! where standard output is no terminal, the program draws on `/dev/tty`.
 #![tactic(auto)]
 
+ghost use Rattle.std.specs.Prelude.{◌≡◌, IfOk};
+ghost use Rattle.ratatui_core.specs.Backend.{IsBlankScreen};
+ghost use Rattle.ratatui_core.specs.Terminal.{IsBlank};
+ghost use Rattle.ratatui_ansi.specs.Backend.{shown_by};
+
 use files::{Browser, Hands};
 use programs::{Stream, VERSION, is_terminal};
 use ratatui_acts::Seat;
-use ratatui_ansi::{AnsiBackend, size_told};
+use ratatui_ansi::{AnsiBackend, AnsiError, size_told};
 use ratatui_app::run_and_leave;
 use ratatui_core::layout::Size;
 use ratatui_files::{Failure, OnDisk, Path, Text};
-use std::alloc::Global;
+use std::alloc::{AllocError, Global};
 use std::fs::OpenOptions;
 use std::io::{BufWriter, Write};
 use std::process::ExitCode;
@@ -126,19 +131,30 @@ fn browser(rt: &HostRuntime, wanted: &Wanted, size: Size) -> anyhow::Result<Brow
     }
 }
 
-// Shows a folder on a terminal, until `q` or `Q`, and returns the folder that is to be told.
-fn show_on<W: Write + Drop>(
-    rt: &HostRuntime,
-    wanted: &Wanted,
-    terminal: W,
-) -> anyhow::Result<Option<String>> {
-    let alloc = rt.alloc();
-    let size = size_told(rt);
-    let browser = browser(rt, wanted, size)?;
-    let writer = BufWriter::new(alloc, terminal)?;
+// Opens the alternate screen of a terminal, which tells of the mouse from then on.
+fn open<W: Write + Drop>(
+    alloc: Global,
+    writer: W,
+    size: Size,
+) -> Result<AnsiBackend<W>, AnsiError>
+    ensures blank { IfOk result (λ b. IsBlankScreen size.width size.height (shown_by b)) }
+    ensures failures { IfOk result (λ b. b.failures ≡ 0) }
+{
     let mut backend = AnsiBackend::new_on_alternate_screen(alloc, writer, size)?;
     backend.set_mouse_capture(true)?;
-    let mut seat = Seat::new(alloc, browser);
+    Ok(backend)
+}
+
+// Runs a browser until `q` or `Q`, and gives the terminal back.
+fn run_on<W: Write + Drop>(
+    rt: &HostRuntime,
+    backend: AnsiBackend<W>,
+    seat: &mut Seat<Browser>,
+) -> anyhow::Result<()>
+    requires blank { IsBlank (shown_by backend) }
+    requires unfailed { backend.failures ≡ 0 }
+{
+    let alloc = rt.alloc();
     let mut hands = Hands::new(alloc, OnDisk::new(rt, "/"));
     let has_ticks = is_terminal(rt, Stream::Input);
     run_and_leave(
@@ -147,13 +163,33 @@ fn show_on<W: Write + Drop>(
         &mut hands,
         has_ticks,
         backend,
-        &mut seat,
+        seat,
     )?
     .ended?;
-    match seat.state().chosen() {
+    Ok(())
+}
+
+// The folder that is to be told, if one is.
+fn told(alloc: Global, browser: &Browser) -> Result<Option<String>, AllocError> {
+    match browser.chosen() {
         Some(folder) => Ok(Some(String::from_str(alloc, folder.as_str())?)),
         None => Ok(None),
     }
+}
+
+// Shows a folder on a terminal, until `q` or `Q`, and returns the folder that is to be told.
+fn show_on<W: Write + Drop>(
+    rt: &HostRuntime,
+    wanted: &Wanted,
+    terminal: W,
+) -> anyhow::Result<Option<String>> {
+    let alloc = rt.alloc();
+    let size = size_told(rt);
+    let mut seat = Seat::new(alloc, browser(rt, wanted, size)?);
+    let writer = BufWriter::new(alloc, terminal)?;
+    let backend = open(alloc, writer, size)?;
+    run_on(rt, backend, &mut seat)?;
+    Ok(told(alloc, seat.state())?)
 }
 
 // Shows a folder. Where keys are typed on a terminal and what is written goes elsewhere, that
