@@ -132,11 +132,7 @@ fn browser(rt: &HostRuntime, wanted: &Wanted, size: Size) -> anyhow::Result<Brow
 }
 
 // Opens the alternate screen of a terminal, which tells of the mouse from then on.
-fn open<W: Write + Drop>(
-    alloc: Global,
-    writer: W,
-    size: Size,
-) -> Result<AnsiBackend<W>, AnsiError>
+fn open<W: Write + Drop>(alloc: Global, writer: W, size: Size) -> Result<AnsiBackend<W>, AnsiError>
     ensures blank { IfOk result (λ b. IsBlankScreen size.width size.height (shown_by b)) }
     ensures failures { IfOk result (λ b. b.failures ≡ 0) }
 {
