@@ -13,9 +13,9 @@ use Rattle.ratatui_events.specs.declared.key.KeyEventKind.TheVariants.{Press, Re
 use Rattle.files.specs.declared.keys.Wish.{Wish}
 use Rattle.files.specs.declared.keys.Wish.TheVariants as wish
 use Rattle.files.specs.Keys.{holds_control, is_down_kind, kind_wish, control_wish, code_wish, event_wish}
-use Rattle.files.specs.Help.{help_text}
-use Rattle.files.specs.HelpTable.{HelpEntry, HelpLetter, letter_entry, help_letters, help_controls, help_keys, help_words, help_table}
-use Rattle.files.specs.HelpTable.{IsHelped, AreHelped, HasEntryFor}
+use Rattle.files.specs.Help.{keys_row}
+use Rattle.files.specs.HelpTable.{KeyEntry, LetterEntry, letter_entry, key_letters, key_controls, key_others, key_words, key_table}
+use Rattle.files.specs.HelpTable.{IsListedKey, AreListedKeys, HasEntryFor}
 
 -- what a key asks for, with Control or not
 abbrev asked_for : Bool → KeyCode → Wish
@@ -27,38 +27,38 @@ key-asks Release k held code same is pressed = absurd (cc)
 key-asks Press k held code same is pressed = ap (λ b. asked_for b k.code) is ∙ ap (asked_for held) same
 key-asks Repeat k held code same is pressed = ap (λ b. asked_for b k.code) is ∙ ap (asked_for held) same
 
-helped : (e : HelpEntry) → slice_get (slice_split (λ b. b == byte " ") (help_text e.row)) e.word ≡ Some e.name
-    → take (length (help_words e.wish)) (drop e.column (help_text e.row)) ≡ help_words e.wish
-    → asked_for e.held e.code ≡ e.wish → IsHelped e
+helped : (e : KeyEntry) → slice_get (slice_split (λ b. b == byte " ") (keys_row e.row)) e.word ≡ Some e.name
+    → take (length (key_words e.wish)) (drop e.column (keys_row e.row)) ≡ key_words e.wish
+    → asked_for e.held e.code ≡ e.wish → IsListedKey e
 helped e stands says asks = record {
   stands = stands;
   says = says;
   asks = λ k same is pressed. key-asks k.kind k e.held e.code same is pressed ∙ asks;
 }
 
-pub all-helped : AreHelped help_table
+pub all-helped : AreListedKeys key_table
 all-helped = (helped _ refl refl refl, (helped _ refl refl refl, (helped _ refl refl refl, (helped _ refl refl refl, (helped _ refl refl refl, (helped _ refl refl refl, (helped _ refl refl refl, (helped _ refl refl refl, (helped _ refl refl refl, (helped _ refl refl refl, (helped _ refl refl refl, (helped _ refl refl refl, (helped _ refl refl refl, (helped _ refl refl refl, (helped _ refl refl refl, (helped _ refl refl refl, (helped _ refl refl refl, (helped _ refl refl refl, (helped _ refl refl refl, (helped _ refl refl refl, (helped _ refl refl refl, (helped _ refl refl refl, (helped _ refl refl refl, (helped _ refl refl refl, (helped _ refl refl refl, (helped _ refl refl refl, (helped _ refl refl refl, (helped _ refl refl refl, (helped _ refl refl refl, (helped _ refl refl refl, (helped _ refl refl refl, (helped _ refl refl refl, (helped _ refl refl refl, (helped _ refl refl refl, (helped _ refl refl refl, (helped _ refl refl refl, (helped _ refl refl refl, tt)))))))))))))))))))))))))))))))))))))
 
 -- ---- all keys
 
-left-entry : (k : KeyEvent) (one two : List HelpEntry) → HasEntryFor k one → HasEntryFor k (one ++ two)
+left-entry : (k : KeyEvent) (one two : List KeyEntry) → HasEntryFor k one → HasEntryFor k (one ++ two)
 left-entry k [] two has = absurd has
 left-entry k (e ∷ es) two (inl is) = inl is
 left-entry k (e ∷ es) two (inr has) = inr (left-entry k es two has)
 
-right-entry : (k : KeyEvent) (one two : List HelpEntry) → HasEntryFor k two → HasEntryFor k (one ++ two)
+right-entry : (k : KeyEvent) (one two : List KeyEntry) → HasEntryFor k two → HasEntryFor k (one ++ two)
 right-entry k [] two has = has
 right-entry k (e ∷ es) two has = inr (right-entry k es two has)
 
 -- what a letter of a list asks for
-abbrev letter_wish : ℕ → List HelpLetter → Wish
+abbrev letter_wish : ℕ → List LetterEntry → Wish
 letter_wish c [] = wish.Nothing
 letter_wish c (l ∷ ls) = if c == l.letter then l.wish else letter_wish c ls
 
 same-letter : (c d : ℕ) → (c == d) ≡ true → c ≡ d
 same-letter c d is = grind (arith, nat_tests)
 
-letter-found : (held : Bool) (c : ℕ) (ls : List HelpLetter) (k : KeyEvent) → k.code ≡ key.Char c → holds_control k ≡ held
+letter-found : (held : Bool) (c : ℕ) (ls : List LetterEntry) (k : KeyEvent) → k.code ≡ key.Char c → holds_control k ≡ held
     → event_wish (Key k) ≡ letter_wish c ls → (letter_wish c ls ≡ wish.Nothing → ⊥) → HasEntryFor k (map (letter_entry held) ls)
 letter-found held c [] k code is asks some = absurd (some refl)
 letter-found held c (l ∷ ls) k code is asks some = ⊎_elim
@@ -69,21 +69,21 @@ letter-found held c (l ∷ ls) k code is asks some = ⊎_elim
     (cases_Bool (c == l.letter))
 
 abbrev after_letters : KeyEvent → Type 0
-after_letters k = HasEntryFor k (map (letter_entry true) help_controls ++ help_keys)
+after_letters k = HasEntryFor k (map (letter_entry true) key_controls ++ key_others)
 
 abbrev In : KeyEvent → Type 0
-In k = HasEntryFor k help_table
+In k = HasEntryFor k key_table
 
-a-letter : (k : KeyEvent) → HasEntryFor k (map (letter_entry false) help_letters) → In k
-a-letter k has = left-entry k (map (letter_entry false) help_letters) (map (letter_entry true) help_controls ++ help_keys) has
+a-letter : (k : KeyEvent) → HasEntryFor k (map (letter_entry false) key_letters) → In k
+a-letter k has = left-entry k (map (letter_entry false) key_letters) (map (letter_entry true) key_controls ++ key_others) has
 
-a-control : (k : KeyEvent) → HasEntryFor k (map (letter_entry true) help_controls) → In k
-a-control k has = right-entry k (map (letter_entry false) help_letters) (map (letter_entry true) help_controls ++ help_keys)
-    (left-entry k (map (letter_entry true) help_controls) help_keys has)
+a-control : (k : KeyEvent) → HasEntryFor k (map (letter_entry true) key_controls) → In k
+a-control k has = right-entry k (map (letter_entry false) key_letters) (map (letter_entry true) key_controls ++ key_others)
+    (left-entry k (map (letter_entry true) key_controls) key_others has)
 
-a-key : (k : KeyEvent) → HasEntryFor k help_keys → In k
-a-key k has = right-entry k (map (letter_entry false) help_letters) (map (letter_entry true) help_controls ++ help_keys)
-    (right-entry k (map (letter_entry true) help_controls) help_keys has)
+a-key : (k : KeyEvent) → HasEntryFor k key_others → In k
+a-key k has = right-entry k (map (letter_entry false) key_letters) (map (letter_entry true) key_controls ++ key_others)
+    (right-entry k (map (letter_entry true) key_controls) key_others has)
 
 -- F1 is the only key of its kind
 function-found : (one : Bool) (n : ℕ) (k : KeyEvent) → (n == 1) ≡ one → k.code ≡ key.F n → holds_control k ≡ false
@@ -95,8 +95,8 @@ function-found true n k is code held asks some =
 
 in-table : (held : Bool) (code : KeyCode) (k : KeyEvent) → k.code ≡ code → holds_control k ≡ held
     → event_wish (Key k) ≡ asked_for held code → (asked_for held code ≡ wish.Nothing → ⊥) → In k
-in-table false (key.Char c) k code held asks some = a-letter k (letter-found false c help_letters k code held asks some)
-in-table true (key.Char c) k code held asks some = a-control k (letter-found true c help_controls k code held asks some)
+in-table false (key.Char c) k code held asks some = a-letter k (letter-found false c key_letters k code held asks some)
+in-table true (key.Char c) k code held asks some = a-control k (letter-found true c key_controls k code held asks some)
 in-table false (key.F n) k code held asks some = function-found (n == 1) n k refl code held asks some
 in-table true (key.F n) k code held asks some = absurd (some refl)
 in-table false (key.Media m) k code held asks some = absurd (some refl)
@@ -159,5 +159,5 @@ by-kind Release k is some = absurd (some (ap (λ x. kind_wish x k) is))
 by-kind Press k is some = by-held (holds_control k) k refl (ap (λ x. kind_wish x k) is) some
 by-kind Repeat k is some = by-held (holds_control k) k refl (ap (λ x. kind_wish x k) is) some
 
-pub all-keys : (k : KeyEvent) → event_wish (Key k) ≢ wish.Nothing → HasEntryFor k help_table
+pub all-keys : (k : KeyEvent) → event_wish (Key k) ≢ wish.Nothing → HasEntryFor k key_table
 all-keys k some = by-kind k.kind k refl some

@@ -2,7 +2,7 @@
 use Rattle.std.proofs.Common.{◌≡◌, ◌⊎◌, inl, inr, Bool, true, false, ℕ, List, [], ◌++◌, codes, Option, Some, None, if◌then◌else◌, refl, sym, ap, ◌∙◌, arith}
 use Rattle.std.specs.Prelude.{slice_get, option_map, string_bytes, get_or}
 use Rattle.std.specs.Option.{option_and_then, option_map_or, option_or}
-use Rattle.files.specs.Moves.{move_of, move_made}
+use Rattle.files.specs.Moves.{move_by, move_made}
 use Rattle.text_field.specs.Field.{field_text}
 use Rattle.ratatui_files.specs.Paths.{is_name, path_in}
 use Rattle.ratatui_files.specs.declared.command.Command.{Command}
@@ -359,7 +359,7 @@ verbs-differ b c moves removes same =
 
 pub noted-move : (b : Browser) (from to : List ℕ) → change_in b.mode b ≡ Some (Rename from to)
     → option_or (move_made b) b.last_move ≡ Some (record { from = from; to = to })
-noted-move b from to is = ap (λ o. option_or (option_and_then move_of o) b.last_move) is
+noted-move b from to is = ap (λ o. option_or (option_and_then move_by o) b.last_move) is
 
 pub moved-back : (b : Browser) (moved : Moved) → b.last_move ≡ Some moved → change_in Undoing b ≡ Some (Rename moved.to moved.from)
 moved-back b moved is = ap (option_map way_back) is

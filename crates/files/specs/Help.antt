@@ -7,5 +7,5 @@ abbrev pub help_rows : ℕ
 help_rows = length HELP
 
 -- a row of it, and after it an empty one
-abbrev pub help_text : ℕ → List ℕ
-help_text k = unwrap_or (slice_get (map (λ line. line.now) HELP) k) []
+abbrev pub keys_row : ℕ → List ℕ
+keys_row k = unwrap_or (slice_get (map (λ line. line.now) HELP) k) []

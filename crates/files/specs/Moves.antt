@@ -357,13 +357,13 @@ names_typed Pasting = true
 names_typed _ = false
 
 -- what a command renames or moves
-abbrev pub move_of : Command → Option Moved
-move_of (Rename from to) = Some (record { from = from; to = to })
-move_of _ = None
+abbrev pub move_by : Command → Option Moved
+move_by (Rename from to) = Some (record { from = from; to = to })
+move_by _ = None
 
 -- what is renamed or moved by the change that is asked about
 abbrev pub move_made : Browser → Option Moved
-move_made b = option_and_then move_of (change_in b.mode b)
+move_made b = option_and_then move_by (change_in b.mode b)
 
 abbrev pub move_noted : Browser → Browser
 move_noted b = record b { last_move = option_or (move_made b) b.last_move }

@@ -16,7 +16,7 @@ use Rattle.files.specs.declared.browser.Note.TheVariants.{Place, Failed, Narrow,
 use Rattle.files.specs.declared.browser.Note.TheVariants.{Noted as TellsNoted, NothingNoted, NothingMoved}
 use Rattle.files.specs.declared.notes.Noted.{Noted}
 use Rattle.files.specs.declared.undo.Moved.{Moved}
-use Rattle.files.specs.Help.{help_text}
+use Rattle.files.specs.Help.{keys_row}
 use Rattle.files.specs.declared.order.Order.{Order}
 use Rattle.files.specs.declared.order.SortBy.{SortBy}
 use Rattle.files.specs.declared.order.SortBy.TheVariants.{Name, Size, Date}
@@ -245,7 +245,7 @@ place_in_row k b = row_place b.top k
 
 -- what stands between the title and the status: an entry, or a row of the list of the keys
 abbrev pub body_in : Mode → ℕ → ℕ → Browser → List ℕ
-body_in Helping width k b = help_text (row_place b.helped k)
+body_in Helping width k b = keys_row (row_place b.helped k)
 body_in _ width k b = entry_at width (place_in_row k b) b
 
 -- what stands in a row, of as many as there are: the status in the last one, the title in the first one, and

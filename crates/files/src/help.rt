@@ -1,7 +1,7 @@
 //! The list of the keys.
 
 ghost use Rattle.std.specs.Prelude.{◌≡◌, [], map, slice_get, unwrap_or};
-ghost use Rattle.files.specs.Help.{help_text};
+ghost use Rattle.files.specs.Help.{keys_row};
 
 /// The list of the keys, row by row.
 pub static HELP: [&str; 22] = [
@@ -40,8 +40,8 @@ fn row_of(rows: &[&'static str], k: usize) -> &'static str
 }
 
 /// Returns a row of the list of the keys, from 0 on, and after it an empty one.
-pub(crate) fn help_text(k: usize) -> &'static str
-    ensures { result.now ≡ help_text k }
+pub(crate) fn keys_row(k: usize) -> &'static str
+    ensures { result.now ≡ keys_row k }
 {
     row_of(&HELP, k)
 }

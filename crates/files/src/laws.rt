@@ -43,7 +43,7 @@ ghost use Rattle.ratatui_acts.specs.Runs.{Now, Past, HasRun};
 ghost use Rattle.ratatui_app.specs.declared.on_glass.OnGlass.{OnGlass};
 ghost use Rattle.files.specs.RunLaws.{browsing_on, WereOnTheGlass, WereAsked};
 ghost use Rattle.files.specs.Laws.{IsSound, IsPlaced, ListsSame, AsksToRemove, AsksToRename, AsksToTrash, AsksToPaste, AsksToUndo};
-ghost use Rattle.files.specs.HelpTable.{help_table, AreHelped, HasEntryFor};
+ghost use Rattle.files.specs.HelpTable.{key_table, AreListedKeys, HasEntryFor};
 
 use crate::browser::Browser;
 use ratatui_acts::{Hears, Outside};
@@ -81,8 +81,8 @@ pub fn only_listings_change_the_list()
 
 /// A question that removes or renames something names it, whole, and the name that it is given, or
 /// the trash; one that copies or moves something names where it is, whole, and the name that it gets
-/// in the folder that is shown; one that moves something back names both places, whole. None whether something is to be put into the trash can be taken for
-/// one whether it is to be removed for good.
+/// in the folder that is shown; one that moves something back names both places, whole. None whether
+/// something is to be put into the trash can be taken for one whether it is to be removed for good.
 pub fn questions_name_what_they_change()
     ensures file { (b : Browser) (path : List ℕ) → change_in b.mode b ≡ Some (Remove path)
         → AsksToRemove b path }
@@ -164,8 +164,8 @@ pub fn the_selection_stays_on_its_entry()
 /// says, and the row has the words for it. And it is whole: each key that asks for something stands
 /// in the table.
 pub fn the_help_names_the_keys()
-    ensures right { AreHelped help_table }
-    ensures whole { (k : KeyEvent) → event_wish (Key k) ≢ Nothing → HasEntryFor k help_table }
+    ensures right { AreListedKeys key_table }
+    ensures whole { (k : KeyEvent) → event_wish (Key k) ≢ Nothing → HasEntryFor k key_table }
 {}
 
 /// While the list of the keys is shown, no event makes a question sure or asks for anything.

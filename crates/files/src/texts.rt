@@ -10,7 +10,7 @@ ghost use Rattle.files.specs.Texts.{place_shown, now_shown, was_shown, undo_ques
 ghost use Rattle.files.specs.Texts.{noted_shown, paste_verb, paste_note_told, missing_told, paste_prompt, order_told, unnamed_text};
 
 use crate::browser::{Browser, Mode, Note};
-use crate::help::help_text;
+use crate::help::keys_row;
 use crate::list::Row;
 use crate::names::push_name;
 use crate::order::{Order, SortBy};
@@ -458,7 +458,7 @@ impl Browser {
         ensures { IfOk result (λ text. string_bytes text ≡ body_in self.now.mode width k self.now) }
     {
         match self.mode {
-            Mode::Helping => String::from_str(self.alloc, help_text(row_place(self.helped, k))),
+            Mode::Helping => String::from_str(self.alloc, keys_row(row_place(self.helped, k))),
             _ => self.entry_text(self.place_in_row(k), width),
         }
     }
