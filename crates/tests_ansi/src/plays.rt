@@ -410,13 +410,13 @@ fn used_terminals_are_made_blank(rt: HostRuntime) -> Result<(), Fail> {
     Ok(())
 }
 
-// What stood on the screen is in the history, and no more.
+// What stood on the screen is in the history, an empty row after it, and no more.
 #[test]
 fn the_screen_is_saved(rt: HostRuntime) -> Result<(), Fail> {
     let backend = over_kept(rt.alloc(), 3, 2)?;
     let left = "a\u{1b}[31mb\r\ncde\n\rf\u{1b}[1;1H";
     let reader = Reader::of(rt.alloc(), 3, 2, (left, ""), sent(&backend))?;
-    assert!(rt; reader.has_above(&["cde", "f  "]));
+    assert!(rt; reader.has_above(&["cde", "f  ", "   "]));
     Ok(())
 }
 
