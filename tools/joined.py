@@ -5,13 +5,12 @@ folder the built program lies: crates/CRATE/out/joined. Nothing else of a progra
 checks of `rt try`. `tools/play` and `tools/install` build each by itself.
 """
 
-import hashlib
 import os
 import re
 import shutil
 import tempfile
 
-from played import NotBuilt, Refused, below, copied, kit, script, sources
+from played import NotBuilt, Refused, below, copied, kit, script, sources, sum_of
 from shared import TOP, ran
 
 CRATE = "joined_programs"
@@ -95,12 +94,7 @@ def write(names, at):
 def stamp(names, version):
     """A checksum of all that joined programs are built from."""
     crates = {name: of for program in names for name, of in below(program).items()}
-    sums = hashlib.sha256(f"{version}\n{MAIN}\n{' '.join(names)}\n{sorted(crates.items())}\n".encode())
-    for file in sources(crates):
-        with open(file, "rb") as code:
-            content = code.read()
-        sums.update(f"{os.path.relpath(file, TOP)} {len(content)}\n".encode() + content)
-    return sums.hexdigest()
+    return sum_of(f"{version}\n{MAIN}\n{' '.join(names)}", crates)
 
 
 def join(names):

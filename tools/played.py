@@ -71,15 +71,19 @@ def kit():
     return os.path.dirname(os.path.dirname(os.path.realpath(found))), said.strip()
 
 
-def stamp(crate, version):
-    """A checksum of all that a program is built from."""
-    crates = below(crate)
-    sums = hashlib.sha256(f"{version}\n{LINKER}\n{sorted(crates.items())}\n".encode())
+def sum_of(first, crates):
+    """A checksum of some words, and of the lines and the sources of crates."""
+    sums = hashlib.sha256(f"{first}\n{sorted(crates.items())}\n".encode())
     for file in sources(crates):
         with open(file, "rb") as code:
             content = code.read()
         sums.update(f"{os.path.relpath(file, TOP)} {len(content)}\n".encode() + content)
     return sums.hexdigest()
+
+
+def stamp(crate, version):
+    """A checksum of all that a program is built from."""
+    return sum_of(f"{version}\n{LINKER}", below(crate))
 
 
 def copy_of_kit(folder, at, kept, status):
