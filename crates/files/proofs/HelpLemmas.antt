@@ -68,9 +68,6 @@ letter-found held c (l ∷ ls) k code is asks some = ⊎_elim
     inr (letter-found held c ls k code is (rw not at asks) (λ none. some (rw not none))))
     (cases_Bool (c == l.letter))
 
-abbrev after_letters : KeyEvent → Type 0
-after_letters k = HasEntryFor k (map (letter_entry true) key_controls ++ key_others)
-
 abbrev In : KeyEvent → Type 0
 In k = HasEntryFor k key_table
 

@@ -46,7 +46,8 @@ pub record WantsBase (b : Browser) (w : Wanted) : Type 0 where
   pub name : w.name ≡ []
   pub other : w.other ≡ 0
 
--- the folder that is asked for: the one that is shown, the one that is selected, the one above, or the one that all is in
+-- the folder that is asked for: the one that is shown, the one that is selected, the one above, or the one
+-- that all is in
 abbrev pub Lists : Mode → Browser → Wanted → Type 0
 Lists Listing b w = WantsShown b w
 Lists Entering b w = WantsSelected b w

@@ -1,4 +1,5 @@
--- The table of the list of keys: which key each word of it names, what that key asks for, and which words say so.
+-- The table of the list of keys: which key each word of it names, what that key asks for, and which words
+-- say so.
 use Rattle.std.specs.Prelude.{◌≡◌, ◌⊎◌, ℕ, Bool, true, false, ◌==◌, List, [], ◌∷◌, ◌++◌, Some, codes, slice_get, length, take, drop, map, ⊤}
 use Rattle.std.specs.{Str.byte, List.slice_split}
 use Rattle.ratatui_events.specs.declared.event.Event.TheVariants.{Key}
@@ -10,8 +11,8 @@ use Rattle.files.specs.declared.keys.Wish.TheVariants as wish
 use Rattle.files.specs.Keys.{holds_control, is_down_kind, event_wish}
 use Rattle.files.specs.Help.{keys_row}
 
--- a word of a row of the list, the key that it names, with Control or not, what that asks for, and in which column the
--- words begin that say what that is
+-- a word of a row of the list, the key that it names, with Control or not, what that asks for, and in
+-- which column the words begin that say what that is
 pub record KeyEntry : Type 0 where
   pub row : ℕ
   pub word : ℕ
@@ -77,8 +78,8 @@ key_words wish.Quit = codes "the end"
 key_words wish.Choose = codes "the end, told where"
 key_words _ = []
 
--- letters, letters with Control, and other keys; words are parted by one blank each, so that there is an empty word
--- between two blanks
+-- letters, letters with Control, and other keys; words are parted by one blank each, so that there is an
+-- empty word between two blanks
 abbrev pub key_letters : List LetterEntry
 key_letters =
     lists_letter 0 0 (byte "j") wish.Down 16
@@ -135,7 +136,8 @@ key_table = map (letter_entry false) key_letters ++ (map (letter_entry true) key
 pub record IsListedKey (e : KeyEntry) : Type 0 where
   pub stands : slice_get (slice_split (λ b. b == byte " ") (keys_row e.row)) e.word ≡ Some e.name
   pub says : take (length (key_words e.wish)) (drop e.column (keys_row e.row)) ≡ key_words e.wish
-  pub asks : (k : KeyEvent) → k.code ≡ e.code → holds_control k ≡ e.held → is_down_kind k.kind ≡ true → event_wish (Key k) ≡ e.wish
+  pub asks : (k : KeyEvent) → k.code ≡ e.code → holds_control k ≡ e.held → is_down_kind k.kind ≡ true
+      → event_wish (Key k) ≡ e.wish
 
 abbrev pub AreListedKeys : List KeyEntry → Type 0
 AreListedKeys [] = ⊤

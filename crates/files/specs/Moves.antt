@@ -151,7 +151,8 @@ entered b = if is_folder_selected b then record b { mode = Entering } else b
 abbrev pub is_entry_row : ℕ → Browser → Bool
 is_entry_row row b = nat_lt 0 row && nat_le row (list_rows b) && nat_lt (place_in_row row b) (length b.list)
 
--- the left button is pressed in a row: its entry is selected; if it is selected already, its folder is asked for
+-- the left button is pressed in a row: its entry is selected; if it is selected already, its folder is
+-- asked for
 abbrev pub clicked : ℕ → Browser → Browser
 clicked row b =
     if not (is_entry_row row b) then b

@@ -234,8 +234,8 @@ fits width b = nat_le (text_columns (status_told b)) width
 
 -- ---- the rows
 
--- the place of what stands in a row of the list, whose first row has this one; so many as a number has no more are
--- nowhere
+-- the place of what stands in a row of the list, whose first row has this one; so many as a number has no
+-- more are nowhere
 abbrev pub row_place : ℕ → ℕ → ℕ
 row_place first k = min (first + k) (2 ^ 64 - 1) - 1
 
