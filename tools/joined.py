@@ -1,8 +1,8 @@
-"""Programs that are built as one, for tests: what takes longest in a build is to read the sources of all that a program stands on.
+"""Programs, and crates of tests, that are built as one, for tests: what takes longest in a build is to read the sources of all that it stands on.
 
 Each program becomes a module of a crate that is made for it, in a copy of the sources, and the crate's own `main` begins the one in whose
 folder the built program lies: crates/CRATE/out/joined. Nothing else of a program is changed but its paths. It is built unproved, with the
-checks of `rt try`. `tools/play` and `tools/install` build each by itself.
+checks of `rt try`. `tools/play` and `tools/install` build each by itself. Crates of tests become modules of a library in the same way.
 """
 
 import os
@@ -13,7 +13,13 @@ import tempfile
 from played import NotBuilt, Refused, below, copied, kit, script, sources, sum_of
 from shared import TOP, ran
 
-CRATE = "joined_programs"
+CRATE = "joined_crates"
+# The library whose modules are crates of tests.
+LIBRARY = """//! Crates of tests, each in a module.
+#![tactic(auto)]
+
+{modules}"""
+# The program whose modules are programs.
 MAIN = """//! Programs, each in a module, begun by the folder in which this one lies.
 #![tactic(auto)]
 
@@ -56,15 +62,15 @@ def answer_of(name):
 
 
 def as_module(text, name, is_main):
-    """A file of a program, as one of a module."""
+    """A file of a crate, as one of a module."""
     text = text.replace("crate::", f"crate::{name}::").replace(f"Rattle.{name}.specs.", f"Rattle.{CRATE}.specs.{name}.")
     if not is_main:
         return text
     return re.sub(r"^fn main\(", "pub fn main(", text.replace("#![tactic(auto)]\n", ""), flags=re.MULTILINE)
 
 
-def write(names, at):
-    """Writes a repository that has the crate of these programs, and all that they stand on."""
+def write(names, at, are_programs=True):
+    """Writes a repository that has the crate of these programs, or of these crates of tests, and all that they stand on."""
     lines = {}
     for name in names:
         lines.update(below(name))
@@ -78,13 +84,17 @@ def write(names, at):
             file.write(f"{name}: {' '.join(of)}\n")
     for file in sources(names):
         name, part, *rest = os.path.relpath(file, f"{TOP}/crates").split(os.sep)
-        is_main = part == "src" and rest == ["main.rt"]
+        is_main = part == "src" and rest in (["main.rt"], ["lib.rt"])
         to = f"{at}/crates/{CRATE}/src/{name}.rt" if is_main else os.path.join(f"{at}/crates/{CRATE}", part, name, *rest)
         os.makedirs(os.path.dirname(to), exist_ok=True)
         with open(file, encoding="utf-8") as code, open(to, "w", encoding="utf-8") as copy:
             copy.write(as_module(code.read(), name, is_main))
+    modules = "".join(f"mod {name};\n" for name in names)
+    if not are_programs:
+        script(f"{at}/crates/{CRATE}/src/lib.rt", LIBRARY.format(modules=modules))
+        return
     main = {
-        "modules": "".join(f"mod {name};\n" for name in names),
+        "modules": modules,
         "names": "".join(f'    if path.as_str().contains("/{name}/out/") {{\n        return {n};\n    }}\n' for n, name in enumerate(names, 1)),
         "arms": "".join(f"        {n} => {ARMS[answer_of(name)].format(name=name)},\n" for n, name in enumerate(names, 1)),
     }
@@ -114,6 +124,15 @@ def join(names):
             os.replace(f"{path_of(name)}.{os.getpid()}", path_of(name))
             with open(f"{path_of(name)}.stamp", "w", encoding="utf-8") as file:
                 file.write(wanted)
+
+
+def joined_tests_pass(names, seconds):
+    """Whether the tests of crates that are built as one pass, and what was said."""
+    folder, _ = kit()
+    with tempfile.TemporaryDirectory() as at, copied(folder, 0) as (rt, _):
+        write(names, at, are_programs=False)
+        status, said = ran([rt, "try", "--seconds", seconds, "--test"], f"{at}/crates/{CRATE}")
+    return status == 0, said
 
 
 def path_of(name):

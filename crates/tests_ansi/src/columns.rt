@@ -40,6 +40,16 @@ impl Area {
         }
     }
 
+    // The first row that may have a column here, and how many may from there on.
+    pub fn rows(self, height: u16) -> (u16, u16) {
+        match self {
+            Area::Run(at, _) | Area::Part(ClearType::CurrentLine | ClearType::UntilNewLine, at) => {
+                (at.y, 1)
+            }
+            Area::Part(_, _) => (0, height),
+        }
+    }
+
     // Whether a symbol, of which this is column `a` of row `b`, has a column here.
     pub fn meets(self, a: u16, b: u16, column: Column<'_>) -> bool {
         let first = a.saturating_sub(column.index);

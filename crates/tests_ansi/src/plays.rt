@@ -155,7 +155,6 @@ impl Play {
             random.below(self.height.saturating_add(1)),
         );
         let room = self.width.saturating_sub(x);
-        let is_behind = self.read()?.is_behind(x, y);
         let before = sent(&self.backend).len();
         match self.backend.draw(iter::once((x, y, &cell))) {
             Ok(()) => {
@@ -166,6 +165,7 @@ impl Play {
                 let place = Position { x, y };
                 let is_in = x < self.width && y < self.height;
                 let is_unsent = sent(&self.backend).len() == before;
+                let is_behind = self.read()?.is_behind(x, y);
                 let has_colors = self.has_underline_colors;
                 let is_one = is_reason(error, place, is_behind, room, has_colors, &cell);
                 Ok(is_in && is_unsent && is_one)
@@ -220,10 +220,15 @@ impl Play {
     fn clears(&mut self, random: &mut Random) -> Result<bool, Fail> {
         let clear_type = random.among(&CLEARS, ClearType::All);
         let cursor = self.screen.cursor_position();
-        let is_behind = self.read()?.is_behind(cursor.x, cursor.y);
+        let before = sent(&self.backend).len();
         match self.backend.clear_region(clear_type) {
             Ok(()) => Ok(self.screen.clear_region(clear_type).is_ok()),
-            Err(error) => Ok(is_behind && matches!(error, AnsiError::Cut(at) if at == cursor)),
+            Err(error) => {
+                let is_unsent = sent(&self.backend).len() == before;
+                let is_behind = self.read()?.is_behind(cursor.x, cursor.y);
+                let is_one = matches!(error, AnsiError::Cut(at) if at == cursor);
+                Ok(is_unsent && is_behind && is_one)
+            }
         }
     }
 

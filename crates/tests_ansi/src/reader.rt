@@ -308,9 +308,12 @@ impl<'a> Reader<'a> {
     fn overwrite(&mut self, area: Area, symbol: &'a str, sgr: Sgr, count: u16) {
         let width = self.width;
         let first = self.x;
+        let (top, height) = area.rows(self.height);
+        let before = usize::from(top) * usize::from(width);
+        let count_of_rows = usize::from(height) * usize::from(width);
         let mut a: u16 = 0;
-        let mut b: u16 = 0;
-        for slot in self.columns.iter_mut() {
+        let mut b = top;
+        for slot in self.columns.iter_mut().skip(before).take(count_of_rows) {
             if area.has(a, b) {
                 let index = if count == 1 {
                     0

@@ -134,14 +134,8 @@ static SYMBOLS: &str = "\
 
 /// Returns the arms of a text by the table above, if it is a border symbol.
 fn arms_of(text: &str) -> Option<&'static str> {
-    for line in SYMBOLS.lines() {
-        if let Some((symbol, arms)) = line.split_once(' ') {
-            if symbol == text {
-                return Some(arms);
-            }
-        }
-    }
-    None
+    let (_, line) = SYMBOLS.split_once(text)?;
+    line.strip_prefix(' ')?.lines().next()
 }
 
 /// Returns whether there is an arm just if one of the other two has one.
