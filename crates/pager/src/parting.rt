@@ -5,6 +5,7 @@ ghost use Rattle.pager.specs.Parted.{has_signs};
 
 use crate::sgr::{sequence_at, styled_by};
 use crate::styles::{Run, Styles};
+use memchr::memchr2;
 use ratatui_core::style::{Modifier, Style};
 use std::alloc::{AllocError, Global};
 use std::mem;
@@ -131,10 +132,11 @@ impl Parting {
 }
 
 // Whether an escape or a backspace stands in a text.
+#[tactic(auto, using(crate::proofs::PartedLemmas::signs_found))]
 fn has_signs(text: &str) -> bool
     ensures { result ≡ has_signs text.now }
 {
-    text.chars().any(|c| c == '\x1b' || c == '\x08')
+    memchr2(b'\x1b', b'\x08', text.as_bytes()).is_some()
 }
 
 /// Returns what a text says and the runs of styles of its lines, if it has an escape or a

@@ -32,6 +32,8 @@ pub struct PieceReader<'a, R> {
     // Whether each read finds bytes or the end, so that one can be made only to find out whether it
     // is the last one.
     is_file: bool,
+    // What a read fills.
+    buf: Vec<u8>,
     // What was read after the last piece.
     rest: Vec<u8>,
     // Whether the last read found something.
@@ -107,8 +109,23 @@ impl<'a, R: Read> PieceReader<'a, R> {
             arena,
             reader,
             is_file,
+            buf: Vec::new(alloc),
             rest: Vec::new(alloc),
             flows: true,
+        }
+    }
+
+    // Takes out what a read of so many bytes fills: that of the last one, if it has as many.
+    fn take_buf(&mut self, room: usize) -> Result<Vec<u8>, AllocError>
+        ensures room { IfOk result (λ buf. length buf.items ≡ room) }
+        ensures rest { self.new.rest ≡ self.old.rest }
+        ensures reader { self.new.reader ≡ self.old.reader }
+    {
+        let buf = mem::replace(&mut self.buf, Vec::new(self.alloc));
+        if buf.len() == room {
+            Ok(buf)
+        } else {
+            Vec::from_elem(self.alloc, 0u8, room)
         }
     }
 
@@ -122,17 +139,17 @@ impl<'a, R: Read> PieceReader<'a, R> {
             → IsAtEnd (R.remaining self.new.reader)) }
         ensures more { OnOk result (length self.old.rest.items ≤ length self.new.rest.items) }
     {
-        let mut buf = Vec::from_elem(self.alloc, 0u8, room).map_err(no_memory)?;
+        let mut buf = self.take_buf(room).map_err(no_memory)?;
         let tries = if self.flows { TRIES } else { 1 };
-        self.flows = false;
-        let Some(count) = read_ready(&mut self.reader, buf.as_mut_slice(), tries)? else {
-            return Ok(None);
-        };
-        self.flows = true;
-        self.rest
-            .extend_from_slice(&buf[..count])
-            .map_err(no_memory)?;
-        Ok(Some(count))
+        let found = read_ready(&mut self.reader, buf.as_mut_slice(), tries)?;
+        self.flows = found.is_some();
+        if let Some(count) = found {
+            self.rest
+                .extend_from_slice(&buf[..count])
+                .map_err(no_memory)?;
+        }
+        self.buf = buf;
+        Ok(found)
     }
 
     // Reads, and keeps what came. Answers what was found after it.
