@@ -2,7 +2,7 @@
 use Rattle.std.proofs.Common.{◌≡◌, Bool, true, false, List, [], ◌∷◌, ◌++◌, refl, ap, ap₂, sym, ◌∙◌}
 use Rattle.std.proofs.Common.{◌⊎◌, inl, inr, subst, Option, Some, None, is_some, ◌||◌}
 use Rattle.ratatui_acts.specs.Turns.{Turn, Came, Done, Standing, ActingRules, waits, after_turn, after_turns, IsWanted}
-use Rattle.ratatui_acts.specs.Turns.{WasNothing, IsQuiet, first_told, AreLight, IsHeavy, LacksPlaces}
+use Rattle.ratatui_acts.specs.Turns.{WasNothing, IsQuiet, first_told, HasLightMessages, IsHeavy, LacksPlaces}
 use Rattle.ratatui_acts.specs.declared.message.Message.TheVariants as message
 use Rattle.ratatui_acts.specs.declared.fault.Fault.TheVariants.{Memory}
 use Rattle.ratatui_acts.specs.declared.told.Told.{Told}
@@ -218,7 +218,7 @@ module _ {S C R G E H O : Type 0} (ground : Ground S C R G E H O) where
       )
 
   -- a turn of light messages is refused no memory, where nothing is left that wasn't told
-  light-turn : AreLight ground.rules → (s : S) (t : Turn C R) → IsHeavy ground.rules s t → ⊥
+  light-turn : HasLightMessages ground.rules → (s : S) (t : Turn C R) → IsHeavy ground.rules s t → ⊥
   light-turn light s (Came [] passed) heavy = heavy (light s (message.Tick passed))
   light-turn light s (Came (b ∷ bytes) passed) heavy = heavy
   light-turn light s (Done command answer) heavy = heavy (light s (message.Answer answer))
@@ -229,7 +229,7 @@ module _ {S C R G E H O : Type 0} (ground : Ground S C R G E H O) where
       lacks.some (nothing-left b (no-wait b.state goes_on wanted) rests)
   read-left b after (Done command answer) rests goes_on wanted lacks = lacks.read
 
-  light-refused : AreLight ground.rules → (before after : Now S G H O) → Rests ground.rules before.standing
+  light-refused : HasLightMessages ground.rules → (before after : Now S G H O) → Rests ground.rules before.standing
       → LacksMemory ground before after → ⊥
   light-refused light before after rests lacks = elim lacks.refused [
     | inl first ↦ light-turn light before.standing.state lacks.turn first.heavy
@@ -238,7 +238,7 @@ module _ {S C R G E H O : Type 0} (ground : Ground S C R G E H O) where
   ]
 
   -- so a run of light messages is refused none
-  pub light-runs : AreLight ground.rules → (before after : Now S G H O) → before.standing.left ≡ []
+  pub light-runs : HasLightMessages ground.rules → (before after : Now S G H O) → before.standing.left ≡ []
       → StopsTurning ground before after Memory → ⊥
   light-runs light before after none (inl first) = first
   light-runs light before after none (inr at) =

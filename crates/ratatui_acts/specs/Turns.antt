@@ -128,8 +128,8 @@ module _ {S C R : Type 0} (rules : ActingRules S C R) where
       ⊎ LacksPlaces before turn after
 
   -- each message is light, in each state
-  abbrev pub AreLight : Type 0
-  AreLight = (s : S) (m : Message R) → rules.is_light s m
+  abbrev pub HasLightMessages : Type 0
+  HasLightMessages = (s : S) (m : Message R) → rules.is_light s m
 
 -- the last size that a turn tells
 abbrev pub turn_size : {S C R : Type 0} → Standing S → Turn C R → Option (ℕ × ℕ)

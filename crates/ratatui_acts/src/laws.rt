@@ -1,7 +1,7 @@
 //! Laws of runs.
 
 ghost use Rattle.std.specs.Prelude.{◌≡◌, ◌+◌, [], List};
-ghost use Rattle.ratatui_acts.specs.Turns.{after_turns, AreLight};
+ghost use Rattle.ratatui_acts.specs.Turns.{after_turns, HasLightMessages};
 ghost use Rattle.ratatui_acts.specs.declared.fault.Fault.TheVariants.{Memory};
 ghost use Rattle.ratatui_reads.specs.Reads.{after_reads};
 ghost use Rattle.ratatui_reads.specs.Sources.{GivesReads};
@@ -107,6 +107,6 @@ pub fn ticks_tell_the_time_of_the_clock<
 /// it hadn't told.
 pub fn light_messages_are_never_refused<A: Acts, G: Glass<A>, H: Hears<A, G>, O: Outside<A, G>>()
     ensures { let basis = ground_of A.Acts G.shows G.moves G.lacks H.gives H.fails O.answers in
-        AreLight A.Acts → (before after : Now A G H O) → before.standing.left ≡ []
+        HasLightMessages A.Acts → (before after : Now A G H O) → before.standing.left ≡ []
         → StopsTurning basis before after Memory → ⊥ }
 {}

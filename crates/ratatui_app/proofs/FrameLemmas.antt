@@ -221,17 +221,22 @@ module _ {B X : Type 0} (device : Device B X) where
   draws-sized s sized t (Ok x) sizes draws = record { sized = sized; autoresized = sizes; draws = draws }
   draws-sized s sized t (Err e) sizes draws = tt
 
-  pub refuses-sized : {E : Type 0} (paints : Rect → BufferData → BufferData → Type 0) (cursor : Rect → Option Position)
+  pub refuses-sized : {E : Type 0} (paints : Rect → BufferData → BufferData → Type 0) (is_short : Rect → BufferData → Type 0)
+      (cursor : Rect → Option Position)
       (s sized t : TerminalData B) (r : Result (Unit {0}) (TerminalError E)) → Autoresizes device.screen s sized
-      → IfErr r (λ e. RefusesSized device paints cursor sized t e) → IfErr r (λ e. FailsToDraw device paints cursor s t e)
-  refuses-sized paints cursor s sized t (Ok x) sizes refused = tt
-  refuses-sized paints cursor s sized t (Err e) sizes refused = inr (sized, sizes, refused)
+      → IfErr r (λ e. RefusesSized device paints is_short cursor sized t e)
+      → IfErr r (λ e. FailsToDraw device paints is_short cursor s t e)
+  refuses-sized paints is_short cursor s sized t (Ok x) sizes refused = tt
+  refuses-sized paints is_short cursor s sized t (Err e) sizes refused = inr (sized, sizes, refused)
 
-  pub stops-frame : {E : Type 0} (paints : Rect → BufferData → BufferData → Type 0) (cursor : Rect → Option Position)
-      (s ready t : TerminalData B) (r : Result (Unit {0}) (TerminalError E)) → Readies device s ready
-      → IfErr r (λ e. FailsToDraw device paints cursor ready t e) → IfErr r (λ e. StopsShowing device paints cursor s t e)
-  stops-frame paints cursor s ready t (Ok x) readies refused = tt
-  stops-frame paints cursor s ready t (Err e) readies refused = inr (ready, readies, refused)
+  pub stops-frame : {E : Type 0} (paints : Rect → BufferData → BufferData → Type 0) (is_short : Rect → BufferData → Type 0)
+      (cursor : Rect → Option Position) (told : Told) (is_new : Bool)
+      (s ready t : TerminalData B) (r : Result (Unit {0}) (TerminalError E)) → ReadiesTold device told is_new s ready
+      → IfErr r (λ e. FailsToDraw device paints is_short cursor ready t e)
+      → IfErr r (λ e. StopsShowing device paints is_short cursor told s t e)
+  stops-frame paints is_short cursor told is_new s ready t (Ok x) readies refused = tt
+  stops-frame paints is_short cursor told is_new s ready t (Err e) readies refused =
+      inr (record { is_new = is_new; ready = ready; readied = readies; fails = refused })
 
   pub sizes-ok : {E : Type 0} (s sized t : TerminalData B) (r : Result (Unit {0}) E) → Autoresizes device.screen s sized
       → OnOk r (size_of (device.screen t.backend) ≡ size_of (device.screen sized.backend))

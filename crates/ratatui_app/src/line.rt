@@ -1,12 +1,14 @@
 //! A line of text.
 
-ghost use Rattle.std.specs.Prelude.{◌≡◌, OnOk, OnErr};
-ghost use Rattle.ratatui_core.specs.Widgets.{ChangesWithin};
+ghost use Rattle.std.specs.Prelude.{◌≡◌, IsOk, OnOk, OnErr};
+ghost use Rattle.std.specs.Str.{IsAscii};
+ghost use Rattle.ratatui_core.specs.Widgets.{ChangesWithin, RendersShortStr};
 ghost use Rattle.ratatui_app.specs.Lines.{PaintsFirstLine};
 
 use ratatui_core::buffer::Buffer;
 use ratatui_core::layout::Rect;
 use ratatui_core::widgets::Widget;
+use ratatui_core::widgets::laws::ascii_texts_take_no_memory;
 use std::alloc::AllocError;
 
 /// Paints a text in the first row of an area, as far as the row goes. An area without rows, or
@@ -22,7 +24,10 @@ pub fn paint_line(text: &str, area: Rect, buf: &mut Buffer) -> Result<(), AllocE
     ensures area { buf.new.area ≡ buf.old.area }
     ensures ok { OnOk result (PaintsFirstLine text.now area buf.old buf.new) }
     ensures err { OnErr result (ChangesWithin area buf.old buf.new) }
+    ensures short { RendersShortStr text.now area buf.old → IsOk result }
+    ensures ascii { IsAscii text.now → IsOk result }
 {
+    ascii_texts_take_no_memory();
     if area.height == 0 {
         return Ok(());
     }
