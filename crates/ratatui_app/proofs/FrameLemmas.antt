@@ -17,7 +17,7 @@ same-size a b w h = ap₂ (λ (x y : ℕ). record { width = x; height = y }) w h
 
 module _ {B : Type 0} (screen : B → Screen) where
   -- what the law of terminals at rest says of a resize
-  abbrev RestsResized : Type 0
+  abbrev pub RestsResized : Type 0
   RestsResized = (kind : Viewport) (b : B) (s t : TerminalData B) → (IsFixed kind → ⊥) → IsAtRest screen kind s
       → Resizes screen (screen_area (screen b)) (record s { backend = b }) t → IsAtRest screen kind t
 

@@ -60,28 +60,28 @@ module _ {B X : Type 0} (device : Device B X) where
   keeps-size (Some size) s t (inl has) known = has ∙ sym known
   keeps-size (Some size) s t (inr kept) known = kept.1
 
-module _ {B X : Type 0} (device : Device B X) (paints : Rect → BufferData → BufferData → Type 0)
+module _ {B X : Type 0} (E : Type 0) (device : Device B X) (paints : Rect → BufferData → BufferData → Type 0)
     (is_short : Rect → BufferData → Type 0) (cursor : Rect → Option Position)
     (resized : RestsResized device.screen) (short : (r : Rect) (blank : BufferData) → IsEmptied r blank → is_short r blank)
     where
   -- a draw at the known size
-  frame-refused : {E : Type 0} (t t' : TerminalData B) → RestsUnfixed device.screen t
-      → RefusesSized device paints is_short cursor {E} t t' Memory → ⊥
+  frame-refused : (t t' : TerminalData B) → RestsUnfixed device.screen t
+      → RefusesSized device paints is_short cursor {E = E} t t' Memory → ⊥
   frame-refused t t' rests (inl unknown) = unknown.0 rests.rest.sized
   frame-refused t t' rests (inr closure) =
       let sized = sized-rest device resized t closure.refuses.sized (inl rests) closure.refuses.autoresized in
       false-true (closure.closure.short (short _ _ sized.rest.current))
 
   -- and one that asks for it first
-  draw-refused : {E : Type 0} (t t' : TerminalData B) → RestsUnfixed device.screen t
-      → FailsToDraw device paints is_short cursor {E} t t' Memory → ⊥
+  draw-refused : (t t' : TerminalData B) → RestsUnfixed device.screen t
+      → FailsToDraw device paints is_short cursor {E = E} t t' Memory → ⊥
   draw-refused t t' rests (inl unknown) = unknown.0 rests.rest.sized
   draw-refused t t' rests (inr (sized, sizes, refused)) =
       frame-refused sized t' (sized-rest device resized t sized (inl rests) sizes) refused
 
   -- the frame of a turn
-  pub turn-refused : {E : Type 0} (told : Told) (s t : TerminalData B) → RestsUnfixed device.screen s
-      → IsKnown device told.size s → StopsShowing device paints is_short cursor {E} told s t Memory → ⊥
+  pub turn-refused : (told : Told) (s t : TerminalData B) → RestsUnfixed device.screen s
+      → IsKnown device told.size s → StopsShowing device paints is_short cursor {E = E} told s t Memory → ⊥
   turn-refused told s t rests known (inl stops) = stops.0
   turn-refused told s t rests known (inr refuses) =
       draw-refused refuses.ready t
@@ -98,12 +98,12 @@ other-size (Some z) t refused = refused
 module _ {W S C R H O : Type 0} (rules : ActingRules S C R) (paints : S → Rect → BufferData → BufferData → Type 0)
     (is_short : S → Rect → BufferData → Type 0) (cursor : S → Rect → Option Position)
     (gives : H → ℕ → List ℕ → Duration → H → Type 0) (fails : H → H → Type 0) (answers : O → C → R → O → Type 0)
-    (resized : RestsResized {BackendState W} shown_by) (none : TakesNoMemory rules is_short) where
+    (resized : RestsResized {B = BackendState W} shown_by) (none : TakesNoMemory rules is_short) where
   -- what a turn shows isn't refused memory, where it tells no other size
   glass-refused : (told : Told) (s : S) (t t' : TerminalData (BackendState W)) → RestsUnfixed shown_by t
       → IsKnown sender told.size t → StopsOnGlass (paints s) (is_short s) (cursor s) told t t' Memory → ⊥
   glass-refused told s t t' rests known (inl stops) =
-      turn-refused sender (paints s) (is_short s) (cursor s) resized (none.short s) told t t' rests known stops
+      turn-refused AnsiError sender (paints s) (is_short s) (cursor s) resized (none.short s) told t t' rests known stops
   glass-refused told s t t' rests known (inr asking) = asking.fault
 
   pub other-refused : (before after : Now S (OnGlass W) H O) → CanShow before.glass.terminal
