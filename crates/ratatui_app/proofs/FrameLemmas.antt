@@ -7,7 +7,7 @@ use Rattle.ratatui_core.specs.Terminal.{TerminalData, TerminalError, Viewport, I
 use Rattle.ratatui_core.specs.Terminal.{Stays, DrawsFrame, Resizes, Autoresizes}
 use Rattle.ratatui_acts.specs.declared.told.Told.{Told}
 use Rattle.ratatui_app.specs.Showing.{Device, RestsUnfixed, MayDraw, TakesOrKeepsSize}
-use Rattle.ratatui_app.specs.Moving.{Readies, ReadiesTold, DrawsSized, MovesAsTold, RefusesSized, FailsToDraw, StopsShowing}
+use Rattle.ratatui_app.specs.Moving.{ReadiesTold, DrawsSized, MovesAsTold, RefusesSized, FailsToDraw, StopsShowing}
 
 true-false : true ≡ false → ⊥
 true-false e = search rules

@@ -1,9 +1,9 @@
 -- A frame of an application that takes no memory is refused none, where the screen keeps its size.
-use Rattle.std.proofs.Common.{rules, ◌≡◌, ◌⊎◌, inl, inr, ℕ, Bool, true, false, List, Option, Some, None, refl, ap, ap₂, sym, subst, ◌∙◌}
+use Rattle.std.proofs.Common.{rules, ◌≡◌, ◌⊎◌, inl, inr, ℕ, true, false, List, Option, Some, None, ap, sym, subst, ◌∙◌}
 use Rattle.std.specs.declared.time.Duration.{Duration}
-use Rattle.ratatui_core.specs.Backend.{Screen, size_of, screen_area}
+use Rattle.ratatui_core.specs.Backend.{size_of, screen_area}
 use Rattle.ratatui_core.specs.{Layout.Size, Layout.Rect, Layout.Position, Buffer.BufferData, Buffer.IsEmptied}
-use Rattle.ratatui_core.specs.Terminal.{TerminalData, TerminalError, Memory, IsFixed, IsSized, Autoresizes}
+use Rattle.ratatui_core.specs.Terminal.{TerminalData, Memory, IsFixed, IsSized}
 use Rattle.ratatui_ansi.specs.Backend.{BackendState, shown_by}
 use Rattle.ratatui_ansi.specs.{declared.error.AnsiError.AnsiError}
 use Rattle.ratatui_acts.specs.declared.told.Told.{Told}
@@ -11,7 +11,7 @@ use Rattle.ratatui_acts.specs.declared.fault.Fault.TheVariants as fault
 use Rattle.ratatui_acts.specs.Turns.{ActingRules, first_told}
 use Rattle.ratatui_acts.specs.Runs.{Now, StopsTurning}
 use Rattle.ratatui_app.specs.declared.on_glass.OnGlass.{OnGlass}
-use Rattle.ratatui_app.specs.Showing.{Device, RestsUnfixed, KeepsSize, TakesOrKeepsSize, MayDraw, HasNewSize}
+use Rattle.ratatui_app.specs.Showing.{Device, RestsUnfixed, KeepsSize, TakesOrKeepsSize, MayDraw}
 use Rattle.ratatui_app.specs.Moving.{Readies, RefusesSized, FailsToDraw, StopsShowing}
 use Rattle.ratatui_app.specs.Glass.{CanShow, StopsOnGlass, sender}
 use Rattle.ratatui_app.specs.Runs.{on_glass}
@@ -63,31 +63,31 @@ module _ {B X : Type 0} (device : Device B X) where
 module _ {B X : Type 0} (E : Type 0) (device : Device B X) (paints : Rect → BufferData → BufferData → Type 0)
     (is_short : Rect → BufferData → Type 0) (cursor : Rect → Option Position)
     (resized : RestsResized device.screen) (short : (r : Rect) (blank : BufferData) → IsEmptied r blank → is_short r blank)
-    where
-  -- a draw at the known size
-  frame-refused : (t t' : TerminalData B) → RestsUnfixed device.screen t
-      → RefusesSized device paints is_short cursor {E = E} t t' Memory → ⊥
-  frame-refused t t' rests (inl unknown) = unknown.0 rests.rest.sized
-  frame-refused t t' rests (inr closure) =
-      let sized = sized-rest device resized t closure.refuses.sized (inl rests) closure.refuses.autoresized in
-      false-true (closure.closure.short (short _ _ sized.rest.current))
+  where
+    -- a draw at the known size
+    frame-refused : (t t' : TerminalData B) → RestsUnfixed device.screen t
+        → RefusesSized device paints is_short cursor {E = E} t t' Memory → ⊥
+    frame-refused t t' rests (inl unknown) = unknown.0 rests.rest.sized
+    frame-refused t t' rests (inr closure) =
+        let sized = sized-rest device resized t closure.refuses.sized (inl rests) closure.refuses.autoresized in
+        false-true (closure.closure.short (short _ _ sized.rest.current))
 
-  -- and one that asks for it first
-  draw-refused : (t t' : TerminalData B) → RestsUnfixed device.screen t
-      → FailsToDraw device paints is_short cursor {E = E} t t' Memory → ⊥
-  draw-refused t t' rests (inl unknown) = unknown.0 rests.rest.sized
-  draw-refused t t' rests (inr (sized, sizes, refused)) =
-      frame-refused sized t' (sized-rest device resized t sized (inl rests) sizes) refused
+    -- and one that asks for it first
+    draw-refused : (t t' : TerminalData B) → RestsUnfixed device.screen t
+        → FailsToDraw device paints is_short cursor {E = E} t t' Memory → ⊥
+    draw-refused t t' rests (inl unknown) = unknown.0 rests.rest.sized
+    draw-refused t t' rests (inr (sized, sizes, refused)) =
+        frame-refused sized t' (sized-rest device resized t sized (inl rests) sizes) refused
 
-  -- the frame of a turn
-  pub turn-refused : (told : Told) (s t : TerminalData B) → RestsUnfixed device.screen s
-      → IsKnown device told.size s → StopsShowing device paints is_short cursor {E = E} told s t Memory → ⊥
-  turn-refused told s t rests known (inl stops) = stops.0
-  turn-refused told s t rests known (inr refuses) =
-      draw-refused refuses.ready t
-      (ready-rests device s refuses.ready rests refuses.readied.readied
-      (keeps-size device told.size s refuses.ready refuses.readied.has known) refuses.readied.may)
-      refuses.fails
+    -- the frame of a turn
+    pub turn-refused : (told : Told) (s t : TerminalData B) → RestsUnfixed device.screen s
+        → IsKnown device told.size s → StopsShowing device paints is_short cursor {E = E} told s t Memory → ⊥
+    turn-refused told s t rests known (inl stops) = stops.0
+    turn-refused told s t rests known (inr refuses) =
+        draw-refused refuses.ready t
+        (ready-rests device s refuses.ready rests refuses.readied.readied
+        (keeps-size device told.size s refuses.ready refuses.readied.has known) refuses.readied.may)
+        refuses.fails
 
 -- a frame that was refused memory was that of another size
 other-size : {W : Type 0} (told : Option (ℕ × ℕ)) (t : TerminalData (BackendState W)) → (IsKnown sender told t → ⊥)

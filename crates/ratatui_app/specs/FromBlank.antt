@@ -48,10 +48,11 @@ module _ {W H : Type 0} where
     }) (turn_reads (turns_of (counting_on coming) runs.runs.past))
     pub given : GivesReads (coming ears) (coming ears') (turn_reads (turns_of (counting_on coming) runs.runs.past))
 
-  -- a run of it never stops for want of memory, but at the frame of a turn that told another size
-  pub record NeedsMemoryForSizes (coming : H → Coming) : Type 0 where
-    pub messages : (before after : Now Counter (OnGlass W) H Nothing) → before.standing.left ≡ []
-        → StopsTurning (counting_on coming) before after fault.Memory → ⊥
-    pub frames : (before after : Now Counter (OnGlass W) H Nothing) → CanShow before.glass.terminal
-        → StopsTurning (counting_on coming) before after (fault.Show Memory)
-        → StopsAtOtherSize (counting_on coming) before after
+-- a run of it on a terminal over a writer of this type never stops for want of memory, but at the frame of a
+-- turn that told another size
+pub record NeedsMemoryForSizes (W : Type 0) {H : Type 0} (coming : H → Coming) : Type 0 where
+  pub messages : (before after : Now Counter (OnGlass W) H Nothing) → before.standing.left ≡ []
+      → StopsTurning (counting_on coming) before after fault.Memory → ⊥
+  pub frames : (before after : Now Counter (OnGlass W) H Nothing) → CanShow before.glass.terminal
+      → StopsTurning (counting_on coming) before after (fault.Show Memory)
+      → StopsAtOtherSize (counting_on coming) before after

@@ -64,6 +64,7 @@ impl Acts for Counter {
     fn update(&mut self, message: Message<Never>) -> Result<bool, AllocError>
         ensures ok { OnOk result (self.new ≡ counter_after self.old message) }
         ensures same { IfOk result (λ changed. changed ≡ false → self.new ≡ self.old) }
+        ensures refused { OnErr result (self.new ≡ self.old) }
         ensures light { IsOk result }
     {
         let before = *self;

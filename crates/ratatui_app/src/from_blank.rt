@@ -53,7 +53,7 @@ pub fn count_from_blank<S: Source, W: Write + Drop>(
 /// Counting takes no memory: a run stops for want of it only at the frame of a turn that told
 /// another size than the screen has.
 pub fn counting_is_never_refused<S: Source, W: Write + Drop>()
-    ensures { NeedsMemoryForSizes {W} S.coming }
+    ensures { NeedsMemoryForSizes W S.coming }
 {
     light_applications_are_never_refused::<W, Counter, S, Nothing>();
 }

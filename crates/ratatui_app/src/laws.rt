@@ -13,10 +13,10 @@ ghost use Rattle.ratatui_app.specs.Runs.{on_glass};
 
 use crate::application::Application;
 use crate::on_glass::OnGlass;
+use ratatui_acts::laws::light_messages_are_never_refused;
 use ratatui_acts::{Hears, Outside};
 use ratatui_ansi::AnsiBackend;
 use ratatui_ansi::laws::bytes_show_the_last_buffer;
-use ratatui_acts::laws::light_messages_are_never_refused;
 use ratatui_core::terminal::Terminal;
 use ratatui_core::terminal::laws::calls_leave_a_terminal_at_rest;
 use ratatui_reads::laws::told_sizes_have_cells;
