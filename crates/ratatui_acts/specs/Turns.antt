@@ -112,7 +112,8 @@ module _ {S C R : Type 0} (rules : ActingRules S C R) where
     pub state_is : after.state ≡ before.state
     pub left_is : after.left ≡ queued before turn
 
-  -- so many events were left that those of a read have no room beside them: the state is as before, and none is left
+  -- so many events were left that those of a read have no room beside them: the state is as before, and none
+  -- is left
   pub record LacksPlaces (before : Standing S) (turn : Turn C R) (after : Standing S) : Type 0 where
     pub read : IsRead turn
     pub some : before.left ≡ [] → ⊥

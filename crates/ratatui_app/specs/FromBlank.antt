@@ -18,7 +18,12 @@ use Rattle.ratatui_app.specs.{Glass.no_cursor, Glass.CanShow, Runs.on_glass, Lig
 
 -- a number, as a state that asks for nothing
 abbrev pub counter_rules : ActingRules Counter Never Never
-counter_rules = record { updated = counter_after; asked = λ _. None; is_over = λ c. c.is_over; is_light = λ _ _. ⊤ }
+counter_rules = record {
+  updated = counter_after;
+  asked = λ _. None;
+  is_over = λ c. c.is_over;
+  is_light = λ _ _. ⊤;
+}
 
 module _ {W H : Type 0} where
   -- what a run of it stands on: what a source gives, and how it fails; and nothing is asked for

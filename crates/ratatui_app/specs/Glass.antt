@@ -61,7 +61,8 @@ module _ {W : Type 0} where
       size_of (shown_by t.backend) ≡ record { width = size.0; height = size.1 }
 
   -- a frame was shown, and then the backend failed at the question for the size
-  pub record StopsAsking (told : Told) (s t : TerminalData (BackendState W)) (error : TerminalError AnsiError) : Type 0 where
+  pub record StopsAsking (told : Told) (s t : TerminalData (BackendState W)) (error : TerminalError AnsiError)
+      : Type 0 where
     pub fault : IsBackendFault error
     pub shown : TerminalData (BackendState W)
     pub moved : MovesAsTold sender told s shown

@@ -10,8 +10,8 @@ use Rattle.ratatui_acts.specs.Runs.{Now, Ground, Runs}
 use Rattle.ratatui_app.specs.declared.on_glass.OnGlass.{OnGlass}
 
 -- no message takes any, and no painting on an empty buffer
-pub record TakesNoMemory {S C R : Type 0} (rules : ActingRules S C R) (is_short : S → Rect → BufferData → Type 0)
-    : Type 0 where
+pub record TakesNoMemory {S C R : Type 0} (rules : ActingRules S C R)
+    (is_short : S → Rect → BufferData → Type 0) : Type 0 where
   pub light : HasLightMessages rules
   pub short : (s : S) (r : Rect) (blank : BufferData) → IsEmptied r blank → is_short s r blank
 
@@ -21,7 +21,8 @@ TellsOtherSize None t = ⊥
 TellsOtherSize (Some size) t = size_of (shown_by t.backend) ≡ record { width = size.0; height = size.1 } → ⊥
 
 -- a run stopped at the frame of a turn that told a size that the screen didn't have
-pub record StopsAtOtherSize {W S C R H O : Type 0} (ground : Ground S C R (OnGlass W) (TerminalError AnsiError) H O)
+pub record StopsAtOtherSize {W S C R H O : Type 0}
+    (ground : Ground S C R (OnGlass W) (TerminalError AnsiError) H O)
     (before after : Now S (OnGlass W) H O) : Type 0 where
   pub now : Now S (OnGlass W) H O
   pub runs : Runs ground before now

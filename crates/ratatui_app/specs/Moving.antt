@@ -50,10 +50,11 @@ module _ {B X : Type 0} (device : Device B X) where
     pub kind : t.viewport ≡ s.viewport
     pub faults : device.failures t.backend ≡ device.failures s.backend
 
-  -- where a turn's frame stops before it is drawn: the backend failed at the size that was told, or at a clear, and
-  -- all stays but the backend, and an emptied viewport
+  -- where a turn's frame stops before it is drawn: the backend failed at the size that was told, or at a clear,
+  -- and all stays but the backend, and an emptied viewport
   abbrev pub StopsReady : {E : Type 0} → TerminalData B → TerminalData B → TerminalError E → Type 0
-  StopsReady s t error = IsBackendFault error × ((t ≡ record s { backend = t.backend }) ⊎ FailsClearing device.screen s t)
+  StopsReady s t error = IsBackendFault error
+      × ((t ≡ record s { backend = t.backend }) ⊎ FailsClearing device.screen s t)
 
 module _ {B X : Type 0} (device : Device B X) (paints : Rect → BufferData → BufferData → Type 0)
     (is_short : Rect → BufferData → Type 0) (cursor : Rect → Option Position) where
@@ -68,7 +69,8 @@ module _ {B X : Type 0} (device : Device B X) (paints : Rect → BufferData → 
       ⊎ ((sized : TerminalData B) × Autoresizes device.screen t sized × RefusesSized sized t' error)
 
   -- a frame was refused on a terminal that was readied for what was told
-  pub record RefusesReady {E : Type 0} (told : Told) (t t' : TerminalData B) (error : TerminalError E) : Type 0 where
+  pub record RefusesReady {E : Type 0} (told : Told) (t t' : TerminalData B) (error : TerminalError E)
+      : Type 0 where
     pub is_new : Bool
     pub ready : TerminalData B
     pub readied : ReadiesTold device told is_new t ready
