@@ -11,13 +11,18 @@ use Rattle.ratatui_acts.specs.Turns.{ActingRules, Standing}
 use Rattle.ratatui_acts.specs.Runs.{Ground, Past, RunsToEnd, turns_of}
 use Rattle.ratatui_acts.specs.Reading.{seat_between, event_rules, turn_reads}
 use Rattle.ratatui_app.specs.declared.on_glass.OnGlass.{OnGlass}
-use Rattle.ratatui_app.specs.{Glass.no_cursor, Runs.on_glass}
+use Rattle.ratatui_app.specs.{Glass.no_cursor, Glass.never_short, Runs.on_glass}
 use Rattle.chooser.specs.declared.chooser.Chooser.{Chooser}
 use Rattle.chooser.specs.Choosing.{chooser_after, settled_chooser, PaintsPlanets}
 
 -- choosing, as a state that asks for nothing
 abbrev pub chooser_rules : ActingRules Chooser Never Never
-chooser_rules = record { updated = chooser_after; asked = λ _. None; is_over = λ c. c.is_over }
+chooser_rules = record {
+  updated = chooser_after;
+  asked = λ _. None;
+  is_over = λ c. c.is_over;
+  is_light = λ _ _. ⊥;
+}
 
 -- the state is settled
 abbrev pub IsSettledChooser : Chooser → Type 0
@@ -26,7 +31,7 @@ IsSettledChooser c = settled_chooser c ≡ c
 module _ {W H : Type 0} where
   -- what a run of it stands on: what a source gives, and how it fails; and nothing is asked for
   abbrev pub choosing_on : (H → Coming) → Ground Chooser Never Never (OnGlass W) (TerminalError AnsiError) H Nothing
-  choosing_on coming = on_glass chooser_rules PaintsPlanets (λ _. no_cursor)
+  choosing_on coming = on_glass chooser_rules PaintsPlanets never_short (λ _. no_cursor)
       (GivesUntimed coming) (FailsToGive coming) (λ _ _ _ _. ⊥)
 
   -- each state of a run was settled

@@ -64,7 +64,12 @@ IsSound b = (b.is_sure ≡ false) ⊎ ((asks b ≡ true) × (fits b.size.width b
 
 -- browsing, as a state that acts
 abbrev pub browsing : ActingRules Browser Browser Outcome
-browsing = record { updated = browsed_after; asked = browser_asked; is_over = is_over }
+browsing = record {
+  updated = browsed_after;
+  asked = browser_asked;
+  is_over = is_over;
+  is_light = λ _ _. ⊥;
+}
 
 -- a question is asked that changes something
 abbrev pub is_change : Mode → Bool

@@ -6,7 +6,7 @@ use Rattle.ratatui_ansi.specs.{declared.error.AnsiError.AnsiError}
 use Rattle.ratatui_acts.specs.Turns.{Turn, Came, Done}
 use Rattle.ratatui_acts.specs.Runs.{Past, Ground}
 use Rattle.ratatui_app.specs.Runs.{on_glass}
-use Rattle.ratatui_app.specs.Glass.{StandsOnGlass}
+use Rattle.ratatui_app.specs.Glass.{StandsOnGlass, never_short}
 use Rattle.ratatui_app.specs.declared.on_glass.OnGlass.{OnGlass}
 use Rattle.files.specs.declared.browser.Browser.{Browser}
 use Rattle.files.specs.declared.list.Outcome.{Outcome}
@@ -35,7 +35,7 @@ module _ {W H O : Type 0} where
   -- what a run of a browser stands on, on a terminal that is sent bytes
   abbrev pub browsing_on : (H → ℕ → List ℕ → Duration → H → Type 0) → (H → H → Type 0) → (O → Browser → Outcome → O → Type 0)
       → Ground Browser Browser Outcome (OnGlass W) (TerminalError AnsiError) H O
-  browsing_on = on_glass browsing PaintsBrowser browser_cursor
+  browsing_on = on_glass browsing PaintsBrowser never_short browser_cursor
 
   -- so it was at each turn
   abbrev pub WereOnTheGlass : List (Past Browser Browser Outcome (OnGlass W) H O) → Type 0

@@ -252,7 +252,12 @@ asked_for_more g = if asks_more g then Some (record {}) else None
 
 -- a pager of a text that grows, as a state that asks for pieces
 abbrev pub growing : ActingRules Growing More Piece
-growing = record { updated = grown_after; asked = asked_for_more; is_over = λ g. g.pager.is_over }
+growing = record {
+  updated = grown_after;
+  asked = asked_for_more;
+  is_over = λ g. g.pager.is_over;
+  is_light = λ _ _. ⊥;
+}
 
 -- ---- pieces of what a reader gives
 

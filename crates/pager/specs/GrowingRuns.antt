@@ -10,7 +10,7 @@ use Rattle.ratatui_acts.specs.Turns.{Turn, Came, Done, Standing, after_turns}
 use Rattle.ratatui_acts.specs.Runs.{Ground, Past, turns_of}
 use Rattle.ratatui_acts.specs.Reading.{turn_reads}
 use Rattle.ratatui_app.specs.declared.on_glass.OnGlass.{OnGlass}
-use Rattle.ratatui_app.specs.{Runs.on_glass, Runs.RunsThrough, Runs.StopsThrough}
+use Rattle.ratatui_app.specs.{Glass.never_short, Runs.on_glass, Runs.RunsThrough, Runs.StopsThrough}
 use Rattle.pager.specs.declared.piece.{More.More, Piece.Piece}
 use Rattle.pager.specs.declared.growing.Growing.{Growing}
 use Rattle.pager.specs.{Pages.PaintsPager, Pages.page_cursor, Paging.OpensPaging, Growing.growing}
@@ -20,7 +20,7 @@ use Rattle.pager.specs.{Pages.PaintsPager, Pages.page_cursor, Paging.OpensPaging
 abbrev pub growing_on : {W H O : Type 0} → (H → Coming) → (O → More → Piece → O → Type 0)
     → Ground Growing More Piece (OnGlass W) (TerminalError AnsiError) H O
 growing_on coming answers =
-    on_glass growing (λ g. PaintsPager g.pager) (λ g. page_cursor g.pager) (GivesUntimed coming)
+    on_glass growing (λ g. PaintsPager g.pager) never_short (λ g. page_cursor g.pager) (GivesUntimed coming)
     (FailsToGive coming) answers
 
 -- the pieces among turns, and the lines of pieces

@@ -17,7 +17,7 @@ use Rattle.ratatui_acts.specs.Turns.{ActingRules, Standing, turn_size}
 use Rattle.ratatui_acts.specs.Runs.{Ground, Now, Past, turns_of}
 use Rattle.ratatui_acts.specs.Reading.{seat_between, event_rules, turn_reads}
 use Rattle.ratatui_app.specs.declared.on_glass.OnGlass.{OnGlass}
-use Rattle.ratatui_app.specs.{Runs.on_glass, Runs.RunsThrough, Runs.StopsThrough}
+use Rattle.ratatui_app.specs.{Glass.never_short, Runs.on_glass, Runs.RunsThrough, Runs.StopsThrough}
 use Rattle.pager.specs.declared.pager.Pager.{Pager}
 use Rattle.pager.specs.{Moves.updated, Pages.PaintsPager, Pages.page_cursor}
 
@@ -29,13 +29,18 @@ paged_after p (message.Answer answer) = p
 
 -- a pager, as a state that asks for nothing
 abbrev pub paging : ActingRules Pager Never Never
-paging = record { updated = paged_after; asked = λ _. None; is_over = λ p. p.is_over }
+paging = record {
+  updated = paged_after;
+  asked = λ _. None;
+  is_over = λ p. p.is_over;
+  is_light = λ _ _. ⊥;
+}
 
 -- what a run of it stands on, on a terminal that is sent bytes: what a source gives, and how it fails
 abbrev pub paging_on : {W H : Type 0} → (H → Coming)
     → Ground Pager Never Never (OnGlass W) (TerminalError AnsiError) H Nothing
 paging_on coming =
-    on_glass paging PaintsPager page_cursor (GivesUntimed coming) (FailsToGive coming) (λ _ _ _ _. ⊥)
+    on_glass paging PaintsPager never_short page_cursor (GivesUntimed coming) (FailsToGive coming) (λ _ _ _ _. ⊥)
 
 -- the alternate screen of a terminal of this size, after bytes that its writer held before, was opened and
 -- made blank, and the terminal was told to tell of the mouse and of new sizes

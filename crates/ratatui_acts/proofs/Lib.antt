@@ -3,3 +3,4 @@ pub mod TurnLemmas
 pub mod RunLemmas
 pub mod ReadingLemmas
 pub mod TimeLemmas
+pub mod QueueLemmas

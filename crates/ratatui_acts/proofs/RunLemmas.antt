@@ -2,14 +2,16 @@
 use Rattle.std.proofs.Common.{◌≡◌, Bool, true, false, List, [], ◌∷◌, ◌++◌, refl, ap, ap₂, sym, ◌∙◌}
 use Rattle.std.proofs.Common.{◌⊎◌, inl, inr, subst, Option, Some, None, is_some, ◌||◌}
 use Rattle.ratatui_acts.specs.Turns.{Turn, Came, Done, Standing, ActingRules, waits, after_turn, after_turns, IsWanted}
-use Rattle.ratatui_acts.specs.Turns.{WasNothing, IsQuiet, first_told}
+use Rattle.ratatui_acts.specs.Turns.{WasNothing, IsQuiet, first_told, HasLightMessages, IsHeavy, LacksPlaces}
+use Rattle.ratatui_acts.specs.declared.message.Message.TheVariants as message
+use Rattle.ratatui_acts.specs.declared.fault.Fault.TheVariants.{Memory}
 use Rattle.ratatui_acts.specs.declared.told.Told.{Told}
 use Rattle.ratatui_acts.proofs.TakingLemmas.{Rests, taking-rests}
 use Rattle.ratatui_acts.proofs.TurnLemmas.{true-false}
 use Rattle.ratatui_acts.specs.Seats.{TurnsTo}
 use Rattle.ratatui_acts.specs.Runs.{Now, Past, Ground, IsTurn, HasRun, Runs, turns_of, IsAnswered, AreAnswered}
 use Rattle.ratatui_acts.specs.Runs.{GaveNothing, GaveSomething, LastGaveNothing, RunsToEnd}
-use Rattle.ratatui_acts.specs.Runs.{AreSome, OnlyLastGaveNothing, BeforeRead, AreTimely}
+use Rattle.ratatui_acts.specs.Runs.{LacksMemory, StopsTurning, AreSome, OnlyLastGaveNothing, BeforeRead, AreTimely}
 use Rattle.ratatui_acts.specs.Steps.{ShowsTurn, ends_by}
 
 -- one turn more
@@ -214,3 +216,31 @@ module _ {S C R G E H O : Type 0} (ground : Ground S C R G E H O) where
         },
         run-timely begun p.before earlier is.0,
       )
+
+  -- a turn of light messages is refused no memory, where nothing is left that wasn't told
+  light-turn : HasLightMessages ground.rules → (s : S) (t : Turn C R) → IsHeavy ground.rules s t → ⊥
+  light-turn light s (Came [] passed) heavy = heavy (light s (message.Tick passed))
+  light-turn light s (Came (b ∷ bytes) passed) heavy = heavy
+  light-turn light s (Done command answer) heavy = heavy (light s (message.Answer answer))
+
+  read-left : (b after : Standing S) (t : Turn C R) → Rests ground.rules b → ground.rules.is_over b.state ≡ false
+      → IsWanted ground.rules b.state t → LacksPlaces ground.rules b t after → ⊥
+  read-left b after (Came bytes passed) rests goes_on wanted lacks =
+      lacks.some (nothing-left b (no-wait b.state goes_on wanted) rests)
+  read-left b after (Done command answer) rests goes_on wanted lacks = lacks.read
+
+  light-refused : HasLightMessages ground.rules → (before after : Now S G H O) → Rests ground.rules before.standing
+      → LacksMemory ground before after → ⊥
+  light-refused light before after rests lacks = elim lacks.refused [
+    | inl first ↦ light-turn light before.standing.state lacks.turn first.heavy
+    | inr (inl some) ↦ some.heavy (light _ _)
+    | inr (inr places) ↦ read-left before.standing after.standing lacks.turn rests lacks.goes_on lacks.wanted places
+  ]
+
+  -- so a run of light messages is refused none
+  pub light-runs : HasLightMessages ground.rules → (before after : Now S G H O) → before.standing.left ≡ []
+      → StopsTurning ground before after Memory → ⊥
+  light-runs light before after none (inl first) = first
+  light-runs light before after none (inr at) =
+      light-refused light at.now after (run-rests (record before { glass = at.runs.glass }) at.now at.runs.past none at.runs.has_run)
+      at.stops

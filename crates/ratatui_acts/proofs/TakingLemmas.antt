@@ -1,18 +1,44 @@
 -- Events that are told one after the other.
 use Rattle.std.proofs.Common.{◌≡◌, ℕ, ◌+◌, Bool, true, false, List, [], ◌∷◌, ◌++◌, length, refl, ap, sym, ◌∙◌, subst, ◌⊎◌, inl, inr, ◌||◌}
-use Rattle.std.proofs.Common.{append-nil, append_assoc, arith}
+use Rattle.std.proofs.Common.{append-nil, append_assoc, length-append, ◌<◌, ◌≤◌, arith}
+use Rattle.std.proofs.lemmas.Bool.{cases_lt}
 use Rattle.ratatui_events.specs.declared.event.Event.{Event}
 use Rattle.ratatui_input.specs.declared.decoder.Decoder.{Decoder}
-use Rattle.ratatui_reads.specs.Reads.{all_updated}
+use Rattle.std.specs.declared.time.Duration.{Duration}
+use Rattle.ratatui_reads.specs.Reads as reads
+use Rattle.ratatui_reads.proofs.CountLemmas.{room-count}
 use Rattle.ratatui_acts.specs.declared.message.Message.TheVariants as message
 use Rattle.ratatui_acts.specs.Redraws.{is_redraw, has_redraw}
-use Rattle.ratatui_acts.specs.Turns.{Standing, ActingRules, waits, taking, all_told}
+use Rattle.ratatui_acts.specs.Turns.{Standing, ActingRules, waits, taking, all_told, events_room, Came, LacksPlaces}
 
 -- a queue is told events
-pub queued : (q es : List Event)
-    → all_updated (record { updated = λ (q : List Event) (e : Event). q ++ (e ∷ []); is_over = λ _. false }) q es ≡ q ++ es
+abbrev queue_rules : reads.Rules (List Event)
+queue_rules = record {
+  updated = λ (q : List Event) (e : Event). q ++ (e ∷ []);
+  is_over = λ _. false;
+  is_light = λ (q : List Event) (e : Event). length q < 2048;
+}
+
+pub queued : (q es : List Event) → reads.all_updated queue_rules q es ≡ q ++ es
 queued q [] = sym (append-nil q)
 queued q (e ∷ es) = queued (q ++ (e ∷ [])) es ∙ append_assoc q (e ∷ []) es
+
+-- one that is refused an event has no room for all of them
+pub queue-full : (q told after : List Event) → reads.RefusesAmong queue_rules told q after
+    → events_room < length (q ++ told)
+queue-full q told after r =
+    let after_length : length after ≡ length (q ++ r.taken) = ap (λ (l : List Event). length l) (r.after_is ∙ queued q r.taken) in
+    let all : length (q ++ told) ≡ length ((q ++ r.taken) ++ (r.next ∷ r.rest)) =
+    ap (λ (l : List Event). length l) (ap (λ (l : List Event). q ++ l) r.told_is ∙ sym (append_assoc q r.taken (r.next ∷ r.rest))) in
+    let sum = length-append (q ++ r.taken) (r.next ∷ r.rest) in
+    by-room (cases_lt (length after) 2048) after_length all sum
+  where
+    by-room : (length after < 2048) ⊎ (2048 ≤ length after) → length after ≡ length (q ++ r.taken)
+        → length (q ++ told) ≡ length ((q ++ r.taken) ++ (r.next ∷ r.rest))
+        → length ((q ++ r.taken) ++ (r.next ∷ r.rest)) ≡ length (q ++ r.taken) + length (r.next ∷ r.rest)
+        → events_room < length (q ++ told)
+    by-room (inl few) a b c = absurd (r.heavy few)
+    by-room (inr many) a b c = omega (arith, many, a, b, c)
 
 -- one event more
 redraw-one : (es : List Event) (e : Event) → has_redraw (es ++ (e ∷ [])) ≡ (has_redraw es || is_redraw e)
@@ -83,6 +109,20 @@ module _ {S C R : Type 0} (rules : ActingRules S C R) where
       (anew : Bool) → waits rules s' ≡ true → Left d all s d' left s' done anew
       → record { decoder = d'; left = left; state = s' } ≡ taking rules d all s
   left-waits d all s d' left s' done anew w h = sym (h.same ∙ taking-waits d' left s' w)
+
+  -- a read lacks places only where something was left
+  pub lacks-places : (b : Standing S) (bytes : List ℕ) (passed : Duration) (after : Standing S) → length bytes ≤ 1024
+      → events_room < length (b.left ++ (reads.told_by b.decoder bytes).0) → after.left ≡ [] → after.state ≡ b.state
+      → LacksPlaces rules b (Came bytes passed) after
+  lacks-places b bytes passed after few many left state = record {
+    read = tt;
+    some = λ none. let all : length (b.left ++ (reads.told_by b.decoder bytes).0) ≡ length (reads.told_by b.decoder bytes).0
+        = ap (λ (l : List Event). length (l ++ (reads.told_by b.decoder bytes).0)) none in
+        let room = room-count b.decoder bytes few in omega (arith, all, room, many);
+    many = many;
+    state_is = state;
+    left_is = left;
+  }
 
   -- where a state waits, something may be left, and else nothing is
   abbrev pub Rests : Standing S → Type 0

@@ -59,7 +59,7 @@ module _ {S C R H O : Type 0} (u : ActingRules S C R) (gives : H → ℕ → Lis
 
   pub done-refused : (answer : R) (before : Standing S) (h : H) (o : O) (after : Standing S) (o' : O)
       → ((command : C) × (u.asked before.state ≡ Some command) × answers o command answer o')
-      → ((command : C) → RefusesTurn u before (Done command answer) after.state)
+      → ((command : C) → RefusesTurn u before (Done command answer) after)
       → TurnLacksMemory u gives fails answers before h o after h o'
   done-refused answer before h o after o' done refused = record {
     turn = Done done.0 answer;

@@ -18,7 +18,11 @@ turn_reads (Done command answer ∷ ts) = turn_reads ts
 module _ {S C R : Type 0} (rules : ActingRules S C R) where
   -- what events make of a state
   abbrev pub event_rules : reads.Rules S
-  event_rules = record { updated = λ s e. rules.updated s (message.Event e); is_over = rules.is_over }
+  event_rules = record {
+    updated = λ s e. rules.updated s (message.Event e);
+    is_over = rules.is_over;
+    is_light = λ s e. rules.is_light s (message.Event e);
+  }
 
   -- no state asks for anything, and a tick changes none
   pub record AsksNothing : Type 0 where

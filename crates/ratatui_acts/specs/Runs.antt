@@ -154,12 +154,13 @@ module _ {S C R G E H O : Type 0} (ground : Ground S C R G E H O) where
     pub tells : Tells ground.rules before.standing turn told after.standing
     pub lacks : ground.lacks told after.standing.state before.glass after.glass error
 
-  -- a turn was given, and memory was refused for it; the glass stays
+  -- a turn was given to a state that goes on, and memory was refused for it; the glass stays
   pub record LacksMemory (before after : Now S G H O) : Type 0 where
     pub turn : Turn C R
+    pub goes_on : ground.rules.is_over before.standing.state ≡ false
     pub wanted : IsWanted ground.rules before.standing.state turn
     pub given : GivesTurn ground.gives ground.answers before.ears before.outside turn after.ears after.outside
-    pub refused : RefusesTurn ground.rules before.standing turn after.standing.state
+    pub refused : RefusesTurn ground.rules before.standing turn after.standing
     pub glass : after.glass ≡ before.glass
 
   -- where the next turn stops: at a read that failed; where what is outside is lost; at memory that was refused

@@ -30,7 +30,7 @@ module _ {S C R H O : Type 0} (rules : ActingRules S C R) (gives : H → ℕ →
     pub turn : Turn C R
     pub wanted : IsWanted rules before.state turn
     pub given : GivesTurn gives answers h o turn h' o'
-    pub refused : RefusesTurn rules before turn after.state
+    pub refused : RefusesTurn rules before turn after
 
   -- where a turn stops: at a read that failed, and nothing was told; where what is outside is lost, and
   -- nothing was told; or at memory that was refused
@@ -57,6 +57,6 @@ module _ {S C R H : Type 0} (rules : ActingRules S C R) (gives : H → ℕ → L
   StopsHearing before h after h' (Outside error) = ⊥
   StopsHearing before h after h' Memory =
       (bytes : List ℕ) × (passed : Duration) × gives h read_room bytes passed h'
-      × RefusesTurn rules before (Came bytes passed) after.state
+      × RefusesTurn rules before (Came bytes passed) after
   StopsHearing before h after h' (Show error) = ⊥
   StopsHearing before h after h' Endless = ⊥

@@ -1,11 +1,12 @@
 -- What turns make of a state: a turn is a read, or something that was done.
-use Rattle.std.specs.Prelude.{◌≡◌, ◌||◌, ◌⊎◌, ℕ, Bool, true, false, is_some, if◌then◌else◌}
-use Rattle.std.specs.Prelude.{List, [], ◌∷◌, ◌++◌, Option, Some, None}
+use Rattle.std.specs.Prelude.{◌≡◌, ◌<◌, ◌||◌, ◌⊎◌, ℕ, Bool, true, false, is_some, if◌then◌else◌}
+use Rattle.std.specs.Prelude.{List, [], ◌∷◌, ◌++◌, length, Option, Some, None}
 use Rattle.std.specs.declared.time.Duration.{Duration}
 use Rattle.ratatui_events.specs.declared.event.Event.{Event}
 use Rattle.ratatui_input.specs.declared.decoder.Decoder.{Decoder}
 use Rattle.ratatui_input.specs.Decoding as decoding
 use Rattle.ratatui_reads.specs.{Reads.told_by, Reads.size_told, Sources.read_room}
+use Rattle.ratatui_acts.specs.declared.message.Message.{Message}
 use Rattle.ratatui_acts.specs.declared.message.Message.TheVariants as message
 use Rattle.ratatui_acts.specs.declared.told.Told.{Told}
 use Rattle.ratatui_acts.specs.declared.acts.Acts.{Ghosts}
@@ -22,6 +23,15 @@ pub record Standing (S : Type 0) : Type 0 where
   pub decoder : Decoder
   pub left : List Event
   pub state : S
+
+-- so many events have room beside a state
+abbrev pub events_room : ℕ
+events_room = 2048
+
+-- a turn is a read
+abbrev pub IsRead : {C R : Type 0} → Turn C R → Type 0
+IsRead (Came bytes passed) = Unit {0}
+IsRead (Done command answer) = ⊥
 
 -- what messages make of a state, what a state asks for, and which states take no more messages
 abbrev pub ActingRules : Type 0 → Type 0 → Type 0 → Type 1
@@ -75,18 +85,52 @@ module _ {S C R : Type 0} (rules : ActingRules S C R) where
   all_told s [] = s
   all_told s (e ∷ es) = all_told (rules.updated s (message.Event e)) es
 
-  -- some first ones of these events are told, and not the next one, for which memory was refused
-  pub record TellsSome (events : List Event) (before after : S) : Type 0 where
+  -- some first ones of these events are told, and not the next one, which isn't light, and for which memory was
+  -- refused: this one and those after it wait
+  pub record TellsSome (events : List Event) (before : S) (left : List Event) (after : S) : Type 0 where
     pub told : List Event
     pub next : Event
     pub rest : List Event
     pub events_are : events ≡ told ++ next ∷ rest
     pub after_is : after ≡ all_told before told
+    pub left_is : left ≡ next ∷ rest
+    pub heavy : rules.is_light after (message.Event next) → ⊥
 
-  -- memory was refused in a turn: for the tick, the answer or the events' room, and the state is as before; or
-  -- for one of the events
-  abbrev pub RefusesTurn : Standing S → Turn C R → S → Type 0
-  RefusesTurn before turn after = (after ≡ before.state) ⊎ TellsSome (queued before turn) (state_begun before turn) after
+  -- a read gave nothing, and the tick isn't light
+  abbrev pub IsTickHeavy : S → List ℕ → Duration → Type 0
+  IsTickHeavy s [] passed = rules.is_light s (message.Tick passed) → ⊥
+  IsTickHeavy s (b ∷ bytes) passed = ⊥
+
+  -- the first message of a turn, beside its events, is a tick or an answer, and isn't light
+  abbrev pub IsHeavy : S → Turn C R → Type 0
+  IsHeavy s (Came bytes passed) = IsTickHeavy s bytes passed
+  IsHeavy s (Done command answer) = rules.is_light s (message.Answer answer) → ⊥
+
+  -- memory was refused for that message: the state is as before, and the events wait
+  pub record RefusesFirst (before : Standing S) (turn : Turn C R) (after : Standing S) : Type 0 where
+    pub heavy : IsHeavy before.state turn
+    pub state_is : after.state ≡ before.state
+    pub left_is : after.left ≡ queued before turn
+
+  -- so many events were left that those of a read have no room beside them: the state is as before, and none
+  -- is left
+  pub record LacksPlaces (before : Standing S) (turn : Turn C R) (after : Standing S) : Type 0 where
+    pub read : IsRead turn
+    pub some : before.left ≡ [] → ⊥
+    pub many : events_room < length (queued before turn)
+    pub state_is : after.state ≡ before.state
+    pub left_is : after.left ≡ []
+
+  -- memory was refused in a turn: for the tick, the answer or one of the events; or there was no room for the
+  -- events of a read
+  abbrev pub RefusesTurn : Standing S → Turn C R → Standing S → Type 0
+  RefusesTurn before turn after = RefusesFirst before turn after
+      ⊎ TellsSome (queued before turn) (state_begun before turn) after.left after.state
+      ⊎ LacksPlaces before turn after
+
+  -- each message is light, in each state
+  abbrev pub HasLightMessages : Type 0
+  HasLightMessages = (s : S) (m : Message R) → rules.is_light s m
 
 -- the last size that a turn tells
 abbrev pub turn_size : {S C R : Type 0} → Standing S → Turn C R → Option (ℕ × ℕ)

@@ -1,6 +1,6 @@
 //! States that act.
 
-ghost use Rattle.std.specs.Prelude.{◌≡◌, Bool, Option, option_map, false, IfOk, OnOk, OnErr};
+ghost use Rattle.std.specs.Prelude.{◌≡◌, Bool, Option, option_map, false, IsOk, IfOk, OnOk, OnErr};
 ghost use Rattle.ratatui_acts.specs.declared.message.Message.{Message};
 
 use crate::message::Message;
@@ -23,15 +23,20 @@ pub trait Acts {
     // whether it takes no more messages
     ghost is_over: { Self → Bool };
 
+    // when a message takes no memory: never, unless it says otherwise
+    ghost is_light: { Self → Message Self.Answer → Type 0 } = { λ _ _. ⊥ };
+
     /// Takes a message. Answers whether anything that is shown may have changed.
     ///
     /// # Errors
     ///
-    /// `AllocError` if memory is refused. Nothing has changed then.
+    /// `AllocError` if memory is refused, of which a light message takes none. Nothing has changed
+    /// then.
     fn update(&mut self, message: Message<Self::Answer>) -> Result<bool, AllocError>
         ensures ok { OnOk result (self.new ≡ updated self.old message) }
         ensures same { IfOk result (λ changed. changed ≡ false → self.new ≡ self.old) }
-        ensures refused { OnErr result (self.new ≡ self.old) };
+        ensures refused { OnErr result (self.new ≡ self.old) }
+        ensures light { is_light self.old message → IsOk result };
 
     /// Returns what it asks for.
     fn asked(&self) -> Option<&Self::Command>

@@ -1,13 +1,14 @@
 //! Laws of runs.
 
 ghost use Rattle.std.specs.Prelude.{◌≡◌, ◌+◌, [], List};
-ghost use Rattle.ratatui_acts.specs.Turns.{after_turns};
+ghost use Rattle.ratatui_acts.specs.Turns.{after_turns, HasLightMessages};
+ghost use Rattle.ratatui_acts.specs.declared.fault.Fault.TheVariants.{Memory};
 ghost use Rattle.ratatui_reads.specs.Reads.{after_reads};
 ghost use Rattle.ratatui_reads.specs.Sources.{GivesReads};
 ghost use Rattle.ratatui_acts.specs.Hearing.{GivesUntimed, FailsToGive};
 ghost use Rattle.ratatui_acts.specs.Reading.{AsksNothing, seat_between, event_rules, turn_reads};
 ghost use Rattle.ratatui_acts.specs.Runs.{ground_of, Now, Past, HasRun, AreAnswered, AreTimely};
-ghost use Rattle.ratatui_acts.specs.Runs.{turns_of};
+ghost use Rattle.ratatui_acts.specs.Runs.{turns_of, StopsTurning};
 ghost use Rattle.ratatui_acts.specs.declared.clocked.Clocked.{Clocked as ClockedSource};
 ghost use Rattle.ratatui_acts.specs.Hearing.{GivesTimed, time_told};
 ghost use Rattle.std.specs.Time.{instant_nanos};
@@ -99,4 +100,13 @@ pub fn ticks_tell_the_time_of_the_clock<
         → HasRun basis begun past now
         → instant_nanos now.ears.last
         ≡ instant_nanos begun.ears.last + time_told (turns_of basis past) }
+{}
+
+/// A run whose messages are all light is never refused memory for one: it stops by `Memory` only if
+/// a message isn't light in the state that it meets, or if events were left over that a run before
+/// it hadn't told.
+pub fn light_messages_are_never_refused<A: Acts, G: Glass<A>, H: Hears<A, G>, O: Outside<A, G>>()
+    ensures { let basis = ground_of A.Acts G.shows G.moves G.lacks H.gives H.fails O.answers in
+        HasLightMessages A.Acts → (before after : Now A G H O) → before.standing.left ≡ []
+        → StopsTurning basis before after Memory → ⊥ }
 {}

@@ -1,13 +1,13 @@
 //! Where a state sits between what is outside and what shows it.
 
-ghost use Rattle.std.specs.Prelude.{◌≡◌, ◌||◌, List, [], ◌++◌, is_some, true, false, None, Some};
+ghost use Rattle.std.specs.Prelude.{◌≡◌, ◌≤◌, ◌||◌, length, List, [], ◌++◌, is_some, true, false, None, Some};
 ghost use Rattle.std.specs.Prelude.{Option, IsNone, IfSome, OnOk, OnErr, IfOk, IfErr};
 ghost use Rattle.ratatui_events.specs.declared.event.Event.{Event as EventData};
 ghost use Rattle.ratatui_acts.specs.declared.message.Message.TheVariants.{Answer, Tick};
 ghost use Rattle.ratatui_acts.specs.declared.told.Told.{Told};
 ghost use Rattle.ratatui_acts.specs.Redraws.{has_redraw};
 ghost use Rattle.ratatui_acts.specs.Turns.{Came, Done, Standing, Tells, TellsSome, RefusesTurn};
-ghost use Rattle.ratatui_acts.specs.Turns.{waits, taking, ticked, after_turn};
+ghost use Rattle.ratatui_acts.specs.Turns.{waits, taking, ticked, after_turn, IsTickHeavy};
 ghost use Rattle.ratatui_acts.specs.Seats.{seated, TurnsTo, HearsTo, StopsHearing, StopsTurn};
 ghost use Rattle.ratatui_input.specs.Encodings.{fresh_decoder};
 
@@ -40,12 +40,12 @@ struct Effect {
 
 impl<A: Acts> Seat<A> {
     /// Takes a state that was told nothing.
-    pub fn new(alloc: Global, state: A) -> Seat<A>
+    pub fn new(_alloc: Global, state: A) -> Seat<A>
         ensures { seated result ≡ record { decoder = fresh_decoder; left = []; state = state } }
     {
         Seat {
             decoder: Decoder::new(),
-            left: Queue::new(alloc),
+            left: Queue::new(),
             state,
         }
     }
@@ -85,6 +85,7 @@ impl<A: Acts> Seat<A> {
         ensures same { IfOk result (λ is. is ≡ false
             → (changed ≡ false) × (self.new.state ≡ self.old.state)) }
         ensures refused { OnErr result (self.new ≡ self.old) }
+        ensures heavy { OnErr result (A.is_light self.old.state message → ⊥) }
     {
         let is_new = self.state.update(message)?;
         Ok(is_new | changed)
@@ -96,6 +97,7 @@ impl<A: Acts> Seat<A> {
             ≡ record self.old { state = ticked A.Acts bytes.now passed self.old.state }) }
         ensures same { IfOk result (λ is. is ≡ false → self.new.state ≡ self.old.state) }
         ensures refused { OnErr result (self.new ≡ self.old) }
+        ensures heavy { OnErr result (IsTickHeavy A.Acts self.old.state bytes.now passed) }
     {
         if bytes.is_empty() {
             self.tell(Message::Tick(passed), false)
@@ -113,7 +115,7 @@ impl<A: Acts> Seat<A> {
         ensures told { IfOk result (λ effect. (events : List EventData)
             × (self.old.left ≡ events ++ self.new.left) × (effect.anew ≡ has_redraw events)) }
         ensures refused { OnErr result
-            (TellsSome A.Acts self.old.left self.old.state self.new.state) }
+            (TellsSome A.Acts self.old.left self.old.state self.new.left self.new.state) }
     {
         let mut changed = before;
         let mut anew = false;
@@ -122,13 +124,14 @@ impl<A: Acts> Seat<A> {
             if self.waits() {
                 return Ok(Effect { changed, anew });
             }
-            let Some(event) = self.left.next() else {
+            let Some(event) = self.left.first() else {
                 return Ok(Effect { changed, anew });
             };
             match self.tell(Message::Event(event), changed) {
                 Ok(is_new) => changed = is_new,
                 Err(error) => return Err(error),
             }
+            self.left.remove_first();
             anew = is_anew(anew, event);
         }
         Ok(Effect { changed, anew })
@@ -136,12 +139,13 @@ impl<A: Acts> Seat<A> {
 
     // Tells it what a read gave.
     fn came(&mut self, bytes: &[u8], passed: Duration) -> Result<Told, AllocError>
+        requires { length bytes.now ≤ 1024 }
         ensures ok { OnOk result
             (seated self.new ≡ after_turn A.Acts (seated self.old) (Came bytes.now passed)) }
         ensures tells { IfOk result (λ told.
             Tells A.Acts (seated self.old) (Came bytes.now passed) told (seated self.new)) }
         ensures refused { OnErr result
-            (RefusesTurn A.Acts (seated self.old) (Came bytes.now passed) self.new.state) }
+            (RefusesTurn A.Acts (seated self.old) (Came bytes.now passed) (seated self.new)) }
     {
         let taken = match self.left.add(bytes, &mut self.decoder) {
             Ok(taken) => taken,
@@ -169,7 +173,7 @@ impl<A: Acts> Seat<A> {
         ensures tells { IfOk result (λ told. (command : A.Command)
             → Tells A.Acts (seated self.old) (Done command answer) told (seated self.new)) }
         ensures refused { OnErr result ((command : A.Command)
-            → RefusesTurn A.Acts (seated self.old) (Done command answer) self.new.state) }
+            → RefusesTurn A.Acts (seated self.old) (Done command answer) (seated self.new)) }
     {
         let first = match self.tell(Message::Answer(answer), false) {
             Ok(first) => first,
@@ -190,8 +194,10 @@ impl<A: Acts> Seat<A> {
     ///
     /// # Errors
     ///
-    /// `Read` if the read failed; nothing has changed then. `Memory` if memory was refused; some
-    /// first ones of the events that were read have been told then.
+    /// `Read` if the read failed; nothing has changed then. `Memory` if memory was refused for a
+    /// tick or for an event, which isn't light then: the events before it have been told, and this
+    /// one and those after it wait. So they may after an answer was refused. Where more than 2048
+    /// would wait by and by, all of them are let go, and the fault is `Memory` too.
     pub fn hear<G: Glass<A>, H: Hears<A, G>>(
         &mut self,
         ears: &mut H,

@@ -7,7 +7,7 @@ use Rattle.ratatui_core.specs.Terminal.{TerminalData, TerminalError, Viewport, I
 use Rattle.ratatui_core.specs.Terminal.{Stays, DrawsFrame, Resizes, Autoresizes}
 use Rattle.ratatui_acts.specs.declared.told.Told.{Told}
 use Rattle.ratatui_app.specs.Showing.{Device, RestsUnfixed, MayDraw, TakesOrKeepsSize}
-use Rattle.ratatui_app.specs.Moving.{Readies, ReadiesTold, DrawsSized, MovesAsTold, RefusesSized, FailsToDraw, StopsShowing}
+use Rattle.ratatui_app.specs.Moving.{ReadiesTold, DrawsSized, MovesAsTold, RefusesSized, FailsToDraw, StopsShowing}
 
 true-false : true ≡ false → ⊥
 true-false e = search rules
@@ -17,7 +17,7 @@ same-size a b w h = ap₂ (λ (x y : ℕ). record { width = x; height = y }) w h
 
 module _ {B : Type 0} (screen : B → Screen) where
   -- what the law of terminals at rest says of a resize
-  abbrev RestsResized : Type 0
+  abbrev pub RestsResized : Type 0
   RestsResized = (kind : Viewport) (b : B) (s t : TerminalData B) → (IsFixed kind → ⊥) → IsAtRest screen kind s
       → Resizes screen (screen_area (screen b)) (record s { backend = b }) t → IsAtRest screen kind t
 
@@ -221,17 +221,22 @@ module _ {B X : Type 0} (device : Device B X) where
   draws-sized s sized t (Ok x) sizes draws = record { sized = sized; autoresized = sizes; draws = draws }
   draws-sized s sized t (Err e) sizes draws = tt
 
-  pub refuses-sized : {E : Type 0} (paints : Rect → BufferData → BufferData → Type 0) (cursor : Rect → Option Position)
+  pub refuses-sized : {E : Type 0} (paints : Rect → BufferData → BufferData → Type 0) (is_short : Rect → BufferData → Type 0)
+      (cursor : Rect → Option Position)
       (s sized t : TerminalData B) (r : Result (Unit {0}) (TerminalError E)) → Autoresizes device.screen s sized
-      → IfErr r (λ e. RefusesSized device paints cursor sized t e) → IfErr r (λ e. FailsToDraw device paints cursor s t e)
-  refuses-sized paints cursor s sized t (Ok x) sizes refused = tt
-  refuses-sized paints cursor s sized t (Err e) sizes refused = inr (sized, sizes, refused)
+      → IfErr r (λ e. RefusesSized device paints is_short cursor sized t e)
+      → IfErr r (λ e. FailsToDraw device paints is_short cursor s t e)
+  refuses-sized paints is_short cursor s sized t (Ok x) sizes refused = tt
+  refuses-sized paints is_short cursor s sized t (Err e) sizes refused = inr (sized, sizes, refused)
 
-  pub stops-frame : {E : Type 0} (paints : Rect → BufferData → BufferData → Type 0) (cursor : Rect → Option Position)
-      (s ready t : TerminalData B) (r : Result (Unit {0}) (TerminalError E)) → Readies device s ready
-      → IfErr r (λ e. FailsToDraw device paints cursor ready t e) → IfErr r (λ e. StopsShowing device paints cursor s t e)
-  stops-frame paints cursor s ready t (Ok x) readies refused = tt
-  stops-frame paints cursor s ready t (Err e) readies refused = inr (ready, readies, refused)
+  pub stops-frame : {E : Type 0} (paints : Rect → BufferData → BufferData → Type 0) (is_short : Rect → BufferData → Type 0)
+      (cursor : Rect → Option Position) (told : Told) (is_new : Bool)
+      (s ready t : TerminalData B) (r : Result (Unit {0}) (TerminalError E)) → ReadiesTold device told is_new s ready
+      → IfErr r (λ e. FailsToDraw device paints is_short cursor ready t e)
+      → IfErr r (λ e. StopsShowing device paints is_short cursor told s t e)
+  stops-frame paints is_short cursor told is_new s ready t (Ok x) readies refused = tt
+  stops-frame paints is_short cursor told is_new s ready t (Err e) readies refused =
+      inr (record { is_new = is_new; ready = ready; readied = readies; fails = refused })
 
   pub sizes-ok : {E : Type 0} (s sized t : TerminalData B) (r : Result (Unit {0}) E) → Autoresizes device.screen s sized
       → OnOk r (size_of (device.screen t.backend) ≡ size_of (device.screen sized.backend))

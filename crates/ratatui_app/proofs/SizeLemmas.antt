@@ -36,11 +36,11 @@ turn-cells cells before (Done command answer) = λ columns rows is. absurd (cc)
 
 pub turn-size : {W S C R H O : Type 0} → ((d : Decoder) (bytes : List ℕ) → AreCells (size_told d bytes))
     → (rules : ActingRules S C R) (paints : S → Rect → BufferData → BufferData → Type 0)
-    (cursor : S → Rect → Option Position) (gives : H → ℕ → List ℕ → Duration → H → Type 0) (fails : H → H → Type 0)
+    (is_short : S → Rect → BufferData → Type 0) (cursor : S → Rect → Option Position) (gives : H → ℕ → List ℕ → Duration → H → Type 0) (fails : H → H → Type 0)
     (answers : O → C → R → O → Type 0) (before after : Now S (OnGlass W) H O) (turn : Turn C R)
-    → IsTurn (on_glass rules paints cursor gives fails answers) before turn after
+    → IsTurn (on_glass rules paints is_short cursor gives fails answers) before turn after
     → HasSizeTold (turn_size before.standing turn) before.glass.terminal after.glass.terminal
-turn-size cells rules paints cursor gives fails answers before after turn is =
+turn-size cells rules paints is_short cursor gives fails answers before after turn is =
     let moves : MovesAndAsks is.told before.glass.terminal after.glass.terminal = is.moved in
     by-told (turn_size before.standing turn) before.glass.terminal moves.shown after.glass.terminal
     (turn-cells cells before.standing turn)

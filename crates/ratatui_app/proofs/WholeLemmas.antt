@@ -63,7 +63,7 @@ module _ {W : Type 0} where
   }
 
 module _ {W S C R H O : Type 0} (rules : ActingRules S C R) (paints : S → Rect → BufferData → BufferData → Type 0)
-    (cursor : S → Rect → Option Position) (gives : H → ℕ → List ℕ → Duration → H → Type 0) (fails : H → H → Type 0)
+    (is_short : S → Rect → BufferData → Type 0) (cursor : S → Rect → Option Position) (gives : H → ℕ → List ℕ → Duration → H → Type 0) (fails : H → H → Type 0)
     (answers : O → C → R → O → Type 0) (viewport : Viewport) (backend : BackendState W) where
   -- how a run ended, and what giving back the terminal answered
   pub runs-whole : (r : Result (Unit {0}) (Fault (TerminalError AnsiError))) (has_ticks : Bool)
@@ -71,10 +71,10 @@ module _ {W S C R H O : Type 0} (rules : ActingRules S C R) (paints : S → Rect
       (contents : Option (List ℕ)) (first last : Standing S) (h h' : H) (o o' : O)
       → Begins viewport backend begun → glass ≡ record { terminal = begun; is_due = true; waited = 0 }
       → left ≡ ended.terminal → (left.backend.failures ≡ 0 → IsGivenBack left.backend contents)
-      → OnOk r (RunsToEnd (on_glass rules paints cursor gives fails answers) has_ticks
+      → OnOk r (RunsToEnd (on_glass rules paints is_short cursor gives fails answers) has_ticks
       (record { standing = first; glass = glass; ears = h; outside = o })
       (record { standing = last; glass = ended; ears = h'; outside = o' }))
-      → OnOk r (RunsThrough (on_glass rules paints cursor gives fails answers) viewport backend has_ticks first h o last h' o' contents)
+      → OnOk r (RunsThrough (on_glass rules paints is_short cursor gives fails answers) viewport backend has_ticks first h o last h' o' contents)
   runs-whole (Ok x) has_ticks begun glass ended left contents first last h h' o o' begins is same given runs = record {
     begun = begun;
     begins = begins;
@@ -87,16 +87,17 @@ module _ {W S C R H O : Type 0} (rules : ActingRules S C R) (paints : S → Rect
   pub stops-whole : (r : Result (Unit {0}) (Fault (TerminalError AnsiError)))
       (begun : TerminalData (BackendState W)) (glass ended : OnGlass W) (left : TerminalData (BackendState W))
       (contents : Option (List ℕ)) (first last : Standing S) (h h' : H) (o o' : O)
-      → Begins viewport backend begun → glass ≡ record { terminal = begun; is_due = true; waited = 0 }
+      → Begins viewport backend begun → CanShow begun → glass ≡ record { terminal = begun; is_due = true; waited = 0 }
       → left ≡ ended.terminal → (left.backend.failures ≡ 0 → IsGivenBack left.backend contents)
-      → IfErr r (λ fault. StopsTurning (on_glass rules paints cursor gives fails answers)
+      → IfErr r (λ fault. StopsTurning (on_glass rules paints is_short cursor gives fails answers)
       (record { standing = first; glass = glass; ears = h; outside = o })
       (record { standing = last; glass = ended; ears = h'; outside = o' }) fault)
-      → IfErr r (λ fault. StopsThrough (on_glass rules paints cursor gives fails answers) viewport backend fault first h o last h' o' contents)
-  stops-whole (Ok x) begun glass ended left contents first last h h' o o' begins is same given stops = tt
-  stops-whole (Err e) begun glass ended left contents first last h h' o o' begins is same given stops = record {
+      → IfErr r (λ fault. StopsThrough (on_glass rules paints is_short cursor gives fails answers) viewport backend fault first h o last h' o' contents)
+  stops-whole (Ok x) begun glass ended left contents first last h h' o o' begins ready is same given stops = tt
+  stops-whole (Err e) begun glass ended left contents first last h h' o o' begins ready is same given stops = record {
     begun = begun;
     begins = begins;
+    ready = ready;
     ended = ended;
     stops = rw is at stops;
     given_back = rw same at given;

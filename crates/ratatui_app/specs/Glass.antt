@@ -4,7 +4,7 @@ use Rattle.std.specs.Prelude.{◌≡◌, ◌⊎◌, ℕ, true, false, List, ◌+
 use Rattle.ratatui_core.specs.{Layout.Rect, Layout.Position, Buffer.BufferData, Backend.cursor_of}
 use Rattle.ratatui_core.specs.Backend.{size_of}
 use Rattle.ratatui_core.specs.Terminal.{TerminalData, TerminalError, ShowsRendered, HasCursor, Stays}
-use Rattle.ratatui_core.specs.Terminal.{Starts, Viewport}
+use Rattle.ratatui_core.specs.Terminal.{Starts, Viewport, IsBackendFault}
 use Rattle.ansi_model.specs.Commands.{size_question}
 use Rattle.ratatui_ansi.specs.Backend.{BackendState, LeavesTerminal, BringsBack, shown_by, is_flushed}
 use Rattle.ratatui_ansi.specs.{declared.error.AnsiError.AnsiError, Refusals.StopsSending}
@@ -25,6 +25,10 @@ sender = record {
 -- no cursor
 abbrev pub no_cursor : Rect → Option Position
 no_cursor _ = None
+
+-- painting may take memory everywhere
+abbrev pub never_short : {S : Type 0} → S → Rect → BufferData → Type 0
+never_short _ _ _ = ⊥
 
 module _ {W : Type 0} where
   -- a frame can be drawn, and no call has failed
@@ -56,12 +60,20 @@ module _ {W : Type 0} where
   HasSizeTold (Some size) s t =
       size_of (shown_by t.backend) ≡ record { width = size.0; height = size.1 }
 
+  -- a frame was shown, and then the backend failed at the question for the size
+  pub record StopsAsking (told : Told) (s t : TerminalData (BackendState W)) (error : TerminalError AnsiError)
+      : Type 0 where
+    pub fault : IsBackendFault error
+    pub shown : TerminalData (BackendState W)
+    pub moved : MovesAsTold sender told s shown
+    pub only : t ≡ record shown { backend = t.backend }
+
   -- where showing a state stops: at its frame; or, after it, at the question for the size
-  abbrev pub StopsOnGlass : (Rect → BufferData → BufferData → Type 0) → (Rect → Option Position)
+  abbrev pub StopsOnGlass : (Rect → BufferData → BufferData → Type 0) → (Rect → BufferData → Type 0)
+      → (Rect → Option Position)
       → Told → TerminalData (BackendState W) → TerminalData (BackendState W) → TerminalError AnsiError → Type 0
-  StopsOnGlass paints cursor told s t error = StopsShowing sender paints cursor s t error
-      ⊎ ((shown : TerminalData (BackendState W)) × MovesAsTold sender told s shown
-      × (t ≡ record shown { backend = t.backend }))
+  StopsOnGlass paints is_short cursor told s t error =
+      StopsShowing sender paints is_short cursor told s t error ⊎ StopsAsking told s t error
 
 -- a terminal was asked for its size, and begun on the backend's screen
 pub record Begins {W : Type 0} (viewport : Viewport) (backend : BackendState W)

@@ -3,7 +3,7 @@ use Rattle.std.specs.Prelude.{◌≡◌, ◌⊎◌, Bool, true, false, Option, �
 use Rattle.ratatui_core.specs.{Layout.Rect, Layout.Position, Buffer.BufferData, Buffer.IsEmptied}
 use Rattle.ratatui_core.specs.Terminal.{TerminalData, IsSized, DrawsFrame, Autoresizes}
 use Rattle.ratatui_core.specs.Terminal.{TerminalError, DrawErr, RendersCurrent, AutoresizeErr}
-use Rattle.ratatui_core.specs.Terminal.{ClearsViewport, FailsClearing}
+use Rattle.ratatui_core.specs.Terminal.{ClearsViewport, FailsClearing, IsBackendFault}
 use Rattle.ratatui_core.specs.Headline.{MayTakeSize}
 use Rattle.ratatui_acts.specs.declared.told.Told.{Told}
 use Rattle.ratatui_app.specs.Showing.{Device, MayDraw, TakesOrKeepsSize}
@@ -50,16 +50,17 @@ module _ {B X : Type 0} (device : Device B X) where
     pub kind : t.viewport ≡ s.viewport
     pub faults : device.failures t.backend ≡ device.failures s.backend
 
-  -- where a turn's frame stops before it is drawn: at the size that was told, or a clear, and all stays but the
-  -- backend, and an emptied viewport
-  abbrev pub StopsReady : TerminalData B → TerminalData B → Type 0
-  StopsReady s t = (t ≡ record s { backend = t.backend }) ⊎ FailsClearing device.screen s t
+  -- where a turn's frame stops before it is drawn: the backend failed at the size that was told, or at a clear,
+  -- and all stays but the backend, and an emptied viewport
+  abbrev pub StopsReady : {E : Type 0} → TerminalData B → TerminalData B → TerminalError E → Type 0
+  StopsReady s t error = IsBackendFault error
+      × ((t ≡ record s { backend = t.backend }) ⊎ FailsClearing device.screen s t)
 
 module _ {B X : Type 0} (device : Device B X) (paints : Rect → BufferData → BufferData → Type 0)
-    (cursor : Rect → Option Position) where
+    (is_short : Rect → BufferData → Type 0) (cursor : Rect → Option Position) where
   -- a draw at the known size was refused: nothing was written, or the backend failed
   abbrev pub RefusesSized : {E : Type 0} → TerminalData B → TerminalData B → TerminalError E → Type 0
-  RefusesSized t = DrawErr device.screen (RendersCurrent paints (λ _ _ _. ⊤) (λ area. area) (λ _ _. ⊥)
+  RefusesSized t = DrawErr device.screen (RendersCurrent paints (λ _ _ _. ⊤) (λ area. area) is_short
       (cursor t.viewport_area)) t
 
   -- a frame was refused: the terminal couldn't find the screen's size; or, once it had, the draw was refused
@@ -67,7 +68,14 @@ module _ {B X : Type 0} (device : Device B X) (paints : Rect → BufferData → 
   FailsToDraw t t' error = AutoresizeErr device.screen t t' error
       ⊎ ((sized : TerminalData B) × Autoresizes device.screen t sized × RefusesSized sized t' error)
 
+  -- a frame was refused on a terminal that was readied for what was told
+  pub record RefusesReady {E : Type 0} (told : Told) (t t' : TerminalData B) (error : TerminalError E)
+      : Type 0 where
+    pub is_new : Bool
+    pub ready : TerminalData B
+    pub readied : ReadiesTold device told is_new t ready
+    pub fails : FailsToDraw ready t' error
+
   -- where the frame of a turn stops: before it is drawn, or on a terminal that was readied for it
-  abbrev pub StopsShowing : {E : Type 0} → TerminalData B → TerminalData B → TerminalError E → Type 0
-  StopsShowing t t' error = StopsReady device t t'
-      ⊎ ((ready : TerminalData B) × Readies device t ready × FailsToDraw ready t' error)
+  abbrev pub StopsShowing : {E : Type 0} → Told → TerminalData B → TerminalData B → TerminalError E → Type 0
+  StopsShowing told t t' error = StopsReady device t t' error ⊎ RefusesReady told t t' error

@@ -9,18 +9,19 @@ use Rattle.ratatui_acts.specs.declared.fault.Fault.{Fault}
 use Rattle.ratatui_acts.specs.Turns.{ActingRules, Standing}
 use Rattle.ratatui_acts.specs.Runs.{Ground, RunsToEnd, StopsTurning}
 use Rattle.ratatui_app.specs.declared.on_glass.OnGlass.{OnGlass}
-use Rattle.ratatui_app.specs.Glass.{StandsOnGlass, MovesAndAsks, StopsOnGlass, Begins, IsGivenBack}
+use Rattle.ratatui_app.specs.Glass.{CanShow, StandsOnGlass, MovesAndAsks, StopsOnGlass, Begins, IsGivenBack}
 
 module _ {W S C R H O : Type 0} where
   -- what a run of an application stands on, on such a terminal
-  abbrev pub on_glass : ActingRules S C R → (S → Rect → BufferData → BufferData → Type 0) → (S → Rect → Option Position)
+  abbrev pub on_glass : ActingRules S C R → (S → Rect → BufferData → BufferData → Type 0)
+      → (S → Rect → BufferData → Type 0) → (S → Rect → Option Position)
       → (H → ℕ → List ℕ → Duration → H → Type 0) → (H → H → Type 0) → (O → C → R → O → Type 0)
       → Ground S C R (OnGlass W) (TerminalError AnsiError) H O
-  on_glass rules paints cursor gives fails answers = record {
+  on_glass rules paints is_short cursor gives fails answers = record {
     rules = rules;
     shows = λ glass s. StandsOnGlass (paints s) (cursor s) glass.terminal;
     moves = λ told glass new. MovesAndAsks told glass.terminal new.terminal;
-    lacks = λ told s glass new error. StopsOnGlass (paints s) (cursor s) told glass.terminal new.terminal error;
+    lacks = λ told s glass new error. StopsOnGlass (paints s) (is_short s) (cursor s) told glass.terminal new.terminal error;
     gives = gives;
     fails = fails;
     answers = answers;
@@ -48,6 +49,7 @@ module _ {W S C R H O : Type 0} (ground : Ground S C R (OnGlass W) (TerminalErro
       (last : Standing S) (h' : H) (o' : O) (contents : Option (List ℕ)) : Type 0 where
     pub begun : TerminalData (BackendState W)
     pub begins : Begins viewport backend begun
+    pub ready : CanShow begun
     pub ended : OnGlass W
     pub stops : StopsTurning ground (record {
       standing = first;

@@ -1,6 +1,6 @@
 //! A number, two keys and quit.
 
-ghost use Rattle.std.specs.Prelude.{◌≡◌, false, None, OnOk, OnErr, IfOk};
+ghost use Rattle.std.specs.Prelude.{⊤, ◌≡◌, false, None, IsOk, OnOk, OnErr, IfOk};
 ghost use Rattle.ratatui_app.specs.Counting.{counter_after, counter_by_event, counter_by_character};
 
 use crate::application::Application;
@@ -59,10 +59,13 @@ impl Acts for Counter {
 
     ghost is_over = { λ c. c.is_over };
 
+    ghost is_light = { λ _ _. ⊤ };
+
     fn update(&mut self, message: Message<Never>) -> Result<bool, AllocError>
         ensures ok { OnOk result (self.new ≡ counter_after self.old message) }
         ensures same { IfOk result (λ changed. changed ≡ false → self.new ≡ self.old) }
         ensures refused { OnErr result (self.new ≡ self.old) }
+        ensures light { IsOk result }
     {
         let before = *self;
         match message {
@@ -82,12 +85,15 @@ impl Acts for Counter {
 }
 
 impl Application for Counter {
+    ghost use Rattle.std.specs.Prelude.{⊤};
     ghost use Rattle.ratatui_app.specs.Counting.{PaintsCounter};
     ghost use Rattle.ratatui_app.specs.Glass.{no_cursor};
     ghost use Rattle.std.specs.Fmt.{decimal};
     ghost use Rattle.ratatui_app.specs.LineLemmas.{line-settled};
 
     ghost paints = { PaintsCounter };
+
+    ghost is_short = { λ _ _ _. ⊤ };
 
     ghost cursor = { λ _. no_cursor };
 

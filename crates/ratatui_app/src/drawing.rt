@@ -5,7 +5,6 @@ ghost use Rattle.std.specs.Prelude.{IfOk, IfErr};
 ghost use Rattle.ratatui_core.specs.Backend.{size_of, HasNoCells};
 ghost use Rattle.ratatui_core.specs.Terminal.{DrawsFrame, Autoresizes, AutoresizeErr};
 ghost use Rattle.ratatui_core.specs.Terminal.{ClearsViewport};
-ghost use Rattle.ratatui_core.specs.Terminal.{FailsClearing};
 ghost use Rattle.ratatui_app.specs.Showing.{RestsUnfixed, MayDraw, ShowsPage};
 ghost use Rattle.ratatui_app.specs.Moving.{DrawsSized, ReadiesTold, MovesAsTold, StopsReady, StopsShowing};
 ghost use Rattle.ratatui_app.specs.Moving.{RefusesSized, FailsToDraw};
@@ -31,8 +30,8 @@ fn draw_sized<B: Backend, A: Application>(
     ensures size { RestsUnfixed B.screen terminal.old → OnOk result
         (size_of (B.screen terminal.new.backend) ≡ size_of (B.screen terminal.old.backend)) }
     ensures refused { IfErr result
-        (RefusesSized B.Backend (A.paints application.now) (A.cursor application.now)
-        terminal.old terminal.new) }
+        (RefusesSized B.Backend (A.paints application.now) (A.is_short application.now)
+        (A.cursor application.now) terminal.old terminal.new) }
 {
     calls_leave_a_terminal_at_rest::<B>();
     let cursor = application.cursor(terminal.viewport_area());
@@ -58,8 +57,8 @@ pub fn draw<B: Backend, A: Application>(
     ensures size { MayDraw B.Backend terminal.old → OnOk result
         (size_of (B.screen terminal.new.backend) ≡ size_of (B.screen terminal.old.backend)) }
     ensures refused { IfErr result
-        (FailsToDraw B.Backend (A.paints application.now) (A.cursor application.now)
-        terminal.old terminal.new) }
+        (FailsToDraw B.Backend (A.paints application.now) (A.is_short application.now)
+        (A.cursor application.now) terminal.old terminal.new) }
 {
     calls_leave_a_terminal_at_rest::<B>();
     match terminal.autoresize() {
@@ -91,7 +90,7 @@ fn clear_if<B: Resizable>(
         ReadiesTold B.Backend (record told { size = None }) is_new terminal.old terminal.new) }
     ensures kept { is_wanted ≡ false → terminal.new ≡ terminal.old }
     ensures stays { is_wanted ≡ false → IsOk result }
-    ensures stops { OnErr result (FailsClearing B.screen terminal.old terminal.new) }
+    ensures stops { IfErr result (StopsReady B.Backend terminal.old terminal.new) }
 {
     calls_leave_a_terminal_at_rest::<B>();
     if !is_wanted {
@@ -130,7 +129,7 @@ fn give_size<B: Resizable>(
         → ((terminal.old.last_known_area.width ≡ columns)
         × (terminal.old.last_known_area.height ≡ rows) → ⊥)
         → IfOk result (λ is_new. ReadiesTold B.Backend told is_new terminal.old terminal.new) }
-    ensures stops { OnErr result (StopsReady B.Backend terminal.old terminal.new) }
+    ensures stops { IfErr result (StopsReady B.Backend terminal.old terminal.new) }
 {
     let size = Size {
         width: columns,
@@ -156,7 +155,7 @@ fn ready<B: Resizable>(
         → IfOk result (λ is_new. ReadiesTold B.Backend told is_new terminal.old terminal.new) }
     ensures quiet { told.size ≡ None → told.anew ≡ false → IfOk result (λ is_new. is_new ≡ false) }
     ensures kept { told.size ≡ None → told.anew ≡ false → terminal.new ≡ terminal.old }
-    ensures stops { OnErr result (StopsReady B.Backend terminal.old terminal.new) }
+    ensures stops { IfErr result (StopsReady B.Backend terminal.old terminal.new) }
 {
     let Some((columns, rows)) = told.size else {
         return clear_if(terminal, told, told.anew);
@@ -188,8 +187,8 @@ fn draw_if<B: Backend, A: Application>(
     ensures size { MayDraw B.Backend terminal.old → OnOk result
         (size_of (B.screen terminal.new.backend) ≡ size_of (B.screen terminal.old.backend)) }
     ensures refused { IfErr result
-        (FailsToDraw B.Backend (A.paints application.now) (A.cursor application.now)
-        terminal.old terminal.new) }
+        (FailsToDraw B.Backend (A.paints application.now) (A.is_short application.now)
+        (A.cursor application.now) terminal.old terminal.new) }
 {
     if is_changed || is_new {
         draw(terminal, application)
@@ -223,8 +222,8 @@ pub fn refresh<B: Resizable, A: Application>(
     ensures stays { told.changed ≡ false → told.size ≡ None → told.anew ≡ false
         → OnOk result (terminal.new ≡ terminal.old) }
     ensures stops { RestsUnfixed B.screen terminal.old → IfErr result
-        (StopsShowing B.Backend (A.paints application.now) (A.cursor application.now)
-        terminal.old terminal.new) }
+        (StopsShowing B.Backend (A.paints application.now) (A.is_short application.now)
+        (A.cursor application.now) told terminal.old terminal.new) }
 {
     match ready(terminal, told, is_due) {
         Ok(is_new) => draw_if(terminal, application, told.changed, is_new),

@@ -1,9 +1,10 @@
 //! A counter from nothing to the glass.
 
 ghost use Rattle.std.specs.Prelude.{IfSome};
-ghost use Rattle.ratatui_app.specs.FromBlank.{CountsFromBlank};
+ghost use Rattle.ratatui_app.specs.FromBlank.{CountsFromBlank, NeedsMemoryForSizes};
 
 use crate::counter::Counter;
+use crate::laws::light_applications_are_never_refused;
 use crate::on_glass::OnGlass;
 use ratatui_acts::laws::{
     reads_decide_where_nothing_is_asked_for, the_reads_are_what_a_source_gave,
@@ -47,4 +48,12 @@ pub fn count_from_blank<S: Source, W: Write + Drop>(
         Ok(()) => Some(glass),
         Err(_) => None,
     }
+}
+
+/// Counting takes no memory: a run stops for want of it only at the frame of a turn that told
+/// another size than the screen has.
+pub fn counting_is_never_refused<S: Source, W: Write + Drop>()
+    ensures { NeedsMemoryForSizes W S.coming }
+{
+    light_applications_are_never_refused::<W, Counter, S, Nothing>();
 }

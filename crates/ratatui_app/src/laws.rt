@@ -1,19 +1,24 @@
 //! Laws of applications.
 
-ghost use Rattle.std.specs.Prelude.{◌≡◌};
+ghost use Rattle.std.specs.Prelude.{◌≡◌, []};
 ghost use Rattle.ratatui_acts.specs.Turns.{Turn, turn_size};
-ghost use Rattle.ratatui_acts.specs.Runs.{Now, IsTurn};
+ghost use Rattle.ratatui_acts.specs.Runs.{Now, IsTurn, StopsTurning};
+ghost use Rattle.ratatui_acts.specs.declared.fault.Fault.TheVariants as fault;
+ghost use Rattle.ratatui_core.specs.Terminal.{Memory};
 ghost use Rattle.ratatui_app.specs.declared.on_glass.OnGlass.{OnGlass as OnGlassData};
 ghost use Rattle.ratatui_app.specs.Showing.{ShowsPage};
-ghost use Rattle.ratatui_app.specs.Glass.{sender, StandsOnGlass, HasSizeTold};
+ghost use Rattle.ratatui_app.specs.Glass.{sender, CanShow, StandsOnGlass, HasSizeTold};
+ghost use Rattle.ratatui_app.specs.Light.{TakesNoMemory, StopsAtOtherSize};
 ghost use Rattle.ratatui_app.specs.Runs.{on_glass};
 
 use crate::application::Application;
 use crate::on_glass::OnGlass;
+use ratatui_acts::laws::light_messages_are_never_refused;
 use ratatui_acts::{Hears, Outside};
 use ratatui_ansi::AnsiBackend;
 use ratatui_ansi::laws::bytes_show_the_last_buffer;
 use ratatui_core::terminal::Terminal;
+use ratatui_core::terminal::laws::calls_leave_a_terminal_at_rest;
 use ratatui_reads::laws::told_sizes_have_cells;
 use std::io::Write;
 
@@ -39,9 +44,35 @@ pub fn told_sizes_are_the_screens<
     O: Outside<A, OnGlass<W>>,
 >()
     ensures { (before after : Now A (OnGlassData W) H O) (turn : Turn A.Command A.Answer)
-        → IsTurn (on_glass A.Acts A.paints A.cursor H.gives H.fails O.answers) before turn after
+        → IsTurn (on_glass A.Acts A.paints A.is_short A.cursor H.gives H.fails O.answers) before turn after
         → HasSizeTold (turn_size before.standing turn)
         before.glass.terminal after.glass.terminal }
 {
     told_sizes_have_cells();
+}
+
+/// A run of an application that takes no memory, by its messages or its paintings, is never refused
+/// any while the screen keeps its size: it never stops by `Memory`; and it stops by `Show` of the
+/// terminal's own want of memory only at the frame of a turn that told another size, of which the
+/// terminal needs larger buffers. What the backend fails at stays a failure of the backend.
+pub fn light_applications_are_never_refused<
+    W: Write + Drop,
+    A: Application,
+    H: Hears<A, OnGlass<W>>,
+    O: Outside<A, OnGlass<W>>,
+>()
+    ensures messages { let basis = on_glass A.Acts A.paints A.is_short A.cursor
+        H.gives H.fails O.answers in
+        TakesNoMemory A.Acts A.is_short
+        → (before after : Now A (OnGlassData W) H O) → before.standing.left ≡ []
+        → StopsTurning basis before after fault.Memory → ⊥ }
+    ensures frames { let basis = on_glass A.Acts A.paints A.is_short A.cursor
+        H.gives H.fails O.answers in
+        TakesNoMemory A.Acts A.is_short
+        → (before after : Now A (OnGlassData W) H O) → CanShow before.glass.terminal
+        → StopsTurning basis before after (fault.Show Memory)
+        → StopsAtOtherSize basis before after }
+{
+    light_messages_are_never_refused::<A, OnGlass<W>, H, O>();
+    calls_leave_a_terminal_at_rest::<AnsiBackend<W>>();
 }

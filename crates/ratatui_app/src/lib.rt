@@ -16,7 +16,7 @@ pub use application::Application;
 pub use by_hand::count_by_hand;
 pub use counter::Counter;
 pub use drawing::{draw, refresh};
-pub use from_blank::count_from_blank;
+pub use from_blank::{count_from_blank, counting_is_never_refused};
 pub use line::paint_line;
 pub use on_glass::OnGlass;
 pub use on_screen::OnScreen;

@@ -186,7 +186,8 @@ impl<W: Write + Drop, A: Application> Glass<A> for OnGlass<W> {
     ghost moves = { λ told glass new. MovesAndAsks told glass.terminal new.terminal };
 
     ghost lacks = { λ told state glass new error.
-        StopsOnGlass (A.paints state) (A.cursor state) told glass.terminal new.terminal error };
+        StopsOnGlass (A.paints state) (A.is_short state) (A.cursor state) told
+        glass.terminal new.terminal error };
 
     fn show(&mut self, state: &A, told: Told) -> Result<(), TerminalError<AnsiError>> {
         let is_due = self.is_due;

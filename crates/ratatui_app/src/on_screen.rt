@@ -83,9 +83,9 @@ impl<B: Resizable + Drop, A: Application> Glass<A> for OnScreen<B> {
 
     ghost moves = { λ told glass new. MovesAsTold B.Backend told glass.terminal new.terminal };
 
-    ghost lacks = { λ _ state glass new error.
-        StopsShowing B.Backend (A.paints state) (A.cursor state) glass.terminal new.terminal
-        error };
+    ghost lacks = { λ told state glass new error.
+        StopsShowing B.Backend (A.paints state) (A.is_short state) (A.cursor state) told
+        glass.terminal new.terminal error };
 
     fn show(&mut self, state: &A, told: Told) -> Result<(), TerminalError<B::Error>> {
         refresh(&mut self.terminal, state, told, false)

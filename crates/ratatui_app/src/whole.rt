@@ -51,11 +51,11 @@ fn run_over<W: Write + Drop, A: Application, H: Hears<A, OnGlass<W>>, O: Outside
     requires blank { IsBlank (shown_by backend) }
     requires unfailed { backend.failures ≡ 0 }
     ensures runs { IfOk result (λ left. OnOk left.ended (RunsThrough
-        (on_glass A.Acts A.paints A.cursor H.gives H.fails O.answers) viewport backend has_ticks
+        (on_glass A.Acts A.paints A.is_short A.cursor H.gives H.fails O.answers) viewport backend has_ticks
         (seated seat.old) ears.old outside.old (seated seat.new) ears.new outside.new
         (W.contents left.writer))) }
     ensures stops { IfOk result (λ left. IfErr left.ended (λ fault. StopsThrough
-        (on_glass A.Acts A.paints A.cursor H.gives H.fails O.answers) viewport backend fault
+        (on_glass A.Acts A.paints A.is_short A.cursor H.gives H.fails O.answers) viewport backend fault
         (seated seat.old) ears.old outside.old (seated seat.new) ears.new outside.new
         (W.contents left.writer))) }
 {
@@ -95,11 +95,11 @@ pub fn run_and_leave<
     requires blank { IsBlank (shown_by backend) }
     requires unfailed { backend.failures ≡ 0 }
     ensures runs { IfOk result (λ left. OnOk left.ended (RunsThrough
-        (on_glass A.Acts A.paints A.cursor H.gives H.fails O.answers) Fullscreen backend has_ticks
+        (on_glass A.Acts A.paints A.is_short A.cursor H.gives H.fails O.answers) Fullscreen backend has_ticks
         (seated seat.old) ears.old outside.old (seated seat.new) ears.new outside.new
         (W.contents left.writer))) }
     ensures stops { IfOk result (λ left. IfErr left.ended (λ fault. StopsThrough
-        (on_glass A.Acts A.paints A.cursor H.gives H.fails O.answers) Fullscreen backend fault
+        (on_glass A.Acts A.paints A.is_short A.cursor H.gives H.fails O.answers) Fullscreen backend fault
         (seated seat.old) ears.old outside.old (seated seat.new) ears.new outside.new
         (W.contents left.writer))) }
 {
@@ -141,11 +141,11 @@ pub fn run_inline_and_leave<
     requires blank { IsBlank (shown_by backend) }
     requires unfailed { backend.failures ≡ 0 }
     ensures runs { IfOk result (λ left. OnOk left.ended (RunsThrough
-        (on_glass A.Acts A.paints A.cursor H.gives H.fails O.answers) (Inline rows) backend
+        (on_glass A.Acts A.paints A.is_short A.cursor H.gives H.fails O.answers) (Inline rows) backend
         has_ticks (seated seat.old) ears.old outside.old (seated seat.new) ears.new
         outside.new (W.contents left.writer))) }
     ensures stops { IfOk result (λ left. IfErr left.ended (λ fault. StopsThrough
-        (on_glass A.Acts A.paints A.cursor H.gives H.fails O.answers) (Inline rows) backend fault
+        (on_glass A.Acts A.paints A.is_short A.cursor H.gives H.fails O.answers) (Inline rows) backend fault
         (seated seat.old) ears.old outside.old (seated seat.new) ears.new outside.new
         (W.contents left.writer))) }
 {

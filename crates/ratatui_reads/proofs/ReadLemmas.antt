@@ -1,7 +1,7 @@
 -- Events of reads, one after the other.
-use Rattle.std.proofs.Common.{◌≡◌, ℕ, ◌+◌, ◌<◌, ◌≤◌, Bool, false, if◌then◌else◌, List, [], ◌∷◌, ◌++◌, length, drop, get_or, refl}
-use Rattle.std.proofs.Common.{ap, ap₂, sym, ◌∙◌, arith, add-one, append-nil, append_assoc, rules, Option, None, Result, Ok, Err}
-use Rattle.std.proofs.Common.{OnErr}
+use Rattle.std.proofs.Common.{◌≡◌, ℕ, ◌+◌, ◌<◌, ◌≤◌, Bool, true, false, if◌then◌else◌, List, [], ◌∷◌, ◌++◌, length, drop, get_or, refl}
+use Rattle.std.proofs.Common.{ap, ap₂, sym, ◌∙◌, add-one, append-nil, append_assoc, rules, Option, Some, None, Result, Ok, Err}
+use Rattle.std.proofs.Common.{OnErr, subst}
 use Rattle.std.proofs.Math.Seq.{drop-cons}
 use Rattle.std.proofs.lemmas.List.{drop_all}
 use Rattle.ratatui_events.specs.declared.event.Event.{Event}
@@ -25,10 +25,8 @@ size-append : (z : Option (ℕ × ℕ)) (a b : List Event) → last_size z (a ++
 size-append z [] b = refl
 size-append z (e ∷ a) b = size-append (later (size_in e) z) a b
 
--- a list is empty if it is with more after it
-pub front-nil : (a b : List Event) → a ++ b ≡ [] → a ≡ []
-front-nil [] b none = refl
-front-nil (e ∷ a) b none = absurd (search (rules, none))
+false-true : false ≡ true → ⊥
+false-true e = search rules
 
 joined : (a b : List ℕ) → IsNonEmpty a → IsNonEmpty (a ++ b)
 joined [] b h = absurd h
@@ -131,26 +129,57 @@ module _ {S : Type 0} (u : Rules S) where
         h.sized ∙ ap (λ (t : Told). last_size None t.0) (sym whole),
       )
 
+  -- one event was refused
+  pub refused-one : {A E : Type 0} (result : Result A E) (some : Option Event) (e : Event) (s after : S) → some ≡ Some e
+      → after ≡ s → (u.is_light s e → false ≡ true) → OnErr result (RefusesAmong u (some_list some) s after)
+  refused-one (Ok x) some e s after is same heavy = tt
+  refused-one (Err x) some e s after is same heavy =
+      subst (λ (o : Option Event). RefusesAmong u (some_list o) s after) (sym is) (record {
+        taken = [];
+        next = e;
+        rest = [];
+        told_is = refl;
+        after_is = same;
+        heavy = λ light. false-true (heavy (subst (λ (x : S). u.is_light x e) same light));
+      })
+
+  -- refused among events is refused among these and more
+  pub refused-before : {told : List Event} {s after : S} (more : List Event) → RefusesAmong u told s after
+      → RefusesAmong u (told ++ more) s after
+  refused-before {told} more r = record {
+    taken = r.taken;
+    next = r.next;
+    rest = r.rest ++ more;
+    told_is = ap (λ (es : List Event). es ++ more) r.told_is ∙ append_assoc r.taken (r.next ∷ r.rest) more;
+    after_is = r.after_is;
+    heavy = r.heavy;
+  }
+
+  pub refused-after : {told : List Event} {s s' after : S} (first : List Event) → s' ≡ all_updated u s first
+      → RefusesAmong u told s' after → RefusesAmong u (first ++ told) s after
+  refused-after {told} {s} first is r = record {
+    taken = first ++ r.taken;
+    next = r.next;
+    rest = r.rest;
+    told_is = ap (λ (es : List Event). first ++ es) r.told_is ∙ sym (append_assoc first r.taken (r.next ∷ r.rest));
+    after_is = r.after_is ∙ ap (λ (x : S). all_updated u x r.taken) is ∙ sym (all_updated-append s first r.taken);
+    heavy = r.heavy;
+  }
+
   -- an update of a byte's events was refused: those before it, and all of the bytes before, were taken
   pub left-refused : (d : Decoder) (s : S) (bytes : List ℕ) (d' : Decoder) (s' : S) (any : Bool) (z : Option (ℕ × ℕ)) (i : ℕ)
-      (taken left : List Event) (after : S) {A E : Type 0} (result : Result A E)
-      → i < length bytes → (byte_told d' (get_or bytes i 0)).0 ≡ taken ++ left → (left ≡ [] → ⊥)
-      → after ≡ all_updated u s' taken
+      (es : List Event) (after : S) {A E : Type 0} (result : Result A E)
+      → i < length bytes → es ≡ (byte_told d' (get_or bytes i 0)).0 → RefusesAmong u es s' after
       → Left d s bytes d' s' any z (drop i bytes) → OnErr result (RefusesAmong u (decoded d bytes).0 s after)
-  left-refused d s bytes d' s' any z i taken left after (Ok x) lt told some e h = tt
-  left-refused d s bytes d' s' any z i taken left after (Err x) lt told some e h =
+  left-refused d s bytes d' s' any z i es after (Ok x) lt told r h = tt
+  left-refused d s bytes d' s' any z i es after (Err x) lt told r h =
       let b = get_or bytes i 0 in
       let rest = drop (i + 1) bytes in
       let one : drop i bytes ≡ b ∷ rest = rw add-one (drop-cons bytes i 0 lt) in
       let more = (decoded (byte_told d' b).1 rest).0 in
       let whole : decoded d bytes ≡ next_told (h.told ++ (byte_told d' b).0, (byte_told d' b).1) rest = h.whole
       ∙ ap (next_told (h.told, d')) one ∙ next-byte h.told d' b rest in
-      record {
-        taken = h.told ++ taken;
-        left = left ++ more;
-        some = λ none. some (front-nil left more none);
-        told_is = ap (λ (t : Told). t.0) whole ∙ ap (λ (es : List Event). (h.told ++ es) ++ more) told
-            ∙ ap (λ (es : List Event). es ++ more) (sym (append_assoc h.told taken left))
-            ∙ append_assoc (h.told ++ taken) left more;
-        after_is = e ∙ ap (λ (x : S). all_updated u x taken) h.state ∙ sym (all_updated-append s h.told taken);
-      }
+      let all : (h.told ++ es) ++ more ≡ (decoded d bytes).0 = ap (λ (x : List Event). (h.told ++ x) ++ more) told
+      ∙ sym (ap (λ (t : Told). t.0) whole) in
+      subst (λ (x : List Event). RefusesAmong u x s after) all
+      (refused-before more (refused-after h.told h.state r))

@@ -1,7 +1,6 @@
 -- Sizes that events tell.
-use Rattle.std.proofs.Common.{rules, arith, ◌≡◌, ◌⊎◌, inl, inr, ◌<◌, ◌*◌, ◌&&◌, ℕ, zero, suc, Bool, true, false}
-use Rattle.std.proofs.Common.{if◌then◌else◌, min, ◌+◌, nat_lt, nat_le, List, [], ◌∷◌, Option, Some, None, refl, sym, subst}
-use Rattle.std.proofs.lemmas.Bool.Decides.{nat_tests}
+use Rattle.std.proofs.Common.{rules, arith, ◌≡◌, ◌<◌, ◌*◌, ◌&&◌, ℕ, zero, suc, Bool, true, false}
+use Rattle.std.proofs.Common.{if◌then◌else◌, min, ◌+◌, nat_lt, nat_le, List, [], ◌∷◌, Option, Some, None}
 use Rattle.ratatui_events.specs.declared.event.Event.{Event}
 use Rattle.ratatui_events.specs.declared.event.Event.TheVariants.{Size, Position}
 use Rattle.ratatui_input.specs.declared.decoder.Decoder.{Decoder}

@@ -47,13 +47,14 @@ module _ {S : Type 0} (rules : Rules S) where
   after_reads b [] = b
   after_reads b (r ∷ rs) = after_reads (after_read b r) rs
 
-  -- the update by one of these events was refused memory: those before it were taken
+  -- the update by one of these events, which isn't light, was refused memory: those before it were taken
   pub record RefusesAmong (told : List Event) (before after : S) : Type 0 where
     pub taken : List Event
-    pub left : List Event
-    pub some : left ≡ [] → ⊥
-    pub told_is : told ≡ taken ++ left
+    pub next : Event
+    pub rest : List Event
+    pub told_is : told ≡ taken ++ next ∷ rest
     pub after_is : after ≡ all_updated before taken
+    pub heavy : rules.is_light after next → ⊥
 
 -- all bytes of reads
 abbrev pub all_bytes : List (List ℕ) → List ℕ

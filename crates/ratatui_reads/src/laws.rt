@@ -1,10 +1,10 @@
 //! Laws of reads.
 
-ghost use Rattle.std.specs.Prelude.{◌≡◌, ℕ, ◌++◌, ◌∷◌, Bool, List, ◌<◌, Some};
+ghost use Rattle.std.specs.Prelude.{◌≡◌, ℕ, ◌*◌, ◌++◌, ◌∷◌, [], Bool, List, ◌<◌, ◌≤◌, Some, length};
 ghost use Rattle.ratatui_events.specs.declared.event.Event.{Event};
 ghost use Rattle.ratatui_reads.specs.Reads.{Between, after_read, after_reads, after_bytes, all_bytes};
 ghost use Rattle.ratatui_input.specs.declared.decoder.Decoder.{Decoder};
-ghost use Rattle.ratatui_reads.specs.Reads.{IsNonEmpty, AreNonEmpty, size_told};
+ghost use Rattle.ratatui_reads.specs.Reads.{IsNonEmpty, AreNonEmpty, size_told, told_by};
 ghost use Rattle.ratatui_reads.specs.Sources.{Coming, KnownBytes, KnownReads};
 ghost use Rattle.ratatui_reads.specs.Sources.{GivesReads, AreWithinRoom};
 
@@ -38,4 +38,13 @@ pub fn what_is_known_is_given()
 pub fn told_sizes_have_cells()
     ensures { (d : Decoder) (bytes : List ℕ) (columns rows : ℕ)
         → size_told d bytes ≡ Some (columns, rows) → (0 < columns) × (0 < rows) }
+{}
+
+/// A read tells at most two events for each of its bytes: that of what had come before and doesn't
+/// go on, and its own. One that gave nothing tells at most one event.
+#[tactic(auto, using(crate::proofs::CountLemmas::some_count, crate::proofs::CountLemmas::none_count))]
+pub fn reads_tell_few_events()
+    ensures some { (d : Decoder) (b : ℕ) (bytes : List ℕ)
+        → length (told_by d (b ∷ bytes)).0 ≤ 2 * length (b ∷ bytes) }
+    ensures none { (d : Decoder) → length (told_by d []).0 ≤ 1 }
 {}

@@ -54,8 +54,8 @@ fn take_some<A: Updates>(
 ) -> Result<Taken, AllocError>
     ensures state { OnOk result (state.new
         ≡ all_updated A.Updates state.old (some_list event)) }
-    ensures refused { OnErr result (state.new ≡ state.old) }
-    ensures some { OnErr result (some_list event ≡ [] → ⊥) }
+    ensures refused { OnErr result (RefusesAmong A.Updates
+        (some_list event) state.old state.new) }
     ensures quiet { IfOk result (λ taken. taken.any ≡ false
         → (before.any ≡ false) × (some_list event ≡ [])) }
     ensures size { IfOk result (λ taken. taken.size
@@ -108,7 +108,8 @@ fn take_bytes<A: Updates>(
 ///
 /// # Errors
 ///
-/// `AllocError` if an update was refused memory. The events before that one are taken then.
+/// `AllocError` if an update was refused memory, by an event that isn't light. The events before
+/// that one are taken then.
 pub fn take<A: Updates>(
     bytes: &[u8],
     decoder: &mut Decoder,

@@ -1,6 +1,6 @@
 //! What events change.
 
-ghost use Rattle.std.specs.Prelude.{◌≡◌, Bool, OnOk, OnErr};
+ghost use Rattle.std.specs.Prelude.{◌≡◌, Bool, IsOk, OnOk, OnErr};
 ghost use Rattle.ratatui_events.specs.declared.event.Event.{Event};
 
 use ratatui_events::Event;
@@ -14,14 +14,19 @@ pub trait Updates {
     // whether it takes no more events
     ghost is_over: { Self → Bool };
 
+    // when an event takes no memory: never, unless it says otherwise
+    ghost is_light: { Self → Event → Type 0 } = { λ _ _. ⊥ };
+
     /// Takes an event.
     ///
     /// # Errors
     ///
-    /// `AllocError` if memory is refused. Nothing has changed then.
+    /// `AllocError` if memory is refused, of which a light event takes none. Nothing has changed
+    /// then.
     fn update(&mut self, event: Event) -> Result<(), AllocError>
         ensures ok { OnOk result (self.new ≡ updated self.old event) }
-        ensures refused { OnErr result (self.new ≡ self.old) };
+        ensures refused { OnErr result (self.new ≡ self.old) }
+        ensures light { is_light self.old event → IsOk result };
 
     /// Returns whether it takes no more events.
     fn is_over(&self) -> bool

@@ -12,13 +12,18 @@ use Rattle.ratatui_app.specs.Runs.{on_glass}
 use Rattle.remover.specs.declared.folder.Folder.{Folder}
 use Rattle.remover.specs.declared.remover.Remover.{Remover}
 use Rattle.ratatui_app.specs.declared.on_glass.OnGlass.{OnGlass}
-use Rattle.ratatui_app.specs.Glass.{StandsOnGlass, no_cursor}
+use Rattle.ratatui_app.specs.Glass.{StandsOnGlass, no_cursor, never_short}
 use Rattle.ratatui_app.specs.Lines.{PaintsFirstLine}
 use Rattle.remover.specs.Removing.{question, line_shown, after_message, asked_by, ends_in}
 
 -- the names that can be removed, as a state that acts
 abbrev pub removing : ActingRules Remover (List ℕ) Bool
-removing = record { updated = after_message; asked = asked_by; is_over = λ s. ends_in s.phase }
+removing = record {
+  updated = after_message;
+  asked = asked_by;
+  is_over = λ s. ends_in s.phase;
+  is_light = λ _ _. ⊥;
+}
 
 -- a turn at a glass: if it was a removal, each terminal that had read what was sent until then showed the
 -- question that names what was removed
@@ -30,7 +35,7 @@ module _ {W H O : Type 0} where
   -- what a run of them stands on, on a terminal that is sent bytes
   abbrev pub on_terminal : (H → ℕ → List ℕ → Duration → H → Type 0) → (H → H → Type 0) → (O → List ℕ → Bool → O → Type 0)
       → Ground Remover (List ℕ) Bool (OnGlass W) (TerminalError AnsiError) H O
-  on_terminal = on_glass removing (λ s. PaintsFirstLine (line_shown s)) (λ _. no_cursor)
+  on_terminal = on_glass removing (λ s. PaintsFirstLine (line_shown s)) never_short (λ _. no_cursor)
 
   -- so it was at each turn
   abbrev pub AreNamed : List (Past Remover (List ℕ) Bool (OnGlass W) H O) → Type 0

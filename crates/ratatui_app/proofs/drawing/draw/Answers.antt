@@ -19,5 +19,5 @@ returns-in-Ok-clause-size g c = λ may.
 
 pub returns-in-Ok-clause-refused : goal.returns-in-Ok-clause-refused
 returns-in-Ok-clause-refused g c =
-    refuses-sized g.B.Backend _ _ c.args.terminal.now c.autoresize.new.self c.draw_sized.new.terminal
+    refuses-sized g.B.Backend _ _ _ c.args.terminal.now c.autoresize.new.self c.draw_sized.new.terminal
     c.draw_sized.result c.in-Ok.ensures.outcome c.draw_sized.ensures.refused

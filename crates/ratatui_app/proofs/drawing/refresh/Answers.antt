@@ -10,5 +10,5 @@ returns-in-Ok-clause-moves g c = λ rests.
 
 pub returns-in-Ok-clause-stops : goal.returns-in-Ok-clause-stops
 returns-in-Ok-clause-stops g c = λ rests.
-    stops-frame g.B.Backend _ _ c.args.terminal.now c.ready.new.terminal c.draw_if.new.terminal c.draw_if.result
-    (c.in-Ok.ensures.readies rests).readied c.draw_if.ensures.refused
+    stops-frame g.B.Backend _ _ _ c.args.told c.in-Ok.is_new c.args.terminal.now c.ready.new.terminal
+    c.draw_if.new.terminal c.draw_if.result (c.in-Ok.ensures.readies rests) c.draw_if.ensures.refused

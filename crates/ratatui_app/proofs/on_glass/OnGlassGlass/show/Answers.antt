@@ -7,7 +7,12 @@ returns-in-Err-clause-lacks g c = λ ready. inl (c.in-Err.ensures.stops ready.re
 
 pub returns-in-Err-note-clause-lacks : goal.returns-in-Err-note-clause-lacks
 returns-in-Err-note-clause-lacks g c = λ ready.
-    inr (c.refresh.new.terminal, c.in-Ok.ensures.moves ready.rest, c.in-Err-note.ensures.only)
+    inr (record {
+      fault = tt;
+      shown = c.refresh.new.terminal;
+      moved = c.in-Ok.ensures.moves ready.rest;
+      only = c.in-Err-note.ensures.only;
+    })
 
 pub returns-clause-shows : goal.returns-clause-shows
 returns-clause-shows g c = λ ready shown.
