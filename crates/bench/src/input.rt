@@ -62,13 +62,10 @@ fn frames(alloc: Global, size: Size, reads: [&str; 2]) -> Done {
     let Ok(mut glass) = OnGlass::begin(alloc, Viewport::Fullscreen, backend) else {
         return Err(AllocError);
     };
-    let mut seat = Seat::new(
-        alloc,
-        Counter {
-            count: 0,
-            is_over: false,
-        },
-    );
+    let mut seat = Seat::new(Counter {
+        count: 0,
+        is_over: false,
+    });
     let Ok(()) = glass.show(seat.state(), Told::first()) else {
         return Err(AllocError);
     };

@@ -36,7 +36,7 @@ pub fn choose_from_blank<S: Source, W: Write + Drop>(
     let Ok(mut glass) = OnGlass::begin(alloc, Viewport::Fullscreen, backend) else {
         return None;
     };
-    let mut seat = Seat::new(alloc, Chooser::new(alloc, size));
+    let mut seat = Seat::new(Chooser::new(alloc, size));
     reads_decide_where_nothing_is_asked_for::<Chooser, OnGlass<W>, S, Nothing>();
     the_reads_are_what_a_source_gave::<Chooser, OnGlass<W>, S, Nothing>();
     match run(source, &mut Nothing, false, &mut glass, &mut seat) {

@@ -16,7 +16,7 @@ fn main(rt: HostRuntime) -> anyhow::Result<()> {
     let writer = BufWriter::new(alloc, rt.stdout())?;
     let size = size_told(&rt);
     let backend = AnsiBackend::new_on_alternate_screen(alloc, writer, size)?;
-    let mut seat = Seat::new(alloc, Chooser::new(alloc, size));
+    let mut seat = Seat::new(Chooser::new(alloc, size));
     run_and_leave(
         alloc,
         &mut rt.reader(),

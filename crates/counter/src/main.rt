@@ -18,7 +18,7 @@ fn main(rt: HostRuntime) -> anyhow::Result<()> {
         count: 0,
         is_over: false,
     };
-    let mut seat = Seat::new(alloc, counter);
+    let mut seat = Seat::new(counter);
     run_and_leave(
         alloc,
         &mut rt.reader(),

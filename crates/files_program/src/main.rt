@@ -181,7 +181,7 @@ fn show_on<W: Write + Drop>(
 ) -> anyhow::Result<Option<String>> {
     let alloc = rt.alloc();
     let size = size_told(rt);
-    let mut seat = Seat::new(alloc, browser(rt, wanted, size)?);
+    let mut seat = Seat::new(browser(rt, wanted, size)?);
     let writer = BufWriter::new(alloc, terminal)?;
     let backend = open(alloc, writer, size)?;
     run_on(rt, backend, &mut seat)?;

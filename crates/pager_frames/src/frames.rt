@@ -147,7 +147,7 @@ pub fn print_frames(
     let Ok(mut glass) = OnScreen::begin(stage.alloc, Viewport::Fullscreen, screen) else {
         return Ok(false);
     };
-    let mut seat = Seat::new(stage.alloc, pager);
+    let mut seat = Seat::new(pager);
     let Ok(()) = glass.show(seat.state(), Told::first()) else {
         return Ok(false);
     };

@@ -134,7 +134,7 @@ fn shown(
     player: &mut Player<'_>,
     terminal: &mut Owned,
 ) -> Option<(&'static str, bool)> {
-    let mut seat = Seat::new(stage.alloc, stage.pager()?);
+    let mut seat = Seat::new(stage.pager()?);
     Some(shown_on(stage, player, terminal, &mut seat))
 }
 
@@ -171,7 +171,7 @@ impl Failed {
 /// Lets each read fail once before it is made, and then shows the recording on from there; returns
 /// what came of these reads, up to the one that ends the pager.
 pub fn failed_reads(stage: Stage<'_>, recording: &Recording) -> Option<Failed> {
-    let mut seat = Seat::new(stage.alloc, stage.pager()?);
+    let mut seat = Seat::new(stage.pager()?);
     let mut player = Player::new(recording, None, 0);
     let mut failed = Failed::nothing();
     for _ in 0..recording.ends.len() {

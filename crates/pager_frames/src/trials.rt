@@ -39,7 +39,7 @@ fn played(
         return None;
     };
     let screen = failing(backend, calls);
-    let mut seat = Seat::new(stage.alloc, stage.pager()?);
+    let mut seat = Seat::new(stage.pager()?);
     let Ok(mut glass) = OnScreen::begin(stage.alloc, Viewport::Fullscreen, screen) else {
         return Some((None, "draw"));
     };

@@ -115,7 +115,7 @@ fn show_text<'a, T: Read + Drop, R: Read, W: Write + Drop>(
 ) -> Result<Ending, PagerError> {
     let mut pieces = PieceReader::new(alloc, arena, text, is_file);
     let growing = begun(alloc, place, size, &mut pieces)?;
-    let mut seat = Seat::new(alloc, growing);
+    let mut seat = Seat::new(growing);
     show_pieces(
         alloc,
         size,

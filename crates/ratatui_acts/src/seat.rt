@@ -19,7 +19,7 @@ use crate::outside::{Hears, Outside};
 use crate::queue::Queue;
 use crate::told::{Told, is_anew};
 use ratatui_input::Decoder;
-use std::alloc::{AllocError, Global};
+use std::alloc::AllocError;
 use std::io;
 use std::time::Duration;
 
@@ -39,8 +39,8 @@ struct Effect {
 }
 
 impl<A: Acts> Seat<A> {
-    /// Takes a state that was told nothing.
-    pub fn new(_alloc: Global, state: A) -> Seat<A>
+    /// Takes a state that was told nothing. It takes no memory.
+    pub fn new(state: A) -> Seat<A>
         ensures { seated result ≡ record { decoder = fresh_decoder; left = []; state = state } }
     {
         Seat {

@@ -35,13 +35,10 @@ pub fn count_from_blank<S: Source, W: Write + Drop>(
     let Ok(mut glass) = OnGlass::begin(alloc, Viewport::Fullscreen, backend) else {
         return None;
     };
-    let mut seat = Seat::new(
-        alloc,
-        Counter {
-            count: 0,
-            is_over: false,
-        },
-    );
+    let mut seat = Seat::new(Counter {
+        count: 0,
+        is_over: false,
+    });
     reads_decide_where_nothing_is_asked_for::<Counter, OnGlass<W>, S, Nothing>();
     the_reads_are_what_a_source_gave::<Counter, OnGlass<W>, S, Nothing>();
     match run(source, &mut Nothing, false, &mut glass, &mut seat) {

@@ -42,7 +42,7 @@ pub fn remove_from_blank<'a, S: Source, W: Write + Drop>(
         return None;
     };
     names_are_removed_while_they_are_shown::<W, S, Folder<'a>>();
-    let mut seat = Seat::new(alloc, Remover::new(alloc, names));
+    let mut seat = Seat::new(Remover::new(alloc, names));
     match run(source, folder, false, &mut glass, &mut seat) {
         Ok(()) => Some(glass),
         Err(_) => None,

@@ -56,7 +56,7 @@ fn show(rt: &HostRuntime, folder: &str) -> anyhow::Result<()> {
     let names = files_of(alloc, &mut files)?;
     let writer = BufWriter::new(alloc, rt.stdout())?;
     let backend = AnsiBackend::new_on_alternate_screen(alloc, writer, size_told(rt))?;
-    let mut seat = Seat::new(alloc, Remover::new(alloc, names));
+    let mut seat = Seat::new(Remover::new(alloc, names));
     let mut disk = Disk::new(alloc, files);
     let has_ticks = is_terminal(rt, Stream::Input);
     run_and_leave(

@@ -18,7 +18,7 @@ fn main(rt: HostRuntime) -> anyhow::Result<()> {
     let writer = BufWriter::new(alloc, rt.stdout())?;
     let backend = AnsiBackend::new_on_alternate_screen(alloc, writer, size_told(&rt))?;
     let mut ears = Clocked::new(rt.reader(), &rt)?;
-    let mut seat = Seat::new(alloc, Stopwatch::new());
+    let mut seat = Seat::new(Stopwatch::new());
     let has_ticks = is_terminal(&rt, Stream::Input);
     run_and_leave(
         alloc,

@@ -71,7 +71,7 @@ fn play_on(
     };
     let title = Text::copy(alloc, "tree")?;
     let browser = Browser::new(alloc, title, size).with_trash(path(alloc, "trash")?);
-    let mut seat = Seat::new(alloc, browser);
+    let mut seat = Seat::new(browser);
     let mut hands = Hands::new(alloc, tree);
     let mut source = Pieces::new(reads);
     match run(&mut source, &mut hands, true, &mut glass, &mut seat) {

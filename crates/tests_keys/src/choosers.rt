@@ -22,7 +22,7 @@ fn played(alloc: Global, reads: &[&[u8]]) -> Result<OnScreen<TestBackend>, Alloc
     let Ok(mut glass) = OnScreen::begin(alloc, Viewport::Fullscreen, backend) else {
         return Err(AllocError);
     };
-    let mut seat = Seat::new(alloc, Chooser::new(alloc, size));
+    let mut seat = Seat::new(Chooser::new(alloc, size));
     let mut source = Pieces::new(reads);
     match run(&mut source, &mut Nothing, false, &mut glass, &mut seat) {
         Ok(()) => Ok(glass),

@@ -25,7 +25,7 @@ fn shows(alloc: Global, pieces: &[&[u8]], has_ticks: bool, lines: &[&str], is_fi
     let Ok(mut glass) = OnScreen::begin(alloc, Viewport::Fullscreen, backend) else {
         return false;
     };
-    let mut seat = Seat::new(alloc, counter(0));
+    let mut seat = Seat::new(counter(0));
     let mut source = Pieces::new(pieces);
     let fine = match run(&mut source, &mut Nothing, has_ticks, &mut glass, &mut seat) {
         Ok(()) => true,
@@ -106,7 +106,7 @@ fn shows_inline(alloc: Global, pieces: &[&[u8]], lines: &[&str]) -> bool {
     let Ok(mut glass) = OnScreen::begin(alloc, Viewport::Inline(2), backend) else {
         return false;
     };
-    let mut seat = Seat::new(alloc, counter(7));
+    let mut seat = Seat::new(counter(7));
     let mut source = Pieces::new(pieces);
     match run(&mut source, &mut Nothing, true, &mut glass, &mut seat) {
         Err(Fault::Read(_)) => glass.terminal().backend().lines_are(lines),
@@ -138,7 +138,7 @@ fn leaves(alloc: Global, rows: Option<u16>, pieces: &[&[u8]], is_fine: bool) -> 
     let Ok(backend) = AnsiBackend::new(alloc, Vec::<u8>::new(alloc), size) else {
         return false;
     };
-    let mut seat = Seat::new(alloc, counter(0));
+    let mut seat = Seat::new(counter(0));
     let mut source = Pieces::new(pieces);
     let left = match rows {
         None => run_and_leave(alloc, &mut source, &mut Nothing, true, backend, &mut seat),

@@ -26,7 +26,7 @@ fn shows(alloc: Global, text: &str, keys: &[u8], lines: &[&str]) -> bool {
     };
     let nothing = OwnText::new(String::new(alloc));
     let pager = Pager::new(document, OwnText::new(name), nothing, Size::new(14, 4));
-    let mut seat = Seat::new(alloc, pager);
+    let mut seat = Seat::new(pager);
     let mut reader = keys;
     match run(&mut reader, &mut Nothing, false, &mut glass, &mut seat) {
         Ok(()) => glass.terminal().backend().lines_are(lines),
@@ -107,7 +107,7 @@ fn fills_a_row(alloc: Global, text: &str, letter: &str) -> bool {
     };
     let nothing = OwnText::new(String::new(alloc));
     let pager = Pager::new(document, OwnText::new(name), nothing, Size::new(300, 2));
-    let mut seat = Seat::new(alloc, pager);
+    let mut seat = Seat::new(pager);
     let mut reader = b"".as_slice();
     if run(&mut reader, &mut Nothing, false, &mut glass, &mut seat).is_err() {
         return false;

@@ -36,7 +36,7 @@ fn left(alloc: Global, pieces: &[&[u8]], answers: &[bool]) -> Option<(usize, u8)
     let Ok(mut glass) = OnGlass::begin(alloc, Viewport::Fullscreen, backend) else {
         return None;
     };
-    let mut seat = Seat::new(alloc, Remover::new(alloc, names));
+    let mut seat = Seat::new(Remover::new(alloc, names));
     let mut source = Pieces::new(pieces);
     let mut folder = Folder::new(answers);
     let ended = match run(&mut source, &mut folder, false, &mut glass, &mut seat) {

@@ -18,14 +18,11 @@ const SIZE: Size = Size {
     height: 3,
 };
 
-fn counter(alloc: Global) -> Seat<Counter> {
-    Seat::new(
-        alloc,
-        Counter {
-            count: 0,
-            is_over: false,
-        },
-    )
+fn counter() -> Seat<Counter> {
+    Seat::new(Counter {
+        count: 0,
+        is_over: false,
+    })
 }
 
 // What a terminal and its keyboard hang on: how often all was sent on, and whether it is cut.
@@ -137,7 +134,7 @@ fn noted<'a>(
 ) -> Option<Keyboard<'a>> {
     let backend = AnsiBackend::new(alloc, Screen(line), SIZE).ok()?;
     let mut keyboard = Keyboard::new(alloc, line, reads);
-    let mut seat = counter(alloc);
+    let mut seat = counter();
     if is_on_glass {
         let mut glass = OnGlass::begin(alloc, Viewport::Fullscreen, backend).ok()?;
         run(&mut keyboard, &mut Nothing, true, &mut glass, &mut seat).ok()?;
@@ -192,7 +189,7 @@ fn waits(alloc: Global, ticks: u32) -> bool {
         return false;
     };
     let mut source = Ticking { ticks };
-    let mut seat = counter(alloc);
+    let mut seat = counter();
     let ended = run(&mut source, &mut Nothing, true, &mut glass, &mut seat);
     ended.is_ok() && seat.state().is_over
 }
@@ -203,7 +200,7 @@ fn waits_and_leaves(alloc: Global, ticks: u32) -> bool {
         return false;
     };
     let mut source = Ticking { ticks };
-    let mut seat = counter(alloc);
+    let mut seat = counter();
     match run_and_leave(alloc, &mut source, &mut Nothing, true, backend, &mut seat) {
         Ok(left) => left.ended.is_ok() && seat.state().is_over,
         Err(_) => false,
@@ -223,7 +220,7 @@ fn a_run_that_leaves_its_terminal_waits_so_long(rt: HostRuntime) {
 // What stops a run whose source gives these reads and then fails.
 fn told(alloc: Global, reads: &[&[u8]]) -> Option<String> {
     let backend = AnsiBackend::new(alloc, Vec::<u8>::new(alloc), SIZE).ok()?;
-    let mut seat = counter(alloc);
+    let mut seat = counter();
     let mut source = Pieces::new(reads);
     let left = run_and_leave(alloc, &mut source, &mut Nothing, true, backend, &mut seat).ok()?;
     let fault = left.ended.err()?;
@@ -243,7 +240,7 @@ fn fails(alloc: Global, reads: &[&[u8]], is_cut_at_once: bool) -> Option<Termina
     let backend = AnsiBackend::new(alloc, Screen(&line), SIZE).ok()?;
     line.cut_if(is_cut_at_once);
     let mut keyboard = Keyboard::new(alloc, &line, reads);
-    let mut seat = counter(alloc);
+    let mut seat = counter();
     run_and_leave(alloc, &mut keyboard, &mut Nothing, true, backend, &mut seat).err()
 }
 
@@ -259,7 +256,7 @@ fn a_terminal_that_is_not_reached_is_told(rt: HostRuntime) {
 fn questions(alloc: Global) -> Option<usize> {
     let backend = AnsiBackend::new(alloc, Vec::<u8>::new(alloc), SIZE).ok()?;
     let reads: [&[u8]; 1] = [b"q"];
-    let mut seat = counter(alloc);
+    let mut seat = counter();
     let mut source = Pieces::new(&reads);
     let left = run_and_leave(alloc, &mut source, &mut Nothing, true, backend, &mut seat).ok()?;
     Some(
