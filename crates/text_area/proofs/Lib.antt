@@ -1,6 +1,7 @@
 pub mod RunLemmas
 pub mod DraftLemmas
 pub mod LineLemmas
+pub mod KeptLemmas
 pub mod TypedLemmas
 pub mod StepLemmas
 pub mod JournalLemmas

@@ -6,7 +6,7 @@ ghost use Rattle.std.specs.Prelude.{is_some, true, is_none, not, ◌==◌};
 ghost use Rattle.std.specs.Str.{IsCharBoundary};
 ghost use Rattle.text_field.specs.Field.{kept_of};
 ghost use Rattle.text_field.specs.History.{CursorText};
-ghost use Rattle.text_area.specs.Lines.{feeds, nth_line, column_after, place_above, place_below};
+ghost use Rattle.text_area.specs.Lines.{feeds, nth_start, nth_line, column_after, place_above, place_below};
 ghost use Rattle.text_area.specs.Drafts.{draft_text};
 ghost use Rattle.text_area.specs.Journals.{JournalData};
 ghost use Rattle.text_area.specs.Finding.{part_selected};
@@ -20,7 +20,7 @@ ghost use Rattle.text_area.specs.Areas.{unselected, undoing, redoing, keeping_st
 
 use crate::extent::{left_of, right_of};
 use crate::journal::Journal;
-use crate::lines::{column_after, feeds, line, place_above, place_below};
+use crate::lines::{column_after, place_above, place_below, place_in_line};
 use crate::moves::Move;
 use crate::typed::{is_written_whole, loaded, written_part};
 use std::alloc::{AllocError, Global};
@@ -144,31 +144,50 @@ impl TextArea {
         self.text().is_empty()
     }
 
-    /// Returns how many lines there are: one more than line feeds. It reads the whole text.
+    /// Returns how many lines there are: one more than line feeds. It reads nothing of the text.
     pub fn line_count(&self) -> usize
         ensures { result ≡ feeds (area_text self.now) + 1 }
     {
-        feeds(self.text()) + 1
+        self.journal.draft().line_count()
     }
 
     /// Returns a line without its line feed, or `None` if no line has this number. The first one
-    /// has the number 0. It reads the text up to there.
+    /// has the number 0. It reads the lines from there to the nearest of the cursor, the text's
+    /// start and its end.
     pub fn line(&self, number: usize) -> Option<&str>
         ensures some { IfSome result (λ line. line.now ≡ nth_line number (area_text self.now)) }
         ensures within { is_some result ≡ true → number ≤ feeds (area_text self.now) }
         ensures none { IfNone result (feeds (area_text self.now) < number) }
     {
-        line(self.text(), number)
+        match self.line_start(number) {
+            None => None,
+            Some(start) => Some(self.line_from(start)),
+        }
     }
 
     /// Returns the number of the line in which the cursor stands, and how many graphemes stand
-    /// before it there. It reads the text before the cursor.
+    /// before it there. It reads that line before the cursor.
     pub fn cursor(&self) -> (usize, usize)
         ensures line { result.0 ≡ feeds (area_before self.now) }
         ensures column { result.1 ≡ column_after (area_before self.now) }
     {
-        let before = self.before();
-        (feeds(before), column_after(before))
+        (self.cursor_row(), column_after(self.before()))
+    }
+
+    /// Returns the number of the line in which the cursor stands. It reads nothing of the text.
+    pub fn cursor_row(&self) -> usize
+        ensures { result ≡ feeds (area_before self.now) }
+    {
+        self.journal.draft().row()
+    }
+
+    // Where the line of a number begins.
+    pub(crate) fn start_of(&self, line: usize) -> usize
+        requires { line ≤ feeds (area_text self.now) }
+        ensures value { result ≡ nth_start line (area_text self.now) }
+        ensures boundary { IsCharBoundary (area_text self.now) result }
+    {
+        self.journal.draft().start_of(line)
     }
 
     /// Returns the byte of the text at which the cursor stands.
@@ -323,12 +342,14 @@ impl TextArea {
 
     /// Moves the cursor to the line of a number, the first one being 0, or to the last line if no
     /// line has it; there it stands after so many graphemes, or at the line's end if there are
-    /// fewer. What is selected goes on from where the selection began. It reads the text up to
-    /// there.
+    /// fewer. What is selected goes on from where the selection began. It reads the lines from there
+    /// to the nearest of where the cursor was, the text's start and its end.
     pub fn go_to(&mut self, line: usize, column: usize)
         ensures { self.new ≡ gone_to line column self.old }
     {
-        let at = place_below(self.text(), 0, line, column);
+        let draft = self.journal.draft();
+        let start = draft.start_of(line.min(draft.last()));
+        let at = place_in_line(draft.text(), start, column);
         self.journal.go(at);
         self.aim = None;
     }

@@ -7,7 +7,7 @@ ghost use Rattle.text_area.specs.Areas.{area_text, area_before, area_after};
 
 use crate::area::TextArea;
 use crate::extent::{line_begin, line_end};
-use crate::lines::{next_line, nth_start};
+use crate::lines::next_line;
 
 // The line that a text ends with.
 #[tactic(auto, using(crate::proofs::LineLemmas::column_rules))]
@@ -42,14 +42,19 @@ fn start_after(text: &str, number: usize, start: usize) -> Option<usize>
 
 impl TextArea {
     /// Returns the byte of the text at which a line begins, or `None` if no line has this number.
-    /// The first one has the number 0. It reads the text up to there.
+    /// The first one has the number 0. It reads the lines from there to the nearest of the cursor,
+    /// the text's start and its end.
     pub fn line_start(&self, number: usize) -> Option<usize>
         ensures some { IfSome result (λ start. start ≡ nth_start number (area_text self.now)) }
         ensures boundary { IfSome result (λ start. IsCharBoundary (area_text self.now) start) }
         ensures within { is_some result ≡ true → number ≤ feeds (area_text self.now) }
         ensures none { IfNone result (feeds (area_text self.now) < number) }
     {
-        nth_start(self.text(), number)
+        if number < self.line_count() {
+            Some(self.start_of(number))
+        } else {
+            None
+        }
     }
 
     /// Returns the text from a byte on up to the end of its line: of a byte at which a line begins
