@@ -11,11 +11,22 @@ ghost use Rattle.text_area.specs.Lines.{place_below, first_line, nth_line};
 ghost use Rattle.text_area.specs.Inner.{BeginsLine};
 
 use crate::extent::{line_begin, line_end};
+use rtui_text::printable_front;
 use unicode_segmentation::UnicodeSegmentation;
 
 // How many graphemes a text has.
+#[tactic(auto, using(crate::proofs::FrontLemmas::count_rules))]
 fn grapheme_count(text: &str) -> usize
     ensures { result ≡ length (graphemes true text.now) }
+{
+    let front = printable_front(text, text.len());
+    front + counted(&text[front..])
+}
+
+// The same, of a text that is read grapheme by grapheme.
+fn counted(text: &str) -> usize
+    ensures value { result ≡ length (graphemes true text.now) }
+    ensures within { result ≤ length text.now }
 {
     text.graphemes(true).count()
 }
@@ -30,12 +41,13 @@ pub(crate) fn column_after(before: &str) -> usize
 }
 
 // What stands after the first graphemes of a line, at most so many.
-#[tactic(auto, using(crate::proofs::LineLemmas::column_rules))]
+#[tactic(auto, using(crate::proofs::LineLemmas::column_rules, crate::proofs::FrontLemmas::front_rules))]
 fn after_columns(line: &str, columns: usize) -> &str
     ensures { result.now ≡ concat (drop columns (graphemes true line.now)) }
 {
-    let mut left = line.graphemes(true);
-    let mut more = columns;
+    let front = printable_front(line, columns);
+    let mut left = line[front..].graphemes(true);
+    let mut more = columns - front;
     'walk: while more > 0 {
         let Some(_grapheme) = left.next() else {
             return left.as_str();
