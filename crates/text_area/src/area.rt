@@ -6,7 +6,7 @@ ghost use Rattle.std.specs.Prelude.{is_some, true, is_none, not, ◌==◌};
 ghost use Rattle.std.specs.Str.{IsCharBoundary};
 ghost use Rattle.text_field.specs.Field.{kept_of};
 ghost use Rattle.text_field.specs.History.{CursorText};
-ghost use Rattle.text_area.specs.Lines.{feeds, nth_start, nth_line, column_after, place_above, place_below};
+ghost use Rattle.text_area.specs.Lines.{feeds, nth_line, column_after, place_above, place_below};
 ghost use Rattle.text_area.specs.Drafts.{draft_text};
 ghost use Rattle.text_area.specs.Journals.{JournalData};
 ghost use Rattle.text_area.specs.Finding.{part_selected};
@@ -18,9 +18,10 @@ ghost use Rattle.text_area.specs.Areas.{yanking, deleting, keeping_part, killing
 ghost use Rattle.text_area.specs.Areas.{selecting_all};
 ghost use Rattle.text_area.specs.Areas.{unselected, undoing, redoing, keeping_steps, ends, gone_to};
 
+use crate::draft::Draft;
 use crate::extent::{left_of, right_of};
 use crate::journal::Journal;
-use crate::lines::{column_after, place_above, place_below, place_in_line};
+use crate::lines::place_in_line;
 use crate::moves::Move;
 use crate::typed::{is_written_whole, loaded, written_part};
 use std::alloc::{AllocError, Global};
@@ -113,21 +114,21 @@ impl TextArea {
     pub fn text(&self) -> &str
         ensures { result.now ≡ area_text self.now }
     {
-        self.journal.draft().text()
+        self.draft().text()
     }
 
     /// Returns the text before the cursor.
     pub fn before(&self) -> &str
         ensures { result.now ≡ area_before self.now }
     {
-        self.journal.draft().before()
+        self.draft().before()
     }
 
     /// Returns the text after the cursor.
     pub fn after(&self) -> &str
         ensures { result.now ≡ area_after self.now }
     {
-        self.journal.draft().after()
+        self.draft().after()
     }
 
     /// Returns what was killed last: what `yank` types. At first it is empty.
@@ -148,7 +149,7 @@ impl TextArea {
     pub fn line_count(&self) -> usize
         ensures { result ≡ feeds (area_text self.now) + 1 }
     {
-        self.journal.draft().line_count()
+        self.draft().line_count()
     }
 
     /// Returns a line without its line feed, or `None` if no line has this number. The first one
@@ -166,28 +167,27 @@ impl TextArea {
     }
 
     /// Returns the number of the line in which the cursor stands, and how many graphemes stand
-    /// before it there. It reads that line before the cursor.
+    /// before it there. It reads nothing of the text if that line is plain, and else the line before
+    /// the cursor.
     pub fn cursor(&self) -> (usize, usize)
         ensures line { result.0 ≡ feeds (area_before self.now) }
         ensures column { result.1 ≡ column_after (area_before self.now) }
     {
-        (self.cursor_row(), column_after(self.before()))
+        (self.cursor_row(), self.draft().column())
     }
 
     /// Returns the number of the line in which the cursor stands. It reads nothing of the text.
     pub fn cursor_row(&self) -> usize
         ensures { result ≡ feeds (area_before self.now) }
     {
-        self.journal.draft().row()
+        self.draft().row()
     }
 
-    // Where the line of a number begins.
-    pub(crate) fn start_of(&self, line: usize) -> usize
-        requires { line ≤ feeds (area_text self.now) }
-        ensures value { result ≡ nth_start line (area_text self.now) }
-        ensures boundary { IsCharBoundary (area_text self.now) result }
+    // The text with its cursor.
+    pub(crate) fn draft(&self) -> &Draft
+        ensures { result.now ≡ self.now.journal.text }
     {
-        self.journal.draft().start_of(line)
+        self.journal.draft()
     }
 
     /// Returns the byte of the text at which the cursor stands.
@@ -195,7 +195,7 @@ impl TextArea {
         ensures value { result ≡ area_cursor self.now }
         ensures boundary { IsCharBoundary (area_text self.now) result }
     {
-        self.journal.draft().at()
+        self.draft().at()
     }
 
     // The column that the cursor aims at.
@@ -204,7 +204,7 @@ impl TextArea {
     {
         match self.aim {
             Some(aim) => aim,
-            None => column_after(self.before()),
+            None => self.draft().column(),
         }
     }
 
@@ -214,7 +214,7 @@ impl TextArea {
             ≡ place_above lines (aim_of self.now) (area_before self.now) (area_text self.now) }
         ensures boundary { IsCharBoundary (area_text self.now) result }
     {
-        place_above(self.text(), self.cursor_byte(), lines, self.aimed())
+        self.draft().above(lines, self.aimed())
     }
 
     // The place so many lines below the cursor.
@@ -223,7 +223,7 @@ impl TextArea {
             ≡ place_below lines (aim_of self.now) (area_before self.now) (area_text self.now) }
         ensures boundary { IsCharBoundary (area_text self.now) result }
     {
-        place_below(self.text(), self.cursor_byte(), lines, self.aimed())
+        self.draft().below(lines, self.aimed())
     }
 
     // Where a move leads to.
@@ -347,7 +347,7 @@ impl TextArea {
     pub fn go_to(&mut self, line: usize, column: usize)
         ensures { self.new ≡ gone_to line column self.old }
     {
-        let draft = self.journal.draft();
+        let draft = self.draft();
         let start = draft.start_of(line.min(draft.last()));
         let at = place_in_line(draft.text(), start, column);
         self.journal.go(at);
@@ -376,7 +376,7 @@ impl TextArea {
     }
 
     fn allocator(&self) -> Global {
-        self.journal.draft().allocator()
+        self.draft().allocator()
     }
 
     /// Types a text before the cursor, or pastes it, in place of what is selected: its characters,

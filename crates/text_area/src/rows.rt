@@ -2,20 +2,13 @@
 
 ghost use Rattle.std.specs.Prelude.{◌≡◌, ◌≤◌, ◌<◌, ◌+◌, drop, IfSome, IfNone, is_some, true};
 ghost use Rattle.std.specs.Str.{IsCharBoundary};
+ghost use Rattle.rtui_text.specs.Printable.{ArePrintable};
 ghost use Rattle.text_area.specs.Lines.{feeds, nth_start, first_line, last_line};
 ghost use Rattle.text_area.specs.Areas.{area_text, area_before, area_after};
 
 use crate::area::TextArea;
-use crate::extent::{line_begin, line_end};
+use crate::extent::line_end;
 use crate::lines::next_line;
-
-// The line that a text ends with.
-#[tactic(auto, using(crate::proofs::LineLemmas::column_rules))]
-fn last_line(text: &str) -> &str
-    ensures { result.now ≡ last_line text.now }
-{
-    text.split_at(line_begin(text, text.len())).1
-}
 
 // The line that begins at a place.
 #[tactic(auto, using(crate::proofs::LineLemmas::row_rules))]
@@ -51,7 +44,7 @@ impl TextArea {
         ensures none { IfNone result (feeds (area_text self.now) < number) }
     {
         if number < self.line_count() {
-            Some(self.start_of(number))
+            Some(self.draft().start_of(number))
         } else {
             None
         }
@@ -89,11 +82,21 @@ impl TextArea {
     }
 
     /// Returns the part of the cursor's line before the cursor, and the part after it. It reads
-    /// that line alone.
+    /// nothing of the text.
     pub fn cursor_line(&self) -> (&str, &str)
         ensures before { result.0.now ≡ last_line (area_before self.now) }
         ensures after { result.1.now ≡ first_line (area_after self.now) }
     {
-        (last_line(self.before()), line_from(self.after(), 0))
+        self.draft().cursor_line()
+    }
+
+    /// Returns whether the cursor's line is known to be plain: then it has nothing but printable
+    /// characters of ASCII. It reads nothing of the text: whether a line is plain is found where the
+    /// cursor comes to it, and of what is typed.
+    pub fn is_plain_line(&self) -> bool
+        ensures before { result ≡ true → ArePrintable (last_line (area_before self.now)) }
+        ensures after { result ≡ true → ArePrintable (first_line (area_after self.now)) }
+    {
+        self.draft().is_plain()
     }
 }
