@@ -1,5 +1,5 @@
 -- Printable characters of ASCII at the start of a line.
-use Rattle.std.proofs.Common.{ℕ, zero, suc, ◌≡◌, ◌+◌, ◌≤◌, true, List, [], ◌∷◌, ◌++◌, length, take, drop, ap, ◌∙◌, arith}
+use Rattle.std.proofs.Common.{ℕ, ◌≡◌, ◌+◌, ◌≤◌, true, List, [], ◌∷◌, ◌++◌, length, take, drop, ap, ◌∙◌, arith}
 use Rattle.std.proofs.Common.{sym, refl, length-append}
 use Rattle.std.proofs.lemmas.{List.length-take-le, List.drop_at}
 use Rattle.unicode_segmentation.specs.Grapheme.{graphemes}

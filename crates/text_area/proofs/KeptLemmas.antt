@@ -1,10 +1,10 @@
 -- Numbers of lines that are kept.
-use Rattle.std.proofs.Common.{ℕ, ◌≡◌, ◌+◌, ◌-◌, ◌<◌, ◌≤◌, List, ◌++◌, length, take, drop, cond, min}
+use Rattle.std.proofs.Common.{ℕ, ◌≡◌, ◌+◌, ◌-◌, ◌≤◌, List, ◌++◌, length, take, drop, cond, min}
 use Rattle.std.proofs.Common.{refl, ap, sym, ◌∙◌, arith, slice_range, length-append}
 use Rattle.std.proofs.lemmas.{List.take_all, List.length-take-le, List.Sums.sum_by-append, List.take_at}
 use Rattle.std.proofs.lemmas.{List.take-append-drop}
 use Rattle.std.proofs.lemmas.{Str.IsCharBoundary-start}
-use Rattle.std.specs.{List.replace_range, Str.IsUtf8, Str.IsCharBoundary}
+use Rattle.std.specs.{List.replace_range, Str.IsUtf8}
 use Rattle.unicode_segmentation.proofs.TextLemmas.{take_split}
 use Rattle.text_area.specs.Extents.{is_feed}
 use Rattle.text_area.specs.Lines.{feeds, nth_start}

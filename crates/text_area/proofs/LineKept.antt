@@ -1,10 +1,10 @@
 -- A line that is kept.
-use Rattle.std.proofs.Common.{ℕ, min, inl, inr, ◌≡◌, ◌≢◌, ◌+◌, ◌-◌, ◌<◌, ◌≤◌, Bool, true, false, not, ◌==◌, List, [], ◌++◌}
-use Rattle.std.proofs.Common.{length, take, drop, get_or, ap, sym, subst, refl, ◌∙◌, arith, slice_range, length-append, length-take}
+use Rattle.std.proofs.Common.{ℕ, min, inl, inr, ◌≡◌, ◌≢◌, ◌+◌, ◌-◌, ◌<◌, ◌≤◌, true, false, not, ◌==◌, List, ◌++◌}
+use Rattle.std.proofs.Common.{length, take, drop, get_or, ap, sym, subst, ◌∙◌, arith, slice_range, length-append, length-take}
 use Rattle.std.proofs.lemmas.{List.length-take-le, List.length-drop, List.take-take, List.take_all, List.get_or_append_left}
 use Rattle.std.proofs.lemmas.{List.get_or-append_right, List.get_or-take, List.get_or-drop, List.drop-take, List.drop_all}
-use Rattle.std.proofs.lemmas.{List.Sums.prefix_len_is, List.Sums.prefix_len_passes, List.Sums.suffix_len_is, Bool.ne_eqb}
-use Rattle.std.proofs.lemmas.{Bool.Decides.nat_tests, Bool.cases_lt, List.append-nil}
+use Rattle.std.proofs.lemmas.{List.Sums.prefix_len_is, List.Sums.suffix_len_is, Bool.ne_eqb}
+use Rattle.std.proofs.lemmas.{Bool.cases_lt, List.append-nil}
 use Rattle.std.specs.{List.replace_range, Str.IsUtf8, Str.IsCharBoundary}
 use Rattle.unicode_segmentation.specs.Grapheme.{graphemes}
 use Rattle.rtui_text.specs.Printable.{IsPrintable, ArePrintable, IsPrintableFront, singles}
@@ -12,7 +12,7 @@ use Rattle.rtui_text.proofs.{PrintableLemmas.graphemes-front, GraphemeLemmas.gra
 use Rattle.text_area.specs.Extents.{in_run, line_left, line_right}
 use Rattle.text_area.specs.declared.extent.Run.TheVariants as run
 use Rattle.text_area.specs.Lines.{feeds, first_line, last_line, column_after, nth_place, place_above, place_below}
-use Rattle.text_area.specs.Inner.{BeginsLine, IsKept}
+use Rattle.text_area.specs.Inner.{IsKept}
 use Rattle.text_area.specs.declared.kept.KeptLine.{KeptLine}
 use Rattle.text_area.proofs.LineLemmas.{feeds-step, feeds-le, feeds-left, feeds-right}
 use Rattle.text_area.proofs.RunLemmas.{boundary-after}

@@ -154,6 +154,14 @@ impl Draft {
         )
     }
 
+    // Where the cursor's line ends.
+    pub(crate) fn line_end(&self) -> usize
+        ensures at { result ≤ length (draft_text self.now) }
+        ensures row { feeds (take result (draft_text self.now)) ≡ feeds self.now.before }
+    {
+        self.line.end
+    }
+
     // Whether the cursor's line is known to have nothing but printable characters of ASCII.
     pub(crate) fn is_plain(&self) -> bool
         ensures before { result ≡ true → ArePrintable (last_line self.now.before) }

@@ -1,6 +1,7 @@
 //! Lines of a text area, one after the other, for who shows them.
 
-ghost use Rattle.std.specs.Prelude.{◌≡◌, ◌≤◌, ◌<◌, ◌+◌, drop, IfSome, IfNone, is_some, true};
+ghost use Rattle.std.specs.Prelude.{◌≡◌, ◌≤◌, ◌<◌, ◌+◌, length, take, drop, IfSome, IfNone};
+ghost use Rattle.std.specs.Prelude.{is_some, true};
 ghost use Rattle.std.specs.Str.{IsCharBoundary};
 ghost use Rattle.rtui_text.specs.Printable.{ArePrintable};
 ghost use Rattle.text_area.specs.Lines.{feeds, nth_start, first_line, last_line};
@@ -19,21 +20,35 @@ fn line_from(text: &str, start: usize) -> &str
     &text[start..line_end(text, start)]
 }
 
-// Where the line begins after the one of a number, which begins at a place.
+// Where the line begins after the one of a number, in which a place stands.
 #[tactic(auto, using(crate::proofs::LineLemmas::step_rules))]
-fn start_after(text: &str, number: usize, start: usize) -> Option<usize>
-    requires start { start ≡ nth_start number text.now }
-    requires within { number ≤ feeds text.now }
+fn start_after(text: &str, number: usize, at: usize) -> Option<usize>
+    requires at { at ≤ length text.now }
+    requires row { feeds (take at text.now) ≡ number }
     ensures some { IfSome result (λ next. next ≡ nth_start (number + 1) text.now) }
     ensures boundary { IfSome result (λ next. IsCharBoundary text.now next) }
     ensures order { IfSome result (λ next. number < next) }
     ensures within { is_some result ≡ true → number < feeds text.now }
     ensures none { IfNone result (number ≡ feeds text.now) }
 {
-    next_line(text, start)
+    next_line(text, at)
 }
 
 impl TextArea {
+    // A place in the line of a number, which begins at a byte: the line's end if it is known.
+    fn place_in(&self, number: usize, start: usize) -> usize
+        requires start { start ≡ nth_start number (area_text self.now) }
+        requires within { number ≤ feeds (area_text self.now) }
+        ensures at { result ≤ length (area_text self.now) }
+        ensures row { feeds (take result (area_text self.now)) ≡ number }
+    {
+        if number == self.cursor_row() {
+            self.draft().line_end()
+        } else {
+            start
+        }
+    }
+
     /// Returns the byte of the text at which a line begins, or `None` if no line has this number.
     /// The first one has the number 0. It reads the lines from there to the nearest of the cursor,
     /// the text's start and its end.
@@ -64,7 +79,7 @@ impl TextArea {
     }
 
     /// Returns the byte at which the line after a line begins, or `None` if that is the last one.
-    /// It reads the line of the number alone.
+    /// It reads the line of the number alone, and nothing if that is the cursor's.
     ///
     /// # Conditions
     ///
@@ -78,7 +93,7 @@ impl TextArea {
         ensures within { is_some result ≡ true → number < feeds (area_text self.now) }
         ensures none { IfNone result (number ≡ feeds (area_text self.now)) }
     {
-        start_after(self.text(), number, start)
+        start_after(self.text(), number, self.place_in(number, start))
     }
 
     /// Returns the part of the cursor's line before the cursor, and the part after it. It reads

@@ -1,4 +1,4 @@
-use Rattle.std.proofs.Common.{ℕ, List, ◌∙◌, ap, string_bytes}
+use Rattle.std.proofs.Common.{◌∙◌, ap, string_bytes}
 use Rattle.text_field.specs.History.{CursorText}
 use Rattle.text_area.specs.Lines.{column_after}
 use Rattle.text_area.proofs.LineKept.{plain-column}

@@ -1,6 +1,6 @@
-use Rattle.std.proofs.Common.{sym, ap, ◌∙◌, subst}
+use Rattle.std.proofs.Common.{sym, subst}
 use Rattle.std.proofs.lemmas.Str.{IsCharBoundary-start, IsUtf8-string_bytes}
-use Rattle.std.specs.Str.{IsUtf8, IsCharBoundary}
+use Rattle.std.specs.Str.{IsCharBoundary}
 use Rattle.text_area.specs.Drafts.{draft_text}
 use Rattle.text_area.proofs.DraftLemmas.{text-at}
 use Rattle.text_area.proofs.draft.Draft.nearest.Goals as goal
