@@ -1,5 +1,5 @@
 -- The line after a line.
-use Rattle.std.proofs.Common.{ℕ, zero, suc, ◌≡◌, ◌+◌, ◌<◌, ◌≤◌, Bool, true, false, cond, subst, if◌then◌else◌}
+use Rattle.std.proofs.Common.{ℕ, zero, suc, ◌≡◌, ◌+◌, ◌<◌, ◌≤◌, true, if◌then◌else◌}
 use Rattle.std.proofs.Common.{Option, Some, None, IfSome, IfNone, is_some}
 use Rattle.std.proofs.Common.{List, [], ◌∷◌, length, take, ap, ◌∙◌, sym, arith}
 use Rattle.std.proofs.lemmas.{List.length-take-le}

@@ -3,6 +3,7 @@
 ghost use Rattle.std.specs.Prelude.{◌≡◌, ◌≤◌, ◌<◌, ◌+◌, ◌-◌, ◌==◌, nat_le, nat_lt, true, [], length};
 ghost use Rattle.std.specs.Str.{IsCharBoundary};
 ghost use Rattle.unicode_segmentation.specs.Grapheme.{graphemes};
+ghost use Rattle.rtui_text.specs.Printable.{ArePrintable};
 ghost use Rattle.ratatui_core.specs.Layout.{IsInside};
 ghost use Rattle.ratatui_core.specs.Style.{new_style};
 ghost use Rattle.ratatui_core.specs.Buffer.{text_pieces};
@@ -171,6 +172,15 @@ impl<'a> TextAreaWidget<'a> {
         } else {
             ""
         }
+    }
+
+    // Whether the line of a number is the cursor's and known to have nothing but printable characters
+    // of ASCII.
+    pub(crate) fn is_plain(&self, plan: &Plan, number: usize) -> bool
+        ensures front { result ≡ true → ArePrintable (front_text self.now plan.now number) }
+        ensures back { result ≡ true → ArePrintable (back_text self.now plan.now number) }
+    {
+        number == plan.row && self.text.is_plain_line()
     }
 
     // Draws the line of a number, which begins at a byte.

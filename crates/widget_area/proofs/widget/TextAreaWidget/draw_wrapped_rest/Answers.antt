@@ -2,7 +2,7 @@ use Rattle.std.proofs.Common.{◌≡◌, ◌∷◌, [], ◌∙◌, refl, rules, 
 use Rattle.unicode_segmentation.specs.Iter.{graphemes_left}
 use Rattle.rtui_drawing.proofs.DrawingLemmas.{continues-all, continues-next, continues-stop, continues-end}
 use Rattle.widget_area.proofs.WrapLemmas.{wrapped-next, wrapped-end}
-use Rattle.widget_area.proofs.widget.TextAreaWidget.draw_wrapped_part.Goals as goal
+use Rattle.widget_area.proofs.widget.TextAreaWidget.draw_wrapped_rest.Goals as goal
 
 pub walk-init : goal.walk-init
 walk-init c = record { area = refl; rest = rw c.graphemes-left.ensures.left continues-all }
