@@ -51,6 +51,7 @@ pub(crate) fn past(at: usize, count: usize) -> usize
 
 // How many bytes a part of a line begins with, at most so many, that are printable characters of
 // ASCII and graphemes of their own. A part that is known to have nothing else isn't read.
+#[tactic(auto, using(crate::proofs::FrontLaws::front_rules))]
 pub(crate) fn front_len(is_plain: bool, text: &str, max: usize) -> usize
     requires { is_plain ≡ true → ArePrintable text.now }
     ensures front { IsPrintableFront text.now result }

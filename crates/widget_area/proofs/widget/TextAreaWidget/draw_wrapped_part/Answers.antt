@@ -1,0 +1,16 @@
+use Rattle.std.proofs.Common.{rules, ◌≤◌, ◌<◌, ◌-◌, arith}
+use Rattle.widget_area.proofs.FrontLaws.{front-hidden}
+use Rattle.widget_area.proofs.widget.TextAreaWidget.draw_wrapped_part.Goals as goal
+
+pub returns-clause-done : goal.returns-clause-done
+returns-clause-done c =
+    let column : c.args.from.column ≤ 18446744073709551615 = search rules in
+    let byte : c.args.from.byte ≤ 18446744073709551615 = search rules in
+    let height : 0 < c.args.inner.height = search rules in
+    let room : c.front_len-front.result ≤ c.hidden_columns.result - c.args.from.column =
+    omega (arith, c.front_len-front.ensures.max, c.saturating_sub-hidden.ensures) in
+    front-hidden c.args.self.now c.args.plan.now c.args.inner c.args.begin c.args.from.column c.args.from.byte
+    c.front_len-front.result c.hidden_columns.result c.args.text.now c.draw_wrapped_rest.result c.args.buf.now
+    c.draw_wrapped_rest.new.buf height column byte c.front_len-front.ensures.front c.front_len-front.ensures.graphemes room
+    c.hidden_columns.ensures
+    (rw (c.past.ensures, c.past-2.ensures, c.range_from.ensures.value) at c.draw_wrapped_rest.ensures.done)
