@@ -49,6 +49,14 @@ impl Plan {
         rows.saturating_mul(usize::from(self.stride))
     }
 
+    // How many columns at the left of the view draw nothing: those left of it if nothing is selected.
+    pub(crate) fn columns_left(&self) -> usize
+        ensures within { result ≤ self.now.left }
+        ensures unselected { 0 < result → self.now.to ≤ self.now.from }
+    {
+        if self.from < self.to { 0 } else { self.left }
+    }
+
     // The part of a line that stands in one row with a column.
     pub(crate) fn turned(&self, column: usize) -> Plan
         requires { 0 < self.now.stride }
