@@ -1,6 +1,6 @@
 -- Printable characters of ASCII in a line: each is a grapheme and takes one column.
-use Rattle.std.proofs.Common.{◌≡◌, ℕ, suc, ◌+◌, ◌-◌, ◌*◌, ◌/◌, ◌<◌, ◌≤◌, min, ◌==◌, true, false, List, [], ◌∷◌, ◌++◌, length, take, drop, refl}
-use Rattle.std.proofs.Common.{inl, inr, nat_le, ap, sym, subst, ◌∙◌, arith, Result, slice_index}
+use Rattle.std.proofs.Common.{◌≡◌, ℕ, suc, ◌+◌, ◌-◌, ◌<◌, ◌≤◌, ◌==◌, true, false, List, [], ◌∷◌, ◌++◌, length, take, drop, refl}
+use Rattle.std.proofs.Common.{inl, inr, nat_le, ap, sym, subst, ◌∙◌, arith, Result}
 use Rattle.std.proofs.lemmas.{Bool.Decides.nat_tests, Bool.cases_lt, List.length-take-le}
 use Rattle.std.specs.declared.alloc.AllocError.{AllocError}
 use Rattle.std.specs.Str.{IsUtf8, IsCharBoundary}
