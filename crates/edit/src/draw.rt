@@ -1,19 +1,23 @@
 //! What is shown of an editor.
 
-use editor::{Editor, Mode, Note};
+use editor::{Editor, Mode, Note, command_of};
 use ratatui_core::buffer::CellWidth;
 use ratatui_core::layout::{Constraint, Layout, Rect, SplitArea, SplitInto};
 use ratatui_core::style::{Style, Stylize};
 use ratatui_core::terminal::Frame;
 use ratatui_core::text::Line;
+use ratatui_events::Event;
 use std::alloc::AllocError;
+use text_area::{AreaEdit, area_edit_of};
 use widget_area::{AreaView, TextAreaWidget};
 use widget_field::{Input, cursor_position};
 
-// What is shown, and where the view of the text is.
+// What is shown: where the view of the text is, and whether the text is changed, which is read anew
+// only after an event that may change it.
 #[derive(Drop)]
 pub struct Screen {
     view: AreaView,
+    is_changed: bool,
 }
 
 // What is told in the last row.
@@ -56,12 +60,28 @@ fn draw_question(
     frame.render_widget(Line::raw(editor.alloc, question)?.bold(), foot)
 }
 
+// Whether an event changes neither the text nor what is taken for saved: it only moves the cursor,
+// selects or copies.
+fn keeps_text(event: &Event) -> bool {
+    let edit = area_edit_of(event);
+    let is_move = matches!(
+        edit,
+        Some(AreaEdit::Go(_) | AreaEdit::Select(_) | AreaEdit::Copy)
+    );
+    is_move && command_of(event).is_none()
+}
+
 // Draws the name, the cursor's line and column, whether the text is changed, and what is told.
-fn draw_status(editor: &Editor, frame: &mut Frame<'_>, foot: Rect) -> Result<(), AllocError> {
+fn draw_status(
+    editor: &Editor,
+    is_changed: bool,
+    frame: &mut Frame<'_>,
+    foot: Rect,
+) -> Result<(), AllocError> {
     let (line, column) = editor.area.cursor();
     let line = line.saturating_add(1);
     let column = column.saturating_add(1);
-    let changed = if editor.is_changed() { " changed" } else { "" };
+    let changed = if is_changed { " changed" } else { "" };
     let told = told(&editor.note);
     let name = editor.name.as_str();
     let text = format!(in editor.alloc; " {name} {line}:{column}{changed}  {told}")?;
@@ -74,6 +94,14 @@ impl Screen {
     pub fn new() -> Screen {
         Screen {
             view: AreaView::new(),
+            is_changed: false,
+        }
+    }
+
+    // Follows an event that an editor has taken.
+    pub fn follow(&mut self, event: &Event, editor: &Editor) {
+        if !keeps_text(event) {
+            self.is_changed = editor.is_changed();
         }
     }
 
@@ -93,7 +121,9 @@ impl Screen {
             Mode::Replacing => {
                 draw_question(editor, "The file changed. Replace it? y/n", frame, foot)
             }
-            Mode::Typing | Mode::Found | Mode::Over => draw_status(editor, frame, foot),
+            Mode::Typing | Mode::Found | Mode::Over => {
+                draw_status(editor, self.is_changed, frame, foot)
+            }
         }
     }
 

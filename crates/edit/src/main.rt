@@ -109,6 +109,7 @@ fn edit(rt: &HostRuntime, path: &str) -> anyhow::Result<()> {
                 Ok(Request::Replace) => save(rt, &mut editor, &mut file, true),
                 Err(_) => editor.tell(Note::NoMemory),
             }
+            screen.follow(&event, &editor);
             terminal.draw(|frame| screen.draw(&mut editor, frame))?;
         }
         let is_end = event.is_none() && !has_ticks;

@@ -1,6 +1,9 @@
 pub mod RunLemmas
 pub mod DraftLemmas
 pub mod LineLemmas
+pub mod KeptLemmas
+pub mod FrontLemmas
+pub mod LineKept
 pub mod TypedLemmas
 pub mod StepLemmas
 pub mod JournalLemmas

@@ -18,9 +18,10 @@ ghost use Rattle.text_area.specs.Areas.{yanking, deleting, keeping_part, killing
 ghost use Rattle.text_area.specs.Areas.{selecting_all};
 ghost use Rattle.text_area.specs.Areas.{unselected, undoing, redoing, keeping_steps, ends, gone_to};
 
+use crate::draft::Draft;
 use crate::extent::{left_of, right_of};
 use crate::journal::Journal;
-use crate::lines::{column_after, feeds, line, place_above, place_below};
+use crate::lines::place_in_line;
 use crate::moves::Move;
 use crate::typed::{is_written_whole, loaded, written_part};
 use std::alloc::{AllocError, Global};
@@ -113,21 +114,21 @@ impl TextArea {
     pub fn text(&self) -> &str
         ensures { result.now ≡ area_text self.now }
     {
-        self.journal.draft().text()
+        self.draft().text()
     }
 
     /// Returns the text before the cursor.
     pub fn before(&self) -> &str
         ensures { result.now ≡ area_before self.now }
     {
-        self.journal.draft().before()
+        self.draft().before()
     }
 
     /// Returns the text after the cursor.
     pub fn after(&self) -> &str
         ensures { result.now ≡ area_after self.now }
     {
-        self.journal.draft().after()
+        self.draft().after()
     }
 
     /// Returns what was killed last: what `yank` types. At first it is empty.
@@ -144,31 +145,49 @@ impl TextArea {
         self.text().is_empty()
     }
 
-    /// Returns how many lines there are: one more than line feeds. It reads the whole text.
+    /// Returns how many lines there are: one more than line feeds. It reads nothing of the text.
     pub fn line_count(&self) -> usize
         ensures { result ≡ feeds (area_text self.now) + 1 }
     {
-        feeds(self.text()) + 1
+        self.draft().line_count()
     }
 
     /// Returns a line without its line feed, or `None` if no line has this number. The first one
-    /// has the number 0. It reads the text up to there.
+    /// has the number 0. It reads the lines from there to the nearest of the cursor, the text's
+    /// start and its end.
     pub fn line(&self, number: usize) -> Option<&str>
         ensures some { IfSome result (λ line. line.now ≡ nth_line number (area_text self.now)) }
         ensures within { is_some result ≡ true → number ≤ feeds (area_text self.now) }
         ensures none { IfNone result (feeds (area_text self.now) < number) }
     {
-        line(self.text(), number)
+        match self.line_start(number) {
+            None => None,
+            Some(start) => Some(self.line_from(start)),
+        }
     }
 
     /// Returns the number of the line in which the cursor stands, and how many graphemes stand
-    /// before it there. It reads the text before the cursor.
+    /// before it there. It reads nothing of the text if that line is plain, and else the line before
+    /// the cursor.
     pub fn cursor(&self) -> (usize, usize)
         ensures line { result.0 ≡ feeds (area_before self.now) }
         ensures column { result.1 ≡ column_after (area_before self.now) }
     {
-        let before = self.before();
-        (feeds(before), column_after(before))
+        (self.cursor_row(), self.draft().column())
+    }
+
+    /// Returns the number of the line in which the cursor stands. It reads nothing of the text.
+    pub fn cursor_row(&self) -> usize
+        ensures { result ≡ feeds (area_before self.now) }
+    {
+        self.draft().row()
+    }
+
+    // The text with its cursor.
+    pub(crate) fn draft(&self) -> &Draft
+        ensures { result.now ≡ self.now.journal.text }
+    {
+        self.journal.draft()
     }
 
     /// Returns the byte of the text at which the cursor stands.
@@ -176,7 +195,7 @@ impl TextArea {
         ensures value { result ≡ area_cursor self.now }
         ensures boundary { IsCharBoundary (area_text self.now) result }
     {
-        self.journal.draft().at()
+        self.draft().at()
     }
 
     // The column that the cursor aims at.
@@ -185,7 +204,7 @@ impl TextArea {
     {
         match self.aim {
             Some(aim) => aim,
-            None => column_after(self.before()),
+            None => self.draft().column(),
         }
     }
 
@@ -195,7 +214,7 @@ impl TextArea {
             ≡ place_above lines (aim_of self.now) (area_before self.now) (area_text self.now) }
         ensures boundary { IsCharBoundary (area_text self.now) result }
     {
-        place_above(self.text(), self.cursor_byte(), lines, self.aimed())
+        self.draft().above(lines, self.aimed())
     }
 
     // The place so many lines below the cursor.
@@ -204,7 +223,7 @@ impl TextArea {
             ≡ place_below lines (aim_of self.now) (area_before self.now) (area_text self.now) }
         ensures boundary { IsCharBoundary (area_text self.now) result }
     {
-        place_below(self.text(), self.cursor_byte(), lines, self.aimed())
+        self.draft().below(lines, self.aimed())
     }
 
     // Where a move leads to.
@@ -323,12 +342,14 @@ impl TextArea {
 
     /// Moves the cursor to the line of a number, the first one being 0, or to the last line if no
     /// line has it; there it stands after so many graphemes, or at the line's end if there are
-    /// fewer. What is selected goes on from where the selection began. It reads the text up to
-    /// there.
+    /// fewer. What is selected goes on from where the selection began. It reads the lines from there
+    /// to the nearest of where the cursor was, the text's start and its end.
     pub fn go_to(&mut self, line: usize, column: usize)
         ensures { self.new ≡ gone_to line column self.old }
     {
-        let at = place_below(self.text(), 0, line, column);
+        let draft = self.draft();
+        let start = draft.start_of(line.min(draft.last()));
+        let at = place_in_line(draft.text(), start, column);
         self.journal.go(at);
         self.aim = None;
     }
@@ -355,7 +376,7 @@ impl TextArea {
     }
 
     fn allocator(&self) -> Global {
-        self.journal.draft().allocator()
+        self.draft().allocator()
     }
 
     /// Types a text before the cursor, or pastes it, in place of what is selected: its characters,

@@ -8,10 +8,13 @@
 //! The whole text is one `String` with line feeds in it, and the byte at which the cursor stands; a
 //! step that undoes a change keeps what stood there alone. So a text that is loaded is taken as it
 //! is, in its one allocation, lines that nobody touches stay where they were loaded, `text` costs
-//! nothing, and moves take no memory. What it costs: an edit moves all that stands after the cursor
-//! (of 10 MB about a millisecond); a line by its number, the number of the cursor's line and the count
-//! of lines are read from the text's start on; and a move along a line or by lines reads these lines
-//! byte by byte. A gap after the cursor, and kept line numbers, can come later under the same
+//! nothing, and moves take no memory. The number of the cursor's line and of the last one are kept
+//! from one change to the next, and so are the places where the cursor's line begins and ends and
+//! whether it has nothing but printable characters of ASCII. What it costs: an edit moves all that
+//! stands after the cursor (of 10 MB about a millisecond); a line by its number reads the lines from
+//! there to the cursor, or to the text's start or end if that is nearer; a cursor that comes to a
+//! line reads it byte by byte, and where that line has other characters, so do its column and a
+//! move up or down, grapheme by grapheme. A gap after the cursor can come later under the same
 //! contracts, which see a text before the cursor and one after it.
 #![tactic(auto)]
 
@@ -20,6 +23,7 @@ mod draft;
 mod extent;
 mod find;
 mod journal;
+mod kept;
 mod keys;
 pub mod laws;
 mod lines;

@@ -11,11 +11,22 @@ ghost use Rattle.text_area.specs.Lines.{place_below, first_line, nth_line};
 ghost use Rattle.text_area.specs.Inner.{BeginsLine};
 
 use crate::extent::{line_begin, line_end};
+use rtui_text::printable_front;
 use unicode_segmentation::UnicodeSegmentation;
 
 // How many graphemes a text has.
+#[tactic(auto, using(crate::proofs::FrontLemmas::count_rules))]
 fn grapheme_count(text: &str) -> usize
     ensures { result ≡ length (graphemes true text.now) }
+{
+    let front = printable_front(text, text.len());
+    front + counted(&text[front..])
+}
+
+// The same, of a text that is read grapheme by grapheme.
+fn counted(text: &str) -> usize
+    ensures value { result ≡ length (graphemes true text.now) }
+    ensures within { result ≤ length text.now }
 {
     text.graphemes(true).count()
 }
@@ -30,12 +41,13 @@ pub(crate) fn column_after(before: &str) -> usize
 }
 
 // What stands after the first graphemes of a line, at most so many.
-#[tactic(auto, using(crate::proofs::LineLemmas::column_rules))]
+#[tactic(auto, using(crate::proofs::LineLemmas::column_rules, crate::proofs::FrontLemmas::front_rules))]
 fn after_columns(line: &str, columns: usize) -> &str
     ensures { result.now ≡ concat (drop columns (graphemes true line.now)) }
 {
-    let mut left = line.graphemes(true);
-    let mut more = columns;
+    let front = printable_front(line, columns);
+    let mut left = line[front..].graphemes(true);
+    let mut more = columns - front;
     'walk: while more > 0 {
         let Some(_grapheme) = left.next() else {
             return left.as_str();
@@ -120,7 +132,7 @@ fn start_below(text: &str, start: usize, lines: usize) -> usize
 
 // The place after so many graphemes of the line that begins at a place.
 #[tactic(auto, using(crate::proofs::LineLemmas::place_rules))]
-fn place_in_line(text: &str, start: usize, columns: usize) -> usize
+pub(crate) fn place_in_line(text: &str, start: usize, columns: usize) -> usize
     requires { IsCharBoundary text.now start }
     ensures value { result ≡ start + columns_len columns (first_line (drop start text.now)) }
     ensures boundary { IsCharBoundary text.now result }
@@ -165,34 +177,71 @@ pub(crate) fn feeds(text: &str) -> usize
     count
 }
 
-// Where a line begins, if there is one of that number.
-#[tactic(auto, using(crate::proofs::LineLemmas::step_rules))]
-pub(crate) fn nth_start(text: &str, line: usize) -> Option<usize>
-    ensures some { IfSome result (λ start. start ≡ nth_start line text.now) }
-    ensures boundary { IfSome result (λ start. IsCharBoundary text.now start) }
-    ensures within { is_some result ≡ true → line ≤ feeds text.now }
-    ensures none { IfNone result (feeds text.now < line) }
+// How many line feeds stand before a place, of which it is known how many stand before another.
+#[tactic(auto, using(crate::proofs::KeptLemmas::kept_rules))]
+pub(crate) fn feeds_before(text: &str, from: usize, row: usize, at: usize) -> usize
+    requires from { IsCharBoundary text.now from }
+    requires at { IsCharBoundary text.now at }
+    requires row { row ≡ feeds (take from text.now) }
+    ensures { result ≡ feeds (take at text.now) }
 {
-    let mut top = 0;
-    let mut left = line;
-    'walk: while left > 0 {
-        let Some(next) = next_line(text, top) else {
-            return None;
-        };
-        top = next;
-        left -= 1;
+    if from <= at {
+        row + feeds(&text[from..at])
+    } else {
+        row - feeds(&text[at..from])
     }
-    Some(top)
 }
 
-// A line, if there is one of that number.
-pub(crate) fn line(text: &str, line: usize) -> Option<&str>
-    ensures some { IfSome result (λ found. found.now ≡ nth_line line text.now) }
-    ensures within { is_some result ≡ true → line ≤ feeds text.now }
-    ensures none { IfNone result (feeds text.now < line) }
+// Where the line of a number begins, which is one above that of a place.
+#[tactic(auto, using(crate::proofs::KeptLemmas::near_rules))]
+fn start_before(text: &str, at: usize, row: usize, line: usize) -> usize
+    requires at { IsCharBoundary text.now at }
+    requires row { row ≡ feeds (take at text.now) }
+    requires before { line ≤ row }
+    ensures value { result ≡ nth_start line text.now }
+    ensures boundary { IsCharBoundary text.now result }
 {
-    match nth_start(text, line) {
-        None => None,
-        Some(start) => Some(&text[start..line_end(text, start)]),
+    let above = row - line;
+    if line < above {
+        start_below(text, 0, line)
+    } else {
+        start_above(text, start_of_line(text, at), above)
+    }
+}
+
+// Where the line of a number begins, which is that of a place or one below it.
+#[tactic(auto, using(crate::proofs::KeptLemmas::near_rules))]
+fn start_from(text: &str, at: usize, row: usize, last: usize, line: usize) -> usize
+    requires at { IsCharBoundary text.now at }
+    requires row { row ≡ feeds (take at text.now) }
+    requires last { last ≡ feeds text.now }
+    requires after { row ≤ line }
+    requires within { line ≤ last }
+    ensures value { result ≡ nth_start line text.now }
+    ensures boundary { IsCharBoundary text.now result }
+{
+    let below = line - row;
+    let above = last - line;
+    if above < below {
+        start_above(text, start_of_line(text, text.len()), above)
+    } else {
+        start_below(text, start_of_line(text, at), below)
+    }
+}
+
+// Where the line of a number begins. It is sought from the nearest of the text's start, a place whose
+// line's number is known and the text's end on.
+pub(crate) fn nth_start(text: &str, at: usize, row: usize, last: usize, line: usize) -> usize
+    requires at { IsCharBoundary text.now at }
+    requires row { row ≡ feeds (take at text.now) }
+    requires last { last ≡ feeds text.now }
+    requires within { line ≤ last }
+    ensures value { result ≡ nth_start line text.now }
+    ensures boundary { IsCharBoundary text.now result }
+{
+    if line < row {
+        start_before(text, at, row, line)
+    } else {
+        start_from(text, at, row, last, line)
     }
 }

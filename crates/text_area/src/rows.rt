@@ -1,21 +1,15 @@
 //! Lines of a text area, one after the other, for who shows them.
 
-ghost use Rattle.std.specs.Prelude.{◌≡◌, ◌≤◌, ◌<◌, ◌+◌, drop, IfSome, IfNone, is_some, true};
+ghost use Rattle.std.specs.Prelude.{◌≡◌, ◌≤◌, ◌<◌, ◌+◌, length, take, drop, IfSome, IfNone};
+ghost use Rattle.std.specs.Prelude.{is_some, true};
 ghost use Rattle.std.specs.Str.{IsCharBoundary};
+ghost use Rattle.rtui_text.specs.Printable.{ArePrintable};
 ghost use Rattle.text_area.specs.Lines.{feeds, nth_start, first_line, last_line};
 ghost use Rattle.text_area.specs.Areas.{area_text, area_before, area_after};
 
 use crate::area::TextArea;
-use crate::extent::{line_begin, line_end};
-use crate::lines::{next_line, nth_start};
-
-// The line that a text ends with.
-#[tactic(auto, using(crate::proofs::LineLemmas::column_rules))]
-fn last_line(text: &str) -> &str
-    ensures { result.now ≡ last_line text.now }
-{
-    text.split_at(line_begin(text, text.len())).1
-}
+use crate::extent::line_end;
+use crate::lines::next_line;
 
 // The line that begins at a place.
 #[tactic(auto, using(crate::proofs::LineLemmas::row_rules))]
@@ -26,30 +20,49 @@ fn line_from(text: &str, start: usize) -> &str
     &text[start..line_end(text, start)]
 }
 
-// Where the line begins after the one of a number, which begins at a place.
+// Where the line begins after the one of a number, in which a place stands.
 #[tactic(auto, using(crate::proofs::LineLemmas::step_rules))]
-fn start_after(text: &str, number: usize, start: usize) -> Option<usize>
-    requires start { start ≡ nth_start number text.now }
-    requires within { number ≤ feeds text.now }
+fn start_after(text: &str, number: usize, at: usize) -> Option<usize>
+    requires at { at ≤ length text.now }
+    requires row { feeds (take at text.now) ≡ number }
     ensures some { IfSome result (λ next. next ≡ nth_start (number + 1) text.now) }
     ensures boundary { IfSome result (λ next. IsCharBoundary text.now next) }
     ensures order { IfSome result (λ next. number < next) }
     ensures within { is_some result ≡ true → number < feeds text.now }
     ensures none { IfNone result (number ≡ feeds text.now) }
 {
-    next_line(text, start)
+    next_line(text, at)
 }
 
 impl TextArea {
+    // A place in the line of a number, which begins at a byte: the line's end if it is known.
+    fn place_in(&self, number: usize, start: usize) -> usize
+        requires start { start ≡ nth_start number (area_text self.now) }
+        requires within { number ≤ feeds (area_text self.now) }
+        ensures at { result ≤ length (area_text self.now) }
+        ensures row { feeds (take result (area_text self.now)) ≡ number }
+    {
+        if number == self.cursor_row() {
+            self.draft().line_end()
+        } else {
+            start
+        }
+    }
+
     /// Returns the byte of the text at which a line begins, or `None` if no line has this number.
-    /// The first one has the number 0. It reads the text up to there.
+    /// The first one has the number 0. It reads the lines from there to the nearest of the cursor,
+    /// the text's start and its end.
     pub fn line_start(&self, number: usize) -> Option<usize>
         ensures some { IfSome result (λ start. start ≡ nth_start number (area_text self.now)) }
         ensures boundary { IfSome result (λ start. IsCharBoundary (area_text self.now) start) }
         ensures within { is_some result ≡ true → number ≤ feeds (area_text self.now) }
         ensures none { IfNone result (feeds (area_text self.now) < number) }
     {
-        nth_start(self.text(), number)
+        if number < self.line_count() {
+            Some(self.draft().start_of(number))
+        } else {
+            None
+        }
     }
 
     /// Returns the text from a byte on up to the end of its line: of a byte at which a line begins
@@ -66,7 +79,7 @@ impl TextArea {
     }
 
     /// Returns the byte at which the line after a line begins, or `None` if that is the last one.
-    /// It reads the line of the number alone.
+    /// It reads the line of the number alone, and nothing if that is the cursor's.
     ///
     /// # Conditions
     ///
@@ -80,15 +93,25 @@ impl TextArea {
         ensures within { is_some result ≡ true → number < feeds (area_text self.now) }
         ensures none { IfNone result (number ≡ feeds (area_text self.now)) }
     {
-        start_after(self.text(), number, start)
+        start_after(self.text(), number, self.place_in(number, start))
     }
 
     /// Returns the part of the cursor's line before the cursor, and the part after it. It reads
-    /// that line alone.
+    /// nothing of the text.
     pub fn cursor_line(&self) -> (&str, &str)
         ensures before { result.0.now ≡ last_line (area_before self.now) }
         ensures after { result.1.now ≡ first_line (area_after self.now) }
     {
-        (last_line(self.before()), line_from(self.after(), 0))
+        self.draft().cursor_line()
+    }
+
+    /// Returns whether the cursor's line is known to be plain: then it has nothing but printable
+    /// characters of ASCII. It reads nothing of the text: whether a line is plain is found where the
+    /// cursor comes to it, and of what is typed.
+    pub fn is_plain_line(&self) -> bool
+        ensures before { result ≡ true → ArePrintable (last_line (area_before self.now)) }
+        ensures after { result ≡ true → ArePrintable (first_line (area_after self.now)) }
+    {
+        self.draft().is_plain()
     }
 }

@@ -1,6 +1,6 @@
 //! What is shown in an area.
 
-ghost use Rattle.std.specs.Prelude.{◌≡◌, ◌<◌, ◌≤◌, ◌-◌};
+ghost use Rattle.std.specs.Prelude.{◌≡◌, ◌<◌, ◌≤◌, ◌-◌, ℕ};
 ghost use Rattle.widget_area.specs.TextAreas.{is_selected, wrapped_row, turned};
 
 use crate::columns::past;
@@ -38,6 +38,23 @@ impl Plan {
         ensures { result ≡ wrapped_row self.now begin column }
     {
         past(begin, column / usize::from(self.stride))
+    }
+
+    // How many columns of a line that begins in a row are above the view.
+    pub(crate) fn hidden_columns(&self, begin: usize) -> usize
+        requires { 0 < self.now.stride }
+        ensures { (column : ℕ) → column < result → wrapped_row self.now begin column < self.now.above }
+    {
+        let rows = self.above.saturating_sub(begin);
+        rows.saturating_mul(usize::from(self.stride))
+    }
+
+    // How many columns at the left of the view draw nothing: those left of it if nothing is selected.
+    pub(crate) fn columns_left(&self) -> usize
+        ensures within { result ≤ self.now.left }
+        ensures unselected { 0 < result → self.now.to ≤ self.now.from }
+    {
+        if self.from < self.to { 0 } else { self.left }
     }
 
     // The part of a line that stands in one row with a column.

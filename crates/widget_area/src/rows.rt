@@ -3,6 +3,7 @@
 ghost use Rattle.std.specs.Prelude.{◌≡◌, ◌≤◌, ◌<◌, ◌+◌, ◌-◌, ◌==◌, nat_le, nat_lt, true, [], length};
 ghost use Rattle.std.specs.Str.{IsCharBoundary};
 ghost use Rattle.unicode_segmentation.specs.Grapheme.{graphemes};
+ghost use Rattle.rtui_text.specs.Printable.{ArePrintable};
 ghost use Rattle.ratatui_core.specs.Layout.{IsInside};
 ghost use Rattle.ratatui_core.specs.Style.{new_style};
 ghost use Rattle.ratatui_core.specs.Buffer.{text_pieces};
@@ -18,7 +19,7 @@ ghost use Rattle.widget_area.specs.TextAreas.{front_text, back_text, line_drawin
 ghost use Rattle.widget_area.specs.TextAreas.{numbered_row_drawing, numbered_rows_drawing, placeholder_drawing};
 ghost use Rattle.widget_area.specs.TextAreas.{lines_drawing, planned_drawing};
 
-use crate::columns::{columns_of_grapheme, past};
+use crate::columns::{columns_of_grapheme, front_len, past};
 use crate::numbers::write_number;
 use crate::plan::Plan;
 use crate::widget::TextAreaWidget;
@@ -121,8 +122,8 @@ impl<'a> TextAreaWidget<'a> {
         }
     }
 
-    // Draws a part of a line, which begins at a place.
-    fn draw_part(
+    // Draws a part of a line, which begins at a place, read grapheme by grapheme.
+    fn draw_rest(
         &self,
         plan: &Plan,
         from: Place,
@@ -149,6 +150,32 @@ impl<'a> TextAreaWidget<'a> {
         Ok(())
     }
 
+    // Draws a part of a line, which begins at a place. Printable characters of ASCII left of the view
+    // are passed at once, and aren't read where the part is known to have nothing else.
+    fn draw_part(
+        &self,
+        plan: &Plan,
+        from: Place,
+        is_plain: bool,
+        text: &str,
+        row: Rect,
+        buf: &mut Buffer,
+    ) -> Result<(), AllocError>
+        requires row { IsRowIn buf.old.area row }
+        requires plain { is_plain ≡ true → ArePrintable text.now }
+        ensures done { let d = graphemes_drawing self.now plan.now row.width from.column from.byte
+            (graphemes true text.now) in IsDone d row result buf.old buf.new }
+        ensures area { buf.new.area ≡ buf.old.area }
+    {
+        let hidden = plan.columns_left().saturating_sub(from.column);
+        let front = front_len(is_plain, text, hidden);
+        let at = Place {
+            column: past(from.column, front),
+            byte: past(from.byte, front),
+        };
+        self.draw_rest(plan, at, &text[front..], row, buf)
+    }
+
     // The line of a number as far as the cursor, if it is the cursor's, and else the whole line.
     pub(crate) fn front_text(&self, plan: &Plan, number: usize, start: usize) -> &str
         requires start { start ≡ nth_start number (area_text self.now.text.now) }
@@ -171,6 +198,15 @@ impl<'a> TextAreaWidget<'a> {
         } else {
             ""
         }
+    }
+
+    // Whether the line of a number is the cursor's and known to have nothing but printable characters
+    // of ASCII.
+    pub(crate) fn is_plain(&self, plan: &Plan, number: usize) -> bool
+        ensures front { result ≡ true → ArePrintable (front_text self.now plan.now number) }
+        ensures back { result ≡ true → ArePrintable (back_text self.now plan.now number) }
+    {
+        number == plan.row && self.text.is_plain_line()
     }
 
     // Draws the line of a number, which begins at a byte.
@@ -198,8 +234,11 @@ impl<'a> TextAreaWidget<'a> {
             column: plan.column,
             byte: self.text.cursor_byte(),
         };
-        self.draw_part(plan, front, self.front_text(plan, number, start), row, buf)?;
-        self.draw_part(plan, back, self.back_text(plan, number), row, buf)
+        let is_plain = self.is_plain(plan, number);
+        let text = self.front_text(plan, number, start);
+        self.draw_part(plan, front, is_plain, text, row, buf)?;
+        let text = self.back_text(plan, number);
+        self.draw_part(plan, back, is_plain, text, row, buf)
     }
 
     // Draws the number of a line, as far as there are columns for numbers; answers how many it took.

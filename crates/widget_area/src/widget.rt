@@ -1,13 +1,16 @@
 //! A text area in an area.
 
-ghost use Rattle.std.specs.Prelude.{◌≡◌, ◌≤◌, ◌<◌, ◌+◌, ◌-◌, Some, None};
+ghost use Rattle.std.specs.Prelude.{◌≡◌, ◌≤◌, ◌<◌, ◌+◌, ◌-◌, Some, None, true};
 ghost use Rattle.ratatui_core.specs.Style.{new_style};
 ghost use Rattle.widget_boxes.specs.Boxes.{IsBoxArea};
-ghost use Rattle.widget_area.specs.Windows.{gutter_columns, plain_plan, wrapped_plan, plan_of};
+ghost use Rattle.unicode_segmentation.specs.Grapheme.{graphemes};
+ghost use Rattle.text_area.specs.{Lines.first_line, Areas.area_after};
+ghost use Rattle.widget_area.specs.Columns.{column_past};
+ghost use Rattle.widget_area.specs.Windows.{gutter_columns, cursor_column, plain_plan, wrapped_plan, plan_of};
 ghost use Rattle.widget_area.specs.Windows.{view_of};
 ghost use Rattle.widget_area.specs.TextAreas.{IsNewWidget};
 
-use crate::columns::{column_after_line, column_past, window_start};
+use crate::columns::{column_past, window_start};
 use crate::numbers::digit_count;
 use crate::places::{column_in_part, part_of, stride_of};
 use crate::plan::Plan;
@@ -157,6 +160,23 @@ impl<'a> TextAreaWidget<'a> {
         if columns < width { columns } else { 0 }
     }
 
+    // The cursor's column in its line.
+    fn cursor_column(&self) -> usize
+        ensures { result ≡ cursor_column self.now }
+    {
+        let is_plain = self.text.is_plain_line();
+        column_past(is_plain, self.tab, 0, self.text.cursor_line().0)
+    }
+
+    // The column after the cursor's line, which has the cursor in a column.
+    pub(crate) fn cursor_end(&self, column: usize) -> usize
+        ensures { result ≡ column_past self.now.tab column
+            (graphemes true (first_line (area_after self.now.text.now))) }
+    {
+        let is_plain = self.text.is_plain_line();
+        column_past(is_plain, self.tab, column, self.text.cursor_line().1)
+    }
+
     // What is shown in an area with a line in each row, if the view was this one before.
     fn plain_plan(&self, view: AreaView, area: Rect) -> Plan
         requires { IsBoxArea area }
@@ -167,8 +187,8 @@ impl<'a> TextAreaWidget<'a> {
         ensures y { result.y < area.height }
     {
         let numbers = self.gutter_columns(area.width);
-        let row = self.text.cursor().0;
-        let column = column_after_line(self.tab, self.text.cursor_line().0);
+        let row = self.text.cursor_row();
+        let column = self.cursor_column();
         let top = window_start(view.top, row, area.height);
         let left = window_start(view.left, column, area.width - numbers);
         let (from, to) = self.text.selection();
@@ -198,9 +218,9 @@ impl<'a> TextAreaWidget<'a> {
     {
         let numbers = self.gutter_columns(area.width);
         let stride = stride_of(area.width - numbers);
-        let row = self.text.cursor().0;
-        let column = column_after_line(self.tab, self.text.cursor_line().0);
-        let end = column_past(self.tab, column, self.text.cursor_line().1);
+        let row = self.text.cursor_row();
+        let column = self.cursor_column();
+        let end = self.cursor_end(column);
         let part = part_of(stride, column, end);
         let (top, above, y) = self.wrapped_view(view, stride, row, part, area.height);
         let (from, to) = self.text.selection();

@@ -3,6 +3,7 @@
 ghost use Rattle.std.specs.Prelude.{◌≡◌, ◌≤◌, ◌<◌, ◌+◌, ◌-◌, true};
 ghost use Rattle.std.specs.Str.{IsCharBoundary};
 ghost use Rattle.unicode_segmentation.specs.Grapheme.{graphemes};
+ghost use Rattle.rtui_text.specs.Printable.{ArePrintable};
 ghost use Rattle.ratatui_core.specs.Layout.{IsInside};
 ghost use Rattle.widget_boxes.specs.Boxes.{IsBoxArea};
 ghost use Rattle.rtui_drawing.specs.Drawings.{DrawsAll, IsDone};
@@ -14,7 +15,7 @@ ghost use Rattle.widget_area.specs.TextAreas.{wrapped_grapheme_drawing, wrapped_
 ghost use Rattle.widget_area.specs.TextAreas.{wrapped_text_drawing};
 ghost use Rattle.widget_area.specs.TextAreas.{wrapped_line_drawing, wrapped_lines_drawing};
 
-use crate::columns::{column_after_line, column_past, past};
+use crate::columns::{column_after_line, front_len, past};
 use crate::places::rows_of_columns;
 use crate::plan::Plan;
 use crate::rows::{Place, put_style_if};
@@ -56,8 +57,8 @@ impl<'a> TextAreaWidget<'a> {
         self.draw_grapheme(&turned, at, grapheme, part, buf)
     }
 
-    // Draws a part of a line that begins in a row.
-    fn draw_wrapped_part(
+    // Draws a part of a line that begins in a row, read grapheme by grapheme.
+    fn draw_wrapped_rest(
         &self,
         plan: &Plan,
         begin: usize,
@@ -87,6 +88,36 @@ impl<'a> TextAreaWidget<'a> {
         Ok(())
     }
 
+    // Draws a part of a line that begins in a row. Printable characters of ASCII above the view are
+    // passed at once, and aren't read where the part is known to have nothing else.
+    fn draw_wrapped_part(
+        &self,
+        plan: &Plan,
+        begin: usize,
+        from: Place,
+        is_plain: bool,
+        text: &str,
+        inner: Rect,
+        buf: &mut Buffer,
+    ) -> Result<(), AllocError>
+        requires some { IsBoxArea inner }
+        requires inside { IsInside inner buf.old.area }
+        requires stride { 0 < plan.now.stride }
+        requires numbers { plan.now.numbers + plan.now.stride ≤ inner.width }
+        requires plain { is_plain ≡ true → ArePrintable text.now }
+        ensures done { let d = wrapped_graphemes_drawing self.now plan.now inner begin from.column
+            from.byte (graphemes true text.now) in IsDone d inner result buf.old buf.new }
+        ensures area { buf.new.area ≡ buf.old.area }
+    {
+        let hidden = plan.hidden_columns(begin).saturating_sub(from.column);
+        let front = front_len(is_plain, text, hidden);
+        let at = Place {
+            column: past(from.column, front),
+            byte: past(from.byte, front),
+        };
+        self.draw_wrapped_rest(plan, begin, at, &text[front..], inner, buf)
+    }
+
     // The column after the line of a number, which begins at a byte.
     fn end_column(&self, plan: &Plan, number: usize, start: usize) -> usize
         requires start { start ≡ nth_start number (area_text self.now.text.now) }
@@ -94,7 +125,7 @@ impl<'a> TextAreaWidget<'a> {
         ensures { result ≡ end_column self.now plan.now number }
     {
         if number == plan.row {
-            column_past(self.tab, plan.column, self.text.cursor_line().1)
+            self.cursor_end(plan.column)
         } else {
             column_after_line(self.tab, self.text.line_from(start))
         }
@@ -188,9 +219,11 @@ impl<'a> TextAreaWidget<'a> {
             column: plan.column,
             byte: self.text.cursor_byte(),
         };
+        let is_plain = self.is_plain(plan, number);
         let text = self.front_text(plan, number, start);
-        self.draw_wrapped_part(plan, begin, front, text, inner, buf)?;
-        self.draw_wrapped_part(plan, begin, back, self.back_text(plan, number), inner, buf)
+        self.draw_wrapped_part(plan, begin, front, is_plain, text, inner, buf)?;
+        let text = self.back_text(plan, number);
+        self.draw_wrapped_part(plan, begin, back, is_plain, text, inner, buf)
     }
 
     // Draws the line of a number, which begins in a row and at a byte, and ends before a row.

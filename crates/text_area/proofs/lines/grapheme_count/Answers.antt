@@ -1,9 +1,10 @@
-use Rattle.std.proofs.Common.{length, ap, ◌∙◌}
-use Rattle.std.proofs.lemmas.Iterator.Consumers.{count_from_yields_List}
-use Rattle.unicode_segmentation.proofs.SegmentsLemmas.{YieldsList-from_gives}
+use Rattle.std.proofs.Common.{true, length, ap, ◌∙◌}
+use Rattle.unicode_segmentation.specs.Grapheme.{graphemes}
+use Rattle.text_area.proofs.FrontLemmas.{front-count}
 use Rattle.text_area.proofs.lines.grapheme_count.Goals as goal
 
 pub returns : goal.returns
 returns c =
-    count_from_yields_List _ _ c.count.ensures.ran (YieldsList-from_gives _ _ c.graphemes.result)
-    ∙ ap length c.graphemes.ensures.left
+    front-count c.args.text.now c.printable_front-front.result c.counted.result
+    c.printable_front-front.ensures.front.within c.printable_front-front.ensures.graphemes
+    (c.counted.ensures.value ∙ ap (λ t. length (graphemes true t)) c.range_from.ensures.value)

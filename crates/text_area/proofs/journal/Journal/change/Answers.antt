@@ -1,7 +1,7 @@
-use Rattle.std.proofs.Common.{◌≡◌, ◌+◌, ◌≤◌, length, sym, ap, subst, ◌∙◌, refl, arith, rules, false, true}
+use Rattle.std.proofs.Common.{◌≡◌, ◌≤◌, length, ap, ◌∙◌, rules, false, true}
 use Rattle.text_area.specs.Drafts.{draft_text, part_replaced}
-use Rattle.text_area.specs.Journals.{journal_of, changed, changes_nothing, goes_on, Undoes, longer}
-use Rattle.text_area.proofs.JournalLemmas.{undoes-take, kept-few, undoes-longer, went-on, length-longer}
+use Rattle.text_area.specs.Journals.{journal_of, changed, changes_nothing, goes_on}
+use Rattle.text_area.proofs.JournalLemmas.{undoes-take, kept-few, went-on}
 use Rattle.text_area.proofs.JournalLemmas.{undoes-on}
 use Rattle.text_area.proofs.journal.Journal.change.Goals as goal
 

@@ -1,5 +1,5 @@
 use Rattle.std.proofs.Common.{◌≡◌, ◌+◌, length, get_or, sym, ap, ◌∙◌, refl, arith, List}
-use Rattle.text_area.specs.Journals.{StepData, undo_step}
+use Rattle.text_area.specs.Journals.{StepData}
 use Rattle.text_area.proofs.StepLemmas.{reverse-longer}
 use Rattle.text_area.proofs.steps.Steps.lengthen.Goals as goal
 

@@ -1,7 +1,7 @@
 use Rattle.std.proofs.Common.{◌≡◌, true, length}
 use Rattle.unicode_segmentation.specs.{Grapheme.graphemes, Iter.graphemes_left}
 use Rattle.widget_area.specs.Columns.{column_past}
-use Rattle.widget_area.proofs.columns.column_past.Given as goal
+use Rattle.widget_area.proofs.columns.read_past.Given as goal
 
 -- the column after what was read and what is left
 abbrev pub invariant-walk : goal.invariant-walk

@@ -2,7 +2,7 @@ use Rattle.std.proofs.Common.{◌≡◌, true, length}
 use Rattle.unicode_segmentation.specs.{Grapheme.graphemes, Iter.graphemes_left}
 use Rattle.rtui_drawing.proofs.Laws.{Continues}
 use Rattle.widget_area.specs.TextAreas.{wrapped_graphemes_drawing}
-use Rattle.widget_area.proofs.widget.TextAreaWidget.draw_wrapped_part.Given as goal
+use Rattle.widget_area.proofs.widget.TextAreaWidget.draw_wrapped_rest.Given as goal
 
 -- what is left is to be drawn where it begins
 abbrev pub invariant-walk : goal.invariant-walk

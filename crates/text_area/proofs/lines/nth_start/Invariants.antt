@@ -1,9 +1,0 @@
-use Rattle.std.proofs.Common.{◌≡◌, ◌+◌, take}
-use Rattle.text_area.specs.{Lines.feeds, Inner.BeginsLine}
-use Rattle.text_area.proofs.lines.nth_start.Given as goal
-
-abbrev pub invariant-walk : goal.invariant-walk
-invariant-walk l = BeginsLine l.text l.top × (feeds (take l.top l.text) + l.left ≡ l.line)
-
-abbrev pub decreases-walk : goal.decreases-walk
-decreases-walk l = l.left
