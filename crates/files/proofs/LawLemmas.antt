@@ -318,7 +318,7 @@ keeps-sought (Some place) b c list folder unnamed size selected top sure marks =
   list = list;
   unnamed = unnamed;
   placed = λ p. placed-same (selected_at place c) _ refl refl refl refl (selected-placed place c);
-  marks = marks-kept b _ list marks;
+  marks = marks-kept b c list marks;
   sure = inl sure;
 }
 

@@ -1,12 +1,13 @@
 -- Marks are of entries that are listed.
 use Rattle.std.proofs.Common.{◌≡◌, ⊎_elim, ℕ, zero, suc, ◌+◌, ◌-◌, ◌<◌, Bool, true, false, not, if◌then◌else◌, arith}
-use Rattle.std.proofs.Common.{List, [], ◌∷◌, length, Option, Some, None, min, refl, ap, ◌∙◌, subst}
-use Rattle.std.specs.Prelude.{slice_get, string_bytes, filter}
-use Rattle.std.specs.{List.list_any, List.position_from, List.All, Str.bytes_eq}
+use Rattle.std.proofs.Common.{List, [], ◌∷◌, ◌++◌, length, take, Option, Some, None, min, refl, ap, ◌∙◌, subst}
+use Rattle.std.specs.Prelude.{slice_get, string_bytes, filter, option_to_list, get_or}
+use Rattle.std.specs.{List.list_any, List.position_from, List.All, List.filter_map, List.cons_option, Str.bytes_eq}
 use Rattle.std.specs.Option.{option_map_or, option_and_then}
 use Rattle.std.proofs.lemmas.Bool.{cases_Bool}
 use Rattle.std.proofs.lemmas.{Slice.Eq.bytes_eq-Decides}
-use Rattle.std.proofs.lemmas.List.Elements.{All-nil, All-head, All-push, All-filter, All-weaker, filter_passes}
+use Rattle.std.proofs.lemmas.List.Elements.{All-nil, All-head, All-push, All-filter, All-weaker, filter_passes, filter_map-append}
+use Rattle.std.proofs.lemmas.List.{take_more}
 use Rattle.files.specs.declared.list.Row.{Row}
 use Rattle.files.specs.declared.list.Listing.{Listing as ListingData}
 use Rattle.files.specs.declared.marks.Mark.{Mark}
@@ -89,3 +90,15 @@ head-of P (first ∷ marks) mark all is = let same : first ≡ mark = cc in subs
 pub some-listed : (rows : List Row) (mark : Mark) → IsMarkListed rows mark → 0 < length rows
 some-listed [] mark listed = absurd listed.1
 some-listed (row ∷ rows) mark listed = omega arith
+
+-- ---- what is noted of marks
+
+cons-one : {X : Type 0} (o : Option X) → cons_option o [] ≡ option_to_list o
+cons-one None = refl
+cons-one (Some x) = refl
+
+pub filter_map-more : {X Y : Type 0} (f : X → Option Y) (xs : List X) (i : ℕ) (d : X) → i < length xs
+    → filter_map f (take (i + 1) xs) ≡ filter_map f (take i xs) ++ option_to_list (f (get_or xs i d))
+filter_map-more f xs i d within =
+    ap (filter_map f) (take_more xs i d within) ∙ filter_map-append f (take i xs) (get_or xs i d ∷ [])
+    ∙ ap (λ ys. filter_map f (take i xs) ++ ys) (cons-one (f (get_or xs i d)))

@@ -1,5 +1,5 @@
 -- Marks are asked about in turn.
-use Rattle.std.proofs.Common.{◌≡◌, ◌⊎◌, inl, inr, ℕ, ◌<◌, ◌&&◌, Bool, true, false, nat_lt, if◌then◌else◌, List, [], length, Option, Some, refl, ap, ◌∙◌, arith, zero, suc, ◌∷◌, ◌++◌, ◌==◌, not, drop}
+use Rattle.std.proofs.Common.{◌≡◌, ◌⊎◌, inl, inr, ℕ, ◌<◌, ◌&&◌, Bool, true, false, nat_lt, if◌then◌else◌, List, [], length, Option, Some, None, refl, ap, ◌∙◌, arith, zero, suc, ◌∷◌, ◌++◌, ◌==◌, not, drop}
 use Rattle.std.specs.Prelude.{slice_get, is_some, option_to_list}
 use Rattle.std.specs.Option.{option_and_then}
 use Rattle.std.proofs.lemmas.Bool.Decides.{nat_tests}
@@ -21,9 +21,9 @@ use Rattle.files.specs.declared.list.Outcome.{Outcome}
 use Rattle.files.specs.declared.list.Outcome.TheVariants as outcome
 use Rattle.files.specs.declared.marks.Mark.{Mark}
 use Rattle.files.specs.Texts.{selected_text}
-use Rattle.files.specs.Marks.{is_mark_named, marks_but, is_selected_marked, IsMarkListed, AreMarksListed}
+use Rattle.files.specs.Marks.{is_mark_named, first_mark_place, marks_but, is_selected_marked, IsMarkListed, AreMarksListed}
 use Rattle.files.specs.Moves.{browsed_after, new_browser, wished, first_mark_selected, next_marked, removals_go_on, gone_on, folder_shown}
-use Rattle.files.specs.Moves.{mode_following, typing_name, noted_unless, noted_after}
+use Rattle.files.specs.Moves.{found_selected, mode_following, typing_name, noted_unless, noted_after}
 use Rattle.files.specs.Laws.{AsksAbout, WillAskAbout}
 use Rattle.files.proofs.LawLemmas.{event-marks, goes-on}
 use Rattle.files.proofs.MarkLemmas.{left-listed, first-selected, head-of, some-listed}
@@ -75,14 +75,21 @@ trashes-first b mark all is there =
 follows-by : (mode : Mode) (b : Browser) (marks : List Mark) (mark : Mark) → slice_get marks 0 ≡ Some mark
     → (if length marks == 0 then Looking else mode) ≡ mode
 follows-by mode b [] mark is = absurd (cc)
-follows-by mode b (m ∷ marks) mark is = refl
+follows-by mode b (m ∷ marks) mark is =
+    let some : (length (m ∷ marks) == 0) ≡ false = grind (arith, nat_tests) in rw some refl
+
+found-marks : (found : Option ℕ) (b : Browser) → (found_selected found b).marks ≡ b.marks
+found-marks None b = refl
+found-marks (Some place) b = refl
 
 goes-next : (mode : Mode) (b : Browser) (mark : Mark) → AreMarksListed b → slice_get (marks_but (selected_text b) b.marks) 0 ≡ Some mark
     → (selected_text (removals_go_on mode b) ≡ mark.name) × ((removals_go_on mode b).follows ≡ mode)
 goes-next mode b mark all is =
     let c = record b { marks = marks_but (selected_text b) b.marks } in
-    let rest = All-filter (λ m. not (is_mark_named (selected_text b) m)) (IsMarkListed b.list) b.marks all in
-    (first-selected c mark (head-of (IsMarkListed b.list) c.marks mark rest is) is, follows-by mode b c.marks mark is)
+    let rest = All-filter (λ m. not (is_mark_named (selected_text b) m)) (IsMarkListed b.list) b.marks all in (
+      first-selected c mark (head-of (IsMarkListed b.list) c.marks mark rest is) is,
+      ap (λ marks. if length marks == 0 then Looking else mode) (found-marks (first_mark_place c) c) ∙ follows-by mode b c.marks mark is,
+    )
 
 will-ask : (mode : Mode) (b : Browser) (mark : Mark) → (mode ≡ Removing) ⊎ (mode ≡ Trashing) → AreMarksListed b
     → slice_get (marks_but (selected_text b) b.marks) 0 ≡ Some mark
@@ -148,7 +155,7 @@ first-of b (n ∷ more) rest noted is = is
 
 left-some : (n : ℕ) → 0 < n → (if n == 0 then Looking else Pasting) ≡ Pasting
 left-some zero some = absurd (omega (arith, some))
-left-some (suc n) some = refl
+left-some (suc n) some = let other : (suc n == 0) ≡ false = grind (arith, nat_tests) in rw other refl
 
 pastes-next : (mode : Mode) (b : Browser) (noted : Noted) → mode ≡ Pasting → 0 < b.left → slice_get b.more 0 ≡ Some noted
     → ((gone_on mode b).noted ≡ Some noted) × ((gone_on mode b).follows ≡ Pasting)

@@ -59,15 +59,15 @@ pub record AsksToUndo (b : Browser) (from to : List ℕ) : Type 0 where
       ++ codes "\"? y/n"
 
 -- an entry is selected, by its name, and this is asked about it
-pub record AsksAbout (mode : Mode) (name : List ℕ) (b : Browser) : Type 0 where
-  pub mode : b.mode ≡ mode
+pub record AsksAbout (question : Mode) (name : List ℕ) (b : Browser) : Type 0 where
+  pub mode : b.mode ≡ question
   pub entry : selected_text b ≡ name
 
 -- the folder is listed anew, and then this is asked about an entry that is selected, by its name
-pub record WillAskAbout (mode : Mode) (name : List ℕ) (b : Browser) : Type 0 where
+pub record WillAskAbout (question : Mode) (name : List ℕ) (b : Browser) : Type 0 where
   pub mode : b.mode ≡ Listing
   pub entry : selected_text b ≡ name
-  pub follows : b.follows ≡ mode
+  pub follows : b.follows ≡ question
 
 -- nothing is sure, or a question is that the screen shows whole
 abbrev pub IsSound : Browser → Type 0

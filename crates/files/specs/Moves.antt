@@ -461,13 +461,18 @@ mode_following Removing b = if is_selected_marked b then Removing else Looking
 mode_following Pasting b = if is_some b.noted then Pasting else Looking
 mode_following _ b = Looking
 
+abbrev pub is_paste : Mode → Bool
+is_paste Pasting = true
+is_paste _ = false
+
 abbrev pub typed_following : Mode → Browser → FieldData
-typed_following Pasting b = option_map_or (λ noted. typing_name noted.name) b.noted b.typed
-typed_following _ b = b.typed
+typed_following next b =
+    if is_paste next then option_map_or (λ noted. typing_name noted.name) b.noted b.typed else b.typed
 
 abbrev pub column_following : Mode → Browser → ℕ
-column_following Pasting b = option_map_or (λ noted. column_in Pasting (typing_name noted.name) b) b.noted b.column
-column_following _ b = b.column
+column_following next b =
+    if is_paste next then option_map_or (λ noted. column_in Pasting (typing_name noted.name) b) b.noted b.column
+    else b.column
 
 abbrev pub asking_next : Mode → Browser → Browser
 asking_next next b = record b {

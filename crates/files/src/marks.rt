@@ -75,6 +75,20 @@ fn mark_place(rows: &[Row], mark: &Mark) -> Option<usize>
         .position(|row| is_row_named(mark.name.as_str(), row))
 }
 
+// Drops the marks with a name.
+fn drop_named(marks: &mut Vec<Mark>, name: &str)
+    ensures { marks.new.items ≡ marks_but name.now marks.old.items }
+{
+    marks.retain(|mark| !is_mark_named(name, mark));
+}
+
+// Drops the marks that have no row in a list.
+fn keep_listed(marks: &mut Vec<Mark>, rows: &[Row])
+    ensures { marks.new.items ≡ filter (has_row_named rows.now) marks.old.items }
+{
+    marks.retain(|mark| has_row(rows, mark));
+}
+
 impl Marks {
     /// Makes a list of no marks.
     pub fn new(alloc: Global) -> Marks
@@ -133,7 +147,7 @@ impl Marks {
     fn drop_named(&mut self, name: &str)
         ensures { self.new ≡ marks_but name.now self.old }
     {
-        self.marks.retain(|mark| !is_mark_named(name, mark));
+        drop_named(&mut self.marks, name);
     }
 
     // Adds one, or drops those with its name if there are some.
@@ -152,7 +166,7 @@ impl Marks {
     fn keep_listed(&mut self, rows: &[Row])
         ensures { self.new ≡ filter (has_row_named rows.now) self.old }
     {
-        self.marks.retain(|mark| has_row(rows, mark));
+        keep_listed(&mut self.marks, rows);
     }
 }
 

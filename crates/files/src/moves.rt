@@ -370,11 +370,11 @@ impl Browser {
         let next = self.follows;
         let name = self.name_following()?;
         self.show(listing);
+        self.mode = self.mode_following(next);
         if let Some((typed, column)) = name {
             self.typed = typed;
             self.column = column;
         }
-        self.mode = self.mode_following(next);
         Ok(())
     }
 }

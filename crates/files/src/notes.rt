@@ -1,10 +1,10 @@
 //! Entries that are noted, to be copied or moved to another folder.
 
-ghost use Rattle.std.specs.Prelude.{◌≡◌, ◌++◌, ◌∷◌, [], not, length, drop, slice_get, Some, IfOk, IfSome, OnOk, OnErr};
+ghost use Rattle.std.specs.Prelude.{◌≡◌, ◌++◌, ◌∷◌, [], not, length, drop, slice_get, Some, IfOk, MatchOption, OnOk, OnErr};
 ghost use Rattle.std.specs.List.{list_any};
 ghost use Rattle.std.specs.Option.{option_to_list, option_and_then};
 ghost use Rattle.files.specs.Moves.{typing_name, note_taken, noted_note, taken, mark_taken, marks_taken, all_taken, pasting, paste_note};
-ghost use Rattle.files.specs.Moves.{noted_unless, pastes_go_on, typed_following, column_following};
+ghost use Rattle.files.specs.Moves.{noted_unless, pastes_go_on, is_paste, typed_following, column_following};
 
 use crate::browser::{Browser, Mode, Note};
 use crate::marks::Mark;
@@ -110,6 +110,16 @@ pub(crate) fn typed_name(alloc: Global, name: &str) -> Result<TextField, AllocEr
     field.set_text(name)?;
     go_to_extension(&mut field);
     Ok(field)
+}
+
+// Whether it is asked under which name what is noted comes here.
+fn is_paste(mode: Mode) -> bool
+    ensures { result ≡ is_paste mode }
+{
+    match mode {
+        Mode::Pasting => true,
+        _ => false,
+    }
 }
 
 impl Browser {
@@ -223,11 +233,13 @@ impl Browser {
     /// Returns what is typed after a listing, and how many columns stand before the cursor, if what
     /// is noted next is asked about.
     pub(crate) fn name_following(&self) -> Result<Option<(TextField, usize)>, AllocError>
-        ensures { IfOk result (λ next. IfSome next (λ name.
-            (name.0 ≡ typed_following self.now.follows self.now)
+        ensures { IfOk result (λ next. MatchOption next
+            ((self.now.typed ≡ typed_following self.now.follows self.now)
+            × (self.now.column ≡ column_following self.now.follows self.now))
+            (λ name. (name.0 ≡ typed_following self.now.follows self.now)
             × (name.1 ≡ column_following self.now.follows self.now))) }
     {
-        if self.follows != Mode::Pasting {
+        if !is_paste(self.follows) {
             return Ok(None);
         }
         match &self.noted {
