@@ -1,6 +1,6 @@
 -- Marks are of entries that are listed.
 use Rattle.std.proofs.Common.{◌≡◌, ⊎_elim, ℕ, zero, suc, ◌+◌, ◌-◌, ◌<◌, Bool, true, false, not, if◌then◌else◌, arith}
-use Rattle.std.proofs.Common.{List, [], ◌∷◌, ◌++◌, length, take, Option, Some, None, min, refl, ap, ◌∙◌, subst}
+use Rattle.std.proofs.Common.{List, [], ◌∷◌, ◌++◌, length, take, Option, Some, None, min, refl, sym, ap, ◌∙◌, subst}
 use Rattle.std.specs.Prelude.{slice_get, string_bytes, filter, option_to_list, get_or}
 use Rattle.std.specs.{List.list_any, List.position_from, List.All, List.filter_map, List.cons_option, Str.bytes_eq}
 use Rattle.std.specs.Option.{option_map_or, option_and_then}
@@ -97,8 +97,15 @@ cons-one : {X : Type 0} (o : Option X) → cons_option o [] ≡ option_to_list o
 cons-one None = refl
 cons-one (Some x) = refl
 
-pub filter_map-more : {X Y : Type 0} (f : X → Option Y) (xs : List X) (i : ℕ) (d : X) → i < length xs
+filter_map-more : {X Y : Type 0} (f : X → Option Y) (xs : List X) (i : ℕ) (d : X) → i < length xs
     → filter_map f (take (i + 1) xs) ≡ filter_map f (take i xs) ++ option_to_list (f (get_or xs i d))
 filter_map-more f xs i d within =
     ap (filter_map f) (take_more xs i d within) ∙ filter_map-append f (take i xs) (get_or xs i d ∷ [])
     ∙ ap (λ ys. filter_map f (take i xs) ++ ys) (cons-one (f (get_or xs i d)))
+
+pub filter_map-step : {X Y : Type 0} (f : X → Option Y) (xs : List X) (i : ℕ) (x : X) (taken : Option Y) (ys new : List Y)
+    → i < length xs → x ≡ get_or xs i x → ys ≡ filter_map f (take i xs) → taken ≡ f x → new ≡ ys ++ option_to_list taken
+    → new ≡ filter_map f (take (i + 1) xs)
+filter_map-step f xs i x taken ys new within at before is adds =
+    adds ∙ ap (λ front. front ++ option_to_list taken) before ∙ ap (λ o. filter_map f (take i xs) ++ option_to_list o) is
+    ∙ ap (λ y. filter_map f (take i xs) ++ option_to_list (f y)) at ∙ sym (filter_map-more f xs i x within)
