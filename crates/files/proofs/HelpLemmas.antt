@@ -37,7 +37,7 @@ helped e stands says asks = record {
 }
 
 pub all-helped : AreListedKeys key_table
-all-helped = (helped _ refl refl refl, (helped _ refl refl refl, (helped _ refl refl refl, (helped _ refl refl refl, (helped _ refl refl refl, (helped _ refl refl refl, (helped _ refl refl refl, (helped _ refl refl refl, (helped _ refl refl refl, (helped _ refl refl refl, (helped _ refl refl refl, (helped _ refl refl refl, (helped _ refl refl refl, (helped _ refl refl refl, (helped _ refl refl refl, (helped _ refl refl refl, (helped _ refl refl refl, (helped _ refl refl refl, (helped _ refl refl refl, (helped _ refl refl refl, (helped _ refl refl refl, (helped _ refl refl refl, (helped _ refl refl refl, (helped _ refl refl refl, (helped _ refl refl refl, (helped _ refl refl refl, (helped _ refl refl refl, (helped _ refl refl refl, (helped _ refl refl refl, (helped _ refl refl refl, (helped _ refl refl refl, (helped _ refl refl refl, (helped _ refl refl refl, (helped _ refl refl refl, (helped _ refl refl refl, (helped _ refl refl refl, (helped _ refl refl refl, tt)))))))))))))))))))))))))))))))))))))
+all-helped = (helped _ refl refl refl, (helped _ refl refl refl, (helped _ refl refl refl, (helped _ refl refl refl, (helped _ refl refl refl, (helped _ refl refl refl, (helped _ refl refl refl, (helped _ refl refl refl, (helped _ refl refl refl, (helped _ refl refl refl, (helped _ refl refl refl, (helped _ refl refl refl, (helped _ refl refl refl, (helped _ refl refl refl, (helped _ refl refl refl, (helped _ refl refl refl, (helped _ refl refl refl, (helped _ refl refl refl, (helped _ refl refl refl, (helped _ refl refl refl, (helped _ refl refl refl, (helped _ refl refl refl, (helped _ refl refl refl, (helped _ refl refl refl, (helped _ refl refl refl, (helped _ refl refl refl, (helped _ refl refl refl, (helped _ refl refl refl, (helped _ refl refl refl, (helped _ refl refl refl, (helped _ refl refl refl, (helped _ refl refl refl, (helped _ refl refl refl, (helped _ refl refl refl, (helped _ refl refl refl, (helped _ refl refl refl, (helped _ refl refl refl, (helped _ refl refl refl, (helped _ refl refl refl, tt)))))))))))))))))))))))))))))))))))))))
 
 -- ---- all keys
 
@@ -128,7 +128,7 @@ in-table false key.Delete k code held asks some = absurd (some refl)
 in-table true key.Delete k code held asks some = absurd (some refl)
 in-table false key.Insert k code held asks some = absurd (some refl)
 in-table true key.Insert k code held asks some = absurd (some refl)
-in-table false key.Esc k code held asks some = absurd (some refl)
+in-table false key.Esc k code held asks some = a-key k (inr (inr (inr (inr (inr (inr (inr (inr (inr (inr (inr (inl (record { code = code; held = held; wish = asks })))))))))))))
 in-table true key.Esc k code held asks some = absurd (some refl)
 in-table false key.CapsLock k code held asks some = absurd (some refl)
 in-table true key.CapsLock k code held asks some = absurd (some refl)

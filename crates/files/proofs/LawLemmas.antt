@@ -1,8 +1,9 @@
 -- What laws of browsers stand on.
 use Rattle.std.proofs.Common.{◌≡◌, ◌==◌, ◌&&◌, ◌⊎◌, inl, inr, ℕ, ◌+◌, ◌-◌, ◌<◌, ◌≤◌, min, nat_lt, Bool, true, false, not}
-use Rattle.std.proofs.Common.{arith, rules, refl, sym, ap, ◌∙◌, List, length, Option, Some, None, if◌then◌else◌}
+use Rattle.std.proofs.Common.{arith, rules, refl, sym, ap, ◌∙◌, List, [], length, Option, Some, None, if◌then◌else◌}
 use Rattle.std.specs.Prelude.{is_some}
-use Rattle.std.specs.Str.{bytes_eq}
+use Rattle.std.specs.{Str.bytes_eq, List.All}
+use Rattle.std.proofs.lemmas.List.Elements.{All-nil, All-filter}
 use Rattle.std.specs.Option.{option_map_or}
 use Rattle.std.specs.declared.alloc.Global.{Global}
 use Rattle.std.proofs.lemmas.Bool.Decides.{nat_tests}
@@ -25,7 +26,7 @@ use Rattle.files.specs.declared.typing.Typing.TheVariants.{Change, Accept, Cance
 use Rattle.files.specs.declared.list.Outcome.{Outcome}
 use Rattle.files.specs.declared.list.Outcome.TheVariants as outcome
 use Rattle.files.specs.Keys.{event_wish, event_typing, event_order, is_input, says_yes}
-use Rattle.files.specs.Texts.{fits}
+use Rattle.files.specs.Texts.{fits, selected_text}
 use Rattle.files.specs.Moves.{scrolled_list, selected_at, last_row_place, list_rows, granted, wished, typing_in}
 use Rattle.files.specs.Moves.{asks, asks_in, confirmed, typed_into, browsed, browser_at_told_size, outcome_told, browsed_after, new_browser}
 use Rattle.files.specs.Moves.{is_folder_selected, removal_answered, next_found, previous_found, found_selected, found_note}
@@ -33,6 +34,10 @@ use Rattle.files.specs.Moves.{typing_name, seeking_typed, sought_into, order_tak
 use Rattle.files.specs.Help.{help_rows}
 use Rattle.files.specs.Texts.{place_in_row}
 use Rattle.files.specs.declared.notes.Noted.{Noted}
+use Rattle.files.specs.declared.marks.Mark.{Mark}
+use Rattle.files.specs.Marks.{is_mark_named, marks_but, marks_turned, marks_left, first_mark_place, IsMarkListed, AreMarksListed}
+use Rattle.files.specs.Moves.{marking, noting, all_taken, removals_go_on, gone_on, folder_shown}
+use Rattle.files.proofs.MarkLemmas.{marks-kept, turned-listed}
 use Rattle.files.specs.declared.order.Order.{Order}
 use Rattle.files.specs.Laws.{IsPlaced, ListsSame}
 
@@ -64,6 +69,7 @@ pub record Keeps (b c : Browser) : Type 0 where
   pub list : c.list ≡ b.list
   pub unnamed : c.unnamed ≡ b.unnamed
   pub placed : IsPlaced b → IsPlaced c
+  pub marks : AreMarksListed b → AreMarksListed c
   pub sure : (c.is_sure ≡ b.is_sure) ⊎ Counts b c
 
 placed-same : (b c : Browser) → c.list ≡ b.list → c.size ≡ b.size → c.selected ≡ b.selected → c.top ≡ b.top → IsPlaced b
@@ -74,12 +80,13 @@ placed-same b c list size selected top p =
     record { within = omega arith; above = omega arith; below = λ some. omega (arith, below (omega arith)) }
 
 keeps-same : (b c : Browser) → c.folder ≡ b.folder → c.list ≡ b.list → c.unnamed ≡ b.unnamed → c.size ≡ b.size
-    → c.selected ≡ b.selected → c.top ≡ b.top → c.is_sure ≡ b.is_sure → Keeps b c
-keeps-same b c folder list unnamed size selected top sure = record {
+    → c.selected ≡ b.selected → c.top ≡ b.top → c.is_sure ≡ b.is_sure → c.marks ≡ b.marks → Keeps b c
+keeps-same b c folder list unnamed size selected top sure marks = record {
   folder = folder;
   list = list;
   unnamed = unnamed;
   placed = placed-same b c list size selected top;
+  marks = marks-kept b c list marks;
   sure = inl sure;
 }
 
@@ -89,6 +96,7 @@ keeps-selected place b = record {
   list = refl;
   unnamed = refl;
   placed = λ p. selected-placed place b;
+  marks = λ all. all;
   sure = inl refl;
 }
 
@@ -97,22 +105,69 @@ keeps-if true b c d one two = one
 keeps-if false b c d one two = two
 
 keeps-it : (b : Browser) → Keeps b b
-keeps-it b = keeps-same b b refl refl refl refl refl refl refl
+keeps-it b = keeps-same b b refl refl refl refl refl refl refl refl
 
 keeps-typing : (mode : Mode) (f : FieldData) (b : Browser) → Keeps b (typing_in mode f b)
-keeps-typing mode f b = keeps-same b _ refl refl refl refl refl refl refl
+keeps-typing mode f b = keeps-same b _ refl refl refl refl refl refl refl refl
 
 keeps-mode : (mode : Mode) (b : Browser) → Keeps b (record b { mode = mode })
-keeps-mode mode b = keeps-same b _ refl refl refl refl refl refl refl
+keeps-mode mode b = keeps-same b _ refl refl refl refl refl refl refl refl
 
 keeps-found : (found : Option ℕ) (b : Browser) → Keeps b (found_selected found b)
 keeps-found None b = keeps-it b
 keeps-found (Some place) b = keeps-selected place b
 
-keeps-pasting : (noted : Option Noted) (b : Browser)
-    → Keeps b (option_map_or (λ it. typing_in Pasting (typing_name it.name) b) noted b)
-keeps-pasting None b = keeps-it b
-keeps-pasting (Some noted) b = keeps-typing Pasting _ b
+keeps-pasting : (noted : Option Noted) (n : ℕ) (b : Browser)
+    → Keeps b (option_map_or (λ it. typing_in Pasting (typing_name it.name) (record b { left = n })) noted (record b { left = n }))
+keeps-pasting None n b = keeps-same b _ refl refl refl refl refl refl refl refl
+keeps-pasting (Some noted) n b = keeps-same b _ refl refl refl refl refl refl refl refl
+
+-- the entry that was marked first is asked about
+keeps-first : (mode : Mode) (found : Option ℕ) (b : Browser) → Keeps b (record (found_selected found b) { mode = mode })
+keeps-first mode None b = keeps-mode mode b
+keeps-first mode (Some place) b = record {
+  folder = refl;
+  list = refl;
+  unnamed = refl;
+  placed = λ p. placed-same (selected_at place b) _ refl refl refl refl (selected-placed place b);
+  marks = λ all. all;
+  sure = inl refl;
+}
+
+keeps-marking : (b : Browser) → Keeps b (marking b)
+keeps-marking b = record {
+  folder = refl;
+  list = refl;
+  unnamed = refl;
+  placed = λ p. selected-placed (b.selected + 1) (record b { marks = marks_turned b });
+  marks = turned-listed b;
+  sure = inl refl;
+}
+
+-- none is marked any longer, or those are that were
+all-or-none : (P : Mark → Type 0) (test : Bool) (marks : List Mark) → All P marks → All P (if test then marks else [])
+all-or-none P true marks all = all
+all-or-none P false marks all = All-nil P
+
+keeps-noting : (all : List Noted) (b : Browser) → Keeps b (noting all b)
+keeps-noting all b = record {
+  folder = refl;
+  list = refl;
+  unnamed = refl;
+  placed = λ p. placed-same b _ refl refl refl refl p;
+  marks = all-or-none (IsMarkListed b.list) (length all == 0) b.marks;
+  sure = inl refl;
+}
+
+keeps-unmarking : (b : Browser) → Keeps b (record b { marks = [] })
+keeps-unmarking b = record {
+  folder = refl;
+  list = refl;
+  unnamed = refl;
+  placed = λ p. placed-same b _ refl refl refl refl p;
+  marks = λ all. All-nil (IsMarkListed b.list);
+  sure = inl refl;
+}
 
 keeps-entered : (b : Browser) → Keeps b (entered b)
 keeps-entered b = keeps-if (is_folder_selected b) b _ b (keeps-mode Entering b) (keeps-it b)
@@ -137,22 +192,25 @@ granted-keeps (wish.Click row) b = keeps-clicked row b
 granted-keeps wish.Enter b = keeps-entered b
 granted-keeps wish.Base b = keeps-if (bytes_eq b.folder b.base) b b _ (keeps-it b) (keeps-mode Returning b)
 granted-keeps wish.Undo b = keeps-if (is_some b.last_move) b _ b (keeps-mode Undoing b) (keeps-it b)
-granted-keeps wish.Help b = keeps-same b _ refl refl refl refl refl refl refl
+granted-keeps wish.Help b = keeps-same b _ refl refl refl refl refl refl refl refl
 granted-keeps wish.Choose b = keeps-mode Chosen b
 granted-keeps wish.Leave b = keeps-if (bytes_eq b.folder b.base) b b _ (keeps-it b) (keeps-mode Leaving b)
-granted-keeps wish.Hidden b = keeps-same b _ refl refl refl refl refl refl refl
+granted-keeps wish.Hidden b = keeps-same b _ refl refl refl refl refl refl refl refl
 granted-keeps wish.Rename b = keeps-if (length b.list == 0) b b _ (keeps-it b) (keeps-typing Renaming _ b)
 granted-keeps wish.Make b = keeps-typing Making _ b
 granted-keeps wish.Trash b =
-    keeps-if (is_some b.trash && nat_lt 0 (length b.list)) b _ b (keeps-mode Trashing b) (keeps-it b)
+    keeps-if (is_some b.trash && nat_lt 0 (length b.list)) b _ b (keeps-first Trashing (first_mark_place b) b) (keeps-it b)
 granted-keeps wish.Sort b = keeps-mode Sorting b
 granted-keeps wish.Seek b = keeps-typing Seeking _ b
 granted-keeps wish.SeekOn b = keeps-found (next_found b) b
 granted-keeps wish.SeekBack b = keeps-found (previous_found b) b
-granted-keeps wish.NoteCopy b = keeps-same b _ refl refl refl refl refl refl refl
-granted-keeps wish.NoteMove b = keeps-same b _ refl refl refl refl refl refl refl
-granted-keeps wish.Paste b = keeps-pasting b.noted b
-granted-keeps wish.Remove b = keeps-if (nat_lt 0 (length b.list)) b _ b (keeps-mode Removing b) (keeps-it b)
+granted-keeps wish.Mark b = keeps-marking b
+granted-keeps wish.Unmark b = keeps-unmarking b
+granted-keeps wish.NoteCopy b = keeps-noting (all_taken false b) b
+granted-keeps wish.NoteMove b = keeps-noting (all_taken true b) b
+granted-keeps wish.Paste b = keeps-pasting b.noted (length b.more) b
+granted-keeps wish.Remove b =
+    keeps-if (nat_lt 0 (length b.list)) b _ b (keeps-first Removing (first_mark_place b) b) (keeps-it b)
 granted-keeps wish.Quit b = keeps-mode Over b
 
 sure-if : (test : Bool) (b c d : Browser) → c.is_sure ≡ b.is_sure → d.is_sure ≡ b.is_sure → (if test then c else d).is_sure ≡ b.is_sure
@@ -163,10 +221,15 @@ sure-found : (found : Option ℕ) (b : Browser) → (found_selected found b).is_
 sure-found None b = refl
 sure-found (Some place) b = refl
 
-sure-pasting : (noted : Option Noted) (b : Browser)
-    → (option_map_or (λ it. typing_in Pasting (typing_name it.name) b) noted b).is_sure ≡ b.is_sure
-sure-pasting None b = refl
-sure-pasting (Some noted) b = refl
+sure-pasting : (noted : Option Noted) (n : ℕ) (b : Browser)
+    → (option_map_or (λ it. typing_in Pasting (typing_name it.name) (record b { left = n })) noted (record b { left = n })).is_sure
+    ≡ b.is_sure
+sure-pasting None n b = refl
+sure-pasting (Some noted) n b = refl
+
+sure-first : (mode : Mode) (found : Option ℕ) (b : Browser) → (record (found_selected found b) { mode = mode }).is_sure ≡ b.is_sure
+sure-first mode None b = refl
+sure-first mode (Some place) b = refl
 
 sure-entered : (b : Browser) → (entered b).is_sure ≡ b.is_sure
 sure-entered b = sure-if (is_folder_selected b) b _ b refl refl
@@ -198,15 +261,17 @@ granted-sure wish.Leave b = search rules
 granted-sure wish.Hidden b = refl
 granted-sure wish.Rename b = search rules
 granted-sure wish.Make b = refl
-granted-sure wish.Trash b = sure-if (is_some b.trash && nat_lt 0 (length b.list)) b _ b refl refl
+granted-sure wish.Trash b = sure-if (is_some b.trash && nat_lt 0 (length b.list)) b _ b (sure-first Trashing (first_mark_place b) b) refl
 granted-sure wish.Sort b = refl
 granted-sure wish.Seek b = refl
 granted-sure wish.SeekOn b = sure-found (next_found b) b
 granted-sure wish.SeekBack b = sure-found (previous_found b) b
+granted-sure wish.Mark b = refl
+granted-sure wish.Unmark b = refl
 granted-sure wish.NoteCopy b = refl
 granted-sure wish.NoteMove b = refl
-granted-sure wish.Paste b = sure-pasting b.noted b
-granted-sure wish.Remove b = search rules
+granted-sure wish.Paste b = sure-pasting b.noted (length b.more) b
+granted-sure wish.Remove b = sure-if (nat_lt 0 (length b.list)) b _ b (sure-first Removing (first_mark_place b) b) refl
 granted-sure wish.Quit b = refl
 
 wished-keeps : (w : Wish) (b : Browser) → Keeps b (wished w b)
@@ -215,6 +280,7 @@ wished-keeps w b = let k = granted-keeps w b in record {
   list = k.list;
   unnamed = k.unnamed;
   placed = λ p. placed-same (granted w b) _ refl refl refl refl (k.placed p);
+  marks = k.marks;
   sure = inl (granted-sure w b);
 }
 
@@ -227,9 +293,10 @@ confirmed-by true true b may q w = record {
   list = refl;
   unnamed = refl;
   placed = λ p. placed-same b _ refl refl refl refl p;
+  marks = λ all. all;
   sure = inr (record { may = may; quiet = q; whole = w; is = refl });
 }
-confirmed-by true false b may q w = keeps-same b _ refl refl refl refl refl refl refl
+confirmed-by true false b may q w = keeps-same b _ refl refl refl refl refl refl refl refl
 
 confirmed-keeps : (b : Browser) → asks_in b.mode true ≡ true → Keeps b (confirmed b)
 confirmed-keeps b may = confirmed-by b.is_quiet (fits b.size.width b) b may refl refl
@@ -242,28 +309,29 @@ typed-keeps Ignore b may = keeps-it b
 
 -- a text is sought
 keeps-sought : (found : Option ℕ) (b c : Browser) → c.list ≡ b.list → c.folder ≡ b.folder → c.unnamed ≡ b.unnamed → c.size ≡ b.size
-    → c.selected ≡ b.selected → c.top ≡ b.top → c.is_sure ≡ b.is_sure
+    → c.selected ≡ b.selected → c.top ≡ b.top → c.is_sure ≡ b.is_sure → c.marks ≡ b.marks
     → Keeps b (record (found_selected found c) { note = found_note found })
-keeps-sought None b c list folder unnamed size selected top sure =
-    keeps-same b _ folder list unnamed size selected top sure
-keeps-sought (Some place) b c list folder unnamed size selected top sure = record {
+keeps-sought None b c list folder unnamed size selected top sure marks =
+    keeps-same b _ folder list unnamed size selected top sure marks
+keeps-sought (Some place) b c list folder unnamed size selected top sure marks = record {
   folder = folder;
   list = list;
   unnamed = unnamed;
   placed = λ p. placed-same (selected_at place c) _ refl refl refl refl (selected-placed place c);
+  marks = marks-kept b c list marks;
   sure = inl sure;
 }
 
 sought-keeps : (t : Typing) (b : Browser) → Keeps b (sought_into t b)
 sought-keeps (Change edit) b = keeps-typing b.mode _ b
 sought-keeps Accept b =
-    keeps-sought (next_found (seeking_typed b)) b (seeking_typed b) refl refl refl refl refl refl refl
+    keeps-sought (next_found (seeking_typed b)) b (seeking_typed b) refl refl refl refl refl refl refl refl
 sought-keeps Cancel b = keeps-mode Looking b
 sought-keeps Ignore b = keeps-it b
 
 order-keeps : (o : Option Order) (b : Browser) → Keeps b (order_taken o b)
 order-keeps None b = keeps-mode Looking b
-order-keeps (Some order) b = keeps-same b _ refl refl refl refl refl refl refl
+order-keeps (Some order) b = keeps-same b _ refl refl refl refl refl refl refl refl
 
 may-be : (mode : Mode) (b : Browser) → b.mode ≡ mode → asks_in mode true ≡ true → asks_in b.mode true ≡ true
 may-be mode b at may = ap (λ m. asks_in m true) at ∙ may
@@ -273,7 +341,7 @@ answered-keeps e b may = keeps-if (says_yes e) b _ _ (confirmed-keeps b may) (ke
 
 help-keeps : (b : Browser) → Keeps b (help_left b)
 help-keeps b = keeps-if (nat_lt 0 (list_rows b) && nat_lt (list_rows b) (help_rows - b.helped)) b _ _
-    (keeps-same b _ refl refl refl refl refl refl refl) (keeps-mode Looking b)
+    (keeps-same b _ refl refl refl refl refl refl refl refl) (keeps-mode Looking b)
 
 browsed-keeps : (mode : Mode) (e : Event) (b : Browser) → b.mode ≡ mode → Keeps b (browsed mode e b)
 browsed-keeps Looking e b at = wished-keeps (event_wish e) b
@@ -299,6 +367,10 @@ sized-folder : (size : Option (ℕ × ℕ)) (b : Browser) → ListsSame b (brows
 sized-folder None b = record { folder = refl; list = refl; unnamed = refl }
 sized-folder (Some size) b = record { folder = refl; list = refl; unnamed = refl }
 
+sized-marks : (size : Option (ℕ × ℕ)) (b : Browser) → AreMarksListed b → AreMarksListed (browser_at_told_size size b)
+sized-marks None b all = all
+sized-marks (Some size) b all = all
+
 sized-placed : (size : Option (ℕ × ℕ)) (b : Browser) → IsPlaced b → IsPlaced (browser_at_told_size size b)
 sized-placed None b p = p
 sized-placed (Some size) b p = scrolled_list-placed (record b {
@@ -316,6 +388,15 @@ told-placed : (input : Bool) (e : Event) (b : Browser) → IsPlaced b → IsPlac
 told-placed true e b p = placed-same (browsed b.mode e b) _ refl refl refl refl ((browsed-keeps b.mode e b refl).placed p)
 told-placed false e b p = sized-placed (size_in e) b p
 
+told-marks : (input : Bool) (e : Event) (b : Browser) → AreMarksListed b → AreMarksListed
+    (if input then record (browsed b.mode e b) { is_quiet = false } else browser_at_told_size (size_in e) b)
+told-marks true e b all = (browsed-keeps b.mode e b refl).marks all
+told-marks false e b all = sized-marks (size_in e) b all
+
+pub event-marks : (b : Browser) (e : Event) → AreMarksListed b → AreMarksListed (browsed_after b (message.Event e))
+unfolding browsed_after
+event-marks b e all = told-marks (is_input e) e b all
+
 pub event-folder : (b : Browser) (e : Event) → ListsSame b (browsed_after b (message.Event e))
 unfolding browsed_after
 event-folder b e = told-folder (is_input e) e b
@@ -323,11 +404,79 @@ event-folder b e = told-folder (is_input e) e b
 pub placed-first : (alloc : Global) (title : List ℕ) (size : Size) → IsPlaced (new_browser alloc title size)
 placed-first alloc title size = record { within = omega arith; above = omega arith; below = λ some. omega arith }
 
+-- what follows a change that was done keeps the list
+pub record GoesOn (b c : Browser) : Type 0 where
+  pub folder : c.folder ≡ b.folder
+  pub list : c.list ≡ b.list
+  pub unnamed : c.unnamed ≡ b.unnamed
+  pub placed : IsPlaced b → IsPlaced c
+  pub marks : AreMarksListed b → AreMarksListed c
+
+goes-same : (b : Browser) → GoesOn b b
+goes-same b = record { folder = refl; list = refl; unnamed = refl; placed = λ p. p; marks = λ all. all }
+
+goes-found : (found : Option ℕ) (name : List ℕ) (next : Mode) (b : Browser)
+    → GoesOn b (record (found_selected found (record b { marks = marks_but name b.marks })) { follows = next })
+goes-found None name next b = record {
+  folder = refl;
+  list = refl;
+  unnamed = refl;
+  placed = λ p. placed-same b _ refl refl refl refl p;
+  marks = All-filter (λ mark. not (is_mark_named name mark)) (IsMarkListed b.list) b.marks;
+}
+goes-found (Some place) name next b =
+    let c = record b { marks = marks_but name b.marks } in record {
+      folder = refl;
+      list = refl;
+      unnamed = refl;
+      placed = λ p. placed-same (selected_at place c) _ refl refl refl refl (selected-placed place c);
+      marks = All-filter (λ mark. not (is_mark_named name mark)) (IsMarkListed b.list) b.marks;
+    }
+
+goes-removing : (mode : Mode) (b : Browser) → GoesOn b (removals_go_on mode b)
+goes-removing mode b =
+    goes-found (first_mark_place (record b { marks = marks_but (selected_text b) b.marks })) (selected_text b) _ b
+
+pub goes-on : (mode : Mode) (b : Browser) → GoesOn b (gone_on mode b)
+goes-on Trashing b = goes-removing Trashing b
+goes-on Removing b = goes-removing Removing b
+goes-on Pasting b = record {
+  folder = refl;
+  list = refl;
+  unnamed = refl;
+  placed = λ p. placed-same b _ refl refl refl refl p;
+  marks = λ all. all;
+}
+goes-on Looking b = goes-same b
+goes-on Listing b = goes-same b
+goes-on Entering b = goes-same b
+goes-on Leaving b = goes-same b
+goes-on Returning b = goes-same b
+goes-on Renaming b = goes-same b
+goes-on Making b = goes-same b
+goes-on Sorting b = goes-same b
+goes-on Seeking b = goes-same b
+goes-on Undoing b = goes-same b
+goes-on Helping b = goes-same b
+goes-on Over b = goes-same b
+goes-on Chosen b = goes-same b
+
+pub done-folder : (b : Browser) → ListsSame b (browsed_after b (message.Answer outcome.Done))
+unfolding browsed_after
+done-folder b = let k = goes-on b.mode b in record { folder = k.folder; list = k.list; unnamed = k.unnamed }
+
 outcome-placed : (o : Outcome) (b : Browser) → IsPlaced b → IsPlaced (outcome_told o b)
 outcome-placed (outcome.Listed l) b p =
-    let c = record b { folder = l.folder; list = l.rows; unnamed = l.unnamed; seeks_typed = false; mode = Looking } in
-    placed-same (selected_at l.place c) _ refl refl refl refl (selected-placed l.place c)
-outcome-placed outcome.Done b p = placed-same b _ refl refl refl refl p
+    placed-same (folder_shown l b) _ refl refl refl refl (selected-placed l.place (record b {
+      folder = l.folder;
+      list = l.rows;
+      unnamed = l.unnamed;
+      marks = marks_left l b;
+      follows = Looking;
+      seeks_typed = false;
+      mode = Looking;
+    }))
+outcome-placed outcome.Done b p = placed-same (gone_on b.mode b) _ refl refl refl refl ((goes-on b.mode b).placed p)
 outcome-placed (outcome.Failed why) b p = placed-same b _ refl refl refl refl p
 
 pub placed-next : (b : Browser) (m : Message Outcome) → IsPlaced b → IsPlaced (browsed_after b m)

@@ -4,12 +4,14 @@ pub mod KeyLemmas
 pub mod OrderLemmas
 pub mod FindLemmas
 pub mod StayLemmas
+pub mod MarkLemmas
 pub mod MoveLemmas
 pub mod NameLemmas
 pub mod DiscardLemmas
 pub mod TrashLemmas
 pub mod HelpLemmas
 pub mod LawLemmas
+pub mod SeriesLemmas
 pub mod QuestionLemmas
 pub mod SoundLemmas
 pub mod RunLemmas

@@ -24,11 +24,11 @@ pub asked-shown : (b : Browser) (w : Wanted) → b.seeks_typed ≡ false → Lis
 asked-shown b w none shown = rw none at shown.name
 
 -- a row with a name, in a list, has this text
-text-by : (name : List ℕ) (o : Option Row) → HasName name o → option_map_or (λ row. string_bytes row.name) o [] ≡ name
+pub text-by : (name : List ℕ) (o : Option Row) → HasName name o → option_map_or (λ row. string_bytes row.name) o [] ≡ name
 text-by name None has = absurd has
 text-by name (Some row) has = has
 
-within-by : (name : List ℕ) (rows : List Row) (k : ℕ) (o : Option Row) → slice_get rows k ≡ o → HasName name o → k < length rows
+pub within-by : (name : List ℕ) (rows : List Row) (k : ℕ) (o : Option Row) → slice_get rows k ≡ o → HasName name o → k < length rows
 within-by name rows k None is has = absurd has
 within-by name rows k (Some row) is has = slice_get_within rows k row is
 

@@ -39,8 +39,8 @@ abbrev pub lists_letter : ℕ → ℕ → ℕ → Wish → ℕ → LetterEntry
 lists_letter row word letter wish column =
     record { row = row; word = word; name = letter ∷ []; letter = letter; wish = wish; column = column }
 
-abbrev pub lists_control : ℕ → ℕ → List ℕ → ℕ → Wish → ℕ → LetterEntry
-lists_control row word name letter wish column =
+abbrev pub lists_named : ℕ → ℕ → List ℕ → ℕ → Wish → ℕ → LetterEntry
+lists_named row word name letter wish column =
     record { row = row; word = word; name = name; letter = letter; wish = wish; column = column }
 
 abbrev pub lists_key : ℕ → ℕ → List ℕ → KeyCode → Wish → ℕ → KeyEntry
@@ -65,6 +65,8 @@ key_words wish.Sort = codes "by name, size, date;"
 key_words wish.Seek = codes "seeks a text in names"
 key_words wish.SeekOn = codes "next"
 key_words wish.SeekBack = codes "previous found"
+key_words wish.Mark = codes "marks"
+key_words wish.Unmark = codes "unmarks all"
 key_words wish.NoteCopy = codes "notes to copy"
 key_words wish.NoteMove = codes "to move"
 key_words wish.Paste = codes "pastes what is noted"
@@ -75,7 +77,7 @@ key_words wish.Remove = codes "for good"
 key_words wish.Undo = codes "undoes the last move"
 key_words wish.Help = codes "this list"
 key_words wish.Quit = codes "the end"
-key_words wish.Choose = codes "the end, told where"
+key_words wish.Choose = codes "told where"
 key_words _ = []
 
 -- letters, letters with Control, and other keys; words are parted by one blank each, so that there is an
@@ -94,24 +96,25 @@ key_letters =
     ∷ lists_letter 10 0 (byte "/") wish.Seek 16
     ∷ lists_letter 11 0 (byte "n") wish.SeekOn 16
     ∷ lists_letter 11 1 (byte "N") wish.SeekBack 22
-    ∷ lists_letter 12 0 (byte "y") wish.NoteCopy 16
-    ∷ lists_letter 12 1 (byte "d") wish.NoteMove 31
-    ∷ lists_letter 13 0 (byte "p") wish.Paste 16
-    ∷ lists_letter 14 0 (byte "r") wish.Rename 16
-    ∷ lists_letter 15 0 (byte "a") wish.Make 16
-    ∷ lists_letter 16 0 (byte "D") wish.Trash 16
-    ∷ lists_letter 16 1 (byte "X") wish.Remove 30
-    ∷ lists_letter 17 0 (byte "z") wish.Undo 16
-    ∷ lists_letter 19 0 (byte "?") wish.Help 16
-    ∷ lists_letter 20 0 (byte "q") wish.Quit 16
-    ∷ lists_letter 21 0 (byte "Q") wish.Choose 16
+    ∷ lists_named 12 0 (codes "Space") (byte " ") wish.Mark 16
+    ∷ lists_letter 13 0 (byte "y") wish.NoteCopy 16
+    ∷ lists_letter 13 1 (byte "d") wish.NoteMove 31
+    ∷ lists_letter 14 0 (byte "p") wish.Paste 16
+    ∷ lists_letter 15 0 (byte "r") wish.Rename 16
+    ∷ lists_letter 16 0 (byte "a") wish.Make 16
+    ∷ lists_letter 17 0 (byte "D") wish.Trash 16
+    ∷ lists_letter 17 1 (byte "X") wish.Remove 30
+    ∷ lists_letter 18 0 (byte "z") wish.Undo 16
+    ∷ lists_letter 20 0 (byte "?") wish.Help 16
+    ∷ lists_letter 21 0 (byte "q") wish.Quit 16
+    ∷ lists_letter 21 4 (byte "Q") wish.Choose 25
     ∷ []
 
 abbrev pub key_controls : List LetterEntry
 key_controls =
-    lists_control 2 0 (codes "Ctrl+D") (byte "d") wish.HalfDown 16
-    ∷ lists_control 2 1 (codes "Ctrl+U") (byte "u") wish.HalfUp 34
-    ∷ lists_control 20 2 (codes "Ctrl+C") (byte "c") wish.Quit 16
+    lists_named 2 0 (codes "Ctrl+D") (byte "d") wish.HalfDown 16
+    ∷ lists_named 2 1 (codes "Ctrl+U") (byte "u") wish.HalfUp 34
+    ∷ lists_named 21 2 (codes "Ctrl+C") (byte "c") wish.Quit 16
     ∷ []
 
 abbrev pub key_others : List KeyEntry
@@ -126,7 +129,8 @@ key_others =
     ∷ lists_key 4 3 (codes "Right") key.Right wish.Enter 16
     ∷ lists_key 5 2 (codes "Back") key.Backspace wish.Leave 16
     ∷ lists_key 5 3 (codes "Left") key.Left wish.Leave 16
-    ∷ lists_key 19 2 (codes "F1") (key.F 1) wish.Help 16
+    ∷ lists_key 20 2 (codes "F1") (key.F 1) wish.Help 16
+    ∷ lists_key 12 2 (codes "Esc") key.Esc wish.Unmark 23
     ∷ []
 
 abbrev pub key_table : List KeyEntry

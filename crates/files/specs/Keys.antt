@@ -18,7 +18,7 @@ use Rattle.files.specs.declared.keys.Wish.TheVariants.{Nothing, Down, Up, PageDo
 use Rattle.files.specs.declared.keys.Wish.TheVariants.{ToFirst, ToLast, Enter, Leave, Hidden, Rename, Make}
 use Rattle.files.specs.declared.keys.Wish.TheVariants.{Trash, Remove, Quit, Sort, Seek, SeekOn, SeekBack}
 use Rattle.files.specs.declared.keys.Wish.TheVariants.{NoteCopy, NoteMove, Paste, WheelDown, WheelUp, Click}
-use Rattle.files.specs.declared.keys.Wish.TheVariants.{Base, Undo, Help, Choose}
+use Rattle.files.specs.declared.keys.Wish.TheVariants.{Base, Undo, Help, Choose, Mark, Unmark}
 use Rattle.files.specs.declared.order.Order.{Order}
 use Rattle.files.specs.declared.order.SortBy.{SortBy}
 use Rattle.files.specs.declared.order.SortBy.TheVariants.{Name, Size, Date}
@@ -29,9 +29,9 @@ use Rattle.text_field.specs.Keys.{edit_of}
 
 -- characters: j, k, g, G move; l enters a folder, h leaves it, and the tilde leads to the one that all is
 -- in; the dot shows hidden entries; r and a rename and make a folder; D puts into the trash, and X removes
--- for good; s sorts; a slash seeks a text in names, and n and N go on; y and d note what is to be copied
--- and moved, and p does it; z takes back what was renamed or moved last; a question mark shows the keys; q
--- ends, and Q tells the folder
+-- for good; s sorts; a slash seeks a text in names, and n and N go on; a blank marks; y and d note what is to
+-- be copied and moved, and p does it; z takes back what was renamed or moved last; a question mark shows the
+-- keys; q ends, and Q tells the folder
 abbrev pub character_wish : ℕ → Wish
 character_wish c =
     if c == byte "j" then Down
@@ -46,6 +46,7 @@ character_wish c =
     else if c == byte "/" then Seek
     else if c == byte "n" then SeekOn
     else if c == byte "N" then SeekBack
+    else if c == byte " " then Mark
     else if c == byte "y" then NoteCopy
     else if c == byte "d" then NoteMove
     else if c == byte "p" then Paste
@@ -89,6 +90,7 @@ code_wish key.PageDown = PageDown
 code_wish key.PageUp = PageUp
 code_wish key.Home = ToFirst
 code_wish key.End = ToLast
+code_wish key.Esc = Unmark
 code_wish _ = Nothing
 
 -- Control is held, and nothing else

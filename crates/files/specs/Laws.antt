@@ -7,10 +7,10 @@ use Rattle.files.specs.declared.list.Outcome.{Outcome}
 use Rattle.files.specs.declared.trash.Discard.{Discard}
 use Rattle.files.specs.declared.browser.Browser.{Browser}
 use Rattle.files.specs.declared.browser.Mode.{Mode}
-use Rattle.files.specs.declared.browser.Mode.TheVariants.{Trashing, Removing, Renaming, Making, Pasting, Undoing}
+use Rattle.files.specs.declared.browser.Mode.TheVariants.{Listing, Trashing, Removing, Renaming, Making, Pasting, Undoing}
 use Rattle.files.specs.Moves.{last_row_place, list_rows, asks, browsed_after, browser_asked, is_over}
 use Rattle.files.specs.Names.{shown_name}
-use Rattle.files.specs.Texts.{shown_row, status_told, fits}
+use Rattle.files.specs.Texts.{shown_row, selected_text, status_told, fits}
 
 -- the selection is an entry of the list, unless that is empty, and stands in one of its rows, if there are some
 pub record IsPlaced (b : Browser) : Type 0 where
@@ -57,6 +57,17 @@ pub record AsksToUndo (b : Browser) (from to : List ℕ) : Type 0 where
   pub asks : status_told b
       ≡ codes "move \"" ++ (codes "/" ++ shown_name from) ++ codes "\" back to \"" ++ (codes "/" ++ shown_name to)
       ++ codes "\"? y/n"
+
+-- an entry is selected, by its name, and this is asked about it
+pub record AsksAbout (question : Mode) (name : List ℕ) (b : Browser) : Type 0 where
+  pub mode : b.mode ≡ question
+  pub entry : selected_text b ≡ name
+
+-- the folder is listed anew, and then this is asked about an entry that is selected, by its name
+pub record WillAskAbout (question : Mode) (name : List ℕ) (b : Browser) : Type 0 where
+  pub mode : b.mode ≡ Listing
+  pub entry : selected_text b ≡ name
+  pub follows : b.follows ≡ question
 
 -- nothing is sure, or a question is that the screen shows whole
 abbrev pub IsSound : Browser → Type 0

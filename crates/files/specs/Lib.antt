@@ -4,6 +4,7 @@ pub mod HelpTable
 pub mod Names
 pub mod NameKeys
 pub mod Orders
+pub mod Marks
 pub mod Texts
 pub mod Dates
 pub mod Trash

@@ -1,8 +1,10 @@
 -- What each event and each answer makes of a browser.
 use Rattle.std.specs.Prelude.{ℕ, zero, suc, Bool, true, false, not, ◌+◌, ◌-◌, ◌/◌, ◌==◌, ◌&&◌, ◌||◌, min, max, nat_lt}
 use Rattle.std.specs.Prelude.{if◌then◌else◌, List, [], length, Option, Some, None, option_map, is_some, slice_get, get_or, string_bytes, nat_le}
+use Rattle.std.specs.Prelude.{drop, filter_map, ◌++◌}
 use Rattle.std.specs.Str.{byte, bytes_eq}
-use Rattle.std.specs.Option.{option_map_or, option_and_then, option_or}
+use Rattle.std.specs.List.{list_any}
+use Rattle.std.specs.Option.{option_map_or, option_and_then, option_or, option_to_list}
 use Rattle.std.specs.declared.alloc.Global.{Global}
 use Rattle.ratatui_core.specs.Layout.{Size}
 use Rattle.ratatui_events.specs.declared.event.Event.{Event}
@@ -33,6 +35,8 @@ use Rattle.files.specs.declared.list.Outcome.{Outcome}
 use Rattle.files.specs.declared.list.Outcome.TheVariants as outcome
 use Rattle.files.specs.Keys.{event_wish, event_typing, event_order, is_input, says_yes}
 use Rattle.files.specs.Finding.{next_named, previous_named}
+use Rattle.files.specs.declared.marks.Mark.{Mark}
+use Rattle.files.specs.Marks.{is_selected_marked, marks_turned, marks_but, marks_left, first_mark_place}
 use Rattle.files.specs.declared.undo.Moved.{Moved}
 use Rattle.ratatui_files.specs.declared.command.Command.{Command}
 use Rattle.ratatui_files.specs.declared.command.Command.TheVariants.{Rename}
@@ -62,6 +66,10 @@ new_browser alloc title size = record {
   note = Place;
   sought = [];
   noted = None;
+  more = [];
+  left = 0;
+  marks = [];
+  follows = Looking;
   last_move = None;
   helped = 0;
   typed = new_field;
@@ -103,6 +111,14 @@ selection_moved wish.WheelUp b = selected_at (b.selected - 3) b
 selection_moved wish.ToFirst b = selected_at 0 b
 selection_moved wish.ToLast b = selected_at (last_row_place b) b
 selection_moved _ b = b
+
+-- the entry that was marked first is selected, if one is marked
+abbrev pub first_mark_selected : Browser → Browser
+first_mark_selected b = option_map_or (λ place. selected_at place b) (first_mark_place b) b
+
+-- the entry that is selected is marked, or no longer, and the next one is selected
+abbrev pub marking : Browser → Browser
+marking b = selected_at (b.selected + 1) (record b { marks = marks_turned b })
 
 -- ---- wishes
 
@@ -166,15 +182,18 @@ went wish.Leave b = if bytes_eq b.folder b.base then b else record b { mode = Le
 went wish.Base b = if bytes_eq b.folder b.base then b else record b { mode = Returning }
 went wish.Hidden b = record b { has_hidden = not b.has_hidden; mode = Listing }
 went wish.Sort b = record b { mode = Sorting }
-went wish.Remove b = if nat_lt 0 (length b.list) then record b { mode = Removing } else b
+went wish.Remove b = if nat_lt 0 (length b.list) then record (first_mark_selected b) { mode = Removing } else b
+went wish.Unmark b = record b { marks = [] }
 went wish.Help b = record b { mode = Helping; helped = 0 }
 went wish.Quit b = record b { mode = Over }
 went wish.Choose b = record b { mode = Chosen }
 went other b = selection_moved other b
 
--- the question whether the entry that is selected is to be put into the trash, if there is one
+-- the question whether an entry is to be put into the trash, if there is one: the one that was marked first, or
+-- else the one that is selected
 abbrev pub asking_to_trash : Browser → Browser
-asking_to_trash b = if is_some b.trash && nat_lt 0 (length b.list) then record b { mode = Trashing } else b
+asking_to_trash b =
+    if is_some b.trash && nat_lt 0 (length b.list) then record (first_mark_selected b) { mode = Trashing } else b
 
 abbrev pub trash_note : Option (List ℕ) → Note
 trash_note (Some trash) = Place
@@ -233,16 +252,39 @@ taken_row is_moved b row =
 abbrev pub taken : Bool → Browser → Option Noted
 taken is_moved b = option_and_then (taken_row is_moved b) (slice_get b.list b.selected)
 
+-- the entries that are marked, if they can all be
+abbrev pub mark_taken : Bool → Browser → Mark → Option Noted
+mark_taken is_moved b mark =
+    option_map (λ path. record { path = path; name = mark.name; is_moved = is_moved }) (named_path b mark.name)
+
+abbrev pub marks_taken : Bool → Browser → List Noted
+marks_taken is_moved b =
+    if not is_moved && list_any (λ mark. not mark.is_leaf) b.marks then []
+    else filter_map (mark_taken is_moved b) b.marks
+
+-- those that are marked, or else the one that is selected
+abbrev pub all_taken : Bool → Browser → List Noted
+all_taken is_moved b =
+    if length b.marks == 0 then option_to_list (taken is_moved b) else marks_taken is_moved b
+
+-- these are noted, and then none is marked any longer
+abbrev pub noting : List Noted → Browser → Browser
+noting all b =
+    record b { noted = slice_get all 0; more = drop 1 all; marks = if length all == 0 then b.marks else [] }
+
 abbrev pub note_taken : Bool → Browser → Browser
-note_taken is_moved b = record b { noted = taken is_moved b }
+note_taken is_moved b = noting (all_taken is_moved b) b
 
 abbrev pub noted_note : Option Noted → Note
 noted_note (Some noted) = TellsNoted
 noted_note None = NothingNoted
 
--- the name is typed under which what is noted comes here
+-- the name is typed under which what is noted comes here; and then as many as there are more
+abbrev pub typing_noted : Browser → Browser
+typing_noted b = option_map_or (λ noted. typing_in Pasting (typing_name noted.name) b) b.noted b
+
 abbrev pub pasting : Browser → Browser
-pasting b = option_map_or (λ noted. typing_in Pasting (typing_name noted.name) b) b.noted b
+pasting b = typing_noted (record b { left = length b.more })
 
 abbrev pub paste_note : Option Noted → Note
 paste_note (Some noted) = Place
@@ -253,9 +295,9 @@ abbrev pub noted_unless : Bool → Noted → Option Noted
 noted_unless true noted = None
 noted_unless false noted = Some noted
 
-abbrev pub noted_left : Mode → Option Noted → Option Noted
-noted_left Pasting noted = option_and_then (λ it. noted_unless it.is_moved it) noted
-noted_left _ noted = noted
+-- what is noted once what was noted first is pasted: the others, and what was copied, after them
+abbrev pub noted_after : Browser → List Noted
+noted_after b = b.more ++ option_to_list (option_and_then (λ it. noted_unless it.is_moved it) b.noted)
 
 -- ---- what is wished
 
@@ -264,6 +306,7 @@ abbrev pub granted : Wish → Browser → Browser
 granted wish.Seek b = typing_in Seeking new_field b
 granted wish.SeekOn b = found_selected (next_found b) b
 granted wish.SeekBack b = found_selected (previous_found b) b
+granted wish.Mark b = marking b
 granted wish.NoteCopy b = note_taken false b
 granted wish.NoteMove b = note_taken true b
 granted wish.Paste b = pasting b
@@ -278,8 +321,8 @@ note_of wish.Trash b = trash_note b.trash
 note_of wish.Undo b = undo_note b.last_move
 note_of wish.SeekOn b = found_note (next_found b)
 note_of wish.SeekBack b = found_note (previous_found b)
-note_of wish.NoteCopy b = noted_note (taken false b)
-note_of wish.NoteMove b = noted_note (taken true b)
+note_of wish.NoteCopy b = noted_note (slice_get (all_taken false b) 0)
+note_of wish.NoteMove b = noted_note (slice_get (all_taken true b) 0)
 note_of wish.Paste b = paste_note b.noted
 note_of _ b = Place
 
@@ -366,33 +409,87 @@ move_by _ = None
 abbrev pub move_made : Browser → Option Moved
 move_made b = option_and_then move_by (change_in b.mode b)
 
-abbrev pub move_noted : Browser → Browser
-move_noted b = record b { last_move = option_or (move_made b) b.last_move }
+-- a removal was done: its entry is marked no longer, and the one that was marked next is selected, whose question
+-- follows
+abbrev pub next_marked : Browser → Browser
+next_marked b = first_mark_selected (record b { marks = marks_but (selected_text b) b.marks })
+
+abbrev pub removals_go_on : Mode → Browser → Browser
+removals_go_on mode b =
+    let c = next_marked b in record c { follows = if length c.marks == 0 then Looking else mode }
+
+-- something was pasted: what is noted next follows, if there was more
+abbrev pub pastes_go_on : Browser → Browser
+pastes_go_on b = record b {
+  noted = slice_get (noted_after b) 0;
+  more = drop 1 (noted_after b);
+  left = b.left - 1;
+  follows = if b.left == 0 then Looking else Pasting;
+}
+
+abbrev pub gone_on : Mode → Browser → Browser
+gone_on Trashing b = removals_go_on Trashing b
+gone_on Removing b = removals_go_on Removing b
+gone_on Pasting b = pastes_go_on b
+gone_on _ b = b
 
 -- a change was done: the folder is listed anew
 abbrev pub finished : Browser → Browser
-finished b = record (move_noted b) {
+finished b = record (gone_on b.mode b) {
+  last_move = option_or (move_made b) b.last_move;
   mode = Listing;
   seeks_typed = names_typed b.mode;
-  noted = noted_left b.mode b.noted;
 }
 
 -- what stands in a folder is shown
-abbrev pub listing_shown : ListingData → Browser → Browser
-listing_shown l b = selected_at l.place (record b {
+abbrev pub folder_shown : ListingData → Browser → Browser
+folder_shown l b = selected_at l.place (record b {
   folder = l.folder;
   list = l.rows;
   unnamed = l.unnamed;
+  marks = marks_left l b;
+  follows = Looking;
   seeks_typed = false;
   mode = Looking;
 })
+
+-- the question that follows: whether the entry that is selected is to be removed, if it is marked; or under which
+-- name what is noted next comes here
+abbrev pub mode_following : Mode → Browser → Mode
+mode_following Trashing b = if is_selected_marked b then Trashing else Looking
+mode_following Removing b = if is_selected_marked b then Removing else Looking
+mode_following Pasting b = if is_some b.noted then Pasting else Looking
+mode_following _ b = Looking
+
+abbrev pub is_paste : Mode → Bool
+is_paste Pasting = true
+is_paste _ = false
+
+abbrev pub typed_following : Mode → Browser → FieldData
+typed_following next b =
+    if is_paste next then option_map_or (λ noted. typing_name noted.name) b.noted b.typed else b.typed
+
+abbrev pub column_following : Mode → Browser → ℕ
+column_following next b =
+    if is_paste next then option_map_or (λ noted. column_in Pasting (typing_name noted.name) b) b.noted b.column
+    else b.column
+
+abbrev pub asking_next : Mode → Browser → Browser
+asking_next next b = record b {
+  mode = mode_following next b;
+  typed = typed_following next b;
+  column = column_following next b;
+}
+
+abbrev pub listing_shown : ListingData → Browser → Browser
+listing_shown l b = asking_next b.follows (folder_shown l b)
 
 -- what is done leads to the folder anew, and what failed to its reason
 abbrev pub outcome_taken : Outcome → Browser → Browser
 outcome_taken (outcome.Listed l) b = listing_shown l b
 outcome_taken outcome.Done b = finished b
 outcome_taken (outcome.Failed failure) b =
-    record b { mode = Looking; seeks_typed = false; note = Failed b.mode failure }
+    record b { mode = Looking; follows = Looking; seeks_typed = false; note = Failed b.mode failure }
 
 abbrev pub outcome_told : Outcome → Browser → Browser
 outcome_told o b = record (outcome_taken o b) { is_sure = false; is_quiet = false }

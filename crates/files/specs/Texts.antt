@@ -22,6 +22,7 @@ use Rattle.files.specs.declared.order.SortBy.{SortBy}
 use Rattle.files.specs.declared.order.SortBy.TheVariants.{Name, Size, Date}
 use Rattle.ratatui_files.specs.Paths.{after_start}
 use Rattle.files.specs.Names.{shown_name}
+use Rattle.files.specs.Marks.{mark_lead}
 
 -- ---- the list
 
@@ -45,12 +46,16 @@ size_beside width text size =
     let gap = width - (text_columns text + length size) in
     if gap == 0 then [] else repeat gap (codes " ") ++ size
 
-abbrev pub row_told : ℕ → Row → List ℕ
-row_told width row = shown_row row ++ size_beside width (shown_row row) (file_size_text row.size)
+-- what stands before it, and the entry
+abbrev pub led_row : List ℕ → Row → List ℕ
+led_row lead row = lead ++ shown_row row
+
+abbrev pub row_told : ℕ → List ℕ → Row → List ℕ
+row_told width lead row = led_row lead row ++ size_beside width (led_row lead row) (file_size_text row.size)
 
 -- an entry in a row, if there is one
 abbrev pub entry_at : ℕ → ℕ → Browser → List ℕ
-entry_at width place b = option_map_or (row_told width) (slice_get b.list place) []
+entry_at width place b = option_map_or (λ row. row_told width (mark_lead b row) row) (slice_get b.list place) []
 
 -- ---- the title
 
@@ -95,11 +100,15 @@ sort_told Date true = codes ", the last date first"
 abbrev pub order_told : Order → List ℕ
 order_told order = sort_told order.by order.is_reversed
 
+-- how many entries are marked
+abbrev pub marked_text : ℕ → List ℕ
+marked_text n = if nat_lt 0 n then codes ", " ++ decimal n ++ codes " marked" else []
+
 -- which entry is selected, of how many, as `3/120`
 abbrev pub place_told : Browser → List ℕ
 place_told b =
     decimal (min (b.selected + 1) (length b.list)) ++ codes "/" ++ decimal (length b.list) ++ unnamed_text b.unnamed
-    ++ order_told b.order
+    ++ order_told b.order ++ marked_text (length b.marks)
 
 -- why something wasn't done
 abbrev pub failure_text : Failure → List ℕ
@@ -130,10 +139,15 @@ verb_if false = codes "copy"
 abbrev pub paste_verb : Option Noted → List ℕ
 paste_verb noted = verb_if (option_map_or (λ it. it.is_moved) noted false)
 
+-- how many more are noted
+abbrev pub more_text : ℕ → List ℕ
+more_text n = if nat_lt 0 n then codes " and " ++ decimal n ++ codes " more" else []
+
 -- what is noted, and how it comes to another folder
 abbrev pub paste_note_told : Browser → List ℕ
 paste_note_told b =
-    codes "p will " ++ paste_verb b.noted ++ codes " \"" ++ noted_shown b.noted ++ codes "\" here"
+    codes "p will " ++ paste_verb b.noted ++ codes " \"" ++ noted_shown b.noted ++ codes "\"" ++ more_text (length b.more)
+    ++ codes " here"
 
 -- no name has what is sought
 abbrev pub missing_told : Browser → List ℕ

@@ -2,12 +2,13 @@
 
 ghost use Rattle.std.specs.Prelude.{◌≡◌, false, Some, IfOk, OnOk, OnErr, option_map};
 ghost use Rattle.files.specs.Moves.{new_browser, within_folder, removal_answered, order_taken, browsed, browser_at_told_size, told, outcome_told, browsed_after};
-ghost use Rattle.files.specs.Moves.{asks, browser_asked, help_left, finished, chosen};
+ghost use Rattle.files.specs.Moves.{asks, browser_asked, help_left, gone_on, finished, chosen};
 
 use crate::help::HELP;
 use crate::keys::{is_input, order_of, says_yes, wish_of};
 use crate::list::{Outcome, Rows};
-use crate::notes::Noted;
+use crate::marks::Marks;
+use crate::notes::{Noted, Notes};
 use crate::order::{Order, SortBy};
 use crate::typing::typing_of;
 use crate::undo::Moved;
@@ -115,6 +116,13 @@ pub struct Browser {
     pub(crate) sought: Text,
     /// What is to be copied, or moved, if something is.
     pub(crate) noted: Option<Noted>,
+    /// What is noted beside it, and how much of that is still to be asked about.
+    pub(crate) more: Notes,
+    pub(crate) left: usize,
+    /// Which entries are marked.
+    pub(crate) marks: Marks,
+    /// What keys are taken for once the folder is listed: the next question, if one follows.
+    pub(crate) follows: Mode,
     /// What was renamed or moved last, if something was.
     pub(crate) last_move: Option<Moved>,
     /// The row of the list of the keys that is shown first.
@@ -153,6 +161,10 @@ impl Browser {
             note: Note::Place,
             sought: Text::new(String::new(alloc)),
             noted: None,
+            more: Notes::new(alloc),
+            left: 0,
+            marks: Marks::new(alloc),
+            follows: Mode::Looking,
             last_move: None,
             helped: 0,
             typed: TextField::new(alloc),
@@ -278,10 +290,24 @@ impl Browser {
         ensures ok { OnOk result (self.new ≡ finished self.old) }
         ensures err { OnErr result (self.new ≡ self.old) }
     {
-        self.note_move()?;
+        let moved = self.move_made()?;
+        self.go_on()?;
+        self.note_move(moved);
         self.seeks_typed = self.names_typed();
-        self.forget_moved();
         self.mode = Mode::Listing;
+        Ok(())
+    }
+
+    // Goes on to the question that follows a change that was done.
+    fn go_on(&mut self) -> Result<(), AllocError>
+        ensures ok { OnOk result (self.new ≡ gone_on self.old.mode self.old) }
+        ensures err { OnErr result (self.new ≡ self.old) }
+    {
+        match self.mode {
+            Mode::Trashing | Mode::Removing => self.go_on_removing(self.mode),
+            Mode::Pasting => self.go_on_pasting()?,
+            _ => {}
+        }
         Ok(())
     }
 
@@ -291,10 +317,11 @@ impl Browser {
         ensures err { OnErr result (self.new ≡ self.old) }
     {
         match outcome {
-            Outcome::Listed(listing) => self.take_listing(listing),
+            Outcome::Listed(listing) => self.take_listing(listing)?,
             Outcome::Done => self.finish()?,
             Outcome::Failed(failure) => {
                 self.seeks_typed = false;
+                self.follows = Mode::Looking;
                 self.note = Note::Failed(self.mode, failure);
                 self.mode = Mode::Looking;
             }

@@ -17,6 +17,7 @@ pub static HELP: [&str; 22] = [
     "      or N S D  the other way round",
     "/               seeks a text in names",
     "n N             next, previous found",
+    "Space  Esc      marks; unmarks all",
     "y d             notes to copy, to move",
     "p               pastes what is noted",
     "r               another name",
@@ -25,8 +26,7 @@ pub static HELP: [&str; 22] = [
     "z               undoes the last move",
     "wheel  click    moves; selects, opens",
     "?  F1           this list",
-    "q  Ctrl+C       the end",
-    "Q               the end, told where",
+    "q  Ctrl+C  Q    the end; told where",
 ];
 
 // A row of a list, and after it an empty one.

@@ -49,6 +49,10 @@ pub enum Wish {
     /// The next entry whose name has it, or the one before.
     SeekOn,
     SeekBack,
+    /// That the entry be marked, or no longer.
+    Mark,
+    /// That no entry be marked.
+    Unmark,
     /// That the entry be copied, or moved, to where `Paste` is asked for.
     NoteCopy,
     NoteMove,
@@ -95,6 +99,7 @@ fn character_wish(code: char) -> Wish
         '/' => Wish::Seek,
         'n' => Wish::SeekOn,
         'N' => Wish::SeekBack,
+        ' ' => Wish::Mark,
         'y' => Wish::NoteCopy,
         'd' => Wish::NoteMove,
         'p' => Wish::Paste,
@@ -148,6 +153,7 @@ fn code_wish(code: KeyCode) -> Wish
         KeyCode::PageUp => Wish::PageUp,
         KeyCode::Home => Wish::ToFirst,
         KeyCode::End => Wish::ToLast,
+        KeyCode::Esc => Wish::Unmark,
         _ => Wish::Nothing,
     }
 }

@@ -1,7 +1,7 @@
 //! Laws of browsers.
 
 ghost use Rattle.std.specs.Prelude.{◌≡◌, ◌≢◌, ◌⊎◌, ◌+◌, ◌<◌, ◌≤◌, ℕ, true, false, not, Some, None, List, length, filter, codes};
-ghost use Rattle.std.specs.Prelude.{IsSorted, slice_get, slice_index_or};
+ghost use Rattle.std.specs.Prelude.{IsSorted, slice_get, slice_index_or, is_some, option_to_list, if◌then◌else◌, [], ◌∷◌, ◌++◌};
 ghost use Rattle.std.specs.Ordering.{is_lt};
 ghost use Rattle.files.specs.declared.list.Row.{Row};
 ghost use Rattle.files.specs.declared.order.Order.{Order};
@@ -15,6 +15,11 @@ ghost use Rattle.ratatui_events.specs.declared.event.Event.TheVariants.{Key};
 ghost use Rattle.ratatui_events.specs.declared.key.KeyEvent.{KeyEvent};
 ghost use Rattle.files.specs.declared.keys.Wish.TheVariants.{Nothing};
 ghost use Rattle.files.specs.declared.undo.Moved.{Moved};
+ghost use Rattle.files.specs.declared.marks.Mark.{Mark};
+ghost use Rattle.files.specs.declared.notes.Noted.{Noted};
+ghost use Rattle.files.specs.declared.keys.Wish.TheVariants as wish;
+ghost use Rattle.files.specs.Marks.{marks_but, is_selected_marked, AreMarksListed};
+ghost use Rattle.files.specs.Moves.{wished, typing_name};
 ghost use Rattle.files.specs.declared.browser.Mode.TheVariants.{Helping, Undoing};
 ghost use Rattle.std.specs.List.{range_with_len};
 ghost use Rattle.percent_encoding.specs.AsciiSet.{should_percent_encode};
@@ -29,7 +34,7 @@ ghost use Rattle.ratatui_acts.specs.declared.message.Message.{Message};
 ghost use Rattle.ratatui_files.specs.declared.answer.Failure.{Failure};
 ghost use Rattle.ratatui_files.specs.declared.command.Command.TheVariants.{Rename, Copy, Remove, RemoveFolder};
 ghost use Rattle.files.specs.declared.browser.Browser.{Browser};
-ghost use Rattle.files.specs.declared.browser.Mode.TheVariants.{Listing, Sorting, Trashing, Removing};
+ghost use Rattle.files.specs.declared.browser.Mode.TheVariants.{Listing, Sorting, Trashing, Removing, Pasting};
 ghost use Rattle.files.specs.declared.trash.Discard.{Discard};
 ghost use Rattle.files.specs.declared.list.Listing.{Listing as ListingData};
 ghost use Rattle.files.specs.declared.list.Outcome.{Outcome};
@@ -43,6 +48,7 @@ ghost use Rattle.ratatui_acts.specs.Runs.{Now, Past, HasRun};
 ghost use Rattle.ratatui_app.specs.declared.on_glass.OnGlass.{OnGlass};
 ghost use Rattle.files.specs.RunLaws.{browsing_on, WereOnTheGlass, WereAsked};
 ghost use Rattle.files.specs.Laws.{IsSound, IsPlaced, ListsSame, AsksToRemove, AsksToRename, AsksToTrash, AsksToPaste, AsksToUndo};
+ghost use Rattle.files.specs.Laws.{AsksAbout, WillAskAbout};
 ghost use Rattle.files.specs.HelpTable.{key_table, AreListedKeys, HasEntryFor};
 
 use crate::browser::Browser;
@@ -172,6 +178,49 @@ pub fn the_help_names_the_keys()
 pub fn nothing_is_asked_while_the_keys_are_shown()
     ensures { (b : Browser) (e : Event) → b.mode ≡ Helping
         → asks (browsed_after b (message.Event e)) ≡ false }
+{}
+
+/// A mark is always of an entry that is listed.
+pub fn marks_are_of_entries_that_are_listed()
+    ensures first { (alloc : GlobalData) (title : List ℕ) (size : SizeData)
+        → AreMarksListed (new_browser alloc title size) }
+    ensures next { (b : Browser) (m : Message Outcome)
+        → AreMarksListed b → AreMarksListed (browsed_after b m) }
+{}
+
+/// If entries are marked, it is asked about the one that was marked first, whatever is selected. Once
+/// that is removed, the folder is listed anew, and it is asked about the one that was marked next. By
+/// itself, after a listing, no question comes whether an entry is to be removed that isn't marked.
+pub fn marks_are_asked_about_in_turn()
+    ensures removed { (b : Browser) (mark : Mark) → AreMarksListed b
+        → slice_get b.marks 0 ≡ Some mark → AsksAbout Removing mark.name (wished wish.Remove b) }
+    ensures trashed { (b : Browser) (mark : Mark) → AreMarksListed b
+        → slice_get b.marks 0 ≡ Some mark → is_some b.trash ≡ true
+        → AsksAbout Trashing mark.name (wished wish.Trash b) }
+    ensures next { (b : Browser) (mark : Mark) → AreMarksListed b
+        → (b.mode ≡ Removing) ⊎ (b.mode ≡ Trashing)
+        → slice_get (marks_but (selected_text b) b.marks) 0 ≡ Some mark
+        → WillAskAbout b.mode mark.name (browsed_after b (message.Answer outcome.Done)) }
+    ensures marked { (b : Browser) (l : ListingData)
+        → let c = browsed_after b (message.Answer (outcome.Listed l)) in
+        (c.mode ≡ Removing) ⊎ (c.mode ≡ Trashing) → is_selected_marked c ≡ true }
+{}
+
+/// If several entries are noted, the next one is asked about once one is pasted, under its own name;
+/// and what was copied stays noted, after the others.
+pub fn what_is_noted_comes_in_turn()
+    ensures next { (b : Browser) (noted : Noted) → b.mode ≡ Pasting → 0 < b.left
+        → slice_get b.more 0 ≡ Some noted
+        → let c = browsed_after b (message.Answer outcome.Done) in
+        (c.noted ≡ Some noted) × (c.follows ≡ Pasting) × (c.mode ≡ Listing) }
+    ensures asked { (b : Browser) (l : ListingData) (noted : Noted) → b.noted ≡ Some noted
+        → b.follows ≡ Pasting
+        → let c = browsed_after b (message.Answer (outcome.Listed l)) in
+        (c.mode ≡ Pasting) × (c.typed ≡ typing_name noted.name) × (c.noted ≡ Some noted) }
+    ensures kept { (b : Browser) (noted : Noted) → b.mode ≡ Pasting → b.noted ≡ Some noted
+        → let c = browsed_after b (message.Answer outcome.Done) in
+        option_to_list c.noted ++ c.more
+        ≡ b.more ++ (if noted.is_moved then [] else noted ∷ []) }
 {}
 
 /// What was renamed or moved is what is moved back if that is asked for: the other way round.

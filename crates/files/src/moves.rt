@@ -6,7 +6,7 @@ ghost use Rattle.text_field.specs.Keys.{edited};
 ghost use Rattle.files.specs.Moves.{list_rows, last_row_place, scrolled_list, selected_at, selection_moved, is_folder_selected};
 ghost use Rattle.files.specs.Moves.{follows_dot, to_dot, at_extension, typing_in, typing_name, renaming, went, asking_to_trash, trash_note, wished};
 ghost use Rattle.files.specs.Texts.{selected_text};
-ghost use Rattle.files.specs.Moves.{confirmed, typed_into, names_typed, listing_shown, entered, is_entry_row, clicked};
+ghost use Rattle.files.specs.Moves.{confirmed, typed_into, names_typed, folder_shown, listing_shown, entered, is_entry_row, clicked};
 
 use crate::browser::{Browser, Mode, Note};
 use crate::keys::Wish;
@@ -85,7 +85,7 @@ impl Browser {
     }
 
     // Selects the entry so many rows further.
-    fn go_down(&mut self, rows: usize)
+    pub(crate) fn go_down(&mut self, rows: usize)
         ensures { self.new ≡ selected_at (self.old.selected + rows) self.old }
     {
         let last = self.last_row_place();
@@ -231,9 +231,12 @@ impl Browser {
             }
             Wish::Sort => self.mode = Mode::Sorting,
             Wish::Remove => {
-                let may = self.list.len() > 0;
-                self.turn_if(may, Mode::Removing);
+                if self.list.len() > 0 {
+                    self.select_first_mark();
+                    self.mode = Mode::Removing;
+                }
             }
+            Wish::Unmark => self.unmark(),
             Wish::Help => {
                 self.helped = 0;
                 self.mode = Mode::Helping;
@@ -244,7 +247,8 @@ impl Browser {
         }
     }
 
-    // Asks whether the entry that is selected is to be put into the trash, and answers what is told.
+    // Asks whether the entry that was marked first, or else the one that is selected, is to be put
+    // into the trash, and answers what is told.
     fn ask_to_trash(&mut self) -> Note
         ensures mode { self.new ≡ asking_to_trash self.old }
         ensures note { result ≡ trash_note self.old.trash }
@@ -252,8 +256,10 @@ impl Browser {
         if self.trash.is_none() {
             return Note::NoTrash;
         }
-        let may = self.list.len() > 0;
-        self.turn_if(may, Mode::Trashing);
+        if self.list.len() > 0 {
+            self.select_first_mark();
+            self.mode = Mode::Trashing;
+        }
         Note::Place
     }
 
@@ -271,8 +277,9 @@ impl Browser {
             Wish::Seek => self.begin(Mode::Seeking, TextField::new(self.alloc))?,
             Wish::SeekOn => note = self.seek_on(),
             Wish::SeekBack => note = self.seek_back(),
-            Wish::NoteCopy => note = self.note_entry(false)?,
-            Wish::NoteMove => note = self.note_entry(true)?,
+            Wish::Mark => self.mark()?,
+            Wish::NoteCopy => note = self.note_entries(false)?,
+            Wish::NoteMove => note = self.note_entries(true)?,
             Wish::Paste => note = self.paste()?,
             other => self.go(other),
         }
@@ -335,10 +342,11 @@ impl Browser {
         }
     }
 
-    /// Takes what stands in a folder.
-    pub(crate) fn take_listing(&mut self, listing: Listing)
-        ensures { self.new ≡ listing_shown listing self.old }
+    // Shows what stands in a folder.
+    fn show(&mut self, listing: Listing)
+        ensures { self.new ≡ folder_shown listing self.old }
     {
+        self.keep_marks(&listing);
         let Listing {
             folder,
             rows,
@@ -349,7 +357,24 @@ impl Browser {
         self.list = rows;
         self.unnamed = unnamed;
         self.seeks_typed = false;
+        self.follows = Mode::Looking;
         self.mode = Mode::Looking;
         self.select(place);
+    }
+
+    /// Takes what stands in a folder, and asks the question that follows, if one does.
+    pub(crate) fn take_listing(&mut self, listing: Listing) -> Result<(), AllocError>
+        ensures ok { OnOk result (self.new ≡ listing_shown listing self.old) }
+        ensures err { OnErr result (self.new ≡ self.old) }
+    {
+        let next = self.follows;
+        let name = self.name_following()?;
+        self.show(listing);
+        self.mode = self.mode_following(next);
+        if let Some((typed, column)) = name {
+            self.typed = typed;
+            self.column = column;
+        }
+        Ok(())
     }
 }

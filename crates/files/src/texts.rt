@@ -8,6 +8,8 @@ ghost use Rattle.files.specs.Texts.{selected_shown, place_told, subject, note_to
 ghost use Rattle.files.specs.Texts.{fits, text_in, entry_at, row_place, place_in_row, body_in};
 ghost use Rattle.files.specs.Texts.{place_shown, now_shown, was_shown, undo_question};
 ghost use Rattle.files.specs.Texts.{noted_shown, paste_verb, paste_note_told, missing_told, paste_prompt, order_told, unnamed_text};
+ghost use Rattle.files.specs.Texts.{marked_text, more_text};
+ghost use Rattle.files.specs.Marks.{mark_lead};
 
 use crate::browser::{Browser, Mode, Note};
 use crate::help::keys_row;
@@ -83,6 +85,32 @@ fn push_unnamed(text: &mut String, count: u64) -> Result<(), AllocError>
     text.push_str(" whose names are no texts")
 }
 
+// Appends how many entries are marked.
+fn push_marked(text: &mut String, count: usize) -> Result<(), AllocError>
+    ensures { OnOk result (string_bytes text.new ≡ string_bytes text.old ++ marked_text count) }
+{
+    if count == 0 {
+        return Ok(());
+    }
+    text.push_str(", ")?;
+    let mut digits = Digits::new();
+    text.push_str(digits.format(count))?;
+    text.push_str(" marked")
+}
+
+// Appends how many more are noted.
+fn push_more(text: &mut String, count: usize) -> Result<(), AllocError>
+    ensures { OnOk result (string_bytes text.new ≡ string_bytes text.old ++ more_text count) }
+{
+    if count == 0 {
+        return Ok(());
+    }
+    text.push_str(" and ")?;
+    let mut digits = Digits::new();
+    text.push_str(digits.format(count))?;
+    text.push_str(" more")
+}
+
 // Appends what entries are sorted by, if not by their names.
 fn push_order(text: &mut String, order: Order) -> Result<(), AllocError>
     ensures { OnOk result (string_bytes text.new ≡ string_bytes text.old ++ order_told order) }
@@ -122,11 +150,11 @@ fn without_start<'a>(start: &str, text: &'a str) -> &'a str
     }
 }
 
-// An entry in a row of so many columns.
-fn row_told(alloc: Global, row: &Row, width: u16) -> Result<String, AllocError>
-    ensures { IfOk result (λ text. string_bytes text ≡ row_told width row.now) }
+// An entry in a row of so many columns, after what leads to it.
+fn row_told(alloc: Global, lead: &str, row: &Row, width: u16) -> Result<String, AllocError>
+    ensures { IfOk result (λ text. string_bytes text ≡ row_told width lead.now row.now) }
 {
-    let mut text = String::new(alloc);
+    let mut text = String::from_str(alloc, lead)?;
     push_row(&mut text, row)?;
     let mut digits = Digits::new();
     let size = match row.size {
@@ -199,7 +227,8 @@ impl Browser {
         text.push_str("/")?;
         text.push_str(digits.format(count))?;
         push_unnamed(text, self.unnamed)?;
-        push_order(text, self.order)
+        push_order(text, self.order)?;
+        push_marked(text, self.marks.len())
     }
 
     // Appends where it is that is noted, from the folder on that all is in.
@@ -236,7 +265,9 @@ impl Browser {
         self.push_verb(text)?;
         text.push_str(" \"")?;
         self.push_noted(text)?;
-        text.push_str("\" here")
+        text.push_str("\"")?;
+        push_more(text, self.more.len())?;
+        text.push_str(" here")
     }
 
     // Appends that no name has what is sought.
@@ -428,12 +459,25 @@ impl Browser {
         Ok(Span::raw(text.as_str()).width() <= usize::from(width))
     }
 
+    // What stands before an entry if some are marked.
+    fn mark_lead(&self, row: &Row) -> &'static str
+        ensures { result.now ≡ mark_lead self.now row.now }
+    {
+        if self.marks.is_empty() {
+            ""
+        } else if self.is_row_marked(row) {
+            "* "
+        } else {
+            "  "
+        }
+    }
+
     // The entry in a row of the list, if it shows one.
     fn entry_text(&self, place: usize, width: u16) -> Result<String, AllocError>
         ensures { IfOk result (λ text. string_bytes text ≡ entry_at width place self.now) }
     {
         match self.list.get(place) {
-            Some(row) => row_told(self.alloc, row, width),
+            Some(row) => row_told(self.alloc, self.mark_lead(row), row, width),
             None => Ok(String::new(self.alloc)),
         }
     }

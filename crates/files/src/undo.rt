@@ -1,7 +1,8 @@
 //! What was renamed or moved last, and how it gets its old place back.
 
-ghost use Rattle.std.specs.Prelude.{◌≡◌, IfOk, OnOk, OnErr};
-ghost use Rattle.files.specs.Moves.{move_made, move_noted, asking_to_undo, undo_note};
+ghost use Rattle.std.specs.Prelude.{◌≡◌, IfOk};
+ghost use Rattle.std.specs.Option.{option_or};
+ghost use Rattle.files.specs.Moves.{move_made, asking_to_undo, undo_note};
 
 use crate::browser::{Browser, Mode, Note};
 use ratatui_files::{Command, Path};
@@ -17,8 +18,8 @@ pub struct Moved {
 }
 
 impl Browser {
-    // What is renamed or moved by the change that is asked about.
-    fn move_made(&self) -> Result<Option<Moved>, AllocError>
+    /// Returns what is renamed or moved by the change that is asked about.
+    pub(crate) fn move_made(&self) -> Result<Option<Moved>, AllocError>
         ensures { IfOk result (λ moved. moved ≡ move_made self.now) }
     {
         match self.change()? {
@@ -27,16 +28,15 @@ impl Browser {
         }
     }
 
-    /// Takes note of what was renamed or moved by a change that was done.
-    pub(crate) fn note_move(&mut self) -> Result<(), AllocError>
-        ensures ok { OnOk result (self.new ≡ move_noted self.old) }
-        ensures err { OnErr result (self.new ≡ self.old) }
+    /// Takes note of what was renamed or moved, if something was.
+    pub(crate) fn note_move(&mut self, moved: Option<Moved>)
+        ensures { self.new
+            ≡ record self.old { last_move = option_or moved self.old.last_move } }
     {
-        match self.move_made()? {
+        match moved {
             Some(moved) => self.last_move = Some(moved),
             None => {}
         }
-        Ok(())
     }
 
     /// Asks whether what was renamed or moved last is to get its old place back, and answers what is

@@ -42,8 +42,10 @@ r gives the entry another name, a makes a folder, D puts the entry into the tras
 good, if it is no folder that holds something. y notes a file to be copied, d an entry to be moved,
 and p does so, to the folder that is shown; z moves back what was moved or renamed last. Each asks
 first: y, or Enter after a name, says yes once the question has stood for a tenth of a second, any
-other key or Esc says no. ? and F1 list the keys. q ends. Q ends and prints the folder that is
-shown: where standard output is no terminal, as in cd \"$(files)\", the terminal itself is drawn on.
+other key or Esc says no. Space marks an entry, or no longer, and Esc unmarks all. y, d, D and X take
+the marked entries if there are some, and it is asked about each in turn; a no ends that. ? and F1
+list the keys. q ends. Q ends and prints the folder that is shown: where standard output is no
+terminal, as in cd \"$(files)\", the terminal itself is drawn on.
 The trash is $XDG_DATA_HOME/Trash, or $HOME/.local/share/Trash, if no other one is named.
 ";
 

@@ -1,6 +1,6 @@
 use Rattle.std.proofs.Common.{refl}
 use Rattle.files.specs.Moves.{browsed_after}
-use Rattle.files.proofs.LawLemmas.{event-folder}
+use Rattle.files.proofs.LawLemmas.{event-folder, done-folder}
 use Rattle.files.proofs.laws.only_listings_change_the_list.Goals as goal
 
 pub returns-clause-listed : goal.returns-clause-listed
@@ -15,8 +15,7 @@ unfolding browsed_after
 returns-clause-tick c = λ b passed. record { folder = refl; list = refl; unnamed = refl }
 
 pub returns-clause-done : goal.returns-clause-done
-unfolding browsed_after
-returns-clause-done c = λ b. record { folder = refl; list = refl; unnamed = refl }
+returns-clause-done c = done-folder
 
 pub returns-clause-failed : goal.returns-clause-failed
 unfolding browsed_after
