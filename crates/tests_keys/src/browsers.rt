@@ -247,6 +247,33 @@ fn goes_to_the_first_folder(rt: HostRuntime) -> Result<(), Fail> {
 }
 
 #[test]
+fn asks_about_each_that_is_marked(rt: HostRuntime) -> Result<(), Fail> {
+    let end = play(rt.alloc(), 60, &[b"j  gX", b"", b"y", b"", b"y", b"q"])?;
+    assert!(rt; !has(&end, "a.txt"));
+    assert!(rt; !has(&end, "b.txt"));
+    assert!(rt; has(&end, "docs"));
+    Ok(())
+}
+
+#[test]
+fn asks_no_more_after_a_no(rt: HostRuntime) -> Result<(), Fail> {
+    let end = play(rt.alloc(), 60, &[b"j  gX", b"", b"n", b"", b"y", b"q"])?;
+    assert!(rt; has(&end, "a.txt"));
+    assert!(rt; has(&end, "b.txt"));
+    Ok(())
+}
+
+#[test]
+fn copies_all_that_is_marked(rt: HostRuntime) -> Result<(), Fail> {
+    let keys: &[&[u8]] = &[b"j  ygl", b"p", b"", b"\r", b"", b"\r", b"q"];
+    let end = play(rt.alloc(), 60, keys)?;
+    assert!(rt; bytes_at(&end, "docs/a.txt") == b"tea".as_slice());
+    assert!(rt; bytes_at(&end, "docs/b.txt") == b"apples".as_slice());
+    assert!(rt; has(&end, "a.txt"));
+    Ok(())
+}
+
+#[test]
 fn does_nothing_while_the_keys_are_shown(rt: HostRuntime) -> Result<(), Fail> {
     let keys: &[&[u8]] = &[b"j?", b"X", b"", b"y", b"", b"DyX", b"", b"yq", b"q"];
     let end = play(rt.alloc(), 40, keys)?;
