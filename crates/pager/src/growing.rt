@@ -1,6 +1,7 @@
 //! A text that is shown while it comes.
 
 ghost use Rattle.std.specs.Prelude.{◌≡◌, ◌&&◌, false, None, length, take, is_some, IfOk, OnOk, OnErr};
+ghost use Rattle.std.specs.Prelude.{IsOk};
 ghost use Rattle.pager.specs.Growing.{piece_known, heard, is_taken, is_due, resumed, given_up, heard_waiting, heard_after};
 ghost use Rattle.pager.specs.Growing.{event_needs, is_following, told_waiting, followed, piece_taken, needs_more, asks_more};
 
@@ -346,6 +347,7 @@ impl<'a> Acts for Growing<'a> {
         ensures ok { OnOk result (self.new ≡ grown_after self.old message.entry) }
         ensures same { IfOk result (λ changed. changed ≡ false → self.new ≡ self.old) }
         ensures refused { OnErr result (self.new ≡ self.old) }
+        ensures light { ⊥ → IsOk result }
     {
         match message {
             Message::Event(event) => self.take_event(event),

@@ -1,6 +1,7 @@
 //! The state of a pager.
 
 ghost use Rattle.std.specs.Prelude.{◌≡◌, true, false, Some, None, IfOk, OnOk, OnErr};
+ghost use Rattle.std.specs.Prelude.{IsOk};
 ghost use Rattle.pager.specs.Moves.{started, has_typed, taken_by, taken_in, answered, has_text, acted, updated};
 ghost use Rattle.pager.specs.Inner.{at_told_size};
 ghost use Rattle.pager.specs.Paging.{paged_after};
@@ -364,6 +365,7 @@ impl<'a> Acts for Pager<'a> {
         ensures ok { OnOk result (self.new ≡ paged_after self.old message) }
         ensures same { IfOk result (λ changed. changed ≡ false → self.new ≡ self.old) }
         ensures refused { OnErr result (self.new ≡ self.old) }
+        ensures light { ⊥ → IsOk result }
     {
         match message {
             Message::Event(event) => {
