@@ -9,6 +9,7 @@ use programs::{Stream, is_terminal};
 use ratatui_acts::{Nothing, Seat};
 use ratatui_ansi::{AnsiBackend, size_told};
 use ratatui_app::run_and_leave;
+use ratatui_reads::Recorded;
 use std::io::BufWriter;
 
 fn main(rt: HostRuntime) -> anyhow::Result<()> {
@@ -19,7 +20,7 @@ fn main(rt: HostRuntime) -> anyhow::Result<()> {
     let mut seat = Seat::new(Chooser::new(alloc, size));
     run_and_leave(
         alloc,
-        &mut rt.reader(),
+        &mut Recorded::new(rt.reader()),
         &mut Nothing,
         is_terminal(&rt, Stream::Input),
         backend,

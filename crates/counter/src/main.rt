@@ -8,6 +8,7 @@ use programs::{Stream, is_terminal};
 use ratatui_acts::{Nothing, Seat};
 use ratatui_ansi::{AnsiBackend, size_told};
 use ratatui_app::{Counter, run_and_leave};
+use ratatui_reads::Recorded;
 use std::io::BufWriter;
 
 fn main(rt: HostRuntime) -> anyhow::Result<()> {
@@ -21,7 +22,7 @@ fn main(rt: HostRuntime) -> anyhow::Result<()> {
     let mut seat = Seat::new(counter);
     run_and_leave(
         alloc,
-        &mut rt.reader(),
+        &mut Recorded::new(rt.reader()),
         &mut Nothing,
         is_terminal(&rt, Stream::Input),
         backend,

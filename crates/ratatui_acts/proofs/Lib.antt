@@ -4,3 +4,4 @@ pub mod RunLemmas
 pub mod ReadingLemmas
 pub mod TimeLemmas
 pub mod QueueLemmas
+pub mod EndingLemmas

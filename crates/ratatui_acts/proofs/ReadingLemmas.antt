@@ -5,8 +5,8 @@ use Rattle.std.specs.declared.time.Duration.{Duration}
 use Rattle.ratatui_events.specs.declared.event.Event.{Event}
 use Rattle.ratatui_input.specs.declared.decoder.Decoder.{Decoder}
 use Rattle.ratatui_reads.specs.Reads.{Between, told_by, all_updated, next_state, after_read, after_reads}
-use Rattle.ratatui_reads.specs.Sources.{Coming, GivesRead, GivesReads, read_room}
-use Rattle.ratatui_reads.proofs.SourceLemmas.{gives-more}
+use Rattle.ratatui_reads.specs.Sources.{Coming, ReadSoFar, GivesRead, GivesReads, read_room}
+use Rattle.ratatui_reads.proofs.SourceLemmas.{gives-more, recorded-reads}
 use Rattle.ratatui_acts.specs.Turns.{Turn, Came, Done, Standing, ActingRules, waits, taking, ticked, after_turn}
 use Rattle.ratatui_acts.specs.Runs.{Now, Past, Ground, HasRun, IsTurn, turns_of}
 use Rattle.ratatui_acts.specs.declared.message.Message.TheVariants as message
@@ -26,6 +26,15 @@ reads-done : {C R : Type 0} (ts : List (Turn C R)) (c : C) (r : R) → turn_read
 reads-done [] c r = refl
 reads-done (Came b p ∷ ts) c r = ap (λ (l : List (List ℕ)). b ∷ l) (reads-done ts c r)
 reads-done (Done command answer ∷ ts) c r = reads-done ts c r
+
+-- what is recorded is one list of reads
+past_of : Coming → List (List ℕ)
+past_of (ReadSoFar past) = past
+past_of _ = []
+
+same-past : (before after : List (List ℕ)) → ReadSoFar before ≡ ReadSoFar after → before ≡ after
+unfolding past_of
+same-past before after same = ap past_of same
 
 module _ {S C R : Type 0} (rules : ActingRules S C R) where
   reads-more : (b : Between S) (rs : List (List ℕ)) (r : List ℕ)
@@ -75,7 +84,7 @@ module _ {S C R : Type 0} (rules : ActingRules S C R) where
   tick-nothing [] passed s nothing = nothing.ticks s passed
   tick-nothing (b ∷ bytes) passed s nothing = refl
 
-  over-if : (s : S) → AsksNothing rules → waits rules s ≡ true → rules.is_over s ≡ true
+  pub over-if : (s : S) → AsksNothing rules → waits rules s ≡ true → rules.is_over s ≡ true
   over-if s nothing w = by-bool (rules.is_over s) refl
     where
       by-bool : (b : Bool) → rules.is_over s ≡ b → rules.is_over s ≡ true
@@ -146,3 +155,14 @@ module _ {S C R G E H O : Type 0} (ground : Ground S C R G E H O) where
   run-given coming f begun now (p ∷ earlier) is =
       turn-given coming f begun p.before now (turns_of ground earlier) p.turn is.1
       (run-given coming f begun p.before earlier is.0)
+
+  -- the reads are those that were recorded meanwhile
+  pub run-recorded : (recorded : H → List (List ℕ))
+      → ((h : H) (bytes : List ℕ) (passed : Duration) (h' : H) → ground.gives h read_room bytes passed h'
+      → GivesRead read_room (ReadSoFar (recorded h)) (ReadSoFar (recorded h')) bytes)
+      → (begun now : Now S G H O) (past : List (Past S C R G H O)) → HasRun ground begun past now
+      → recorded now.ears ≡ recorded begun.ears ++ turn_reads (turns_of ground past)
+  run-recorded recorded f begun now past is =
+      same-past (recorded now.ears) (recorded begun.ears ++ turn_reads (turns_of ground past))
+      (recorded-reads (recorded begun.ears) (turn_reads (turns_of ground past)) (ReadSoFar (recorded now.ears))
+      (run-given (λ h. ReadSoFar (recorded h)) f begun now past is))

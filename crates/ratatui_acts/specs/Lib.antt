@@ -5,3 +5,4 @@ pub mod Seats
 pub mod Runs
 pub mod Steps
 pub mod Reading
+pub mod Endings

@@ -1,6 +1,7 @@
 //! Laws of runs.
 
-ghost use Rattle.std.specs.Prelude.{◌≡◌, ◌+◌, [], List};
+ghost use Rattle.std.specs.Prelude.{◌≡◌, ◌+◌, ◌++◌, [], List};
+ghost use Rattle.ratatui_events.specs.declared.event.Event.{Event};
 ghost use Rattle.ratatui_acts.specs.Turns.{after_turns, HasLightMessages};
 ghost use Rattle.ratatui_acts.specs.declared.fault.Fault.TheVariants.{Memory};
 ghost use Rattle.ratatui_reads.specs.Reads.{after_reads};
@@ -8,7 +9,11 @@ ghost use Rattle.ratatui_reads.specs.Sources.{GivesReads};
 ghost use Rattle.ratatui_acts.specs.Hearing.{GivesUntimed, FailsToGive};
 ghost use Rattle.ratatui_acts.specs.Reading.{AsksNothing, seat_between, event_rules, turn_reads};
 ghost use Rattle.ratatui_acts.specs.Runs.{ground_of, Now, Past, HasRun, AreAnswered, AreTimely};
-ghost use Rattle.ratatui_acts.specs.Runs.{turns_of, StopsTurning};
+ghost use Rattle.ratatui_acts.specs.Runs.{turns_of, IsTurn, StopsTurning};
+ghost use Rattle.ratatui_acts.specs.Turns.{Turn};
+ghost use Rattle.ratatui_acts.specs.Endings.{EndsEach, ComesIn, IsToldIn};
+ghost use Rattle.ratatui_reads.specs.Recorded.{recorded_reads, coming_recorded};
+ghost use Rattle.ratatui_reads.specs.declared.recorded.Recorded.{Recorded as RecordedReader};
 ghost use Rattle.ratatui_acts.specs.declared.clocked.Clocked.{Clocked as ClockedSource};
 ghost use Rattle.ratatui_acts.specs.Hearing.{GivesTimed, time_told};
 ghost use Rattle.std.specs.Time.{instant_nanos};
@@ -17,6 +22,7 @@ use crate::acts::Acts;
 use crate::glass::Glass;
 use crate::outside::{Hears, Outside};
 use ratatui_reads::Source;
+use std::io::Read;
 use std::rt::Clock;
 
 /// Where a run stands now, the state is what its turns make of the first one, one after the other:
@@ -82,6 +88,33 @@ pub fn the_reads_are_what_a_source_gave<A: Acts, G: Glass<A>, S: Source, O: Outs
         (turn_reads (turns_of basis past)) }
 {}
 
+/// The reads of a run over a recorded reader, as a keyboard, are those that were recorded meanwhile:
+/// what each put into its buffer, without a clock and with one.
+pub fn the_reads_are_those_recorded<
+    'a,
+    A: Acts,
+    G: Glass<A>,
+    R: Read + Drop,
+    C: Clock,
+    O: Outside<A, G>,
+>()
+    ensures untimed { let basis = ground_of A.Acts G.shows G.moves G.lacks
+        (GivesUntimed coming_recorded) (FailsToGive coming_recorded) O.answers in
+        (begun now : Now A G (RecordedReader R) O)
+        (past : List (Past A A.Command A.Answer G (RecordedReader R) O))
+        → HasRun basis begun past now
+        → recorded_reads now.ears
+        ≡ recorded_reads begun.ears ++ turn_reads (turns_of basis past) }
+    ensures timed { let basis = ground_of A.Acts G.shows G.moves G.lacks
+        (GivesTimed (λ c. coming_recorded c.source) (λ c. instant_nanos c.last))
+        (FailsToGive (λ c. coming_recorded c.source)) O.answers in
+        (begun now : Now A G (ClockedSource (RecordedReader R) C) O)
+        (past : List (Past A A.Command A.Answer G (ClockedSource (RecordedReader R) C) O))
+        → HasRun basis begun past now
+        → recorded_reads now.ears.source
+        ≡ recorded_reads begun.ears.source ++ turn_reads (turns_of basis past) }
+{}
+
 /// The times that the ticks of a run tell add up to what the clock has gone on from the beginning
 /// to the last tick.
 pub fn ticks_tell_the_time_of_the_clock<
@@ -109,4 +142,25 @@ pub fn light_messages_are_never_refused<A: Acts, G: Glass<A>, H: Hears<A, G>, O:
     ensures { let basis = ground_of A.Acts G.shows G.moves G.lacks H.gives H.fails O.answers in
         HasLightMessages A.Acts → (before after : Now A G H O) → before.standing.left ≡ []
         → StopsTurning basis before after Memory → ⊥ }
+{}
+
+/// An event that ends each state which it can be told to ends a run: no turn comes after one in
+/// which it was told. Of states that ask for nothing, and that ticks don't change, none comes after
+/// one in which it came, whatever came beside it.
+pub fn an_event_that_ends_each_state_ends_the_run<
+    A: Acts,
+    G: Glass<A>,
+    H: Hears<A, G>,
+    O: Outside<A, G>,
+>()
+    ensures told { let basis = ground_of A.Acts G.shows G.moves G.lacks H.gives H.fails O.answers in
+        (e : Event) → EndsEach A.Acts e
+        → (before between after : Now A G H O) (turn next : Turn A.Command A.Answer)
+        → IsTurn basis before turn between → IsToldIn A.Acts before.standing turn e
+        → IsTurn basis between next after → ⊥ }
+    ensures came { let basis = ground_of A.Acts G.shows G.moves G.lacks H.gives H.fails O.answers in
+        (e : Event) → AsksNothing A.Acts → EndsEach A.Acts e
+        → (before between after : Now A G H O) (turn next : Turn A.Command A.Answer)
+        → IsTurn basis before turn between → ComesIn A.Acts before.standing turn e
+        → IsTurn basis between next after → ⊥ }
 {}

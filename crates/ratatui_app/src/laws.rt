@@ -1,10 +1,14 @@
 //! Laws of applications.
 
-ghost use Rattle.std.specs.Prelude.{◌≡◌, []};
+ghost use Rattle.std.specs.Prelude.{◌≡◌, [], ℕ, List};
 ghost use Rattle.ratatui_acts.specs.Turns.{Turn, turn_size};
 ghost use Rattle.ratatui_acts.specs.Runs.{Now, IsTurn, StopsTurning};
 ghost use Rattle.ratatui_acts.specs.declared.fault.Fault.TheVariants as fault;
-ghost use Rattle.ratatui_core.specs.Terminal.{Memory};
+ghost use Rattle.ratatui_core.specs.Terminal.{Memory, TerminalData};
+ghost use Rattle.ratatui_core.specs.Buffer.{IsSameBuffer};
+ghost use Rattle.ratatui_ansi.specs.Backend.{BackendState};
+ghost use Rattle.ratatui_app.specs.declared.counter.Counter.{Counter as CounterData};
+ghost use Rattle.ratatui_app.specs.{Counting.PaintsCounter, Lines.PaintsFirstLine, OneFrame.HasOneFrame};
 ghost use Rattle.ratatui_app.specs.declared.on_glass.OnGlass.{OnGlass as OnGlassData};
 ghost use Rattle.ratatui_app.specs.Showing.{ShowsPage};
 ghost use Rattle.ratatui_app.specs.Glass.{sender, CanShow, StandsOnGlass, HasSizeTold};
@@ -34,6 +38,21 @@ pub fn shown_states_are_on_the_glass<W: Write + Drop, A: Application>(
     bytes_show_the_last_buffer(terminal);
     let _writer = terminal.backend().writer();
 }
+
+/// A state that has one frame has it on every glass: wherever it stands, over viewports of one
+/// area, the same is shown, with the cursor in the same place.
+pub fn the_frame_of_a_state_is_one<W: Write + Drop, A: Application>()
+    ensures frame { (s : A) → HasOneFrame (A.paints s)
+        → (t u : TerminalData (BackendState W)) → u.viewport_area ≡ t.viewport_area
+        → StandsOnGlass (A.paints s) (A.cursor s) t → StandsOnGlass (A.paints s) (A.cursor s) u
+        → IsSameBuffer t.previous u.previous }
+{}
+
+/// A line of text has one frame, and so has each number that is counted.
+pub fn lines_have_one_frame()
+    ensures lines { (text : List ℕ) → HasOneFrame (PaintsFirstLine text) }
+    ensures numbers { (c : CounterData) → HasOneFrame (PaintsCounter c) }
+{}
 
 /// After each turn of a run the screen has the size that the turn told last; if it told none, it has
 /// the one that it had.

@@ -1,10 +1,10 @@
 -- What a source gave, read after read.
 use Rattle.std.proofs.Common.{◌≡◌, ◌≤◌, ℕ, nat_le, true, List, [], ◌∷◌, ◌++◌, length, take}
-use Rattle.std.proofs.Common.{refl, ap, ap₂, sym, ◌∙◌, subst, append_assoc, arith}
+use Rattle.std.proofs.Common.{refl, ap, ap₂, sym, ◌∙◌, subst, append-nil, append_assoc, arith}
 use Rattle.std.proofs.lemmas.Bool.Decides.{nat_tests}
 use Rattle.std.proofs.lemmas.List.{take_all}
 use Rattle.ratatui_reads.specs.Reads.{all_bytes}
-use Rattle.ratatui_reads.specs.Sources.{Coming, KnownBytes, KnownReads, GivesRead}
+use Rattle.ratatui_reads.specs.Sources.{Coming, ReadSoFar, KnownBytes, KnownReads, GivesRead}
 use Rattle.ratatui_reads.specs.Sources.{GivesReads, AreWithinRoom, read_room, later_reads}
 
 -- one read more
@@ -38,3 +38,12 @@ known-bytes all (r ∷ reads) rest given =
     let one = given.1.first in
     let more = known-bytes one.0 reads rest (subst (λ (x : Coming). GivesReads x rest reads) one.1 given.2) in
     (more.0, more.1, one.2 ∙ ap (λ (l : List ℕ). r ++ l) more.2 ∙ sym (append_assoc r (all_bytes reads) more.0))
+
+-- recorded reads grow by those that are made
+pub recorded-reads : (past reads : List (List ℕ)) (rest : Coming) → GivesReads (ReadSoFar past) rest reads
+    → rest ≡ ReadSoFar (past ++ reads)
+recorded-reads past [] rest given = given ∙ ap ReadSoFar (sym (append-nil past))
+recorded-reads past (r ∷ reads) rest given =
+    let one = given.1.first in
+    recorded-reads (past ++ r ∷ []) reads rest (subst (λ (x : Coming). GivesReads x rest reads) one given.2)
+    ∙ ap ReadSoFar (append_assoc past (r ∷ []) reads)

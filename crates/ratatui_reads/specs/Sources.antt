@@ -3,10 +3,12 @@ use Rattle.std.specs.Prelude.{◌≡◌, ◌<◌, ◌≤◌, ℕ, nat_le, if◌t
 use Rattle.std.specs.Prelude.{List, [], ◌∷◌, ◌++◌, length, take, drop}
 use Rattle.std.specs.Prelude.{Option, Some, None, ⊤}
 
--- what is known of what a source gives from here on: nothing; its bytes, and that no more come, but not in
--- which reads; or its reads, of which some may be empty, and that it fails after them
+-- what is known of what a source gives from here on: nothing; nothing but which reads it gave so far, since
+-- these are recorded; its bytes, and that no more come, but not in which reads; or its reads, of which some
+-- may be empty, and that it fails after them
 pub data Coming : Type 0 where
   NotKnown : Coming
+  ReadSoFar : List (List ℕ) → Coming
   KnownBytes : List ℕ → Coming
   KnownReads : List (List ℕ) → Coming
 
@@ -23,9 +25,10 @@ GivesBytes all new bytes = (rest : List ℕ) × (new ≡ KnownBytes rest) × (al
 abbrev pub later_reads : ℕ → List ℕ → List (List ℕ) → List (List ℕ)
 later_reads room first others = if nat_le (length first) room then others else drop room first ∷ others
 
--- a read with room for so many bytes gave the first ones, and the others are known then
+-- a read with room for so many bytes gave the first ones, and the others are known then; or it is recorded
 abbrev pub GivesFirst : ℕ → Coming → Coming → List ℕ → Type 0
 GivesFirst room NotKnown new bytes = ⊤
+GivesFirst room (ReadSoFar past) new bytes = new ≡ ReadSoFar (past ++ bytes ∷ [])
 GivesFirst room (KnownBytes all) new bytes = GivesBytes all new bytes
 GivesFirst room (KnownReads []) new bytes = ⊥
 GivesFirst room (KnownReads (first ∷ others)) new bytes =
@@ -34,6 +37,7 @@ GivesFirst room (KnownReads (first ∷ others)) new bytes =
 -- no known byte is left; known reads can go on after an empty one
 abbrev pub IsUsedUp : Coming → Type 0
 IsUsedUp NotKnown = ⊤
+IsUsedUp (ReadSoFar past) = ⊤
 IsUsedUp (KnownBytes all) = all ≡ []
 IsUsedUp (KnownReads all) = ⊤
 
@@ -45,12 +49,14 @@ pub record GivesRead (room : ℕ) (all new : Coming) (bytes : List ℕ) : Type 0
 -- what is known stays so where no read was made
 abbrev pub StaysKnown : Coming → Coming → Type 0
 StaysKnown NotKnown new = ⊤
+StaysKnown (ReadSoFar past) new = new ≡ ReadSoFar past
 StaysKnown (KnownBytes all) new = new ≡ KnownBytes all
 StaysKnown (KnownReads all) new = new ≡ KnownReads all
 
 -- a read can fail: one of known reads only after the last of them
 abbrev pub MayFail : Coming → Type 0
 MayFail NotKnown = ⊤
+MayFail (ReadSoFar past) = ⊤
 MayFail (KnownBytes all) = ⊤
 MayFail (KnownReads all) = all ≡ []
 

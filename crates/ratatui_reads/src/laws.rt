@@ -5,7 +5,7 @@ ghost use Rattle.ratatui_events.specs.declared.event.Event.{Event};
 ghost use Rattle.ratatui_reads.specs.Reads.{Between, after_read, after_reads, after_bytes, all_bytes};
 ghost use Rattle.ratatui_input.specs.declared.decoder.Decoder.{Decoder};
 ghost use Rattle.ratatui_reads.specs.Reads.{IsNonEmpty, AreNonEmpty, size_told, told_by};
-ghost use Rattle.ratatui_reads.specs.Sources.{Coming, KnownBytes, KnownReads};
+ghost use Rattle.ratatui_reads.specs.Sources.{Coming, ReadSoFar, KnownBytes, KnownReads};
 ghost use Rattle.ratatui_reads.specs.Sources.{GivesReads, AreWithinRoom};
 
 use crate::updates::Updates;
@@ -23,7 +23,7 @@ pub fn pieces_make_the_same<A: Updates>()
 {}
 
 /// What is known of a source comes in order: each read that has room is given whole, also an empty
-/// one; and known bytes are given whole, in whatever reads.
+/// one; and known bytes are given whole, in whatever reads. Reads that are recorded are all recorded.
 pub fn what_is_known_is_given()
     ensures reads { (all reads : List (List ℕ)) (rest : Coming) → AreWithinRoom all
         → GivesReads (KnownReads all) rest reads
@@ -31,6 +31,8 @@ pub fn what_is_known_is_given()
     ensures bytes { (all : List ℕ) (reads : List (List ℕ)) (rest : Coming)
         → GivesReads (KnownBytes all) rest reads
         → (left : List ℕ) × (rest ≡ KnownBytes left) × (all ≡ all_bytes reads ++ left) }
+    ensures recorded { (past reads : List (List ℕ)) (rest : Coming)
+        → GivesReads (ReadSoFar past) rest reads → rest ≡ ReadSoFar (past ++ reads) }
 {}
 
 /// A size that a read tells has a column and a row.

@@ -14,6 +14,7 @@ use ratatui_acts::Seat;
 use ratatui_ansi::{AnsiBackend, size_told};
 use ratatui_app::run_and_leave;
 use ratatui_files::{Answer, Command, Info, Kind, OnDisk, Path, Performs};
+use ratatui_reads::Recorded;
 use remover::{Name, Names, Remover};
 use std::alloc::Global;
 use std::env;
@@ -61,7 +62,7 @@ fn show(rt: &HostRuntime, folder: &str) -> anyhow::Result<()> {
     let has_ticks = is_terminal(rt, Stream::Input);
     run_and_leave(
         alloc,
-        &mut rt.reader(),
+        &mut Recorded::new(rt.reader()),
         &mut disk,
         has_ticks,
         backend,
