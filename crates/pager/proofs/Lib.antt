@@ -19,3 +19,4 @@ pub mod NeedsLemmas
 pub mod FollowLemmas
 pub mod HelpLemmas
 pub mod PartedLemmas
+pub mod OneFrameLemmas

@@ -13,7 +13,8 @@ ghost use Rattle.pager.specs.Moves.{started, updated, after_move};
 ghost use Rattle.pager.specs.Search.{next_match, last_match, IsFirstMatch, IsLastMatch};
 ghost use Rattle.pager.specs.Keys.{IsControlC};
 ghost use Rattle.pager.specs.Symbols.{LineSymbol, line_symbols};
-ghost use Rattle.pager.specs.Pages.{IsInOneRow};
+ghost use Rattle.ratatui_app.specs.OneFrame.{HasOneFrame};
+ghost use Rattle.pager.specs.Pages.{IsInOneRow, PaintsPager};
 ghost use Rattle.pager.specs.declared.sought.Sought.{Sought};
 ghost use Rattle.pager.specs.declared.styles.Run.{Run};
 ghost use Rattle.pager.specs.Places.{IsInText, columns_for_line, page_rows, page_place, text_place, place_after};
@@ -173,4 +174,9 @@ pub fn keys_leave_while_others_wait()
 /// says.
 pub fn the_help_names_the_keys()
     ensures { AreHelped help_table }
+{}
+
+/// A page has one frame: all that painting it can make of empty buffers of one area is the same.
+pub fn pages_have_one_frame()
+    ensures { (p : Pager) → HasOneFrame (PaintsPager p) }
 {}
