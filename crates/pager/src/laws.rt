@@ -176,7 +176,7 @@ pub fn the_help_names_the_keys()
     ensures { AreHelped help_table }
 {}
 
-/// A page has one frame: all that painting it can make of empty buffers of one area is the same.
+/// A page has one frame. All that painting it can make of empty buffers of one area is the same.
 pub fn pages_have_one_frame()
     ensures { (p : Pager) → HasOneFrame (PaintsPager p) }
 {}

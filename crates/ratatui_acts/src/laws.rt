@@ -88,8 +88,8 @@ pub fn the_reads_are_what_a_source_gave<A: Acts, G: Glass<A>, S: Source, O: Outs
         (turn_reads (turns_of basis past)) }
 {}
 
-/// The reads of a run over a recorded reader, as a keyboard, are those that were recorded meanwhile:
-/// what each put into its buffer, without a clock and with one.
+/// The reads of a run over a recorded reader, as a keyboard's, are those that were recorded
+/// meanwhile. They are what each put into its buffer; without a clock, and with one.
 pub fn the_reads_are_those_recorded<
     'a,
     A: Acts,
@@ -144,7 +144,7 @@ pub fn light_messages_are_never_refused<A: Acts, G: Glass<A>, H: Hears<A, G>, O:
         → StopsTurning basis before after Memory → ⊥ }
 {}
 
-/// An event that ends each state which it can be told to ends a run: no turn comes after one in
+/// An event that ends each state which it can be told to ends a run. No turn comes after one in
 /// which it was told. Of states that ask for nothing, and that ticks don't change, none comes after
 /// one in which it came, whatever came beside it.
 pub fn an_event_that_ends_each_state_ends_the_run<

@@ -7,8 +7,8 @@ use crate::reads::Reads;
 use crate::source::Source;
 use std::io::{self, Read};
 
-/// A reader whose reads are recorded, as a source: clauses know which bytes each read put into its
-/// buffer, also if nothing is known of the reader, as of a keyboard. It takes no memory for that.
+/// A reader whose reads are recorded. As a source it lets clauses know which bytes each read put into
+/// its buffer, also if nothing is known of the reader, as of a keyboard; that takes no memory.
 #[derive(Drop)]
 pub struct Recorded<R> {
     reader: R,
