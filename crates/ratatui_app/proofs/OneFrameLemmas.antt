@@ -1,6 +1,6 @@
 -- What is painted of pieces over empty cells is one list of cells, so a line has one frame.
 use Rattle.std.proofs.Common.{◌≡◌, ◌<◌, ◌≤◌, ◌+◌, ◌-◌, ◌⊎◌, inl, inr, ℕ, zero, suc, List, [], ◌∷◌, length, take, refl, ap, sym, ◌∙◌, subst, arith}
-use Rattle.std.proofs.lemmas.{Bool.cases_lt, List.ext_get_or}
+use Rattle.std.proofs.lemmas.{Bool.cases_lt, List.ext_get_or, List.Sums.sum_by-cons}
 use Rattle.rtui_cell.specs.{declared.cell.Cell.Cell, Cell.empty_cell}
 use Rattle.rtui_diff.specs.Cells.{cell}
 use Rattle.rtui_buffer.specs.Painting.{Piece, piece_width, columns, piece_at, place_of, shown, HasPieces}
@@ -22,30 +22,33 @@ record StandsIn (at : ℕ) (ps : List Piece) (place : ℕ) : Type 0 where
   is_here : place ≡ place_of at ps k + j
   is_covered : (j ≡ 0) ⊎ ((0 < j) × (j < piece_width (piece_at ps k)))
 
--- each place in the columns of pieces stands in one
-stands-in : (at : ℕ) (ps : List Piece) (place : ℕ) → at ≤ place → place < at + columns ps → StandsIn at ps place
-stands-in at [] place from to = absurd (omega (arith, from, to))
-stands-in at (p ∷ ps) place from to = elim (cases_lt place (at + piece_width p)) [
-  | inl here ↦ by-begin (cases_lt at place) here
-  | inr after ↦
-    let rest = stands-in (at + piece_width p) ps place after (omega (arith, to)) in record {
+-- in the piece after the first one, if it stands in one of the others
+stands-later : (at : ℕ) (p : Piece) (ps : List Piece) (place : ℕ) → StandsIn (at + piece_width p) ps place → StandsIn at (p ∷ ps) place
+stands-later at p ps place rest =
+    let columns_are : columns (take (suc rest.k) (p ∷ ps)) ≡ piece_width p + columns (take rest.k ps) =
+    sum_by-cons piece_width p (take rest.k ps) in
+    record {
       k = suc rest.k;
       j = rest.j;
       is_piece = omega (arith, rest.is_piece);
-      is_here = omega (arith, rest.is_here);
+      is_here = omega (arith, rest.is_here, columns_are);
       is_covered = rest.is_covered;
     }
-]
+
+-- in the first one
+stands-first : (at : ℕ) (p : Piece) (ps : List Piece) (place : ℕ) → at ≤ place → place < at + piece_width p
+    → StandsIn at (p ∷ ps) place
+stands-first at p ps place from here = by-begin (cases_lt at place)
   where
-    by-begin : (at < place) ⊎ (place ≤ at) → place < at + piece_width p → StandsIn at (p ∷ ps) place
-    by-begin (inl inside) here = record {
+    by-begin : (at < place) ⊎ (place ≤ at) → StandsIn at (p ∷ ps) place
+    by-begin (inl inside) = record {
       k = 0;
       j = place - at;
       is_piece = omega arith;
       is_here = omega (arith, inside);
       is_covered = inr (omega (arith, inside), omega (arith, inside, here));
     }
-    by-begin (inr begins) here = record {
+    by-begin (inr begins) = record {
       k = 0;
       j = 0;
       is_piece = omega arith;
@@ -53,14 +56,24 @@ stands-in at (p ∷ ps) place from to = elim (cases_lt place (at + piece_width p
       is_covered = inl refl;
     }
 
+-- each place in the columns of pieces stands in one
+stands-in : (at : ℕ) (ps : List Piece) (place : ℕ) → at ≤ place → place < at + columns ps → StandsIn at ps place
+stands-in at [] place from to = absurd (omega (arith, from, to))
+stands-in at (p ∷ ps) place from to =
+    let all : columns (p ∷ ps) ≡ piece_width p + columns ps = sum_by-cons piece_width p ps in
+    elim (cases_lt place (at + piece_width p)) [
+      | inl here ↦ stands-first at p ps place from here
+      | inr after ↦ stands-later at p ps place (stands-in (at + piece_width p) ps place after (omega (arith, to, all)))
+    ]
+
 module _ (at : ℕ) (ps : List Piece) (old a b : List Cell) (one : HasPieces at ps old a) (other : HasPieces at ps old b) where
   same-inside : (place : ℕ) → StandsIn at ps place → cell a place ≡ cell b place
   same-inside place is = elim is.is_covered [
     | inl begins ↦
-      let here : place ≡ place_of at ps is.k = omega (arith, is.is_here, begins) in
-      rw here (one.starts is.k is.is_piece ∙ sym (other.starts is.k is.is_piece))
+        let here : place ≡ place_of at ps is.k = omega (arith, is.is_here, begins) in
+        rw here (one.starts is.k is.is_piece ∙ sym (other.starts is.k is.is_piece))
     | inr covered ↦
-      rw is.is_here (one.behind is.k is.j is.is_piece covered.0 covered.1 ∙ sym (other.behind is.k is.j is.is_piece covered.0 covered.1))
+        rw is.is_here (one.behind is.k is.j is.is_piece covered.0 covered.1 ∙ sym (other.behind is.k is.j is.is_piece covered.0 covered.1))
   ]
 
   same-at : (place : ℕ) → cell a place ≡ cell b place

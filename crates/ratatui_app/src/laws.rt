@@ -42,7 +42,7 @@ pub fn shown_states_are_on_the_glass<W: Write + Drop, A: Application>(
 /// A state that has one frame has it on every glass. Wherever it stands, over viewports of one area,
 /// the same is shown.
 pub fn the_frame_of_a_state_is_one<W: Write + Drop, A: Application>()
-    ensures frame { (s : A) → HasOneFrame (A.paints s)
+    ensures { (s : A) → HasOneFrame (A.paints s)
         → (t u : TerminalData (BackendState W)) → u.viewport_area ≡ t.viewport_area
         → StandsOnGlass (A.paints s) (A.cursor s) t → StandsOnGlass (A.paints s) (A.cursor s) u
         → IsSameBuffer t.previous u.previous }
