@@ -9,7 +9,7 @@ use tui::widgets::canvas::{Canvas, Context, Line, Points, Rectangle};
 use tui::widgets::{Axis, BarChart, Chart, Dataset, GraphType, Row, Sparkline, StatefulWidget, Table, TableState, Tabs, Widget};
 
 const NAMES: [&str; 12] =
-    ["alpha", "beta", "gamma", "delta", "epsil", "zeta", "eta", "theta", "iota", "kappa", "lamda", "mu"];
+    ["alpha", "beta", "gamma", "delta", "epsil", "zeta", "etta", "theta", "iota", "kappa", "lamda", "muon"];
 const CELLS: [&str; 4] = ["a name", "a number", "some words in a column", "a date"];
 const WIDTHS: [Constraint; 4] =
     [Constraint::Length(10), Constraint::Percentage(20), Constraint::Length(30), Constraint::Min(8)];
