@@ -271,6 +271,16 @@ impl<'a> Table<'a> {
         count
     }
 
+    // The number of a column, but at most the last one; the rows are counted for a column alone.
+    fn column_within(&self, number: Option<usize>) -> Option<usize>
+        ensures { result ≡ within_count (column_count self.now) number }
+    {
+        if number.is_none() {
+            return None;
+        }
+        within_count(self.column_count(), number)
+    }
+
     // How many columns of the screen stay free for the symbol.
     fn symbol_columns(&self, is_selected: bool, area: Rect) -> u16
         ensures value { result ≡ symbol_columns self.now is_selected area }
@@ -331,7 +341,7 @@ impl<'a> Table<'a> {
         TableState {
             offset: offset_for(rows, selected, state.offset, usize::from(height)),
             selected,
-            selected_column: within_count(self.column_count(), state.selected_column),
+            selected_column: self.column_within(state.selected_column),
         }
     }
 
