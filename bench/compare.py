@@ -30,7 +30,8 @@ WORKLOADS = (
     "text_ascii text_wide line_ascii text_widget text_raw line_center line_right line_cut span_marks spans_2000 "
     "widths_letters widths_wide boxes_exact boxes_fuzzy diff_letters diff_empty diff_wide style reset sets fill_reset "
     "merge_same merge_half empty filled clone resize term_resize "
-    "block paragraph_wrapped paragraph_long list_1000 list keys_text keys_arrows keys_mouse split_3 split_8 split_20"
+    "block paragraph_wrapped paragraph_long list_1000 list table_1000 table table_new tabs bars sparkline "
+    "chart_line chart_dots canvas canvas_kept scrollbar keys_text keys_arrows keys_mouse split_3 split_8 split_20"
 ).split()
 SECONDS = 0.25
 FEW, MANY = 4, 10

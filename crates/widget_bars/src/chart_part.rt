@@ -30,7 +30,7 @@ use ratatui_core::symbols::bar;
 use ratatui_core::text::{Line, text_columns};
 use rtui_drawing::{Cut, put_change, put_line, put_style, write};
 use std::alloc::{AllocError, Global};
-use widget_sparkline::level::{eighths_of, left_at, level_of};
+use widget_sparkline::level::{eighths_of, left_at, level_of, put_level};
 
 // How many columns a line takes, at most 65535.
 pub(crate) fn columns_of(line: &Line<'_>) -> u16
@@ -50,6 +50,7 @@ pub(crate) struct Filling<'b, 'a> {
 
 impl<'b, 'a> Filling<'b, 'a> {
     // The symbol of a row.
+    #[inline(always)]
     fn symbol(&self, y: u16) -> &'a str
         ensures value { let row = row_from_below self.now.area y in
             result.now ≡ level_text self.now.set.now (left_at self.now.eighths row) }
@@ -69,7 +70,9 @@ impl<'b, 'a> CellChange for Filling<'b, 'a> {
     ghost is_light = { λ f _ _. HasShortBars f.set.now };
 
     fn change(&self, alloc: Global, position: Position, cell: &mut Cell) -> Result<(), AllocError> {
-        cell.put(alloc, self.symbol(position.y), self.style)
+        put_level(alloc, self.symbol(position.y), cell)?;
+        cell.set_style(self.style);
+        Ok(())
     }
 }
 

@@ -2,8 +2,8 @@
 use Rattle.std.specs.Prelude.{◌≡◌, true, false, length, replicate}
 use Rattle.ratatui_core.specs.Layout.{Rect}
 use Rattle.ratatui_core.specs.Buffer.{BufferData, ChangesEach}
-use Rattle.rtui_dots.specs.declared.{painter.Painter.Painter, drawing.Drawing.Drawing}
-use Rattle.rtui_dots.specs.Grids.{no_dots, SetsDots}
+use Rattle.rtui_dots.specs.declared.{scale.Scale.Scale, painter.Painter.Painter, drawing.Drawing.Drawing}
+use Rattle.rtui_dots.specs.Grids.{no_dots, empty_grid, SetsDots}
 use Rattle.rtui_dots.specs.Layers.{is_layer, drawn_dots}
 use Rattle.widget_canvas.specs.Canvases.{shown_at}
 
@@ -15,3 +15,8 @@ pub record DrawsNext (d : Drawing) (r : Rect) (p q : Painter) (old new : BufferD
   pub paints : is_layer d ≡ false → SetsDots (drawn_dots d p.scale) p q
   pub same : is_layer d ≡ false → new ≡ old
   pub scale : q.scale ≡ p.scale
+
+-- a grid of a scale without dots
+pub record IsEmptyGrid (s : Scale) (p : Painter) : Type 0 where
+  pub scale : p.scale ≡ s
+  pub cells : p.cells.items ≡ empty_grid s

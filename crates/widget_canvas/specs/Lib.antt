@@ -1,2 +1,3 @@
 pub mod Canvases
 pub mod Inner
+pub mod Kept

@@ -1,20 +1,21 @@
 //! A canvas.
 
-ghost use Rattle.std.specs.Prelude.{◌≡◌, Some, OnOk, IfOk, slice_index_or, pos, true};
+ghost use Rattle.std.specs.Prelude.{◌≡◌, Some, OnOk, IfOk, IsOk, slice_index_or, pos, true};
 ghost use Rattle.ratatui_core.specs.Widgets.{ChangesWithin};
 ghost use Rattle.widget_boxes.specs.Boxes.{IsBoxArea};
 ghost use Rattle.widget_canvas.specs.Canvases.{IsNewCanvas, scale_of, ShowsLayers, RendersLabels};
-ghost use Rattle.widget_canvas.specs.Inner.{DrawsNext};
-ghost use Rattle.widget_canvas.specs.Canvases.{ShowsCanvas};
+ghost use Rattle.widget_canvas.specs.Kept.{HasGrid, HasShortLabels, IsGrid, ShowsKept};
+ghost use Rattle.widget_canvas.specs.Inner.{DrawsNext, IsEmptyGrid};
 ghost use Rattle.rtui_dots.specs.Layers.{layers_of};
 
 use crate::label::Label;
 use crate::shown::show;
+use crate::state::CanvasState;
 use ratatui_core::buffer::Buffer;
 use ratatui_core::layout::Rect;
 use ratatui_core::style::{Color, Style};
 use ratatui_core::symbols::Marker;
-use ratatui_core::widgets::Widget;
+use ratatui_core::widgets::StatefulWidget;
 use rtui_dots::{Drawing, Painter, Scale, Shape};
 use std::alloc::{AllocError, Global};
 use widget_boxes::{Block, cloned_block, render_frame};
@@ -160,18 +161,43 @@ impl<'a> Canvas<'a> {
         }
     }
 
-    // Shows the layers over an area.
-    fn render_layers(&self, inner: Rect, buf: &mut Buffer) -> Result<(), AllocError>
+    // Shows the layers over an area, by a grid.
+    fn render_layers(
+        &self,
+        painter: &mut Painter,
+        inner: Rect,
+        buf: &mut Buffer,
+    ) -> Result<(), AllocError>
+        requires { IsEmptyGrid (scale_of self.now inner) painter.old }
+        ensures within { ChangesWithin inner buf.old buf.new }
+        ensures layers { let s = scale_of self.now inner in
+            ShowsLayers s inner (layers_of s self.now.drawings.now) buf.old buf.new }
+        ensures grid { IsGrid (scale_of self.now inner) painter.new }
+        ensures succeeds { IsOk result }
+    {
+        for drawing in self.drawings {
+            draw_next(drawing, painter, inner, buf)?;
+        }
+        show(painter, inner, buf)
+    }
+
+    // Shows the layers over an area, by the grid of a state.
+    fn render_dots(
+        &self,
+        inner: Rect,
+        buf: &mut Buffer,
+        state: &mut CanvasState,
+    ) -> Result<(), AllocError>
         ensures within { ChangesWithin inner buf.old buf.new }
         ensures ok { let s = scale_of self.now inner in
-            let layers = layers_of s self.now.drawings.now in
-            OnOk result (ShowsLayers s inner layers buf.old buf.new) }
+            OnOk result (ShowsLayers s inner (layers_of s self.now.drawings.now) buf.old buf.new) }
+        ensures grid { OnOk result (HasGrid state.new (scale_of self.now inner)) }
+        ensures short { HasGrid state.old (scale_of self.now inner) → IsOk result }
     {
-        let mut painter = Painter::new(buf.allocator(), self.scale(inner))?;
-        for drawing in self.drawings {
-            draw_next(drawing, &mut painter, inner, buf)?;
-        }
-        show(&painter, inner, buf)
+        let mut painter = state.take(buf.allocator(), self.scale(inner))?;
+        let shown = self.render_layers(&mut painter, inner, buf);
+        state.grid = Some(painter);
+        shown
     }
 
     // Renders the labels over an area.
@@ -180,6 +206,7 @@ impl<'a> Canvas<'a> {
         ensures within { ChangesWithin inner buf.old buf.new }
         ensures ok { let s = scale_of self.now inner in
             OnOk result (RendersLabels s inner self.now.labels.now buf.old buf.new) }
+        ensures short { HasShortLabels self.now → IsOk result }
     {
         let scale = self.scale(inner);
         for label in self.labels {
@@ -188,14 +215,22 @@ impl<'a> Canvas<'a> {
         Ok(())
     }
 
-    // Shows what is inside the box.
-    fn render_canvas(&self, inner: Rect, buf: &mut Buffer) -> Result<(), AllocError>
+    // Shows what is inside the box, by the grid of a state.
+    fn render_canvas(
+        &self,
+        inner: Rect,
+        buf: &mut Buffer,
+        state: &mut CanvasState,
+    ) -> Result<(), AllocError>
         requires { IsBoxArea inner }
         ensures within { ChangesWithin inner buf.old buf.new }
-        ensures ok { OnOk result (ShowsCanvas self.now inner buf.old buf.new) }
+        ensures ok { OnOk result
+            (ShowsKept self.now state.old state.new inner buf.old buf.new) }
+        ensures short { HasGrid state.old (scale_of self.now inner) → HasShortLabels self.now
+            → IsOk result }
     {
         buf.set_style(inner, Style::new().bg(self.background_color));
-        self.render_layers(inner, buf)?;
+        self.render_dots(inner, buf, state)?;
         self.render_labels(inner, buf)
     }
 }
@@ -208,8 +243,9 @@ fn draw_next(
     buf: &mut Buffer,
 ) -> Result<(), AllocError>
     ensures within { ChangesWithin inner buf.old buf.new }
-    ensures ok { let f = DrawsNext drawing.now inner painter.old painter.new in
-        OnOk result (f buf.old buf.new) }
+    ensures draws { let f = DrawsNext drawing.now inner painter.old painter.new in
+        f buf.old buf.new }
+    ensures succeeds { IsOk result }
 {
     if !drawing.is_layer() {
         drawing.draw(painter);
@@ -221,26 +257,46 @@ fn draw_next(
 }
 
 /// Over the area, as far as the buffer has it: the box, and inside the background, the dots layer
-/// by layer, and the labels. It takes memory for a grid of the cells inside.
-impl<'b, 'a> Widget for &'b Canvas<'a> {
-    ghost use Rattle.widget_canvas.specs.Canvases.{RendersCanvas};
+/// by layer, and the labels. It takes memory for a grid of the cells inside, unless the state has
+/// one, which was left by a rendering with the same bounds, the same marker and a space inside of
+/// the same size.
+impl<'b, 'a> StatefulWidget for &'b Canvas<'a> {
+    type State = CanvasState;
 
-    ghost renders = { λ canvas. RendersCanvas canvas.now };
+    ghost use Rattle.widget_canvas.specs.Kept.{RendersKept, IsShortCanvas};
 
-    fn render(self, area: Rect, buf: &mut Buffer) -> Result<(), AllocError> {
+    ghost renders = { λ canvas. RendersKept canvas.now };
+
+    ghost is_short = { λ canvas. IsShortCanvas canvas.now };
+
+    fn render(
+        self,
+        area: Rect,
+        buf: &mut Buffer,
+        state: &mut CanvasState,
+    ) -> Result<(), AllocError> {
         let Some(inner) = render_frame(Style::new(), &self.block, area, buf)? else {
             return Ok(());
         };
-        self.render_canvas(inner, buf)
+        self.render_canvas(inner, buf, state)
     }
 }
 
-impl<'a> Widget for Canvas<'a> {
-    ghost use Rattle.widget_canvas.specs.Canvases.{RendersCanvas};
+impl<'a> StatefulWidget for Canvas<'a> {
+    type State = CanvasState;
 
-    ghost renders = { RendersCanvas };
+    ghost use Rattle.widget_canvas.specs.Kept.{RendersKept, IsShortCanvas};
 
-    fn render(self, area: Rect, buf: &mut Buffer) -> Result<(), AllocError> {
-        (&self).render(area, buf)
+    ghost renders = { RendersKept };
+
+    ghost is_short = { IsShortCanvas };
+
+    fn render(
+        self,
+        area: Rect,
+        buf: &mut Buffer,
+        state: &mut CanvasState,
+    ) -> Result<(), AllocError> {
+        StatefulWidget::render(&self, area, buf, state)
     }
 }

@@ -1,9 +1,10 @@
 //! Labels of a canvas.
 
-ghost use Rattle.std.specs.Prelude.{◌≡◌, ◌≤◌, ◌-◌, OnOk, IfOk, IsTrue};
+ghost use Rattle.std.specs.Prelude.{◌≡◌, ◌≤◌, ◌-◌, OnOk, IfOk, IsOk, IsTrue};
 ghost use Rattle.ratatui_core.specs.Layout.{IsInside};
 ghost use Rattle.ratatui_core.specs.Widgets.{ChangesWithin};
 ghost use Rattle.widget_boxes.specs.Boxes.{IsBoxArea};
+ghost use Rattle.widget_boxes.specs.Lines.{IsShortTitle};
 ghost use Rattle.widget_boxes.specs.Titles.{title_width};
 ghost use Rattle.rtui_dots.specs.Grids.{lies_between, lies_within};
 ghost use Rattle.widget_canvas.specs.Canvases.{label_column, label_row, label_from, label_area};
@@ -129,6 +130,7 @@ impl<'a> Label<'a> {
         requires rows { scale.now.rows ≡ inner.height }
         ensures within { ChangesWithin inner buf.old buf.new }
         ensures ok { OnOk result (RendersLabel scale.now inner self.now buf.old buf.new) }
+        ensures short { IsShortTitle self.now.line → IsOk result }
     {
         if !self.lies_within(scale) {
             return Ok(());

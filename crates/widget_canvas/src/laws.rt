@@ -10,9 +10,12 @@ ghost use Rattle.ratatui_core.specs.Symbols.{filled, older_octants, older_sextan
 ghost use Rattle.widget_canvas.specs.declared.shown.TheConstants.{QUADRANTS, SEXTANTS, OCTANTS};
 ghost use Rattle.std.specs.List.{range_with_len};
 ghost use Rattle.widget_canvas.specs.declared.canvas.Canvas.{Canvas};
+ghost use Rattle.widget_canvas.specs.declared.state.CanvasState.{CanvasState};
+ghost use Rattle.widget_canvas.specs.Kept.{RendersKept, IsShortCanvas, HasShortLabels, grid_scale};
 ghost use Rattle.widget_canvas.specs.Canvases.{HasNarrowDots, RendersCanvas, rows_doubled};
 ghost use Rattle.ratatui_core.specs.Text.{TakesOneColumn, EachLineGrapheme};
 ghost use Rattle.widget_boxes.specs.Boxes.{IsNarrowBox};
+ghost use Rattle.widget_boxes.specs.Framed.{IsShortFrame};
 
 /// A canvas whose marks and labels take one column for each grapheme keeps cells plain, if it has
 /// no box or a narrow one; so a screen can show it.
@@ -42,4 +45,19 @@ pub fn marks_have_their_dots()
     ensures octants { OCTANTS ≡ filled older_octants 256 0 0x1cd00 }
     ensures quadrants { QUADRANTS
         ≡ map (λ n. slice_index OCTANTS (rows_doubled n)) (range_with_len 0 16) }
+{}
+
+/// A rendering with a state leaves what one without a state leaves.
+pub fn kept_grids_show_the_same()
+    ensures { (c : Canvas) (s t : CanvasState) (area : Rect) (old new : BufferData)
+        → RendersKept c s t area old new → RendersCanvas c area old new }
+{}
+
+/// After a rendering with a state the next one takes no memory, if its bounds, its marker and the
+/// size inside its box are the same, and neither its box nor its labels take any: its shapes may be
+/// others.
+pub fn kept_grids_take_no_memory()
+    ensures { (c d : Canvas) (s t : CanvasState) (area next : Rect) (old new b : BufferData)
+        → RendersKept c s t area old new → grid_scale d next b ≡ grid_scale c area old
+        → IsShortFrame d.block b → HasShortLabels d → IsShortCanvas d t next b }
 {}

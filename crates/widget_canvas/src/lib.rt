@@ -5,10 +5,13 @@
 #![tactic(auto)]
 
 mod canvas;
+mod fresh;
 mod label;
 pub mod laws;
 mod shown;
+mod state;
 
 pub use canvas::Canvas;
 pub use label::Label;
 pub use rtui_dots::{Bars, Circle, Drawing, Line, Path, Points, Rectangle};
+pub use state::CanvasState;

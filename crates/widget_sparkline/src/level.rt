@@ -1,9 +1,12 @@
 //! Heights in eighths of a cell, and the symbols that show them.
 
-ghost use Rattle.std.specs.Prelude.{◌≡◌, ◌≤◌};
+ghost use Rattle.std.specs.Prelude.{◌≡◌, ◌≤◌, OnOk, OnErr, IsOk};
+ghost use Rattle.ratatui_core.specs.Buffer.{with_symbol, IsShort};
 ghost use Rattle.widget_sparkline.specs.Levels.{eighths_of_value, left_at, level_text};
 
+use ratatui_core::buffer::Cell;
 use ratatui_core::symbols::bar;
+use std::alloc::{AllocError, Global};
 
 /// Returns how many eighths of a cell a value is high, rounded down, if the greatest one takes so
 /// many rows; none if that is 0.
@@ -38,5 +41,41 @@ pub fn level_of<'a>(set: &bar::Set<'a>, eighths: usize) -> &'a str
         6 => set.three_quarters,
         7 => set.seven_eighths,
         _ => set.full,
+    }
+}
+
+/// Returns how many eighths of the cell of a row a value fills, if the greatest one takes so many
+/// rows; the lowest row is 0.
+#[inline(always)]
+pub fn eighths_in(value: u64, greatest: u64, rows: u16, row: u16) -> usize
+    ensures value { result ≡ left_at (eighths_of_value value greatest rows) row }
+    ensures within { result ≤ 8 }
+{
+    match value.checked_mul(u64::from(rows) * 8) {
+        Some(all) if greatest > 0 => {
+            let eighths = all / greatest;
+            eighths.saturating_sub(u64::from(row) * 8).min(8) as usize
+        }
+        _ => left_at(eighths_of(value, greatest, rows), row),
+    }
+}
+
+/// Sets the text of a cell to a symbol.
+///
+/// # Errors
+///
+/// `AllocError` if memory is refused; the cell is as it was then. A symbol of at most 22 bytes takes
+/// none.
+#[inline(always)]
+pub fn put_level(alloc: Global, symbol: &str, cell: &mut Cell) -> Result<(), AllocError>
+    ensures ok { OnOk result (cell.new ≡ with_symbol symbol.now cell.old) }
+    ensures err { OnErr result (cell.new ≡ cell.old) }
+    ensures short { IsShort symbol.now → IsOk result }
+{
+    // a copy of a known length takes no call
+    match symbol.len() {
+        3 => cell.set_symbol(alloc, symbol),
+        1 => cell.set_symbol(alloc, symbol),
+        _ => cell.set_symbol(alloc, symbol),
     }
 }

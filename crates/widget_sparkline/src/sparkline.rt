@@ -2,16 +2,17 @@
 
 ghost use Rattle.std.specs.Prelude.{◌≡◌, ◌<◌, ◌+◌, ◌-◌, Some, IfOk, true};
 ghost use Rattle.ratatui_core.specs.Style.{patch};
-ghost use Rattle.ratatui_core.specs.Buffer.{IsShort};
+ghost use Rattle.ratatui_core.specs.Buffer.{IsShort, styled};
 ghost use Rattle.widget_sparkline.specs.Sparklines.{IsNewSparkline, greatest_of, bars_width, bars_cut};
 ghost use Rattle.widget_sparkline.specs.Sparklines.{HasShortLevels, number_of_column, mark_of_value};
 ghost use Rattle.widget_sparkline.specs.Sparklines.{style_of_bar};
 ghost use Rattle.widget_sparkline.specs.Levels.{row_from_below};
 
-use crate::level::{eighths_of, left_at, level_of};
+use crate::level::{eighths_in, level_of, put_level};
 use ratatui_core::buffer::{Buffer, Cell, CellChange};
 use ratatui_core::layout::{Position, Rect};
 use ratatui_core::style::Style;
+use ratatui_core::style::laws::new_style_is_identity;
 use ratatui_core::symbols::{bar, shade};
 use ratatui_core::widgets::Widget;
 use rtui_drawing::{Cut, put_change};
@@ -242,24 +243,45 @@ impl<'b, 'a> Bars<'b, 'a> {
     }
 
     // The symbol of what shows of a bar in a row.
-    fn symbol(&self, bar: SparklineBar, y: u16) -> &'a str
+    #[inline(always)]
+    fn symbol(&self, bar: &SparklineBar, y: u16) -> &'a str
         ensures value { let s = self.now.sparkline.now in let r = self.now.area in
-            result.now ≡ mark_of_value s self.now.greatest r.height bar.value (row_from_below r y) }
+            result.now ≡ mark_of_value s self.now.greatest r.height bar.now.value
+            (row_from_below r y) }
         ensures short { HasShortLevels self.now.sparkline.now → IsShort result.now }
     {
         match bar.value {
             Some(value) => {
-                let eighths = eighths_of(value, self.greatest, self.area.height);
-                level_of(&self.sparkline.bar_set, left_at(eighths, self.row(y)))
+                let eighths = eighths_in(value, self.greatest, self.area.height, self.row(y));
+                level_of(&self.sparkline.bar_set, eighths)
             }
             None => self.sparkline.absent_value_symbol,
         }
     }
 
-    // The style of a bar, over that of the sparkline.
-    fn style(&self, bar: SparklineBar) -> Style
+    // Lays the style of a bar over a cell; apart where the bar has one of its own.
+    #[inline(always)]
+    fn lay_style(&self, bar: &SparklineBar, cell: &mut Cell)
         ensures { let s = self.now.sparkline.now in
-            result ≡ patch s.style (style_of_bar s bar.value bar.style) }
+            let style = patch s.style (style_of_bar s bar.now.value bar.now.style) in
+            cell.new ≡ styled style cell.old }
+    {
+        match (bar.value, bar.style) {
+            (Some(_), None) => {
+                new_style_is_identity(self.sparkline.style);
+                cell.set_style(self.sparkline.style);
+            }
+            _ => {
+                cell.set_style(self.style(bar));
+            }
+        }
+    }
+
+    // The style of a bar, over that of the sparkline.
+    #[inline(never)]
+    fn style(&self, bar: &SparklineBar) -> Style
+        ensures { let s = self.now.sparkline.now in
+            result ≡ patch s.style (style_of_bar s bar.now.value bar.now.style) }
     {
         let own = match bar.value {
             Some(_) => bar.style.unwrap_or(Style::new()),
@@ -290,8 +312,10 @@ impl<'b, 'a> CellChange for Bars<'b, 'a> {
         if number >= bars.len() {
             return Ok(());
         }
-        let bar = bars[number];
-        cell.put(alloc, self.symbol(bar, position.y), self.style(bar))
+        let bar = &bars[number];
+        put_level(alloc, self.symbol(bar, position.y), cell)?;
+        self.lay_style(bar, cell);
+        Ok(())
     }
 }
 

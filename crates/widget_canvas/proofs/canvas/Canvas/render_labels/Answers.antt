@@ -15,3 +15,8 @@ loop-label-preserved c =
         second = others;
       }));
     }
+
+pub returns-in_err-render-clause-within : goal.returns-in_err-render-clause-within
+returns-in_err-render-clause-within c =
+    within-then c.args.inner c.args.buf.now c.loop-label.buf c.render.new.buf c.loop-label.invariant.within
+    c.in_err-render.ensures.within

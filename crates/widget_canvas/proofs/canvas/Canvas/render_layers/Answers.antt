@@ -1,36 +1,27 @@
-use Rattle.std.proofs.Common.{◌∙◌, ap}
 use Rattle.std.proofs.lemmas.List.{drop_more, drop_all}
 use Rattle.ratatui_core.proofs.{WidgetLemmas.within-then}
-use Rattle.rtui_dots.specs.Grids.{empty_grid}
 use Rattle.widget_canvas.specs.Canvases.{scale_of}
-use Rattle.widget_canvas.proofs.CanvasLemmas.{begun, drawn, ended, any-ok}
+use Rattle.widget_canvas.proofs.CanvasLemmas.{begun, drawn, ended}
 use Rattle.widget_canvas.proofs.canvas.Canvas.render_layers.Goals as goal
 
 pub loop-drawing-init : goal.loop-drawing-init
 loop-drawing-init c =
-    begun (scale_of c.args.self.now c.args.inner) c.args.inner c.args.self.now.drawings.now c.args.buf.now c.in_ok-painter.painter
-    (c.in_ok-painter.ensures.scale ∙ c.scale.ensures) (c.in_ok-painter.ensures.cells ∙ ap (λ z. empty_grid z) c.scale.ensures)
+    begun (scale_of c.args.self.now c.args.inner) c.args.inner c.args.self.now.drawings.now c.args.buf.now c.args.painter.now
+    c.requires.scale c.requires.cells
 
 pub loop-drawing-preserved : goal.loop-drawing-preserved
 loop-drawing-preserved c =
     drawn (scale_of c.args.self.now c.args.inner) c.args.inner c.args.self.now.drawings.now c.args.buf.now _ _ _
     c.loop-drawing.painter c.draw_next.new.painter c.loop-drawing.buf c.draw_next.new.buf c.loop-drawing.invariant
-    c.in_ok-draw_next.ensures.ok
-    c.in_ok-draw_next.ensures.within
+    c.draw_next.ensures.draws c.draw_next.ensures.within
     (drop_more c.args.self.now.drawings.now c.loop-drawing.drawing-index _ c.loop-drawing-test.true)
-
-pub returns-in_err-draw_next-clause-within : goal.returns-in_err-draw_next-clause-within
-returns-in_err-draw_next-clause-within c =
-    within-then c.args.inner c.args.buf.now c.loop-drawing.buf c.draw_next.new.buf c.loop-drawing.invariant.within
-    c.in_err-draw_next.ensures.within
 
 pub returns-clause-within : goal.returns-clause-within
 returns-clause-within c = within-then c.args.inner c.args.buf.now c.loop-drawing.buf c.show.new.buf
     c.loop-drawing.invariant.within c.show.ensures.within
 
-pub returns-clause-ok : goal.returns-clause-ok
-returns-clause-ok c =
-    any-ok c.show.result
-    (ended (scale_of c.args.self.now c.args.inner) c.args.inner c.args.self.now.drawings.now c.args.buf.now _
+pub returns-clause-layers : goal.returns-clause-layers
+returns-clause-layers c =
+    ended (scale_of c.args.self.now c.args.inner) c.args.inner c.args.self.now.drawings.now c.args.buf.now _
     c.loop-drawing.painter c.loop-drawing.buf c.show.new.buf c.loop-drawing.invariant c.show.ensures.shown
-    (drop_all c.loop-drawing.drawing-index c.args.self.now.drawings.now c.loop-drawing-test.false))
+    (drop_all c.loop-drawing.drawing-index c.args.self.now.drawings.now c.loop-drawing-test.false)
