@@ -1,6 +1,7 @@
 //! Painting dots.
 
-ghost use Rattle.std.specs.Prelude.{◌≡◌, ◌≤◌, ◌<◌, ◌+◌, ◌*◌, IsTrue, IfOk, [], ◌∷◌, length, replicate};
+ghost use Rattle.std.specs.Prelude.{◌≡◌, ◌≤◌, ◌<◌, ◌+◌, ◌*◌, IsTrue, IfOk, IsOk, OnOk, OnErr, [], ◌∷◌, length};
+ghost use Rattle.std.specs.Prelude.{replicate};
 ghost use Rattle.rtui_dots.specs.Grids.{far, no_dots, empty_grid, cell_row, cell_column, dot_number};
 ghost use Rattle.rtui_dots.specs.Grids.{has_one_color, with_dot_number};
 ghost use Rattle.rtui_dots.specs.Grids.{has_dot, SetsDots};
@@ -41,6 +42,7 @@ pub struct Painter {
 }
 
 // A dot's number in the pattern of its cell.
+#[inline(always)]
 fn dot_number(marker: Marker, x: u64, y: u64) -> u8
     ensures { result ≡ dot_number marker x y }
 {
@@ -55,6 +57,7 @@ fn dot_number(marker: Marker, x: u64, y: u64) -> u8
 }
 
 // The column of a dot's cell.
+#[inline(always)]
 fn cell_column(marker: Marker, x: u64) -> u64
     ensures value { result ≡ cell_column marker x }
     ensures within { result ≤ x }
@@ -66,6 +69,7 @@ fn cell_column(marker: Marker, x: u64) -> u64
 }
 
 // The row of a dot's cell.
+#[inline(always)]
 fn cell_row(marker: Marker, y: u64) -> u64
     ensures value { result ≡ cell_row marker y }
     ensures within { result ≤ y }
@@ -88,6 +92,7 @@ impl DotCell {
     }
 
     // The cell with one dot more.
+    #[inline(always)]
     fn with_dot_number(self, marker: Marker, number: u8, color: Color) -> DotCell
         ensures { result ≡ with_dot_number marker number color self }
     {
@@ -136,6 +141,27 @@ impl Painter {
         self.cells.as_slice()
     }
 
+    /// Makes it a grid of another scale, without dots, over the same memory if it has as many cells.
+    ///
+    /// # Errors
+    ///
+    /// `AllocError` if memory is refused; a grid of as many cells takes none. The grid is as it was
+    /// then.
+    pub fn restart(&mut self, scale: Scale) -> Result<(), AllocError>
+        ensures scale { OnOk result (self.new.scale ≡ scale) }
+        ensures cells { OnOk result (self.new.cells.items ≡ empty_grid scale) }
+        ensures err { OnErr result (self.new ≡ self.old) }
+        ensures short { length self.old.cells.items ≡ scale.columns * scale.rows → IsOk result }
+    {
+        if self.cells.len() != usize::from(scale.columns) * usize::from(scale.rows) {
+            *self = Painter::new(*self.cells.allocator(), scale)?;
+            return Ok(());
+        }
+        self.clear();
+        self.scale = scale;
+        Ok(())
+    }
+
     /// Takes all dots away.
     pub fn clear(&mut self)
         ensures cells { self.new.cells.items ≡ replicate (length self.old.cells.items) no_dots }
@@ -147,31 +173,45 @@ impl Painter {
     }
 
     // Whether the grid has a dot.
-    fn has_dot(&self, x: u64, y: u64) -> bool
+    #[inline(always)]
+    fn has_dot(&self, marker: Marker, x: u64, y: u64) -> bool
+        requires { marker ≡ self.now.scale.marker }
         ensures value { result ≡ has_dot self.now.scale x y }
         ensures column { IsTrue result → (far ≤ x) }
         ensures row { IsTrue result → (far ≤ y) }
         ensures within { IsTrue result → (y < far + 262140) }
     {
-        let (columns, rows) = (self.scale.dot_columns(), self.scale.dot_rows());
+        let (columns, rows) = (self.scale.columns_by(marker), self.scale.rows_by(marker));
         FAR <= x && x < FAR + columns && FAR <= y && y < FAR + rows
     }
 
-    // Sets a dot by its places.
-    pub(crate) fn set_dot(&mut self, x: u64, y: u64, color: Color)
+    // Sets a dot by its places, marked as the grid marks dots.
+    #[inline(always)]
+    fn set_marked(&mut self, marker: Marker, x: u64, y: u64, color: Color)
+        requires { marker ≡ self.old.scale.marker }
         ensures { SetsDots (record { x = x; y = y; color = color } ∷ []) self.old self.new }
     {
-        if !self.has_dot(x, y) {
+        if !self.has_dot(marker, x, y) {
             return;
         }
         let (x, y) = (x - FAR, y - FAR);
-        let marker = self.scale.marker;
-        let columns = u64::from(self.scale.columns);
+        let columns = self.scale.width();
         let index = (cell_row(marker, y) * columns + cell_column(marker, x)) as usize;
         let number = dot_number(marker, x, y);
         let cells = self.cells.as_mut_slice();
         if index < cells.len() {
             cells[index] = cells[index].with_dot_number(marker, number, color);
+        }
+    }
+
+    // Sets a dot by its places. Braille stands apart, so that nothing is asked about the marker of
+    // each of its dots.
+    pub(crate) fn set_dot(&mut self, x: u64, y: u64, color: Color)
+        ensures { SetsDots (record { x = x; y = y; color = color } ∷ []) self.old self.new }
+    {
+        match self.scale.marker {
+            Marker::Braille => self.set_marked(Marker::Braille, x, y, color),
+            marker => self.set_marked(marker, x, y, color),
         }
     }
 }

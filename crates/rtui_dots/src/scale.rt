@@ -33,6 +33,7 @@ pub struct Scale {
 }
 
 // How many dots a cell has side by side.
+#[inline(always)]
 fn dots_across(marker: Marker) -> u64
     ensures value { result ≡ dots_across marker }
     ensures within { result ≤ 2 }
@@ -44,6 +45,7 @@ fn dots_across(marker: Marker) -> u64
 }
 
 // How many dots a cell has one over the other.
+#[inline(always)]
 fn dots_down(marker: Marker) -> u64
     ensures value { result ≡ dots_down marker }
     ensures within { result ≤ 4 }
@@ -106,7 +108,7 @@ impl Scale {
         ensures value { result ≡ dot_columns self.now }
         ensures within { result ≤ 131070 }
     {
-        u64::from(self.columns) * dots_across(self.marker)
+        self.columns_by(self.marker)
     }
 
     // How many dots a column has.
@@ -114,7 +116,35 @@ impl Scale {
         ensures value { result ≡ dot_rows self.now }
         ensures within { result ≤ 262140 }
     {
-        u64::from(self.rows) * dots_down(self.marker)
+        self.rows_by(self.marker)
+    }
+
+    // How many cells a row has.
+    pub(crate) fn width(&self) -> u64
+        ensures value { result ≡ self.now.columns }
+        ensures within { result ≤ 65535 }
+    {
+        u64::from(self.columns)
+    }
+
+    // How many dots a row has, by the grid's marker.
+    #[inline(always)]
+    pub(crate) fn columns_by(&self, marker: Marker) -> u64
+        requires { marker ≡ self.now.marker }
+        ensures value { result ≡ dot_columns self.now }
+        ensures within { result ≤ 131070 }
+    {
+        u64::from(self.columns) * dots_across(marker)
+    }
+
+    // How many dots a column has, by the grid's marker.
+    #[inline(always)]
+    pub(crate) fn rows_by(&self, marker: Marker) -> u64
+        requires { marker ≡ self.now.marker }
+        ensures value { result ≡ dot_rows self.now }
+        ensures within { result ≤ 262140 }
+    {
+        u64::from(self.rows) * dots_down(marker)
     }
 
     // Whether the bounds have points between them.

@@ -1,10 +1,10 @@
 -- A canvas whose grid is kept.
-use Rattle.std.proofs.Common.{◌≡◌, ℕ, ◌<◌, ◌≤◌, Option, Some, None, refl, sym, ap, subst, arith, Result, Ok, Err, OnOk, IfSome}
+use Rattle.std.proofs.Common.{◌≡◌, ℕ, ◌*◌, ◌<◌, Option, Some, None, refl, sym, subst, arith, length, Result, Ok, Err, OnOk, IsSomeAnd}
 use Rattle.std.specs.declared.alloc.AllocError.{AllocError}
 use Rattle.ratatui_core.specs.{Layout.Rect, Layout.intersected, Buffer.BufferData}
 use Rattle.widget_boxes.specs.declared.block.Block.{Block}
 use Rattle.widget_boxes.specs.Framed.{inner_if, IsShortFrame}
-use Rattle.rtui_dots.specs.declared.scale.Scale.{Scale}
+use Rattle.rtui_dots.specs.declared.painter.Painter.{Painter}
 use Rattle.widget_canvas.specs.declared.{canvas.Canvas.Canvas, state.CanvasState.CanvasState}
 use Rattle.widget_canvas.specs.{Canvases.RendersCanvas}
 use Rattle.widget_canvas.specs.Kept.{RendersKept, HasGrid, HasShortLabels, IsShortCanvas, inside_of, grid_scale}
@@ -48,13 +48,17 @@ kept-grid c s t area old new is wide high =
     (part.inside wide high).grid
 
 pub kept-short : (c d : Canvas) (s t : CanvasState) (area next : Rect) (old new b : BufferData) → RendersKept c s t area old new
-    → grid_scale d next b ≡ grid_scale c area old → IsShortFrame d.block b → HasShortLabels d → IsShortCanvas d t next b
-kept-short c d s t area next old new b is same frame labels =
-    let columns : (inside_of d next b).width ≡ (inside_of c area old).width = ap (λ z. z.columns) same in
-    let rows : (inside_of d next b).height ≡ (inside_of c area old).height = ap (λ z. z.rows) same in
-    record {
-      frame = frame;
-      labels = labels;
-      grid = λ wide high. subst (λ z. HasGrid t z) (sym same)
-          (kept-grid c s t area old new is (subst (λ n. 0 < n) columns wide) (subst (λ n. 0 < n) rows high));
-    }
+    → (inside_of d next b).width ≡ (inside_of c area old).width → (inside_of d next b).height ≡ (inside_of c area old).height
+    → IsShortFrame d.block b → HasShortLabels d → IsShortCanvas d t next b
+kept-short c d s t area next old new b is columns rows frame labels = record {
+  frame = frame;
+  labels = labels;
+  grid = λ wide high. as_many t.grid (inside_of c area old) (inside_of d next b) (sym columns) (sym rows)
+      (kept-grid c s t area old new is (subst (λ n. 0 < n) columns wide) (subst (λ n. 0 < n) rows high));
+}
+  where
+    as_many : (o : Option Painter) (q r : Rect) → q.width ≡ r.width → q.height ≡ r.height
+        → IsSomeAnd o (λ p. length p.cells.items ≡ q.width * q.height)
+        → IsSomeAnd o (λ p. length p.cells.items ≡ r.width * r.height)
+    as_many None q r columns rows none = none
+    as_many (Some p) q r columns rows has = rw (← columns, ← rows) has

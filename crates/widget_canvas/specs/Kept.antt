@@ -6,14 +6,13 @@ use Rattle.rtui_dots.specs.declared.{scale.Scale.Scale, painter.Painter.Painter}
 use Rattle.widget_canvas.specs.declared.{label.Label.Label, canvas.Canvas.Canvas, state.CanvasState.CanvasState}
 use Rattle.widget_canvas.specs.Canvases.{scale_of, ShowsCanvas}
 
--- a grid of a scale, with all of its cells
-pub record IsGrid (s : Scale) (p : Painter) : Type 0 where
-  pub scale : p.scale ≡ s
-  pub cells : length p.cells.items ≡ s.columns * s.rows
+-- a grid has as many cells as a scale says
+abbrev pub HasCells : Scale → Painter → Type 0
+HasCells s p = length p.cells.items ≡ s.columns * s.rows
 
--- a state has the grid of a scale
+-- a state has a grid of as many cells as a scale says
 abbrev pub HasGrid : CanvasState → Scale → Type 0
-HasGrid t s = IsSomeAnd t.grid (IsGrid s)
+HasGrid t s = IsSomeAnd t.grid (HasCells s)
 
 -- what a canvas shows inside its box; the state has the grid for it then
 pub record ShowsKept (c : Canvas) (s t : CanvasState) (r : Rect) (old new : BufferData) : Type 0 where

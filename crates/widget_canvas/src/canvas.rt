@@ -4,7 +4,7 @@ ghost use Rattle.std.specs.Prelude.{◌≡◌, Some, OnOk, IfOk, IsOk, slice_ind
 ghost use Rattle.ratatui_core.specs.Widgets.{ChangesWithin};
 ghost use Rattle.widget_boxes.specs.Boxes.{IsBoxArea};
 ghost use Rattle.widget_canvas.specs.Canvases.{IsNewCanvas, scale_of, ShowsLayers, RendersLabels};
-ghost use Rattle.widget_canvas.specs.Kept.{HasGrid, HasShortLabels, IsGrid, ShowsKept};
+ghost use Rattle.widget_canvas.specs.Kept.{HasCells, HasGrid, HasShortLabels, ShowsKept};
 ghost use Rattle.widget_canvas.specs.Inner.{DrawsNext, IsEmptyGrid};
 ghost use Rattle.rtui_dots.specs.Layers.{layers_of};
 
@@ -172,7 +172,7 @@ impl<'a> Canvas<'a> {
         ensures within { ChangesWithin inner buf.old buf.new }
         ensures layers { let s = scale_of self.now inner in
             ShowsLayers s inner (layers_of s self.now.drawings.now) buf.old buf.new }
-        ensures grid { IsGrid (scale_of self.now inner) painter.new }
+        ensures grid { HasCells (scale_of self.now inner) painter.new }
         ensures succeeds { IsOk result }
     {
         for drawing in self.drawings {
@@ -258,8 +258,7 @@ fn draw_next(
 
 /// Over the area, as far as the buffer has it: the box, and inside the background, the dots layer
 /// by layer, and the labels. It takes memory for a grid of the cells inside, unless the state has
-/// one, which was left by a rendering with the same bounds, the same marker and a space inside of
-/// the same size.
+/// one of as many cells.
 impl<'b, 'a> StatefulWidget for &'b Canvas<'a> {
     type State = CanvasState;
 

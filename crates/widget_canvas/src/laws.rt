@@ -11,7 +11,7 @@ ghost use Rattle.widget_canvas.specs.declared.shown.TheConstants.{QUADRANTS, SEX
 ghost use Rattle.std.specs.List.{range_with_len};
 ghost use Rattle.widget_canvas.specs.declared.canvas.Canvas.{Canvas};
 ghost use Rattle.widget_canvas.specs.declared.state.CanvasState.{CanvasState};
-ghost use Rattle.widget_canvas.specs.Kept.{RendersKept, IsShortCanvas, HasShortLabels, grid_scale};
+ghost use Rattle.widget_canvas.specs.Kept.{RendersKept, IsShortCanvas, HasShortLabels, inside_of};
 ghost use Rattle.widget_canvas.specs.Canvases.{HasNarrowDots, RendersCanvas, rows_doubled};
 ghost use Rattle.ratatui_core.specs.Text.{TakesOneColumn, EachLineGrapheme};
 ghost use Rattle.widget_boxes.specs.Boxes.{IsNarrowBox};
@@ -53,11 +53,12 @@ pub fn kept_grids_show_the_same()
         → RendersKept c s t area old new → RendersCanvas c area old new }
 {}
 
-/// After a rendering with a state the next one takes no memory, if its bounds, its marker and the
-/// size inside its box are the same, and neither its box nor its labels take any: its shapes may be
+/// After a rendering with a state the next one takes no memory, if the size inside its box is the
+/// same, and neither its box nor its labels take any: its bounds, its marker and its shapes may be
 /// others.
 pub fn kept_grids_take_no_memory()
     ensures { (c d : Canvas) (s t : CanvasState) (area next : Rect) (old new b : BufferData)
-        → RendersKept c s t area old new → grid_scale d next b ≡ grid_scale c area old
+        → RendersKept c s t area old new → (inside_of d next b).width ≡ (inside_of c area old).width
+        → (inside_of d next b).height ≡ (inside_of c area old).height
         → IsShortFrame d.block b → HasShortLabels d → IsShortCanvas d t next b }
 {}
