@@ -4,7 +4,7 @@ use ratatui_core::layout::{Constraint, Rect};
 use ratatui_core::style::Color;
 use ratatui_core::symbols::Marker;
 use ratatui_core::widgets::{StatefulWidget, Widget};
-use ratatui_widgets::canvas::{Canvas, Drawing, Points};
+use ratatui_widgets::canvas::{Canvas, CanvasState, Drawing, Points};
 use ratatui_widgets::{
     BarChart, Cell, Chart, List, Row, Sparkline, SparklineBar, Table, TableState, Tabs,
 };
@@ -39,12 +39,12 @@ fn dotted(alloc: Global) -> Result<Vec<usize>, AllocError> {
     let mut buffer = Buffer::empty(alloc, area)?;
     let coords = [(0, 0), (399, 99)];
     let drawings = [Drawing::Points(Points::new(&coords, Color::Green))];
-    Canvas::new()
+    let canvas = Canvas::new()
         .marker(Marker::Dot)
         .x_bounds([0, 399])
         .y_bounds([0, 99])
-        .paint(&drawings)
-        .render(area, &mut buffer)?;
+        .paint(&drawings);
+    Widget::render(&canvas, area, &mut buffer)?;
     let mut places = Vec::new(alloc);
     for (place, cell) in buffer.content().iter().enumerate() {
         if cell.symbol() == "•" {
@@ -58,6 +58,37 @@ fn dotted(alloc: Global) -> Result<Vec<usize>, AllocError> {
 fn a_canvas_of_many_cells_is_shown(rt: HostRuntime) -> Result<(), AllocError> {
     let places = dotted(rt.alloc())?;
     assert!(rt; places.as_slice() == [399, 39600].as_slice());
+    Ok(())
+}
+
+// A canvas as a state's grid shows it.
+fn shown_by(
+    alloc: Global,
+    canvas: &Canvas<'_>,
+    state: &mut CanvasState,
+) -> Result<Buffer, AllocError> {
+    let area = Rect::new(0, 0, 20, 10);
+    let mut buffer = Buffer::empty(alloc, area)?;
+    StatefulWidget::render(canvas, area, &mut buffer, state)?;
+    Ok(buffer)
+}
+
+#[test]
+fn a_canvas_with_a_state_shows_the_same(rt: HostRuntime) -> Result<(), AllocError> {
+    let alloc = rt.alloc();
+    let coords = [(0, 0), (19, 7), (39, 39)];
+    let drawings = [Drawing::Points(Points::new(&coords, Color::Green))];
+    let canvas = Canvas::new()
+        .x_bounds([0, 39])
+        .y_bounds([0, 39])
+        .paint(&drawings);
+    let mut alone = Buffer::empty(alloc, Rect::new(0, 0, 20, 10))?;
+    Widget::render(&canvas, Rect::new(0, 0, 20, 10), &mut alone)?;
+    let mut state = CanvasState::new();
+    let first = shown_by(alloc, &canvas, &mut state)?;
+    assert!(rt; first == alone);
+    let second = shown_by(alloc, &canvas, &mut state)?;
+    assert!(rt; second == alone);
     Ok(())
 }
 
