@@ -36,6 +36,7 @@ unfolding browsed_after
 marks-next b (message.Event e) all = event-marks b e all
 marks-next b (message.Tick passed) all = all
 marks-next b (message.Answer (outcome.Listed l)) all = left-listed l b
+marks-next b (message.Answer (outcome.Glanced g)) all = all
 marks-next b (message.Answer outcome.Done) all = (goes-on b.mode b).marks all
 marks-next b (message.Answer (outcome.Failed why)) all = all
 

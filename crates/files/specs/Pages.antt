@@ -14,7 +14,7 @@ use Rattle.ratatui_core.specs.Buffer.{text_columns}
 use Rattle.ratatui_core.specs.Terminal.{TerminalData}
 use Rattle.ratatui_ansi.specs.Backend.{BackendState}
 use Rattle.ratatui_app.specs.Glass.{StandsOnGlass}
-use Rattle.files.specs.Texts.{text_in, place_in_row, status_told}
+use Rattle.files.specs.Texts.{text_in, entry_at, place_in_row, status_told}
 use Rattle.files.specs.Columns.{above_width, folder_width, ahead_start, shows_entries, is_parted, above_text, is_own_row, ahead_text}
 
 -- a text in so many columns of a row, from one on
@@ -52,7 +52,7 @@ PaintsAbove b r k =
 abbrev pub PaintsFolder : Browser → Rect → ℕ → BufferData → BufferData → Type 0
 PaintsFolder b r k =
     PaintsText (r.x + above_width r.width) (r.y + k) (folder_width r.width - 1) (style_in k r.height b)
-    (text_in k (folder_width r.width - 1) r.height b)
+    (entry_at (folder_width r.width - 1) (place_in_row k b) b)
 
 abbrev pub PaintsAhead : Browser → Rect → ℕ → BufferData → BufferData → Type 0
 PaintsAhead b r k =

@@ -1,7 +1,7 @@
 //! What a browser sees beside its folder.
 
 ghost use Rattle.std.specs.Prelude.{◌≡◌, option_map};
-ghost use Rattle.files.specs.Glances.{is_current, current, seen_above, seen_ahead, glance_taken, may_see};
+ghost use Rattle.files.specs.Glances.{is_at, current, seen_above, seen_ahead, glance_taken, may_see};
 ghost use Rattle.files.specs.Glances.{lacks_above, lacks_ahead, is_wide, may_look, side_wanted};
 
 use crate::browser::{Browser, Mode};
@@ -23,24 +23,24 @@ fn may_see(row: &Row) -> bool
 }
 
 impl Browser {
-    // Whether a glance is one from the folder that is shown, and at what is selected if it is one
-    // ahead.
-    fn is_current(&self, glance: &Glance) -> bool
-        ensures { result ≡ is_current self.now glance.now }
+    // Whether a glance is one from the folder that is shown, and one ahead is at the entry that is
+    // selected.
+    fn is_at(&self, side: Side, glance: &Glance) -> bool
+        ensures { result ≡ is_at side self.now glance.now }
     {
         let is_here = glance.folder.as_str() == self.folder.as_str();
-        match glance.side {
+        match side {
             Side::Above => is_here,
             Side::Ahead => is_here && glance.name.as_str() == self.selected_text(),
         }
     }
 
     // What was seen last on a side, if it is still there.
-    fn current<'a>(&self, glance: &'a Option<Glance>) -> Option<&'a Glance>
-        ensures { option_map (λ it. it.now) result ≡ current self.now glance.now }
+    fn current<'a>(&self, side: Side, glance: &'a Option<Glance>) -> Option<&'a Glance>
+        ensures { option_map (λ it. it.now) result ≡ current side self.now glance.now }
     {
         match glance {
-            Some(glance) if self.is_current(glance) => Some(glance),
+            Some(glance) if self.is_at(side, glance) => Some(glance),
             _ => None,
         }
     }
@@ -49,21 +49,21 @@ impl Browser {
     pub(crate) fn seen_above(&self) -> Option<&Glance>
         ensures { option_map (λ it. it.now) result ≡ seen_above self.now }
     {
-        self.current(&self.glances.above)
+        self.current(Side::Above, &self.glances.above)
     }
 
     /// Returns what is seen of the entry that is selected.
     pub(crate) fn seen_ahead(&self) -> Option<&Glance>
         ensures { option_map (λ it. it.now) result ≡ seen_ahead self.now }
     {
-        self.current(&self.glances.ahead)
+        self.current(Side::Ahead, &self.glances.ahead)
     }
 
     /// Takes what is seen, unless something else is selected by now.
     pub(crate) fn take_glance(&mut self, glance: Glance)
         ensures { self.new ≡ glance_taken glance self.old }
     {
-        if self.is_current(&glance) {
+        if self.is_at(glance.side, &glance) {
             self.glances.take(glance);
         }
     }

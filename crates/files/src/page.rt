@@ -135,7 +135,7 @@ impl Browser {
             → OnOk result (IsReadyAt (part.x + ahead_start part.width) (part.y + k) buf.new) }
     {
         let width = folder_width(part.width) - 1;
-        let text = self.text_in(k, width, part.height)?;
+        let text = self.entry_text(self.place_in_row(k), width)?;
         let style = self.style_in(k, part.height);
         let at = Position {
             x: part.x + above_width(part.width),

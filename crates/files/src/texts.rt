@@ -472,8 +472,8 @@ impl Browser {
         }
     }
 
-    // The entry in a row of the list, if it shows one.
-    fn entry_text(&self, place: usize, width: u16) -> Result<String, AllocError>
+    /// Returns the entry in a row of the list, if it shows one.
+    pub(crate) fn entry_text(&self, place: usize, width: u16) -> Result<String, AllocError>
         ensures { IfOk result (λ text. string_bytes text ≡ entry_at width place self.now) }
     {
         match self.list.get(place) {
@@ -496,9 +496,9 @@ impl Browser {
         }
     }
 
-    /// Returns what stands in a row between the title and the status: an entry, or a row of the list
-    /// of the keys.
-    pub(crate) fn body_text(&self, k: u16, width: u16) -> Result<String, AllocError>
+    // What stands in a row between the title and the status: an entry, or a row of the list of the
+    // keys.
+    fn body_text(&self, k: u16, width: u16) -> Result<String, AllocError>
         ensures { IfOk result (λ text. string_bytes text ≡ body_in self.now.mode width k self.now) }
     {
         match self.mode {
