@@ -1,5 +1,5 @@
 -- What is seen of something, by what is answered of it.
-use Rattle.std.specs.Prelude.{◌≡◌, ◌≤◌, ◌⊎◌, ¬, ◌+◌, ◌==◌, ℕ, Bool, true, false, List, map, length, take}
+use Rattle.std.specs.Prelude.{◌≡◌, ◌≤◌, ◌⊎◌, ◌+◌, ◌==◌, ℕ, Bool, true, false, List, map, length, take}
 use Rattle.std.specs.Prelude.{Option, Some, None, IsUtf8}
 use Rattle.std.specs.{List.list_any, Str.Lines.lines}
 use Rattle.ratatui_files.specs.declared.answer.Answer.{Answer}
@@ -26,7 +26,7 @@ pub record IsTextOf (bytes text : List ℕ) : Type 0 where
 -- bytes are a text, or no UTF-8
 abbrev pub IsTextIn : List ℕ → Option (List ℕ) → Type 0
 IsTextIn bytes (Some text) = IsTextOf bytes text
-IsTextIn bytes None = ¬ (IsUtf8 bytes)
+IsTextIn bytes None = IsUtf8 bytes → ⊥
 
 -- the lines of a text
 pub record AreLinesOf (bytes : List ℕ) (lines : List (List ℕ)) : Type 0 where
@@ -38,7 +38,7 @@ pub record AreLinesOf (bytes : List ℕ) (lines : List (List ℕ)) : Type 0 wher
 -- and else how many they are
 abbrev pub IsSightOfBytes : ℕ → List ℕ → Sight → Type 0
 IsSightOfBytes size bytes (sight.Lines lines) = (has_nul bytes ≡ false) × AreLinesOf bytes lines
-IsSightOfBytes size bytes (sight.Size n) = (n ≡ size) × ((has_nul bytes ≡ true) ⊎ ¬ (IsUtf8 bytes))
+IsSightOfBytes size bytes (sight.Size n) = (n ≡ size) × ((has_nul bytes ≡ true) ⊎ (IsUtf8 bytes → ⊥))
 IsSightOfBytes size bytes s = ⊥
 
 -- what is seen: the entries of a folder, in order, what a file holds, or why nothing is seen

@@ -30,7 +30,6 @@ fn paint_text(
     requires inside { IsInside part buf.old.area }
     requires left { part.x ≤ at.x }
     requires right { at.x + width ≤ part.x + part.width }
-    requires columns { at.x < part.x + part.width }
     requires top { part.y ≤ at.y }
     requires bottom { at.y < part.y + part.height }
     ensures within { ChangesWithin part buf.old buf.new }
