@@ -2,7 +2,6 @@
 use Rattle.std.specs.Prelude.{ℕ, Bool, true, false, not, ◌+◌, ◌-◌, ◌*◌, ◌/◌, ◌==◌, ◌&&◌, min, nat_lt, if◌then◌else◌}
 use Rattle.std.specs.Prelude.{List, [], ◌++◌, length, codes, Option, Some, None, is_some, slice_get, unwrap_or}
 use Rattle.std.specs.{Option.option_map_or, Fmt.decimal}
-use Rattle.ratatui_core.specs.{Style.Style, Style.new_style}
 use Rattle.files.specs.declared.list.Row.{Row}
 use Rattle.files.specs.declared.glance.Glance.{Glance}
 use Rattle.files.specs.declared.glance.Sight.{Sight}
