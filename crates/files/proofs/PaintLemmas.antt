@@ -42,11 +42,10 @@ ready-below x y s ready = record {
 }
 
 -- a text in a row leaves the columns behind it ready
-pub text-ready : {A : Type 0} (r : Result A AllocError) (x y n m right : ℕ) (new : BufferData)
-    → OnOk r ((k : ℕ) → n ≤ k → x + k ≤ right → IsReadyAt (x + k) y new) → n ≤ m → x + m ≤ right
-    → OnOk r (IsReadyAt (x + m) y new)
-text-ready (Ok v) x y n m right new is more fits = is m more fits
-text-ready (Err e) x y n m right new is more fits = tt
+pub text-ready : {A : Type 0} (r : Result A AllocError) (from right y end : ℕ) (new : BufferData)
+    → OnOk r ((e : ℕ) → from ≤ e → e ≤ right → IsReadyAt e y new) → from ≤ end → end ≤ right → OnOk r (IsReadyAt end y new)
+text-ready (Ok v) from right y end new is more fits = is end more fits
+text-ready (Err e) from right y end new is more fits = tt
 
 -- three columns painted in turn
 pub columns-ok : {A : Type 0} (r : Result A AllocError) (b : Browser) (part : Rect) (k : ℕ) (old one two new : BufferData)

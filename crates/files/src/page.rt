@@ -35,7 +35,7 @@ fn paint_text(
     ensures within { ChangesWithin part buf.old buf.new }
     ensures ok { OnOk result (PaintsText at.x at.y width style text.now buf.old buf.new) }
     ensures ready { IsReadyAt at.x at.y buf.old → OnOk result
-        ((m : ℕ) → width ≤ m → at.x + m ≤ part.x + part.width → IsReadyAt (at.x + m) at.y buf.new) }
+        ((end : ℕ) → at.x + width ≤ end → end ≤ part.x + part.width → IsReadyAt end at.y buf.new) }
 {
     buf.set_stringn(at.x, at.y, text, usize::from(width), style)?;
     Ok(())

@@ -1,13 +1,13 @@
 //! The program `files`: a folder in rows, in which no file is touched but the one that the screen
 //! names.
 //!
-//! `files FOLDER` shows a folder, and `files` the one that it is begun in; nothing above that folder
-//! is reached. On 60 columns and more the folder above is seen beside it, and what is selected: that is
-//! asked for once no key has come for a tenth of a second. What is put into the trash is moved to the folder that `--trash` names, or to `Trash`
-//! in `$XDG_DATA_HOME`, or in `.local/share` at home. `--help` tells the keys. What removes or
-//! renames a file can be called only while each terminal that has read what was sent shows the
-//! question that names it, whole. The terminal has to be in raw mode: `tools/play files_program
-//! FOLDER` sees to that.
+//! `files FOLDER` shows a folder, and `files` the one that it is begun in; nothing above that
+//! folder is reached. On 60 columns and more the folder above is seen beside it, and what is
+//! selected: that is asked for once no key has come for a tenth of a second. What is put into the
+//! trash is moved to the folder that `--trash` names, or to `Trash` in `$XDG_DATA_HOME`, or in
+//! `.local/share` at home. `--help` tells the keys. What removes or renames a file can be called
+//! only while each terminal that has read what was sent shows the question that names it, whole.
+//! The terminal has to be in raw mode: `tools/play files_program FOLDER` sees to that.
 //!
 //! `Q` ends the program, and prints the folder that is shown. In a shell, `cd "$(files)"` goes there:
 //! where standard output is no terminal, the program draws on `/dev/tty`.

@@ -1,5 +1,5 @@
-use Rattle.std.proofs.Common.{◌≡◌, ◌≤◌, ◌+◌, arith, Ok}
-use Rattle.ratatui_core.specs.Buffer.{pieces_at, columns}
+use Rattle.std.proofs.Common.{◌≡◌, ◌+◌, ◌-◌, arith, subst, Ok}
+use Rattle.ratatui_core.specs.Buffer.{pieces_at, columns, IsReadyAt}
 use Rattle.ratatui_core.proofs.{BufferLemmas.text-keeps, BufferLemmas.put-ready}
 use Rattle.widget_boxes.proofs.PaintLemmas.{part-has_row, part-starts, part-right, paints-within}
 use Rattle.files.proofs.PaintLemmas.{text-painted}
@@ -37,13 +37,15 @@ returns-clause-ok c =
     c.set_stringn.new.self c.from.ensures fits (omega arith) c.in_ok-set_stringn.ensures.paints.ok
 
 pub returns-clause-ready : goal.returns-clause-ready
-returns-clause-ready c = λ ready m more right.
+returns-clause-ready c = λ ready end more right.
     let x = c.args.at.x in
     let ps = pieces_at c.args.buf.now.area x c.from.result c.args.style c.args.text.now in
     let keeps = text-keeps c.args.buf.now.area x c.from.result c.args.style c.args.text.now in
     let same = c.from.ensures in
-    let fits = part-right c.args.part c.args.buf.now.area x m c.requires.some c.requires.inside right in
-    put-ready (Ok c.in_ok-set_stringn.field-0) x c.args.at.y m ps c.args.buf.now c.set_stringn.new.self ready
+    let is : x + (end - x) ≡ end = omega arith in
+    let fits = part-right c.args.part c.args.buf.now.area x (end - x) c.requires.some c.requires.inside (omega arith) in
+    subst (λ e. IsReadyAt e c.args.at.y c.set_stringn.new.self) is
+    (put-ready (Ok c.in_ok-set_stringn.field-0) x c.args.at.y (end - x) ps c.args.buf.now c.set_stringn.new.self ready
     (part-has_row c.args.part c.args.buf.now.area c.args.at.y c.requires.some c.requires.inside c.requires.top c.requires.bottom)
     (part-starts c.args.part c.args.buf.now.area x c.requires.some c.requires.inside c.requires.left)
-    fits (omega arith) c.in_ok-set_stringn.ensures.paints
+    fits (omega arith) c.in_ok-set_stringn.ensures.paints)

@@ -6,6 +6,5 @@ use Rattle.files.proofs.browser.Browser.paint_ahead.Goals as goal
 pub returns-clause-ready : goal.returns-clause-ready
 returns-clause-ready c = λ from.
     let part = c.args.part in let wide = c.requires.wide in
-    text-ready c.paint_text.result (part.x + ahead_start part.width) (part.y + c.args.k) (part.width - ahead_start part.width)
-    (part.width - ahead_start part.width) (part.x + part.width) c.paint_text.new.buf (c.paint_text.ensures.ready from) (omega arith)
-    (omega arith)
+    text-ready c.paint_text.result (part.x + ahead_start part.width + (part.width - ahead_start part.width)) (part.x + part.width) (part.y + c.args.k) (part.x + part.width) c.paint_text.new.buf
+    (c.paint_text.ensures.ready from) (omega arith) (omega arith)
