@@ -1,6 +1,6 @@
 -- Texts painted in rows, and what may be painted after them.
 use Rattle.std.proofs.Common.{◌≡◌, ℕ, ◌+◌, ◌<◌, ◌≤◌, List, Result, Ok, Err, OnOk, OnErr}
-use Rattle.std.proofs.Common.{Bool, true, false, ◌&&◌, sym, ap, ◌∙◌, subst, refl, arith, add-one, inl}
+use Rattle.std.proofs.Common.{Bool, true, false, not, ◌&&◌, ◌==◌, ◌-◌, nat_lt, sym, ap, ◌∙◌, subst, refl, arith, add-one, inl}
 use Rattle.std.specs.{declared.alloc.AllocError.AllocError}
 use Rattle.ratatui_core.specs.{Layout.Rect, Layout.IsInside, Style.Style, Widgets.ChangesWithin}
 use Rattle.ratatui_core.specs.{Widgets.IsClipped}
@@ -13,7 +13,7 @@ use Rattle.widget_boxes.proofs.PaintLemmas.{part-has_row, part-right, room-is}
 use Rattle.files.specs.declared.browser.Browser.{Browser}
 use Rattle.std.specs.Prelude.{nat_le}
 use Rattle.std.proofs.lemmas.Bool.Decides.{nat_tests}
-use Rattle.files.specs.Columns.{is_parted}
+use Rattle.files.specs.Columns.{shows_entries, is_parted}
 use Rattle.files.specs.Pages.{PaintsAbove, PaintsFolder, PaintsAhead, PaintsColumns, PaintsRowIf}
 use Rattle.files.specs.Pages.{PaintsListRow, PaintsFirstRows, PaintsAllRows, PaintsBrowser}
 
@@ -72,13 +72,15 @@ row-ready (Ok v) part y old new box inside top bottom then from =
     ready-below (part.x + part.width) y new (then (part-ready part y old box inside top bottom from))
 row-ready (Err e) part y old new box inside top bottom then from = tt
 
-pub and-first : (a b : Bool) → (a && b) ≡ true → a ≡ true
-and-first true b is = refl
-and-first false b is = absurd (cc)
+first-of-four : (a b c d : Bool) → (a && b && c && d) ≡ true → a ≡ true
+first-of-four true b c d is = refl
+first-of-four false b c d is = absurd (cc)
 
 pub parted-wide : (k width height : ℕ) (b : Browser) → is_parted k width height b ≡ true → 60 ≤ width
 parted-wide k width height b is =
-    let wide : nat_le 60 width ≡ true = and-first (nat_le 60 width) _ is in grind (arith, nat_tests)
+    let wide : nat_le 60 width ≡ true =
+    first-of-four (nat_le 60 width) (shows_entries b.mode) (nat_lt 0 k) (not (k == height - 1)) is in
+    grind (arith, nat_tests)
 
 pub rows-none : (b : Browser) (r : Rect) (s : BufferData) → PaintsFirstRows b r 0 s s
 unfolding PaintsFirstRows

@@ -1,6 +1,12 @@
+use Rattle.std.proofs.Common.{subst, sym, ◌∙◌}
+use Rattle.ratatui_core.specs.Layout.{Rect, IsInside}
 use Rattle.ratatui_core.proofs.WidgetLemmas.{within-then}
 use Rattle.files.proofs.PaintLemmas.{columns-ok}
 use Rattle.files.proofs.browser.Browser.paint_columns.Goals as goal
+
+pub paint_ahead-requires-clause-inside : goal.paint_ahead-requires-clause-inside
+paint_ahead-requires-clause-inside c = subst (λ (r : Rect). IsInside c.args.part r)
+    (sym (c.paint_folder.ensures.within.same_area ∙ c.paint_above.ensures.within.same_area)) c.requires.inside
 
 pub returns-in_err-paint_folder-clause-within : goal.returns-in_err-paint_folder-clause-within
 returns-in_err-paint_folder-clause-within c = within-then c.args.part c.args.buf.now c.paint_above.new.buf c.paint_folder.new.buf
