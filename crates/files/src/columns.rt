@@ -66,7 +66,11 @@ fn push_line(text: &mut String, lines: &Lines, place: usize) -> Result<(), Alloc
 fn push_first(text: &mut String, place: usize, first: &str) -> Result<(), AllocError>
     ensures { OnOk result (string_bytes text.new ≡ string_bytes text.old ++ in_first place first.now) }
 {
-    if place == 0 { text.push_str(first) } else { Ok(()) }
+    if place == 0 {
+        text.push_str(first)
+    } else {
+        Ok(())
+    }
 }
 
 // Appends how many bytes a file has that is no text, in the first row.
