@@ -32,11 +32,7 @@ use Rattle.files.specs.Moves.{asks, asks_in, confirmed, typed_into, browsed, bro
 use Rattle.files.specs.Moves.{is_folder_selected, removal_answered, next_found, previous_found, found_selected, found_note}
 use Rattle.files.specs.Moves.{typing_name, seeking_typed, sought_into, order_taken, is_entry_row, entered, clicked, help_left}
 use Rattle.files.specs.Help.{help_rows}
-use Rattle.files.specs.declared.glance.Side.{Side}
-use Rattle.files.specs.declared.glance.Side.TheVariants.{Above, Ahead}
-use Rattle.files.specs.declared.glance.Glance.{Glance}
-use Rattle.files.specs.declared.glance.Glances.{Glances}
-use Rattle.files.specs.Glances.{aged, is_at, is_looking, is_wide, side_lacking}
+use Rattle.files.specs.Glances.{aged, is_looking, is_wide, side_lacking}
 use Rattle.files.specs.Texts.{place_in_row}
 use Rattle.files.specs.declared.notes.Noted.{Noted}
 use Rattle.files.specs.declared.marks.Mark.{Mark}

@@ -1,6 +1,6 @@
 -- Three columns: the folder above, the folder, and what is selected in it.
-use Rattle.std.specs.Prelude.{ℕ, Bool, true, false, not, ◌+◌, ◌-◌, ◌*◌, ◌/◌, ◌==◌, ◌&&◌, min, nat_lt, if◌then◌else◌}
-use Rattle.std.specs.Prelude.{List, [], ◌++◌, length, codes, Option, Some, None, is_some, slice_get, unwrap_or}
+use Rattle.std.specs.Prelude.{ℕ, Bool, true, false, not, ◌-◌, ◌*◌, ◌/◌, ◌==◌, ◌&&◌, nat_lt, if◌then◌else◌}
+use Rattle.std.specs.Prelude.{List, [], ◌++◌, length, codes, is_some, slice_get, unwrap_or}
 use Rattle.std.specs.{Option.option_map_or, Fmt.decimal}
 use Rattle.files.specs.declared.list.Row.{Row}
 use Rattle.files.specs.declared.glance.Glance.{Glance}

@@ -1,5 +1,5 @@
 use Rattle.std.proofs.Common.{◌≡◌, ◌+◌, ◌-◌, arith, subst, Ok}
-use Rattle.ratatui_core.specs.Buffer.{pieces_at, columns, IsReadyAt}
+use Rattle.ratatui_core.specs.Buffer.{pieces_at, IsReadyAt}
 use Rattle.ratatui_core.proofs.{BufferLemmas.text-keeps, BufferLemmas.put-ready}
 use Rattle.widget_boxes.proofs.PaintLemmas.{part-has_row, part-starts, part-right, paints-within}
 use Rattle.files.proofs.PaintLemmas.{text-painted}
