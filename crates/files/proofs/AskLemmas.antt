@@ -1,6 +1,7 @@
 -- Where something is changed, a read had found nothing while the question stood on the glass.
 use Rattle.std.proofs.Common.{◌≡◌, ◌⊎◌, inl, inr, Bool, true, false, if◌then◌else◌, List, [], ◌∷◌, ◌++◌, ℕ}
 use Rattle.std.proofs.Common.{Option, Some, None, refl, sym, ap, ◌∙◌, subst, codes}
+use Rattle.std.specs.Prelude.{is_some}
 use Rattle.std.specs.declared.time.Duration.{Duration}
 use Rattle.ratatui_core.specs.Terminal.{TerminalError}
 use Rattle.ratatui_ansi.specs.{declared.error.AnsiError.AnsiError}
@@ -21,12 +22,13 @@ use Rattle.files.specs.declared.browser.Note.TheVariants.{Place, Failed, Narrow,
 use Rattle.files.specs.declared.list.Outcome.{Outcome}
 use Rattle.files.specs.Keys.{is_input}
 use Rattle.files.specs.Texts.{subject, note_told, failure_text, status_in}
-use Rattle.files.specs.Moves.{asks, browsed, browser_at_told_size, browsed_after}
+use Rattle.files.specs.Glances.{side_wanted}
+use Rattle.files.specs.Moves.{acts, asks, browsed, browser_at_told_size, browsed_after}
 use Rattle.files.specs.Laws.{IsSound, browsing, is_change}
 use Rattle.files.specs.RunLaws.{AsksTheSame, StoodBefore, AskedTurn, WereAsked, browsing_on}
 use Rattle.files.proofs.LawLemmas.{yes-counts, counted, quiet-stays}
 use Rattle.files.proofs.SoundLemmas.{unsure, status-flags, flagged, asks-true, sure-in, event-sound, turn-sound, ticked-sound}
-use Rattle.files.proofs.SoundLemmas.{answer-sound, asked-self}
+use Rattle.files.proofs.SoundLemmas.{answer-sound, asked-self, neither, acts-true}
 
 -- ---- the same question
 
@@ -115,7 +117,7 @@ none-asks false b is = refl
 -- a sound browser that asks for nothing is sure of nothing
 calm : (b : Browser) → asks b ≡ false → IsSound b → b.is_sure ≡ false
 calm b off (inl is) = is
-calm b off (inr is) = let bad : true ≡ false = sym is.0 ∙ off in absurd (cc)
+calm b off (inr is) = let bad : true ≡ false = sym is.0 ∙ neither (acts b) (is_some (side_wanted b)) off in absurd (cc)
 
 -- ---- runs
 
@@ -217,7 +219,7 @@ module _ {W H O : Type 0} (gives : H → ℕ → List ℕ → Duration → H →
   turn-asked earlier (Done c o) before after recalls is =
       let b = before.standing.state in
       subst (λ (x : Browser). is_change x.mode ≡ true → StoodBefore x earlier) (asked-self b c is.wanted)
-      (λ change. recalls (inr (sure-in b.mode b.is_sure change (asks-true (asks b) b c is.wanted))))
+      (λ change. recalls (inr (sure-in b.mode b.is_sure change (acts-true b change (asks-true (asks b) b c is.wanted)))))
 
   pub run-asked : (begun now : Now Browser (OnGlass W) H O) (past : List (Past Browser Browser Outcome (OnGlass W) H O))
       → begun.standing.state.is_sure ≡ false → begun.standing.state.is_quiet ≡ false → HasRun at_glass begun past now

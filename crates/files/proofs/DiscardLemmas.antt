@@ -19,6 +19,7 @@ use Rattle.files.specs.declared.trash.Plan.{Plan}
 use Rattle.files.specs.Trash.{discard_in, IsTrashFolder, IsStep, IsPlanOf, discard_plan}
 use Rattle.files.specs.Questions.{AsksToDiscard, IsNamedIn, change_in}
 use Rattle.files.specs.Discards.{IsPreparing, ArePreparing, Did, Prepares, GivesEntries, GivesTime, EndsMoved, Ends, Discarded}
+use Rattle.files.specs.Looks.{Looked}
 use Rattle.files.specs.Doing.{Changed, DoesIn, DoesAsked}
 use Rattle.files.specs.Moves.{browser_asked}
 use Rattle.files.proofs.SoundLemmas.{asked-self}
@@ -98,30 +99,39 @@ asked-discard does state b files o files' asked at is =
     subst (λ (x : Browser). DoesAsked does x files o files') (asked-self state b asked)
     (subst (λ mode. DoesIn does mode state files o files') (sym at) is)
 
+-- the same, where it looks at something
+pub asked-look : {P : Type 0} (does : P → Command → Answer → P → Type 0) (state b : Browser)
+    (files : P) (o : Outcome) (files' : P) → browser_asked state ≡ Some b → state.mode ≡ Looking
+    → Looked does state files o files' → DoesAsked does b files o files'
+asked-look does state b files o files' asked at is =
+    subst (λ (x : Browser). DoesAsked does x files o files') (asked-self state b asked)
+    (subst (λ mode. DoesIn does mode state files o files') (sym at) is)
+
 -- the same, where it asks for a change
 changes-in : {P : Type 0} (does : P → Command → Answer → P → Type 0) (mode : Mode) (b : Browser) (files : P) (o : Outcome) (files' : P)
     → (mode ≡ Listing → ⊥) → (mode ≡ Entering → ⊥) → (mode ≡ Leaving → ⊥) → (mode ≡ Returning → ⊥) → (mode ≡ Trashing → ⊥)
-    → Changed does (change_in mode b) files o files' → DoesIn does mode b files o files'
-changes-in does Looking b files o files' one two three back four is = is
-changes-in does Listing b files o files' one two three back four is = absurd (one refl)
-changes-in does Entering b files o files' one two three back four is = absurd (two refl)
-changes-in does Leaving b files o files' one two three back four is = absurd (three refl)
-changes-in does Trashing b files o files' one two three back four is = absurd (four refl)
-changes-in does Removing b files o files' one two three back four is = is
-changes-in does Renaming b files o files' one two three back four is = is
-changes-in does Making b files o files' one two three back four is = is
-changes-in does Pasting b files o files' one two three back four is = is
-changes-in does Sorting b files o files' one two three back four is = is
-changes-in does Seeking b files o files' one two three back four is = is
-changes-in does Over b files o files' one two three back four is = is
-changes-in does Returning b files o files' one two three back four is = absurd (back refl)
-changes-in does Undoing b files o files' one two three back four is = is
-changes-in does Helping b files o files' one two three back four is = is
-changes-in does Chosen b files o files' one two three back four is = is
+    → (mode ≡ Looking → ⊥) → Changed does (change_in mode b) files o files' → DoesIn does mode b files o files'
+changes-in does Looking b files o files' one two three back four five is = absurd (five refl)
+changes-in does Listing b files o files' one two three back four five is = absurd (one refl)
+changes-in does Entering b files o files' one two three back four five is = absurd (two refl)
+changes-in does Leaving b files o files' one two three back four five is = absurd (three refl)
+changes-in does Trashing b files o files' one two three back four five is = absurd (four refl)
+changes-in does Removing b files o files' one two three back four five is = is
+changes-in does Renaming b files o files' one two three back four five is = is
+changes-in does Making b files o files' one two three back four five is = is
+changes-in does Pasting b files o files' one two three back four five is = is
+changes-in does Sorting b files o files' one two three back four five is = is
+changes-in does Seeking b files o files' one two three back four five is = is
+changes-in does Over b files o files' one two three back four five is = is
+changes-in does Returning b files o files' one two three back four five is = absurd (back refl)
+changes-in does Undoing b files o files' one two three back four five is = is
+changes-in does Helping b files o files' one two three back four five is = is
+changes-in does Chosen b files o files' one two three back four five is = is
 
 pub asked-change : {P : Type 0} (does : P → Command → Answer → P → Type 0) (state b : Browser) (files : P) (o : Outcome) (files' : P)
     → browser_asked state ≡ Some b → (state.mode ≡ Listing → ⊥) → (state.mode ≡ Entering → ⊥) → (state.mode ≡ Leaving → ⊥)
-    → (state.mode ≡ Returning → ⊥) → (state.mode ≡ Trashing → ⊥) → Changed does (change_in state.mode state) files o files' → DoesAsked does b files o files'
-asked-change does state b files o files' asked one two three back four is =
+    → (state.mode ≡ Returning → ⊥) → (state.mode ≡ Trashing → ⊥) → (state.mode ≡ Looking → ⊥)
+    → Changed does (change_in state.mode state) files o files' → DoesAsked does b files o files'
+asked-change does state b files o files' asked one two three back four five is =
     subst (λ (x : Browser). DoesAsked does x files o files') (asked-self state b asked)
-    (changes-in does state.mode state files o files' one two three back four is)
+    (changes-in does state.mode state files o files' one two three back four five is)

@@ -1,6 +1,6 @@
 -- What laws of browsers stand on.
 use Rattle.std.proofs.Common.{◌≡◌, ◌==◌, ◌&&◌, ◌⊎◌, inl, inr, ℕ, ◌+◌, ◌-◌, ◌<◌, ◌≤◌, min, nat_lt, Bool, true, false, not}
-use Rattle.std.proofs.Common.{arith, rules, refl, sym, ap, ◌∙◌, List, [], length, Option, Some, None, if◌then◌else◌}
+use Rattle.std.proofs.Common.{◌||◌, arith, rules, refl, sym, ap, ◌∙◌, List, [], length, Option, Some, None, if◌then◌else◌}
 use Rattle.std.specs.Prelude.{is_some}
 use Rattle.std.specs.{Str.bytes_eq, List.All}
 use Rattle.std.proofs.lemmas.List.Elements.{All-nil, All-filter}
@@ -32,6 +32,7 @@ use Rattle.files.specs.Moves.{asks, asks_in, confirmed, typed_into, browsed, bro
 use Rattle.files.specs.Moves.{is_folder_selected, removal_answered, next_found, previous_found, found_selected, found_note}
 use Rattle.files.specs.Moves.{typing_name, seeking_typed, sought_into, order_taken, is_entry_row, entered, clicked, help_left}
 use Rattle.files.specs.Help.{help_rows}
+use Rattle.files.specs.Glances.{aged, is_looking, is_wide, side_lacking}
 use Rattle.files.specs.Texts.{place_in_row}
 use Rattle.files.specs.declared.notes.Noted.{Noted}
 use Rattle.files.specs.declared.marks.Mark.{Mark}
@@ -70,6 +71,7 @@ pub record Keeps (b c : Browser) : Type 0 where
   pub unnamed : c.unnamed ≡ b.unnamed
   pub placed : IsPlaced b → IsPlaced c
   pub marks : AreMarksListed b → AreMarksListed c
+  pub glances : c.glances ≡ b.glances
   pub sure : (c.is_sure ≡ b.is_sure) ⊎ Counts b c
 
 placed-same : (b c : Browser) → c.list ≡ b.list → c.size ≡ b.size → c.selected ≡ b.selected → c.top ≡ b.top → IsPlaced b
@@ -80,13 +82,14 @@ placed-same b c list size selected top p =
     record { within = omega arith; above = omega arith; below = λ some. omega (arith, below (omega arith)) }
 
 keeps-same : (b c : Browser) → c.folder ≡ b.folder → c.list ≡ b.list → c.unnamed ≡ b.unnamed → c.size ≡ b.size
-    → c.selected ≡ b.selected → c.top ≡ b.top → c.is_sure ≡ b.is_sure → c.marks ≡ b.marks → Keeps b c
-keeps-same b c folder list unnamed size selected top sure marks = record {
+    → c.selected ≡ b.selected → c.top ≡ b.top → c.is_sure ≡ b.is_sure → c.marks ≡ b.marks → c.glances ≡ b.glances → Keeps b c
+keeps-same b c folder list unnamed size selected top sure marks glances = record {
   folder = folder;
   list = list;
   unnamed = unnamed;
   placed = placed-same b c list size selected top;
   marks = marks-kept b c list marks;
+  glances = glances;
   sure = inl sure;
 }
 
@@ -97,6 +100,7 @@ keeps-selected place b = record {
   unnamed = refl;
   placed = λ p. selected-placed place b;
   marks = λ all. all;
+  glances = refl;
   sure = inl refl;
 }
 
@@ -105,13 +109,13 @@ keeps-if true b c d one two = one
 keeps-if false b c d one two = two
 
 keeps-it : (b : Browser) → Keeps b b
-keeps-it b = keeps-same b b refl refl refl refl refl refl refl refl
+keeps-it b = keeps-same b b refl refl refl refl refl refl refl refl refl
 
 keeps-typing : (mode : Mode) (f : FieldData) (b : Browser) → Keeps b (typing_in mode f b)
-keeps-typing mode f b = keeps-same b _ refl refl refl refl refl refl refl refl
+keeps-typing mode f b = keeps-same b _ refl refl refl refl refl refl refl refl refl
 
 keeps-mode : (mode : Mode) (b : Browser) → Keeps b (record b { mode = mode })
-keeps-mode mode b = keeps-same b _ refl refl refl refl refl refl refl refl
+keeps-mode mode b = keeps-same b _ refl refl refl refl refl refl refl refl refl
 
 keeps-found : (found : Option ℕ) (b : Browser) → Keeps b (found_selected found b)
 keeps-found None b = keeps-it b
@@ -119,8 +123,8 @@ keeps-found (Some place) b = keeps-selected place b
 
 keeps-pasting : (noted : Option Noted) (n : ℕ) (b : Browser)
     → Keeps b (option_map_or (λ it. typing_in Pasting (typing_name it.name) (record b { left = n })) noted (record b { left = n }))
-keeps-pasting None n b = keeps-same b _ refl refl refl refl refl refl refl refl
-keeps-pasting (Some noted) n b = keeps-same b _ refl refl refl refl refl refl refl refl
+keeps-pasting None n b = keeps-same b _ refl refl refl refl refl refl refl refl refl
+keeps-pasting (Some noted) n b = keeps-same b _ refl refl refl refl refl refl refl refl refl
 
 -- the entry that was marked first is asked about
 keeps-first : (mode : Mode) (found : Option ℕ) (b : Browser) → Keeps b (record (found_selected found b) { mode = mode })
@@ -131,6 +135,7 @@ keeps-first mode (Some place) b = record {
   unnamed = refl;
   placed = λ p. placed-same (selected_at place b) _ refl refl refl refl (selected-placed place b);
   marks = λ all. all;
+  glances = refl;
   sure = inl refl;
 }
 
@@ -141,6 +146,7 @@ keeps-marking b = record {
   unnamed = refl;
   placed = λ p. selected-placed (b.selected + 1) (record b { marks = marks_turned b });
   marks = turned-listed b;
+  glances = refl;
   sure = inl refl;
 }
 
@@ -156,6 +162,7 @@ keeps-noting all b = record {
   unnamed = refl;
   placed = λ p. placed-same b _ refl refl refl refl p;
   marks = all-or-none (IsMarkListed b.list) (length all == 0) b.marks;
+  glances = refl;
   sure = inl refl;
 }
 
@@ -166,6 +173,7 @@ keeps-unmarking b = record {
   unnamed = refl;
   placed = λ p. placed-same b _ refl refl refl refl p;
   marks = λ all. All-nil (IsMarkListed b.list);
+  glances = refl;
   sure = inl refl;
 }
 
@@ -192,10 +200,10 @@ granted-keeps (wish.Click row) b = keeps-clicked row b
 granted-keeps wish.Enter b = keeps-entered b
 granted-keeps wish.Base b = keeps-if (bytes_eq b.folder b.base) b b _ (keeps-it b) (keeps-mode Returning b)
 granted-keeps wish.Undo b = keeps-if (is_some b.last_move) b _ b (keeps-mode Undoing b) (keeps-it b)
-granted-keeps wish.Help b = keeps-same b _ refl refl refl refl refl refl refl refl
+granted-keeps wish.Help b = keeps-same b _ refl refl refl refl refl refl refl refl refl
 granted-keeps wish.Choose b = keeps-mode Chosen b
 granted-keeps wish.Leave b = keeps-if (bytes_eq b.folder b.base) b b _ (keeps-it b) (keeps-mode Leaving b)
-granted-keeps wish.Hidden b = keeps-same b _ refl refl refl refl refl refl refl refl
+granted-keeps wish.Hidden b = keeps-same b _ refl refl refl refl refl refl refl refl refl
 granted-keeps wish.Rename b = keeps-if (length b.list == 0) b b _ (keeps-it b) (keeps-typing Renaming _ b)
 granted-keeps wish.Make b = keeps-typing Making _ b
 granted-keeps wish.Trash b =
@@ -281,6 +289,7 @@ wished-keeps w b = let k = granted-keeps w b in record {
   unnamed = k.unnamed;
   placed = λ p. placed-same (granted w b) _ refl refl refl refl (k.placed p);
   marks = k.marks;
+  glances = k.glances;
   sure = inl (granted-sure w b);
 }
 
@@ -294,9 +303,10 @@ confirmed-by true true b may q w = record {
   unnamed = refl;
   placed = λ p. placed-same b _ refl refl refl refl p;
   marks = λ all. all;
+  glances = refl;
   sure = inr (record { may = may; quiet = q; whole = w; is = refl });
 }
-confirmed-by true false b may q w = keeps-same b _ refl refl refl refl refl refl refl refl
+confirmed-by true false b may q w = keeps-same b _ refl refl refl refl refl refl refl refl refl
 
 confirmed-keeps : (b : Browser) → asks_in b.mode true ≡ true → Keeps b (confirmed b)
 confirmed-keeps b may = confirmed-by b.is_quiet (fits b.size.width b) b may refl refl
@@ -310,28 +320,29 @@ typed-keeps Ignore b may = keeps-it b
 -- a text is sought
 keeps-sought : (found : Option ℕ) (b c : Browser) → c.list ≡ b.list → c.folder ≡ b.folder → c.unnamed ≡ b.unnamed → c.size ≡ b.size
     → c.selected ≡ b.selected → c.top ≡ b.top → c.is_sure ≡ b.is_sure → c.marks ≡ b.marks
-    → Keeps b (record (found_selected found c) { note = found_note found })
-keeps-sought None b c list folder unnamed size selected top sure marks =
-    keeps-same b _ folder list unnamed size selected top sure marks
-keeps-sought (Some place) b c list folder unnamed size selected top sure marks = record {
+    → c.glances ≡ b.glances → Keeps b (record (found_selected found c) { note = found_note found })
+keeps-sought None b c list folder unnamed size selected top sure marks glances =
+    keeps-same b _ folder list unnamed size selected top sure marks glances
+keeps-sought (Some place) b c list folder unnamed size selected top sure marks glances = record {
   folder = folder;
   list = list;
   unnamed = unnamed;
   placed = λ p. placed-same (selected_at place c) _ refl refl refl refl (selected-placed place c);
   marks = marks-kept b c list marks;
+  glances = glances;
   sure = inl sure;
 }
 
 sought-keeps : (t : Typing) (b : Browser) → Keeps b (sought_into t b)
 sought-keeps (Change edit) b = keeps-typing b.mode _ b
 sought-keeps Accept b =
-    keeps-sought (next_found (seeking_typed b)) b (seeking_typed b) refl refl refl refl refl refl refl refl
+    keeps-sought (next_found (seeking_typed b)) b (seeking_typed b) refl refl refl refl refl refl refl refl refl
 sought-keeps Cancel b = keeps-mode Looking b
 sought-keeps Ignore b = keeps-it b
 
 order-keeps : (o : Option Order) (b : Browser) → Keeps b (order_taken o b)
 order-keeps None b = keeps-mode Looking b
-order-keeps (Some order) b = keeps-same b _ refl refl refl refl refl refl refl refl
+order-keeps (Some order) b = keeps-same b _ refl refl refl refl refl refl refl refl refl
 
 may-be : (mode : Mode) (b : Browser) → b.mode ≡ mode → asks_in mode true ≡ true → asks_in b.mode true ≡ true
 may-be mode b at may = ap (λ m. asks_in m true) at ∙ may
@@ -341,9 +352,9 @@ answered-keeps e b may = keeps-if (says_yes e) b _ _ (confirmed-keeps b may) (ke
 
 help-keeps : (b : Browser) → Keeps b (help_left b)
 help-keeps b = keeps-if (nat_lt 0 (list_rows b) && nat_lt (list_rows b) (help_rows - b.helped)) b _ _
-    (keeps-same b _ refl refl refl refl refl refl refl refl) (keeps-mode Looking b)
+    (keeps-same b _ refl refl refl refl refl refl refl refl refl) (keeps-mode Looking b)
 
-browsed-keeps : (mode : Mode) (e : Event) (b : Browser) → b.mode ≡ mode → Keeps b (browsed mode e b)
+pub browsed-keeps : (mode : Mode) (e : Event) (b : Browser) → b.mode ≡ mode → Keeps b (browsed mode e b)
 browsed-keeps Looking e b at = wished-keeps (event_wish e) b
 browsed-keeps Trashing e b at = answered-keeps e b (may-be Trashing b at refl)
 browsed-keeps Removing e b at = answered-keeps e b (may-be Removing b at refl)
@@ -411,9 +422,10 @@ pub record GoesOn (b c : Browser) : Type 0 where
   pub unnamed : c.unnamed ≡ b.unnamed
   pub placed : IsPlaced b → IsPlaced c
   pub marks : AreMarksListed b → AreMarksListed c
+  pub glances : c.glances ≡ b.glances
 
 goes-same : (b : Browser) → GoesOn b b
-goes-same b = record { folder = refl; list = refl; unnamed = refl; placed = λ p. p; marks = λ all. all }
+goes-same b = record { folder = refl; list = refl; unnamed = refl; placed = λ p. p; marks = λ all. all; glances = refl }
 
 goes-found : (found : Option ℕ) (name : List ℕ) (next : Mode) (b : Browser)
     → GoesOn b (record (found_selected found (record b { marks = marks_but name b.marks })) { follows = next })
@@ -423,6 +435,7 @@ goes-found None name next b = record {
   unnamed = refl;
   placed = λ p. placed-same b _ refl refl refl refl p;
   marks = All-filter (λ mark. not (is_mark_named name mark)) (IsMarkListed b.list) b.marks;
+  glances = refl;
 }
 goes-found (Some place) name next b =
     let c = record b { marks = marks_but name b.marks } in record {
@@ -431,6 +444,7 @@ goes-found (Some place) name next b =
       unnamed = refl;
       placed = λ p. placed-same (selected_at place c) _ refl refl refl refl (selected-placed place c);
       marks = All-filter (λ mark. not (is_mark_named name mark)) (IsMarkListed b.list) b.marks;
+      glances = refl;
     }
 
 goes-removing : (mode : Mode) (b : Browser) → GoesOn b (removals_go_on mode b)
@@ -446,6 +460,7 @@ goes-on Pasting b = record {
   unnamed = refl;
   placed = λ p. placed-same b _ refl refl refl refl p;
   marks = λ all. all;
+  glances = refl;
 }
 goes-on Looking b = goes-same b
 goes-on Listing b = goes-same b
@@ -475,7 +490,9 @@ outcome-placed (outcome.Listed l) b p =
       follows = Looking;
       seeks_typed = false;
       mode = Looking;
+      glances = aged b.glances;
     }))
+outcome-placed (outcome.Glanced g) b p = placed-same b _ refl refl refl refl p
 outcome-placed outcome.Done b p = placed-same (gone_on b.mode b) _ refl refl refl refl ((goes-on b.mode b).placed p)
 outcome-placed (outcome.Failed why) b p = placed-same b _ refl refl refl refl p
 
@@ -550,10 +567,15 @@ quiet-stays b e is = told-quiet (is_input e) e b is
 
 -- ---- the list of the keys
 
+-- nothing is asked for by a browser that shows them
+asks-helping : (b : Browser) → b.mode ≡ Helping → asks b ≡ false
+asks-helping b at =
+    ap (λ m. asks_in m b.is_sure || is_some (if is_looking m && b.is_quiet && is_wide b.size.width then side_lacking b else None)) at
+
 help-asks : (more : Bool) (b : Browser) → b.mode ≡ Helping
     → asks (record (if more then record b { helped = b.helped + list_rows b } else record b { mode = Looking }) { is_quiet = false })
     ≡ false
-help-asks true b at = ap (λ m. asks_in m b.is_sure) at
+help-asks true b at = asks-helping (record b { helped = b.helped + list_rows b; is_quiet = false }) at
 help-asks false b at = refl
 
 helping-browsed : (mode : Mode) (e : Event) (b : Browser) → mode ≡ Helping → b.mode ≡ Helping
@@ -576,8 +598,8 @@ helping-browsed Over e b is at = absurd (cc)
 helping-browsed Chosen e b is at = absurd (cc)
 
 helping-sized : (size : Option (ℕ × ℕ)) (b : Browser) → b.mode ≡ Helping → asks (browser_at_told_size size b) ≡ false
-helping-sized None b at = ap (λ m. asks_in m b.is_sure) at
-helping-sized (Some size) b at = ap (λ m. asks_in m b.is_sure) at
+helping-sized None b at = asks-helping b at
+helping-sized (Some size) b at = asks-helping (browser_at_told_size (Some size) b) at
 
 helping-told : (input : Bool) (e : Event) (b : Browser) → b.mode ≡ Helping
     → asks (if input then record (browsed b.mode e b) { is_quiet = false } else browser_at_told_size (size_in e) b) ≡ false

@@ -11,6 +11,7 @@ pub mod DiscardLemmas
 pub mod TrashLemmas
 pub mod HelpLemmas
 pub mod LawLemmas
+pub mod GlanceLemmas
 pub mod SeriesLemmas
 pub mod QuestionLemmas
 pub mod SoundLemmas

@@ -1,6 +1,6 @@
 -- Texts painted in rows, and what may be painted after them.
 use Rattle.std.proofs.Common.{◌≡◌, ℕ, ◌+◌, ◌<◌, ◌≤◌, List, Result, Ok, Err, OnOk, OnErr}
-use Rattle.std.proofs.Common.{ap, ◌∙◌, subst, refl, arith, add-one, inl}
+use Rattle.std.proofs.Common.{Bool, true, false, not, ◌&&◌, ◌==◌, ◌-◌, nat_lt, sym, ap, ◌∙◌, subst, refl, arith, add-one, inl}
 use Rattle.std.specs.{declared.alloc.AllocError.AllocError}
 use Rattle.ratatui_core.specs.{Layout.Rect, Layout.IsInside, Style.Style, Widgets.ChangesWithin}
 use Rattle.ratatui_core.specs.{Widgets.IsClipped}
@@ -11,6 +11,10 @@ use Rattle.ratatui_core.proofs.{BufferLemmas.ready-plain, WidgetLemmas.OnPart-cl
 use Rattle.widget_boxes.specs.Boxes.{IsBoxArea}
 use Rattle.widget_boxes.proofs.PaintLemmas.{part-has_row, part-right, room-is}
 use Rattle.files.specs.declared.browser.Browser.{Browser}
+use Rattle.std.specs.Prelude.{nat_le}
+use Rattle.std.proofs.lemmas.Bool.Decides.{nat_tests}
+use Rattle.files.specs.Columns.{shows_entries, is_parted}
+use Rattle.files.specs.Pages.{PaintsAbove, PaintsFolder, PaintsAhead, PaintsColumns, PaintsRowIf}
 use Rattle.files.specs.Pages.{PaintsListRow, PaintsFirstRows, PaintsAllRows, PaintsBrowser}
 
 -- a text painted in columns that its row has
@@ -36,6 +40,47 @@ ready-below x y s ready = record {
   settled = ready.settled;
   plain = λ p has below. ready.plain p has (inl (omega arith));
 }
+
+-- a text in a row leaves the columns behind it ready
+pub text-ready : {A : Type 0} (r : Result A AllocError) (from right y end : ℕ) (new : BufferData)
+    → OnOk r ((e : ℕ) → from ≤ e → e ≤ right → IsReadyAt e y new) → from ≤ end → end ≤ right → OnOk r (IsReadyAt end y new)
+text-ready (Ok v) from right y end new is more fits = is end more fits
+text-ready (Err e) from right y end new is more fits = tt
+
+-- three columns painted in turn
+pub columns-ok : {A : Type 0} (r : Result A AllocError) (b : Browser) (part : Rect) (k : ℕ) (old one two new : BufferData)
+    → PaintsAbove b part k old one → PaintsFolder b part k one two → OnOk r (PaintsAhead b part k two new)
+    → OnOk r (PaintsColumns b part k old new)
+columns-ok (Ok v) b part k old one two new above folder ahead = record {
+  between = one;
+  first = above;
+  second = record { between = two; first = folder; second = ahead };
+}
+columns-ok (Err e) b part k old one two new above folder ahead = tt
+
+-- a row is painted, whether it has three columns or one
+pub row-ok : {A : Type 0} (r : Result A AllocError) (test is : Bool) (b : Browser) (part : Rect) (k : ℕ) (old new : BufferData)
+    → test ≡ is → OnOk r (PaintsRowIf is b part k old new) → OnOk r (PaintsRowIf test b part k old new)
+row-ok r test is b part k old new same painted =
+    subst (λ t. OnOk r (PaintsRowIf t b part k old new)) (sym same) painted
+
+pub row-ready : {A : Type 0} (r : Result A AllocError) (part : Rect) (y : ℕ) (old new : BufferData) → IsBoxArea part
+    → IsInside part old.area → part.y ≤ y → y < part.y + part.height
+    → (IsReadyAt part.x y old → OnOk r (IsReadyAt (part.x + part.width) y new))
+    → IsReadyFrom y old → OnOk r (IsReadyFrom (y + 1) new)
+row-ready (Ok v) part y old new box inside top bottom then from =
+    ready-below (part.x + part.width) y new (then (part-ready part y old box inside top bottom from))
+row-ready (Err e) part y old new box inside top bottom then from = tt
+
+first-of-four : (a b c d : Bool) → (a && b && c && d) ≡ true → a ≡ true
+first-of-four true b c d is = refl
+first-of-four false b c d is = absurd (cc)
+
+pub parted-wide : (k width height : ℕ) (b : Browser) → is_parted k width height b ≡ true → 60 ≤ width
+parted-wide k width height b is =
+    let wide : nat_le 60 width ≡ true =
+    first-of-four (nat_le 60 width) (shows_entries b.mode) (nat_lt 0 k) (not (k == height - 1)) is in
+    grind (arith, nat_tests)
 
 pub rows-none : (b : Browser) (r : Rect) (s : BufferData) → PaintsFirstRows b r 0 s s
 unfolding PaintsFirstRows

@@ -3,7 +3,6 @@ use Rattle.std.proofs.Common.{◌≡◌, ◌⊎◌, inl, inr, ℕ, ◌<◌, ◌&
 use Rattle.std.specs.Prelude.{slice_get, is_some, option_to_list}
 use Rattle.std.specs.Option.{option_and_then}
 use Rattle.std.proofs.lemmas.Bool.Decides.{nat_tests}
-use Rattle.std.specs.{List.All}
 use Rattle.std.proofs.lemmas.List.Elements.{All-nil, All-filter}
 use Rattle.std.specs.declared.alloc.Global.{Global}
 use Rattle.ratatui_core.specs.Layout.{Size}
@@ -22,7 +21,7 @@ use Rattle.files.specs.declared.list.Outcome.TheVariants as outcome
 use Rattle.files.specs.declared.marks.Mark.{Mark}
 use Rattle.files.specs.Texts.{selected_text}
 use Rattle.files.specs.Marks.{is_mark_named, first_mark_place, marks_but, is_selected_marked, IsMarkListed, AreMarksListed}
-use Rattle.files.specs.Moves.{browsed_after, new_browser, wished, first_mark_selected, next_marked, removals_go_on, gone_on, folder_shown}
+use Rattle.files.specs.Moves.{browsed_after, new_browser, wished, first_mark_selected, removals_go_on, gone_on, folder_shown}
 use Rattle.files.specs.Moves.{found_selected, mode_following, typing_name, noted_unless, noted_after}
 use Rattle.files.specs.Laws.{AsksAbout, WillAskAbout}
 use Rattle.files.proofs.LawLemmas.{event-marks, goes-on}
@@ -36,6 +35,7 @@ unfolding browsed_after
 marks-next b (message.Event e) all = event-marks b e all
 marks-next b (message.Tick passed) all = all
 marks-next b (message.Answer (outcome.Listed l)) all = left-listed l b
+marks-next b (message.Answer (outcome.Glanced g)) all = all
 marks-next b (message.Answer outcome.Done) all = (goes-on b.mode b).marks all
 marks-next b (message.Answer (outcome.Failed why)) all = all
 

@@ -1,6 +1,6 @@
 -- Where something is changed, the screen had columns for the whole question.
 use Rattle.std.proofs.Common.{◌≡◌, ◌||◌, inl, inr, Bool, true, false, if◌then◌else◌, List, [], ◌∷◌, ◌++◌, ℕ}
-use Rattle.std.proofs.Common.{Some, None, refl, sym, ap, ◌∙◌, subst}
+use Rattle.std.proofs.Common.{◌&&◌, Option, Some, None, refl, sym, ap, ◌∙◌, subst}
 use Rattle.std.specs.Prelude.{is_some, nat_le, codes}
 use Rattle.ratatui_core.specs.Buffer.{text_columns}
 use Rattle.std.specs.declared.time.Duration.{Duration}
@@ -18,7 +18,9 @@ use Rattle.files.specs.declared.list.Outcome.{Outcome}
 use Rattle.files.specs.declared.browser.Note.{Note}
 use Rattle.files.specs.declared.browser.Note.TheVariants.{Place, Failed, Narrow, NoTrash, Missing, Noted, NothingNoted, NothingMoved}
 use Rattle.files.specs.Texts.{fits, subject, note_told, failure_text, status_in}
-use Rattle.files.specs.Moves.{asks, asks_in, browser_asked, is_over, browsed_after}
+use Rattle.files.specs.declared.glance.Side.{Side}
+use Rattle.files.specs.Glances.{is_looking, is_wide, side_lacking, side_wanted}
+use Rattle.files.specs.Moves.{acts, asks, asks_in, browser_asked, is_over, browsed_after}
 use Rattle.files.specs.Laws.{IsSound, browsing, is_change}
 use Rattle.files.proofs.LawLemmas.{yes-counts, counted}
 
@@ -86,12 +88,16 @@ or-false : (a b : Bool) → (a || b) ≡ false → b ≡ false
 or-false true b is = absurd (cc)
 or-false false b is = is
 
+pub neither : (a b : Bool) → (a || b) ≡ false → a ≡ false
+neither true b is = absurd (cc)
+neither false b is = refl
+
 -- a browser that doesn't wait asks for nothing, and so is sure of nothing
 pub unsure : (b : Browser) → waits browsing b ≡ false → IsSound b → b.is_sure ≡ false
 unsure b off (inl is) = is
 unsure b off (inr is) =
     let quiet = asks-if (asks b) b (or-false (is_over b) (is_some (browser_asked b)) off) in
-    let bad : true ≡ false = sym is.0 ∙ quiet in absurd (cc)
+    let bad : true ≡ false = sym is.0 ∙ neither (acts b) (is_some (side_wanted b)) quiet in absurd (cc)
 
 counted-sound : (b : Browser) → asks_in b.mode true ≡ true → fits b.size.width b ≡ true → IsSound (counted b)
 counted-sound b may whole = inr (may, fits-flags true false b whole)
@@ -169,9 +175,38 @@ sure-in Entering sure change is = absurd (cc)
 sure-in Leaving sure change is = absurd (cc)
 sure-in Over sure change is = absurd (cc)
 
+-- nothing is looked at while a question stands that changes something
+none-wanted : (mode : Mode) (quiet wide : Bool) (side : Option Side) → is_change mode ≡ true
+    → (if is_looking mode && quiet && wide then side else None) ≡ None
+none-wanted Trashing quiet wide side change = refl
+none-wanted Removing quiet wide side change = refl
+none-wanted Renaming quiet wide side change = refl
+none-wanted Making quiet wide side change = refl
+none-wanted Pasting quiet wide side change = refl
+none-wanted Undoing quiet wide side change = refl
+none-wanted Returning quiet wide side change = refl
+none-wanted Helping quiet wide side change = refl
+none-wanted Chosen quiet wide side change = refl
+none-wanted Sorting quiet wide side change = refl
+none-wanted Seeking quiet wide side change = refl
+none-wanted Looking quiet wide side change = absurd (cc)
+none-wanted Listing quiet wide side change = refl
+none-wanted Entering quiet wide side change = refl
+none-wanted Leaving quiet wide side change = refl
+none-wanted Over quiet wide side change = refl
+
+acts-by : (a : Bool) (side : Option Side) → side ≡ None → (a || is_some side) ≡ true → a ≡ true
+acts-by true side none is = refl
+acts-by false None none is = absurd (cc)
+acts-by false (Some s) none is = absurd (cc)
+
+pub acts-true : (b : Browser) → is_change b.mode ≡ true → asks b ≡ true → acts b ≡ true
+acts-true b change is = acts-by (acts b) (side_wanted b)
+    (none-wanted b.mode b.is_quiet (is_wide b.size.width) (side_lacking b) change) is
+
 -- where a change is asked for, the screen has columns for the question
 pub asked-whole : (b c : Browser) → IsSound b → browser_asked b ≡ Some c → is_change b.mode ≡ true → fits b.size.width b ≡ true
 asked-whole b c (inl is) asked change =
-    let on : b.is_sure ≡ true = sure-in b.mode b.is_sure change (asks-true (asks b) b c asked) in
+    let on : b.is_sure ≡ true = sure-in b.mode b.is_sure change (acts-true b change (asks-true (asks b) b c asked)) in
     let bad : true ≡ false = sym on ∙ is in absurd (cc)
 asked-whole b c (inr is) asked change = is.1

@@ -1,6 +1,5 @@
 -- What is done to files for a browser.
-use Rattle.std.specs.Prelude.{◌≡◌, ◌⊎◌, ℕ, Bool, List, [], Option, Some, None, IsTrue}
-use Rattle.ratatui_files.specs.Paths.{is_name, path_in}
+use Rattle.std.specs.Prelude.{◌≡◌, ◌⊎◌, ℕ, Bool, List, [], Option, Some, None}
 use Rattle.ratatui_files.specs.declared.command.Command.{Command}
 use Rattle.ratatui_files.specs.declared.command.Command.TheVariants.{List as ListFolder}
 use Rattle.ratatui_files.specs.declared.answer.Answer.{Answer}
@@ -12,21 +11,17 @@ use Rattle.files.specs.declared.list.Outcome.{Outcome}
 use Rattle.files.specs.declared.list.Outcome.TheVariants as outcome
 use Rattle.files.specs.declared.browser.Browser.{Browser}
 use Rattle.files.specs.declared.browser.Mode.{Mode}
-use Rattle.files.specs.declared.browser.Mode.TheVariants.{Listing, Entering, Leaving, Returning, Trashing}
+use Rattle.files.specs.declared.browser.Mode.TheVariants.{Looking, Listing, Entering, Leaving, Returning, Trashing}
 use Rattle.files.specs.declared.hands.Wanted.{Wanted}
 use Rattle.ratatui_files.specs.declared.answer.Info.{Info}
 use Rattle.files.specs.Texts.{selected_text, sought_text}
 use Rattle.files.specs.Questions.{named_path, change_in}
 use Rattle.files.specs.Sorting.{IsListOf, IsPlaceOf}
 use Rattle.files.specs.Answers.{told_of, DoesNothing}
+use Rattle.files.specs.Above.{IsAbove}
+use Rattle.files.specs.Looks.{Looked}
 use Rattle.files.specs.Trash.{discard_in}
 use Rattle.files.specs.Discards.{Discarded}
-
--- a folder is in the one that is wanted, by the name that is to be selected
-pub record IsAbove (folder : List ℕ) (w : Wanted) : Type 0 where
-  pub is : folder ≡ path_in w.folder w.name
-  pub named : IsTrue (is_name w.name)
-  pub other : w.other ≡ 0
 
 -- the folder that is shown is wanted, with the same entry selected, or the one whose name was typed
 pub record WantsShown (b : Browser) (w : Wanted) : Type 0 where
@@ -95,6 +90,7 @@ module _ {P : Type 0} (does : P → Command → Answer → P → Type 0) where
   DoesIn Entering b files o files' = Listed b files o files'
   DoesIn Leaving b files o files' = Listed b files o files'
   DoesIn Returning b files o files' = Listed b files o files'
+  DoesIn Looking b files o files' = Looked does b files o files'
   DoesIn Trashing b files o files' = Discarded does (discard_in b) files o files'
   DoesIn mode b files o files' = Changed (change_in mode b) files o files'
 

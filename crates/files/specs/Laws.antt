@@ -1,14 +1,19 @@
 -- What is known of browsers.
-use Rattle.std.specs.Prelude.{◌≡◌, ◌⊎◌, false, ◌+◌, ◌<◌, ◌≤◌, ℕ, Bool, true, List, ◌++◌, codes, string_bytes}
+use Rattle.std.specs.Prelude.{◌≡◌, ◌⊎◌, false, ◌+◌, ◌<◌, ◌≤◌, ℕ, Bool, true, List, Option, ◌++◌, codes, string_bytes}
 use Rattle.ratatui_files.specs.Paths.{path_in}
+use Rattle.ratatui_files.specs.declared.command.Command.{Command}
+use Rattle.ratatui_files.specs.declared.command.Command.TheVariants.{Read, List as ListFolder}
 use Rattle.ratatui_acts.specs.Turns.{ActingRules}
 use Rattle.files.specs.declared.list.Row.{Row}
 use Rattle.files.specs.declared.list.Outcome.{Outcome}
 use Rattle.files.specs.declared.trash.Discard.{Discard}
+use Rattle.files.specs.declared.glance.Side.{Side}
+use Rattle.files.specs.declared.glance.Side.TheVariants.{Above, Ahead}
+use Rattle.files.specs.declared.glance.Glance.{Glance}
 use Rattle.files.specs.declared.browser.Browser.{Browser}
 use Rattle.files.specs.declared.browser.Mode.{Mode}
 use Rattle.files.specs.declared.browser.Mode.TheVariants.{Listing, Trashing, Removing, Renaming, Making, Pasting, Undoing}
-use Rattle.files.specs.Moves.{last_row_place, list_rows, asks, browsed_after, browser_asked, is_over}
+use Rattle.files.specs.Moves.{last_row_place, list_rows, acts, browsed_after, browser_asked, is_over}
 use Rattle.files.specs.Names.{shown_name}
 use Rattle.files.specs.Texts.{shown_row, selected_text, status_told, fits}
 
@@ -71,7 +76,7 @@ pub record WillAskAbout (question : Mode) (name : List ℕ) (b : Browser) : Type
 
 -- nothing is sure, or a question is that the screen shows whole
 abbrev pub IsSound : Browser → Type 0
-IsSound b = (b.is_sure ≡ false) ⊎ ((asks b ≡ true) × (fits b.size.width b ≡ true))
+IsSound b = (b.is_sure ≡ false) ⊎ ((acts b ≡ true) × (fits b.size.width b ≡ true))
 
 -- browsing, as a state that acts
 abbrev pub browsing : ActingRules Browser Browser Outcome
@@ -91,3 +96,14 @@ is_change Making = true
 is_change Pasting = true
 is_change Undoing = true
 is_change _ = false
+
+-- a command that only reads: a folder's entries, or the first 65536 bytes of a file
+abbrev pub IsLook : Command → Type 0
+IsLook (Read path start most) = (start ≡ 0) × (most ≡ 65536)
+IsLook (ListFolder path) = Unit {0}
+IsLook _ = ⊥
+
+-- what was seen last on a side
+abbrev pub seen_last : Side → Browser → Option Glance
+seen_last Above b = b.glances.above
+seen_last Ahead b = b.glances.ahead

@@ -9,6 +9,11 @@ pub mod Texts
 pub mod Dates
 pub mod Trash
 pub mod Answers
+pub mod Above
+pub mod Glances
+pub mod Sights
+pub mod Looks
+pub mod Columns
 pub mod Discards
 pub mod Finding
 pub mod Moves

@@ -1,5 +1,5 @@
 -- Entries that are marked.
-use Rattle.std.specs.Prelude.{◌≡◌, ◌==◌, ℕ, Bool, true, false, not, if◌then◌else◌, List, [], ◌∷◌, ◌++◌, length}
+use Rattle.std.specs.Prelude.{◌==◌, ℕ, Bool, false, not, if◌then◌else◌, List, [], ◌∷◌, ◌++◌, length}
 use Rattle.std.specs.Prelude.{filter, codes, Option, slice_get, string_bytes}
 use Rattle.std.specs.{List.list_any, List.position_from, List.All, Option.option_map_or, Option.option_and_then, Str.bytes_eq}
 use Rattle.files.specs.declared.list.Row.{Row}

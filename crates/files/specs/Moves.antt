@@ -41,6 +41,7 @@ use Rattle.files.specs.declared.undo.Moved.{Moved}
 use Rattle.ratatui_files.specs.declared.command.Command.{Command}
 use Rattle.ratatui_files.specs.declared.command.Command.TheVariants.{Rename}
 use Rattle.files.specs.Help.{help_rows}
+use Rattle.files.specs.Glances.{no_glances, aged, glance_taken, side_wanted}
 use Rattle.files.specs.Texts.{selected_text, column_in, fits, place_in_row}
 use Rattle.files.specs.Questions.{named_path, change_in}
 
@@ -74,6 +75,7 @@ new_browser alloc title size = record {
   helped = 0;
   typed = new_field;
   column = 0;
+  glances = no_glances;
 }
 
 -- a folder is shown in its place, above which nothing is reached
@@ -451,6 +453,7 @@ folder_shown l b = selected_at l.place (record b {
   follows = Looking;
   seeks_typed = false;
   mode = Looking;
+  glances = aged b.glances;
 })
 
 -- the question that follows: whether the entry that is selected is to be removed, if it is marked; or under which
@@ -484,10 +487,11 @@ asking_next next b = record b {
 abbrev pub listing_shown : ListingData → Browser → Browser
 listing_shown l b = asking_next b.follows (folder_shown l b)
 
--- what is done leads to the folder anew, and what failed to its reason
+-- what is done leads to the folder anew, what is seen is shown beside it, and what failed leads to its reason
 abbrev pub outcome_taken : Outcome → Browser → Browser
 outcome_taken (outcome.Listed l) b = listing_shown l b
 outcome_taken outcome.Done b = finished b
+outcome_taken (outcome.Glanced g) b = glance_taken g b
 outcome_taken (outcome.Failed failure) b =
     record b { mode = Looking; follows = Looking; seeks_typed = false; note = Failed b.mode failure }
 
@@ -520,8 +524,13 @@ asks_in Seeking sure = false
 asks_in Looking sure = false
 asks_in Over sure = false
 
+-- something is asked for that a person asked for
+abbrev pub acts : Browser → Bool
+acts b = asks_in b.mode b.is_sure
+
+-- or something is to be seen beside the folder, while nothing is typed
 abbrev pub asks : Browser → Bool
-asks b = asks_in b.mode b.is_sure
+asks b = acts b || is_some (side_wanted b)
 
 -- what is asked for is told by the browser itself
 abbrev pub browser_asked : Browser → Option Browser

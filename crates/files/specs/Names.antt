@@ -29,3 +29,16 @@ shown_name_char c =
 -- a name as it is shown
 unfoldable pub shown_name : List ℕ → List ℕ
 shown_name name = flat_map shown_name_char (chars name)
+
+-- a character of a text: a tab leads four columns further, and what no terminal shows as itself is written as in a
+-- name
+abbrev pub shown_text_char : ℕ → List ℕ
+shown_text_char c =
+    if c == 9 then codes "    "
+    else if is_shown c then encode_utf8 c
+    else if nat_lt c 256 then escaped_low c
+    else escaped_high c
+
+-- a line of a text as it is shown
+unfoldable pub shown_text : List ℕ → List ℕ
+shown_text line = flat_map shown_text_char (chars line)

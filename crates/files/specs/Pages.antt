@@ -9,16 +9,17 @@ use Rattle.ratatui_core.specs.Widgets.{ChangesWithin, OnPart}
 use Rattle.widget_boxes.specs.Titles.{InTurn}
 use Rattle.files.specs.declared.browser.Browser.{Browser}
 use Rattle.files.specs.declared.browser.Mode.{Mode}
-use Rattle.files.specs.declared.browser.Mode.TheVariants.{Renaming, Making, Pasting, Seeking, Helping}
+use Rattle.files.specs.declared.browser.Mode.TheVariants.{Renaming, Making, Pasting, Seeking}
 use Rattle.ratatui_core.specs.Buffer.{text_columns}
 use Rattle.ratatui_core.specs.Terminal.{TerminalData}
 use Rattle.ratatui_ansi.specs.Backend.{BackendState}
 use Rattle.ratatui_app.specs.Glass.{StandsOnGlass}
-use Rattle.files.specs.Texts.{text_in, place_in_row, status_told}
+use Rattle.files.specs.Texts.{text_in, entry_at, place_in_row, status_told}
+use Rattle.files.specs.Columns.{above_width, folder_width, ahead_start, shows_entries, is_parted, above_text, is_own_row, ahead_text}
 
--- a text in a row, as far as the row goes
-abbrev pub PaintsRowText : Rect → ℕ → Style → List ℕ → BufferData → BufferData → Type 0
-PaintsRowText r y style text = PaintsPieces (position_of (r.x, y)) (text_pieces r.width style text)
+-- a text in so many columns of a row, from one on
+abbrev pub PaintsText : ℕ → ℕ → ℕ → Style → List ℕ → BufferData → BufferData → Type 0
+PaintsText x y width style text = PaintsPieces (position_of (x, y)) (text_pieces width style text)
 
 -- bold and reversed; 1 is `BOLD`, and 64 is `REVERSED`
 abbrev pub bold : Style
@@ -26,11 +27,6 @@ bold = with_modifier (modifier_of 1) new_style
 
 abbrev pub reversed_row : Style
 reversed_row = with_modifier (modifier_of 64) new_style
-
--- the rows show entries, and not the list of the keys
-abbrev pub shows_entries : Mode → Bool
-shows_entries Helping = false
-shows_entries _ = true
 
 -- the title is bold, and the entry that is selected reversed
 abbrev pub style_in : ℕ → ℕ → Browser → Style
@@ -40,9 +36,38 @@ style_in k height b =
     else if shows_entries b.mode && (place_in_row k b == b.selected) then reversed_row
     else new_style
 
+-- a row of one column
+abbrev pub PaintsWhole : Browser → Rect → ℕ → BufferData → BufferData → Type 0
+PaintsWhole b r k = PaintsText r.x (r.y + k) r.width (style_in k r.height b) (text_in k r.width r.height b)
+
+-- the three columns of a row: the folder above, in which the folder's own row is reversed, the folder, and what is
+-- selected
+abbrev pub above_style : ℕ → ℕ → Browser → Style
+above_style k height b = if is_own_row k height b then reversed_row else new_style
+
+abbrev pub PaintsAbove : Browser → Rect → ℕ → BufferData → BufferData → Type 0
+PaintsAbove b r k =
+    PaintsText r.x (r.y + k) (above_width r.width - 1) (above_style k r.height b) (above_text k r.height b)
+
+abbrev pub PaintsFolder : Browser → Rect → ℕ → BufferData → BufferData → Type 0
+PaintsFolder b r k =
+    PaintsText (r.x + above_width r.width) (r.y + k) (folder_width r.width - 1) (style_in k r.height b)
+    (entry_at (folder_width r.width - 1) (place_in_row k b) b)
+
+abbrev pub PaintsAhead : Browser → Rect → ℕ → BufferData → BufferData → Type 0
+PaintsAhead b r k =
+    PaintsText (r.x + ahead_start r.width) (r.y + k) (r.width - ahead_start r.width) new_style (ahead_text k b)
+
+abbrev pub PaintsColumns : Browser → Rect → ℕ → BufferData → BufferData → Type 0
+PaintsColumns b r k = InTurn (PaintsAbove b r k) (InTurn (PaintsFolder b r k) (PaintsAhead b r k))
+
 -- a row
+abbrev pub PaintsRowIf : Bool → Browser → Rect → ℕ → BufferData → BufferData → Type 0
+PaintsRowIf true b r k = PaintsColumns b r k
+PaintsRowIf false b r k = PaintsWhole b r k
+
 abbrev pub PaintsListRow : Browser → Rect → ℕ → BufferData → BufferData → Type 0
-PaintsListRow b r k = PaintsRowText r (r.y + k) (style_in k r.height b) (text_in k r.width r.height b)
+PaintsListRow b r k = PaintsRowIf (is_parted k r.width r.height b) b r k
 
 -- the first rows
 unfoldable pub PaintsFirstRows : Browser → Rect → ℕ → BufferData → BufferData → Type 0

@@ -2,8 +2,9 @@
 
 ghost use Rattle.std.specs.Prelude.{◌≡◌, false, Some, IfOk, OnOk, OnErr, option_map};
 ghost use Rattle.files.specs.Moves.{new_browser, within_folder, removal_answered, order_taken, browsed, browser_at_told_size, told, outcome_told, browsed_after};
-ghost use Rattle.files.specs.Moves.{asks, browser_asked, help_left, gone_on, finished, chosen};
+ghost use Rattle.files.specs.Moves.{acts, asks, browser_asked, help_left, gone_on, finished, chosen};
 
+use crate::glance::Glances;
 use crate::help::HELP;
 use crate::keys::{is_input, order_of, says_yes, wish_of};
 use crate::list::{Outcome, Rows};
@@ -130,6 +131,8 @@ pub struct Browser {
     /// What is typed, and how many columns of the status stand before its cursor.
     pub(crate) typed: TextField,
     pub(crate) column: usize,
+    /// What is seen beside the folder.
+    pub(crate) glances: Glances,
 }
 
 impl Browser {
@@ -169,6 +172,7 @@ impl Browser {
             helped: 0,
             typed: TextField::new(alloc),
             column: 0,
+            glances: Glances::none(),
         }
     }
 
@@ -319,6 +323,7 @@ impl Browser {
         match outcome {
             Outcome::Listed(listing) => self.take_listing(listing)?,
             Outcome::Done => self.finish()?,
+            Outcome::Glanced(glance) => self.take_glance(glance),
             Outcome::Failed(failure) => {
                 self.seeks_typed = false;
                 self.follows = Mode::Looking;
@@ -341,9 +346,17 @@ impl Browser {
         }
     }
 
-    /// Returns whether it asks for something.
+    /// Returns whether it asks for something: what a person asked for, or what is to be seen beside
+    /// the folder.
     pub fn asks(&self) -> bool
         ensures { result ≡ asks self.now }
+    {
+        self.acts() || self.side_wanted().is_some()
+    }
+
+    // Whether it asks for something that a person asked for.
+    fn acts(&self) -> bool
+        ensures { result ≡ acts self.now }
     {
         match self.mode {
             Mode::Listing | Mode::Entering | Mode::Leaving | Mode::Returning => true,

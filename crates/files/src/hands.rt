@@ -6,7 +6,8 @@ ghost use Rattle.ratatui_app.specs.Glass.{StandsOnGlass};
 ghost use Rattle.files.specs.Texts.{status_told};
 ghost use Rattle.files.specs.Pages.{PaintsBrowser, browser_cursor};
 ghost use Rattle.files.specs.Questions.{change_in, IsNamedIn};
-ghost use Rattle.files.specs.Doing.{IsAbove, Lists, TellsListing, Listed, Changed};
+ghost use Rattle.files.specs.Doing.{Lists, TellsListing, Listed, Changed};
+ghost use Rattle.files.specs.Above.{IsAbove};
 ghost use Rattle.files.specs.Answers.{told_of};
 
 use crate::browser::{Browser, Mode};
@@ -30,8 +31,8 @@ pub struct Hands<P> {
 /// if there is none of that name.
 #[derive(Drop)]
 pub(crate) struct Wanted {
-    folder: Path,
-    name: Text,
+    pub(crate) folder: Path,
+    pub(crate) name: Text,
     other: usize,
 }
 
@@ -43,8 +44,8 @@ fn parted(path: &str) -> (&str, &str) {
     }
 }
 
-// The folder above a folder, whose name is to be selected there.
-fn above(alloc: Global, folder: &Path) -> Result<Option<Wanted>, AllocError>
+/// Returns the folder above a folder, whose name is to be selected there.
+pub(crate) fn above(alloc: Global, folder: &Path) -> Result<Option<Wanted>, AllocError>
     ensures { IfOk result (λ wanted. IfSome wanted (IsAbove folder.now)) }
 {
     let (text, name) = parted(folder.as_str());
@@ -242,6 +243,7 @@ impl<P: Performs + Drop, W: Write + Drop> Outside<Browser, OnGlass<W>> for Hands
                 Ok(self.list(state))
             }
             Mode::Trashing => Ok(self.discard(glass, state)),
+            Mode::Looking => Ok(self.look(state)),
             _ => Ok(self.change(glass, state)),
         }
     }

@@ -42,13 +42,19 @@ ghost use Rattle.files.specs.declared.list.Outcome.TheVariants as outcome;
 ghost use Rattle.files.specs.Names.{shown_name};
 ghost use Rattle.files.specs.Texts.{selected_text, fits, status_told};
 ghost use Rattle.files.specs.Trash.{discard_in};
-ghost use Rattle.files.specs.Moves.{new_browser, browsed_after, list_rows, scrolled_list, asks};
+ghost use Rattle.files.specs.Moves.{new_browser, browsed_after, list_rows, scrolled_list, acts, asks};
 ghost use Rattle.files.specs.Questions.{change_in};
 ghost use Rattle.ratatui_acts.specs.Runs.{Now, Past, HasRun};
 ghost use Rattle.ratatui_app.specs.declared.on_glass.OnGlass.{OnGlass};
 ghost use Rattle.files.specs.RunLaws.{browsing_on, WereOnTheGlass, WereAsked};
 ghost use Rattle.files.specs.Laws.{IsSound, IsPlaced, ListsSame, AsksToRemove, AsksToRename, AsksToTrash, AsksToPaste, AsksToUndo};
-ghost use Rattle.files.specs.Laws.{AsksAbout, WillAskAbout};
+ghost use Rattle.files.specs.Laws.{AsksAbout, WillAskAbout, IsLook, seen_last};
+ghost use Rattle.files.specs.declared.browser.Mode.TheVariants.{Looking};
+ghost use Rattle.files.specs.declared.glance.Side.{Side as SideName};
+ghost use Rattle.files.specs.declared.glance.Glance.{Glance as GlanceData};
+ghost use Rattle.files.specs.declared.looks.Aim.{Aim};
+ghost use Rattle.files.specs.Glances.{is_at, seen_above, seen_ahead, aged};
+ghost use Rattle.files.specs.Looks.{IsAim};
 ghost use Rattle.files.specs.HelpTable.{key_table, AreListedKeys, HasEntryFor};
 
 use crate::browser::Browser;
@@ -83,6 +89,8 @@ pub fn only_listings_change_the_list()
     ensures done { (b : Browser) → ListsSame b (browsed_after b (message.Answer outcome.Done)) }
     ensures failed { (b : Browser) (why : Failure)
         → ListsSame b (browsed_after b (message.Answer (outcome.Failed why))) }
+    ensures seen { (b : Browser) (g : GlanceData)
+        → ListsSame b (browsed_after b (message.Answer (outcome.Glanced g))) }
 {}
 
 /// A question that removes or renames something names it, whole, and the name that it is given, or
@@ -230,6 +238,43 @@ pub fn what_was_moved_is_moved_back()
         ≡ Some (record { from = from; to = to }) }
     ensures back { (b : Browser) (moved : Moved) → b.last_move ≡ Some moved
         → change_in Undoing b ≡ Some (Rename moved.to moved.from) }
+{}
+
+/// What is seen ahead is from the folder that is shown, and of the entry that is selected; what is
+/// seen above is from that folder, too.
+pub fn what_is_seen_is_of_what_is_selected()
+    ensures ahead { (b : Browser) (g : GlanceData) → seen_ahead b ≡ Some g
+        → (g.folder ≡ b.folder) × (g.name ≡ selected_text b) }
+    ensures above { (b : Browser) (g : GlanceData) → seen_above b ≡ Some g → g.folder ≡ b.folder }
+{}
+
+/// What is seen is what was answered last. An answer that isn't of the folder that is shown, or is of
+/// another entry than the selected one, is dropped; and nothing but an answer changes what was seen:
+/// once the folder is listed anew, it is looked at anew.
+pub fn what_is_seen_was_answered_last()
+    ensures taken { (b : Browser) (g : GlanceData) → is_at g.side b g ≡ true
+        → seen_last g.side (browsed_after b (message.Answer (outcome.Glanced g))) ≡ Some g }
+    ensures dropped { (b : Browser) (g : GlanceData) → is_at g.side b g ≡ false
+        → (browsed_after b (message.Answer (outcome.Glanced g))).glances ≡ b.glances }
+    ensures event { (b : Browser) (e : Event)
+        → (browsed_after b (message.Event e)).glances ≡ b.glances }
+    ensures tick { (b : Browser) (passed : Duration)
+        → (browsed_after b (message.Tick passed)).glances ≡ b.glances }
+    ensures done { (b : Browser)
+        → (browsed_after b (message.Answer outcome.Done)).glances ≡ b.glances }
+    ensures failed { (b : Browser) (why : Failure)
+        → (browsed_after b (message.Answer (outcome.Failed why))).glances ≡ b.glances }
+    ensures listed { (b : Browser) (l : ListingData)
+        → (browsed_after b (message.Answer (outcome.Listed l))).glances ≡ aged b.glances }
+{}
+
+/// What is to be seen is asked for by itself only while an entry is selected, after a read that found
+/// nothing, and on a screen with room for it; and only by commands that change nothing.
+pub fn looks_delay_no_key_and_change_nothing()
+    ensures quiet { (b : Browser) → asks b ≡ true → acts b ≡ false
+        → (b.mode ≡ Looking) × (b.is_quiet ≡ true) × (60 ≤ b.size.width) }
+    ensures light { (b : Browser) (side : SideName) (aim : Aim) → IsAim side b aim
+        → IsLook aim.command }
 {}
 
 // ---- runs

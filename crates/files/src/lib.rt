@@ -6,13 +6,17 @@
 #![tactic(auto)]
 
 mod browser;
+mod columns;
 mod dates;
 mod discards;
+mod glance;
+mod glancing;
 mod hands;
 mod help;
 mod keys;
 pub mod laws;
 mod list;
+mod looks;
 mod marks;
 mod moves;
 mod name_keys;
@@ -22,6 +26,7 @@ mod order;
 mod page;
 mod questions;
 mod search;
+mod sights;
 mod sorting;
 mod texts;
 mod trash;
@@ -29,6 +34,7 @@ mod typing;
 mod undo;
 
 pub use browser::{Browser, Mode, Note};
+pub use glance::{Glance, Glances, Lines, Side, Sight};
 pub use hands::Hands;
 pub use help::HELP;
 pub use keys::Wish;

@@ -2,6 +2,7 @@
 
 ghost use Rattle.std.specs.Prelude.{◌≡◌, length, option_map, slice_get};
 
+use crate::glance::Glance;
 use ratatui_files::{Failure, Path};
 use std::marker::Model;
 
@@ -85,6 +86,8 @@ pub struct Listing {
 pub enum Outcome {
     /// What stands in a folder.
     Listed(Listing),
+    /// What is seen beside a folder.
+    Glanced(Glance),
     /// It was done.
     Done,
     /// It wasn't done, and nothing has changed.

@@ -359,6 +359,7 @@ impl Browser {
         self.seeks_typed = false;
         self.follows = Mode::Looking;
         self.mode = Mode::Looking;
+        self.glances.age();
         self.select(place);
     }
 

@@ -3,6 +3,7 @@
 ghost use Rattle.std.specs.Prelude.{◌≡◌, ◌++◌, OnOk, string_bytes};
 ghost use Rattle.ansi_model.specs.Symbols.{is_shown, has_columns};
 ghost use Rattle.files.specs.Names.{is_plain, last_hex_digit, escaped_low, escaped_high, shown_name_char, shown_name};
+ghost use Rattle.files.specs.Names.{shown_text_char, shown_text};
 
 use ansi_model::is_plain as is_plain_char;
 use std::alloc::AllocError;
@@ -89,6 +90,32 @@ pub(crate) fn push_name(text: &mut String, name: &str) -> Result<(), AllocError>
 {
     for c in name.chars() {
         push_char(text, c)?;
+    }
+    Ok(())
+}
+
+// Appends what is shown for a character of a text.
+fn push_text_char(text: &mut String, c: char) -> Result<(), AllocError>
+    ensures { OnOk result (string_bytes text.new ≡ string_bytes text.old ++ shown_text_char c) }
+{
+    let code = c as u32;
+    if c == '\t' {
+        text.push_str("    ")
+    } else if is_shown(c) {
+        text.push(c)
+    } else if code < 256 {
+        push_low(text, code)
+    } else {
+        push_high(text, code)
+    }
+}
+
+/// Appends what is shown for a line of a text.
+pub(crate) fn push_text(text: &mut String, line: &str) -> Result<(), AllocError>
+    ensures { OnOk result (string_bytes text.new ≡ string_bytes text.old ++ shown_text line.now) }
+{
+    for c in line.chars() {
+        push_text_char(text, c)?;
     }
     Ok(())
 }

@@ -22,8 +22,8 @@ use ratatui_files::{Failure, Path};
 use std::alloc::{AllocError, Global};
 use text_field::TextField;
 
-// Why something wasn't done.
-fn failure_text(failure: Failure) -> &'static str
+/// Returns why something wasn't done.
+pub(crate) fn failure_text(failure: Failure) -> &'static str
     ensures { result.now ≡ failure_text failure }
 {
     match failure {
@@ -43,8 +43,8 @@ fn failure_text(failure: Failure) -> &'static str
     }
 }
 
-// Appends a name, and what it is: a slash for a folder, and an at sign for a link.
-fn push_row(text: &mut String, row: &Row) -> Result<(), AllocError>
+/// Appends a name, and what it is: a slash for a folder, and an at sign for a link.
+pub(crate) fn push_row(text: &mut String, row: &Row) -> Result<(), AllocError>
     ensures { OnOk result (string_bytes text.new ≡ string_bytes text.old ++ shown_row row.now) }
 {
     push_name(text, row.name.as_str())?;
@@ -125,8 +125,8 @@ fn push_order(text: &mut String, order: Order) -> Result<(), AllocError>
     }
 }
 
-// The place of what stands in a row of the list, whose first row has this one.
-fn row_place(first: usize, k: u16) -> usize
+/// Returns the place of what stands in a row of the list, whose first row has this one.
+pub(crate) fn row_place(first: usize, k: u16) -> usize
     ensures { result ≡ row_place first k }
 {
     first.saturating_add(usize::from(k)).saturating_sub(1)
@@ -472,8 +472,8 @@ impl Browser {
         }
     }
 
-    // The entry in a row of the list, if it shows one.
-    fn entry_text(&self, place: usize, width: u16) -> Result<String, AllocError>
+    /// Returns the entry in a row of the list, if it shows one.
+    pub(crate) fn entry_text(&self, place: usize, width: u16) -> Result<String, AllocError>
         ensures { IfOk result (λ text. string_bytes text ≡ entry_at width place self.now) }
     {
         match self.list.get(place) {

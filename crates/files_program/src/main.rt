@@ -1,12 +1,13 @@
 //! The program `files`: a folder in rows, in which no file is touched but the one that the screen
 //! names.
 //!
-//! `files FOLDER` shows a folder, and `files` the one that it is begun in; nothing above that folder
-//! is reached. What is put into the trash is moved to the folder that `--trash` names, or to `Trash`
-//! in `$XDG_DATA_HOME`, or in `.local/share` at home. `--help` tells the keys. What removes or
-//! renames a file can be called only while each terminal that has read what was sent shows the
-//! question that names it, whole. The terminal has to be in raw mode: `tools/play files_program
-//! FOLDER` sees to that.
+//! `files FOLDER` shows a folder, and `files` the one that it is begun in; nothing above that
+//! folder is reached. On 60 columns and more the folder above is seen beside it, and what is
+//! selected: that is asked for once no key has come for a tenth of a second. What is put into the
+//! trash is moved to the folder that `--trash` names, or to `Trash` in `$XDG_DATA_HOME`, or in
+//! `.local/share` at home. `--help` tells the keys. What removes or renames a file can be called
+//! only while each terminal that has read what was sent shows the question that names it, whole.
+//! The terminal has to be in raw mode: `tools/play files_program FOLDER` sees to that.
 //!
 //! `Q` ends the program, and prints the folder that is shown. In a shell, `cd "$(files)"` goes there:
 //! where standard output is no terminal, the program draws on `/dev/tty`.
@@ -36,6 +37,8 @@ above it is reached.
 j k g G, Ctrl+D Ctrl+U, arrows, Home, End, PageUp and PageDown select an entry. l, Enter and Right
 show the folder that is selected; h, Left and Backspace the one above, ~ the first one. A dot shows
 hidden entries. The wheel moves by three, a click selects an entry, and enters the selected folder.
+On 60 columns and more the folder above is seen on the left, and what is selected on the right: what
+a folder holds, the first 65536 bytes of a text, or how many bytes another file has.
 s and then n, s or d sorts by name, size or date, and N, S or D the other way round; folders stay
 first. / finds a text in names, whatever letters are capitals unless one is typed; n and N go on.
 r gives the entry another name, a makes a folder, D puts the entry into the trash. X removes it for

@@ -296,3 +296,12 @@ fn clicks_and_turns_of_the_wheel_select(rt: HostRuntime) -> Result<(), Fail> {
     assert_stored!(rt; end.screen.terminal().backend(), screens::CLICKED);
     Ok(())
 }
+
+#[test]
+fn shows_what_is_selected(rt: HostRuntime) -> Result<(), Fail> {
+    let end = play(rt.alloc(), 72, &[b"j", b"", b"q"])?;
+    assert_stored!(rt; end.screen.terminal().backend(), screens::AHEAD);
+    let end = play(rt.alloc(), 72, &[b"l", b"", b"q"])?;
+    assert_stored!(rt; end.screen.terminal().backend(), screens::ABOVE);
+    Ok(())
+}

@@ -45,11 +45,29 @@ pub(crate) const NARROW: &[&str] = &[
 
 pub(crate) const NAMED: &[&str] = &[
     "tree/                                                       ",
-    "docs/                                                       ",
-    "new/                                                        ",
-    "b.txt                                                      6",
-    "na.txt                                                     3",
+    "          docs/                                             ",
+    "          new/                                              ",
+    "          b.txt                  6                          ",
+    "          na.txt                 3                          ",
     "2/4                                                         ",
+];
+
+pub(crate) const AHEAD: &[&str] = &[
+    "tree/                                                                   ",
+    "            docs/                         tea                           ",
+    "            a.txt                       3                               ",
+    "            b.txt                       6                               ",
+    "                                                                        ",
+    "2/3                                                                     ",
+];
+
+pub(crate) const ABOVE: &[&str] = &[
+    "tree/docs                                                               ",
+    "docs/                                                                   ",
+    "a.txt                                                                   ",
+    "b.txt                                                                   ",
+    "                                                                        ",
+    "0/0                                                                     ",
 ];
 
 pub(crate) const CLICKED: &[&str] = &[

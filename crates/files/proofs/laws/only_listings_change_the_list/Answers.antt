@@ -20,3 +20,7 @@ returns-clause-done c = done-folder
 pub returns-clause-failed : goal.returns-clause-failed
 unfolding browsed_after
 returns-clause-failed c = λ b why. record { folder = refl; list = refl; unnamed = refl }
+
+pub returns-clause-seen : goal.returns-clause-seen
+unfolding browsed_after
+returns-clause-seen c = λ b g. record { folder = refl; list = refl; unnamed = refl }
