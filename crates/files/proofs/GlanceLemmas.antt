@@ -20,7 +20,7 @@ use Rattle.files.specs.declared.glance.Glances.{Glances}
 use Rattle.files.specs.declared.looks.Aim.{Aim}
 use Rattle.files.specs.Keys.{is_input}
 use Rattle.files.specs.Texts.{selected_text}
-use Rattle.files.specs.Glances.{is_at, current, seen_above, seen_ahead, glance_on, is_looking, is_wide, side_lacking, side_wanted}
+use Rattle.files.specs.Glances.{is_seen_at, current, seen_above, seen_ahead, glance_on, is_looking, is_wide, side_lacking, side_wanted}
 use Rattle.files.specs.Looks.{look_by, IsAim}
 use Rattle.files.specs.Moves.{acts, asks, browsed, browser_at_told_size, browsed_after}
 use Rattle.files.specs.Laws.{IsLook, seen_last}
@@ -28,14 +28,14 @@ use Rattle.files.proofs.LawLemmas.{browsed-keeps, goes-on}
 
 -- ---- what is seen is there
 
-kept-by : (test : Bool) (side : Side) (b : Browser) (h g : Glance) → is_at side b h ≡ test → (if test then Some h else None) ≡ Some g
-    → is_at side b g ≡ true
-kept-by true side b h g at is = let same : h ≡ g = cc in subst (λ (x : Glance). is_at side b x ≡ true) same at
+kept-by : (test : Bool) (side : Side) (b : Browser) (h g : Glance) → is_seen_at side b h ≡ test → (if test then Some h else None) ≡ Some g
+    → is_seen_at side b g ≡ true
+kept-by true side b h g at is = let same : h ≡ g = cc in subst (λ (x : Glance). is_seen_at side b x ≡ true) same at
 kept-by false side b h g at is = absurd (cc)
 
-current-at : (side : Side) (b : Browser) (o : Option Glance) (g : Glance) → current side b o ≡ Some g → is_at side b g ≡ true
+current-at : (side : Side) (b : Browser) (o : Option Glance) (g : Glance) → current side b o ≡ Some g → is_seen_at side b g ≡ true
 current-at side b None g is = absurd (cc)
-current-at side b (Some h) g is = kept-by (is_at side b h) side b h g refl is
+current-at side b (Some h) g is = kept-by (is_seen_at side b h) side b h g refl is
 
 and-both : (a b : Bool) → (a && b) ≡ true → (a ≡ true) × (b ≡ true)
 and-both true true is = (refl, refl)
@@ -62,19 +62,19 @@ taken-by true Above g b on = refl
 taken-by true Ahead g b on = refl
 taken-by false side g b on = absurd (cc)
 
-pub glance-taken : (b : Browser) (g : Glance) → is_at g.side b g ≡ true
+pub glance-taken : (b : Browser) (g : Glance) → is_seen_at g.side b g ≡ true
     → seen_last g.side (browsed_after b (message.Answer (outcome.Glanced g))) ≡ Some g
 unfolding browsed_after
-glance-taken b g at = taken-by (is_at g.side b g) g.side g b at
+glance-taken b g at = taken-by (is_seen_at g.side b g) g.side g b at
 
 if-not : (test : Bool) (one two : Glances) → test ≡ false → (if test then one else two) ≡ two
 if-not true one two off = absurd (cc)
 if-not false one two off = refl
 
-pub glance-dropped : (b : Browser) (g : Glance) → is_at g.side b g ≡ false
+pub glance-dropped : (b : Browser) (g : Glance) → is_seen_at g.side b g ≡ false
     → (browsed_after b (message.Answer (outcome.Glanced g))).glances ≡ b.glances
 unfolding browsed_after
-glance-dropped b g off = if-not (is_at g.side b g) (glance_on g.side g b.glances) b.glances off
+glance-dropped b g off = if-not (is_seen_at g.side b g) (glance_on g.side g b.glances) b.glances off
 
 sized-glances : (size : Option (ℕ × ℕ)) (b : Browser) → (browser_at_told_size size b).glances ≡ b.glances
 sized-glances None b = refl

@@ -66,15 +66,15 @@ abbrev pub is_own_row : ℕ → ℕ → Browser → Bool
 is_own_row k height b = option_map_or (λ g. above_place k height g == g.place) (seen_above b) false
 
 -- what an entry is of which nothing more is seen
-abbrev pub kind_text : Row → List ℕ
-kind_text row =
+abbrev pub entry_kind : Row → List ℕ
+entry_kind row =
     if not row.is_leaf then []
     else if row.is_link then codes "a link"
     else if is_some row.size then []
     else codes "neither a file nor a folder"
 
 abbrev pub unseen_text : ℕ → Browser → List ℕ
-unseen_text place b = in_first place (option_map_or kind_text (slice_get b.list b.selected) [])
+unseen_text place b = in_first place (option_map_or entry_kind (slice_get b.list b.selected) [])
 
 abbrev pub ahead_text : ℕ → Browser → List ℕ
 ahead_text k b =

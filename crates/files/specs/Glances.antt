@@ -33,13 +33,13 @@ with_glance g gs = glance_on g.side g gs
 -- ---- what is seen
 
 -- a glance is one from the folder that is shown; and one ahead is at the entry that is selected
-abbrev pub is_at : Side → Browser → Glance → Bool
-is_at Above b g = bytes_eq g.folder b.folder
-is_at Ahead b g = bytes_eq g.folder b.folder && bytes_eq g.name (selected_text b)
+abbrev pub is_seen_at : Side → Browser → Glance → Bool
+is_seen_at Above b g = bytes_eq g.folder b.folder
+is_seen_at Ahead b g = bytes_eq g.folder b.folder && bytes_eq g.name (selected_text b)
 
 -- what was seen last on a side, if it is still there
 abbrev pub current : Side → Browser → Option Glance → Option Glance
-current side b glance = option_and_then (λ g. if is_at side b g then Some g else None) glance
+current side b glance = option_and_then (λ g. if is_seen_at side b g then Some g else None) glance
 
 abbrev pub seen_above : Browser → Option Glance
 seen_above b = current Above b b.glances.above
@@ -49,7 +49,7 @@ seen_ahead b = current Ahead b b.glances.ahead
 
 -- what is answered is taken if it is still there, and else it is dropped
 abbrev pub glances_after : Glance → Browser → Glances
-glances_after g b = if is_at g.side b g then with_glance g b.glances else b.glances
+glances_after g b = if is_seen_at g.side b g then with_glance g b.glances else b.glances
 
 abbrev pub glance_taken : Glance → Browser → Browser
 glance_taken g b = record b { glances = glances_after g b }

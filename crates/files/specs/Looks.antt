@@ -24,8 +24,8 @@ abbrev pub look_by : Bool → List ℕ → Command
 look_by true path = Read path 0 65536
 look_by false path = ListFolder path
 
-abbrev pub look_at : Row → List ℕ → Command
-look_at row path = look_by row.is_leaf path
+abbrev pub look_command : Row → List ℕ → Command
+look_command row path = look_by row.is_leaf path
 
 -- the entry that is selected
 pub record IsAimAhead (b : Browser) (aim : Aim) : Type 0 where
@@ -34,7 +34,7 @@ pub record IsAimAhead (b : Browser) (aim : Aim) : Type 0 where
   pub side : aim.side ≡ Ahead
   pub folder : aim.folder ≡ b.folder
   pub name : aim.name ≡ string_bytes row.name
-  pub command : aim.command ≡ look_at row (path_in b.folder (string_bytes row.name))
+  pub command : aim.command ≡ look_command row (path_in b.folder (string_bytes row.name))
   pub size : aim.size ≡ unwrap_or row.size 0
   pub inner : aim.inner ≡ []
 
@@ -68,7 +68,7 @@ TellsGlance b aim a o = ⊥
 module _ {P : Type 0} (does : P → Command → Answer → P → Type 0) where
   -- what is wanted to be seen was looked at, by a command that changes nothing, and what was answered is told; or
   -- memory was refused for that
-  pub record Looks (b : Browser) (files : P) (o : Outcome) (files' : P) : Type 0 where
+  pub record LooksBeside (b : Browser) (files : P) (o : Outcome) (files' : P) : Type 0 where
     pub side : Side
     pub wanted : side_wanted b ≡ Some side
     pub aim : Aim
@@ -78,4 +78,4 @@ module _ {P : Type 0} (does : P → Command → Answer → P → Type 0) where
     pub tells : TellsGlance b aim answer o ⊎ (o ≡ outcome.Failed Memory)
 
   abbrev pub Looked : Browser → P → Outcome → P → Type 0
-  Looked b files o files' = DoesNothing files o files' ⊎ Looks b files o files'
+  Looked b files o files' = DoesNothing files o files' ⊎ LooksBeside b files o files'

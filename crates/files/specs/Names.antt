@@ -40,5 +40,5 @@ shown_text_char c =
     else escaped_high c
 
 -- a line of a text as it is shown
-unfoldable pub shown_text : List ℕ → List ℕ
-shown_text line = flat_map shown_text_char (chars line)
+unfoldable pub text_shown : List ℕ → List ℕ
+text_shown line = flat_map shown_text_char (chars line)

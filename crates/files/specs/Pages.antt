@@ -18,8 +18,8 @@ use Rattle.files.specs.Texts.{text_in, entry_at, place_in_row, status_told}
 use Rattle.files.specs.Columns.{above_width, folder_width, ahead_start, shows_entries, is_parted, above_text, is_own_row, ahead_text}
 
 -- a text in so many columns of a row, from one on
-abbrev pub PaintsText : ℕ → ℕ → ℕ → Style → List ℕ → BufferData → BufferData → Type 0
-PaintsText x y width style text = PaintsPieces (position_of (x, y)) (text_pieces width style text)
+abbrev pub PaintsInColumns : ℕ → ℕ → ℕ → Style → List ℕ → BufferData → BufferData → Type 0
+PaintsInColumns x y width style text = PaintsPieces (position_of (x, y)) (text_pieces width style text)
 
 -- bold and reversed; 1 is `BOLD`, and 64 is `REVERSED`
 abbrev pub bold : Style
@@ -38,7 +38,7 @@ style_in k height b =
 
 -- a row of one column
 abbrev pub PaintsWhole : Browser → Rect → ℕ → BufferData → BufferData → Type 0
-PaintsWhole b r k = PaintsText r.x (r.y + k) r.width (style_in k r.height b) (text_in k r.width r.height b)
+PaintsWhole b r k = PaintsInColumns r.x (r.y + k) r.width (style_in k r.height b) (text_in k r.width r.height b)
 
 -- the three columns of a row: the folder above, in which the folder's own row is reversed, the folder, and what is
 -- selected
@@ -47,16 +47,16 @@ above_style k height b = if is_own_row k height b then reversed_row else new_sty
 
 abbrev pub PaintsAbove : Browser → Rect → ℕ → BufferData → BufferData → Type 0
 PaintsAbove b r k =
-    PaintsText r.x (r.y + k) (above_width r.width - 1) (above_style k r.height b) (above_text k r.height b)
+    PaintsInColumns r.x (r.y + k) (above_width r.width - 1) (above_style k r.height b) (above_text k r.height b)
 
 abbrev pub PaintsFolder : Browser → Rect → ℕ → BufferData → BufferData → Type 0
 PaintsFolder b r k =
-    PaintsText (r.x + above_width r.width) (r.y + k) (folder_width r.width - 1) (style_in k r.height b)
+    PaintsInColumns (r.x + above_width r.width) (r.y + k) (folder_width r.width - 1) (style_in k r.height b)
     (entry_at (folder_width r.width - 1) (place_in_row k b) b)
 
 abbrev pub PaintsAhead : Browser → Rect → ℕ → BufferData → BufferData → Type 0
 PaintsAhead b r k =
-    PaintsText (r.x + ahead_start r.width) (r.y + k) (r.width - ahead_start r.width) new_style (ahead_text k b)
+    PaintsInColumns (r.x + ahead_start r.width) (r.y + k) (r.width - ahead_start r.width) new_style (ahead_text k b)
 
 abbrev pub PaintsColumns : Browser → Rect → ℕ → BufferData → BufferData → Type 0
 PaintsColumns b r k = InTurn (PaintsAbove b r k) (InTurn (PaintsFolder b r k) (PaintsAhead b r k))

@@ -8,12 +8,12 @@ use Rattle.ratatui_files.specs.declared.answer.Failure.TheVariants.{Other}
 use Rattle.files.specs.declared.order.Order.{Order}
 use Rattle.files.specs.declared.glance.Sight.{Sight}
 use Rattle.files.specs.declared.glance.Sight.TheVariants as sight
-use Rattle.files.specs.Names.{shown_text}
+use Rattle.files.specs.Names.{text_shown}
 use Rattle.files.specs.Sorting.{IsListOf, IsPlaceOf}
 
 -- the lines of a text, each as it is shown
 abbrev pub shown_lines : List ℕ → List (List ℕ)
-shown_lines text = map shown_text (lines text)
+shown_lines text = map text_shown (lines text)
 
 abbrev pub has_nul : List ℕ → Bool
 has_nul bytes = list_any (λ b. b == 0) bytes
@@ -29,7 +29,7 @@ IsTextIn bytes (Some text) = IsTextOf bytes text
 IsTextIn bytes None = IsUtf8 bytes → ⊥
 
 -- the lines of a text
-pub record AreLinesOf (bytes : List ℕ) (lines : List (List ℕ)) : Type 0 where
+pub record AreShownLinesOf (bytes : List ℕ) (lines : List (List ℕ)) : Type 0 where
   pub text : List ℕ
   pub of_bytes : IsTextOf bytes text
   pub shown : lines ≡ shown_lines text
@@ -37,7 +37,7 @@ pub record AreLinesOf (bytes : List ℕ) (lines : List (List ℕ)) : Type 0 wher
 -- what is seen of a file of so many bytes that begins with these: its lines, if they are text and none is zero;
 -- and else how many they are
 abbrev pub IsSightOfBytes : ℕ → List ℕ → Sight → Type 0
-IsSightOfBytes size bytes (sight.Lines lines) = (has_nul bytes ≡ false) × AreLinesOf bytes lines
+IsSightOfBytes size bytes (sight.Lines lines) = (has_nul bytes ≡ false) × AreShownLinesOf bytes lines
 IsSightOfBytes size bytes (sight.Size n) = (n ≡ size) × ((has_nul bytes ≡ true) ⊎ (IsUtf8 bytes → ⊥))
 IsSightOfBytes size bytes s = ⊥
 

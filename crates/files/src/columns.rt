@@ -3,7 +3,7 @@
 ghost use Rattle.std.specs.Prelude.{◌≡◌, ◌++◌, ◌-◌, ◌<◌, IfOk, OnOk, string_bytes};
 ghost use Rattle.files.specs.Columns.{above_width, folder_width, ahead_start, shows_entries, is_parted};
 ghost use Rattle.files.specs.declared.glance.Sight.TheVariants as sight;
-ghost use Rattle.files.specs.Columns.{in_first, sight_text, above_place, above_text, is_own_row, kind_text, unseen_text, ahead_text};
+ghost use Rattle.files.specs.Columns.{in_first, sight_text, above_place, above_text, is_own_row, entry_kind, unseen_text, ahead_text};
 
 use crate::browser::{Browser, Mode};
 use crate::glance::{Glance, Lines, Sight};
@@ -109,8 +109,8 @@ fn above_place(k: u16, height: u16, glance: &Glance) -> usize
 }
 
 // What an entry is of which nothing more is seen.
-fn kind_text(row: &Row) -> &'static str
-    ensures { result.now ≡ kind_text row.now }
+fn entry_kind(row: &Row) -> &'static str
+    ensures { result.now ≡ entry_kind row.now }
 {
     if !row.is_leaf {
         ""
@@ -168,7 +168,7 @@ impl Browser {
     {
         let mut text = String::new(self.alloc);
         if let Some(row) = self.list.get(self.selected) {
-            push_first(&mut text, place, kind_text(row))?;
+            push_first(&mut text, place, entry_kind(row))?;
         }
         Ok(text)
     }

@@ -1,7 +1,7 @@
 //! What a browser sees beside its folder.
 
 ghost use Rattle.std.specs.Prelude.{◌≡◌, option_map};
-ghost use Rattle.files.specs.Glances.{is_at, current, seen_above, seen_ahead, glance_taken, may_see};
+ghost use Rattle.files.specs.Glances.{is_seen_at, current, seen_above, seen_ahead, glance_taken, may_see};
 ghost use Rattle.files.specs.Glances.{lacks_above, lacks_ahead, is_wide, may_look, side_wanted};
 
 use crate::browser::{Browser, Mode};
@@ -25,8 +25,8 @@ fn may_see(row: &Row) -> bool
 impl Browser {
     // Whether a glance is one from the folder that is shown, and one ahead is at the entry that is
     // selected.
-    fn is_at(&self, side: Side, glance: &Glance) -> bool
-        ensures { result ≡ is_at side self.now glance.now }
+    fn is_seen_at(&self, side: Side, glance: &Glance) -> bool
+        ensures { result ≡ is_seen_at side self.now glance.now }
     {
         let is_here = glance.folder.as_str() == self.folder.as_str();
         match side {
@@ -40,7 +40,7 @@ impl Browser {
         ensures { option_map (λ it. it.now) result ≡ current side self.now glance.now }
     {
         match glance {
-            Some(glance) if self.is_at(side, glance) => Some(glance),
+            Some(glance) if self.is_seen_at(side, glance) => Some(glance),
             _ => None,
         }
     }
@@ -63,7 +63,7 @@ impl Browser {
     pub(crate) fn take_glance(&mut self, glance: Glance)
         ensures { self.new ≡ glance_taken glance self.old }
     {
-        if self.is_at(glance.side, &glance) {
+        if self.is_seen_at(glance.side, &glance) {
             self.glances.take(glance);
         }
     }

@@ -53,7 +53,7 @@ ghost use Rattle.files.specs.declared.browser.Mode.TheVariants.{Looking};
 ghost use Rattle.files.specs.declared.glance.Side.{Side as SideName};
 ghost use Rattle.files.specs.declared.glance.Glance.{Glance as GlanceData};
 ghost use Rattle.files.specs.declared.looks.Aim.{Aim};
-ghost use Rattle.files.specs.Glances.{is_at, seen_above, seen_ahead, aged};
+ghost use Rattle.files.specs.Glances.{is_seen_at, seen_above, seen_ahead, aged};
 ghost use Rattle.files.specs.Looks.{IsAim};
 ghost use Rattle.files.specs.HelpTable.{key_table, AreListedKeys, HasEntryFor};
 
@@ -252,9 +252,9 @@ pub fn what_is_seen_is_of_what_is_selected()
 /// another entry than the selected one, is dropped; and nothing but an answer changes what was seen:
 /// once the folder is listed anew, it is looked at anew.
 pub fn what_is_seen_was_answered_last()
-    ensures taken { (b : Browser) (g : GlanceData) → is_at g.side b g ≡ true
+    ensures taken { (b : Browser) (g : GlanceData) → is_seen_at g.side b g ≡ true
         → seen_last g.side (browsed_after b (message.Answer (outcome.Glanced g))) ≡ Some g }
-    ensures dropped { (b : Browser) (g : GlanceData) → is_at g.side b g ≡ false
+    ensures dropped { (b : Browser) (g : GlanceData) → is_seen_at g.side b g ≡ false
         → (browsed_after b (message.Answer (outcome.Glanced g))).glances ≡ b.glances }
     ensures event { (b : Browser) (e : Event)
         → (browsed_after b (message.Event e)).glances ≡ b.glances }

@@ -2,7 +2,7 @@
 
 ghost use Rattle.std.specs.Prelude.{◌≡◌, IfOk, IfSome};
 ghost use Rattle.files.specs.declared.glance.Side.TheVariants.{Above as above_side, Ahead as ahead_side};
-ghost use Rattle.files.specs.Looks.{look_at, IsAim, TellsGlance, Looked};
+ghost use Rattle.files.specs.Looks.{look_command, IsAim, TellsGlance, Looked};
 
 use crate::browser::Browser;
 use crate::glance::{Glance, Side};
@@ -27,8 +27,8 @@ pub(crate) struct Aim {
 }
 
 // What is asked for to see an entry: what a folder holds, or how a file begins.
-fn look_at(row: &Row, path: Path) -> Command
-    ensures { result ≡ look_at row.now path }
+fn look_command(row: &Row, path: Path) -> Command
+    ensures { result ≡ look_command row.now path }
 {
     if row.is_leaf {
         Command::Read(path, 0, 65536)
@@ -51,7 +51,7 @@ fn aim_ahead(alloc: Global, browser: &Browser) -> Result<Option<Aim>, AllocError
         side: Side::Ahead,
         folder: browser.folder.copy(alloc)?,
         name: Text::copy(alloc, row.name.as_str())?,
-        command: look_at(row, path),
+        command: look_command(row, path),
         size: row.size.unwrap_or(0),
         inner: Text::copy(alloc, "")?,
     }))

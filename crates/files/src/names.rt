@@ -3,7 +3,7 @@
 ghost use Rattle.std.specs.Prelude.{◌≡◌, ◌++◌, OnOk, string_bytes};
 ghost use Rattle.ansi_model.specs.Symbols.{is_shown, has_columns};
 ghost use Rattle.files.specs.Names.{is_plain, last_hex_digit, escaped_low, escaped_high, shown_name_char, shown_name};
-ghost use Rattle.files.specs.Names.{shown_text_char, shown_text};
+ghost use Rattle.files.specs.Names.{shown_text_char, text_shown};
 
 use ansi_model::is_plain as is_plain_char;
 use std::alloc::AllocError;
@@ -112,7 +112,7 @@ fn push_text_char(text: &mut String, c: char) -> Result<(), AllocError>
 
 /// Appends what is shown for a line of a text.
 pub(crate) fn push_text(text: &mut String, line: &str) -> Result<(), AllocError>
-    ensures { OnOk result (string_bytes text.new ≡ string_bytes text.old ++ shown_text line.now) }
+    ensures { OnOk result (string_bytes text.new ≡ string_bytes text.old ++ text_shown line.now) }
 {
     for c in line.chars() {
         push_text_char(text, c)?;

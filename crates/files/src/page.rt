@@ -6,7 +6,7 @@ ghost use Rattle.ratatui_core.specs.Buffer.{IsReadyAt, IsReadyFrom};
 ghost use Rattle.ratatui_core.specs.Widgets.{ChangesWithin};
 ghost use Rattle.widget_boxes.specs.Boxes.{IsBoxArea};
 ghost use Rattle.files.specs.Columns.{above_width, ahead_start};
-ghost use Rattle.files.specs.Pages.{style_in, above_style, PaintsText, PaintsWhole, PaintsAbove, PaintsFolder, PaintsAhead, PaintsColumns};
+ghost use Rattle.files.specs.Pages.{style_in, above_style, PaintsInColumns, PaintsWhole, PaintsAbove, PaintsFolder, PaintsAhead, PaintsColumns};
 ghost use Rattle.files.specs.Pages.{PaintsListRow, PaintsFirstRows, cursor_at_column};
 
 use crate::browser::{Browser, Mode};
@@ -33,7 +33,7 @@ fn paint_text(
     requires top { part.y ≤ at.y }
     requires bottom { at.y < part.y + part.height }
     ensures within { ChangesWithin part buf.old buf.new }
-    ensures ok { OnOk result (PaintsText at.x at.y width style text.now buf.old buf.new) }
+    ensures ok { OnOk result (PaintsInColumns at.x at.y width style text.now buf.old buf.new) }
     ensures ready { IsReadyAt at.x at.y buf.old → OnOk result
         ((end : ℕ) → at.x + width ≤ end → end ≤ part.x + part.width → IsReadyAt end at.y buf.new) }
 {

@@ -2,7 +2,7 @@
 
 ghost use Rattle.std.specs.Prelude.{◌≡◌, IfOk};
 ghost use Rattle.std.specs.Option.{option_copied};
-ghost use Rattle.files.specs.Names.{shown_text};
+ghost use Rattle.files.specs.Names.{text_shown};
 ghost use Rattle.files.specs.Sights.{has_nul, shown_lines, IsTextIn, IsSightOfBytes, IsSightOf, IsPlaceIn};
 
 use crate::glance::{Lines, Sight};
@@ -15,7 +15,7 @@ use std::str::from_utf8;
 
 // A line as it is shown.
 fn shown_line(alloc: Global, line: &str) -> Result<Text, AllocError>
-    ensures { IfOk result (λ text. text ≡ shown_text line.now) }
+    ensures { IfOk result (λ text. text ≡ text_shown line.now) }
 {
     let mut text = String::new(alloc);
     push_text(&mut text, line)?;

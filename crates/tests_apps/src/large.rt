@@ -61,33 +61,24 @@ fn a_canvas_of_many_cells_is_shown(rt: HostRuntime) -> Result<(), AllocError> {
     Ok(())
 }
 
-// A canvas as a state's grid shows it.
-fn shown_by(
-    alloc: Global,
-    canvas: &Canvas<'_>,
-    state: &mut CanvasState,
-) -> Result<Buffer, AllocError> {
-    let area = Rect::new(0, 0, 20, 10);
-    let mut buffer = Buffer::empty(alloc, area)?;
-    StatefulWidget::render(canvas, area, &mut buffer, state)?;
-    Ok(buffer)
-}
-
 #[test]
 fn a_canvas_with_a_state_shows_the_same(rt: HostRuntime) -> Result<(), AllocError> {
     let alloc = rt.alloc();
+    let area = Rect::new(0, 0, 20, 10);
     let coords = [(0, 0), (19, 7), (39, 39)];
     let drawings = [Drawing::Points(Points::new(&coords, Color::Green))];
     let canvas = Canvas::new()
         .x_bounds([0, 39])
         .y_bounds([0, 39])
         .paint(&drawings);
-    let mut alone = Buffer::empty(alloc, Rect::new(0, 0, 20, 10))?;
-    Widget::render(&canvas, Rect::new(0, 0, 20, 10), &mut alone)?;
+    let mut alone = Buffer::empty(alloc, area)?;
+    let mut first = Buffer::empty(alloc, area)?;
+    let mut second = Buffer::empty(alloc, area)?;
+    Widget::render(&canvas, area, &mut alone)?;
     let mut state = CanvasState::new();
-    let first = shown_by(alloc, &canvas, &mut state)?;
+    StatefulWidget::render(&canvas, area, &mut first, &mut state)?;
+    StatefulWidget::render(&canvas, area, &mut second, &mut state)?;
     assert!(rt; first == alone);
-    let second = shown_by(alloc, &canvas, &mut state)?;
     assert!(rt; second == alone);
     Ok(())
 }

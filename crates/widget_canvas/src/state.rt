@@ -12,7 +12,7 @@ use std::alloc::{AllocError, Global};
 ///
 /// ```
 /// let mut state = CanvasState::new();
-/// StatefulWidget::render(&canvas, area, buf, &mut state)?;
+/// StatefulWidget::render(&canvas, area, &mut first, &mut state)?;
 /// ```
 #[derive(Debug, Default, Drop)]
 pub struct CanvasState {

@@ -1,6 +1,6 @@
 use Rattle.std.proofs.Common.{rules, refl, sym, ap, ◌∙◌}
 use Rattle.ratatui_files.specs.Paths.{is_name, path_in}
-use Rattle.files.specs.Looks.{look_at}
+use Rattle.files.specs.Looks.{look_command}
 use Rattle.files.proofs.TrashLemmas.{entry-by}
 use Rattle.files.proofs.looks.aim_ahead.Goals as goal
 
@@ -15,7 +15,7 @@ returns c =
       side = refl;
       folder = c.in_ok-copy.ensures;
       name = c.in_ok-copy-2.ensures ∙ c.as_str-2.ensures.value;
-      command = c.look_at.ensures ∙ ap (look_at row) (path ∙ ap (path_in b.folder) c.as_str.ensures.value);
+      command = c.look_command.ensures ∙ ap (look_command row) (path ∙ ap (path_in b.folder) c.as_str.ensures.value);
       size = search rules;
       inner = c.in_ok-copy-3.ensures;
     }
