@@ -8,11 +8,8 @@ use ratatui_core::backend::TestBackend;
 use ratatui_core::buffer::{Buffer, texts_width};
 use ratatui_core::layout::{Position, Rect};
 use ratatui_core::style::{Style, Stylize};
-use ratatui_core::terminal::Terminal;
-use ratatui_core::text::Line;
-use ratatui_test::{Shows, assert_same, assert_shows, difference};
+use ratatui_test::{Shows, assert_same, difference};
 use std::alloc::{AllocError, Global};
-use std::test::Fail;
 
 // Whether a buffer can have these texts as its rows.
 fn is_small(texts: &[&str]) -> bool
@@ -46,83 +43,101 @@ fn equal_buffers(rt: HostRuntime) -> Result<(), AllocError> {
     Ok(())
 }
 
-#[test]
-fn a_symbol_differs(rt: HostRuntime) -> Result<(), AllocError> {
-    let alloc = rt.alloc();
-    let left = shown(alloc, &["日 one", "a two"])?;
-    let right = shown(alloc, &["日 one", "a tow"])?;
-    let Some(apart) = difference(&left, &right) else {
-        assert!(rt; false, "no difference");
-        return Ok(());
+// Whether two buffers differ first at a place, and this is told of them.
+fn is_told(
+    alloc: Global,
+    left: &Buffer,
+    right: &Buffer,
+    position: Option<Position>,
+    wanted: &str,
+) -> Result<bool, AllocError> {
+    let Some(apart) = difference(left, right) else {
+        return Ok(false);
     };
-    assert!(rt; apart.position == Some(Position::new(3, 1)));
     let told = format!(in alloc; "{apart}")?;
+    Ok(apart.position == position && told.as_str() == wanted)
+}
+
+// The same of two buffers of texts.
+fn texts_differ(
+    alloc: Global,
+    left: &[&str],
+    right: &[&str],
+    position: Option<Position>,
+    wanted: &str,
+) -> Result<bool, AllocError> {
+    let left = shown(alloc, left)?;
+    let right = shown(alloc, right)?;
+    is_told(alloc, &left, &right, position, wanted)
+}
+
+// The same of a buffer of a text, and of one of which the second cell is in red and bold.
+fn styles_differ(
+    alloc: Global,
+    text: &str,
+    position: Option<Position>,
+    wanted: &str,
+) -> Result<bool, AllocError> {
+    let left = shown(alloc, &[text])?;
+    let mut right = shown(alloc, &[text])?;
+    right.set_style(Rect::new(1, 0, 1, 1), Style::new().red().bold());
+    is_told(alloc, &left, &right, position, wanted)
+}
+
+#[test]
+fn symbols_styles_and_areas_differ(rt: HostRuntime) -> Result<(), AllocError> {
+    let alloc = rt.alloc();
     let wanted =
         "at (3, 1): left \"w\", right \"o\"\nleft:\n|日 one|\n|a two |\n    ^\nright:\n|日 one|\n|a tow |\n    ^";
-    assert!(rt; told.as_str() == wanted, "{told}");
-    Ok(())
-}
-
-#[test]
-fn a_style_differs(rt: HostRuntime) -> Result<(), AllocError> {
-    let alloc = rt.alloc();
-    let left = shown(alloc, &["ab"])?;
-    let mut right = shown(alloc, &["ab"])?;
-    right.set_style(Rect::new(1, 0, 1, 1), Style::new().red().bold());
-    let Some(apart) = difference(&left, &right) else {
-        assert!(rt; false, "no difference");
-        return Ok(());
-    };
-    let told = format!(in alloc; "{apart}")?;
+    let place = Some(Position::new(3, 1));
+    assert!(rt;
+        texts_differ(
+            alloc,
+            &["日 one", "a two"],
+            &["日 one", "a tow"],
+            place,
+            wanted
+        )?
+    );
     let wanted =
         "at (1, 0): left \"b\", right \"b\"; fg Reset, Red; BOLD right\nleft:\n|ab|\n  ^\nright:\n|ab|\n  ^";
-    assert!(rt; told.as_str() == wanted, "{told}");
+    assert!(rt; styles_differ(alloc, "ab", Some(Position::new(1, 0)), wanted)?);
+    let wanted = "areas: left 2x1+0+0, right 3x1+0+0\nleft:\n|ab|\nright:\n|abc|";
+    assert!(rt; texts_differ(alloc, &["ab"], &["abc"], None, wanted)?);
     Ok(())
 }
 
-#[test]
-fn areas_differ(rt: HostRuntime) -> Result<(), AllocError> {
-    let alloc = rt.alloc();
-    let left = shown(alloc, &["ab"])?;
-    let right = shown(alloc, &["abc"])?;
-    let Some(apart) = difference(&left, &right) else {
-        assert!(rt; false, "no difference");
-        return Ok(());
+// Whether a screen differs first from lines at a place, and this is told of it.
+fn row_differs(
+    alloc: Global,
+    backend: &TestBackend,
+    lines: &[&str],
+    position: Option<Position>,
+    wanted: &str,
+) -> Result<bool, AllocError> {
+    let Some(apart) = backend.difference(alloc, lines)? else {
+        return Ok(false);
     };
     let told = format!(in alloc; "{apart}")?;
-    assert!(rt;
-        told.as_str() == "areas: left 2x1+0+0, right 3x1+0+0\nleft:\n|ab|\nright:\n|abc|",
-        "{told}"
-    );
-    Ok(())
+    Ok(apart.position == position && told.as_str() == wanted)
+}
+
+// Whether a screen has another size than lines.
+fn size_differs(alloc: Global, backend: &TestBackend, lines: &[&str]) -> Result<bool, AllocError> {
+    let Some(apart) = backend.difference(alloc, lines)? else {
+        return Ok(false);
+    };
+    Ok(apart.position.is_none())
 }
 
 #[test]
-fn a_screen_shows_lines(rt: HostRuntime) -> Result<(), Fail> {
-    let alloc = rt.alloc();
-    let mut terminal = Terminal::new(alloc, TestBackend::new(alloc, 15, 2)?)?;
-    terminal.draw_widget(Line::raw(alloc, "Hello, world!")?.centered())?;
-    assert_shows!(rt; terminal.backend(), [" Hello, world! ", "               "]);
-    Ok(())
-}
-
-#[test]
-fn a_row_differs(rt: HostRuntime) -> Result<(), Fail> {
+fn a_row_differs(rt: HostRuntime) -> Result<(), AllocError> {
     let alloc = rt.alloc();
     let backend = screen(alloc, &["one  ", "two  "])?;
-    let Some(apart) = backend.difference(alloc, &["one  ", "tow  "])? else {
-        assert!(rt; false, "no difference");
-        return Ok(());
-    };
-    assert!(rt; apart.position == Some(Position::new(1, 1)));
-    let told = format!(in alloc; "{apart}")?;
     let wanted =
         "at (1, 1): \"w\" is shown\nshown:\n|one  |\n|two  |\n  ^\nwanted:\n|one  |\n|tow  |\n  ^";
-    assert!(rt; told.as_str() == wanted, "{told}");
-    let Some(size) = backend.difference(alloc, &["one  "])? else {
-        assert!(rt; false, "no difference");
-        return Ok(());
-    };
-    assert!(rt; size.position.is_none());
+    let place = Some(Position::new(1, 1));
+    assert!(rt; row_differs(alloc, &backend, &["one  ", "tow  "], place, wanted)?);
+    assert!(rt; size_differs(alloc, &backend, &["one  "])?);
     Ok(())
 }

@@ -1,5 +1,4 @@
 //! Examples of cells and buffers.
-use crate::symbol_at;
 use ratatui_core::buffer::{Buffer, Cell};
 use ratatui_core::layout::Rect;
 use ratatui_core::style::{Color, Style, Stylize};
@@ -62,20 +61,11 @@ fn a_text_is_cut_at_the_edge(rt: HostRuntime) -> Result<(), AllocError> {
     Ok(())
 }
 
-// Renders a greeting.
-fn greet(alloc: Global, buf: &mut Buffer) -> Result<(), AllocError> {
+/// Renders a greeting.
+pub(crate) fn greet(alloc: Global, buf: &mut Buffer) -> Result<(), AllocError> {
     let area = *buf.area();
     Line::raw(alloc, "Hello, world!")?
         .centered()
         .render(area, buf)?;
-    Ok(())
-}
-
-#[test]
-fn a_line_is_rendered(rt: HostRuntime) -> Result<(), AllocError> {
-    let alloc = rt.alloc();
-    let mut buffer = Buffer::empty(alloc, Rect::new(0, 0, 15, 1))?;
-    greet(alloc, &mut buffer)?;
-    assert!(rt; symbol_at(&buffer, 1, 0) == "H");
     Ok(())
 }

@@ -25,7 +25,9 @@ mod input;
 #[cfg(test)]
 mod macros;
 #[cfg(test)]
-mod macros_called;
+mod made;
+#[cfg(test)]
+mod places;
 #[cfg(test)]
 mod screens;
 #[cfg(test)]

@@ -1,5 +1,4 @@
 //! Examples of tables, tabs and bars.
-use crate::symbol_at;
 use ratatui_core::buffer::Buffer;
 use ratatui_core::layout::{Constraint, Rect};
 use ratatui_core::style::{Color, Style};
@@ -20,8 +19,8 @@ fn row_of(
     Ok(Row::new(cells))
 }
 
-// A table of two files.
-fn listed(alloc: Global, area: Rect, buf: &mut Buffer) -> Result<(), AllocError> {
+/// A table of two files.
+pub(crate) fn listed(alloc: Global, area: Rect, buf: &mut Buffer) -> Result<(), AllocError> {
     let names = row_of(alloc, "name", "size")?;
     let mut rows = Vec::new(alloc);
     rows.push(row_of(alloc, "one", "1")?)?;
@@ -35,19 +34,8 @@ fn listed(alloc: Global, area: Rect, buf: &mut Buffer) -> Result<(), AllocError>
     Ok(())
 }
 
-#[test]
-fn a_table_has_rows(rt: HostRuntime) -> Result<(), AllocError> {
-    let alloc = rt.alloc();
-    let area = Rect::new(0, 0, 9, 3);
-    let mut buffer = Buffer::empty(alloc, area)?;
-    listed(alloc, area, &mut buffer)?;
-    assert!(rt; symbol_at(&buffer, 0, 0) == "n");
-    assert!(rt; symbol_at(&buffer, 5, 2) == "2");
-    Ok(())
-}
-
-// Two tabs, of which the second is selected.
-fn tabbed(alloc: Global, area: Rect, buf: &mut Buffer) -> Result<(), AllocError> {
+/// Two tabs, of which the second is selected.
+pub(crate) fn tabbed(alloc: Global, area: Rect, buf: &mut Buffer) -> Result<(), AllocError> {
     let mut titles = Vec::new(alloc);
     titles.push(Line::raw(alloc, "Files")?)?;
     titles.push(Line::raw(alloc, "Log")?)?;
@@ -55,20 +43,8 @@ fn tabbed(alloc: Global, area: Rect, buf: &mut Buffer) -> Result<(), AllocError>
     Ok(())
 }
 
-#[test]
-fn tabs_have_titles(rt: HostRuntime) -> Result<(), AllocError> {
-    let alloc = rt.alloc();
-    let area = Rect::new(0, 0, 13, 1);
-    let mut buffer = Buffer::empty(alloc, area)?;
-    tabbed(alloc, area, &mut buffer)?;
-    assert!(rt; symbol_at(&buffer, 1, 0) == "F");
-    assert!(rt; symbol_at(&buffer, 7, 0) == "│");
-    assert!(rt; symbol_at(&buffer, 9, 0) == "L");
-    Ok(())
-}
-
-// Five numbers.
-fn sparkled(alloc: Global, area: Rect, buf: &mut Buffer) -> Result<(), AllocError> {
+/// Five numbers.
+pub(crate) fn sparkled(alloc: Global, area: Rect, buf: &mut Buffer) -> Result<(), AllocError> {
     let mut bars = Vec::new(alloc);
     for value in [3u64, 1, 4, 1, 5] {
         bars.push(SparklineBar::new(Some(value)))?;
@@ -77,25 +53,11 @@ fn sparkled(alloc: Global, area: Rect, buf: &mut Buffer) -> Result<(), AllocErro
     Ok(())
 }
 
-// Two bars.
-fn charted(alloc: Global, area: Rect, buf: &mut Buffer) -> Result<(), AllocError> {
+/// Two bars.
+pub(crate) fn charted(alloc: Global, area: Rect, buf: &mut Buffer) -> Result<(), AllocError> {
     let mut bars = Vec::new(alloc);
     bars.push(Bar::with_label(Line::raw(alloc, "a")?, 3))?;
     bars.push(Bar::with_label(Line::raw(alloc, "b")?, 8))?;
     BarChart::new(alloc, bars)?.bar_width(3).render(area, buf)?;
-    Ok(())
-}
-
-#[test]
-fn numbers_are_bars(rt: HostRuntime) -> Result<(), AllocError> {
-    let alloc = rt.alloc();
-    let area = Rect::new(0, 0, 5, 1);
-    let mut buffer = Buffer::empty(alloc, area)?;
-    sparkled(alloc, area, &mut buffer)?;
-    assert!(rt; symbol_at(&buffer, 4, 0) == "█");
-    let area = Rect::new(0, 0, 7, 4);
-    let mut buffer = Buffer::empty(alloc, area)?;
-    charted(alloc, area, &mut buffer)?;
-    assert!(rt; symbol_at(&buffer, 4, 0) == "█");
     Ok(())
 }

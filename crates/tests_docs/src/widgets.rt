@@ -44,8 +44,8 @@ fn items(alloc: Global) -> Result<Vec<ListItem<'static>>, AllocError> {
     Ok(items)
 }
 
-// A list with its second item selected.
-fn listed(alloc: Global, area: Rect, buf: &mut Buffer) -> Result<(), AllocError> {
+/// A list with its second item selected.
+pub(crate) fn listed(alloc: Global, area: Rect, buf: &mut Buffer) -> Result<(), AllocError> {
     let items = items(alloc)?;
     let list = List::new(items)
         .highlight_symbol(Line::raw(alloc, "> ")?)
@@ -53,16 +53,6 @@ fn listed(alloc: Global, area: Rect, buf: &mut Buffer) -> Result<(), AllocError>
     let mut state = ListState::default();
     state.select(Some(1));
     StatefulWidget::render(&list, area, buf, &mut state)?;
-    Ok(())
-}
-
-#[test]
-fn a_list_shows_what_is_selected(rt: HostRuntime) -> Result<(), AllocError> {
-    let alloc = rt.alloc();
-    let area = Rect::new(0, 0, 6, 2);
-    let mut buffer = Buffer::empty(alloc, area)?;
-    listed(alloc, area, &mut buffer)?;
-    assert!(rt; symbol_at(&buffer, 0, 1) == ">");
     Ok(())
 }
 
@@ -100,8 +90,8 @@ fn a_symbol_keeps_its_colour(rt: HostRuntime) -> Result<(), AllocError> {
     Ok(())
 }
 
-// Two gauges and a scroll bar.
-fn measured(area: Rect, buf: &mut Buffer) -> Result<(), AllocError> {
+/// Two gauges and a scroll bar.
+pub(crate) fn measured(area: Rect, buf: &mut Buffer) -> Result<(), AllocError> {
     let (sent, total, lines, first) = (1, 2, 10, 0);
     Gauge::new()
         .ratio(sent, total)
@@ -113,16 +103,6 @@ fn measured(area: Rect, buf: &mut Buffer) -> Result<(), AllocError> {
         .render(area, buf)?;
     let mut state = ScrollbarState::new(lines).position(first);
     Scrollbar::new(ScrollbarOrientation::VerticalRight).render(area, buf, &mut state)?;
-    Ok(())
-}
-
-#[test]
-fn gauges_are_rendered(rt: HostRuntime) -> Result<(), AllocError> {
-    let alloc = rt.alloc();
-    let area = Rect::new(0, 0, 12, 4);
-    let mut buffer = Buffer::empty(alloc, area)?;
-    measured(area, &mut buffer)?;
-    assert!(rt; symbol_at(&buffer, 11, 0) == "▲");
     Ok(())
 }
 
