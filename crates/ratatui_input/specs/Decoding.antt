@@ -5,7 +5,7 @@ use Rattle.std.specs.Int.RustNames.{bit_and}
 use Rattle.std.specs.Char.{is_control}
 use Rattle.std.specs.Str.{byte}
 use Rattle.ratatui_events.specs.Key.{held, pressed}
-use Rattle.ratatui_input.specs.Keys.{typed_key, control_key, with_alt, scalar_at}
+use Rattle.ratatui_input.specs.Keys.{escape, typed_key, control_key, with_alt, scalar_at}
 use Rattle.ratatui_input.specs.Sequences.{sequence_event, pushed, no_numbers, from_mouse, single_event}
 use Rattle.ratatui_input.specs.Mouse.{mouse_event}
 use Rattle.ratatui_events.specs.declared.event.Event.{Event}
@@ -59,7 +59,7 @@ beginning None false = Whole Unknown
 -- what a byte is with nothing before it, or after ESC
 unfoldable pub first : ℕ → Bool → Next
 first b is_alt =
-    if b == 27 then More Escape
+    if b == escape then More Escape
     else (if nat_le b 31 || (b == 127) then Whole (with_alt (control_key b) is_alt)
     else (if lies_in (byte " ") (byte "~") b then Whole (with_alt (typed_key b) is_alt)
     else beginning (begun b is_alt) is_alt))
@@ -70,7 +70,7 @@ opens_string b = (b == byte "P") || ((b == byte "X") || lies_in (byte "]") (byte
 
 unfoldable pub after_escape : ℕ → Next
 after_escape b =
-    if b == 27 then Apart
+    if b == escape then Apart
     else (if b == byte "[" then More Bracket
     else (if b == byte "O" then More (Single 0)
     else (if opens_string b then More (Opened b)
@@ -136,7 +136,7 @@ after_opened opener b = if may_be_in_string b then More (Text (opener == byte "]
 unfoldable pub in_text : Bool → ℕ → Next
 in_text has_bell b =
     if may_be_in_string b then More (Text has_bell 0)
-    else (if b == 27 then More TextEscape
+    else (if b == escape then More TextEscape
     else (if (b == 7) && has_bell then Whole Unknown
     else Apart))
 
@@ -174,14 +174,14 @@ begun_anew state b = first b false
 unfoldable pub cut : State → Option Event
 cut Ground = None
 cut Escape = Some (Key (pressed Esc (held 0)))
-cut (Single number) = Some (if number == 0 then with_alt (typed_key 79) true else Unknown)
-cut Bracket = Some (with_alt (typed_key 91) true)
+cut (Single number) = Some (if number == 0 then with_alt (typed_key (byte "O")) true else Unknown)
+cut Bracket = Some (with_alt (typed_key (byte "[")) true)
 cut (Opened opener) = Some (with_alt (typed_key opener) true)
 cut _ = Some Unknown
 
 -- the character that a key is in a paste
 abbrev pub pasted_code : KeyCode → ℕ → Event
-pasted_code (Char c) bits = if nat_le bits 1 then Pasted c else (if (c == 106) && (bits == 4)
+pasted_code (Char c) bits = if nat_le bits 1 then Pasted c else (if (c == byte "j") && (bits == 4)
     then Pasted 10 else Unknown)
 pasted_code Enter bits = if bits == 0 then Pasted 13 else Unknown
 pasted_code Tab bits = if bits == 0 then Pasted 9 else Unknown
@@ -250,7 +250,7 @@ escaped (Some event) is_pasting = let r = read is_pasting event
 -- keys; a string is over at the tenth time in a row, and at once if ESC has come within it
 abbrev pub settled_single : ℕ → Decoder → Told
 settled_single number d = if number == 0
-    then told_event (with_alt (typed_key 79) true) Ground d.is_pasting else ([], d)
+    then told_event (with_alt (typed_key (byte "O")) true) Ground d.is_pasting else ([], d)
 
 abbrev pub settled_text : Bool → ℕ → Decoder → Told
 settled_text has_bell ticks d = if nat_lt ticks 9 then ([], record d { state = Text has_bell (ticks + 1) })
@@ -258,7 +258,7 @@ settled_text has_bell ticks d = if nat_lt ticks 9 then ([], record d { state = T
 
 unfoldable pub settled : State → Decoder → Told
 settled Escape d = told_event (Key (pressed Esc (held 0))) Ground d.is_pasting
-settled Bracket d = told_event (with_alt (typed_key 91) true) Ground d.is_pasting
+settled Bracket d = told_event (with_alt (typed_key (byte "[")) true) Ground d.is_pasting
 settled (Single number) d = settled_single number d
 settled (Opened opener) d = told_event (with_alt (typed_key opener) true) Ground d.is_pasting
 settled (Text has_bell ticks) d = settled_text has_bell ticks d

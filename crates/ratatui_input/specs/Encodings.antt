@@ -1,12 +1,14 @@
 -- Bytes that stand for events, whatever follows them; what a paste is; and what settling tells.
 use Rattle.std.specs.Prelude.{◌≡◌, ◌≢◌, ◌⊎◌, ◌<◌, ◌≤◌, ◌+◌, ◌-◌, ◌*◌, ◌^◌, min, ℕ, List, [], ◌∷◌, ◌++◌, false}
-use Rattle.std.specs.Prelude.{encode_utf8_all}
+use Rattle.std.specs.Prelude.{codes, encode_utf8_all}
 use Rattle.std.specs.Char.{IsScalar, is_control}
+use Rattle.std.specs.Str.{byte}
 use Rattle.ratatui_events.specs.declared.event.Event.{Event}
 use Rattle.ratatui_events.specs.declared.event.Event.TheVariants.{Key, PasteEnded}
 use Rattle.ratatui_input.specs.declared.decoder.Decoder.{Decoder}
 use Rattle.ratatui_input.specs.declared.decoder.State.{State}
 use Rattle.ratatui_input.specs.declared.decoder.State.TheVariants.{Ground, Text, TextEscape}
+use Rattle.ratatui_input.specs.Keys.{escape}
 use Rattle.ratatui_input.specs.Decoding.{Told, decoded, settled}
 
 -- a decoder that has read nothing
@@ -28,17 +30,17 @@ AreTextCharacters (c ∷ cs) = IsTextCharacter c × AreTextCharacters cs
 -- a text in brackets, as a terminal sends what is pasted
 abbrev pub in_brackets : List ℕ → List ℕ
 in_brackets text =
-    27 ∷ 91 ∷ 50 ∷ 48 ∷ 48 ∷ 126 ∷ (encode_utf8_all text ++ (27 ∷ 91 ∷ 50 ∷ 48 ∷ 49 ∷ 126 ∷ []))
+    escape ∷ (codes "[200~" ++ (encode_utf8_all text ++ (escape ∷ codes "[201~")))
 
 -- only digits
 abbrev pub IsDigits : List ℕ → Type 0
 IsDigits [] = Unit {0}
-IsDigits (b ∷ bs) = (48 ≤ b) × (b ≤ 57) × IsDigits bs
+IsDigits (b ∷ bs) = (byte "0" ≤ b) × (b ≤ byte "9") × IsDigits bs
 
 -- the number with further digits; none grows above 2 ^ 32 - 1
 abbrev pub value_after : ℕ → List ℕ → ℕ
 value_after n [] = n
-value_after n (b ∷ bs) = value_after (min (n * 10 + (b - 48)) (2 ^ 32 - 1)) bs
+value_after n (b ∷ bs) = value_after (min (n * 10 + (b - byte "0")) (2 ^ 32 - 1)) bs
 
 -- an event that isn't a key
 abbrev pub IsNoKey : Event → Type 0
@@ -69,7 +71,7 @@ IsNoString state = Unit {0}
 -- a byte that goes on with an ESC that ends a string: any but ESC, those that begin no character, and \, which
 -- is the end of the string itself
 abbrev pub FollowsEscape : ℕ → Type 0
-FollowsEscape b = (b ≢ 27) × (b ≢ 92) × ((b < 128) ⊎ ((194 ≤ b) × (b ≤ 244)))
+FollowsEscape b = (b ≢ escape) × (b ≢ byte "\\") × ((b < 128) ⊎ ((194 ≤ b) × (b ≤ 244)))
 
 -- what is told of bytes where nothing follows them
 abbrev pub settled_after : List ℕ → Told

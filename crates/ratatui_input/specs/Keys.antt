@@ -3,6 +3,7 @@
 use Rattle.std.specs.Prelude.{ℕ, ◌+◌, ◌-◌, ◌%◌, ◌==◌, ◌&&◌, ◌||◌, Bool, true, false, Option, Some, None, List}
 use Rattle.std.specs.Prelude.{nat_le, nat_lt, if◌then◌else◌, find}
 use Rattle.std.specs.Char.{is_control}
+use Rattle.std.specs.Str.{byte}
 use Rattle.std.specs.Option.{option_map}
 use Rattle.std.specs.Int.RustNames.{bit_or}
 use Rattle.std.specs.Char.Unicode.Uppercase.{is_uppercase}
@@ -13,6 +14,10 @@ use Rattle.ratatui_events.specs.declared.key.KeyCode.TheVariants.{Char, Tab, Bac
 use Rattle.ratatui_events.specs.Key.{held, pressed}
 use Rattle.ratatui_events.specs.declared.key.KeyEvent.{KeyEvent}
 use Rattle.ratatui_input.specs.declared.keys.TheConstants.{LETTERS, NUMBERS, CODES, KEYPAD}
+
+-- ESC
+abbrev pub escape : ℕ
+escape = 27
 
 -- whether a number is a character's
 abbrev pub is_scalar : ℕ → Bool
@@ -25,10 +30,10 @@ typed_key c = pressed (Char c) (held (if is_uppercase c then 1 else 0))
 -- the key of a control character
 unfoldable pub control_key : ℕ → KeyEvent
 control_key b =
-    if b == 0 then pressed (Char 32) (held 4)
+    if b == 0 then pressed (Char (byte " ")) (held 4)
     else (if b == 9 then pressed Tab (held 0)
     else (if b == 13 then pressed Enter (held 0)
-    else (if b == 27 then pressed Esc (held 0)
+    else (if b == escape then pressed Esc (held 0)
     else (if nat_le 1 b && nat_le b 26 then pressed (Char (b + 96)) (held 4)
     else (if nat_le 28 b && nat_le b 31 then pressed (Char (b + 24)) (held 4)
     else pressed Backspace (held 0))))))

@@ -2,6 +2,7 @@
 use Rattle.std.specs.Prelude.{◌≡◌, ◌≢◌, ◌⊎◌, ◌<◌, ◌≤◌, ◌+◌, ◌-◌, ◌==◌, ℕ, Bool, true, false, Some}
 use Rattle.std.specs.Prelude.{List, [], ◌∷◌, ◌++◌, if◌then◌else◌}
 use Rattle.std.specs.Char.{IsScalar, is_control}
+use Rattle.std.specs.Str.{byte}
 use Rattle.ratatui_events.specs.declared.event.Event.{Event}
 use Rattle.ratatui_events.specs.declared.event.Event.TheVariants.{Key, FocusGained, FocusLost, Size, Position}
 use Rattle.ratatui_events.specs.declared.event.Event.TheVariants.{PasteBegun, PasteEnded, Unknown}
@@ -10,14 +11,15 @@ use Rattle.ratatui_events.specs.declared.key.KeyCode.TheVariants.{Esc, Char}
 use Rattle.ratatui_events.specs.declared.key.KeyEvent.{KeyEvent}
 use Rattle.ratatui_events.specs.declared.mouse.MouseEventKind.{MouseEventKind}
 use Rattle.ratatui_events.specs.Key.{held, pressed}
-use Rattle.ratatui_input.specs.Keys.{typed_key, with_alt}
+use Rattle.ratatui_input.specs.Keys.{escape, typed_key, with_alt}
 use Rattle.ratatui_input.specs.Mouse.{mouse_kind}
 use Rattle.ratatui_input.specs.Sequences.{kind_of, typed_mask}
 use Rattle.ratatui_input.specs.KeyTables.{IsLetter, IsTilde, IsCode}
 use Rattle.ratatui_input.specs.Encodings.{IsDigits, value_after}
 use Rattle.ratatui_input.specs.Decoding.{Told, decoded, pasted_code}
-use Rattle.ratatui_input.specs.Grammar.{Encodes, csi, AreCodes, AreNumbers, key_told, letter_told, code_told, typed_told, told_character}
-use Rattle.ratatui_input.specs.Grammar.{mouse_told, WritesNumber, IsOpener}
+use Rattle.ratatui_input.specs.Grammar.{Encodes, csi, AreCodes, AreNumbers, key_told, letter_told}
+use Rattle.ratatui_input.specs.Grammar.{code_told, typed_told, told_character, mouse_told, WritesNumber}
+use Rattle.ratatui_input.specs.Grammar.{IsOpener}
 use Rattle.ratatui_input.specs.declared.decoder.State.TheVariants.{Ground}
 
 -- numbers that a byte can be
@@ -34,7 +36,7 @@ pub record KeepsNumber (ds : List ℕ) (n : ℕ) : Type 0 where
 pub data Field : List ℕ → ℕ → Type 0 where
   plain_field : {ds : List ℕ} {n : ℕ} → KeepsNumber ds n → Field ds n
   field_with_codes : {ds : List ℕ} {n : ℕ} (cs : List ℕ) → KeepsNumber ds n → AreCodes cs
-      → Field (ds ++ (58 ∷ cs)) n
+      → Field (ds ++ (byte ":" ∷ cs)) n
 
 -- the same of the first and the second number: after a first colon stands a further one, 0 where there is
 -- none. It is the first number's character with Shift, and what the key did, of which the second says what is
@@ -42,10 +44,10 @@ pub data Field : List ℕ → ℕ → Type 0 where
 pub data HeldField : List ℕ → ℕ → ℕ → Type 0 where
   held_field : {ds : List ℕ} {m : ℕ} → KeepsNumber ds m → HeldField ds m 0
   held_with_kind : {ds ks : List ℕ} {m k : ℕ} → KeepsNumber ds m → KeepsNumber ks k
-      → HeldField (ds ++ (58 ∷ ks)) m k
+      → HeldField (ds ++ (byte ":" ∷ ks)) m k
   held_with_more : {ds ks : List ℕ} {m k : ℕ} (cs : List ℕ) → KeepsNumber ds m → KeepsNumber ks k
       → AreCodes cs
-      → HeldField ((ds ++ (58 ∷ ks)) ++ (58 ∷ cs)) m k
+      → HeldField ((ds ++ (byte ":" ∷ ks)) ++ (byte ":" ∷ cs)) m k
 
 -- how many semicolons there are, 3 for more; the first three numbers, 0 where there is none; and what the key
 -- did. Where there is no third number, what stands after the first one's colon is told in its place. Whatever
@@ -53,18 +55,18 @@ pub data HeldField : List ℕ → ℕ → ℕ → Type 0 where
 pub data HasNumbers : List ℕ → ℕ → ℕ → ℕ → ℕ → ℕ → Type 0 where
   has_one : {ds : List ℕ} {n t : ℕ} → HeldField ds n t → HasNumbers ds 0 n 0 t 0
   has_two : {ds es : List ℕ} {n m t k : ℕ} → HeldField ds n t → HeldField es m k
-      → HasNumbers (ds ++ (59 ∷ es)) 1 n m t k
+      → HasNumbers (ds ++ (byte ";" ∷ es)) 1 n m t k
   has_three : {ds es fs : List ℕ} {n m s t k : ℕ} → HeldField ds n s → HeldField es m k → Field fs t
-      → HasNumbers ((ds ++ (59 ∷ es)) ++ (59 ∷ fs)) 2 n m t k
+      → HasNumbers ((ds ++ (byte ";" ∷ es)) ++ (byte ";" ∷ fs)) 2 n m t k
   has_more : {ds es fs : List ℕ} {n m s t k : ℕ} (gs : List ℕ) → HeldField ds n s → HeldField es m k
       → Field fs t
       → AreNumbers gs
-      → HasNumbers (((ds ++ (59 ∷ es)) ++ (59 ∷ fs)) ++ (59 ∷ gs)) 3 n m t k
+      → HasNumbers (((ds ++ (byte ";" ∷ es)) ++ (byte ";" ∷ fs)) ++ (byte ";" ∷ gs)) 3 n m t k
 
 -- three numbers, of which the third is one code point
 pub data HasText : List ℕ → ℕ → ℕ → ℕ → ℕ → Type 0 where
   has_text : {ds es fs : List ℕ} {n m s t k : ℕ} → HeldField ds n s → HeldField es m k → KeepsNumber fs t
-      → HasText ((ds ++ (59 ∷ es)) ++ (59 ∷ fs)) n m t k
+      → HasText ((ds ++ (byte ";" ∷ es)) ++ (byte ";" ∷ fs)) n m t k
 
 -- the keys with a code point: a character of the private use area is one, too, where it has no name
 pub data IsCodePoint : ℕ → KeyCode → Bool → Type 0 where
@@ -78,51 +80,55 @@ pub data IsCodePoint : ℕ → KeyCode → Bool → Type 0 where
 -- numbers that no event has use for mean nothing
 pub data Tolerates : List ℕ → Event → Type 0 where
   any_letter : {body : List ℕ} {c n m t k b : ℕ} {code : KeyCode} → HasNumbers body c n m t k
-      → IsLetter b code
-      → (b ≡ 82 → c ≡ 1 → n ≡ 1) → (if c == 0 then n else m) ≤ 256
+      → IsLetter b code → (b ≡ byte "R" → c ≡ 1 → n ≡ 1) → (if c == 0 then n else m) ≤ 256
       → Tolerates (csi body b) (letter_told code (if c == 0 then n else m) (kind_of k))
-  any_tilde : {body : List ℕ} {c n m t k : ℕ} {code : KeyCode} → HasNumbers body c n m t k → IsTilde n code
-      → m ≤ 256
-      → Tolerates (csi body 126) (key_told code false m (kind_of k))
-  any_code : {body : List ℕ} {c n m t k : ℕ} {code : KeyCode} {is_keypad : Bool} → HasNumbers body c n m t k
-      → IsCodePoint n code is_keypad
-      → m ≤ 256 → Tolerates (csi body 117) (typed_told (told_character t) code is_keypad m (kind_of k))
-  any_text : {body : List ℕ} {m t k : ℕ} → HasText body 0 m t k → IsScalar t → is_control t ≡ false → m ≤ 256
-      → Tolerates (csi body 117) (key_told (Char t) false (typed_mask t m) (kind_of k))
-  any_other : {body : List ℕ} {c m t k : ℕ} {code : KeyCode} {is_keypad : Bool} → HasNumbers body c 27 m t k → 2 ≤ c
-      → IsCodePoint t code is_keypad
-      → m ≤ 256 → Tolerates (csi body 126) (code_told code is_keypad m (kind_of k))
+  any_tilde : {body : List ℕ} {c n m t k : ℕ} {code : KeyCode} → HasNumbers body c n m t k
+      → IsTilde n code → m ≤ 256
+      → Tolerates (csi body (byte "~")) (key_told code false m (kind_of k))
+  any_code : {body : List ℕ} {c n m t k : ℕ} {code : KeyCode} {is_keypad : Bool}
+      → HasNumbers body c n m t k → IsCodePoint n code is_keypad → m ≤ 256
+      → Tolerates (csi body (byte "u")) (typed_told (told_character t) code is_keypad m (kind_of k))
+  any_text : {body : List ℕ} {m t k : ℕ} → HasText body 0 m t k
+      → IsScalar t → is_control t ≡ false → m ≤ 256
+      → Tolerates (csi body (byte "u")) (key_told (Char t) false (typed_mask t m) (kind_of k))
+  any_other : {body : List ℕ} {c m t k : ℕ} {code : KeyCode} {is_keypad : Bool}
+      → HasNumbers body c 27 m t k → 2 ≤ c → IsCodePoint t code is_keypad → m ≤ 256
+      → Tolerates (csi body (byte "~")) (code_told code is_keypad m (kind_of k))
   any_begun : {body : List ℕ} {c m t k : ℕ} → HasNumbers body c 200 m t k
-      → Tolerates (csi body 126) PasteBegun
+      → Tolerates (csi body (byte "~")) PasteBegun
   any_ended : {body : List ℕ} {c m t k : ℕ} → HasNumbers body c 201 m t k
-      → Tolerates (csi body 126) PasteEnded
-  any_size : {body : List ℕ} {c n m t k : ℕ} → HasNumbers body c n m t k → (n ≡ 48) ⊎ (n ≡ 8) → 2 ≤ c
-      → m ≤ 65535
-      → t ≤ 65535 → Tolerates (csi body 116) (Size t m)
-  any_position : {body : List ℕ} {n m t k : ℕ} → HasNumbers body 1 n m t k → n ≢ 1 → n ≤ 65535 → m ≤ 65535
-      → Tolerates (csi body 82) (Position (m - 1) (n - 1))
-  any_plain_mouse : {body : List ℕ} {c n m t k : ℕ} {kind : MouseEventKind} → HasNumbers body c (n + 32) m t k
-      → 2 ≤ c
+      → Tolerates (csi body (byte "~")) PasteEnded
+  any_size : {body : List ℕ} {c n m t k : ℕ} → HasNumbers body c n m t k
+      → (n ≡ 48) ⊎ (n ≡ 8) → 2 ≤ c → m ≤ 65535 → t ≤ 65535
+      → Tolerates (csi body (byte "t")) (Size t m)
+  any_position : {body : List ℕ} {n m t k : ℕ} → HasNumbers body 1 n m t k
+      → n ≢ 1 → n ≤ 65535 → m ≤ 65535
+      → Tolerates (csi body (byte "R")) (Position (m - 1) (n - 1))
+  any_plain_mouse : {body : List ℕ} {c n m t k : ℕ} {kind : MouseEventKind}
+      → HasNumbers body c (n + 32) m t k → 2 ≤ c
       → n ≤ 255 → m ≤ 65535 → t ≤ 65535 → mouse_kind n false ≡ Some kind
-      → Tolerates (csi body 77) (mouse_told kind n m t)
-  any_down : {body : List ℕ} {n m t k : ℕ} {kind : MouseEventKind} → HasNumbers body 2 n m t k → n ≤ 255
-      → m ≤ 65535
-      → t ≤ 65535 → mouse_kind n false ≡ Some kind → Tolerates (csi (60 ∷ body) 77) (mouse_told kind n m t)
-  any_up : {body : List ℕ} {n m t k : ℕ} {kind : MouseEventKind} → HasNumbers body 2 n m t k → n ≤ 255
-      → m ≤ 65535
-      → t ≤ 65535 → mouse_kind n true ≡ Some kind → Tolerates (csi (60 ∷ body) 109) (mouse_told kind n m t)
-  any_gained : {body : List ℕ} {n m t k : ℕ} → HasNumbers body 0 n m t k → Tolerates (csi body 73) FocusGained
-  any_lost : {body : List ℕ} {n m t k : ℕ} → HasNumbers body 0 n m t k → Tolerates (csi body 79) FocusLost
+      → Tolerates (csi body (byte "M")) (mouse_told kind n m t)
+  any_down : {body : List ℕ} {n m t k : ℕ} {kind : MouseEventKind} → HasNumbers body 2 n m t k
+      → n ≤ 255 → m ≤ 65535 → t ≤ 65535 → mouse_kind n false ≡ Some kind
+      → Tolerates (csi (byte "<" ∷ body) (byte "M")) (mouse_told kind n m t)
+  any_up : {body : List ℕ} {n m t k : ℕ} {kind : MouseEventKind} → HasNumbers body 2 n m t k
+      → n ≤ 255 → m ≤ 65535 → t ≤ 65535 → mouse_kind n true ≡ Some kind
+      → Tolerates (csi (byte "<" ∷ body) (byte "m")) (mouse_told kind n m t)
+  any_gained : {body : List ℕ} {n m t k : ℕ} → HasNumbers body 0 n m t k
+      → Tolerates (csi body (byte "I")) FocusGained
+  any_lost : {body : List ℕ} {n m t k : ℕ} → HasNumbers body 0 n m t k
+      → Tolerates (csi body (byte "O")) FocusLost
 
 -- bytes that stand for an event: by the grammar, by a sequence with further numbers, or as a key by itself,
 -- which ESC, ESC [, ESC O and ESC with what opens a string are where nothing goes on with them
 pub data StandsFor : List ℕ → Event → Type 0 where
   by_grammar : {bytes : List ℕ} {event : Event} → Encodes bytes event → StandsFor bytes event
   by_numbers : {bytes : List ℕ} {event : Event} → Tolerates bytes event → StandsFor bytes event
-  lone_escape : StandsFor (27 ∷ []) (Key (pressed Esc (held 0)))
-  lone_bracket : StandsFor (27 ∷ 91 ∷ []) (with_alt (typed_key 91) true)
-  lone_opener : {b : ℕ} → IsOpener b → StandsFor (27 ∷ b ∷ []) (with_alt (typed_key b) true)
-  lone_single : {ds : List ℕ} → WritesNumber ds 0 → StandsFor (27 ∷ 79 ∷ ds) (with_alt (typed_key 79) true)
+  lone_escape : StandsFor (escape ∷ []) (Key (pressed Esc (held 0)))
+  lone_bracket : StandsFor (escape ∷ byte "[" ∷ []) (with_alt (typed_key (byte "[")) true)
+  lone_opener : {b : ℕ} → IsOpener b → StandsFor (escape ∷ b ∷ []) (with_alt (typed_key b) true)
+  lone_single : {ds : List ℕ} → WritesNumber ds 0
+      → StandsFor (escape ∷ byte "O" ∷ ds) (with_alt (typed_key (byte "O")) true)
 
 -- bytes that stand for nothing: neither the grammar has them, nor are they a sequence with further numbers
 pub record IsNothing (bytes : List ℕ) : Type 0 where
