@@ -71,7 +71,7 @@ impl Numbers {
     /// Returns a number by its place, and after the last one another one.
     pub fn get_or(&self, place: u64, other: u64) -> u64
         ensures number { result ≡ slice_index_or self.now place other }
-        ensures small { other < 9223372036854775808 → result < 9223372036854775808 }
+        ensures small { other < 2 ^ 63 → result < 2 ^ 63 }
     {
         match self.numbers.get(place as usize) {
             Some(number) => u64::from(*number),

@@ -1,6 +1,6 @@
 //! How many lines an event needs.
 
-ghost use Rattle.std.specs.Prelude.{◌≡◌, ◌<◌, ◌&&◌, ◌+◌, nat_lt, length, true, false, Some, IfOk};
+ghost use Rattle.std.specs.Prelude.{◌≡◌, ◌<◌, ◌&&◌, ◌+◌, ◌^◌, nat_lt, length, true, false, Some, IfOk};
 ghost use Rattle.pager.specs.Places.{page_rows};
 ghost use Rattle.pager.specs.Keys.{event_command};
 ghost use Rattle.pager.specs.Moves.{next_sought};
@@ -61,7 +61,7 @@ impl<'a> Pager<'a> {
 
     // The lines through the page that begins at a line, and one line after it.
     fn lines_through(&self, line: u64) -> u64
-        requires { line < 9223372036854775808 }
+        requires { line < 2 ^ 63 }
         ensures { result ≡ lines_through line self.now }
     {
         line + u64::from(self.page_rows()) + 1

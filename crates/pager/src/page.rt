@@ -1,6 +1,6 @@
 //! A page on a buffer.
 
-ghost use Rattle.std.specs.Prelude.{◌≡◌, ◌+◌, ◌-◌, ◌<◌, ◌≤◌, [], Some, OnOk, IfOk};
+ghost use Rattle.std.specs.Prelude.{◌≡◌, ◌+◌, ◌-◌, ◌^◌, ◌<◌, ◌≤◌, [], Some, OnOk, IfOk};
 ghost use Rattle.ratatui_core.specs.Layout.{IsInside};
 ghost use Rattle.ratatui_core.specs.Buffer.{IsReadyAt, IsReadyFrom, IsSettledBuffer};
 ghost use Rattle.ratatui_core.specs.Widgets.{ChangesWithin};
@@ -94,7 +94,7 @@ impl<'a> Pager<'a> {
     // What a row shows of its line.
     fn view_at(&self, row: u32, width: u16) -> View
         ensures view { result ≡ view_at self.now row width }
-        ensures left { result.left < 9223372036854775808 }
+        ensures left { result.left < 2 ^ 63 }
     {
         if !self.wraps {
             return View::new(u64::from(self.left), width);
@@ -110,9 +110,9 @@ impl<'a> Pager<'a> {
 
     // The number of a line that is shown among all lines.
     fn line_number(&self, line: u64) -> u64
-        requires { line < 9223372036854775808 }
+        requires { line < 2 ^ 63 }
         ensures number { result ≡ line_number self.now line }
-        ensures bound { result < 9223372036854775808 }
+        ensures bound { result < 2 ^ 63 }
     {
         match self.whole {
             Some(_) => self.numbers.get_or(line, line),
@@ -135,7 +135,7 @@ impl<'a> Pager<'a> {
         requires inside { IsInside part buf.old.area }
         requires top { part.y ≤ y }
         requires bottom { y < part.y + part.height }
-        requires place { place.line < 9223372036854775808 }
+        requires place { place.line < 2 ^ 63 }
         ensures within { ChangesWithin part buf.old buf.new }
         ensures ok { OnOk result
             (PaintsLineAt (Some line.now) self.now place part y buf.old buf.new) }
@@ -171,7 +171,7 @@ impl<'a> Pager<'a> {
         requires sought { finder.old ≡ self.now.sought }
         requires some { IsBoxArea part }
         requires inside { IsInside part buf.old.area }
-        requires place { place.line < 9223372036854775808 }
+        requires place { place.line < 2 ^ 63 }
         requires top { part.y ≤ y }
         requires bottom { y < part.y + part.height }
         ensures within { ChangesWithin part buf.old buf.new }
@@ -197,7 +197,7 @@ impl<'a> Pager<'a> {
         requires sought { finder.old ≡ self.now.sought }
         requires some { IsBoxArea part }
         requires inside { IsInside part buf.old.area }
-        requires place { place.line < 9223372036854775808 }
+        requires place { place.line < 2 ^ 63 }
         requires row { k < part.height }
         ensures within { ChangesWithin part buf.old buf.new }
         ensures ok { OnOk result

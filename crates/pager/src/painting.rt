@@ -1,6 +1,6 @@
 //! Texts and lines in rows of a buffer.
 
-ghost use Rattle.std.specs.Prelude.{◌≡◌, ◌+◌, ◌-◌, ◌<◌, ◌≤◌, min, OnOk, IfOk};
+ghost use Rattle.std.specs.Prelude.{◌≡◌, ◌+◌, ◌-◌, ◌^◌, ◌<◌, ◌≤◌, min, OnOk, IfOk};
 ghost use Rattle.ratatui_core.specs.Layout.{IsInside};
 ghost use Rattle.ratatui_core.specs.Buffer.{IsReadyAt, IsReadyFrom, columns, text_pieces};
 ghost use Rattle.ratatui_core.specs.Widgets.{ChangesWithin};
@@ -64,7 +64,7 @@ fn paint_grapheme(
     requires limit { view.limit ≤ view.left + view.width }
     requires left { part.x ≤ x }
     requires right { x + view.width ≤ part.x + part.width }
-    requires far { view.left < 9223372036854775808 }
+    requires far { view.left < 2 ^ 63 }
     requires top { part.y ≤ y }
     requires bottom { y < part.y + part.height }
     ensures within { ChangesWithin part buf.old buf.new }
@@ -101,7 +101,7 @@ pub(crate) fn paint_line(
     requires limit { view.limit ≤ view.left + view.width }
     requires left { part.x ≤ x }
     requires right { x + view.width ≤ part.x + part.width }
-    requires far { view.left < 9223372036854775808 }
+    requires far { view.left < 2 ^ 63 }
     requires top { part.y ≤ y }
     requires bottom { y < part.y + part.height }
     ensures within { ChangesWithin part buf.old buf.new }

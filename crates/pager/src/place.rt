@@ -53,7 +53,7 @@ impl<'a> Pager<'a> {
     // The place at which the page begins.
     pub(crate) fn place(&self) -> Place
         ensures place { result ≡ page_place self.now }
-        ensures line { result.line < 4294967296 }
+        ensures line { result.line < 2 ^ 32 }
     {
         Place {
             line: u64::from(self.top),
@@ -78,7 +78,7 @@ impl<'a> Pager<'a> {
 
     // How many rows a line takes.
     fn line_rows(&self, line: u64) -> u64
-        ensures most { result ≤ 4294967296 }
+        ensures most { result ≤ 2 ^ 32 }
         ensures rows { result ≡ rows_of_line (breaking self.now) (numbered_line self.now.document line) }
     {
         if !self.wraps {
@@ -89,7 +89,7 @@ impl<'a> Pager<'a> {
 
     // The next row of the text, which goes on behind its end.
     pub(crate) fn next_place(&self, place: Place) -> Place
-        requires { place.line < 9223372036854775808 }
+        requires { place.line < 2 ^ 63 }
         ensures place { result ≡ next_place (breaking self.now) place }
         ensures line { result.line ≤ place.line + 1 }
     {
@@ -129,7 +129,7 @@ impl<'a> Pager<'a> {
 
     // The place so many rows further.
     fn rows_after(&self, rows: u32, place: Place) -> Place
-        requires { place.line < 4294967296 }
+        requires { place.line < 2 ^ 32 }
         ensures place { result ≡ places_after (breaking self.now) rows place }
         ensures line { result.line ≤ place.line + rows }
     {
@@ -163,7 +163,7 @@ impl<'a> Pager<'a> {
     // The place so many rows after the first one of the page.
     pub(crate) fn place_after(&self, rows: u32) -> Place
         ensures place { result ≡ place_after rows self.now }
-        ensures line { result.line < 8589934592 }
+        ensures line { result.line < 2 ^ 33 }
     {
         if self.wraps {
             return self.rows_after(rows, self.place());
@@ -190,7 +190,7 @@ impl<'a> Pager<'a> {
     // The place at which the last page begins.
     fn last_place(&self) -> Place
         ensures place { result ≡ last_page self.now }
-        ensures line { result.line < 4294967296 }
+        ensures line { result.line < 2 ^ 32 }
     {
         let count = self.document.len();
         if self.wraps {

@@ -1,6 +1,6 @@
 //! Which columns of a line a row shows.
 
-ghost use Rattle.std.specs.Prelude.{◌≡◌, ◌<◌};
+ghost use Rattle.std.specs.Prelude.{◌≡◌, ◌^◌, ◌<◌};
 ghost use Rattle.pager.specs.Pages.{view_from};
 
 /// The columns of a line that a row shows: those from one on and before another one, as far as the
@@ -18,7 +18,7 @@ pub struct View {
 impl View {
     // As many columns as the row has, from one on.
     pub(crate) fn new(left: u64, width: u16) -> View
-        requires { left < 9223372036854775808 }
+        requires { left < 2 ^ 63 }
         ensures { result ≡ view_from left width }
     {
         View {
