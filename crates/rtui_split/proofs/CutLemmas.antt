@@ -1,27 +1,25 @@
 -- Rounding of places to cells, and parts in order.
 use Rattle.std.proofs.Common.{ℕ, ◌≡◌, ◌≤◌, ◌<◌, ◌+◌, ◌/◌, List, [], ◌∷◌, ◌++◌, ◌∙◌, take, drop, length, get_or, subst, sym, refl}
 use Rattle.std.proofs.Common.{arith, sum_by}
-use Rattle.std.proofs.Math.ListN.{set}
-use Rattle.std.proofs.lemmas.List.{take_more, take_more_set, take_all}
-use Rattle.rtui_split.proofs.Lists.{drop_cons, set_last}
+use Rattle.std.proofs.{Math.ListN.set, lemmas.List.take_more, lemmas.List.take_more_set, lemmas.List.take_all}
+use Rattle.std.proofs.{lemmas.List.Sums.sum_by-cons}
 use Rattle.rtui_geometry.specs.declared.rect.Rect.{Rect}
-use Rattle.rtui_layout.specs.declared.direction.Direction.{Direction}
-use Rattle.rtui_layout.specs.declared.direction.Direction.TheVariants.{Horizontal, Vertical}
-use Rattle.rtui_split.specs.Cut.{first_cell, after_of, InOrder, Alternate, AtMostCells, AtLeastCells}
-use Rattle.rtui_split.specs.Cut.{AreEdges}
-use Rattle.std.proofs.lemmas.List.Sums.{sum_by-cons}
+use Rattle.rtui_layout.specs.declared.direction.Direction.{Direction, TheVariants.Horizontal, TheVariants.Vertical}
+use Rattle.rtui_split.specs.Cut.{first_cell, after_of, InOrder, Alternate, AtMostCells, AtLeastCells, AreEdges}
+use Rattle.rtui_split.specs.Units.{cell_units}
+use Rattle.rtui_split.proofs.Lists.{drop_cons, set_last}
 
 -- a size from one place to another is cut to the whole number below or above
-pub cut_at_most : (b f s r start from to size : ℕ) → f ≤ b + s → from ≡ start + (b + r) / 5040000
-    → to ≡ start + (f + r) / 5040000 → from + size ≡ to → AtMostCells s size
+pub cut_at_most : (b f s r start from to size : ℕ) → f ≤ b + s → from ≡ start + (b + r) / cell_units
+    → to ≡ start + (f + r) / cell_units → from + size ≡ to → AtMostCells s size
 cut_at_most b f s r start from to size within from_is to_is size_is = omega arith
 
-pub cut_at_least : (b f s r start from to size : ℕ) → b + s ≤ f → from ≡ start + (b + r) / 5040000
-    → to ≡ start + (f + r) / 5040000 → from + size ≡ to → AtLeastCells s size
+pub cut_at_least : (b f s r start from to size : ℕ) → b + s ≤ f → from ≡ start + (b + r) / cell_units
+    → to ≡ start + (f + r) / cell_units → from + size ≡ to → AtLeastCells s size
 cut_at_least b f s r start from to size within from_is to_is size_is = omega arith
 
 -- a later place is cut to a later cell
-pub cut_later : (b f r : ℕ) → b ≤ f → (b + r) / 5040000 ≤ (f + r) / 5040000
+pub cut_later : (b f r : ℕ) → b ≤ f → (b + r) / cell_units ≤ (f + r) / cell_units
 cut_later b f r later = omega arith
 
 -- one part more
@@ -61,20 +59,19 @@ InOrder-le d a b (p ∷ ps) done = omega (arith, done.0, first_before_after d p,
 -- one part more, at its exact place
 AreEdges-push : (d : Direction) (start r m at b u : ℕ) (us : List ℕ) (ps : List Rect) (p : Rect)
     → AreEdges d start r m at us ps → b ≡ at + sum_by (λ s. s + m) us
-    → first_cell d p ≡ start + (b + r) / 5040000 → after_of d p ≡ start + (b + u + r) / 5040000
+    → first_cell d p ≡ start + (b + r) / cell_units → after_of d p ≡ start + (b + u + r) / cell_units
     → AreEdges d start r m at (us ++ u ∷ []) (ps ++ p ∷ [])
 AreEdges-push d start r m at b u [] [] p done begin from to = (omega (arith, begin, from), omega (arith, begin, to), tt)
-AreEdges-push d start r m at b u [] (q ∷ qs) p done begin from to = absurd done
-AreEdges-push d start r m at b u (v ∷ vs) [] p done begin from to = absurd done
 AreEdges-push d start r m at b u (v ∷ vs) (q ∷ qs) p done begin from to = (
   done.0,
   done.1,
   AreEdges-push d start r m (at + v + m) b u vs qs p done.2 (omega (arith, begin, sum_by-cons (λ s. s + m) v vs)) from to,
 )
+AreEdges-push d start r m at b u _ _ p done begin from to = absurd done
 
 pub AreEdges-written : (d : Direction) (start r m at b i : ℕ) (us : List ℕ) (ps : List Rect) (p : Rect) → i < length us
     → i < length ps → AreEdges d start r m at (take i us) (take i ps) → b ≡ at + sum_by (λ s. s + m) (take i us)
-    → first_cell d p ≡ start + (b + r) / 5040000 → after_of d p ≡ start + (b + get_or us i 0 + r) / 5040000
+    → first_cell d p ≡ start + (b + r) / cell_units → after_of d p ≡ start + (b + get_or us i 0 + r) / cell_units
     → AreEdges d start r m at (take (i + 1) us) (take (i + 1) (set ps i p))
 AreEdges-written d start r m at b i us ps p in_us in_ps done begin from to =
     let P : List Rect → Type 0 = λ qs. AreEdges d start r m at (take (i + 1) us) qs in
@@ -93,17 +90,15 @@ InTurn d a c (s ∷ ss) (p ∷ ps) = (first_cell d s ≡ a) × (after_of d s ≡
 InTurn-push : (d : Direction) (a c : ℕ) (ss ps : List Rect) (s p : Rect) → InTurn d a c ss ps → first_cell d s ≡ c
     → after_of d s ≡ first_cell d p → InTurn d a (after_of d p) (ss ++ s ∷ []) (ps ++ p ∷ [])
 InTurn-push d a c [] [] s p h from to = (from ∙ sym h, to, refl)
-InTurn-push d a c [] (q ∷ qs) s p h from to = absurd h
-InTurn-push d a c (t ∷ ts) [] s p h from to = absurd h
 InTurn-push d a c (t ∷ ts) (q ∷ qs) s p h from to = (h.0, h.1, InTurn-push d (after_of d q) c ts qs s p h.2 from to)
+InTurn-push d a c _ _ s p h from to = absurd h
 
 -- the space at the end
 InTurn-close : (d : Direction) (a c b : ℕ) (ss ps : List Rect) (s : Rect) → InTurn d a c ss ps → first_cell d s ≡ c
     → after_of d s ≡ b → Alternate d a b (ss ++ s ∷ []) ps
 InTurn-close d a c b [] [] s h from to = (from ∙ sym h, to, refl)
-InTurn-close d a c b [] (q ∷ qs) s h from to = absurd h
-InTurn-close d a c b (t ∷ ts) [] s h from to = absurd h
 InTurn-close d a c b (t ∷ ts) (q ∷ qs) s h from to = (h.0, h.1, InTurn-close d (after_of d q) c b ts qs s h.2 from to)
+InTurn-close d a c b _ _ s h from to = absurd h
 
 -- one space more, written at its place
 pub InTurn-written : (d : Direction) (a c e i : ℕ) (ss ps : List Rect) (s empty : Rect) → i < length ss → i < length ps

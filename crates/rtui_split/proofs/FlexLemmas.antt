@@ -1,59 +1,43 @@
 -- What the spaces take, and what they leave for the parts.
-use Rattle.std.proofs.Common.{ℕ, ◌≡◌, ◌≤◌, ◌+◌, ◌-◌, ◌*◌, Bool, false, List, [], ◌∷◌, length, sum, sum_by, refl, ap, add-mul}
-use Rattle.std.proofs.Common.{◌<◌, ◌/◌, ◌%◌, ◌^◌, ◌⊎◌, subst, sym, inl, inr, mul-le-mul_right, arith}
-use Rattle.std.proofs.lemmas.Bool.Decides.{nat_tests}
-use Rattle.std.specs.List.{AllZip}
+use Rattle.std.proofs.Common.{ℕ, ◌≡◌, ◌≤◌, ◌<◌, ◌+◌, ◌-◌, ◌*◌, ◌/◌, ◌%◌, ◌^◌, List, [], ◌∷◌, length, false, min, refl, sym, ◌∙◌}
+use Rattle.std.proofs.Common.{ap, subst, inl, inr, add-mul, mul-le-mul_right, arith}
 use Rattle.std.proofs.Math.Nat.{mul_comm, mul_assoc, div-add-mod, mod-lt}
-use Rattle.std.proofs.lemmas.List.Sums.{sum_by-cons}
-use Rattle.rtui_layout.specs.declared.flex.Flex.{Flex}
+use Rattle.std.proofs.lemmas.{Bool.cases_lt, Bool.Decides.nat_tests, List.length-map, List.Sums.sum-map, List.Elements.All-nil}
+use Rattle.std.proofs.lemmas.{List.Elements.All-cons}
 use Rattle.rtui_layout.specs.declared.flex.Flex.TheVariants.{Legacy, Start, End, Center, SpaceBetween, SpaceAround, SpaceEvenly}
-use Rattle.rtui_split.specs.declared.{flex.Spaces.Spaces, flex.Room.Room, part.Part.Part}
-use Rattle.rtui_split.specs.Inner.Shares.{wanted_before, if_before, IsGranted, IsDenied, IsShared}
-use Rattle.rtui_split.specs.Ragged.{IsAtMost}
-use Rattle.rtui_split.specs.Spaces.{IsPacked, KeepsWishes, least_spaces}
-use Rattle.rtui_split.specs.Inner.Spaces.{FitsBefore, IsArranged, IsSpread}
-use Rattle.rtui_split.specs.Spaces.{IsFlexed}
-use Rattle.rtui_split.specs.Inner.Spaces.{IsFlexedIn, GivesWishes, lead, first_share, middle_share}
-use Rattle.rtui_split.proofs.ShareLemmas.{before-later, one_granted, granted_le}
-use Rattle.rtui_split.specs.Inner.Shares.{DifferLeast}
+use Rattle.rtui_layout.specs.declared.flex.Flex.{Flex}
+use Rattle.rtui_split.specs.Spaces.{IsPacked, KeepsWishes, least_spaces, IsFlexed}
+use Rattle.rtui_split.specs.Inner.Slots.{AllSlots, sizes_of, total_of, if_before, wanted_before}
+use Rattle.rtui_split.specs.Inner.Shares.{IsGranted, IsDenied, IsShared, DifferLeast}
+use Rattle.rtui_split.specs.Inner.Spaces.{least_gaps, FitsBefore, left_in, IsFlexedIn, GivesWishes, IsArranged, IsSpread, lead}
+use Rattle.rtui_split.specs.Inner.Spaces.{first_share, middle_share}
+use Rattle.rtui_split.specs.declared.{flex.Spaces.Spaces, flex.Room.Room, part.Part.Part, slot.Slot.Slot}
+use Rattle.rtui_split.proofs.{ShareLemmas.before-later, ShareLemmas.one_granted, ShareLemmas.granted_le, Lists.each_within}
+use Rattle.rtui_split.proofs.{Lists.sum-plus, SlotLemmas.AllSlots-weaker}
 
--- so much more for each
-pub sum-plus : (m : ℕ) (xs : List ℕ) → sum_by (λ s. s + m) xs ≡ sum xs + length xs * m
-sum-plus m [] = omega arith
-sum-plus m (x ∷ xs) = grind (arith, sum-plus m xs, sum_by-cons (λ s. s + m) x xs, sum_by-cons (λ s. s) x xs)
-
-pub lt_or_le : (a b : ℕ) → (a < b) ⊎ (b ≤ a)
-lt_or_le a b = grind (arith, nat_tests)
-
+-- a number that is not at most another
 pub not_le : (a b : ℕ) → (a ≤ b → ⊥) → b < a
-not_le a b misses = elim (lt_or_le b a) [ inl less ↦ less | inr more ↦ absurd (misses more) ]
+not_le a b misses = elim (cases_lt b a) [ inl less ↦ less | inr more ↦ absurd (misses more) ]
 
-one_denied : (t : ℕ) (p : Part) (s : ℕ) → s ≤ if_before t p → IsDenied t p s
-one_denied t p s few = (grind (arith, nat_tests), λ from. grind (arith, nat_tests))
+one_denied : (t : ℕ) (p : Part) (n : ℕ) → n ≤ if_before t p + 0 → IsDenied t p n
+one_denied t p n few = (grind (arith, nat_tests), λ from. grind (arith, nat_tests))
 
 -- sizes of at least the wishes before a turn, and together no more
-denied_all : (t : ℕ) (ps : List Part) (sizes : List ℕ) → AllZip (IsGranted t) ps sizes → sum sizes ≤ wanted_before t ps
-    → AllZip (IsDenied t) ps sizes
-denied_all t [] [] all few = tt
-denied_all t [] (s ∷ ss) all few = absurd all
-denied_all t (p ∷ ps) [] all few = absurd all
-denied_all t (p ∷ ps) (s ∷ ss) all few =
-    let heads : sum (s ∷ ss) ≡ s + sum ss = sum_by-cons (λ n. n) s ss in
-    let wishes : wanted_before t (p ∷ ps) ≡ if_before t p + wanted_before t ps = sum_by-cons (if_before t) p ps in (
-      one_denied t p s (omega (arith, granted_le t ps ss all.1)),
-      denied_all t ps ss all.1 (omega (arith, one_granted t p s all.0)),
-    )
+denied_all : (t : ℕ) (ss : List Slot) → AllSlots (IsGranted t) ss → total_of ss ≤ wanted_before t ss → AllSlots (IsDenied t) ss
+denied_all t ss all few = AllSlots-weaker (λ p n. n ≤ if_before t p + 0) (IsDenied t) (one_denied t) ss
+    (each_within (λ s. s.size) (λ s. if_before t s.part) 0 ss
+    (AllSlots-weaker (IsGranted t) (λ p n. if_before t p ≤ n) (one_granted t) ss all) (omega (arith, few)))
 
 -- where the wishes of a first kind alone are not passed, the room for the parts is what is wished before a turn
-first_only : (parts : List Part) (t for_parts least whole : ℕ) → (wanted_before t parts + least ≤ whole → ⊥)
-    → wanted_before 0 parts + least ≤ whole
-    → (wanted_before 1 parts < for_parts → for_parts + least ≤ whole) → wanted_before t parts ≤ for_parts
-    → for_parts ≤ wanted_before t parts
-first_only parts t for_parts least whole misses spaced spare many = elim (lt_or_le (wanted_before 1 parts) for_parts) [
+first_only : (ss : List Slot) (t for_parts least whole : ℕ) → (wanted_before t ss + least ≤ whole → ⊥)
+    → wanted_before 0 ss + least ≤ whole
+    → (wanted_before 1 ss < for_parts → for_parts + least ≤ whole) → wanted_before t ss ≤ for_parts
+    → for_parts ≤ wanted_before t ss
+first_only ss t for_parts least whole misses spaced spare many = elim (cases_lt (wanted_before 1 ss) for_parts) [
   | inl more ↦ absurd (misses (omega (arith, spare more)))
-  | inr few ↦ elim (lt_or_le 0 t) [
-    | inl later ↦ omega (arith, before-later 1 t parts (omega arith))
-    | inr first ↦ absurd (misses (omega (arith, before-later t 0 parts first)))
+  | inr few ↦ elim (cases_lt 0 t) [
+    | inl later ↦ omega (arith, before-later 1 t ss (omega arith))
+    | inr first ↦ absurd (misses (omega (arith, before-later t 0 ss first)))
   ]
 ]
 
@@ -64,118 +48,98 @@ one_more n gap = grind (arith, mul-le-mul_right gap (within n), add-mul (n - 1) 
     within : (k : ℕ) → k ≤ k - 1 + 1
     within k = omega arith
 
--- sizes that are no less
-granted_more : (t : ℕ) (ps : List Part) (few more : List ℕ) → AllZip (IsGranted t) ps few → AllZip IsAtMost few more
-    → AllZip (IsGranted t) ps more
-granted_more t [] [] [] granted less = tt
-granted_more t [] [] (m ∷ ms) granted less = absurd less
-granted_more t [] (s ∷ ss) ms granted less = absurd granted
-granted_more t (p ∷ ps) [] ms granted less = absurd granted
-granted_more t (p ∷ ps) (s ∷ ss) [] granted less = absurd less
-granted_more t (p ∷ ps) (s ∷ ss) (m ∷ ms) granted less =
-    (λ first. omega (arith, granted.0 first, less.0), granted_more t ps ss ms granted.1 less.1)
-
 -- sizes with the wishes that fit, and spaces, in a room
-pub given_in : (parts : List Part) (room : Room) (sizes : List ℕ) (spaces : Spaces)
-    → ((t : ℕ) → t ≤ 5 → FitsBefore t parts room → AllZip (IsGranted t) parts sizes)
-    → ((t : ℕ) → FitsBefore t parts room → spaces.first + sum sizes + length sizes * spaces.middle ≤ room.whole + spaces.middle)
-    → GivesWishes parts room sizes spaces
-given_in parts room sizes spaces granted fits =
-    record { granted = granted; fit = λ t enough. omega (arith, fits t enough, sum-plus spaces.middle sizes) }
-
--- the same where a part is stretched
-pub stretched_given : (legacy : Bool) (parts : List Part) (room : Room) (shared sizes : List ℕ) (left for_parts : ℕ)
-    → IsShared legacy parts for_parts shared left → AllZip IsAtMost shared sizes → sum sizes ≤ sum shared + left
-    → length sizes ≡ length parts
-    → ((t : ℕ) → FitsBefore t parts room → for_parts + (length parts - 1) * room.gap ≡ room.whole)
-    → ((t : ℕ) → FitsBefore t parts room → wanted_before t parts ≤ for_parts)
-    → GivesWishes parts room sizes (record { first = 0; middle = room.gap })
-stretched_given legacy parts room shared sizes left for_parts is_shared more all long whole fits =
-    let gaps : length sizes * room.gap ≡ length parts * room.gap = ap (λ n. n * room.gap) long in
-    given_in parts room sizes (record { first = 0; middle = room.gap })
-    (λ t last enough. granted_more t parts shared sizes (is_shared.granted t last (fits t enough)) more)
-    (λ t enough. omega (arith, whole t enough, all, is_shared.total, gaps, one_more (length parts) room.gap))
-
--- a part alone that takes the room
-pub alone_given : (parts : List Part) (room : Room) (sizes : List ℕ) (spaces : Spaces) → length sizes ≡ length parts
-    → length parts ≤ 1 → (length sizes ≡ 1 → sizes ≡ room.whole ∷ []) → spaces.first ≡ 0 → spaces.middle ≡ 0
-    → GivesWishes parts room sizes spaces
-alone_given [] room [] spaces long few all first middle = record { granted = λ t last enough. tt; fit = λ t enough. omega arith }
-alone_given [] room (s ∷ ss) spaces long few all first middle = absurd (omega arith)
-alone_given (p ∷ []) room sizes spaces long few all first middle =
-    let P : List ℕ → Type 0 = λ ss. GivesWishes (p ∷ []) room ss spaces in
-    subst P (sym (all (omega (arith, long)))) (record {
-      granted = λ t last enough. (λ own. grind (arith, nat_tests, enough, own), tt);
-      fit = λ t enough. omega (arith, first, middle);
-    })
-alone_given (p ∷ q ∷ qs) room sizes spaces long few all first middle = absurd (omega (arith, few))
-
--- what is shared in a room that has room for what fits is arranged
-pub arranged : (parts : List Part) (room : Room) (sizes : List ℕ) (left for_parts : ℕ) (spaces : Spaces)
-    → IsShared false parts for_parts sizes left
-    → for_parts ≤ room.whole
-    → ((t : ℕ) → FitsBefore t parts room → wanted_before t parts ≤ for_parts)
-    → ((t : ℕ) → FitsBefore t parts room → room.whole ≤ for_parts + least_spaces room.flex (length parts) * room.gap)
-    → ((t : ℕ) → FitsBefore t parts room → spaces.first + sum sizes + length sizes * spaces.middle ≤ room.whole + spaces.middle)
-    → (FitsBefore 0 parts room → wanted_before 1 parts < for_parts
-    → for_parts + least_spaces room.flex (length parts) * room.gap ≤ room.whole)
-    → (0 < length parts → room.whole < 2 ^ 43 → FitsBefore 0 parts room → IsFlexedIn parts room sizes spaces)
-    → IsArranged parts room sizes spaces
-arranged parts room sizes left for_parts spaces shared within fits beside fit spare flexed = record {
-  at_most = shared.at_most;
-  granted = λ t last enough. shared.granted t last (fits t enough);
-  fit = λ t enough. omega (arith, fit t enough, sum-plus spaces.middle sizes);
-  short = λ t last spaced misses.
-      let least = least_spaces room.flex (length parts) * room.gap in
-      elim (lt_or_le for_parts (wanted_before t parts)) [
-        | inl few ↦ omega (arith, shared.short t last few, beside 0 spaced)
-        | inr many ↦
-            let granted : wanted_before t parts ≤ sum sizes = granted_le t parts sizes (shared.granted t last many) in
-            let missed : room.whole < wanted_before t parts + least = not_le (wanted_before t parts + least) room.whole misses in
-            omega arith
-      ];
-  later = λ t last spaced misses.
-      elim (lt_or_le for_parts (wanted_before t parts)) [
-        | inl few ↦ shared.later t last few
-        | inr many ↦
-            let most : for_parts ≤ wanted_before t parts = first_only parts t for_parts
-            (least_spaces room.flex (length parts) * room.gap) room.whole misses spaced (spare spaced) many in
-            denied_all t parts sizes (shared.granted t last many) (omega (arith, shared.total))
-      ];
-  flexed = flexed;
-  filled = λ small enough.
-      let filled = shared.filled (omega arith) (fits 5 enough) in
-      let least = least_spaces room.flex (length parts) * room.gap in
-      let spaced : FitsBefore 0 parts room = omega (arith, enough, before-later 0 5 parts (omega arith)) in
-      let all : sum sizes + least ≤ room.whole = elim (lt_or_le (wanted_before 1 parts) for_parts) [
-        | inl more ↦ omega (arith, shared.total, spare spaced more)
-        | inr few ↦ omega (arith, shared.total, enough, before-later 1 5 parts (omega arith))
-      ] in
-      (filled.0, filled.1, filled.2, λ some. omega (arith, filled.3 some, beside 5 enough), filled.4, all);
-  levelled = shared.levelled refl;
-  ragged = λ t some last enough misses.
-      let least = least_spaces room.flex (length parts) * room.gap in
-      let missed : room.whole < wanted_before (t + 1) parts + least = not_le (wanted_before (t + 1) parts + least)
-      room.whole misses in
-      let spaced : FitsBefore 0 parts room = omega (arith, enough, before-later 0 t parts (omega arith)) in
-      let whole : for_parts + least ≡ room.whole = elim (lt_or_le (wanted_before 1 parts) for_parts) [
-        | inl more ↦ omega (arith, beside t enough, spare spaced more)
-        | inr few ↦ omega (arith, beside t enough, enough, few, before-later 1 t parts (omega (arith, some)))
-      ] in
-      let P : ℕ → Type 0 = λ n. DifferLeast t n parts sizes in
-      let left : for_parts - wanted_before t parts ≡ room.whole - (wanted_before t parts + least) =
-      omega (arith, whole) in
-      subst P left (shared.ragged refl t some last (omega (arith, enough, whole)) (omega (arith, missed, whole)));
+pub given_in : (ss : List Slot) (room : Room) (spaces : Spaces)
+    → ((t : ℕ) → t ≤ 5 → FitsBefore t ss room → AllSlots (IsGranted t) ss)
+    → ((t : ℕ) → FitsBefore t ss room → spaces.first + total_of ss + length ss * spaces.middle ≤ room.whole + spaces.middle)
+    → GivesWishes ss room spaces
+given_in ss room spaces granted fits = record {
+  granted = granted;
+  fit = λ t enough. omega (
+    arith,
+    fits t enough,
+    sum-plus (λ (n : ℕ). n) spaces.middle (sizes_of ss),
+    sum-map (λ (s : Slot). s.size) ss,
+    ap (λ n. n * spaces.middle) (length-map ss (λ (s : Slot). s.size)),
+  );
 }
 
+-- a part alone that takes the room
+pub alone_given : (ss : List Slot) (room : Room) (spaces : Spaces) → length ss ≤ 1
+    → (length ss ≡ 1 → sizes_of ss ≡ room.whole ∷ []) → spaces.first ≡ 0 → spaces.middle ≡ 0 → GivesWishes ss room spaces
+alone_given [] room spaces few all first middle = record {
+  granted = λ t last enough. All-nil (λ (s : Slot). IsGranted t s.part s.size);
+  fit = λ t enough. omega arith;
+}
+alone_given (s ∷ []) room spaces few all first middle =
+    let whole = all (omega arith) in
+    let size : s.size ≡ room.whole = cc (whole) in
+    record {
+      granted = λ t last enough. let P : Slot → Type 0 = λ r. IsGranted t r.part r.size in
+          All-cons P s [] (λ own. grind (arith, nat_tests, enough, own, size)) (All-nil P);
+      fit = λ t enough. omega (arith, first, middle, size);
+    }
+alone_given (s ∷ r ∷ rs) room spaces few all first middle = absurd (omega (arith, few))
+
+-- what is shared in a room that has room for what fits is arranged
+pub arranged : (ss : List Slot) (room : Room) (left for_parts : ℕ) (spaces : Spaces) → IsShared false ss for_parts left
+    → for_parts ≤ room.whole
+    → ((t : ℕ) → FitsBefore t ss room → wanted_before t ss ≤ for_parts)
+    → ((t : ℕ) → FitsBefore t ss room → room.whole ≤ for_parts + least_gaps room ss)
+    → (FitsBefore 0 ss room → wanted_before 1 ss < for_parts → for_parts + least_gaps room ss ≤ room.whole)
+    → (0 < length ss → room.whole < 2 ^ 43 → FitsBefore 0 ss room → IsFlexedIn ss room spaces)
+    → IsArranged ss room spaces
+arranged ss room left for_parts spaces shared within fits beside spare flexed =
+    let least = least_gaps room ss in
+    let missed : (t : ℕ) → (FitsBefore t ss room → ⊥) → room.whole < wanted_before t ss + least =
+    λ t misses. not_le (wanted_before t ss + least) room.whole misses in
+    let spaced_at : (t : ℕ) → FitsBefore t ss room → FitsBefore 0 ss room =
+    λ t enough. omega (arith, enough, before-later 0 t ss (omega arith)) in
+    record {
+      at_most = shared.at_most;
+      short = λ t last spaced misses. elim (cases_lt for_parts (wanted_before t ss)) [
+        | inl few ↦ omega (arith, shared.short t last few, beside 0 spaced)
+        | inr many ↦ omega (arith, granted_le t ss (shared.granted t last many), missed t misses)
+      ];
+      later = λ t last spaced misses. elim (cases_lt for_parts (wanted_before t ss)) [
+        | inl few ↦ shared.later t last few
+        | inr many ↦
+            let most = first_only ss t for_parts least room.whole misses spaced (spare spaced) many in
+            denied_all t ss (shared.granted t last many) (omega (arith, shared.total, most))
+      ];
+      flexed = flexed;
+      filled = λ small enough.
+          let filled = shared.filled (omega arith) (fits 5 enough) in
+          let all : total_of ss + least ≤ room.whole = elim (cases_lt (wanted_before 1 ss) for_parts) [
+            | inl more ↦ omega (arith, shared.total, spare (spaced_at 5 enough) more)
+            | inr few ↦ omega (arith, shared.total, enough, before-later 1 5 ss (omega arith))
+          ] in
+          (filled.0, filled.1, filled.2, λ some. omega (arith, filled.3 some, beside 5 enough), all);
+      levelled = shared.levelled refl;
+      ragged = λ t some last enough misses.
+          let whole : for_parts + least ≡ room.whole = elim (cases_lt (wanted_before 1 ss) for_parts) [
+            | inl more ↦ omega (arith, beside t enough, spare (spaced_at t enough) more)
+            | inr few ↦ omega (arith, beside t enough, enough, few, before-later 1 t ss (omega (arith, some)))
+          ] in
+          let P : ℕ → Type 0 = λ n. DifferLeast t n ss in
+          let left : for_parts - wanted_before t ss ≡ left_in t ss room = omega (arith, whole) in
+          subst P left (shared.ragged refl t some last (omega (arith, enough, whole))
+          (omega (arith, missed (t + 1) misses, whole)));
+    }
+
 pub packed_least : (flex : Flex) (n : ℕ) → IsPacked flex → least_spaces flex n ≡ n - 1
-packed_least Legacy n packed = refl
-packed_least Start n packed = refl
-packed_least End n packed = refl
-packed_least Center n packed = refl
-packed_least SpaceBetween n packed = absurd packed
 packed_least SpaceAround n packed = absurd packed
 packed_least SpaceEvenly n packed = absurd packed
+packed_least _ n packed = refl
+
+-- the room that spaces of their size leave
+pub packed_room : (flex : Flex) (n gap inner whole for_parts wished : ℕ) → IsPacked flex → inner ≡ n - 1
+    → for_parts ≡ whole - min (gap * inner) (2 ^ 64 - 1) → whole < 2 ^ 64 → wished + least_spaces flex n * gap ≤ whole
+    → (for_parts + least_spaces flex n * gap ≡ whole) × (for_parts + (n - 1) * gap ≡ whole)
+packed_room flex n gap inner whole for_parts wished packed inner_is rest small fits =
+    let least : least_spaces flex n * gap ≡ (n - 1) * gap = ap (λ k. k * gap) (packed_least flex n packed) in
+    let spaces : gap * inner ≡ (n - 1) * gap = mul_comm gap inner ∙ ap (λ k. k * gap) inner_is in
+    (omega (arith, least, spaces, rest, fits), omega (arith, least, spaces, rest, fits))
 
 -- the room after so many spaces before all parts, and so many after the first wishes
 pub spread_room : (whole gap a b n least more for_parts wished : ℕ) → a + b ≡ n → least ≤ gap * a → more ≤ gap * b
@@ -190,13 +154,9 @@ spread_beside whole gap a b n least more for_parts parts few later enough =
     omega (arith, few, later, enough, ap (λ k. k * gap) parts, add-mul a b gap, mul_comm gap a, mul_comm gap b)
 
 pub lead_le : (flex : Flex) (left : ℕ) → lead flex left ≤ left
-lead_le Legacy left = omega arith
-lead_le Start left = omega arith
 lead_le End left = omega arith
 lead_le Center left = omega arith
-lead_le SpaceBetween left = omega arith
-lead_le SpaceAround left = omega arith
-lead_le SpaceEvenly left = omega arith
+lead_le _ left = omega arith
 
 -- where the rest goes, if the spaces between two have their size
 pub packed_flexed : (flex : Flex) (none : Type 0) (n gap sizes left whole : ℕ) → IsPacked flex
@@ -214,9 +174,7 @@ packed_flexed Center none n gap sizes left whole packed fits all = (
   omega arith,
   (refl, λ nobody. (omega (arith, all nobody), omega (arith, all nobody))),
 )
-packed_flexed SpaceBetween none n gap sizes left whole packed fits all = absurd packed
-packed_flexed SpaceAround none n gap sizes left whole packed fits all = absurd packed
-packed_flexed SpaceEvenly none n gap sizes left whole packed fits all = absurd packed
+packed_flexed _ none n gap sizes left whole packed fits all = absurd packed
 
 -- so many times a size, and once more
 times_more : (n k : ℕ) → 0 < n → (n - 1) * k + k ≡ n * k
@@ -228,10 +186,6 @@ times_more n k some =
 shares_rest : (flex : Flex) (none : Type 0) (n gap rest : ℕ) → IsSpread flex → KeepsWishes flex n → 0 < n
     → (last : ℕ) × (first_share flex n rest + (n - 1) * middle_share flex n rest + last ≡ rest)
     × IsFlexed flex none n gap (first_share flex n rest) (middle_share flex n rest) last
-shares_rest Legacy none n gap rest spread keeps some = absurd spread
-shares_rest Start none n gap rest spread keeps some = absurd spread
-shares_rest End none n gap rest spread keeps some = absurd spread
-shares_rest Center none n gap rest spread keeps some = absurd spread
 shares_rest SpaceBetween none n gap rest spread keeps some =
     let inner : 0 < n - 1 = omega arith in
     (rest % (n - 1), omega (arith, div-add-mod rest (n - 1)), (refl, mod-lt rest inner))
@@ -260,6 +214,7 @@ shares_rest SpaceEvenly none n gap rest spread keeps some =
       omega (arith, div-add-mod rest (n + 1), times_more n e some, add-mul n 1 e),
       (refl, omega arith, omega arith),
     )
+shares_rest _ none n gap rest spread keeps some = absurd spread
 
 pub spread_flexed : (flex : Flex) (none : Type 0) (n gap sizes rest whole first middle : ℕ) → IsSpread flex
     → KeepsWishes flex n → 0 < n → sizes + rest ≡ whole → first ≡ first_share flex n rest

@@ -9,6 +9,7 @@ pub mod Lists
 pub mod RiseLemmas
 pub mod RunLemmas
 pub mod ShareLemmas
+pub mod SlotLemmas
 pub mod SplitLemmas
 pub mod StretchLemmas
 pub mod TryLemmas

@@ -1,12 +1,9 @@
 -- Runs of parts, and their order.
 use Rattle.std.proofs.Common.{ℕ, ◌≡◌, ◌==◌, ◌<◌, ◌≤◌, ◌+◌, ◌-◌, ◌*◌, ◌⊎◌, inl, inr, zero, suc, List, length, slice_index}
-use Rattle.std.proofs.Common.{if◌then◌else◌, sym, ◌∙◌, ap, subst, arith, add-mul}
-use Rattle.std.proofs.Common.{mul-le-mul_right}
+use Rattle.std.proofs.Common.{if◌then◌else◌, sym, ◌∙◌, ap, subst, arith, add-mul, mul-le-mul_right}
 use Rattle.std.proofs.Math.Nat.{mul_assoc, mul_comm, le_of_mul-le-mul_left}
 use Rattle.std.proofs.lemmas.{Bool.cases_lt, Bool.Decides.nat_tests, List.get_or_past}
-use Rattle.rtui_split.specs.Ragged.{Run}
-use Rattle.rtui_split.specs.Ragged.{IsRunOf, run_length, beside, growth_before, growth_after, growth, rank_at, rank}
-use Rattle.rtui_split.specs.Ragged.{ComesNoLater}
+use Rattle.rtui_split.specs.Ragged.{Run, IsRunOf, run_length, growth_before, growth_after, growth, rank_at, rank, ComesNoLater}
 
 abbrev pub IsIn : Run → ℕ → Type 0
 IsIn r i = (r.first ≤ i) × (i < r.after)
@@ -47,110 +44,28 @@ nested ws r s i run other here there lower = (
 )
 
 -- what the differences grow by
-pub beside_high : (standing : List ℕ) (r : Run) (i : ℕ) → r.height < slice_index standing i → beside standing r i ≡ 0
-beside_high standing r i high = grind (arith, nat_tests, high)
+pub before_few : (standing : List ℕ) (r : Run) → growth_before standing r ≤ 2
+before_few standing r = grind (arith, nat_tests)
 
-pub beside_low : (standing : List ℕ) (r : Run) (i : ℕ) → slice_index standing i ≤ r.height → beside standing r i ≡ 2
-beside_low standing r i low = grind (arith, nat_tests, low)
+pub after_few : (standing : List ℕ) (r : Run) → growth_after standing r ≤ 2
+after_few standing r = grind (arith, nat_tests)
 
-pub before_edge : (standing : List ℕ) (r : Run) → r.first ≡ 0 → growth_before standing r ≡ 1
-before_edge standing r edge = grind (arith, nat_tests, edge)
+before_low : (standing : List ℕ) (r : Run) → 0 < r.first → slice_index standing (r.first - 1) ≤ r.height
+    → growth_before standing r ≡ 2
+before_low standing r some low = grind (arith, nat_tests, some, low)
 
-pub before_inner : (standing : List ℕ) (r : Run) → 0 < r.first → growth_before standing r ≡ beside standing r (r.first - 1)
-before_inner standing r inner = grind (arith, nat_tests, inner)
+after_low : (standing : List ℕ) (r : Run) → r.after < length standing → slice_index standing r.after ≤ r.height
+    → growth_after standing r ≡ 2
+after_low standing r inner low = grind (arith, nat_tests, inner, low)
 
-pub behind_edge : (standing : List ℕ) (r : Run) → r.after ≡ length standing → growth_after standing r ≡ 1
-behind_edge standing r edge = grind (arith, nat_tests, edge)
+-- at the same place they grow by no less if a run is higher
+before_higher : (standing : List ℕ) (r : Run) (a h : ℕ) → r.height ≤ h
+    → growth_before standing r ≤ growth_before standing (record { first = r.first; after = a; height = h })
+before_higher standing r a h lower = grind (arith, nat_tests, lower)
 
-pub behind_inner : (standing : List ℕ) (r : Run) → r.after < length standing
-    → growth_after standing r ≡ beside standing r r.after
-behind_inner standing r inner = grind (arith, nat_tests, inner)
-
--- at the same place it grows by no less if a run is higher
-beside_later : (standing : List ℕ) (r s : Run) (i : ℕ) → r.height ≤ s.height → beside standing r i ≤ beside standing s i
-beside_later standing r s i lower = elim (cases_lt r.height (slice_index standing i)) [
-  | inl high ↦ omega (arith, beside_high standing r i high)
-  | inr low ↦ omega (arith, beside_low standing r i low, beside_low standing s i (omega (arith, low, lower)))
-]
-
-beside_few : (standing : List ℕ) (r : Run) (i : ℕ) → beside standing r i ≤ 2
-beside_few standing r i = elim (cases_lt r.height (slice_index standing i)) [
-  | inl high ↦ omega (arith, beside_high standing r i high)
-  | inr low ↦ omega (arith, beside_low standing r i low)
-]
-
-before_few : (standing : List ℕ) (r : Run) → growth_before standing r ≤ 2
-before_few standing r = elim (cases_lt 0 r.first) [
-  | inl inner ↦ omega (arith, before_inner standing r inner, beside_few standing r (r.first - 1))
-  | inr edge ↦ omega (arith, before_edge standing r (omega (arith, edge)))
-]
-
-behind_few : (standing : List ℕ) (r : Run) → r.after ≤ length standing → growth_after standing r ≤ 2
-behind_few standing r within = elim (cases_lt r.after (length standing)) [
-  | inl inner ↦ omega (arith, behind_inner standing r inner, beside_few standing r r.after)
-  | inr edge ↦ omega (arith, behind_edge standing r (omega (arith, edge, within)))
-]
-
-before_later : (ws standing : List ℕ) (r s : Run) → AreApart ws standing → IsRunOf ws r → IsRunOf ws s → r.height ≤ s.height
-    → r.first ≤ s.first → s.after ≤ r.after
-    → (growth_before standing r ≤ growth_before standing s) × (r.first < s.first → growth_before standing s ≡ 2)
-before_later ws standing r s apart run other lower first after =
-    let shrunk : r.first < s.first → growth_before standing s ≡ 2 = λ less.
-    let own = run.wish (s.first - 1) (omega arith) (omega (arith, other.some)) in
-    before_inner standing s (omega arith)
-    ∙ beside_low standing s (s.first - 1) (omega (arith, apart.1 (s.first - 1) (omega (arith, own)))) in (
-      elim (cases_lt r.first s.first) [
-        | inl less ↦ omega (arith, shrunk less, before_few standing r)
-        | inr more ↦ elim (cases_lt 0 r.first) [
-          | inl inner ↦
-              let same : s.first ≡ r.first = omega (arith, more, first) in
-              let P : ℕ → Type 0 = λ n. beside standing r (r.first - 1) ≤ beside standing s (n - 1) in
-              omega (
-                arith,
-                before_inner standing r inner,
-                before_inner standing s (omega (arith, inner, first)),
-                subst P (sym same) (beside_later standing r s (r.first - 1) lower),
-              )
-          | inr edge ↦ omega (
-            arith,
-            before_edge standing r (omega (arith, edge)),
-            before_edge standing s (omega (arith, edge, more)),
-          )
-        ]
-      ],
-      shrunk,
-    )
-
-behind_later : (ws standing : List ℕ) (r s : Run) → AreApart ws standing → IsRunOf ws r → IsRunOf ws s → r.height ≤ s.height
-    → r.first ≤ s.first → s.after ≤ r.after
-    → (growth_after standing r ≤ growth_after standing s) × (s.after < r.after → growth_after standing s ≡ 2)
-behind_later ws standing r s apart run other lower first after =
-    let within : r.after ≤ length standing = omega (arith, within_list ws r run, apart.0) in
-    let shrunk : s.after < r.after → growth_after standing s ≡ 2 = λ less.
-    let own = run.wish s.after (omega (arith, other.some, first)) less in
-    behind_inner standing s (omega (arith, less, within))
-    ∙ beside_low standing s s.after (omega (arith, apart.1 s.after (omega (arith, own)))) in (
-      elim (cases_lt s.after r.after) [
-        | inl less ↦ omega (arith, shrunk less, behind_few standing r within)
-        | inr more ↦ elim (cases_lt r.after (length standing)) [
-          | inl inner ↦
-              let same : s.after ≡ r.after = omega (arith, more, after) in
-              let P : ℕ → Type 0 = λ n. beside standing r r.after ≤ beside standing s n in
-              omega (
-                arith,
-                behind_inner standing r inner,
-                behind_inner standing s (omega (arith, inner, after)),
-                subst P (sym same) (beside_later standing r s r.after lower),
-              )
-          | inr edge ↦ omega (
-            arith,
-            behind_edge standing r (omega (arith, edge, within)),
-            behind_edge standing s (omega (arith, edge, within, more, after)),
-          )
-        ]
-      ],
-      shrunk,
-    )
+after_higher : (standing : List ℕ) (r : Run) (f h : ℕ) → r.height ≤ h
+    → growth_after standing r ≤ growth_after standing (record { first = f; after = r.after; height = h })
+after_higher standing r f h lower = grind (arith, nat_tests, lower)
 
 -- products
 mul_sum : (k a b : ℕ) → k * (a + b) ≡ k * a + k * b
@@ -214,12 +129,7 @@ cost_on a b c n m k some first second =
       swapped 2 m k,
       swapped 2 m n,
     ) in
-    le_of_mul-le-mul_left (omega (
-      arith,
-      all,
-      mul_comm m (a * k + 2 * n),
-      mul_comm m (c * n + 2 * k),
-    )) some
+    le_of_mul-le-mul_left (omega (arith, all, mul_comm m (a * k + 2 * n), mul_comm m (c * n + 2 * k))) some
 
 -- ranks
 rank_le : (n b c f g x y : ℕ) → b ≤ 2 → c ≤ 2 → f ≤ g → y ≤ x → (f < g → b ≡ 2) → (y < x → c ≡ 2)
@@ -237,41 +147,76 @@ rank_le n (suc (suc (suc b))) (suc zero) f g x y few less first after before end
 rank_le n b (suc (suc zero)) f g x y few less first after before ended sides = omega arith
 rank_le n b (suc (suc (suc c))) f g x y few less first after before ended sides = absurd (omega (arith, less))
 
--- of two runs with a part in common the lower one comes first
-pub order_nested : (ws standing : List ℕ) (r s : Run) (i : ℕ) → AreApart ws standing → IsRunOf ws r → IsRunOf ws s → IsIn r i
-    → IsIn s i → r.height ≤ s.height → ComesNoLater standing r s
-order_nested ws standing r s i apart run other here there lower =
-    let n = s.after - s.first in
-    let d = (s.first - r.first) + (r.after - s.after) in
-    let within = nested ws r s i run other here there lower in
-    let long : run_length r ≡ n + d = omega (arith, within, other.some) in
-    let left = before_later ws standing r s apart run other lower within.0 within.1 in
-    let right = behind_later ws standing r s apart run other lower within.0 within.1 in
-    let sides : (d ≡ 0) ⊎ (2 ≤ growth standing s) = elim (cases_lt r.first s.first) [
-      | inl less ↦ inr (omega (arith, left.1 less))
-      | inr same ↦ elim (cases_lt s.after r.after) [
-        | inl less ↦ inr (omega (arith, right.1 less))
-        | inr none ↦ inl (omega (arith, same, none))
-      ]
-    ] in
-    let P : ℕ → Type 0 = λ x. growth standing r * n + 2 * x ≤ growth standing s * x + 2 * n in
-    let Q : ℕ → Type 0 = λ x. growth standing s * x + 2 * n ≤ growth standing r * n + 2 * x in (
-      subst P (sym long) (cost_nested (growth standing r) (growth standing s) n d (omega (arith, left.0, right.0)) sides),
-      λ back.
-          let equal = cost_equal (growth standing r) (growth standing s) n d (omega (arith, other.some))
-          (omega (arith, left.0, right.0)) sides (subst Q long back) in
-          let b : growth_before standing r ≡ growth_before standing s = omega (arith, equal.0, left.0, right.0) in
-          let c : growth_after standing r ≡ growth_after standing s = omega (arith, equal.0, left.0, right.0) in
-          let R : ℕ → ℕ → Type 0 = λ x y. (if y == 1 then rank_at (length standing) x r.first
-          else rank_at (length standing) y r.after) ≤ rank standing s in (
-            subst (λ x. R x (growth_after standing r)) (sym b) (subst (R (growth_before standing s)) (sym c)
-                (rank_le (length standing) (growth_before standing s) (growth_after standing s) r.first s.first r.after s.after
-                (before_few standing s) (behind_few standing s (omega (arith, within_list ws s other, apart.0)))
-                within.0 within.1 left.1 right.1
-                (elim equal.1 [
-                  | inl none ↦ inl (omega (arith, none, within), omega (arith, none, within))
-                  | inr two ↦ inr two
-                ]))),
-            λ _. lower,
-          ),
-    )
+module _ (ws standing : List ℕ) (apart : AreApart ws standing) where
+  before_later : (r s : Run) → IsRunOf ws r → IsRunOf ws s → r.height ≤ s.height → r.first ≤ s.first → s.after ≤ r.after
+      → (growth_before standing r ≤ growth_before standing s) × (r.first < s.first → growth_before standing s ≡ 2)
+  before_later r s run other lower first after =
+      let shrunk : r.first < s.first → growth_before standing s ≡ 2 = λ less.
+      let own = run.wish (s.first - 1) (omega arith) (omega (arith, other.some)) in
+      before_low standing s (omega arith) (omega (arith, apart.1 (s.first - 1) (omega (arith, own)))) in (
+        elim (cases_lt r.first s.first) [
+          | inl less ↦ omega (arith, shrunk less, before_few standing r)
+          | inr more ↦
+              let same : r.first ≡ s.first = omega (arith, more, first) in
+              let P : ℕ → Type 0 = λ n. growth_before standing r
+              ≤ growth_before standing (record { first = n; after = s.after; height = s.height }) in
+              subst P same (before_higher standing r s.after s.height lower)
+        ],
+        shrunk,
+      )
+
+  after_later : (r s : Run) → IsRunOf ws r → IsRunOf ws s → r.height ≤ s.height → r.first ≤ s.first → s.after ≤ r.after
+      → (growth_after standing r ≤ growth_after standing s) × (s.after < r.after → growth_after standing s ≡ 2)
+  after_later r s run other lower first after =
+      let shrunk : s.after < r.after → growth_after standing s ≡ 2 = λ less.
+      let own = run.wish s.after (omega (arith, other.some, first)) less in
+      after_low standing s (omega (arith, less, within_list ws r run, apart.0))
+      (omega (arith, apart.1 s.after (omega (arith, own)))) in (
+        elim (cases_lt s.after r.after) [
+          | inl less ↦ omega (arith, shrunk less, after_few standing r)
+          | inr more ↦
+              let same : r.after ≡ s.after = omega (arith, more, after) in
+              let P : ℕ → Type 0 = λ n. growth_after standing r
+              ≤ growth_after standing (record { first = s.first; after = n; height = s.height }) in
+              subst P same (after_higher standing r s.first s.height lower)
+        ],
+        shrunk,
+      )
+
+  -- of two runs with a part in common the lower one comes first
+  pub order_nested : (r s : Run) (i : ℕ) → IsRunOf ws r → IsRunOf ws s → IsIn r i → IsIn s i → r.height ≤ s.height
+      → ComesNoLater standing r s
+  order_nested r s i run other here there lower =
+      let n = s.after - s.first in
+      let d = (s.first - r.first) + (r.after - s.after) in
+      let within = nested ws r s i run other here there lower in
+      let long : run_length r ≡ n + d = omega (arith, within, other.some) in
+      let left = before_later r s run other lower within.0 within.1 in
+      let right = after_later r s run other lower within.0 within.1 in
+      let sides : (d ≡ 0) ⊎ (2 ≤ growth standing s) = elim (cases_lt r.first s.first) [
+        | inl less ↦ inr (omega (arith, left.1 less))
+        | inr same ↦ elim (cases_lt s.after r.after) [
+          | inl less ↦ inr (omega (arith, right.1 less))
+          | inr none ↦ inl (omega (arith, same, none))
+        ]
+      ] in
+      let P : ℕ → Type 0 = λ x. growth standing r * n + 2 * x ≤ growth standing s * x + 2 * n in
+      let Q : ℕ → Type 0 = λ x. growth standing s * x + 2 * n ≤ growth standing r * n + 2 * x in (
+        subst P (sym long) (cost_nested (growth standing r) (growth standing s) n d (omega (arith, left.0, right.0)) sides),
+        λ back.
+            let equal = cost_equal (growth standing r) (growth standing s) n d (omega (arith, other.some))
+            (omega (arith, left.0, right.0)) sides (subst Q long back) in
+            let b : growth_before standing r ≡ growth_before standing s = omega (arith, equal.0, left.0, right.0) in
+            let c : growth_after standing r ≡ growth_after standing s = omega (arith, equal.0, left.0, right.0) in
+            let R : ℕ → ℕ → Type 0 = λ x y. (if y == 1 then rank_at (length standing) x r.first
+            else rank_at (length standing) y r.after) ≤ rank standing s in (
+              subst (λ x. R x (growth_after standing r)) (sym b) (subst (R (growth_before standing s)) (sym c)
+                  (rank_le (length standing) (growth_before standing s) (growth_after standing s) r.first s.first r.after s.after
+                  (before_few standing s) (after_few standing s) within.0 within.1 left.1 right.1
+                  (elim equal.1 [
+                    | inl none ↦ inl (omega (arith, none, within), omega (arith, none, within))
+                    | inr two ↦ inr two
+                  ]))),
+              λ _. lower,
+            ),
+      )

@@ -1,112 +1,79 @@
 -- What the walks over parts and notes find and write.
-use Rattle.std.proofs.Common.{ℕ, ◌≡◌, ◌<◌, ◌≤◌, ◌+◌, ◌-◌, ◌≢◌, ◌⊎◌, inl, inr, zero, suc, List, [], ◌∷◌, All, map, length, sum}
-use Rattle.std.proofs.Common.{Option, None, Some, MatchOption, set, get_or, slice_index, refl, sym, ◌∙◌, ap, subst, arith}
-use Rattle.std.proofs.lemmas.{Bool.cases_lt, Bool.Decides.nat_tests}
-use Rattle.std.proofs.lemmas.List.{map-set, length-map, get_or-set_same, get_or-set_other}
-use Rattle.std.proofs.lemmas.List.Sums.{sum_by-cons, sum_by-set}
-use Rattle.std.proofs.lemmas.List.Elements.{All-head, All-tail}
 use Rattle.std.specs.List.{AllZip}
-use Rattle.rtui_split.specs.Ragged.{Run}
-use Rattle.rtui_split.specs.declared.{part.Part.Part, draft.Draft.Draft}
-use Rattle.rtui_split.specs.declared.smooth.Run as coded
-use Rattle.rtui_split.specs.Inner.Shares.{if_in, if_before}
-use Rattle.rtui_split.specs.Ragged.{IsAtMost}
-use Rattle.rtui_split.specs.Ragged.{IsRunOf, ComesNoLater}
-use Rattle.rtui_split.specs.Inner.{tries, as_run, KeepsUpTo, IsFirstRun, StartsAt}
+use Rattle.std.proofs.Common.{ℕ, ◌≡◌, ◌<◌, ◌≤◌, ◌+◌, ◌≢◌, ◌⊎◌, inl, inr, zero, suc, List, [], ◌∷◌, All, length, sum, Option}
+use Rattle.std.proofs.Common.{None, Some, MatchOption, set, slice_index, refl, sym, ◌∙◌, ap, subst, arith}
+use Rattle.std.proofs.lemmas.{Bool.cases_lt, Bool.Decides.nat_tests, List.length-map, List.get_or-set_same, List.get_or-set_other}
+use Rattle.std.proofs.lemmas.{List.Sums.sum_by-cons, List.Sums.sum_by-set, List.Elements.All-head, List.Elements.All-tail}
+use Rattle.rtui_split.specs.Ragged.{Run, IsAtMost, IsRunOf, ComesNoLater}
+use Rattle.rtui_split.specs.Inner.Slots.{if_in, if_before, wishes_of, heights_of, sizes_of}
+use Rattle.rtui_split.specs.Inner.Runs.{as_run, IsFirstRun, StartsAt}
+use Rattle.rtui_split.specs.declared.{part.Part.Part, slot.Slot.Slot}
 use Rattle.rtui_split.proofs.RunLemmas.{IsIn, AreApart, within_list, order_nested}
-use Rattle.rtui_split.proofs.RiseLemmas.{order_on}
+use Rattle.rtui_split.proofs.{SlotLemmas.sizes_set, RiseLemmas.order_on}
+use Rattle.rtui_split.specs.declared.smooth.Run as coded
 
 -- who is of this turn isn't of an earlier one
 one_apart : (t : ℕ) (p : Part) → 0 < if_in t p → if_before t p ≡ 0
 one_apart t p some = grind (arith, nat_tests, some)
 
-apart_at : (t : ℕ) (ps : List Part) (i : ℕ) → 0 < slice_index (map (if_in t) ps) i
-    → slice_index (map (if_before t) ps) i ≡ 0
+apart_at : (t : ℕ) (ss : List Slot) (i : ℕ) → 0 < slice_index (wishes_of t ss) i → slice_index (heights_of t ss) i ≡ 0
 apart_at t [] i some = refl
-apart_at t (p ∷ ps) zero some = one_apart t p some
-apart_at t (p ∷ ps) (suc i) some = apart_at t ps i some
+apart_at t (s ∷ ss) zero some = one_apart t s.part some
+apart_at t (s ∷ ss) (suc i) some = apart_at t ss i some
 
-pub apart : (t : ℕ) (ps : List Part) → AreApart (map (if_in t) ps) (map (if_before t) ps)
-apart t ps = (length-map ps (if_before t) ∙ sym (length-map ps (if_in t)), apart_at t ps)
+pub apart : (t : ℕ) (ss : List Slot) → AreApart (wishes_of t ss) (heights_of t ss)
+apart t ss =
+    (length-map ss (λ (s : Slot). if_before t s.part) ∙ sym (length-map ss (λ (s : Slot). if_in t s.part)), apart_at t ss)
 
--- what a note at a place tries
-pub tries_at : (ds : List Draft) (i : ℕ) (d : Draft) → i < length ds → (get_or ds i d).tried ≡ slice_index (tries ds) i
-tries_at [] i d within = absurd (omega (arith, within))
-tries_at (e ∷ ds) zero d within = refl
-tries_at (e ∷ ds) (suc i) d within = tries_at ds i d (omega (arith, within))
+-- one size written
+sizes_same : (ss : List Slot) (i : ℕ) (s : Slot) → i < length ss → slice_index (sizes_of (set ss i s)) i ≡ s.size
+sizes_same ss i s within = ap (λ xs. slice_index xs i) (sizes_set ss i s)
+    ∙ get_or-set_same (sizes_of ss) i s.size 0 (omega (arith, within, length-map ss (λ (r : Slot). r.size)))
 
--- one note written
-pub tries_same : (ds : List Draft) (i : ℕ) (d : Draft) → i < length ds → slice_index (tries (set ds i d)) i ≡ d.tried
-tries_same ds i d within = ap (λ xs. slice_index xs i) (map-set (λ (e : Draft). e.tried) ds i d)
-    ∙ get_or-set_same (tries ds) i d.tried 0 (omega (arith, within, length-map ds (λ (e : Draft). e.tried)))
+pub sizes_other : (ss : List Slot) (i k : ℕ) (s : Slot) → k ≢ i
+    → slice_index (sizes_of (set ss i s)) k ≡ slice_index (sizes_of ss) k
+sizes_other ss i k s other = ap (λ xs. slice_index xs k) (sizes_set ss i s)
+    ∙ get_or-set_other (sizes_of ss) i k s.size 0 other
 
-pub tries_other : (ds : List Draft) (i k : ℕ) (d : Draft) → k ≢ i
-    → slice_index (tries (set ds i d)) k ≡ slice_index (tries ds) k
-tries_other ds i k d other = ap (λ xs. slice_index xs k) (map-set (λ (e : Draft). e.tried) ds i d)
-    ∙ get_or-set_other (tries ds) i k d.tried 0 other
+pub sizes_sum : (ss : List Slot) (i : ℕ) (s : Slot) → i < length ss
+    → sum (sizes_of (set ss i s)) + slice_index (sizes_of ss) i ≡ sum (sizes_of ss) + s.size
+sizes_sum ss i s within = ap (λ xs. sum xs + slice_index (sizes_of ss) i) (sizes_set ss i s)
+    ∙ sum_by-set (λ n. n) (sizes_of ss) i s.size 0 (omega (arith, within, length-map ss (λ (r : Slot). r.size)))
 
-pub tries_sum : (ds : List Draft) (i : ℕ) (d : Draft) → i < length ds
-    → sum (tries (set ds i d)) + slice_index (tries ds) i ≡ sum (tries ds) + d.tried
-tries_sum ds i d within = ap (λ xs. sum xs + slice_index (tries ds) i) (map-set (λ (e : Draft). e.tried) ds i d)
-    ∙ sum_by-set (λ n. n) (tries ds) i d.tried 0 (omega (arith, within, length-map ds (λ (e : Draft). e.tried)))
-
-pub tries_inside : (ds : List Draft) (i h first k : ℕ) (d : Draft) → i < length ds → d.tried ≡ h
-    → ((j : ℕ) → first ≤ j → j < i → slice_index (tries ds) j ≡ h) → first ≤ k → k < i + 1
-    → slice_index (tries (set ds i d)) k ≡ h
-tries_inside ds i h first k d within own before from to = elim (cases_lt k i) [
-  | inl less ↦ tries_other ds i k d (λ same. absurd (omega (arith, less, same))) ∙ before k from less
+pub sizes_inside : (ss : List Slot) (i h first k : ℕ) (s : Slot) → i < length ss → s.size ≡ h
+    → ((j : ℕ) → first ≤ j → j < i → slice_index (sizes_of ss) j ≡ h) → first ≤ k → k < i + 1
+    → slice_index (sizes_of (set ss i s)) k ≡ h
+sizes_inside ss i h first k s within own before from to = elim (cases_lt k i) [
+  | inl less ↦ sizes_other ss i k s (λ same. absurd (omega (arith, less, same))) ∙ before k from less
   | inr last ↦
-      let P : ℕ → Type 0 = λ n. slice_index (tries (set ds i d)) n ≡ h in
+      let P : ℕ → Type 0 = λ n. slice_index (sizes_of (set ss i s)) n ≡ h in
       let same : i ≡ k = omega (arith, last, to) in
-      subst P same (tries_same ds i d within ∙ own)
+      subst P same (sizes_same ss i s within ∙ own)
 ]
 
 -- nobody tries anything
-pub tries_nothing : (ds : List Draft) → All (λ (d : Draft). d.tried ≡ 0) ds → (i : ℕ) → slice_index (tries ds) i ≡ 0
+pub tries_nothing : (ss : List Slot) → All (λ (r : Slot). r.size ≡ 0) ss → (i : ℕ) → slice_index (sizes_of ss) i ≡ 0
 tries_nothing [] nothing i = refl
-tries_nothing (d ∷ ds) nothing zero = All-head (λ (e : Draft). e.tried ≡ 0) d ds nothing
-tries_nothing (d ∷ ds) nothing (suc i) = tries_nothing ds (All-tail (λ (e : Draft). e.tried ≡ 0) d ds nothing) i
+tries_nothing (s ∷ ss) nothing zero = All-head (λ (r : Slot). r.size ≡ 0) s ss nothing
+tries_nothing (s ∷ ss) nothing (suc i) = tries_nothing ss (All-tail (λ (r : Slot). r.size ≡ 0) s ss nothing) i
 
-pub sum_of_nothing : (ds : List Draft) → All (λ (d : Draft). d.tried ≡ 0) ds → sum (tries ds) ≡ 0
+pub sum_of_nothing : (ss : List Slot) → All (λ (r : Slot). r.size ≡ 0) ss → sum (sizes_of ss) ≡ 0
 sum_of_nothing [] nothing = refl
-sum_of_nothing (d ∷ ds) nothing = omega (
-  arith,
-  All-head (λ (e : Draft). e.tried ≡ 0) d ds nothing,
-  sum_of_nothing ds (All-tail (λ (e : Draft). e.tried ≡ 0) d ds nothing),
-  sum_by-cons (λ n. n) d.tried (tries ds),
-)
+sum_of_nothing (s ∷ ss) nothing =
+    let P : Slot → Type 0 = λ r. r.size ≡ 0 in
+    simp sum_by-cons (omega (arith, All-head P s ss nothing, sum_of_nothing ss (All-tail P s ss nothing)))
 
 -- lists of numbers of which each is at most the other at its place
 pub each_at_most : (xs ys : List ℕ) → length xs ≡ length ys → ((i : ℕ) → slice_index xs i ≤ slice_index ys i)
     → AllZip IsAtMost xs ys
 each_at_most [] [] long few = tt
-each_at_most [] (y ∷ ys) long few = absurd (omega (arith, long))
-each_at_most (x ∷ xs) [] long few = absurd (omega (arith, long))
 each_at_most (x ∷ xs) (y ∷ ys) long few = (few 0, each_at_most xs ys (omega (arith, long)) (λ i. few (suc i)))
+each_at_most _ _ long few = absurd (omega (arith, long))
 
 pub sum_at_most : (xs ys : List ℕ) → AllZip IsAtMost xs ys → sum xs ≤ sum ys
 sum_at_most [] [] few = omega arith
-sum_at_most [] (y ∷ ys) few = absurd few
-sum_at_most (x ∷ xs) [] few = absurd few
-sum_at_most (x ∷ xs) (y ∷ ys) few = omega (
-  arith,
-  few.0,
-  sum_at_most xs ys few.1,
-  sum_by-cons (λ n. n) x xs,
-  sum_by-cons (λ n. n) y ys,
-)
-
--- no part rises above its wish
-pub keeps_within : (ws standing : List ℕ) (r : Run) (top h i : ℕ) → IsRunOf ws r → KeepsUpTo ws standing r top → h ≤ top
-    → IsIn r i → h ≤ slice_index ws i
-keeps_within ws standing r top h i run keeps to here = elim (cases_lt r.height h) [
-  | inl higher ↦ omega (
-    arith,
-    higher,
-    (keeps (h - 1) (omega (arith, higher)) (omega (arith, higher, to))).0.wish i here.0 here.1,
-  )
-  | inr low ↦ omega (arith, low, run.wish i here.0 here.1)
-]
+sum_at_most (x ∷ xs) (y ∷ ys) few = simp sum_by-cons (omega (arith, few.0, sum_at_most xs ys few.1))
+sum_at_most _ _ few = absurd few
 
 abbrev pub NoneBefore : List ℕ → List ℕ → ℕ → Type 0
 NoneBefore ws xs to = (r : Run) → IsRunOf ws r → r.first < to → slice_index xs r.first ≡ r.height → ⊥
@@ -126,7 +93,7 @@ later_or_here ws standing xs new r i apart fresh run at high order before s othe
       let here : IsIn r i = (omega (arith, at), omega (arith, at)) in
       let there : IsIn s i = (omega (arith, same), omega (arith, same)) in
       order_on ws standing new r s fresh run other order
-      (order_nested ws standing r s i apart run other here there
+      (order_nested ws standing apart r s i run other here there
       (omega (arith, high, subst P (sym same) stands)))
 ]
 

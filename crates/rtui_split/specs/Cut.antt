@@ -1,10 +1,10 @@
 -- An area cut into parts, with spaces before, between and after them.
 use Rattle.std.specs.Prelude.{ℕ, ◌≡◌, ◌+◌, ◌*◌, ◌/◌, ◌<◌, ◌≤◌, ⊤, List, [], ◌∷◌}
 use Rattle.rtui_geometry.specs.{Rect.right_edge, Rect.bottom_edge, declared.rect.Rect.Rect}
-use Rattle.rtui_layout.specs.{declared.direction.Direction.Direction}
-use Rattle.rtui_layout.specs.{declared.direction.Direction.TheVariants.Vertical}
-use Rattle.rtui_layout.specs.{declared.direction.Direction.TheVariants.Horizontal}
-use Rattle.rtui_layout.specs.{declared.layout.Spacing.Spacing, declared.layout.Spacing.TheVariants.Space}
+use Rattle.rtui_layout.specs.declared.direction.{Direction.Direction, Direction.TheVariants.Vertical}
+use Rattle.rtui_layout.specs.declared.{direction.Direction.TheVariants.Horizontal, layout.Spacing.Spacing}
+use Rattle.rtui_layout.specs.declared.{layout.Spacing.TheVariants.Space}
+use Rattle.rtui_split.specs.Units.{cell_units}
 
 -- the first column or row of a rectangle, and the one after its last
 abbrev pub first_cell : Direction → Rect → ℕ
@@ -27,10 +27,10 @@ length_of Vertical r = r.height
 
 -- so many units are cut to so many cells: to the whole number below or above
 abbrev pub AtMostCells : ℕ → ℕ → Type 0
-AtMostCells units cells = cells * 5040000 < units + 5040000
+AtMostCells units cells = cells * cell_units < units + cell_units
 
 abbrev pub AtLeastCells : ℕ → ℕ → Type 0
-AtLeastCells units cells = units < cells * 5040000 + 5040000
+AtLeastCells units cells = units < cells * cell_units + cell_units
 
 -- from a up to b, each begins where the one before ends or after it
 abbrev pub InOrder : Direction → ℕ → ℕ → List Rect → Type 0
@@ -49,11 +49,11 @@ Alternate d a b (s ∷ ss) (p ∷ ps) = (first_cell d s ≡ a) × (after_of d s 
 -- cut to whole cells
 abbrev pub AreEdges : Direction → ℕ → ℕ → ℕ → ℕ → List ℕ → List Rect → Type 0
 AreEdges d start rounding middle at [] [] = ⊤
-AreEdges d start rounding middle at [] (p ∷ ps) = ⊥
-AreEdges d start rounding middle at (u ∷ us) [] = ⊥
-AreEdges d start rounding middle at (u ∷ us) (p ∷ ps) = (first_cell d p ≡ start + (at + rounding) / 5040000)
-    × (after_of d p ≡ start + (at + u + rounding) / 5040000)
+AreEdges d start rounding middle at (u ∷ us) (p ∷ ps)
+    = (first_cell d p ≡ start + (at + rounding) / cell_units)
+    × (after_of d p ≡ start + (at + u + rounding) / cell_units)
     × AreEdges d start rounding middle (at + u + middle) us ps
+AreEdges d start rounding middle at _ _ = ⊥
 
 -- the other two sides of a rectangle are those of the area
 abbrev pub SpansAcross : Direction → Rect → Rect → Type 0

@@ -1,12 +1,11 @@
 -- The spaces before, between and after parts, in whole columns or rows.
 use Rattle.std.specs.Prelude.{ℕ, ◌≡◌, ◌+◌, ◌-◌, ◌*◌, ◌≤◌, ⊤, List, [], ◌∷◌}
 use Rattle.rtui_geometry.specs.declared.rect.Rect.{Rect}
-use Rattle.rtui_layout.specs.declared.direction.Direction.{Direction}
-use Rattle.rtui_layout.specs.declared.flex.Flex.{Flex}
-use Rattle.rtui_layout.specs.declared.flex.Flex.TheVariants.{Legacy, Start, End, Center}
-use Rattle.rtui_layout.specs.declared.flex.Flex.TheVariants.{SpaceBetween, SpaceAround, SpaceEvenly}
+use Rattle.rtui_layout.specs.declared.flex.Flex.TheVariants.{Legacy, Start, End, Center, SpaceBetween}
+use Rattle.rtui_layout.specs.declared.flex.Flex.TheVariants.{SpaceAround, SpaceEvenly}
+use Rattle.rtui_layout.specs.{declared.direction.Direction.Direction, declared.flex.Flex.Flex}
 use Rattle.rtui_layout.specs.{declared.layout.Spacing.Spacing, declared.layout.Spacing.TheVariants.Space}
-use Rattle.rtui_layout.specs.Layout.{LayoutData}
+use Rattle.rtui_layout.specs.{Layout.LayoutData}
 use Rattle.rtui_split.specs.Cut.{first_cell, after_of, area_end, AtMostCells, AtLeastCells}
 use Rattle.rtui_split.specs.Split.{NoneTakes}
 

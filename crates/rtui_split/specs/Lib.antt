@@ -6,4 +6,5 @@ pub mod Ragged
 pub mod Spacers
 pub mod Spaces
 pub mod Split
+pub mod Units
 pub mod Wishes

@@ -2,9 +2,8 @@
 use Rattle.std.specs.Prelude.{◌≡◌, ◌+◌, List, length, All}
 use Rattle.rtui_geometry.specs.declared.rect.Rect.{Rect}
 use Rattle.rtui_layout.specs.Layout.{LayoutData}
-use Rattle.rtui_split.specs.declared.calls.Cut.{Cut}
-use Rattle.rtui_split.specs.{Cut.first_cell, Cut.area_end, Cut.Alternate, Cut.SpansAcross, Cut.IsSpace}
-use Rattle.rtui_split.specs.{Split.IsSplit}
+use Rattle.rtui_split.specs.Cut.{first_cell, area_end, Alternate, SpansAcross, IsSpace}
+use Rattle.rtui_split.specs.{declared.calls.Cut.Cut, Split.IsSplit}
 
 -- one space more than parts, across the area. Without overlap spaces and parts stand in turn, and nothing is
 -- left out

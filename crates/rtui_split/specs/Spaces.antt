@@ -1,9 +1,8 @@
 -- The spaces of a layout, in units.
-use Rattle.std.specs.Prelude.{ℕ, ◌≡◌, ◌<◌, ◌+◌, ◌-◌, ◌*◌, ◌≤◌}
-use Rattle.std.specs.Prelude.{nat_lt, if◌then◌else◌, ⊤}
+use Rattle.std.specs.Prelude.{ℕ, ◌≡◌, ◌<◌, ◌+◌, ◌-◌, ◌*◌, ◌≤◌, nat_lt, if◌then◌else◌, ⊤}
+use Rattle.rtui_layout.specs.declared.flex.Flex.TheVariants.{Legacy, Start, End, Center, SpaceBetween}
+use Rattle.rtui_layout.specs.declared.flex.Flex.TheVariants.{SpaceAround, SpaceEvenly}
 use Rattle.rtui_layout.specs.declared.flex.Flex.{Flex}
-use Rattle.rtui_layout.specs.declared.flex.Flex.TheVariants.{Legacy, Start, End, Center}
-use Rattle.rtui_layout.specs.declared.flex.Flex.TheVariants.{SpaceBetween, SpaceAround, SpaceEvenly}
 
 -- how many times the space between parts all spaces are at least, if there are so many parts
 abbrev pub least_spaces : Flex → ℕ → ℕ

@@ -1,28 +1,24 @@
 -- What a layout makes of an area.
-use Rattle.std.specs.Prelude.{ℕ, ◌≡◌, ◌+◌, ◌-◌, ◌*◌, ◌/◌, ◌<◌, ◌==◌, Bool, false, sum_by, ◌≤◌, max, min, List}
-use Rattle.std.specs.Prelude.{[], ◌∷◌}
-use Rattle.std.specs.Prelude.{sum, map, length, All, nat_le, if◌then◌else◌, ⊤, true, ◌++◌}
+use Rattle.std.specs.Prelude.{ℕ, ◌≡◌, ◌+◌, ◌-◌, ◌*◌, ◌<◌, ◌==◌, ◌≤◌, Bool, true, false, max, min, ⊤, List, []}
+use Rattle.std.specs.Prelude.{◌∷◌}
+use Rattle.std.specs.Prelude.{◌++◌, sum, sum_by, map, length, All, nat_le, if◌then◌else◌}
 use Rattle.std.specs.List.{AllZip}
 use Rattle.rtui_geometry.specs.{Rect.doubled, Rect.shrunk, declared.margin.Margin.Margin}
 use Rattle.rtui_geometry.specs.{declared.rect.Rect.Rect}
-use Rattle.rtui_layout.specs.{Layout.LayoutData, declared.layout.Spacing.Spacing}
+use Rattle.rtui_layout.specs.declared.constraint.Constraint.TheVariants.{Min, Max, Length, Percentage, Ratio}
+use Rattle.rtui_layout.specs.declared.constraint.Constraint.TheVariants.{Fill}
+use Rattle.rtui_layout.specs.{Layout.LayoutData, Layout.default_layout, declared.layout.Spacing.Spacing}
 use Rattle.rtui_layout.specs.{declared.layout.Spacing.TheVariants.Space}
 use Rattle.rtui_layout.specs.{declared.constraint.Constraint.Constraint}
 use Rattle.rtui_layout.specs.{declared.direction.Direction.Direction}
-use Rattle.rtui_layout.specs.declared.constraint.Constraint.TheVariants.{Min, Max, Length, Percentage, Ratio}
-use Rattle.rtui_layout.specs.declared.constraint.Constraint.TheVariants.{Fill}
-use Rattle.rtui_layout.specs.Layout.{default_layout}
+use Rattle.rtui_split.specs.Cut.{first_cell, area_end, length_of, IsPartAlong, InOrder, IsSpace, AreEdges}
+use Rattle.rtui_split.specs.Cut.{AtMostCells, AtLeastCells}
+use Rattle.rtui_split.specs.Wishes.{turn, wish, wish_in, wish_before, wished_before, weight_in, level_size}
+use Rattle.rtui_split.specs.Wishes.{IsStretchable, TakesNothing, TakesNothingIn}
+use Rattle.rtui_split.specs.{Units.cell_units, Units.unit_levels, Units.IsRounding, Spaces.least_spaces}
+use Rattle.rtui_split.specs.{Spaces.KeepsWishes, Spaces.IsFlexed, Ragged.Run, Ragged.IsAtMost}
+use Rattle.rtui_split.specs.{Ragged.IsLeastRagged}
 use Rattle.rtui_layout.specs.declared.flex.Flex.TheVariants as flex
-use Rattle.rtui_split.specs.{Cut.first_cell, Cut.area_end, Cut.length_of, Cut.IsPartAlong, Cut.InOrder}
-use Rattle.rtui_split.specs.{Cut.IsSpace}
-use Rattle.rtui_split.specs.{Cut.AtMostCells, Cut.AtLeastCells, Wishes.turn, Wishes.wish}
-use Rattle.rtui_split.specs.{Wishes.IsStretchable}
-use Rattle.rtui_split.specs.{Wishes.wished_before, Wishes.wish_in, Wishes.wish_before, Wishes.weight_in}
-use Rattle.rtui_split.specs.{Cut.AreEdges}
-use Rattle.rtui_split.specs.Wishes.{TakesNothing}
-use Rattle.rtui_split.specs.Wishes.{TakesNothingIn}
-use Rattle.rtui_split.specs.Spaces.{least_spaces, KeepsWishes, IsFlexed}
-use Rattle.rtui_split.specs.Ragged.{Run, IsAtMost, IsLeastRagged}
 
 -- no area, at the corner
 abbrev pub area_of_nothing : Rect
@@ -40,13 +36,20 @@ cells_of d area = area_end d area - first_cell d area
 
 -- the space between two parts, in units
 abbrev pub gap_units : Spacing → ℕ
-gap_units (Space n) = n * 5040000
+gap_units (Space n) = n * cell_units
 gap_units _ = 0
+
+-- what all spaces are at least, in units
+abbrev pub least_units : LayoutData → ℕ
+least_units l = least_spaces l.flex (length l.constraints) * gap_units l.spacing
 
 -- the wishes before a turn fit, with the spaces
 abbrev pub FitWishes : ℕ → LayoutData → ℕ → Type 0
-FitWishes t l cells = wished_before t cells l.constraints + least_spaces l.flex (length l.constraints)
-    * gap_units l.spacing ≤ cells * 5040000
+FitWishes t l cells = wished_before t cells l.constraints + least_units l ≤ cells * cell_units
+
+-- what they leave
+abbrev pub left_for : ℕ → LayoutData → ℕ → ℕ
+left_for t l cells = cells * cell_units - (wished_before t cells l.constraints + least_units l)
 
 -- so many columns or rows are what a part wishes: exactly, if it wishes a whole number, and else within one;
 -- for a `Min` at least
@@ -61,38 +64,31 @@ HasWish cells (Fill n) size = ⊤
 
 -- a part that takes nothing of what is left is not over its wish; a share of the area by less than one
 abbrev pub WithinWish : ℕ → Constraint → ℕ → Type 0
-WithinWish cells (Min n) size = ⊤
 WithinWish cells (Length n) size = size ≤ n
 WithinWish cells (Percentage n) size = size * 100 < cells * n + 100
 WithinWish cells (Ratio m n) size = size * max n 1 < cells * m + max n 1
 WithinWish cells (Max n) size = size ≤ n
-WithinWish cells (Fill n) size = ⊤
+WithinWish cells _ size = ⊤
 
--- the exact size of a part at a level of what is left, in units: what it wishes, or its share if that is
--- more; a level counts 1048576ths of a unit
+-- the exact size of a part at a level of what is left, in units
 abbrev pub size_at : ℕ → Bool → ℕ → Constraint → ℕ
-size_at cells even level (Min n) = max (n * 5040000) (level / 1048576)
-size_at cells even level (Length n) = n * 5040000
-size_at cells even level (Percentage n) = cells * n * 50400
-size_at cells even level (Ratio m n) = wish cells (Ratio m n)
-size_at cells even level (Max n) = n * 5040000
-size_at cells even level (Fill n) = (if even then max n 1 else n) * level / 1048576
+size_at cells even level c = level_size false even level (wish cells c) c
 
--- a part is cut from that size to the whole number of cells below or above
-pub record IsCutAt (cells : ℕ) (even : Bool) (level : ℕ) (d : Direction) (c : Constraint) (p : Rect)
-    : Type 0 where
-  pub at_most : AtMostCells (size_at cells even level c) (length_of d p)
-  pub at_least : AtLeastCells (size_at cells even level c) (length_of d p)
+-- an exact size, in units, and the part that it is cut to: the whole number of cells below or above
+pub record IsCutFrom (d : Direction) (units : ℕ) (p : Rect) : Type 0 where
+  pub at_most : AtMostCells units (length_of d p)
+  pub at_least : AtLeastCells units (length_of d p)
+
+-- a part is cut from its size at a level
+abbrev pub IsCutAt : ℕ → Bool → ℕ → Direction → Constraint → Rect → Type 0
+IsCutAt cells even level d c p = IsCutFrom d (size_at cells even level c) p
 
 -- some part takes what is left
 abbrev pub HasTaker : List Constraint → Type 0
 HasTaker [] = ⊥
 HasTaker (Min n ∷ cs) = ⊤
-HasTaker (Length n ∷ cs) = HasTaker cs
-HasTaker (Percentage n ∷ cs) = HasTaker cs
-HasTaker (Ratio m n ∷ cs) = HasTaker cs
-HasTaker (Max n ∷ cs) = HasTaker cs
 HasTaker (Fill n ∷ cs) = ⊤
+HasTaker (_ ∷ cs) = HasTaker cs
 
 -- what all parts weigh together
 abbrev pub total_weight : List Constraint → ℕ
@@ -101,27 +97,20 @@ total_weight cs = sum_by (weight_in false) cs
 -- the sizes at a level fit, with the spaces, and if some part takes what is left, there is no room for a unit
 -- more for each weight. Weights count as even if all are 0
 abbrev pub IsLevel : LayoutData → ℕ → Bool → ℕ → Type 0
-IsLevel l cells even level = (HasTaker l.constraints → cells * 5040000
-    < sum_by (size_at cells even (level + 1048576))
-    l.constraints + least_spaces l.flex (length l.constraints) * gap_units l.spacing)
+IsLevel l cells even level = (HasTaker l.constraints
+    → cells * cell_units < sum_by (size_at cells even (level + unit_levels)) l.constraints + least_units l)
     × (even ≡ (total_weight l.constraints == 0))
-    × (sum_by (size_at cells even level) l.constraints
-    + least_spaces l.flex (length l.constraints) * gap_units l.spacing ≤ cells * 5040000)
+    × (sum_by (size_at cells even level) l.constraints + least_units l ≤ cells * cell_units)
 
 -- the parts have their sizes at one such level
 abbrev pub SharesRest : LayoutData → ℕ → List Rect → Type 0
 SharesRest l cells parts = (even : Bool) × (level : ℕ)
     × AllZip (IsCutAt cells even level l.direction) l.constraints parts × IsLevel l cells even level
 
--- an exact size, in units, and the part that it is cut to: the whole number of cells below or above
-pub record IsCutFrom (d : Direction) (units : ℕ) (p : Rect) : Type 0 where
-  pub at_most : AtMostCells units (length_of d p)
-  pub at_least : AtLeastCells units (length_of d p)
-
 -- the parts are cut from exact sizes that leave nothing over but the least spaces
 abbrev pub LeavesNothing : LayoutData → ℕ → List Rect → Type 0
 LeavesNothing l cells parts = (units : List ℕ) × AllZip (IsCutFrom l.direction) units parts
-    × (cells * 5040000 ≤ sum units + least_spaces l.flex (length l.constraints) * gap_units l.spacing)
+    × (cells * cell_units ≤ sum units + least_units l)
 
 -- the part has its wish if its turn comes before this one
 abbrev pub IsGivenBefore : ℕ → ℕ → Direction → Constraint → Rect → Type 0
@@ -155,8 +144,7 @@ IsDeniedAt t cells c units = (units ≤ wish cells c) × (t ≤ turn c → units
 
 -- what a `Min` wishes, and nothing of any other part
 abbrev pub least_wish : ℕ → Constraint → ℕ
-least_wish cells (Min n) = n * 5040000
-least_wish cells _ = 0
+least_wish cells c = wish_in 0 cells c
 
 -- a `Min` has its wish, or so much at least
 abbrev pub HasLevel : ℕ → ℕ → Constraint → ℕ → Type 0
@@ -186,8 +174,7 @@ pub record AreExact (l : LayoutData) (cells : ℕ) (units : List ℕ) : Type 0 w
       → AllZip (IsDeniedAt t cells) l.constraints units
   pub levelled : sum units < wished_before 1 cells l.constraints → AreLevelled cells l.constraints units
   pub ragged : (t : ℕ) → 0 < t → t < 5 → FitWishes t l cells → (FitWishes (t + 1) l cells → ⊥)
-      → AreLeastRagged t cells (cells * 5040000 - (wished_before t cells l.constraints
-      + least_spaces l.flex (length l.constraints) * gap_units l.spacing)) l.constraints units
+      → AreLeastRagged t cells (left_for t l cells) l.constraints units
   pub rest : FitWishes 5 l cells → (even : Bool) × (level : ℕ)
       × (units ≡ map (size_at cells even level) l.constraints) × IsLevel l cells even level
 
@@ -197,10 +184,10 @@ pub record AreExact (l : LayoutData) (cells : ℕ) (units : List ℕ) : Type 0 w
 pub record IsLaidOut (l : LayoutData) (start cells : ℕ) (parts : List Rect) (units : List ℕ)
     (first middle last rounding : ℕ) : Type 0 where
   pub sizes : AreExact l cells units
-  pub whole : first + sum units + (length l.constraints - 1) * middle + last ≡ cells * 5040000
+  pub whole : first + sum units + (length l.constraints - 1) * middle + last ≡ cells * cell_units
   pub flexed : IsFlexed l.flex (NoneTakes l.constraints) (length l.constraints) (gap_units l.spacing)
       first middle last
-  pub half : (2520000 ≤ rounding) × (rounding ≤ 2557800)
+  pub half : IsRounding rounding
   pub edges : AreEdges l.direction start rounding middle first units parts
 
 abbrev pub HasExactPlaces : LayoutData → ℕ → ℕ → List Rect → Type 0
@@ -210,10 +197,9 @@ HasExactPlaces l start cells parts = (units : List ℕ) × (first : ℕ) × (mid
 -- parts of this turn take their wishes one after the other, as far as there is room
 abbrev pub TakeInOrder : ℕ → ℕ → ℕ → List Constraint → List ℕ → Type 0
 TakeInOrder t cells room [] [] = ⊤
-TakeInOrder t cells room [] (u ∷ us) = ⊥
-TakeInOrder t cells room (c ∷ cs) [] = ⊥
 TakeInOrder t cells room (c ∷ cs) (u ∷ us) = (turn c ≡ t → u ≡ min (wish cells c) room)
     × TakeInOrder t cells (room - wish_in t cells c) cs us
+TakeInOrder t cells room _ _ = ⊥
 
 -- no part is a `Fill`
 abbrev pub HaveNoFill : List Constraint → Type 0
@@ -225,17 +211,15 @@ StretchOne cells cs units left = (before : List Constraint) × (c : Constraint) 
     × (cs ≡ before ++ c ∷ after) × IsStretchable before c after
     × (units ≡ map (wish cells) before ++ (wish cells c + left) ∷ map (wish cells) after)
 
--- the exact size of a part at a level of what is left, if only `Fill`s take it
+-- the same, if only `Fill`s take what is left
 abbrev pub fill_size : ℕ → Bool → ℕ → Constraint → ℕ
-fill_size cells even level (Fill n) = (if even then max n 1 else n) * level / 1048576
-fill_size cells even level c = wish cells c
+fill_size cells even level c = level_size true even level (wish cells c) c
 
 -- `Fill`s share what is left, with no room for a unit more for each weight; these count as even if all are 0
 abbrev pub FillsShare : LayoutData → ℕ → List ℕ → Type 0
 FillsShare l cells units = (even : Bool) × (level : ℕ)
     × (units ≡ map (fill_size cells even level) l.constraints)
-    × (cells * 5040000 < sum_by (fill_size cells even (level + 1048576)) l.constraints
-    + least_spaces l.flex (length l.constraints) * gap_units l.spacing)
+    × (cells * cell_units < sum_by (fill_size cells even (level + unit_levels)) l.constraints + least_units l)
     × (even ≡ (sum_by (weight_in true) l.constraints == 0))
 
 -- exact sizes with `Flex::Legacy`, one after the other with the same space between two: where a turn comes
@@ -243,17 +227,15 @@ FillsShare l cells units = (even : Bool) × (level : ℕ)
 -- what is left, and if there are none, one part has it all
 pub record AreInOrder (l : LayoutData) (start cells : ℕ) (parts : List Rect) (units : List ℕ)
     (last rounding : ℕ) : Type 0 where
-  pub whole : sum units + least_spaces l.flex (length l.constraints) * gap_units l.spacing + last
-      ≡ cells * 5040000
+  pub whole : sum units + least_units l + last ≡ cells * cell_units
   pub first_come : (t : ℕ) → t < 5 → FitWishes t l cells → (FitWishes (t + 1) l cells → ⊥)
-      → TakeInOrder t cells (cells * 5040000 - (wished_before t cells l.constraints
-      + least_spaces l.flex (length l.constraints) * gap_units l.spacing)) l.constraints units
+      → TakeInOrder t cells (left_for t l cells) l.constraints units
   pub later : (t : ℕ) → t ≤ 5 → (FitWishes t l cells → ⊥)
       → AllZip (IsDeniedAt t cells) l.constraints units
   pub stretched : FitWishes 5 l cells → HaveNoFill l.constraints
       → (left : ℕ) × StretchOne cells l.constraints units left × (last ≡ 0)
   pub filled : FitWishes 5 l cells → (HaveNoFill l.constraints → ⊥) → FillsShare l cells units
-  pub half : (2520000 ≤ rounding) × (rounding ≤ 2557800)
+  pub half : IsRounding rounding
   pub edges : AreEdges l.direction start rounding (gap_units l.spacing) 0 units parts
 
 abbrev pub HasPlacesInOrder : LayoutData → ℕ → ℕ → List Rect → Type 0
@@ -279,8 +261,7 @@ pub record IsSplit (l : LayoutData) (area : Rect) (parts : List Rect) : Type 0 w
       → AllZip (IsWithinWish (cells_of l.direction area) l.direction) l.constraints parts
   pub given : IsSpace l.spacing → KeepsWishes l.flex (length l.constraints) → (t : ℕ) → t ≤ 5
       → FitWishes t l (cells_of l.direction area)
-      → AllZip (IsGivenBefore t (cells_of l.direction area) l.direction)
-      l.constraints parts
+      → AllZip (IsGivenBefore t (cells_of l.direction area) l.direction) l.constraints parts
   pub short : IsSpace l.spacing → KeepsWishes l.flex (length l.constraints) → (t : ℕ) → t ≤ 5
       → FitWishes 0 l (cells_of l.direction area) → (FitWishes t l (cells_of l.direction area) → ⊥)
       → LeavesNothing l (cells_of l.direction area) parts

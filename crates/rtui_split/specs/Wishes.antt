@@ -1,10 +1,10 @@
--- What each part of a layout wishes, and whose wishes come first. Exact sizes are counted in units, of which
--- 5040000 make one column or row.
-use Rattle.std.specs.Prelude.{ℕ, ◌*◌, ◌/◌, ◌-◌, ◌^◌, ◌<◌, ◌≤◌, min, max, Bool, List, All, sum_by}
-use Rattle.std.specs.Prelude.{nat_lt, if◌then◌else◌, ◌==◌, IsTrue, ⊤}
+-- What each part of a layout wishes, and whose wishes come first. Exact sizes are counted in units.
+use Rattle.std.specs.Prelude.{ℕ, ◌*◌, ◌/◌, ◌-◌, ◌^◌, ◌<◌, ◌≤◌, min, max, Bool, List, All, sum_by, nat_lt}
+use Rattle.std.specs.Prelude.{if◌then◌else◌, ◌==◌, IsTrue, ⊤, false}
+use Rattle.rtui_layout.specs.declared.constraint.Constraint.TheVariants.{Min, Max, Length, Percentage, Ratio}
+use Rattle.rtui_layout.specs.declared.constraint.Constraint.TheVariants.{Fill}
 use Rattle.rtui_layout.specs.declared.constraint.Constraint.{Constraint}
-use Rattle.rtui_layout.specs.declared.constraint.Constraint.TheVariants.{Min, Max, Length}
-use Rattle.rtui_layout.specs.declared.constraint.Constraint.TheVariants.{Percentage, Ratio, Fill}
+use Rattle.rtui_split.specs.Units.{cell_units, unit_levels}
 
 -- wishes are met in turns, from 0 on; a `Fill` only takes what is left
 abbrev pub turn : Constraint → ℕ
@@ -17,11 +17,11 @@ turn (Fill n) = 5
 
 -- what a part wishes in an area of so many columns or rows, in units (which are 64 bits)
 abbrev pub wish : ℕ → Constraint → ℕ
-wish cells (Min n) = n * 5040000
-wish cells (Length n) = n * 5040000
-wish cells (Percentage n) = cells * n * 50400
-wish cells (Ratio m n) = min (cells * m * 5040000 / max n 1) (2 ^ 64 - 1)
-wish cells (Max n) = n * 5040000
+wish cells (Min n) = n * cell_units
+wish cells (Length n) = n * cell_units
+wish cells (Percentage n) = cells * n * (cell_units / 100)
+wish cells (Ratio m n) = min (cells * m * cell_units / max n 1) (2 ^ 64 - 1)
+wish cells (Max n) = n * cell_units
 wish cells (Fill n) = 0
 
 -- how much a part takes of what is left, beside others; with `Flex::Legacy` a `Min` takes nothing
@@ -29,6 +29,12 @@ abbrev pub weight_in : Bool → Constraint → ℕ
 weight_in legacy (Min n) = if legacy then 0 else 1
 weight_in legacy (Fill n) = n
 weight_in legacy _ = 0
+
+-- the exact size of a part at a level of what is left: its wish, or its share if that is more
+abbrev pub level_size : Bool → Bool → ℕ → ℕ → Constraint → ℕ
+level_size legacy even level wanted (Min n) = if legacy then wanted else max wanted (level / unit_levels)
+level_size legacy even level wanted (Fill n) = (if even then max n 1 else n) * level / unit_levels
+level_size legacy even level wanted _ = wanted
 
 -- what a part wishes, if this is its turn, and if its turn comes before this one
 abbrev pub wish_in : ℕ → ℕ → Constraint → ℕ
@@ -55,14 +61,11 @@ pub record IsStretchable (before : List Constraint) (c : Constraint) (after : Li
   pub no_less : All (λ d. patience d ≤ patience c) before
   pub less : All (λ d. patience d < patience c) after
 
--- the part takes nothing of what is left
-abbrev pub TakesNothing : Constraint → Type 0
-TakesNothing (Fill n) = ⊥
-TakesNothing (Min n) = ⊥
-TakesNothing _ = ⊤
-
--- the same, if with `Flex::Legacy` a `Min` takes nothing either
+-- the part takes nothing of what is left; with `Flex::Legacy` a `Min` takes nothing either
 abbrev pub TakesNothingIn : Bool → Constraint → Type 0
 TakesNothingIn legacy (Fill n) = ⊥
 TakesNothingIn legacy (Min n) = IsTrue legacy
 TakesNothingIn legacy _ = ⊤
+
+abbrev pub TakesNothing : Constraint → Type 0
+TakesNothing c = TakesNothingIn false c

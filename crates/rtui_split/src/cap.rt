@@ -1,16 +1,17 @@
 //! The level up to which parts get what they wish, where there is too little room for all wishes.
 ghost use Rattle.std.specs.Prelude.{◌≡◌, ◌≤◌, ◌<◌, ◌+◌, IsTrue, IsFalse};
-ghost use Rattle.rtui_split.specs.Inner.Shares.{wanted_in, capped_in};
+ghost use Rattle.rtui_split.specs.Inner.Slots.{wanted_in, capped_in};
 
-use crate::part::{Part, turn_of};
+use crate::part::turn_of;
+use crate::slot::Slot;
 
 // Whether there is room for the parts of a turn, if each gets what it wishes, but at most so much.
-fn has_room(parts: &[Part], turn: usize, most: u64, room: u64) -> bool
-    ensures yes { IsTrue result → capped_in turn most parts.now ≤ room }
-    ensures no { IsFalse result → room < capped_in turn most parts.now }
+fn has_room(slots: &[Slot], turn: usize, most: u64, room: u64) -> bool
+    ensures yes { IsTrue result → capped_in turn most slots.now ≤ room }
+    ensures no { IsFalse result → room < capped_in turn most slots.now }
 {
     let mut left = room;
-    for part in parts {
+    for Slot { part, .. } in slots {
         if turn_of(part.constraint) == turn {
             let size = part.wanted.min(most);
             if size > left {
@@ -23,15 +24,15 @@ fn has_room(parts: &[Part], turn: usize, most: u64, room: u64) -> bool
 }
 
 // The highest level that has room, between one that has and one that hasn't.
-fn level_below(parts: &[Part], turn: usize, room: u64, to: u64) -> u64
-    requires { room < capped_in turn to parts.now }
-    ensures fits { capped_in turn result parts.now ≤ room }
-    ensures most { room < capped_in turn (result + 1) parts.now }
+fn level_below(slots: &[Slot], turn: usize, room: u64, to: u64) -> u64
+    requires { room < capped_in turn to slots.now }
+    ensures fits { capped_in turn result slots.now ≤ room }
+    ensures most { room < capped_in turn (result + 1) slots.now }
 {
     let (mut low, mut high) = (0, to);
     'halves: while high.saturating_sub(low) > 1 {
         let middle = low + (high - low) / 2;
-        if has_room(parts, turn, middle, room) {
+        if has_room(slots, turn, middle, room) {
             low = middle;
         } else {
             high = middle;
@@ -42,13 +43,13 @@ fn level_below(parts: &[Part], turn: usize, room: u64, to: u64) -> u64
 
 /// Returns the highest level that has room, if each part of a turn gets what it wishes, but at most
 /// so much.
-pub(crate) fn highest_level(parts: &[Part], turn: usize, room: u64) -> u64
-    requires { room < wanted_in turn parts.now }
-    ensures fits { capped_in turn result parts.now ≤ room }
-    ensures most { room < capped_in turn (result + 1) parts.now }
+pub(crate) fn highest_level(slots: &[Slot], turn: usize, room: u64) -> u64
+    requires { room < wanted_in turn slots.now }
+    ensures fits { capped_in turn result slots.now ≤ room }
+    ensures most { room < capped_in turn (result + 1) slots.now }
 {
-    if has_room(parts, turn, room, room) {
+    if has_room(slots, turn, room, room) {
         return room;
     }
-    level_below(parts, turn, room, room)
+    level_below(slots, turn, room, room)
 }

@@ -1,9 +1,7 @@
 //! Parts that lie over one another, where some would begin before the area or end after it.
-ghost use Rattle.std.specs.Prelude.{◌≡◌, length};
 
-use crate::draft::Draft;
-use crate::part::Part;
 use crate::share::{share, stretch};
+use crate::slot::Slot;
 use rtui_layout::Flex;
 
 /// What the first space takes, and what all spaces between parts take.
@@ -39,11 +37,11 @@ struct Fault {
 }
 
 // The place where the sizes miss the area by most.
-fn worst_fault(sizes: &[u64], range: Range, lead: u64, over: u64, whole: u64) -> Option<Fault> {
+fn worst_fault(slots: &[Slot], range: Range, lead: u64, over: u64, whole: u64) -> Option<Fault> {
     let mut fault = None;
     let mut worst: u64 = 0;
     let mut sum = range.base.saturating_add(lead);
-    for (i, size) in sizes.iter().enumerate() {
+    for (i, slot) in slots.iter().enumerate() {
         if i > 0 {
             let at = range.low.saturating_add(i);
             let least = (at as u64).saturating_mul(over);
@@ -57,17 +55,17 @@ fn worst_fault(sizes: &[u64], range: Range, lead: u64, over: u64, whole: u64) ->
                 fault = Some(Fault { at, sum: most });
             }
         }
-        sum = sum.saturating_add(*size);
+        sum = sum.saturating_add(slot.size);
     }
     fault
 }
 
 // The parts from one on that are shared together with it.
-fn range_from(drafts: &[Draft], low: usize, end: u64) -> Range {
-    let base = drafts.get(low).and_then(|draft| draft.base).unwrap_or(0);
-    for (i, draft) in drafts.iter().enumerate() {
+fn range_from(slots: &[Slot], low: usize, end: u64) -> Range {
+    let base = slots.get(low).and_then(|slot| slot.base).unwrap_or(0);
+    for (i, slot) in slots.iter().enumerate() {
         if i > low {
-            if let Some(next) = draft.base {
+            if let Some(next) = slot.base {
                 return Range {
                     low,
                     high: i,
@@ -79,7 +77,7 @@ fn range_from(drafts: &[Draft], low: usize, end: u64) -> Range {
     }
     Range {
         low,
-        high: drafts.len(),
+        high: slots.len(),
         base,
         sum: end.saturating_sub(base),
     }
@@ -87,33 +85,15 @@ fn range_from(drafts: &[Draft], low: usize, end: u64) -> Range {
 
 // Shares the parts of a range, and says what its spaces take; a fault if it doesn't keep to the
 // area.
-fn share_range(
-    parts: &[Part],
-    case: Overlapped,
-    range: Range,
-    drafts: &mut [Draft],
-    sizes: &mut [u64],
-) -> (Gaps, Option<Fault>) {
+fn share_range(slots: &mut [Slot], case: Overlapped, range: Range) -> (Gaps, Option<Fault>) {
     let mut gaps = Gaps { lead: 0, middle: 0 };
-    let count = parts.len();
+    let count = slots.len();
     let inner = (count as u64).saturating_sub(1);
     let (low, high) = (range.low, range.high);
-    let Some(parts) = parts.get(low..high) else {
+    let Some(slots) = slots.get_mut(low..high) else {
         return (gaps, None);
     };
-    let Some(drafts) = drafts.get_mut(low..high) else {
-        return (gaps, None);
-    };
-    let Some(sizes) = sizes.get_mut(low..high) else {
-        return (gaps, None);
-    };
-    let left = share(
-        parts,
-        matches!(case.flex, Flex::Legacy),
-        range.sum,
-        drafts,
-        sizes,
-    );
+    let left = share(slots, matches!(case.flex, Flex::Legacy), range.sum);
     let front = low == 0 && matches!(case.flex, Flex::End | Flex::Center);
     let back = high == count && matches!(case.flex, Flex::Start | Flex::Center);
     let between = low == 0 && high == count && matches!(case.flex, Flex::SpaceBetween);
@@ -124,40 +104,29 @@ fn share_range(
         gaps.middle = left;
         over = over.saturating_sub(left / inner.max(1));
     } else if !back {
-        stretch(parts, left, sizes);
+        stretch(slots, left);
     }
-    (gaps, worst_fault(sizes, range, gaps.lead, over, case.whole))
+    (gaps, worst_fault(slots, range, gaps.lead, over, case.whole))
 }
 
 /// Gives parts that overlap their sizes.
-pub(crate) fn share_overlapped(
-    parts: &[Part],
-    case: Overlapped,
-    drafts: &mut [Draft],
-    sizes: &mut [u64],
-) -> Gaps
-    requires sizes { length sizes.old ≡ length parts.now }
-    requires drafts { length drafts.old ≡ length parts.now }
-{
-    let count = parts.len();
+pub(crate) fn share_overlapped(slots: &mut [Slot], case: Overlapped) -> Gaps {
+    let count = slots.len();
     let inner = (count as u64).saturating_sub(1);
     let end = case
         .whole
         .saturating_add(case.overlap.saturating_mul(inner));
-    for draft in drafts.iter_mut() {
-        draft.base = None;
-    }
     let mut gaps = Gaps { lead: 0, middle: 0 };
     let mut low: usize = 0;
     for _ in 0..count.saturating_mul(2) {
         if low >= count {
             break;
         }
-        let range = range_from(drafts, low, end);
-        let (found, fault) = share_range(parts, case, range, drafts, sizes);
+        let range = range_from(slots, low, end);
+        let (found, fault) = share_range(slots, case, range);
         if let Some(fault) = fault {
-            if let Some(draft) = drafts.get_mut(fault.at) {
-                draft.base = Some(fault.sum);
+            if let Some(slot) = slots.get_mut(fault.at) {
+                slot.base = Some(fault.sum);
             }
         } else {
             gaps.lead = gaps.lead.max(found.lead);

@@ -1,16 +1,14 @@
 //! Where the room goes that no part takes.
-ghost use Rattle.std.specs.Prelude.{◌≡◌, ◌≤◌, ◌+◌, ◌*◌, ◌-◌, ◌^◌, ◌<◌, ℕ, true, false, [], ◌∷◌, length};
-ghost use Rattle.rtui_split.specs.Spaces.{KeepsWishes, IsPacked};
-ghost use Rattle.rtui_split.specs.Inner.Spaces.{IsArranged, IsLegacy, IsSpread};
-ghost use Rattle.rtui_split.specs.Spaces.{least_spaces};
-ghost use Rattle.rtui_split.specs.Inner.Spaces.{lead, first_share, middle_share, GivesWishes};
+ghost use Rattle.std.specs.Prelude.{◌≡◌, ◌≤◌, ◌+◌, ◌*◌, ◌^◌, ◌<◌, ℕ, true, false, [], ◌∷◌, length};
 ghost use Rattle.rtui_layout.specs.declared.flex.Flex.TheVariants.{Legacy, SpaceBetween};
-ghost use Rattle.rtui_split.specs.Inner.Shares.{wanted_before};
+ghost use Rattle.rtui_split.specs.Spaces.{KeepsWishes, IsPacked, least_spaces};
+ghost use Rattle.rtui_split.specs.Inner.Slots.{slot_parts, sizes_of, wanted_before};
+ghost use Rattle.rtui_split.specs.Inner.Spaces.{IsArranged, IsLegacy, IsSpread, GivesWishes};
+ghost use Rattle.rtui_split.specs.Inner.Spaces.{lead, first_share, middle_share};
 
-use crate::draft::Draft;
 use crate::edge::{Overlapped, share_overlapped};
-use crate::part::{Part, left_before};
 use crate::share::{rest_of, share, stretch};
+use crate::slot::{Slot, left_before};
 use rtui_layout::Flex;
 
 /// The space before the first part, and the one between two parts, in units. The last one has the
@@ -50,21 +48,20 @@ fn lead_of(flex: Flex, left: u64) -> u64
 }
 
 // Parts with equal spaces between them, and what is left at the ends.
-fn arrange_packed(parts: &[Part], room: Room, drafts: &mut [Draft], sizes: &mut [u64]) -> Spaces
-    requires sizes { length sizes.old ≡ length parts.now }
-    requires drafts { length drafts.old ≡ length parts.now }
-    requires flex { IsPacked room.flex }
-    ensures given { GivesWishes parts.now room sizes.new result }
-    ensures arranged { KeepsWishes room.flex (length parts.now)
-        → IsArranged parts.now room sizes.new result }
-    ensures legacy { room.flex ≡ Legacy → IsLegacy parts.now room sizes.new result }
+fn arrange_packed(slots: &mut [Slot], room: Room) -> Spaces
+    requires { IsPacked room.flex }
+    ensures parts { slot_parts slots.new ≡ slot_parts slots.old }
+    ensures given { GivesWishes slots.new room result }
+    ensures arranged { KeepsWishes room.flex (length slots.new)
+        → IsArranged slots.new room result }
+    ensures legacy { room.flex ≡ Legacy → IsLegacy slots.new room result }
 {
-    let inner = (parts.len() as u64).saturating_sub(1);
+    let inner = (slots.len() as u64).saturating_sub(1);
     let legacy = is_legacy(room.flex);
     let for_parts = room.whole.saturating_sub(room.gap.saturating_mul(inner));
-    let left = share(parts, legacy, for_parts, drafts, sizes);
+    let left = share(slots, legacy, for_parts);
     if legacy {
-        stretch(parts, left, sizes);
+        stretch(slots, left);
         return Spaces {
             first: 0,
             middle: room.gap,
@@ -78,12 +75,12 @@ fn arrange_packed(parts: &[Part], room: Room, drafts: &mut [Draft], sizes: &mut 
 
 // The room for the parts if the spaces take so much first, and so much more right after the wishes
 // of the `Min`s.
-fn room_after_mins(parts: &[Part], room: u64, more: u64) -> u64
+fn room_after_mins(slots: &[Slot], room: u64, more: u64) -> u64
     ensures most { result ≤ room }
     ensures least { room ≤ result + more }
-    ensures spared { wanted_before 1 parts.now < result → result + more ≤ room }
+    ensures spared { wanted_before 1 slots.now < result → result + more ≤ room }
 {
-    match left_before(parts, 1, room) {
+    match left_before(slots, 1, room) {
         Some(left) => room - more.min(left),
         None => room,
     }
@@ -133,29 +130,29 @@ fn least_of(flex: Flex, count: u64) -> (u64, u64)
 }
 
 // Parts with spaces that share what is left.
-fn arrange_spread(parts: &[Part], room: Room, drafts: &mut [Draft], sizes: &mut [u64]) -> Spaces
-    requires sizes { length sizes.old ≡ length parts.now }
-    requires drafts { length drafts.old ≡ length parts.now }
-    requires flex { IsSpread room.flex }
-    ensures given { GivesWishes parts.now room sizes.new result }
-    ensures arranged { KeepsWishes room.flex (length parts.now)
-        → IsArranged parts.now room sizes.new result }
+fn arrange_spread(slots: &mut [Slot], room: Room) -> Spaces
+    requires { IsSpread room.flex }
+    ensures parts { slot_parts slots.new ≡ slot_parts slots.old }
+    ensures given { GivesWishes slots.new room result }
+    ensures arranged { KeepsWishes room.flex (length slots.new)
+        → IsArranged slots.new room result }
 {
-    let count = parts.len() as u64;
+    let count = slots.len() as u64;
     let (first, after) = least_of(room.flex, count);
     let least = room.gap.saturating_mul(first).min(room.whole);
-    let for_parts = room_after_mins(parts, room.whole - least, room.gap.saturating_mul(after));
-    share(parts, false, for_parts, drafts, sizes);
-    spaces_of(rest_of(room.whole, sizes), room.flex, count)
+    let for_parts = room_after_mins(slots, room.whole - least, room.gap.saturating_mul(after));
+    share(slots, false, for_parts);
+    spaces_of(rest_of(room.whole, slots), room.flex, count)
 }
 
 // A part alone, if there is one, takes the room.
-fn give_all(room: Room, sizes: &mut [u64]) -> Spaces
+fn give_all(slots: &mut [Slot], room: Room) -> Spaces
+    ensures parts { slot_parts slots.new ≡ slot_parts slots.old }
     ensures spaces { (result.first ≡ 0) × (result.middle ≡ 0) }
-    ensures one { length sizes.old ≡ 1 → sizes.new ≡ room.whole ∷ [] }
+    ensures one { length slots.old ≡ 1 → sizes_of slots.new ≡ room.whole ∷ [] }
 {
-    if !sizes.is_empty() {
-        sizes[0] = room.whole;
+    if !slots.is_empty() {
+        slots[0].size = room.whole;
     }
     Spaces {
         first: 0,
@@ -164,35 +161,32 @@ fn give_all(room: Room, sizes: &mut [u64]) -> Spaces
 }
 
 /// Gives the parts their sizes, and answers what the spaces have.
-pub(crate) fn arrange(parts: &[Part], room: Room, drafts: &mut [Draft], sizes: &mut [u64]) -> Spaces
-    requires sizes { length sizes.old ≡ length parts.now }
-    requires drafts { length drafts.old ≡ length parts.now }
-    ensures given { room.overlap ≡ 0 → GivesWishes parts.now room sizes.new result }
-    ensures alone { room.overlap ≡ 0 → room.flex ≡ SpaceBetween → length parts.now ≡ 1
-        → (sizes.new ≡ room.whole ∷ []) × (result.first ≡ 0) × (result.middle ≡ 0) }
-    ensures arranged { room.overlap ≡ 0 → KeepsWishes room.flex (length parts.now)
-        → IsArranged parts.now room sizes.new result }
+pub(crate) fn arrange(slots: &mut [Slot], room: Room) -> Spaces
+    ensures parts { room.overlap ≡ 0 → slot_parts slots.new ≡ slot_parts slots.old }
+    ensures given { room.overlap ≡ 0 → GivesWishes slots.new room result }
+    ensures alone { room.overlap ≡ 0 → room.flex ≡ SpaceBetween → length slots.new ≡ 1
+        → (sizes_of slots.new ≡ room.whole ∷ []) × (result.first ≡ 0) × (result.middle ≡ 0) }
+    ensures arranged { room.overlap ≡ 0 → KeepsWishes room.flex (length slots.new)
+        → IsArranged slots.new room result }
     ensures legacy { room.overlap ≡ 0 → room.flex ≡ Legacy
-        → IsLegacy parts.now room sizes.new result }
+        → IsLegacy slots.new room result }
 {
-    let inner = (parts.len() as u64).saturating_sub(1);
+    let inner = (slots.len() as u64).saturating_sub(1);
     if room.overlap > 0 && inner > 0 {
         let case = Overlapped {
             overlap: room.overlap,
             whole: room.whole,
             flex: room.flex,
         };
-        let gaps = share_overlapped(parts, case, drafts, sizes);
+        let gaps = share_overlapped(slots, case);
         return Spaces {
             first: gaps.lead,
             middle: gaps.middle / inner,
         };
     }
     match room.flex {
-        Flex::Legacy | Flex::Start | Flex::End | Flex::Center => {
-            arrange_packed(parts, room, drafts, sizes)
-        }
-        Flex::SpaceBetween if inner == 0 => give_all(room, sizes),
-        _ => arrange_spread(parts, room, drafts, sizes),
+        Flex::Legacy | Flex::Start | Flex::End | Flex::Center => arrange_packed(slots, room),
+        Flex::SpaceBetween if inner == 0 => give_all(slots, room),
+        _ => arrange_spread(slots, room),
     }
 }

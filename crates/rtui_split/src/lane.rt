@@ -4,13 +4,15 @@ ghost use Rattle.rtui_split.specs.Cut.{first_cell, area_end, IsSpace};
 ghost use Rattle.rtui_split.specs.Split.{inner, gap_units, centered_layout, IsSplit};
 ghost use Rattle.rtui_split.specs.Inner.Lanes.{IsLane, IsRule};
 ghost use Rattle.rtui_layout.specs.Layout.{LayoutData};
+ghost use Rattle.rtui_layout.specs.declared.{constraint.Constraint.Constraint};
+ghost use Rattle.rtui_layout.specs.declared.{direction.Direction.Direction};
 ghost use Rattle.rtui_split.specs.Spacers.{AreSpacers};
 ghost use Rattle.rtui_geometry.specs.declared.rect.Rect.{Rect};
 
-use crate::draft::Draft;
 use crate::flex::{Room, arrange};
-use crate::part::{Part, UNIT, write_parts};
+use crate::part::CELL_UNITS;
 use crate::place::{Lane, place, place_spaces};
+use crate::slot::{Slot, write_slots};
 use rtui_geometry::{Margin, Rect};
 use rtui_layout::{Constraint, Direction, Flex, Layout, Spacing};
 use std::alloc::{AllocError, Global};
@@ -20,7 +22,7 @@ fn gap_of(spacing: &Spacing) -> u64
     ensures { result ≡ gap_units spacing.now }
 {
     match spacing {
-        Spacing::Space(n) => u64::from(*n) * UNIT,
+        Spacing::Space(n) => u64::from(*n) * CELL_UNITS,
         Spacing::Overlap(_) => 0,
     }
 }
@@ -32,7 +34,7 @@ fn overlap_of(spacing: &Spacing, flex: Flex, most: u64) -> u64
     match (spacing, flex) {
         (Spacing::Space(_), _) => 0,
         (Spacing::Overlap(_), Flex::SpaceAround | Flex::SpaceEvenly) => 0,
-        (Spacing::Overlap(n), _) => (u64::from(*n) * UNIT).min(most),
+        (Spacing::Overlap(n), _) => (u64::from(*n) * CELL_UNITS).min(most),
     }
 }
 
@@ -90,7 +92,7 @@ fn rule_of(layout: &Layout, lane: Lane) -> Rule
 {
     let flex = layout.flex_of();
     let spacing = layout.spacing_of();
-    let most = u64::from(lane.end - lane.start) * UNIT;
+    let most = u64::from(lane.end - lane.start) * CELL_UNITS;
     Rule {
         flex,
         gap: gap_of(spacing),
@@ -98,19 +100,15 @@ fn rule_of(layout: &Layout, lane: Lane) -> Rule
     }
 }
 
-// Writes the parts of these constraints, with room for notes on each.
+// Writes the parts of these constraints, with a slot for each.
 fn cut_by(
     constraints: &[Constraint],
     rule: Rule,
     lane: Lane,
-    parts: &mut [Part],
-    drafts: &mut [Draft],
-    sizes: &mut [u64],
+    slots: &mut [Slot],
     segments: &mut [Rect],
 )
-    requires parts { length parts.old ≡ length constraints.now }
-    requires drafts { length drafts.old ≡ length constraints.now }
-    requires sizes { length sizes.old ≡ length constraints.now }
+    requires slots { length slots.old ≡ length constraints.now }
     requires segments { length segments.old ≡ length constraints.now }
     ensures { (l : LayoutData) → IsLane l lane.area lane → IsRule l constraints.now rule
         → IsSplit l lane.area segments.new }
@@ -118,42 +116,36 @@ fn cut_by(
     let cells = lane.end - lane.start;
     let Rule { flex, gap, overlap } = rule;
     let room = Room {
-        whole: u64::from(cells) * UNIT,
+        whole: u64::from(cells) * CELL_UNITS,
         flex,
         gap,
         overlap,
     };
-    write_parts(constraints, cells, parts);
-    let spaces = arrange(parts, room, drafts, sizes);
-    place(sizes, spaces, overlap, lane, segments);
+    write_slots(constraints, cells, slots);
+    let spaces = arrange(slots, room);
+    place(slots, spaces, overlap, lane, segments);
 }
 
 // Writes the parts of a layout.
-fn cut_lane(
-    layout: &Layout,
-    lane: Lane,
-    parts: &mut [Part],
-    drafts: &mut [Draft],
-    sizes: &mut [u64],
-    segments: &mut [Rect],
-)
+fn cut_lane(layout: &Layout, lane: Lane, slots: &mut [Slot], segments: &mut [Rect])
     requires lane { IsLane layout.now lane.area lane }
-    requires parts { length parts.old ≡ length layout.now.constraints }
-    requires drafts { length drafts.old ≡ length layout.now.constraints }
-    requires sizes { length sizes.old ≡ length layout.now.constraints }
+    requires slots { length slots.old ≡ length layout.now.constraints }
     requires segments { length segments.old ≡ length layout.now.constraints }
     ensures { IsSplit layout.now lane.area segments.new }
 {
     let rule = rule_of(layout, lane);
-    cut_by(
-        layout.constraints_of(),
-        rule,
-        lane,
-        parts,
-        drafts,
-        sizes,
-        segments,
-    );
+    cut_by(layout.constraints_of(), rule, lane, slots, segments);
+}
+
+// The rule of a part alone in the middle.
+fn middle_rule() -> Rule
+    ensures { (d : Direction) (c : Constraint) → IsRule (centered_layout d c) (c ∷ []) result }
+{
+    Rule {
+        flex: Flex::Center,
+        gap: 0,
+        overlap: 0,
+    }
 }
 
 /// Returns the part of one constraint in the middle of an area; takes no memory.
@@ -167,22 +159,13 @@ pub(crate) fn cut_centered(constraint: Constraint, direction: Direction, area: R
         start,
         end,
     };
-    let rule = Rule {
-        flex: Flex::Center,
-        gap: 0,
-        overlap: 0,
-    };
-    let mut parts = [Part::NONE];
-    let mut drafts = [Draft::NONE];
-    let mut sizes = [0u64];
+    let mut slots = [Slot::NONE];
     let mut segments = [Rect::ZERO];
     cut_by(
         &[constraint],
-        rule,
+        middle_rule(),
         lane,
-        &mut parts,
-        &mut drafts,
-        &mut sizes,
+        &mut slots,
         &mut segments,
     );
     segments[0]
@@ -198,18 +181,9 @@ pub(crate) fn cut_list(alloc: Global, layout: &Layout, lane: Lane) -> Result<Vec
     ensures { IfOk result (λ parts. IsSplit layout.now lane.area parts.items) }
 {
     let count = layout.constraints_of().len();
-    let mut parts = vec![in alloc; Part::NONE; count]?;
-    let mut drafts = vec![in alloc; Draft::NONE; count]?;
-    let mut sizes = vec![in alloc; 0u64; count]?;
+    let mut slots = vec![in alloc; Slot::NONE; count]?;
     let mut segments = vec![in alloc; Rect::ZERO; count]?;
-    cut_lane(
-        layout,
-        lane,
-        &mut parts,
-        &mut drafts,
-        &mut sizes,
-        &mut segments,
-    );
+    cut_lane(layout, lane, &mut slots, &mut segments);
     Ok(segments)
 }
 
@@ -220,18 +194,9 @@ pub(crate) fn cut_array<const N: usize>(layout: &Layout, lane: Lane) -> [Rect; N
     requires small { N < 2 ^ 32 }
     ensures { IsSplit layout.now lane.area result }
 {
-    let mut parts = [Part::NONE; N];
-    let mut drafts = [Draft::NONE; N];
-    let mut sizes = [0u64; N];
+    let mut slots = [Slot::NONE; N];
     let mut segments = [Rect::ZERO; N];
-    cut_lane(
-        layout,
-        lane,
-        &mut parts,
-        &mut drafts,
-        &mut sizes,
-        &mut segments,
-    );
+    cut_lane(layout, lane, &mut slots, &mut segments);
     segments
 }
 
@@ -275,15 +240,12 @@ pub(crate) fn spaces_array<const N: usize>(layout: &Layout, lane: Lane) -> [Rect
     ensures { (parts : List Rect) × IsSplit layout.now lane.area parts
         × AreSpacers layout.now lane.area result parts }
 {
-    let mut parts = [Part::NONE; N];
-    let mut drafts = [Draft::NONE; N];
-    let mut sizes = [0u64; N];
+    let mut slots = [Slot::NONE; N];
     let mut segments = [Rect::ZERO; N];
     let mut spaces = [Rect::ZERO; N];
     let count = N - 1;
-    let (parts, drafts) = (&mut parts[..count], &mut drafts[..count]);
-    let (sizes, segments) = (&mut sizes[..count], &mut segments[..count]);
-    cut_lane(layout, lane, parts, drafts, sizes, segments);
+    let (slots, segments) = (&mut slots[..count], &mut segments[..count]);
+    cut_lane(layout, lane, slots, segments);
     cut_spaces(layout, lane, segments, &mut spaces);
     spaces
 }

@@ -3,7 +3,6 @@
 
 mod calls;
 mod cap;
-mod draft;
 mod edge;
 mod flex;
 mod lane;
@@ -12,6 +11,7 @@ mod level;
 mod part;
 mod place;
 mod share;
+mod slot;
 mod smooth;
 
 pub use calls::{CountError, Cut, Split, SplitArea, SplitAreaInto, SplitInto};

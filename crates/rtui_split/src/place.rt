@@ -1,14 +1,16 @@
 //! Cuts an area at the edges of the parts.
 ghost use Rattle.std.specs.Prelude.{◌≡◌, ◌<◌, ◌≤◌, ◌+◌, ◌*◌, ◌-◌, ◌/◌, ℕ, length, min, max};
-ghost use Rattle.std.specs.Prelude.{All, sum_by};
+ghost use Rattle.std.specs.Prelude.{All};
 ghost use Rattle.std.specs.List.{AllZip};
-ghost use Rattle.rtui_split.specs.Cut.{first_cell, after_of, length_of, Alternate, InOrder, SpansAcross};
-ghost use Rattle.rtui_split.specs.Cut.{IsPartAlong};
+ghost use Rattle.rtui_split.specs.Cut.{first_cell, after_of, length_of, InOrder, Alternate};
+ghost use Rattle.rtui_split.specs.Cut.{SpansAcross, IsPartAlong};
 ghost use Rattle.rtui_split.specs.Cut.{AtMostCells, AtLeastCells, AreEdges};
-ghost use Rattle.rtui_split.specs.Inner.Spaces.{HasRoomForSpaces, IsCutTo};
+ghost use Rattle.rtui_split.specs.Units.{cell_units, IsRounding};
+ghost use Rattle.rtui_split.specs.Inner.{Slots.sizes_of, Spaces.HasRoomForSpaces, Spaces.IsCutTo};
 
 use crate::flex::Spaces;
-use crate::part::UNIT;
+use crate::part::CELL_UNITS;
+use crate::slot::Slot;
 use rtui_geometry::Rect;
 use rtui_layout::Direction;
 
@@ -26,21 +28,20 @@ pub(crate) struct Lane {
 // What is added to a place before it is cut to whole cells: a half, and a bit more, since places
 // count to hundredths, half up, and each may have lost a unit for each part before it.
 fn rounding_of(count: usize) -> u64
-    ensures half { 2520000 ≤ result }
-    ensures most { result ≤ 2557800 }
+    ensures { IsRounding result }
 {
-    let lost = (count as u64).saturating_mul(2).min(UNIT / 400);
-    UNIT / 2 + UNIT / 200 + lost
+    let lost = (count as u64).saturating_mul(2).min(CELL_UNITS / 400);
+    CELL_UNITS / 2 + CELL_UNITS / 200 + lost
 }
 
 // The column or row of a place.
 fn cell_of(place: u64, rounding: u64, lane: Lane) -> u16
-    requires place { place ≤ (lane.end - lane.start) * 5040000 }
-    requires rounding { rounding < 5040000 }
-    ensures value { result ≡ lane.start + (place + rounding) / 5040000 }
+    requires place { place ≤ (lane.end - lane.start) * cell_units }
+    requires rounding { rounding < cell_units }
+    ensures value { result ≡ lane.start + (place + rounding) / cell_units }
     ensures to { result ≤ lane.end }
 {
-    lane.start + ((place + rounding) / UNIT) as u16
+    lane.start + ((place + rounding) / CELL_UNITS) as u16
 }
 
 // From one column or row up to another, across the area.
@@ -69,29 +70,58 @@ fn across(lane: Lane, from: u16, to: u16) -> Rect
     }
 }
 
+// Where a part begins, and where it ends, in units.
+#[derive(Debug, Clone, Copy, Drop)]
+struct Stretch {
+    begin: u64,
+    finish: u64,
+}
+
+// A part of so much from a place on, as far as there is room.
+fn stretch_from(at: u64, size: u64, whole: u64) -> Stretch
+    ensures begin { result.begin ≡ min at whole }
+    ensures finish { result.finish ≡ min (result.begin + size) whole }
+{
+    let begin = at.min(whole);
+    Stretch {
+        begin,
+        finish: begin.saturating_add(size).min(whole),
+    }
+}
+
+// Where the part after this one begins.
+fn place_after(part: Stretch, spaces: Spaces, overlap: u64) -> u64
+    ensures { overlap ≡ 0 → result ≡ min (part.finish + spaces.middle) u64.MAX }
+{
+    part.finish
+        .saturating_add(spaces.middle)
+        .saturating_sub(overlap)
+}
+
 /// Writes the parts of these sizes.
-pub(crate) fn place(sizes: &[u64], spaces: Spaces, overlap: u64, lane: Lane, parts: &mut [Rect])
-    requires { length parts.old ≡ length sizes.now }
+pub(crate) fn place(slots: &[Slot], spaces: Spaces, overlap: u64, lane: Lane, parts: &mut [Rect])
+    requires { length parts.old ≡ length slots.now }
     ensures inside { All (IsPartAlong lane.direction lane.area lane.start lane.end) parts.new }
     ensures in_order { overlap ≡ 0 → InOrder lane.direction lane.start lane.end parts.new }
-    ensures at_most { AllZip (IsCutTo AtMostCells lane.direction) sizes.now parts.new }
-    ensures at_least { overlap ≡ 0 → HasRoomForSpaces spaces (lane.end - lane.start) sizes.now
-        → AllZip (IsCutTo AtLeastCells lane.direction) sizes.now parts.new }
-    ensures edges { overlap ≡ 0 → HasRoomForSpaces spaces (lane.end - lane.start) sizes.now
-        → (rounding : ℕ) × (2520000 ≤ rounding) × (rounding ≤ 2557800)
-        × AreEdges lane.direction lane.start rounding spaces.middle spaces.first sizes.now
-        parts.new }
+    ensures at_most { AllZip (IsCutTo AtMostCells lane.direction) (sizes_of slots.now) parts.new }
+    ensures at_least { overlap ≡ 0 → HasRoomForSpaces spaces
+        ((lane.end - lane.start) * cell_units) (sizes_of slots.now)
+        → AllZip (IsCutTo AtLeastCells lane.direction) (sizes_of slots.now) parts.new }
+    ensures edges { overlap ≡ 0 → HasRoomForSpaces spaces
+        ((lane.end - lane.start) * cell_units) (sizes_of slots.now)
+        → (rounding : ℕ) × IsRounding rounding
+        × AreEdges lane.direction lane.start rounding spaces.middle spaces.first
+        (sizes_of slots.now) parts.new }
 {
-    let whole = u64::from(lane.end - lane.start) * UNIT;
-    let rounding = rounding_of(sizes.len());
+    let whole = u64::from(lane.end - lane.start) * CELL_UNITS;
+    let rounding = rounding_of(slots.len());
     let mut at = spaces.first;
-    for (i, size) in sizes.iter().enumerate() {
-        let begin = at.min(whole);
-        let finish = begin.saturating_add(*size).min(whole);
-        let from = cell_of(begin, rounding, lane);
-        let to = cell_of(finish, rounding, lane);
+    for (i, slot) in slots.iter().enumerate() {
+        let part = stretch_from(at, slot.size, whole);
+        let from = cell_of(part.begin, rounding, lane);
+        let to = cell_of(part.finish, rounding, lane);
         parts[i] = across(lane, from, to);
-        at = finish.saturating_add(spaces.middle).saturating_sub(overlap);
+        at = place_after(part, spaces, overlap);
     }
 }
 
@@ -106,6 +136,24 @@ fn ends_of(part: Rect, lane: Lane) -> (u16, u16)
     }
 }
 
+// The space up to a part; nothing, where the part begins before the end of the one before.
+fn space_up_to(lane: Lane, before: u16, part: u16) -> Rect
+    ensures from { first_cell lane.direction result ≡ before }
+    ensures to { after_of lane.direction result ≡ max part before }
+    ensures across { SpansAcross lane.direction lane.area result }
+{
+    across(lane, before, part.max(before))
+}
+
+// The space after the last part.
+fn last_space(lane: Lane, before: u16) -> Rect
+    ensures from { first_cell lane.direction result ≡ before }
+    ensures to { after_of lane.direction result ≡ max lane.end before }
+    ensures across { SpansAcross lane.direction lane.area result }
+{
+    across(lane, before, lane.end.max(before))
+}
+
 /// Writes the spaces before, between and after these parts: nothing, where a part begins before the
 /// end of the one before.
 pub(crate) fn place_spaces(parts: &[Rect], lane: Lane, spaces: &mut [Rect])
@@ -117,8 +165,8 @@ pub(crate) fn place_spaces(parts: &[Rect], lane: Lane, spaces: &mut [Rect])
     let mut before = lane.start;
     for (i, part) in parts.iter().enumerate() {
         let (from, to) = ends_of(*part, lane);
-        spaces[i] = across(lane, before, from.max(before));
+        spaces[i] = space_up_to(lane, before, from);
         before = to;
     }
-    spaces[parts.len()] = across(lane, before, lane.end.max(before));
+    spaces[parts.len()] = last_space(lane, before);
 }

@@ -1,12 +1,9 @@
 -- Words that only private contracts use: what a layout says of the lane that is cut, and of its parts.
 use Rattle.std.specs.Prelude.{◌≡◌, List}
-use Rattle.rtui_layout.specs.declared.constraint.Constraint.{Constraint}
-use Rattle.rtui_split.specs.declared.{place.Lane.Lane, lane.Rule.Rule}
-use Rattle.rtui_geometry.specs.{declared.rect.Rect.Rect}
-use Rattle.rtui_layout.specs.{Layout.LayoutData}
-use Rattle.rtui_layout.specs.declared.flex.Flex.TheVariants as flex
-use Rattle.rtui_split.specs.{Cut.first_cell, Cut.area_end, Cut.IsSpace}
-use Rattle.rtui_split.specs.Split.{gap_units}
+use Rattle.rtui_geometry.specs.declared.rect.Rect.{Rect}
+use Rattle.rtui_layout.specs.{declared.constraint.Constraint.Constraint, Layout.LayoutData}
+use Rattle.rtui_split.specs.{declared.place.Lane.Lane, declared.lane.Rule.Rule, Cut.first_cell, Cut.area_end}
+use Rattle.rtui_split.specs.{Cut.IsSpace, Split.gap_units}
 
 -- the columns or rows of an area along a layout's direction
 pub record IsLane (l : LayoutData) (area : Rect) (lane : Lane) : Type 0 where

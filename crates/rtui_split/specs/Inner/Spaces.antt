@@ -1,89 +1,83 @@
 -- Words that only private contracts use: the spaces beside the parts, and where what is left goes, in units.
-use Rattle.std.specs.Prelude.{ℕ, ◌≡◌, ◌==◌, ◌<◌, ◌+◌, ◌-◌, ◌*◌, ◌/◌, ◌^◌, ◌≤◌, Bool, true, false}
-use Rattle.std.specs.Prelude.{List, length, map, sum_by, ⊤, sum}
-use Rattle.std.specs.List.{AllZip}
+use Rattle.std.specs.Prelude.{ℕ, ◌≡◌, ◌<◌, ◌+◌, ◌-◌, ◌*◌, ◌/◌, ◌^◌, ◌≤◌, Bool, true, false, List, length, map}
+use Rattle.std.specs.Prelude.{sum_by, ⊤}
 use Rattle.rtui_geometry.specs.declared.rect.Rect.{Rect}
-use Rattle.rtui_layout.specs.declared.direction.Direction.{Direction}
-use Rattle.rtui_layout.specs.declared.flex.Flex.{Flex}
 use Rattle.rtui_layout.specs.declared.flex.Flex.TheVariants.{End, Center, SpaceBetween, SpaceAround}
 use Rattle.rtui_layout.specs.declared.flex.Flex.TheVariants.{SpaceEvenly}
-use Rattle.rtui_split.specs.declared.{flex.Spaces.Spaces, flex.Room.Room, part.Part.Part}
-use Rattle.rtui_split.specs.Inner.Shares.{wanted_before, sized, IsGranted, IsModest, IsDenied}
-use Rattle.rtui_split.specs.Inner.Shares.{TakeNothing, TakeNothingIn, weights, IsLevelled}
-use Rattle.rtui_split.specs.Inner.Shares.{ComeFirst, DifferLeast}
-use Rattle.rtui_split.specs.Inner.{IsStretched}
-use Rattle.rtui_split.specs.Cut.{length_of}
-use Rattle.rtui_split.specs.Spaces.{least_spaces, IsFlexed}
+use Rattle.rtui_layout.specs.declared.{direction.Direction.Direction, flex.Flex.Flex}
+use Rattle.rtui_split.specs.Inner.Slots.{AllSlots, sizes_of, total_of, wanted_before, TakeNothing}
+use Rattle.rtui_split.specs.Inner.Slots.{TakeNothingIn}
+use Rattle.rtui_split.specs.Inner.Shares.{IsGranted, IsModest, IsDenied, IsLevelled, ComeFirst, DifferLeast}
+use Rattle.rtui_split.specs.Inner.Shares.{AreSized, next_filled, IsStretched}
+use Rattle.rtui_split.specs.{declared.flex.Spaces.Spaces, declared.flex.Room.Room, declared.slot.Slot.Slot}
+use Rattle.rtui_split.specs.{Cut.length_of, Spaces.least_spaces, Spaces.IsFlexed}
 
--- the sizes and the spaces before and between them fit
+-- the sizes and the spaces before and between them fit in so much room
 abbrev pub HasRoomForSpaces : Spaces → ℕ → List ℕ → Type 0
-HasRoomForSpaces spaces cells sizes = spaces.first + sum_by (λ s. s + spaces.middle)
-    sizes ≤ cells * 5040000 + spaces.middle
+HasRoomForSpaces spaces whole sizes = spaces.first + sum_by (λ n. n + spaces.middle) sizes
+    ≤ whole + spaces.middle
 
 -- a size and the rectangle that it is cut to
 abbrev pub IsCutTo : (ℕ → ℕ → Type 0) → Direction → ℕ → Rect → Type 0
 IsCutTo R d units r = R units (length_of d r)
 
--- the wishes before a turn fit, with the spaces
-abbrev pub FitsBefore : ℕ → List Part → Room → Type 0
-FitsBefore t parts room = wanted_before t parts + least_spaces room.flex (length parts)
-    * room.gap ≤ room.whole
+-- what all spaces are at least
+abbrev pub least_gaps : Room → List Slot → ℕ
+least_gaps room ss = least_spaces room.flex (length ss) * room.gap
+
+-- the wishes before a turn fit, with the spaces, and what they leave
+abbrev pub FitsBefore : ℕ → List Slot → Room → Type 0
+FitsBefore t ss room = wanted_before t ss + least_gaps room ss ≤ room.whole
+
+abbrev pub left_in : ℕ → List Slot → Room → ℕ
+left_in t ss room = room.whole - (wanted_before t ss + least_gaps room ss)
 
 -- the sizes with their spaces are the whole room, and the spaces are as the flex says
-abbrev pub IsFlexedIn : List Part → Room → List ℕ → Spaces → Type 0
-IsFlexedIn parts room sizes spaces = (last : ℕ)
-    × (spaces.first + sum sizes + (length parts - 1) * spaces.middle + last ≡ room.whole)
-    × IsFlexed room.flex (TakeNothing parts) (length parts) room.gap spaces.first spaces.middle last
+abbrev pub IsFlexedIn : List Slot → Room → Spaces → Type 0
+IsFlexedIn ss room spaces = (last : ℕ)
+    × (spaces.first + total_of ss + (length ss - 1) * spaces.middle + last ≡ room.whole)
+    × IsFlexed room.flex (TakeNothing ss) (length ss) room.gap spaces.first spaces.middle last
 
 -- the sizes are those at a level, and with the spaces there is no room for a unit more for each weight
-abbrev pub IsFilledBeside : List Part → Room → List ℕ → Type 0
-IsFilledBeside parts room sizes = (even : Bool) × (level : ℕ)
-    × (sizes ≡ map (sized (record { legacy = false; even = even }) level) parts)
-    × (level / 1048576 ≤ sum_by (sized (record { legacy = false; even = even }) level) parts
-    → room.whole < sum_by (sized (record { legacy = false; even = even }) (level + 1048576))
-    parts + least_spaces room.flex (length parts) * room.gap)
-    × (even ≡ (weights false parts == 0))
-    × (sum sizes + least_spaces room.flex (length parts) * room.gap ≤ room.whole)
+abbrev pub IsFilledBeside : List Slot → Room → Type 0
+IsFilledBeside ss room = (even : Bool) × (level : ℕ) × AreSized false even level ss
+    × ((TakeNothingIn false ss → ⊥) → room.whole < next_filled false even level ss + least_gaps room ss)
+    × (total_of ss + least_gaps room ss ≤ room.whole)
+
+-- each part whose wishes fit has at least its wish, and sizes and spaces fit: also where a part is stretched
+pub record GivesWishes (ss : List Slot) (room : Room) (spaces : Spaces) : Type 0 where
+  pub granted : (t : ℕ) → t ≤ 5 → FitsBefore t ss room → AllSlots (IsGranted t) ss
+  pub fit : (t : ℕ) → FitsBefore t ss room → HasRoomForSpaces spaces room.whole (sizes_of ss)
 
 -- sizes and spaces in so much room: wishes in turns, and nothing over what takes part in the rest
-pub record IsArranged (parts : List Part) (room : Room) (sizes : List ℕ) (spaces : Spaces) : Type 0 where
-  pub at_most : AllZip IsModest parts sizes
-  pub granted : (t : ℕ) → t ≤ 5 → FitsBefore t parts room → AllZip (IsGranted t) parts sizes
-  pub fit : (t : ℕ) → FitsBefore t parts room → spaces.first + sum_by (λ s. s + spaces.middle)
-      sizes ≤ room.whole + spaces.middle
-  pub short : (t : ℕ) → t ≤ 5 → FitsBefore 0 parts room → (FitsBefore t parts room → ⊥)
-      → room.whole ≤ sum sizes + least_spaces room.flex (length parts) * room.gap
-  pub later : (t : ℕ) → t ≤ 5 → FitsBefore 0 parts room → (FitsBefore t parts room → ⊥)
-      → AllZip (IsDenied t) parts sizes
-  pub flexed : 0 < length parts → room.whole < 2 ^ 43 → FitsBefore 0 parts room
-      → IsFlexedIn parts room sizes spaces
-  pub filled : room.whole < 2 ^ 43 → FitsBefore 5 parts room → IsFilledBeside parts room sizes
-  pub levelled : sum sizes < wanted_before 1 parts → IsLevelled parts sizes
-  pub ragged : (t : ℕ) → 0 < t → t < 5 → FitsBefore t parts room → (FitsBefore (t + 1) parts room → ⊥)
-      → DifferLeast t (room.whole - (wanted_before t parts
-      + least_spaces room.flex (length parts) * room.gap)) parts sizes
+pub record IsArranged (ss : List Slot) (room : Room) (spaces : Spaces) : Type 0 where
+  pub at_most : AllSlots IsModest ss
+  pub short : (t : ℕ) → t ≤ 5 → FitsBefore 0 ss room → (FitsBefore t ss room → ⊥)
+      → room.whole ≤ total_of ss + least_gaps room ss
+  pub later : (t : ℕ) → t ≤ 5 → FitsBefore 0 ss room → (FitsBefore t ss room → ⊥)
+      → AllSlots (IsDenied t) ss
+  pub flexed : 0 < length ss → room.whole < 2 ^ 43 → FitsBefore 0 ss room → IsFlexedIn ss room spaces
+  pub filled : room.whole < 2 ^ 43 → FitsBefore 5 ss room → IsFilledBeside ss room
+  pub levelled : total_of ss < wanted_before 1 ss → IsLevelled ss
+  pub ragged : (t : ℕ) → 0 < t → t < 5 → FitsBefore t ss room → (FitsBefore (t + 1) ss room → ⊥)
+      → DifferLeast t (left_in t ss room) ss
 
 -- with `Flex::Legacy`, sizes and spaces in so much room: where a turn comes too short its parts take their
 -- wishes one after the other, and those after it have nothing; if all fit, `Fill`s share what is left, and if
 -- there are none, one part is stretched over it
-pub record IsLegacy (parts : List Part) (room : Room) (sizes : List ℕ) (spaces : Spaces) : Type 0 where
+pub record IsLegacy (ss : List Slot) (room : Room) (spaces : Spaces) : Type 0 where
   pub gaps : (spaces.first ≡ 0) × (spaces.middle ≡ room.gap)
-  pub within : FitsBefore 0 parts room
-      → sum sizes + least_spaces room.flex (length parts) * room.gap ≤ room.whole
-  pub first_come : (t : ℕ) → t < 5 → FitsBefore t parts room → (FitsBefore (t + 1) parts room → ⊥)
-      → ComeFirst t (room.whole - (wanted_before t parts
-      + least_spaces room.flex (length parts) * room.gap)) parts sizes
-  pub later : (t : ℕ) → t ≤ 5 → FitsBefore 0 parts room → (FitsBefore t parts room → ⊥)
-      → AllZip (IsDenied t) parts sizes
-  pub stretched : 0 < length parts → room.whole < 2 ^ 43 → FitsBefore 5 parts room → TakeNothingIn true parts
-      → (left : ℕ) × IsStretched parts (map (λ p. p.wanted) parts) sizes left
-      × (sum sizes + least_spaces room.flex (length parts) * room.gap ≡ room.whole)
-  pub filled : room.whole < 2 ^ 43 → FitsBefore 5 parts room → (TakeNothingIn true parts → ⊥)
-      → (even : Bool) × (level : ℕ)
-      × (sizes ≡ map (sized (record { legacy = true; even = even }) level) parts)
-      × (room.whole < sum_by (sized (record { legacy = true; even = even }) (level + 1048576)) parts
-      + least_spaces room.flex (length parts) * room.gap)
-      × (even ≡ (weights true parts == 0))
+  pub within : FitsBefore 0 ss room → total_of ss + least_gaps room ss ≤ room.whole
+  pub first_come : (t : ℕ) → t < 5 → FitsBefore t ss room → (FitsBefore (t + 1) ss room → ⊥)
+      → ComeFirst t (left_in t ss room) ss
+  pub later : (t : ℕ) → t ≤ 5 → FitsBefore 0 ss room → (FitsBefore t ss room → ⊥)
+      → AllSlots (IsDenied t) ss
+  pub stretched : 0 < length ss → room.whole < 2 ^ 43 → FitsBefore 5 ss room → TakeNothingIn true ss
+      → (left : ℕ) × IsStretched (map (λ s. s.part.wanted) ss) ss left
+      × (total_of ss + least_gaps room ss ≡ room.whole)
+  pub filled : room.whole < 2 ^ 43 → FitsBefore 5 ss room → (TakeNothingIn true ss → ⊥)
+      → (even : Bool) × (level : ℕ) × AreSized true even level ss
+      × (room.whole < next_filled true even level ss + least_gaps room ss)
 
 -- how much of what is left comes before the first part, if the spaces between two have their size
 abbrev pub lead : Flex → ℕ → ℕ
@@ -102,12 +96,6 @@ middle_share SpaceBetween n rest = rest / (n - 1)
 middle_share SpaceAround n rest = 2 * (rest / (2 * n))
 middle_share SpaceEvenly n rest = rest / (n + 1)
 middle_share _ n rest = 0
-
--- each part whose wishes fit has at least its wish, and sizes and spaces fit: also where a part is stretched
-pub record GivesWishes (parts : List Part) (room : Room) (sizes : List ℕ) (spaces : Spaces) : Type 0 where
-  pub granted : (t : ℕ) → t ≤ 5 → FitsBefore t parts room → AllZip (IsGranted t) parts sizes
-  pub fit : (t : ℕ) → FitsBefore t parts room → spaces.first + sum_by (λ s. s + spaces.middle)
-      sizes ≤ room.whole + spaces.middle
 
 -- the spaces share what is left
 abbrev pub IsSpread : Flex → Type 0

@@ -12,4 +12,4 @@ returns c =
     subst P (one_long c.cut_by.new.segments empty (omega arith))
     (c.cut_by.ensures l
     (record { cut = refl; direction = refl; start = c.start_of-start.ensures; end = c.end_of-end.ensures.value })
-    (record { parts = refl; flex = refl; gap = refl; overlap = λ _. refl }))
+    (c.middle_rule.ensures c.args.direction c.args.constraint))

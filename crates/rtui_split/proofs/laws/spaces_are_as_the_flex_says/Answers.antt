@@ -17,6 +17,6 @@ returns c = λ l area parts split space keeps some few spaced.
     let P : ℕ → Type 0 = λ g. IsFlexed l.flex none (length l.constraints) g places.1 places.2 places.3 in
     let Q : ℕ → Type 0 = λ b. FlexedSpaces l.flex none (gap_cells l.spacing) d (first_cell d area) b parts in
     subst Q end
-    (flexed_spaces l.flex none (length l.constraints) (gap_cells l.spacing) (first_cell d area) places.4 places.1 places.2
-    places.3 cells d places.0 parts laid.half.0 laid.half.1 few (sym split.count) laid.edges laid.whole
+    (flexed_spaces (gap_cells l.spacing) (first_cell d area) places.4 places.1 places.2 places.3 cells (length l.constraints) d
+    places.0 parts laid.half (sym split.count) laid.edges laid.whole l.flex none few
     (subst P (gap_in_units l.spacing) laid.flexed))

@@ -1,9 +1,8 @@
 use Rattle.std.proofs.Common.{ℕ, ◌≡◌, ◌≤◌, ◌+◌, length, sym, ◌∙◌, subst, arith}
-use Rattle.rtui_split.specs.Cut.{first_cell, area_end}
-use Rattle.rtui_split.specs.{Split.cells_of, Split.NoneTakes, Split.gap_units, Flexed.gap_cells}
-use Rattle.rtui_split.specs.Flexed.{SpacesAre}
-use Rattle.rtui_split.proofs.{CutLemmas.InOrder-le, FlexedLemmas.gap_in_units, FlexedLemmas.packed_gap}
-use Rattle.rtui_split.proofs.FlexedLemmas.{little_left, no_spaces, some_part, spaces_fit}
+use Rattle.rtui_split.specs.{Cut.first_cell, Cut.area_end, Split.cells_of, Split.NoneTakes, Split.gap_units, Flexed.gap_cells}
+use Rattle.rtui_split.specs.{Flexed.SpacesAre}
+use Rattle.rtui_split.proofs.FlexedLemmas.{gap_in_units, packed_gap, little_left, no_spaces, some_part, spaces_fit}
+use Rattle.rtui_split.proofs.CutLemmas.{InOrder-le}
 use Rattle.rtui_split.proofs.laws.who_takes_the_rest_leaves_nothing.Goals as goal
 
 pub returns : goal.returns
@@ -25,5 +24,5 @@ returns c = λ l area parts split space keeps packed taker few fits.
     ) in
     let Q : ℕ → Type 0 = λ b. SpacesAre d (first_cell d area) b (λ s. s ≡ 0) (λ s. s ≡ gap_cells l.spacing) (λ s. s ≡ 0) parts in
     subst Q end
-    (no_spaces (gap_cells l.spacing) (first_cell d area) places.4 places.1 places.2 places.3 cells n d places.0 parts laid.half.0
-    laid.half.1 little (sym split.count) laid.edges laid.whole (gap ∙ gap_in_units l.spacing))
+    (no_spaces (gap_cells l.spacing) (first_cell d area) places.4 places.1 places.2 places.3 cells n d places.0 parts laid.half
+    (sym split.count) laid.edges laid.whole little (gap ∙ gap_in_units l.spacing))

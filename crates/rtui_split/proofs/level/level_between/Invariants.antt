@@ -1,11 +1,11 @@
-use Rattle.std.proofs.Common.{◌≤◌, ◌<◌, ◌-◌, sum_by}
-use Rattle.rtui_split.specs.Inner.Shares.{sized}
+use Rattle.std.proofs.Common.{◌≤◌, ◌<◌, ◌-◌}
+use Rattle.rtui_split.specs.Inner.Slots.{filled_at}
 use Rattle.rtui_split.proofs.level.level_between.Given as goal
 
 abbrev pub invariant-halves : goal.invariant-halves
 invariant-halves l = record {
-  fits : sum_by (sized l.takers l.low) l.parts ≤ l.room;
-  misses : l.room < sum_by (sized l.takers l.high) l.parts;
+  fits : filled_at l.takers l.low l.slots ≤ l.room;
+  misses : l.room < filled_at l.takers l.high l.slots;
 }
 
 abbrev pub decreases-halves : goal.decreases-halves

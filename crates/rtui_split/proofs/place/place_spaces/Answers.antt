@@ -27,43 +27,40 @@ loop-i-preserved c =
       lane.on_grid,
     ) in
     record {
-      across = All-written (SpansAcross d lane.area) c.loop-i.spaces i c.across.result within inv.across c.across.ensures.across;
+      across = All-written (SpansAcross d lane.area) c.loop-i.spaces i c.space_up_to.result within inv.across
+          c.space_up_to.ensures.across;
       done = λ ordered. InTurn-written d lane.start c.loop-i.before c.ends_of-from.result.1 i c.loop-i.spaces parts
-          c.across.result empty within c.loop-i-test.true
-          (inv.done ordered) c.across.ensures.from
-          (omega (arith, c.across.ensures.to, c.max.ensures, c.ends_of-from.ensures.first, (next ordered).0))
+          c.space_up_to.result empty within c.loop-i-test.true
+          (inv.done ordered) c.space_up_to.ensures.from
+          (omega (arith, c.space_up_to.ensures.to, c.ends_of-from.ensures.first, (next ordered).0))
           (after ordered);
       rest = λ ordered.
           let P : ℕ → Type 0 = λ n. InOrder d n lane.end (drop (i + 1) parts) in
           subst P (after ordered) (next ordered).1;
     }
 
-pub returns-clause-turns : goal.returns-clause-turns
-returns-clause-turns c = λ ordered.
+pub returns : goal.returns
+returns c =
     let lane = c.args.lane in
     let d = lane.direction in
     let parts = c.args.parts.now in
     let spaces = c.loop-i.spaces in
-    let all : c.loop-i.i ≡ length parts = omega arith in
-    let long : length spaces ≡ length parts + 1 = omega arith in
-    let P : ℕ → Type 0 = λ n. InTurn d lane.start c.loop-i.before (take n spaces) (take n parts) in
-    InTurn-closed d lane.start c.loop-i.before lane.end (length parts) spaces parts c.across-2.result long refl
-    (subst P all (c.loop-i.invariant.done ordered)) c.across-2.ensures.from
-    (omega (
-      arith,
-      c.across-2.ensures.to,
-      c.max-2.ensures,
-      InOrder-le d c.loop-i.before lane.end (drop c.loop-i.i parts)
-          (c.loop-i.invariant.rest ordered),
-    ))
-
-pub returns-clause-across : goal.returns-clause-across
-returns-clause-across c =
-    let lane = c.args.lane in
-    let spaces = c.loop-i.spaces in
-    let n = length c.args.parts.now in
+    let before = c.loop-i.before in
+    let inv = c.loop-i.invariant in
+    let n = length parts in
     let all : c.loop-i.i ≡ n = omega arith in
     let long : length spaces ≡ n + 1 = omega arith in
-    let P : Rect → Type 0 = SpansAcross lane.direction lane.area in
+    let last = c.last_space.ensures in
+    let P : Rect → Type 0 = SpansAcross d lane.area in
     let Q : ℕ → Type 0 = λ k. All P (take k spaces) in
-    All-closed P spaces n c.across-2.result long (subst Q all c.loop-i.invariant.across) c.across-2.ensures.across
+    let R : ℕ → Type 0 = λ k. InTurn d lane.start before (take k spaces) (take k parts) in
+    record {
+      across = All-closed P spaces n c.last_space.result long (subst Q all inv.across) last.across;
+      turns = λ ordered. InTurn-closed d lane.start before lane.end n spaces parts c.last_space.result long refl
+          (subst R all (inv.done ordered)) last.from
+          (omega (
+            arith,
+            last.to,
+            InOrder-le d before lane.end (drop c.loop-i.i parts) (inv.rest ordered),
+          ));
+    }

@@ -1,60 +1,79 @@
-use Rattle.std.proofs.Common.{ℕ, Bool, ◌≡◌, ◌≤◌, ◌-◌, ◌==◌, ◌∙◌, map, sum, ap, subst, sym, arith, List}
-use Rattle.rtui_split.specs.Inner.Shares.{wanted_before, sized, IsShared, weights, ComeFirst}
-use Rattle.rtui_split.specs.Inner.Shares.{TakeNothingIn, DifferLeast}
-use Rattle.rtui_split.proofs.ShareLemmas.{before-next, all_fit, settled_share, filled_share}
-use Rattle.rtui_split.proofs.TryLemmas.{levelled_share, ragged_share}
+use Rattle.std.proofs.Common.{ℕ, Bool, ◌≡◌, ◌+◌, ◌-◌, ◌==◌, ◌∙◌, ap, subst, sym, arith}
+use Rattle.rtui_split.specs.Inner.Slots.{slot_parts, if_before, if_in, wanted_before, sized, weights}
+use Rattle.rtui_split.specs.{declared.part.Part.Part, Units.unit_levels, Wishes.weight_in, Wishes.TakesNothingIn}
+use Rattle.rtui_split.specs.{Inner.Shares.IsShared, Inner.Shares.ComeFirst, Inner.Shares.DifferLeast}
+use Rattle.rtui_split.proofs.ShareLemmas.{before-next, all_left, short_share, filled_share}
+use Rattle.rtui_split.proofs.{SlotLemmas.same_sum, SlotLemmas.same_all, TryLemmas.levelled_share, TryLemmas.ragged_share}
 use Rattle.rtui_split.proofs.share.share.Goals as goal
 
-pub try_short-requires-clause-left : goal.try_short-requires-clause-left
-try_short-requires-clause-left c =
+pub try_short-requires : goal.try_short-requires
+try_short-requires c =
+    let short = c.first_short-short.result in
+    let misses = c.first_short-short.ensures.short (omega arith) in
+    omega (arith, misses, c.first_short-short.ensures.left, before-next short.turn c.args.slots.now)
+
+pub grant_all-requires : goal.grant_all-requires
+grant_all-requires c =
+    let short = c.first_short-short.result in
     omega (
       arith,
       c.first_short-short.ensures.short (omega arith),
-      c.first_short-short.ensures.left,
-      before-next c.first_short-short.result.turn c.args.parts.now,
+      before-next short.turn c.args.slots.now,
+      same_sum (if_in short.turn) c.try_short.new.slots c.args.slots.now c.try_short.ensures.parts,
     )
-
-pub settle-requires-clause-left : goal.settle-requires-clause-left
-settle-requires-clause-left c =
-    omega (arith, c.first_short-short.ensures.short (omega arith), before-next c.first_short-short.result.turn c.args.parts.now)
 
 pub returns-then-short-lt-FILL : goal.returns-then-short-lt-FILL
 returns-then-short-lt-FILL c =
     let short = c.first_short-short.result in
-    settled_share c.args.legacy c.args.parts.now c.args.room c.settle.new.sizes short.turn c.if-short-lt-FILL.true
-    c.settle.ensures.each
-    (omega (arith, c.settle.ensures.all, c.first_short-short.ensures.left))
-    (omega (arith, c.first_short-short.ensures.left))
-    (c.first_short-short.ensures.short c.if-short-lt-FILL.true)
-    (λ other first. levelled_share short.turn short.left c.args.parts.now c.try_short.new.drafts c.settle.new.sizes first
-    (omega (arith, c.settle.ensures.all))
-    (c.try_short.ensures.level other first) c.settle.ensures.tried)
-    (λ legacy. let P : ℕ → Type 0 = λ n. ComeFirst short.turn n c.args.parts.now c.settle.new.sizes in
-    subst P (omega (arith, c.first_short-short.ensures.left)) (c.settle.ensures.first (c.try_short.ensures.first legacy)))
-    (λ other some. let P : ℕ → Type 0 = λ n. DifferLeast short.turn n c.args.parts.now c.settle.new.sizes in
-    subst P (omega (arith, c.first_short-short.ensures.left)) (ragged_share short.turn short.left c.args.parts.now
-    c.try_short.new.drafts c.settle.new.sizes (c.try_short.ensures.smooth other some) c.settle.ensures.tried))
+    let t = short.turn in
+    let old = c.args.slots.now in
+    let tried = c.try_short.new.slots in
+    let new = c.grant_all.new.slots in
+    let granted = c.grant_all.ensures in
+    let parts : slot_parts new ≡ slot_parts old = granted.parts ∙ c.try_short.ensures.parts in
+    let before : wanted_before t new ≡ wanted_before t old = same_sum (if_before t) new old parts in
+    let next = same_sum (if_before (t + 1)) new old parts in
+    let left : short.left ≡ c.args.room - wanted_before t new = omega (arith, before, c.first_short-short.ensures.left) in
+    let P : ℕ → Type 0 = λ n. ComeFirst t n new in
+    let Q : ℕ → Type 0 = λ n. DifferLeast t n new in
+    record {
+      parts = parts;
+      shared = short_share c.args.legacy new c.args.room t c.if-short-lt-FILL.true granted.each
+          (omega (arith, granted.all, c.first_short-short.ensures.left, before))
+          (omega (arith, c.first_short-short.ensures.left, before))
+          (omega (arith, c.first_short-short.ensures.short c.if-short-lt-FILL.true, next))
+          (λ other first. levelled_share t short.left old tried new first parts granted.all
+          (c.try_short.ensures.level other first) c.try_short.ensures.parts granted.tried)
+          (λ legacy. subst P left (granted.first (c.try_short.ensures.first legacy)))
+          (λ other some. subst Q left (ragged_share t short.left tried new granted.parts (c.try_short.ensures.smooth other some)
+          granted.tried));
+    }
 
-pub returns : goal.returns
-returns c =
-    let parts = c.args.parts.now in
+pub returns-clause-shared : goal.returns-clause-shared
+returns-clause-shared c =
+    let old = c.args.slots.now in
+    let new = c.fill.new.slots in
     let room = c.args.room in
     let takers = c.takers_of-takers.result in
     let level = c.level_of-level.result in
+    let parts = c.fill.ensures.parts in
+    let legacy : takers.legacy ≡ c.args.legacy = c.takers_of-takers.ensures.legacy in
     let turn : c.first_short-short.result.turn ≡ 5 = omega (arith, c.first_short-short.ensures.turn, c.if-short-lt-FILL.false) in
-    let fits : wanted_before 5 parts ≤ room = all_fit parts room c.first_short-short.result.turn c.first_short-short.result.left
-    turn c.first_short-short.ensures.left in
-    let P : List ℕ → Type 0 = λ sizes. IsShared c.args.legacy parts room sizes c.left_at.result in
-    let rest : c.left_at.result ≤ room - sum (map (sized takers level) parts) =
-    omega (arith, c.left_at.ensures.most, ap sum c.fill.ensures) in
-    subst P (sym c.fill.ensures)
-    (filled_share c.args.legacy parts room takers level c.left_at.result c.takers_of-takers.ensures.legacy fits
-    c.level_of-level.ensures.fits rest
-    (λ small modest. omega (
+    let whole = all_left old room c.first_short-short.result.turn c.first_short-short.result.left turn
+    c.first_short-short.ensures.left in
+    let weigh : weights takers.legacy new ≡ weights c.args.legacy old =
+    same_sum (λ (p : Part). weight_in takers.legacy p.constraint) new old parts ∙ ap (λ b. weights b old) legacy in
+    let P : Bool → Type 0 = λ b. IsShared b new room c.left_at.result in
+    subst P legacy (filled_share takers new room level c.left_at.result c.fill.ensures.sizes
+    (omega (arith, whole, same_sum (if_before 5) new old parts))
+    (omega (arith, c.level_of-level.ensures.fits, same_sum (sized takers level) new old parts))
+    c.left_at.ensures.most
+    (λ small modest. c.left_at.ensures.top small (c.level_of-level.ensures.top small
+    (same_all (λ (p : Part). TakesNothingIn takers.legacy p.constraint) new old parts modest)))
+    (c.takers_of-takers.ensures.even ∙ ap (λ n. n == 0) (sym weigh))
+    (λ small low. omega (
       arith,
-      c.left_at.ensures.top small (c.level_of-level.ensures.top small (let Q : Bool → Type 0 = λ b. TakeNothingIn b parts in
-          subst Q (sym c.takers_of-takers.ensures.legacy) modest)),
-      ap sum c.fill.ensures,
+      c.level_of-level.ensures.most small low,
+      same_sum (sized takers (level + unit_levels)) new old parts,
     ))
-    (c.takers_of-takers.ensures.even ∙ ap (λ legacy. weights legacy parts == 0) (sym c.takers_of-takers.ensures.legacy))
-    c.level_of-level.ensures.most c.left_at.ensures.below)
+    c.left_at.ensures.below)
