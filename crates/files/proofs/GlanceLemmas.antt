@@ -7,10 +7,12 @@ use Rattle.std.proofs.lemmas.{Slice.Eq.bytes_eq-Decides, Bool.Decides.nat_tests}
 use Rattle.ratatui_events.specs.declared.event.Event.{Event}
 use Rattle.ratatui_reads.specs.Reads.{size_in}
 use Rattle.ratatui_acts.specs.declared.message.Message.TheVariants as message
+use Rattle.ratatui_files.specs.declared.answer.Failure.{Failure}
 use Rattle.files.specs.declared.browser.Browser.{Browser}
 use Rattle.files.specs.declared.browser.Mode.{Mode}
 use Rattle.files.specs.declared.browser.Mode.TheVariants.{Looking, Listing, Entering, Leaving, Trashing, Removing}
 use Rattle.files.specs.declared.browser.Mode.TheVariants.{Renaming, Making, Over, Pasting, Sorting, Seeking}
+use Rattle.files.specs.declared.browser.Mode.TheVariants.{Going, Visiting, Locating, Completing}
 use Rattle.files.specs.declared.browser.Mode.TheVariants.{Returning, Undoing, Helping, Chosen}
 use Rattle.files.specs.declared.list.Outcome.TheVariants as outcome
 use Rattle.files.specs.declared.glance.Side.{Side}
@@ -24,7 +26,7 @@ use Rattle.files.specs.Glances.{is_seen_at, current, seen_above, seen_ahead, gla
 use Rattle.files.specs.Looks.{look_by, IsAim}
 use Rattle.files.specs.Moves.{acts, asks, browsed, browser_at_told_size, browsed_after}
 use Rattle.files.specs.Laws.{IsLook, seen_last}
-use Rattle.files.proofs.LawLemmas.{browsed-keeps, goes-on}
+use Rattle.files.proofs.LawLemmas.{browsed-keeps, goes-on, completed-keeps, failed-keeps}
 
 -- ---- what is seen is there
 
@@ -93,6 +95,15 @@ pub done-glances : (b : Browser) → (browsed_after b (message.Answer outcome.Do
 unfolding browsed_after
 done-glances b = (goes-on b.mode b).glances
 
+pub completed-glances : (b : Browser) (rest : List ℕ)
+    → (browsed_after b (message.Answer (outcome.Completed rest))).glances ≡ b.glances
+unfolding browsed_after
+completed-glances b rest = (completed-keeps rest b).glances
+
+pub failed-glances : (b : Browser) (why : Failure) → (browsed_after b (message.Answer (outcome.Failed why))).glances ≡ b.glances
+unfolding browsed_after
+failed-glances b why = (failed-keeps why b).glances
+
 -- ---- when something is looked at
 
 other-one : (a b : Bool) → (a || b) ≡ true → a ≡ false → b ≡ true
@@ -119,6 +130,10 @@ looking-mode Making is = absurd (cc)
 looking-mode Pasting is = absurd (cc)
 looking-mode Sorting is = absurd (cc)
 looking-mode Seeking is = absurd (cc)
+looking-mode Going is = absurd (cc)
+looking-mode Visiting is = absurd (cc)
+looking-mode Locating is = absurd (cc)
+looking-mode Completing is = absurd (cc)
 looking-mode Undoing is = absurd (cc)
 looking-mode Helping is = absurd (cc)
 looking-mode Over is = absurd (cc)

@@ -37,7 +37,7 @@ helped e stands says asks = record {
 }
 
 pub all-helped : AreListedKeys key_table
-all-helped = (helped _ refl refl refl, (helped _ refl refl refl, (helped _ refl refl refl, (helped _ refl refl refl, (helped _ refl refl refl, (helped _ refl refl refl, (helped _ refl refl refl, (helped _ refl refl refl, (helped _ refl refl refl, (helped _ refl refl refl, (helped _ refl refl refl, (helped _ refl refl refl, (helped _ refl refl refl, (helped _ refl refl refl, (helped _ refl refl refl, (helped _ refl refl refl, (helped _ refl refl refl, (helped _ refl refl refl, (helped _ refl refl refl, (helped _ refl refl refl, (helped _ refl refl refl, (helped _ refl refl refl, (helped _ refl refl refl, (helped _ refl refl refl, (helped _ refl refl refl, (helped _ refl refl refl, (helped _ refl refl refl, (helped _ refl refl refl, (helped _ refl refl refl, (helped _ refl refl refl, (helped _ refl refl refl, (helped _ refl refl refl, (helped _ refl refl refl, (helped _ refl refl refl, (helped _ refl refl refl, (helped _ refl refl refl, (helped _ refl refl refl, (helped _ refl refl refl, (helped _ refl refl refl, tt)))))))))))))))))))))))))))))))))))))))
+all-helped = (helped _ refl refl refl, (helped _ refl refl refl, (helped _ refl refl refl, (helped _ refl refl refl, (helped _ refl refl refl, (helped _ refl refl refl, (helped _ refl refl refl, (helped _ refl refl refl, (helped _ refl refl refl, (helped _ refl refl refl, (helped _ refl refl refl, (helped _ refl refl refl, (helped _ refl refl refl, (helped _ refl refl refl, (helped _ refl refl refl, (helped _ refl refl refl, (helped _ refl refl refl, (helped _ refl refl refl, (helped _ refl refl refl, (helped _ refl refl refl, (helped _ refl refl refl, (helped _ refl refl refl, (helped _ refl refl refl, (helped _ refl refl refl, (helped _ refl refl refl, (helped _ refl refl refl, (helped _ refl refl refl, (helped _ refl refl refl, (helped _ refl refl refl, (helped _ refl refl refl, (helped _ refl refl refl, (helped _ refl refl refl, (helped _ refl refl refl, (helped _ refl refl refl, (helped _ refl refl refl, (helped _ refl refl refl, (helped _ refl refl refl, (helped _ refl refl refl, (helped _ refl refl refl, (helped _ refl refl refl, tt))))))))))))))))))))))))))))))))))))))))
 
 -- ---- all keys
 

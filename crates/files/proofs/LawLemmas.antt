@@ -12,11 +12,13 @@ use Rattle.ratatui_events.specs.declared.event.Event.{Event}
 use Rattle.ratatui_reads.specs.Reads.{size_in}
 use Rattle.ratatui_acts.specs.declared.message.Message.{Message}
 use Rattle.ratatui_acts.specs.declared.message.Message.TheVariants as message
-use Rattle.text_field.specs.Field.{FieldData}
+use Rattle.text_field.specs.Field.{FieldData, field_text}
+use Rattle.ratatui_files.specs.declared.answer.Failure.{Failure}
 use Rattle.files.specs.declared.browser.Browser.{Browser}
 use Rattle.files.specs.declared.browser.Mode.{Mode}
 use Rattle.files.specs.declared.browser.Mode.TheVariants.{Looking, Listing, Entering, Leaving, Trashing, Removing}
 use Rattle.files.specs.declared.browser.Mode.TheVariants.{Renaming, Making, Over, Pasting, Sorting, Seeking}
+use Rattle.files.specs.declared.browser.Mode.TheVariants.{Going, Visiting, Locating, Completing}
 use Rattle.files.specs.declared.browser.Mode.TheVariants.{Returning, Undoing, Helping, Chosen}
 use Rattle.files.specs.declared.browser.Note.TheVariants.{Narrow}
 use Rattle.files.specs.declared.keys.Wish.{Wish}
@@ -25,12 +27,14 @@ use Rattle.files.specs.declared.typing.Typing.{Typing}
 use Rattle.files.specs.declared.typing.Typing.TheVariants.{Change, Accept, Cancel, Ignore}
 use Rattle.files.specs.declared.list.Outcome.{Outcome}
 use Rattle.files.specs.declared.list.Outcome.TheVariants as outcome
-use Rattle.files.specs.Keys.{event_wish, event_typing, event_order, is_input, says_yes}
+use Rattle.files.specs.Keys.{event_wish, event_typing, event_order, is_tab_key, is_input, says_yes}
 use Rattle.files.specs.Texts.{fits, selected_text}
 use Rattle.files.specs.Moves.{scrolled_list, selected_at, last_row_place, list_rows, granted, wished, typing_in}
 use Rattle.files.specs.Moves.{asks, asks_in, confirmed, typed_into, browsed, browser_at_told_size, outcome_told, browsed_after, new_browser}
 use Rattle.files.specs.Moves.{is_folder_selected, removal_answered, next_found, previous_found, found_selected, found_note}
 use Rattle.files.specs.Moves.{typing_name, seeking_typed, sought_into, order_taken, is_entry_row, entered, clicked, help_left}
+use Rattle.files.specs.Moves.{going_to, path_into, gone_by, is_completing, path_completed, leads_to_leaf, failed}
+use Rattle.files.specs.Ways.{way_of}
 use Rattle.files.specs.Help.{help_rows}
 use Rattle.files.specs.Glances.{aged, is_looking, is_wide, side_lacking}
 use Rattle.files.specs.Texts.{place_in_row}
@@ -210,6 +214,7 @@ granted-keeps wish.Trash b =
     keeps-if (is_some b.trash && nat_lt 0 (length b.list)) b _ b (keeps-first Trashing (first_mark_place b) b) (keeps-it b)
 granted-keeps wish.Sort b = keeps-mode Sorting b
 granted-keeps wish.Seek b = keeps-typing Seeking _ b
+granted-keeps wish.Go b = keeps-typing Going _ b
 granted-keeps wish.SeekOn b = keeps-found (next_found b) b
 granted-keeps wish.SeekBack b = keeps-found (previous_found b) b
 granted-keeps wish.Mark b = keeps-marking b
@@ -272,6 +277,7 @@ granted-sure wish.Make b = refl
 granted-sure wish.Trash b = sure-if (is_some b.trash && nat_lt 0 (length b.list)) b _ b (sure-first Trashing (first_mark_place b) b) refl
 granted-sure wish.Sort b = refl
 granted-sure wish.Seek b = refl
+granted-sure wish.Go b = refl
 granted-sure wish.SeekOn b = sure-found (next_found b) b
 granted-sure wish.SeekBack b = sure-found (previous_found b) b
 granted-sure wish.Mark b = refl
@@ -340,6 +346,27 @@ sought-keeps Accept b =
 sought-keeps Cancel b = keeps-mode Looking b
 sought-keeps Ignore b = keeps-it b
 
+keeps-going : (path : Option (List ℕ)) (b : Browser) → Keeps b (going_to path b)
+keeps-going None b = keeps-same b _ refl refl refl refl refl refl refl refl refl
+keeps-going (Some path) b = keeps-mode Visiting b
+
+path-keeps : (t : Typing) (b : Browser) → Keeps b (path_into t b)
+path-keeps (Change edit) b = keeps-typing b.mode _ b
+path-keeps Accept b = keeps-going (way_of b (field_text b.typed)) b
+path-keeps Cancel b = keeps-mode Looking b
+path-keeps Ignore b = keeps-it b
+
+gone-keeps : (e : Event) (b : Browser) → Keeps b (gone_by e b)
+gone-keeps e b = keeps-if (is_tab_key e) b _ _ (keeps-mode Completing b) (path-keeps (event_typing e) b)
+
+pub completed-keeps : (rest : List ℕ) (b : Browser) → Keeps b (path_completed rest b)
+completed-keeps rest b = keeps-if (is_completing b.mode) b _ b (keeps-typing Going _ b) (keeps-it b)
+
+pub failed-keeps : (why : Failure) (b : Browser) → Keeps b (failed why b)
+failed-keeps why b = keeps-if (is_completing b.mode) b _ _ (keeps-mode Going b)
+    (keeps-if (leads_to_leaf b.mode why) b _ _ (keeps-mode Locating b)
+    (keeps-same b _ refl refl refl refl refl refl refl refl refl))
+
 order-keeps : (o : Option Order) (b : Browser) → Keeps b (order_taken o b)
 order-keeps None b = keeps-mode Looking b
 order-keeps (Some order) b = keeps-same b _ refl refl refl refl refl refl refl refl refl
@@ -364,6 +391,10 @@ browsed-keeps Pasting e b at = typed-keeps (event_typing e) b (may-be Pasting b 
 browsed-keeps Undoing e b at = answered-keeps e b (may-be Undoing b at refl)
 browsed-keeps Helping e b at = help-keeps b
 browsed-keeps Seeking e b at = sought-keeps (event_typing e) b
+browsed-keeps Going e b at = gone-keeps e b
+browsed-keeps Visiting e b at = keeps-it b
+browsed-keeps Locating e b at = keeps-it b
+browsed-keeps Completing e b at = keeps-it b
 browsed-keeps Sorting e b at = order-keeps (event_order e) b
 browsed-keeps Listing e b at = keeps-it b
 browsed-keeps Entering e b at = keeps-it b
@@ -411,6 +442,14 @@ event-marks b e all = told-marks (is_input e) e b all
 pub event-folder : (b : Browser) (e : Event) → ListsSame b (browsed_after b (message.Event e))
 unfolding browsed_after
 event-folder b e = told-folder (is_input e) e b
+
+pub completed-folder : (b : Browser) (rest : List ℕ) → ListsSame b (browsed_after b (message.Answer (outcome.Completed rest)))
+unfolding browsed_after
+completed-folder b rest = let k = completed-keeps rest b in record { folder = k.folder; list = k.list; unnamed = k.unnamed }
+
+pub failed-folder : (b : Browser) (why : Failure) → ListsSame b (browsed_after b (message.Answer (outcome.Failed why)))
+unfolding browsed_after
+failed-folder b why = let k = failed-keeps why b in record { folder = k.folder; list = k.list; unnamed = k.unnamed }
 
 pub placed-first : (alloc : Global) (title : List ℕ) (size : Size) → IsPlaced (new_browser alloc title size)
 placed-first alloc title size = record { within = omega arith; above = omega arith; below = λ some. omega arith }
@@ -471,6 +510,10 @@ goes-on Renaming b = goes-same b
 goes-on Making b = goes-same b
 goes-on Sorting b = goes-same b
 goes-on Seeking b = goes-same b
+goes-on Going b = goes-same b
+goes-on Visiting b = goes-same b
+goes-on Locating b = goes-same b
+goes-on Completing b = goes-same b
 goes-on Undoing b = goes-same b
 goes-on Helping b = goes-same b
 goes-on Over b = goes-same b
@@ -494,7 +537,9 @@ outcome-placed (outcome.Listed l) b p =
     }))
 outcome-placed (outcome.Glanced g) b p = placed-same b _ refl refl refl refl p
 outcome-placed outcome.Done b p = placed-same (gone_on b.mode b) _ refl refl refl refl ((goes-on b.mode b).placed p)
-outcome-placed (outcome.Failed why) b p = placed-same b _ refl refl refl refl p
+outcome-placed (outcome.Completed rest) b p =
+    placed-same (path_completed rest b) _ refl refl refl refl ((completed-keeps rest b).placed p)
+outcome-placed (outcome.Failed why) b p = placed-same (failed why b) _ refl refl refl refl ((failed-keeps why b).placed p)
 
 pub placed-next : (b : Browser) (m : Message Outcome) → IsPlaced b → IsPlaced (browsed_after b m)
 unfolding browsed_after
@@ -593,6 +638,10 @@ helping-browsed Making e b is at = absurd (cc)
 helping-browsed Pasting e b is at = absurd (cc)
 helping-browsed Sorting e b is at = absurd (cc)
 helping-browsed Seeking e b is at = absurd (cc)
+helping-browsed Going e b is at = absurd (cc)
+helping-browsed Visiting e b is at = absurd (cc)
+helping-browsed Locating e b is at = absurd (cc)
+helping-browsed Completing e b is at = absurd (cc)
 helping-browsed Undoing e b is at = absurd (cc)
 helping-browsed Over e b is at = absurd (cc)
 helping-browsed Chosen e b is at = absurd (cc)

@@ -6,12 +6,15 @@ pub mod FindLemmas
 pub mod StayLemmas
 pub mod MarkLemmas
 pub mod MoveLemmas
+pub mod WayLemmas
 pub mod NameLemmas
 pub mod DiscardLemmas
 pub mod TrashLemmas
 pub mod HelpLemmas
 pub mod LawLemmas
 pub mod GlanceLemmas
+pub mod GoingLemmas
+pub mod FinishLemmas
 pub mod SeriesLemmas
 pub mod QuestionLemmas
 pub mod SoundLemmas

@@ -12,6 +12,7 @@ use Rattle.files.specs.declared.browser.Browser.{Browser}
 use Rattle.files.specs.declared.browser.Mode.{Mode}
 use Rattle.files.specs.declared.browser.Mode.TheVariants.{Looking, Listing, Entering, Leaving, Trashing, Removing}
 use Rattle.files.specs.declared.browser.Mode.TheVariants.{Renaming, Making, Over, Pasting, Sorting, Seeking}
+use Rattle.files.specs.declared.browser.Mode.TheVariants.{Going, Visiting, Locating, Completing}
 use Rattle.files.specs.declared.browser.Mode.TheVariants.{Returning, Undoing, Helping, Chosen}
 use Rattle.files.specs.Names.{shown_name}
 use Rattle.files.specs.Texts.{shown_row, selected_text, selected_shown, status_in}
@@ -217,6 +218,10 @@ asks-file Helping b path at is = absurd (none-some _ is)
 asks-file Chosen b path at is = absurd (none-some _ is)
 asks-file Sorting b path at is = absurd (none-some _ is)
 asks-file Seeking b path at is = absurd (none-some _ is)
+asks-file Going b path at is = absurd (none-some _ is)
+asks-file Visiting b path at is = absurd (none-some _ is)
+asks-file Locating b path at is = absurd (none-some _ is)
+asks-file Completing b path at is = absurd (none-some _ is)
 asks-file Trashing b path at is = absurd (none-some _ is)
 asks-file Looking b path at is = absurd (none-some _ is)
 asks-file Listing b path at is = absurd (none-some _ is)
@@ -239,6 +244,10 @@ asks-folder Helping b path at is = absurd (none-some _ is)
 asks-folder Chosen b path at is = absurd (none-some _ is)
 asks-folder Sorting b path at is = absurd (none-some _ is)
 asks-folder Seeking b path at is = absurd (none-some _ is)
+asks-folder Going b path at is = absurd (none-some _ is)
+asks-folder Visiting b path at is = absurd (none-some _ is)
+asks-folder Locating b path at is = absurd (none-some _ is)
+asks-folder Completing b path at is = absurd (none-some _ is)
 asks-folder Trashing b path at is = absurd (none-some _ is)
 asks-folder Looking b path at is = absurd (none-some _ is)
 asks-folder Listing b path at is = absurd (none-some _ is)
@@ -288,6 +297,10 @@ asks-rename Removing b from to at is = absurd (removal-no-rename b (slice_get b.
 asks-rename Making b from to at is = absurd (make-no-rename (is_name (field_text b.typed)) _ from to is)
 asks-rename Sorting b from to at is = absurd (none-some _ is)
 asks-rename Seeking b from to at is = absurd (none-some _ is)
+asks-rename Going b from to at is = absurd (none-some _ is)
+asks-rename Visiting b from to at is = absurd (none-some _ is)
+asks-rename Locating b from to at is = absurd (none-some _ is)
+asks-rename Completing b from to at is = absurd (none-some _ is)
 asks-rename Trashing b from to at is = absurd (none-some _ is)
 asks-rename Looking b from to at is = absurd (none-some _ is)
 asks-rename Listing b from to at is = absurd (none-some _ is)
@@ -320,6 +333,10 @@ asks-copy Entering b from to at is = absurd (none-some _ is)
 asks-copy Leaving b from to at is = absurd (none-some _ is)
 asks-copy Sorting b from to at is = absurd (none-some _ is)
 asks-copy Seeking b from to at is = absurd (none-some _ is)
+asks-copy Going b from to at is = absurd (none-some _ is)
+asks-copy Visiting b from to at is = absurd (none-some _ is)
+asks-copy Locating b from to at is = absurd (none-some _ is)
+asks-copy Completing b from to at is = absurd (none-some _ is)
 asks-copy Over b from to at is = absurd (none-some _ is)
 
 -- ---- the trash

@@ -12,6 +12,7 @@ use Rattle.files.specs.declared.browser.Browser.{Browser}
 use Rattle.files.specs.declared.browser.Mode.{Mode}
 use Rattle.files.specs.declared.browser.Mode.TheVariants.{Looking, Listing, Entering, Leaving, Trashing, Removing}
 use Rattle.files.specs.declared.browser.Mode.TheVariants.{Renaming, Making, Over, Pasting, Sorting, Seeking}
+use Rattle.files.specs.declared.browser.Mode.TheVariants.{Going, Visiting, Locating, Completing}
 use Rattle.files.specs.declared.browser.Mode.TheVariants.{Returning, Undoing, Helping, Chosen}
 use Rattle.files.specs.declared.notes.Noted.{Noted}
 use Rattle.files.specs.declared.keys.Wish.TheVariants as wish
@@ -24,7 +25,7 @@ use Rattle.files.specs.Marks.{is_mark_named, first_mark_place, marks_but, is_sel
 use Rattle.files.specs.Moves.{browsed_after, new_browser, wished, first_mark_selected, removals_go_on, gone_on, folder_shown}
 use Rattle.files.specs.Moves.{found_selected, mode_following, typing_name, noted_unless, noted_after}
 use Rattle.files.specs.Laws.{AsksAbout, WillAskAbout}
-use Rattle.files.proofs.LawLemmas.{event-marks, goes-on}
+use Rattle.files.proofs.LawLemmas.{event-marks, goes-on, completed-keeps, failed-keeps}
 use Rattle.files.proofs.MarkLemmas.{left-listed, first-selected, head-of, some-listed}
 
 pub marks-first : (alloc : Global) (title : List ℕ) (size : Size) → AreMarksListed (new_browser alloc title size)
@@ -37,7 +38,8 @@ marks-next b (message.Tick passed) all = all
 marks-next b (message.Answer (outcome.Listed l)) all = left-listed l b
 marks-next b (message.Answer (outcome.Glanced g)) all = all
 marks-next b (message.Answer outcome.Done) all = (goes-on b.mode b).marks all
-marks-next b (message.Answer (outcome.Failed why)) all = all
+marks-next b (message.Answer (outcome.Completed rest)) all = (completed-keeps rest b).marks all
+marks-next b (message.Answer (outcome.Failed why)) all = (failed-keeps why b).marks all
 
 -- ---- questions
 
@@ -136,6 +138,10 @@ marked-by Renaming c asks = absurd (never asks)
 marked-by Making c asks = absurd (never asks)
 marked-by Sorting c asks = absurd (never asks)
 marked-by Seeking c asks = absurd (never asks)
+marked-by Going c asks = absurd (never asks)
+marked-by Visiting c asks = absurd (never asks)
+marked-by Locating c asks = absurd (never asks)
+marked-by Completing c asks = absurd (never asks)
 marked-by Undoing c asks = absurd (never asks)
 marked-by Helping c asks = absurd (never asks)
 marked-by Over c asks = absurd (never asks)

@@ -10,6 +10,7 @@ use Rattle.files.specs.declared.browser.Browser.{Browser}
 use Rattle.files.specs.declared.browser.Mode.{Mode}
 use Rattle.files.specs.declared.browser.Mode.TheVariants.{Looking, Listing, Entering, Leaving, Trashing, Removing}
 use Rattle.files.specs.declared.browser.Mode.TheVariants.{Renaming, Making, Over, Pasting, Sorting, Seeking}
+use Rattle.files.specs.declared.browser.Mode.TheVariants.{Going, Visiting, Locating, Completing}
 use Rattle.files.specs.declared.browser.Mode.TheVariants.{Returning, Undoing, Helping, Chosen}
 use Rattle.files.specs.declared.trash.Discard.{Discard}
 use Rattle.files.specs.Texts.{prompt}
@@ -35,23 +36,27 @@ appended-one (Err e) new old one two same last = tt
 
 -- what stands before a name that is typed for a new folder
 pub prompt-other : (mode : Mode) (b : Browser) → (mode ≡ Renaming → ⊥) → (mode ≡ Pasting → ⊥) → (mode ≡ Seeking → ⊥)
-    → prompt mode b ≡ codes "make the folder \""
-prompt-other Looking b one two three = refl
-prompt-other Listing b one two three = refl
-prompt-other Entering b one two three = refl
-prompt-other Leaving b one two three = refl
-prompt-other Trashing b one two three = refl
-prompt-other Removing b one two three = refl
-prompt-other Renaming b one two three = absurd (one refl)
-prompt-other Making b one two three = refl
-prompt-other Pasting b one two three = absurd (two refl)
-prompt-other Sorting b one two three = refl
-prompt-other Seeking b one two three = absurd (three refl)
-prompt-other Over b one two three = refl
-prompt-other Returning b one two three = refl
-prompt-other Undoing b one two three = refl
-prompt-other Helping b one two three = refl
-prompt-other Chosen b one two three = refl
+    → (mode ≡ Going → ⊥) → prompt mode b ≡ codes "make the folder \""
+prompt-other Looking b one two three four = refl
+prompt-other Listing b one two three four = refl
+prompt-other Entering b one two three four = refl
+prompt-other Leaving b one two three four = refl
+prompt-other Trashing b one two three four = refl
+prompt-other Removing b one two three four = refl
+prompt-other Renaming b one two three four = absurd (one refl)
+prompt-other Making b one two three four = refl
+prompt-other Pasting b one two three four = absurd (two refl)
+prompt-other Sorting b one two three four = refl
+prompt-other Seeking b one two three four = absurd (three refl)
+prompt-other Going b one two three four = absurd (four refl)
+prompt-other Visiting b one two three four = refl
+prompt-other Locating b one two three four = refl
+prompt-other Completing b one two three four = refl
+prompt-other Over b one two three four = refl
+prompt-other Returning b one two three four = refl
+prompt-other Undoing b one two three four = refl
+prompt-other Helping b one two three four = refl
+prompt-other Chosen b one two three four = refl
 
 -- the path of a name, if it is one
 pub entry-by : (named : Bool) (path got : List ℕ) (o : Option (List ℕ)) → o ≡ (if named then Some path else None) → o ≡ Some got

@@ -60,6 +60,7 @@ key_words wish.ToLast = codes "last entry"
 key_words wish.Enter = codes "opens the folder"
 key_words wish.Leave = codes "the folder above"
 key_words wish.Base = codes "the folder all is in"
+key_words wish.Go = codes "to a path"
 key_words wish.Hidden = codes "hidden entries, or not"
 key_words wish.Sort = codes "by name, size, date;"
 key_words wish.Seek = codes "seeks a text in names"
@@ -70,8 +71,8 @@ key_words wish.Unmark = codes "unmarks all"
 key_words wish.NoteCopy = codes "notes to copy"
 key_words wish.NoteMove = codes "to move"
 key_words wish.Paste = codes "pastes what is noted"
-key_words wish.Rename = codes "another name"
-key_words wish.Make = codes "a new folder"
+key_words wish.Rename = codes "renames"
+key_words wish.Make = codes "makes a folder"
 key_words wish.Trash = codes "to the trash"
 key_words wish.Remove = codes "for good"
 key_words wish.Undo = codes "undoes the last move"
@@ -91,17 +92,18 @@ key_letters =
     ∷ lists_letter 4 0 (byte "l") wish.Enter 16
     ∷ lists_letter 5 0 (byte "h") wish.Leave 16
     ∷ lists_letter 6 0 (byte "~") wish.Base 16
-    ∷ lists_letter 7 0 (byte ".") wish.Hidden 16
-    ∷ lists_letter 8 0 (byte "s") wish.Sort 16
-    ∷ lists_letter 10 0 (byte "/") wish.Seek 16
-    ∷ lists_letter 11 0 (byte "n") wish.SeekOn 16
-    ∷ lists_letter 11 1 (byte "N") wish.SeekBack 22
-    ∷ lists_named 12 0 (codes "Space") (byte " ") wish.Mark 16
-    ∷ lists_letter 13 0 (byte "y") wish.NoteCopy 16
-    ∷ lists_letter 13 1 (byte "d") wish.NoteMove 31
-    ∷ lists_letter 14 0 (byte "p") wish.Paste 16
-    ∷ lists_letter 15 0 (byte "r") wish.Rename 16
-    ∷ lists_letter 16 0 (byte "a") wish.Make 16
+    ∷ lists_letter 7 0 (byte ":") wish.Go 16
+    ∷ lists_letter 8 0 (byte ".") wish.Hidden 16
+    ∷ lists_letter 9 0 (byte "s") wish.Sort 16
+    ∷ lists_letter 11 0 (byte "/") wish.Seek 16
+    ∷ lists_letter 12 0 (byte "n") wish.SeekOn 16
+    ∷ lists_letter 12 1 (byte "N") wish.SeekBack 22
+    ∷ lists_named 13 0 (codes "Space") (byte " ") wish.Mark 16
+    ∷ lists_letter 14 0 (byte "y") wish.NoteCopy 16
+    ∷ lists_letter 14 1 (byte "d") wish.NoteMove 31
+    ∷ lists_letter 15 0 (byte "p") wish.Paste 16
+    ∷ lists_letter 16 0 (byte "r") wish.Rename 16
+    ∷ lists_letter 16 1 (byte "a") wish.Make 25
     ∷ lists_letter 17 0 (byte "D") wish.Trash 16
     ∷ lists_letter 17 1 (byte "X") wish.Remove 30
     ∷ lists_letter 18 0 (byte "z") wish.Undo 16
@@ -130,7 +132,7 @@ key_others =
     ∷ lists_key 5 2 (codes "Back") key.Backspace wish.Leave 16
     ∷ lists_key 5 3 (codes "Left") key.Left wish.Leave 16
     ∷ lists_key 20 2 (codes "F1") (key.F 1) wish.Help 16
-    ∷ lists_key 12 2 (codes "Esc") key.Esc wish.Unmark 23
+    ∷ lists_key 13 2 (codes "Esc") key.Esc wish.Unmark 23
     ∷ []
 
 abbrev pub key_table : List KeyEntry

@@ -18,7 +18,7 @@ use Rattle.files.specs.declared.keys.Wish.TheVariants.{Nothing, Down, Up, PageDo
 use Rattle.files.specs.declared.keys.Wish.TheVariants.{ToFirst, ToLast, Enter, Leave, Hidden, Rename, Make}
 use Rattle.files.specs.declared.keys.Wish.TheVariants.{Trash, Remove, Quit, Sort, Seek, SeekOn, SeekBack}
 use Rattle.files.specs.declared.keys.Wish.TheVariants.{NoteCopy, NoteMove, Paste, WheelDown, WheelUp, Click}
-use Rattle.files.specs.declared.keys.Wish.TheVariants.{Base, Undo, Help, Choose, Mark, Unmark}
+use Rattle.files.specs.declared.keys.Wish.TheVariants.{Base, Go, Undo, Help, Choose, Mark, Unmark}
 use Rattle.files.specs.declared.order.Order.{Order}
 use Rattle.files.specs.declared.order.SortBy.{SortBy}
 use Rattle.files.specs.declared.order.SortBy.TheVariants.{Name, Size, Date}
@@ -28,7 +28,7 @@ use Rattle.text_field.specs.declared.keys.Edit.{Edit}
 use Rattle.text_field.specs.Keys.{edit_of}
 
 -- characters: j, k, g, G move; l enters a folder, h leaves it, and the tilde leads to the one that all is
--- in; the dot shows hidden entries; r and a rename and make a folder; D puts into the trash, and X removes
+-- in, the colon to a typed one; the dot shows hidden entries; r and a rename and make a folder; D puts into the trash, and X removes
 -- for good; s sorts; a slash seeks a text in names, and n and N go on; a blank marks; y and d note what is to
 -- be copied and moved, and p does it; z takes back what was renamed or moved last; a question mark shows the
 -- keys; q ends, and Q tells the folder
@@ -41,6 +41,7 @@ character_wish c =
     else if c == byte "l" then Enter
     else if c == byte "h" then Leave
     else if c == byte "~" then Base
+    else if c == byte ":" then Go
     else if c == byte "." then Hidden
     else if c == byte "s" then Sort
     else if c == byte "/" then Seek
@@ -189,3 +190,12 @@ control_typing _ event = edit_typing (edit_of event)
 abbrev pub event_typing : Event → Typing
 event_typing (Key k) = if holds_control k then control_typing k.code (Key k) else code_typing k.code (Key k)
 event_typing event = edit_typing (edit_of event)
+
+-- while a path is typed: Tab completes it
+abbrev pub is_tab_code : KeyCode → Bool
+is_tab_code key.Tab = true
+is_tab_code _ = false
+
+abbrev pub is_tab_key : Event → Bool
+is_tab_key (Key k) = is_tab_code k.code
+is_tab_key _ = false

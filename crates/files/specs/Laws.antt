@@ -1,6 +1,7 @@
 -- What is known of browsers.
-use Rattle.std.specs.Prelude.{◌≡◌, ◌⊎◌, false, ◌+◌, ◌<◌, ◌≤◌, ℕ, Bool, true, List, Option, ◌++◌, codes, string_bytes}
-use Rattle.ratatui_files.specs.Paths.{path_in}
+use Rattle.std.specs.Prelude.{◌≡◌, ◌⊎◌, false, ◌+◌, ◌<◌, ◌≤◌, ℕ, Bool, true, List, take, Option, Some, ◌++◌, codes, string_bytes}
+use Rattle.text_field.specs.Field.{field_text}
+use Rattle.ratatui_files.specs.Paths.{path_in, is_inside}
 use Rattle.ratatui_files.specs.declared.command.Command.{Command}
 use Rattle.ratatui_files.specs.declared.command.Command.TheVariants.{Read, List as ListFolder}
 use Rattle.ratatui_acts.specs.Turns.{ActingRules}
@@ -15,6 +16,9 @@ use Rattle.files.specs.declared.browser.Mode.{Mode}
 use Rattle.files.specs.declared.browser.Mode.TheVariants.{Listing, Trashing, Removing, Renaming, Making, Pasting, Undoing}
 use Rattle.files.specs.Moves.{last_row_place, list_rows, acts, browsed_after, browser_asked, is_over}
 use Rattle.files.specs.Names.{shown_name}
+use Rattle.files.specs.Sorting.{IsPlaceOf}
+use Rattle.files.specs.Ways.{way_of}
+use Rattle.files.specs.declared.list.Listing.{Listing as ListingData}
 use Rattle.files.specs.Texts.{shown_row, selected_text, status_told, fits}
 
 -- the selection is an entry of the list, unless that is empty, and stands in one of its rows, if there are some
@@ -107,3 +111,20 @@ IsLook _ = ⊥
 abbrev pub seen_last : Side → Browser → Option Glance
 seen_last Above b = b.glances.above
 seen_last Ahead b = b.glances.ahead
+
+-- ---- typed paths
+
+-- a path is a folder's, or leads into it
+abbrev pub IsWithin : List ℕ → List ℕ → Type 0
+IsWithin folder path = (path ≡ folder) ⊎ (is_inside folder path ≡ true)
+
+-- the typed path leads to a name in the folder that is shown then, and that is selected, or else the first entry
+pub record LeadsToEntry (b : Browser) (l : ListingData) (c : Browser) : Type 0 where
+  pub name : List ℕ
+  pub leads : way_of b (field_text b.typed) ≡ Some (path_in c.folder name)
+  pub place : IsPlaceOf name 0 l.rows l.place
+
+-- a text is the beginning of another one
+pub record IsFront (front text : List ℕ) : Type 0 where
+  pub count : ℕ
+  pub is : front ≡ take count text

@@ -8,6 +8,8 @@ pub mod Marks
 pub mod Texts
 pub mod Dates
 pub mod Trash
+pub mod Ways
+pub mod Completions
 pub mod Answers
 pub mod Above
 pub mod Glances

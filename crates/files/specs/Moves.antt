@@ -19,9 +19,10 @@ use Rattle.files.specs.declared.browser.Mode.{Mode}
 use Rattle.files.specs.declared.browser.Mode.TheVariants.{Looking, Listing, Entering, Leaving, Trashing, Removing}
 use Rattle.files.specs.declared.browser.Mode.TheVariants.{Renaming, Making, Pasting, Sorting, Seeking, Over}
 use Rattle.files.specs.declared.browser.Mode.TheVariants.{Returning, Undoing, Helping, Chosen}
+use Rattle.files.specs.declared.browser.Mode.TheVariants.{Going, Visiting, Locating, Completing}
 use Rattle.files.specs.declared.browser.Note.{Note}
 use Rattle.files.specs.declared.browser.Note.TheVariants.{Place, Failed, Narrow, NoTrash, Missing}
-use Rattle.files.specs.declared.browser.Note.TheVariants.{Noted as TellsNoted, NothingNoted, NothingMoved}
+use Rattle.files.specs.declared.browser.Note.TheVariants.{Noted as TellsNoted, NothingNoted, NothingMoved, Outside}
 use Rattle.files.specs.declared.notes.Noted.{Noted}
 use Rattle.files.specs.declared.order.Order.{Order}
 use Rattle.files.specs.declared.order.SortBy.TheVariants.{Name}
@@ -33,7 +34,7 @@ use Rattle.files.specs.declared.list.Row.{Row}
 use Rattle.files.specs.declared.list.Listing.{Listing as ListingData}
 use Rattle.files.specs.declared.list.Outcome.{Outcome}
 use Rattle.files.specs.declared.list.Outcome.TheVariants as outcome
-use Rattle.files.specs.Keys.{event_wish, event_typing, event_order, is_input, says_yes}
+use Rattle.files.specs.Keys.{event_wish, event_typing, event_order, is_tab_key, is_input, says_yes}
 use Rattle.files.specs.Finding.{next_named, previous_named}
 use Rattle.files.specs.declared.marks.Mark.{Mark}
 use Rattle.files.specs.Marks.{is_selected_marked, marks_turned, marks_but, marks_left, first_mark_place}
@@ -44,6 +45,9 @@ use Rattle.files.specs.Help.{help_rows}
 use Rattle.files.specs.Glances.{no_glances, aged, glance_taken, side_wanted}
 use Rattle.files.specs.Texts.{selected_text, column_in, fits, place_in_row}
 use Rattle.files.specs.Questions.{named_path, change_in}
+use Rattle.files.specs.Ways.{way_of}
+use Rattle.ratatui_files.specs.declared.answer.Failure.{Failure}
+use Rattle.ratatui_files.specs.declared.answer.Failure.TheVariants as failure
 
 -- a browser that asks for the folder that all is in
 abbrev pub new_browser : Global → List ℕ → Size → Browser
@@ -241,6 +245,35 @@ sought_into Accept b = typed_sought b
 sought_into Cancel b = record b { mode = Looking }
 sought_into Ignore b = b
 
+-- ---- typed paths
+
+-- a typed path is taken: it is asked for what it leads to, if that isn't outside
+abbrev pub going_to : Option (List ℕ) → Browser → Browser
+going_to (Some path) b = record b { mode = Visiting }
+going_to None b = record b { mode = Looking; note = Outside }
+
+abbrev pub path_into : Typing → Browser → Browser
+path_into (Change edit) b = typing_in b.mode (edited edit b.typed) b
+path_into Accept b = going_to (way_of b (field_text b.typed)) b
+path_into Cancel b = record b { mode = Looking }
+path_into Ignore b = b
+
+-- Tab asks how it goes on
+abbrev pub gone_by : Event → Browser → Browser
+gone_by event b = if is_tab_key event then record b { mode = Completing } else path_into (event_typing event) b
+
+-- what is typed goes on with this, at its end
+abbrev pub typed_on : List ℕ → FieldData → FieldData
+typed_on rest f = typing rest (moved_right (reach_right All f.after) f)
+
+abbrev pub is_completing : Mode → Bool
+is_completing Completing = true
+is_completing _ = false
+
+-- an answer to that; when it isn't asked any longer, the answer is dropped
+abbrev pub path_completed : List ℕ → Browser → Browser
+path_completed rest b = if is_completing b.mode then typing_in Going (typed_on rest b.typed) b else b
+
 -- ---- what is noted
 
 -- an entry, if it has a path and is to be moved, or is no folder
@@ -314,6 +347,7 @@ granted wish.NoteMove b = note_taken true b
 granted wish.Paste b = pasting b
 granted wish.Rename b = renaming b
 granted wish.Make b = typing_in Making new_field b
+granted wish.Go b = typing_in Going new_field b
 granted wish.Trash b = asking_to_trash b
 granted wish.Undo b = asking_to_undo b
 granted other b = went other b
@@ -370,6 +404,7 @@ browsed Renaming event b = typed_into (event_typing event) b
 browsed Making event b = typed_into (event_typing event) b
 browsed Pasting event b = typed_into (event_typing event) b
 browsed Seeking event b = sought_into (event_typing event) b
+browsed Going event b = gone_by event b
 browsed Sorting event b = order_taken (event_order event) b
 browsed Undoing event b = removal_answered event b
 browsed Helping event b = help_left b
@@ -487,13 +522,26 @@ asking_next next b = record b {
 abbrev pub listing_shown : ListingData → Browser → Browser
 listing_shown l b = asking_next b.follows (folder_shown l b)
 
+-- the typed path leads to no folder, but to something
+abbrev pub leads_to_leaf : Mode → Failure → Bool
+leads_to_leaf Visiting failure.NotAFolder = true
+leads_to_leaf _ _ = false
+
+-- what was asked for failed, and why is told; but a path that was to be completed goes on being typed, and what the
+-- typed path leads to is selected in its folder if it is none
+abbrev pub failed : Failure → Browser → Browser
+failed why b =
+    if is_completing b.mode then record b { mode = Going }
+    else if leads_to_leaf b.mode why then record b { mode = Locating }
+    else record b { mode = Looking; follows = Looking; seeks_typed = false; note = Failed b.mode why }
+
 -- what is done leads to the folder anew, what is seen is shown beside it, and what failed leads to its reason
 abbrev pub outcome_taken : Outcome → Browser → Browser
 outcome_taken (outcome.Listed l) b = listing_shown l b
 outcome_taken outcome.Done b = finished b
 outcome_taken (outcome.Glanced g) b = glance_taken g b
-outcome_taken (outcome.Failed failure) b =
-    record b { mode = Looking; follows = Looking; seeks_typed = false; note = Failed b.mode failure }
+outcome_taken (outcome.Completed rest) b = path_completed rest b
+outcome_taken (outcome.Failed why) b = failed why b
 
 abbrev pub outcome_told : Outcome → Browser → Browser
 outcome_told o b = record (outcome_taken o b) { is_sure = false; is_quiet = false }
@@ -505,12 +553,15 @@ browsed_after b (message.Answer o) = outcome_told o b
 
 -- ---- what is asked for
 
--- something is asked for: a folder that is listed, or a change that was answered by yes
+-- something is asked for: a folder that is listed, how a path goes on, or a change that was answered by yes
 abbrev pub asks_in : Mode → Bool → Bool
 asks_in Listing sure = true
 asks_in Entering sure = true
 asks_in Leaving sure = true
 asks_in Returning sure = true
+asks_in Visiting sure = true
+asks_in Locating sure = true
+asks_in Completing sure = true
 asks_in Trashing sure = sure
 asks_in Removing sure = sure
 asks_in Renaming sure = sure
@@ -521,6 +572,7 @@ asks_in Helping sure = false
 asks_in Chosen sure = false
 asks_in Sorting sure = false
 asks_in Seeking sure = false
+asks_in Going sure = false
 asks_in Looking sure = false
 asks_in Over sure = false
 

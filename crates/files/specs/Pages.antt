@@ -9,7 +9,7 @@ use Rattle.ratatui_core.specs.Widgets.{ChangesWithin, OnPart}
 use Rattle.widget_boxes.specs.Titles.{InTurn}
 use Rattle.files.specs.declared.browser.Browser.{Browser}
 use Rattle.files.specs.declared.browser.Mode.{Mode}
-use Rattle.files.specs.declared.browser.Mode.TheVariants.{Renaming, Making, Pasting, Seeking}
+use Rattle.files.specs.declared.browser.Mode.TheVariants.{Renaming, Making, Pasting, Seeking, Going, Completing}
 use Rattle.ratatui_core.specs.Buffer.{text_columns}
 use Rattle.ratatui_core.specs.Terminal.{TerminalData}
 use Rattle.ratatui_ansi.specs.Backend.{BackendState}
@@ -98,9 +98,11 @@ cursor_in_mode Renaming b r = cursor_at_column b.column r
 cursor_in_mode Making b r = cursor_at_column b.column r
 cursor_in_mode Pasting b r = cursor_at_column b.column r
 cursor_in_mode Seeking b r = cursor_at_column b.column r
+cursor_in_mode Going b r = cursor_at_column b.column r
+cursor_in_mode Completing b r = cursor_at_column b.column r
 cursor_in_mode _ b r = None
 
--- the cursor is shown while a name is typed
+-- the cursor is shown while a name or a path is typed
 abbrev pub browser_cursor : Browser → Rect → Option Position
 browser_cursor b r = cursor_in_mode b.mode b r
 

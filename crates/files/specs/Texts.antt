@@ -11,9 +11,10 @@ use Rattle.files.specs.declared.browser.Browser.{Browser}
 use Rattle.files.specs.declared.browser.Mode.{Mode}
 use Rattle.files.specs.declared.browser.Mode.TheVariants.{Entering, Leaving, Trashing, Removing, Renaming, Making}
 use Rattle.files.specs.declared.browser.Mode.TheVariants.{Pasting, Sorting, Seeking, Returning, Undoing, Helping}
+use Rattle.files.specs.declared.browser.Mode.TheVariants.{Going, Visiting, Locating, Completing}
 use Rattle.files.specs.declared.browser.Note.{Note}
 use Rattle.files.specs.declared.browser.Note.TheVariants.{Place, Failed, Narrow, NoTrash, Missing}
-use Rattle.files.specs.declared.browser.Note.TheVariants.{Noted as TellsNoted, NothingNoted, NothingMoved}
+use Rattle.files.specs.declared.browser.Note.TheVariants.{Noted as TellsNoted, NothingNoted, NothingMoved, Outside}
 use Rattle.files.specs.declared.notes.Noted.{Noted}
 use Rattle.files.specs.declared.undo.Moved.{Moved}
 use Rattle.files.specs.Help.{keys_row}
@@ -153,6 +154,10 @@ paste_note_told b =
 abbrev pub missing_told : Browser → List ℕ
 missing_told b = codes "\"" ++ shown_name b.sought ++ codes "\" is in no name"
 
+-- where a typed path leads nothing is reached
+abbrev pub outside_told : Browser → List ℕ
+outside_told b = codes "\"" ++ shown_name (field_text b.typed) ++ codes "\" isn't in the folder that all is in"
+
 -- what stands before the name under which what is noted comes here
 abbrev pub paste_prompt : Browser → List ℕ
 paste_prompt b = paste_verb b.noted ++ codes " \"" ++ noted_shown b.noted ++ codes "\" to \""
@@ -181,6 +186,8 @@ subject Pasting b = noted_shown b.noted
 subject Undoing b = now_shown b.last_move
 subject Leaving b = codes "the folder above"
 subject Returning b = codes "the folder that all is in"
+subject Visiting b = shown_name (field_text b.typed)
+subject Locating b = shown_name (field_text b.typed)
 subject _ b = codes "this folder"
 
 -- what is told while an entry is selected
@@ -193,12 +200,14 @@ note_told Missing b = missing_told b
 note_told TellsNoted b = paste_note_told b
 note_told NothingNoted b = codes "nothing is noted: y takes a file, d a file or a folder"
 note_told NothingMoved b = codes "nothing was renamed or moved"
+note_told Outside b = outside_told b
 
--- what stands before a name that is typed
+-- what stands before a name or a path that is typed
 abbrev pub prompt : Mode → Browser → List ℕ
 prompt Renaming b = codes "rename \"" ++ selected_shown b ++ codes "\" to \""
 prompt Pasting b = paste_prompt b
 prompt Seeking b = codes "/"
+prompt Going b = codes ":"
 prompt _ b = codes "make the folder \""
 
 -- where the trash is, from the folder on that all is in
@@ -222,6 +231,10 @@ abbrev pub undo_question : Browser → List ℕ
 undo_question b =
     codes "move \"" ++ now_shown b.last_move ++ codes "\" back to \"" ++ was_shown b.last_move ++ codes "\"? y/n"
 
+-- a path that is typed
+abbrev pub typed_path_told : Browser → List ℕ
+typed_path_told b = prompt Going b ++ shown_name (field_text b.typed)
+
 -- what the last row tells
 abbrev pub status_in : Mode → Browser → List ℕ
 status_in Trashing b = trash_question b
@@ -232,6 +245,10 @@ status_in Renaming b = name_question Renaming b
 status_in Making b = name_question Making b
 status_in Pasting b = name_question Pasting b
 status_in Seeking b = prompt Seeking b ++ shown_name (field_text b.typed)
+status_in Going b = typed_path_told b
+status_in Visiting b = typed_path_told b
+status_in Locating b = typed_path_told b
+status_in Completing b = typed_path_told b
 status_in Sorting b = codes "sort by n name, s size, d date; N S D the other way round"
 status_in _ b = note_told b.note b
 

@@ -2,9 +2,10 @@
 
 ghost use Rattle.std.specs.Prelude.{◌≡◌, false, Some, IfOk, OnOk, OnErr, option_map};
 ghost use Rattle.files.specs.Moves.{new_browser, within_folder, removal_answered, order_taken, browsed, browser_at_told_size, told, outcome_told, browsed_after};
-ghost use Rattle.files.specs.Moves.{acts, asks, browser_asked, help_left, gone_on, finished, chosen};
+ghost use Rattle.files.specs.Moves.{acts, asks, browser_asked, help_left, gone_on, finished, failed, chosen};
 
 use crate::glance::Glances;
+use crate::going::{is_completing, leads_to_leaf};
 use crate::help::HELP;
 use crate::keys::{is_input, order_of, says_yes, wish_of};
 use crate::list::{Outcome, Rows};
@@ -48,6 +49,14 @@ pub enum Mode {
     Sorting,
     /// A text is typed that names are to have.
     Seeking,
+    /// The path of a folder is typed.
+    Going,
+    /// The folder is listed to which that leads.
+    Visiting,
+    /// The folder is listed that has what that leads to.
+    Locating,
+    /// It is asked how that goes on.
+    Completing,
     /// Keys say whether what was renamed or moved last is to get its old place back.
     Undoing,
     /// The list of the keys is shown, until one of them.
@@ -77,6 +86,8 @@ pub enum Note {
     NothingNoted,
     /// That nothing was renamed or moved.
     NothingMoved,
+    /// That the typed path leads out of the folder above which nothing is reached.
+    Outside,
 }
 
 /// A folder in rows, of which one is selected. What it asks for is told by itself: it is a function
@@ -258,6 +269,7 @@ impl Browser {
             Mode::Trashing | Mode::Removing | Mode::Undoing => self.take_answer(event),
             Mode::Renaming | Mode::Making | Mode::Pasting => self.take_typing(typing_of(event)),
             Mode::Seeking => self.take_sought(typing_of(event)),
+            Mode::Going => self.take_path(event),
             Mode::Sorting => {
                 self.take_order(order_of(event));
                 Ok(())
@@ -270,6 +282,9 @@ impl Browser {
             | Mode::Entering
             | Mode::Leaving
             | Mode::Returning
+            | Mode::Visiting
+            | Mode::Locating
+            | Mode::Completing
             | Mode::Over
             | Mode::Chosen => Ok(()),
         }
@@ -315,6 +330,23 @@ impl Browser {
         Ok(())
     }
 
+    // Tells why what was asked for failed. But a path that was to be completed goes on being typed,
+    // and what the typed path leads to is selected in its folder if it is none.
+    fn fail(&mut self, failure: Failure)
+        ensures { self.new ≡ failed failure self.old }
+    {
+        if is_completing(self.mode) {
+            self.mode = Mode::Going;
+        } else if leads_to_leaf(self.mode, failure) {
+            self.mode = Mode::Locating;
+        } else {
+            self.seeks_typed = false;
+            self.follows = Mode::Looking;
+            self.note = Note::Failed(self.mode, failure);
+            self.mode = Mode::Looking;
+        }
+    }
+
     // Takes an answer.
     fn take_outcome(&mut self, outcome: Outcome) -> Result<(), AllocError>
         ensures ok { OnOk result (self.new ≡ outcome_told outcome self.old) }
@@ -324,12 +356,8 @@ impl Browser {
             Outcome::Listed(listing) => self.take_listing(listing)?,
             Outcome::Done => self.finish()?,
             Outcome::Glanced(glance) => self.take_glance(glance),
-            Outcome::Failed(failure) => {
-                self.seeks_typed = false;
-                self.follows = Mode::Looking;
-                self.note = Note::Failed(self.mode, failure);
-                self.mode = Mode::Looking;
-            }
+            Outcome::Completed(rest) => self.complete(rest)?,
+            Outcome::Failed(failure) => self.fail(failure),
         }
         self.is_sure = false;
         self.is_quiet = false;
@@ -359,7 +387,13 @@ impl Browser {
         ensures { result ≡ acts self.now }
     {
         match self.mode {
-            Mode::Listing | Mode::Entering | Mode::Leaving | Mode::Returning => true,
+            Mode::Listing
+            | Mode::Entering
+            | Mode::Leaving
+            | Mode::Returning
+            | Mode::Visiting
+            | Mode::Locating
+            | Mode::Completing => true,
             Mode::Trashing
             | Mode::Removing
             | Mode::Renaming
@@ -369,6 +403,7 @@ impl Browser {
             Mode::Looking
             | Mode::Sorting
             | Mode::Seeking
+            | Mode::Going
             | Mode::Helping
             | Mode::Over
             | Mode::Chosen => false,

@@ -101,6 +101,30 @@ fn base(alloc: Global, browser: &Browser) -> Result<Wanted, AllocError>
     })
 }
 
+// The folder to which the typed path leads.
+fn typed(alloc: Global, browser: &Browser) -> Result<Option<Wanted>, AllocError>
+    ensures { IfOk result (λ wanted. IfSome wanted (Lists Mode.Visiting browser.now)) }
+{
+    match browser.way_of(browser.typed.text())? {
+        Some(folder) => Ok(Some(Wanted {
+            folder,
+            name: Text::copy(alloc, "")?,
+            other: 0,
+        })),
+        None => Ok(None),
+    }
+}
+
+// The folder that has what the typed path leads to.
+fn located(alloc: Global, browser: &Browser) -> Result<Option<Wanted>, AllocError>
+    ensures { IfOk result (λ wanted. IfSome wanted (Lists Mode.Locating browser.now)) }
+{
+    match browser.way_of(browser.typed.text())? {
+        Some(path) if path.is_inside(&browser.base) => above(alloc, &path),
+        _ => Ok(None),
+    }
+}
+
 // The folder that a browser asks for.
 fn folder_for(alloc: Global, browser: &Browser) -> Result<Option<Wanted>, AllocError>
     ensures { IfOk result (λ wanted. IfSome wanted (Lists browser.now.mode browser.now)) }
@@ -110,6 +134,8 @@ fn folder_for(alloc: Global, browser: &Browser) -> Result<Option<Wanted>, AllocE
         Mode::Entering => selected(alloc, browser),
         Mode::Leaving => above(alloc, &browser.folder),
         Mode::Returning => Ok(Some(base(alloc, browser)?)),
+        Mode::Visiting => typed(alloc, browser),
+        Mode::Locating => located(alloc, browser),
         _ => Ok(None),
     }
 }
@@ -239,9 +265,13 @@ impl<P: Performs + Drop, W: Write + Drop> Outside<Browser, OnGlass<W>> for Hands
         _command: &Browser,
     ) -> io::Result<Outcome> {
         match state.mode {
-            Mode::Listing | Mode::Entering | Mode::Leaving | Mode::Returning => {
-                Ok(self.list(state))
-            }
+            Mode::Listing
+            | Mode::Entering
+            | Mode::Leaving
+            | Mode::Returning
+            | Mode::Visiting
+            | Mode::Locating => Ok(self.list(state)),
+            Mode::Completing => Ok(self.complete(state)),
             Mode::Trashing => Ok(self.discard(glass, state)),
             Mode::Looking => Ok(self.look(state)),
             _ => Ok(self.change(glass, state)),

@@ -5,7 +5,7 @@ ghost use Rattle.ratatui_events.specs.Key.{modifier_bits};
 ghost use Rattle.files.specs.Keys.{character_wish, control_wish, code_wish, kind_wish, event_wish};
 ghost use Rattle.files.specs.Keys.{function_wish, press_wish, mouse_wish, is_left, is_press_or_turn};
 ghost use Rattle.files.specs.Keys.{holds_control, is_down_kind, is_input, is_yes_code, says_yes};
-ghost use Rattle.files.specs.Keys.{order_of_char, code_order, event_order};
+ghost use Rattle.files.specs.Keys.{order_of_char, code_order, event_order, is_tab_key};
 
 use crate::order::{Order, SortBy};
 use ratatui_events::{
@@ -40,6 +40,8 @@ pub enum Wish {
     Leave,
     /// The folder above which nothing is reached.
     Base,
+    /// The folder to which a path leads that is typed.
+    Go,
     /// Hidden entries too, or no longer.
     Hidden,
     /// Another order.
@@ -94,6 +96,7 @@ fn character_wish(code: char) -> Wish
         'l' => Wish::Enter,
         'h' => Wish::Leave,
         '~' => Wish::Base,
+        ':' => Wish::Go,
         '.' => Wish::Hidden,
         's' => Wish::Sort,
         '/' => Wish::Seek,
@@ -304,6 +307,16 @@ pub fn says_yes(event: Event) -> bool
 {
     match event {
         Event::Key(key) => !holds_control(key) && is_yes_code(key.code),
+        _ => false,
+    }
+}
+
+/// Returns whether an event is the key Tab.
+pub fn is_tab_key(event: Event) -> bool
+    ensures { result ≡ is_tab_key event }
+{
+    match event {
+        Event::Key(key) => key.code == KeyCode::Tab,
         _ => false,
     }
 }

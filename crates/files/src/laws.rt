@@ -8,7 +8,7 @@ ghost use Rattle.files.specs.declared.order.Order.{Order};
 ghost use Rattle.files.specs.Orders.{compare_rows};
 ghost use Rattle.files.specs.Finding.{next_named, previous_named, NoneBetween, IsNextNamed, IsPreviousNamed};
 ghost use Rattle.files.specs.declared.hands.Wanted.{Wanted};
-ghost use Rattle.files.specs.Doing.{Lists};
+ghost use Rattle.files.specs.Doing.{Lists, TellsListing};
 ghost use Rattle.files.specs.Sorting.{HasName, IsPlaceOf};
 ghost use Rattle.files.specs.Keys.{is_input, event_order, event_wish};
 ghost use Rattle.ratatui_events.specs.declared.event.Event.TheVariants.{Key};
@@ -42,19 +42,26 @@ ghost use Rattle.files.specs.declared.list.Outcome.TheVariants as outcome;
 ghost use Rattle.files.specs.Names.{shown_name};
 ghost use Rattle.files.specs.Texts.{selected_text, fits, status_told};
 ghost use Rattle.files.specs.Trash.{discard_in};
-ghost use Rattle.files.specs.Moves.{new_browser, browsed_after, list_rows, scrolled_list, acts, asks};
+ghost use Rattle.files.specs.Moves.{new_browser, browsed_after, list_rows, scrolled_list, acts, asks, is_completing};
 ghost use Rattle.files.specs.Questions.{change_in};
 ghost use Rattle.ratatui_acts.specs.Runs.{Now, Past, HasRun};
 ghost use Rattle.ratatui_app.specs.declared.on_glass.OnGlass.{OnGlass};
 ghost use Rattle.files.specs.RunLaws.{browsing_on, WereOnTheGlass, WereAsked};
 ghost use Rattle.files.specs.Laws.{IsSound, IsPlaced, ListsSame, AsksToRemove, AsksToRename, AsksToTrash, AsksToPaste, AsksToUndo};
-ghost use Rattle.files.specs.Laws.{AsksAbout, WillAskAbout, IsLook, seen_last};
+ghost use Rattle.files.specs.Laws.{AsksAbout, WillAskAbout, IsLook, seen_last, IsWithin, LeadsToEntry};
 ghost use Rattle.files.specs.declared.browser.Mode.TheVariants.{Looking};
 ghost use Rattle.files.specs.declared.glance.Side.{Side as SideName};
 ghost use Rattle.files.specs.declared.glance.Glance.{Glance as GlanceData};
 ghost use Rattle.files.specs.declared.looks.Aim.{Aim};
 ghost use Rattle.files.specs.Glances.{is_seen_at, seen_above, seen_ahead, aged};
 ghost use Rattle.files.specs.Looks.{IsAim};
+ghost use Rattle.std.specs.Prelude.{Bool, take, encode_utf8_all};
+ghost use Rattle.text_field.specs.Field.{field_text};
+ghost use Rattle.ratatui_files.specs.declared.answer.Answer.{Answer as AnswerData};
+ghost use Rattle.ratatui_files.specs.declared.answer.Info.{Info};
+ghost use Rattle.files.specs.declared.browser.Mode.TheVariants.{Visiting, Locating, Completing};
+ghost use Rattle.files.specs.Ways.{way_of};
+ghost use Rattle.files.specs.Completions.{entry_rest, completion};
 ghost use Rattle.files.specs.HelpTable.{key_table, AreListedKeys, HasEntryFor};
 
 use crate::browser::Browser;
@@ -87,6 +94,8 @@ pub fn only_listings_change_the_list()
     ensures tick { (b : Browser) (passed : Duration)
         → ListsSame b (browsed_after b (message.Tick passed)) }
     ensures done { (b : Browser) → ListsSame b (browsed_after b (message.Answer outcome.Done)) }
+    ensures completed { (b : Browser) (rest : List ℕ)
+        → ListsSame b (browsed_after b (message.Answer (outcome.Completed rest))) }
     ensures failed { (b : Browser) (why : Failure)
         → ListsSame b (browsed_after b (message.Answer (outcome.Failed why))) }
     ensures seen { (b : Browser) (g : GlanceData)
@@ -262,6 +271,8 @@ pub fn what_is_seen_was_answered_last()
         → (browsed_after b (message.Tick passed)).glances ≡ b.glances }
     ensures done { (b : Browser)
         → (browsed_after b (message.Answer outcome.Done)).glances ≡ b.glances }
+    ensures completed { (b : Browser) (rest : List ℕ)
+        → (browsed_after b (message.Answer (outcome.Completed rest))).glances ≡ b.glances }
     ensures failed { (b : Browser) (why : Failure)
         → (browsed_after b (message.Answer (outcome.Failed why))).glances ≡ b.glances }
     ensures listed { (b : Browser) (l : ListingData)
@@ -275,6 +286,39 @@ pub fn looks_delay_no_key_and_change_nothing()
         → (b.mode ≡ Looking) × (b.is_quiet ≡ true) × (60 ≤ b.size.width) }
     ensures light { (b : Browser) (side : SideName) (aim : Aim) → IsAim side b aim
         → IsLook aim.command }
+{}
+
+/// A typed path leads to the folder above which nothing is reached, or into it. What is shown once it
+/// is taken is the folder to which it leads, or the one that has what it leads to, selected if it is
+/// listed; if neither can be listed, the folder stays that is shown, since nothing but a listing
+/// changes that.
+pub fn typed_paths_lead_where_they_say()
+    ensures within { (b : Browser) (text path : List ℕ) → way_of b text ≡ Some path
+        → IsWithin b.base path }
+    ensures folder { (b : Browser) (w : Wanted) (a : AnswerData) (l : ListingData)
+        → Lists Visiting b w → TellsListing b.order b.has_hidden w a (outcome.Listed l)
+        → way_of b (field_text b.typed)
+        ≡ Some (browsed_after b (message.Answer (outcome.Listed l))).folder }
+    ensures entry { (b : Browser) (w : Wanted) (a : AnswerData) (l : ListingData)
+        → Lists Locating b w → TellsListing b.order b.has_hidden w a (outcome.Listed l)
+        → LeadsToEntry b l (browsed_after b (message.Answer (outcome.Listed l))) }
+{}
+
+/// What a path is completed to goes on with what was typed; and what is added begins what is left of
+/// each entry whose name has the beginning that was typed. Until it is known, nothing else is typed,
+/// and an answer to what isn't asked any longer is dropped.
+pub fn completions_go_on_with_what_is_typed()
+    ensures typed { (b : Browser) (rest : List ℕ) → b.mode ≡ Completing → (more : List ℕ)
+        × (field_text (browsed_after b (message.Answer (outcome.Completed rest))).typed
+        ≡ field_text b.typed ++ more) }
+    ensures each { (hidden : Bool) (start : List ℕ) (entries : List Info) (info : Info)
+        (rest : List ℕ) (k : ℕ) → slice_get entries k ≡ Some info
+        → entry_rest hidden start info ≡ Some rest
+        → (n : ℕ) × (completion hidden start entries ≡ encode_utf8_all (take n rest)) }
+    ensures waits { (b : Browser) (e : Event) → b.mode ≡ Completing
+        → (browsed_after b (message.Event e)).typed ≡ b.typed }
+    ensures dropped { (b : Browser) (rest : List ℕ) → is_completing b.mode ≡ false
+        → (browsed_after b (message.Answer (outcome.Completed rest))).typed ≡ b.typed }
 {}
 
 // ---- runs

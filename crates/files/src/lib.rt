@@ -7,10 +7,12 @@
 
 mod browser;
 mod columns;
+mod completions;
 mod dates;
 mod discards;
 mod glance;
 mod glancing;
+mod going;
 mod hands;
 mod help;
 mod keys;
@@ -32,6 +34,7 @@ mod texts;
 mod trash;
 mod typing;
 mod undo;
+mod ways;
 
 pub use browser::{Browser, Mode, Note};
 pub use glance::{Glance, Glances, Lines, Side, Sight};

@@ -3,7 +3,7 @@
 ghost use Rattle.std.specs.Prelude.{◌≡◌, length, option_map, slice_get};
 
 use crate::glance::Glance;
-use ratatui_files::{Failure, Path};
+use ratatui_files::{Failure, Path, Text};
 use std::marker::Model;
 
 /// A row of the list: what is told of an entry, and what its name is compared by.
@@ -88,6 +88,8 @@ pub enum Outcome {
     Listed(Listing),
     /// What is seen beside a folder.
     Glanced(Glance),
+    /// How a typed path goes on.
+    Completed(Text),
     /// It was done.
     Done,
     /// It wasn't done, and nothing has changed.

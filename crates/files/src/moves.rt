@@ -275,6 +275,7 @@ impl Browser {
             Wish::Trash => note = self.ask_to_trash(),
             Wish::Undo => note = self.ask_to_undo(),
             Wish::Seek => self.begin(Mode::Seeking, TextField::new(self.alloc))?,
+            Wish::Go => self.begin(Mode::Going, TextField::new(self.alloc))?,
             Wish::SeekOn => note = self.seek_on(),
             Wish::SeekBack => note = self.seek_back(),
             Wish::Mark => self.mark()?,

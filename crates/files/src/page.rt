@@ -230,9 +230,12 @@ impl Application for Browser {
 
     fn cursor(&self, area: Rect) -> Option<Position> {
         match self.mode {
-            Mode::Renaming | Mode::Making | Mode::Pasting | Mode::Seeking => {
-                cursor_at_column(self.column, area)
-            }
+            Mode::Renaming
+            | Mode::Making
+            | Mode::Pasting
+            | Mode::Seeking
+            | Mode::Going
+            | Mode::Completing => cursor_at_column(self.column, area),
             _ => None,
         }
     }

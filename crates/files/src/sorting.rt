@@ -11,8 +11,8 @@ use ratatui_files::{Entries, Info, Kind};
 use std::alloc::{AllocError, Global};
 use std::time::Duration;
 
-// Whether an entry of this name is listed.
-fn is_listed(has_hidden: bool, name: &str) -> bool
+/// Returns whether an entry of this name is listed.
+pub(crate) fn is_listed(has_hidden: bool, name: &str) -> bool
     ensures { result ≡ is_listed has_hidden name.now }
 {
     has_hidden || !name.starts_with('.')

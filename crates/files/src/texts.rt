@@ -1,6 +1,8 @@
 //! The texts that stand in the rows.
 
 ghost use Rattle.std.specs.Prelude.{◌≡◌, ◌++◌, ◌<◌, OnOk, IfOk, string_bytes};
+ghost use Rattle.std.specs.Option.{option_copied};
+ghost use Rattle.ratatui_files.specs.Paths.{after_start};
 ghost use Rattle.ratatui_core.specs.Buffer.{text_columns};
 ghost use Rattle.files.specs.Texts.{failure_text, shown_row, file_size_text, size_beside, row_told, title_text, selected_text, sought_text};
 ghost use Rattle.files.specs.Texts.{without_start, inner_text, trash_shown, trash_question};
@@ -8,7 +10,7 @@ ghost use Rattle.files.specs.Texts.{selected_shown, place_told, subject, note_to
 ghost use Rattle.files.specs.Texts.{fits, text_in, entry_at, row_place, place_in_row, body_in};
 ghost use Rattle.files.specs.Texts.{place_shown, now_shown, was_shown, undo_question};
 ghost use Rattle.files.specs.Texts.{noted_shown, paste_verb, paste_note_told, missing_told, paste_prompt, order_told, unnamed_text};
-ghost use Rattle.files.specs.Texts.{marked_text, more_text};
+ghost use Rattle.files.specs.Texts.{marked_text, more_text, outside_told};
 ghost use Rattle.files.specs.Marks.{mark_lead};
 
 use crate::browser::{Browser, Mode, Note};
@@ -140,11 +142,21 @@ fn push_place_of(text: &mut String, path: &Path) -> Result<(), AllocError>
     push_name(text, path.as_str())
 }
 
+/// Returns what follows a beginning of a text, if it begins so.
+pub(crate) fn after_start<'a>(start: &str, text: &'a str) -> Option<&'a str>
+    ensures { option_copied result ≡ after_start start.now text.now }
+{
+    match text.strip_prefix(start) {
+        Some(rest) => Some(rest),
+        None => None,
+    }
+}
+
 // What follows a beginning of a text, or the text if it begins otherwise.
 fn without_start<'a>(start: &str, text: &'a str) -> &'a str
     ensures { result.now ≡ without_start start.now text.now }
 {
-    match text.strip_prefix(start) {
+    match after_start(start, text) {
         Some(rest) => rest,
         None => text,
     }
@@ -198,8 +210,8 @@ impl Browser {
         }
     }
 
-    // The folder that is shown, as it is called in the one above which nothing is reached.
-    fn inner_text(&self) -> &str
+    /// Returns the folder that is shown, as it is called in the one above which nothing is reached.
+    pub(crate) fn inner_text(&self) -> &str
         ensures { result.now ≡ inner_text self.now }
     {
         without_start("/", without_start(self.base.as_str(), self.folder.as_str()))
@@ -280,6 +292,16 @@ impl Browser {
         text.push_str("\" is in no name")
     }
 
+    // Appends that nothing is reached where a typed path leads.
+    fn push_outside(&self, text: &mut String) -> Result<(), AllocError>
+        ensures { OnOk result (string_bytes text.new
+            ≡ string_bytes text.old ++ outside_told self.now) }
+    {
+        text.push_str("\"")?;
+        push_name(text, self.typed.text())?;
+        text.push_str("\" isn't in the folder that all is in")
+    }
+
     // Appends what stands before the name under which what is noted comes here.
     fn push_paste_prompt(&self, text: &mut String) -> Result<(), AllocError>
         ensures { OnOk result (string_bytes text.new
@@ -305,6 +327,7 @@ impl Browser {
             Mode::Undoing => self.push_now(text),
             Mode::Leaving => text.push_str("the folder above"),
             Mode::Returning => text.push_str("the folder that all is in"),
+            Mode::Visiting | Mode::Locating => push_name(text, self.typed.text()),
             _ => text.push_str("this folder"),
         }
     }
@@ -324,6 +347,7 @@ impl Browser {
                 text.push_str("nothing is noted: y takes a file, d a file or a folder")
             }
             Note::NothingMoved => text.push_str("nothing was renamed or moved"),
+            Note::Outside => self.push_outside(text),
             Note::Failed(mode, failure) => {
                 self.push_subject(mode, text)?;
                 text.push_str(": ")?;
@@ -332,7 +356,7 @@ impl Browser {
         }
     }
 
-    // Appends what stands before a name that is typed.
+    // Appends what stands before a name or a path that is typed.
     fn push_prompt(&self, mode: Mode, text: &mut String) -> Result<(), AllocError>
         ensures { OnOk result (string_bytes text.new
             ≡ string_bytes text.old ++ prompt mode self.now) }
@@ -345,6 +369,7 @@ impl Browser {
             }
             Mode::Pasting => self.push_paste_prompt(text),
             Mode::Seeking => text.push_str("/"),
+            Mode::Going => text.push_str(":"),
             _ => text.push_str("make the folder \""),
         }
     }
@@ -431,6 +456,10 @@ impl Browser {
             }
             Mode::Seeking => {
                 self.push_prompt(Mode::Seeking, &mut text)?;
+                push_name(&mut text, self.typed.text())?;
+            }
+            Mode::Going | Mode::Visiting | Mode::Locating | Mode::Completing => {
+                self.push_prompt(Mode::Going, &mut text)?;
                 push_name(&mut text, self.typed.text())?;
             }
             Mode::Sorting => {

@@ -35,8 +35,10 @@ static HELP: &str =
     "files [--trash TRASH] [FOLDER]: shows a folder, the one it is begun in if none is named. Nothing
 above it is reached.
 j k g G, Ctrl+D Ctrl+U, arrows, Home, End, PageUp and PageDown select an entry. l, Enter and Right
-show the folder that is selected; h, Left and Backspace the one above, ~ the first one. A dot shows
-hidden entries. The wheel moves by three, a click selects an entry, and enters the selected folder.
+show the folder that is selected; h, Left and Backspace the one above, ~ the first one. After a
+colon the path of a folder, or of an entry, is typed: from the folder that is shown, or after / or
+~/ from the first one; Tab completes it, Enter goes there, Esc doesn't. A dot shows hidden entries.
+The wheel moves by three, a click selects an entry, and enters the selected folder.
 On 60 columns and more the folder above is seen on the left, and what is selected on the right: what
 a folder holds, the first 65536 bytes of a text, or how many bytes another file has.
 s and then n, s or d sorts by name, size or date, and N, S or D the other way round; folders stay

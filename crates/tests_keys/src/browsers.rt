@@ -305,3 +305,56 @@ fn shows_what_is_selected(rt: HostRuntime) -> Result<(), Fail> {
     assert_stored!(rt; end.screen.terminal().backend(), screens::ABOVE);
     Ok(())
 }
+
+#[test]
+fn goes_to_typed_paths(rt: HostRuntime) -> Result<(), Fail> {
+    let keys: &[&[u8]] = &[
+        b":docs\raone",
+        b"",
+        b"\r",
+        b":../docs/./\ratwo",
+        b"",
+        b"\r",
+        b":..\rathree",
+        b"",
+        b"\r",
+        b"l:~\rafour",
+        b"",
+        b"\r",
+        b"q",
+    ];
+    let end = play(rt.alloc(), 60, keys)?;
+    assert!(rt; has(&end, "docs/one"));
+    assert!(rt; has(&end, "docs/two"));
+    assert!(rt; has(&end, "three"));
+    assert!(rt; has(&end, "four"));
+    Ok(())
+}
+
+#[test]
+fn completes_typed_paths(rt: HostRuntime) -> Result<(), Fail> {
+    let end = play(rt.alloc(), 60, &[b":d\tone/..\rax", b"", b"\r", b"q"])?;
+    assert!(rt; has(&end, "docs/x"));
+    let tree = numbered(rt.alloc())?;
+    let end = play_on(rt.alloc(), 60, tree, &[b":x\t0\t\rX", b"", b"y", b"q"])?;
+    assert!(rt; !has(&end, "x09"));
+    assert!(rt; has(&end, "x9"));
+    Ok(())
+}
+
+#[test]
+fn stays_where_a_typed_path_leads_to_nothing(rt: HostRuntime) -> Result<(), Fail> {
+    let end = play(rt.alloc(), 60, &[b"l:../../docs\rax", b"", b"\r", b"q"])?;
+    assert!(rt; has(&end, "docs/x"));
+    let end = play(
+        rt.alloc(),
+        60,
+        &[b":no\t\x1b", b"", b":no\rax", b"", b"\r", b"q"],
+    )?;
+    assert!(rt; has(&end, "x"));
+    let end = play(rt.alloc(), 60, &[b":../docs\r", b"q"])?;
+    assert_stored!(rt; end.screen.terminal().backend(), screens::OUTSIDE);
+    let end = play(rt.alloc(), 60, &[b":d\t", b"Q\x03q"])?;
+    assert!(rt; has(&end, "docs"));
+    Ok(())
+}

@@ -1,6 +1,6 @@
 use Rattle.std.proofs.Common.{refl}
 use Rattle.files.specs.Moves.{browsed_after}
-use Rattle.files.proofs.LawLemmas.{event-folder, done-folder}
+use Rattle.files.proofs.LawLemmas.{event-folder, done-folder, completed-folder, failed-folder}
 use Rattle.files.proofs.laws.only_listings_change_the_list.Goals as goal
 
 pub returns-clause-listed : goal.returns-clause-listed
@@ -17,9 +17,11 @@ returns-clause-tick c = λ b passed. record { folder = refl; list = refl; unname
 pub returns-clause-done : goal.returns-clause-done
 returns-clause-done c = done-folder
 
+pub returns-clause-completed : goal.returns-clause-completed
+returns-clause-completed c = completed-folder
+
 pub returns-clause-failed : goal.returns-clause-failed
-unfolding browsed_after
-returns-clause-failed c = λ b why. record { folder = refl; list = refl; unnamed = refl }
+returns-clause-failed c = failed-folder
 
 pub returns-clause-seen : goal.returns-clause-seen
 unfolding browsed_after

@@ -6,4 +6,4 @@ use Rattle.files.proofs.browser.Browser.push_prompt.Goals as goal
 pub returns-in_default : goal.returns-in_default
 returns-in_default c = appended-one c.push_str-in_default.result (string_bytes c.push_str-in_default.new.self)
     (string_bytes c.args.text.now) (codes "make the folder \"") (prompt c.args.mode c.args.self.now)
-    (sym (prompt-other c.args.mode c.args.self.now c.in_default.not-Renaming c.in_default.not-Pasting c.in_default.not-Seeking)) c.push_str-in_default.ensures.bytes
+    (sym (prompt-other c.args.mode c.args.self.now c.in_default.not-Renaming c.in_default.not-Pasting c.in_default.not-Seeking c.in_default.not-Going)) c.push_str-in_default.ensures.bytes
