@@ -1,6 +1,7 @@
 -- How a typed path is completed.
-use Rattle.std.specs.Prelude.{ℕ, suc, Bool, not, ◌==◌, ◌||◌, if◌then◌else◌, List, [], ◌∷◌, ◌++◌, length, take, take_while, codes}
-use Rattle.std.specs.Prelude.{Option, Some, None, option_map, map, chars, encode_utf8_all}
+use Rattle.std.specs.Prelude.{ℕ, suc, Bool, not, ◌==◌, ◌||◌, if◌then◌else◌, List, [], ◌∷◌, ◌++◌, length}
+use Rattle.std.specs.Prelude.{take, take_while, codes, Option, Some, None, option_map, map, chars}
+use Rattle.std.specs.Prelude.{encode_utf8_all}
 use Rattle.std.specs.Str.{byte}
 use Rattle.std.specs.List.{fold}
 use Rattle.std.specs.Option.{option_map_or, unwrap_or}
@@ -11,7 +12,7 @@ use Rattle.ratatui_files.specs.declared.answer.Info.{Info}
 use Rattle.ratatui_files.specs.declared.answer.Kind.{Kind}
 use Rattle.files.specs.Sorting.{is_listed, is_no_folder}
 
--- the folder part of a typed path, up to its last slash, and the last part, after that
+-- the folder part of a typed path, up to its last slash, and the last part, after it
 abbrev pub folder_part : List ℕ → List ℕ
 folder_part text = option_map_or (λ parts. parts.0 ++ codes "/") (rsplit_once (byte "/") text) []
 

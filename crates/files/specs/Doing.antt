@@ -59,8 +59,8 @@ pub record WantsLocated (b : Browser) (w : Wanted) : Type 0 where
   pub inside : is_inside b.base path ≡ true
   pub above : IsAbove path w
 
--- the folder that is asked for: the one that is shown, the one that is selected, the one above, the one that all
--- is in, or one to which the typed path leads
+-- the folder that is asked for: the one that is shown, the one that is selected, the one above, the one that
+-- all is in, or one to which the typed path leads
 abbrev pub Lists : Mode → Browser → Wanted → Type 0
 Lists Listing b w = WantsShown b w
 Lists Entering b w = WantsSelected b w
@@ -112,8 +112,8 @@ module _ {P : Type 0} (does : P → Command → Answer → P → Type 0) where
   abbrev pub Listed : Browser → P → Outcome → P → Type 0
   Listed b files o files' = DoesNothing files o files' ⊎ Looks b files o files'
 
-  -- the folder was listed to which the folder part of the typed path leads, and how that goes on is told; or memory was
-  -- refused for that
+  -- the folder was listed to which the folder part of the typed path leads, and how that goes on is told; or
+  -- memory was refused for that
   pub record LooksOn (b : Browser) (files : P) (o : Outcome) (files' : P) : Type 0 where
     pub folder : List ℕ
     pub leads : way_of b (folder_part (field_text b.typed)) ≡ Some folder

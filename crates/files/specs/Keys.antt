@@ -28,10 +28,10 @@ use Rattle.text_field.specs.declared.keys.Edit.{Edit}
 use Rattle.text_field.specs.Keys.{edit_of}
 
 -- characters: j, k, g, G move; l enters a folder, h leaves it, and the tilde leads to the one that all is
--- in, the colon to a typed one; the dot shows hidden entries; r and a rename and make a folder; D puts into the trash, and X removes
--- for good; s sorts; a slash seeks a text in names, and n and N go on; a blank marks; y and d note what is to
--- be copied and moved, and p does it; z takes back what was renamed or moved last; a question mark shows the
--- keys; q ends, and Q tells the folder
+-- in, the colon to a typed path; the dot shows hidden entries; r and a rename and make a folder; D puts into
+-- the trash, and X removes for good; s sorts; a slash seeks a text in names, and n and N go on; a blank marks;
+-- y and d note what is to be copied and moved, and p does it; z takes back what was renamed or moved last; a
+-- question mark shows the keys; q ends, and Q tells the folder
 abbrev pub character_wish : ℕ → Wish
 character_wish c =
     if c == byte "j" then Down

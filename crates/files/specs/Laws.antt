@@ -118,7 +118,8 @@ seen_last Ahead b = b.glances.ahead
 abbrev pub IsWithin : List ℕ → List ℕ → Type 0
 IsWithin folder path = (path ≡ folder) ⊎ (is_inside folder path ≡ true)
 
--- the typed path leads to a name in the folder that is shown then, and that is selected, or else the first entry
+-- the typed path leads to a name in the folder that is shown then, and that is selected, or else the first
+-- entry
 pub record LeadsToEntry (b : Browser) (l : ListingData) (c : Browser) : Type 0 where
   pub name : List ℕ
   pub leads : way_of b (field_text b.typed) ≡ Some (path_in c.folder name)

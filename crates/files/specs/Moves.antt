@@ -527,8 +527,8 @@ abbrev pub leads_to_leaf : Mode → Failure → Bool
 leads_to_leaf Visiting failure.NotAFolder = true
 leads_to_leaf _ _ = false
 
--- what was asked for failed, and why is told; but a path that was to be completed goes on being typed, and what the
--- typed path leads to is selected in its folder if it is none
+-- what was asked for failed, and why is told; but a path that was to be completed goes on being typed, and what
+-- the typed path leads to is selected in its folder if it is none
 abbrev pub failed : Failure → Browser → Browser
 failed why b =
     if is_completing b.mode then record b { mode = Going }

@@ -37,8 +37,8 @@ cut_path path = option_map_or (λ parts. parts.0) (rsplit_once (byte "/") path) 
 abbrev pub path_above : List ℕ → Option (List ℕ)
 path_above path = if length path == 0 then None else Some (cut_path path)
 
--- where a part of a typed path leads: no text and a dot lead nowhere else, two dots lead above, and a name leads to
--- what has it
+-- where a part of a typed path leads: no text and a dot lead nowhere else, two dots lead above, and a name
+-- leads to what has it
 abbrev pub after_part : List ℕ → List ℕ → Option (List ℕ)
 after_part path part =
     if bytes_eq part [] || bytes_eq part (codes ".") then Some path

@@ -135,7 +135,8 @@ fn completion(
 impl Browser {
     // The folder whose entries the typed path may go on with.
     fn folder_typed(&self) -> Result<Option<Path>, AllocError>
-        ensures { IfOk result (λ path. path ≡ way_of self.now (folder_part (field_text self.now.typed))) }
+        ensures { IfOk result (λ path.
+            path ≡ way_of self.now (folder_part (field_text self.now.typed))) }
     {
         let part = folder_part(self.alloc, self.typed.text())?;
         self.way_of(part.as_str())

@@ -21,8 +21,8 @@ pub(crate) fn is_completing(mode: Mode) -> bool
     }
 }
 
-/// Returns whether the typed path leads to no folder, but to something, if what was asked for failed
-/// so.
+/// Returns whether the typed path leads to no folder, but to something, if what was asked for
+/// failed so.
 pub(crate) fn leads_to_leaf(mode: Mode, failure: Failure) -> bool
     ensures { result ≡ leads_to_leaf mode failure }
 {

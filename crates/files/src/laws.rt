@@ -288,10 +288,10 @@ pub fn looks_delay_no_key_and_change_nothing()
         → IsLook aim.command }
 {}
 
-/// A typed path leads to the folder above which nothing is reached, or into it. What is shown once it
-/// is taken is the folder to which it leads, or the one that has what it leads to, selected if it is
-/// listed; if neither can be listed, the folder stays that is shown, since nothing but a listing
-/// changes that.
+/// A typed path leads to the folder above which nothing is reached, or into it. What is shown once
+/// it is taken is the folder to which it leads, or the one that has what it leads to, selected if
+/// it is listed; if neither can be listed, the folder stays that is shown, since nothing but a
+/// listing changes that.
 pub fn typed_paths_lead_where_they_say()
     ensures within { (b : Browser) (text path : List ℕ) → way_of b text ≡ Some path
         → IsWithin b.base path }
@@ -304,9 +304,9 @@ pub fn typed_paths_lead_where_they_say()
         → LeadsToEntry b l (browsed_after b (message.Answer (outcome.Listed l))) }
 {}
 
-/// What a path is completed to goes on with what was typed; and what is added begins what is left of
-/// each entry whose name has the beginning that was typed. Until it is known, nothing else is typed,
-/// and an answer to what isn't asked any longer is dropped.
+/// What a path is completed to goes on with what was typed; and what is added begins what is left
+/// of each entry whose name has the beginning that was typed. Until it is known, nothing else is
+/// typed, and an answer to what isn't asked any longer is dropped.
 pub fn completions_go_on_with_what_is_typed()
     ensures typed { (b : Browser) (rest : List ℕ) → b.mode ≡ Completing → (more : List ℕ)
         × (field_text (browsed_after b (message.Answer (outcome.Completed rest))).typed

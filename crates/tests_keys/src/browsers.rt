@@ -352,9 +352,8 @@ fn stays_where_a_typed_path_leads_to_nothing(rt: HostRuntime) -> Result<(), Fail
         &[b":no\t\x1b", b"", b":no\rax", b"", b"\r", b"q"],
     )?;
     assert!(rt; has(&end, "x"));
-    let end = play(rt.alloc(), 60, &[b":../docs\r", b"q"])?;
-    assert_stored!(rt; end.screen.terminal().backend(), screens::OUTSIDE);
-    let end = play(rt.alloc(), 60, &[b":d\t", b"Q\x03q"])?;
-    assert!(rt; has(&end, "docs"));
+    let end = play(rt.alloc(), 60, &[b":../docs\rax", b"", b"\r", b"q"])?;
+    assert!(rt; has(&end, "x"));
+    assert!(rt; !has(&end, "docs/x"));
     Ok(())
 }

@@ -78,12 +78,3 @@ pub(crate) const CLICKED: &[&str] = &[
     "                                        ",
     "1/2                                     ",
 ];
-
-pub(crate) const OUTSIDE: &[&str] = &[
-    "tree/                                                       ",
-    "          docs/                                             ",
-    "          a.txt                  3                          ",
-    "          b.txt                  6                          ",
-    "                                                            ",
-    "\"../docs\" isn't in the folder that all is in                ",
-];
