@@ -1,18 +1,35 @@
 -- The steps of a line.
-use Rattle.std.proofs.Common.{◌≡◌, ℕ, zero, suc, ◌+◌, ◌-◌, ◌*◌, ◌/◌, ◌<◌, ◌≤◌, ℤ, ◌⊎◌, ⊎_elim, inl, inr, Bool, true, false, min}
+use Rattle.std.proofs.Common.{◌≡◌, ℕ, zero, suc, ◌+◌, ◌-◌, ◌*◌, ◌/◌, ◌<◌, ◌≤◌, ℤ, ◌⊎◌, ⊎_elim, inl, inr, Bool, true, false, min, not, IsTrue}
 use Rattle.std.proofs.Common.{List, [], ◌∷◌, ◌++◌, refl, ◌∙◌, ap, sym, arith}
-use Rattle.std.proofs.lemmas.Bool.{cases_lt}
-use Rattle.rtui_style.specs.declared.color.Color.{Color}
+use Rattle.std.proofs.lemmas.{Bool.cases_lt, Bool.Decides.nat_tests}
+use Rattle.std.proofs.Math.Nat.{div-lt_iff_lt-mul, mul-le-mul_left}
+use Rattle.rtui_style.specs.declared.color.{Color.Color, Color.TheVariants.Reset}
 use Rattle.rtui_dots.specs.declared.{scale.Scale.Scale, painter.DotCell.DotCell, painter.Painter.Painter, line.Run.Run}
 use Rattle.rtui_dots.specs.Grids.{Dot, is_open, dot_column, dot_row, with_dot, with_dots, has_dot, far, SetsDots}
 use Rattle.rtui_dots.specs.Lines.{gone_after, dots_from, dot_by, run_dot, run_dots, run_of, across_at}
-use Rattle.rtui_dots.specs.Inner.{places_along}
+use Rattle.rtui_dots.specs.Inner.{places_along, HasSteps, HasAlong, HasAcross}
 use Rattle.rtui_dots.specs.Shapes.{dots_between}
 use Rattle.rtui_dots.proofs.GridLemmas.{with_dots-append}
 
 -- a quotient is found by its remainder
 pub quotient : (whole n r total : ℕ) → r < whole → r + whole * n ≡ total → total / whole ≡ n
 quotient whole n r total lt e = grind arith
+
+-- a run goes across by no more steps than along, and by no more than its shorter side
+module _ (long short k : ℕ) (some : 0 < long) where
+  pub gone-few : short ≤ long → gone_after long short k ≤ k
+  gone-few slope =
+      let less : k * short ≤ k * long = mul-le-mul_left k slope in
+      let total : 2 * short * k + (long - 1) < (k + 1) * (2 * long) = omega arith in
+      let few : gone_after long short k < k + 1 = (div-lt_iff_lt-mul (omega arith)).1 total in
+      omega arith
+
+  pub gone-short : k ≤ long → gone_after long short k ≤ short
+  gone-short within =
+      let less : short * k ≤ short * long = mul-le-mul_left short within in
+      let total : 2 * short * k + (long - 1) < (short + 1) * (2 * long) = omega arith in
+      let few : gone_after long short k < short + 1 = (div-lt_iff_lt-mul (omega arith)).1 total in
+      omega arith
 
 -- a step more
 pub dots_from-more : (f : ℕ → Dot) (k n m : ℕ) → n ≡ suc m → dots_from f k n ≡ f k ∷ dots_from f (k + 1) m
@@ -89,13 +106,44 @@ run-shown s r color first end cells is_first is_end = ⊎_elim (λ (lt : first <
         ∙ sym (dots-none s (run_dot r color) 0 (r.long + 1) cells (λ j ge less. out j (each le j (omega arith))))
 
 -- a step's dot is set, and those of the others are left
-pub next-dots : (s : Scale) (f : ℕ → Dot) (d : Dot) (k n m : ℕ) (old new : Painter) (all : List DotCell) → n ≡ suc m → d ≡ f k
-    → old.scale ≡ s → SetsDots (d ∷ []) old new → with_dots s (dots_from f k n) old.cells.items ≡ all
-    → with_dots s (dots_from f (k + 1) m) new.cells.items ≡ all
-next-dots s f d k n m old new all e at same paints was =
-    ap (with_dots s (dots_from f (k + 1) m)) (paints.cells ∙ ap (λ q. with_dot q d old.cells.items) same
-    ∙ ap (λ q. with_dot s q old.cells.items) at) ∙ sym (ap (λ ds. with_dots s ds old.cells.items) (dots_from-more f k n m e))
-    ∙ was
+pub next-dots : (s : Scale) (f : ℕ → Dot) (d : Dot) (k n m : ℕ) (old new all : List DotCell) → n ≡ suc m → d ≡ f k
+    → new ≡ with_dot s d old → with_dots s (dots_from f k n) old ≡ all → with_dots s (dots_from f (k + 1) m) new ≡ all
+next-dots s f d k n m old new all e at set was =
+    ap (with_dots s (dots_from f (k + 1) m)) (set ∙ ap (λ q. with_dot s q old) at)
+    ∙ sym (ap (λ ds. with_dots s ds old) (dots_from-more f k n m e)) ∙ was
+
+-- the dot at a step, by the places at which the run is then
+pub step-dot : (r : Run) (k gone across : ℕ) (flat : Bool) (color : Color) → flat ≡ r.is_flat → across ≡ across_at r gone
+    → gone_after r.long r.short k ≡ gone → dot_by flat (r.along + k) across color ≡ run_dot r color k
+step-dot r k gone across flat color side at is = rw (side, at, ← is) refl
+
+-- where a dot stands doesn't depend on its colour
+same-place : (s : Scale) (flat : Bool) (a b : ℕ) (c d : Color) → IsTrue (has_dot s (dot_by flat a b c).x (dot_by flat a b c).y)
+    → IsTrue (has_dot s (dot_by flat a b d).x (dot_by flat a b d).y)
+same-place s true a b c d has = has
+same-place s false a b c d has = has
+
+pub step-there : (s : Scale) (r : Run) (first end k gone across : ℕ) (flat : Bool) (color : Color) → flat ≡ r.is_flat
+    → across ≡ across_at r gone → gone_after r.long r.short k ≡ gone → HasSteps s r first end → first ≤ k → k < end
+    → IsTrue (has_dot s (dot_by flat (r.along + k) across color).x (dot_by flat (r.along + k) across color).y)
+step-there s r first end k gone across flat color side at is has from to =
+    rw (side, at, ← is) (same-place s r.is_flat (r.along + k) (across_at r (gone_after r.long r.short k)) Reset color (has k from to))
+
+-- a grid that has the places along some steps, and all places across, has the dots of the steps
+inside : (s : Scale) (flat : Bool) (along across : ℕ) (color : Color) → far ≤ along → along < far + places_along flat s
+    → far ≤ across → across < far + places_along (not flat) s
+    → IsTrue (has_dot s (dot_by flat along across color).x (dot_by flat along across color).y)
+inside s true along across color a b c d = grind (arith, nat_tests)
+inside s false along across color a b c d = grind (arith, nat_tests)
+
+pub steps-there : (s : Scale) (r : Run) (first end : ℕ) → 0 < r.long → end ≤ r.long + 1 → HasAlong s r first end
+    → HasAcross s r → HasSteps s r first end
+steps-there s r first end some last along across k from to =
+    let gone = gone_after r.long r.short k in
+    let least = along.from in
+    let most = along.to in
+    let places = across gone (gone-short r.long r.short k some (omega arith)) in
+    inside s r.is_flat (r.along + k) (across_at r gone) Reset (omega arith) (omega arith) places.0 places.1
 
 -- a line between two points
 pub line-painted : (s : Scale) (x y x' y' : ℤ) (color : Color) (column row column' row' : ℕ) (r : Run) (old new : Painter)

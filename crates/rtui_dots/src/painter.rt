@@ -4,7 +4,7 @@ ghost use Rattle.std.specs.Prelude.{◌≡◌, ◌≤◌, ◌<◌, ◌+◌, ◌*
 ghost use Rattle.std.specs.Prelude.{replicate};
 ghost use Rattle.rtui_dots.specs.Grids.{far, no_dots, empty_grid, cell_row, cell_column, dot_number};
 ghost use Rattle.rtui_dots.specs.Grids.{has_one_color, with_dot_number};
-ghost use Rattle.rtui_dots.specs.Grids.{has_dot, SetsDots};
+ghost use Rattle.rtui_dots.specs.Grids.{has_dot, with_dot, SetsDots};
 
 use crate::scale::{FAR, Scale};
 use rtui_style::Color;
@@ -172,46 +172,65 @@ impl Painter {
         }
     }
 
-    // Whether the grid has a dot.
-    #[inline(always)]
-    fn has_dot(&self, marker: Marker, x: u64, y: u64) -> bool
-        requires { marker ≡ self.now.scale.marker }
-        ensures value { result ≡ has_dot self.now.scale x y }
-        ensures column { IsTrue result → (far ≤ x) }
-        ensures row { IsTrue result → (far ≤ y) }
-        ensures within { IsTrue result → (y < far + 262140) }
-    {
-        let (columns, rows) = (self.scale.columns_by(marker), self.scale.rows_by(marker));
-        FAR <= x && x < FAR + columns && FAR <= y && y < FAR + rows
-    }
-
-    // Sets a dot by its places, marked as the grid marks dots.
-    #[inline(always)]
-    fn set_marked(&mut self, marker: Marker, x: u64, y: u64, color: Color)
-        requires { marker ≡ self.old.scale.marker }
-        ensures { SetsDots (record { x = x; y = y; color = color } ∷ []) self.old self.new }
-    {
-        if !self.has_dot(marker, x, y) {
-            return;
-        }
-        let (x, y) = (x - FAR, y - FAR);
-        let columns = self.scale.width();
-        let index = (cell_row(marker, y) * columns + cell_column(marker, x)) as usize;
-        let number = dot_number(marker, x, y);
-        let cells = self.cells.as_mut_slice();
-        if index < cells.len() {
-            cells[index] = cells[index].with_dot_number(marker, number, color);
-        }
-    }
-
     // Sets a dot by its places. Braille stands apart, so that nothing is asked about the marker of
     // each of its dots.
     pub(crate) fn set_dot(&mut self, x: u64, y: u64, color: Color)
         ensures { SetsDots (record { x = x; y = y; color = color } ∷ []) self.old self.new }
     {
+        let cells = self.cells.as_mut_slice();
         match self.scale.marker {
-            Marker::Braille => self.set_marked(Marker::Braille, x, y, color),
-            marker => self.set_marked(marker, x, y, color),
+            Marker::Braille => set_marked(cells, self.scale, Marker::Braille, x, y, color),
+            marker => set_marked(cells, self.scale, marker, x, y, color),
         }
+    }
+}
+
+// Whether a grid has a dot.
+#[inline(always)]
+pub(crate) fn has_dot(scale: &Scale, marker: Marker, x: u64, y: u64) -> bool
+    requires { marker ≡ scale.now.marker }
+    ensures { result ≡ has_dot scale.now x y }
+{
+    let (columns, rows) = (scale.columns_by(marker), scale.rows_by(marker));
+    FAR <= x && x < FAR + columns && FAR <= y && y < FAR + rows
+}
+
+// Sets a dot among the cells of a grid that marks dots so, and has it.
+#[inline(always)]
+pub(crate) fn set_inside(
+    cells: &mut [DotCell],
+    scale: Scale,
+    marker: Marker,
+    x: u64,
+    y: u64,
+    color: Color,
+)
+    requires marker { marker ≡ scale.marker }
+    requires there { IsTrue (has_dot scale x y) }
+    ensures { cells.new ≡ with_dot scale (record { x = x; y = y; color = color }) cells.old }
+{
+    let (x, y) = (x - FAR, y - FAR);
+    let index = (cell_row(marker, y) * scale.width() + cell_column(marker, x)) as usize;
+    let number = dot_number(marker, x, y);
+    if index < cells.len() {
+        cells[index] = cells[index].with_dot_number(marker, number, color);
+    }
+}
+
+// Sets a dot among the cells of a grid that marks dots so, if the grid has it.
+#[inline(always)]
+pub(crate) fn set_marked(
+    cells: &mut [DotCell],
+    scale: Scale,
+    marker: Marker,
+    x: u64,
+    y: u64,
+    color: Color,
+)
+    requires { marker ≡ scale.marker }
+    ensures { cells.new ≡ with_dot scale (record { x = x; y = y; color = color }) cells.old }
+{
+    if has_dot(&scale, marker, x, y) {
+        set_inside(cells, scale, marker, x, y, color);
     }
 }

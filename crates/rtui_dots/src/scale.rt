@@ -4,7 +4,7 @@ ghost use Rattle.std.specs.Prelude.{◌≡◌, ◌≤◌, ◌<◌, ◌^◌, ◌-
 ghost use Rattle.rtui_dots.specs.Circles.{billion, fine_column, fine_row};
 ghost use Rattle.rtui_dots.specs.Grids.{dots_across, dots_down, dot_columns, dot_rows, share, column_of_cell, row_of_cell};
 ghost use Rattle.rtui_dots.specs.Grids.{lies_between, lies_within, has_point, dot_place, is_open, dot_column};
-ghost use Rattle.rtui_dots.specs.Grids.{dot_row};
+ghost use Rattle.rtui_dots.specs.Grids.{dot_row, nearest};
 
 use rtui_symbols::marker::Marker;
 
@@ -58,7 +58,26 @@ fn dots_down(marker: Marker) -> u64
     }
 }
 
-// The place nearest to what lies `from_first` from the first one of so many over a whole length.
+// The place, from 0 on, nearest to what lies `from_first` from the first one of so many over a whole
+// length. Short lengths are divided in 64 bits.
+fn nearest(from_first: u128, whole: u128, count: u64) -> u128
+    requires whole { 0 < whole }
+    requires short { whole < 2 ^ 100 }
+    requires length { from_first < 2 ^ 100 }
+    requires count { count ≤ 262140 }
+    ensures { result ≡ nearest from_first whole count }
+{
+    if from_first < 1_000_000_000_000 && whole < 1_000_000_000_000 {
+        let (from_first, whole) = (from_first as u64, whole as u64);
+        let shares = from_first * count.saturating_sub(1);
+        return u128::from((2 * shares + whole) / (2 * whole));
+    }
+    let shares = from_first * u128::from(count.saturating_sub(1));
+    (2 * shares + whole) / (2 * whole)
+}
+
+// The place nearest to what lies `from_first` from the first one of so many over a whole length; not
+// one of them, if it lies before the first one or behind the last one.
 fn dot_place(is_before: bool, is_behind: bool, from_first: u128, whole: u128, count: u64) -> u64
     requires whole { 0 < whole }
     requires short { whole < 2 ^ 100 }
@@ -67,8 +86,7 @@ fn dot_place(is_before: bool, is_behind: bool, from_first: u128, whole: u128, co
     ensures value { result ≡ dot_place is_before is_behind from_first whole count }
     ensures within { result ≤ 2 ^ 61 }
 {
-    let shares = from_first * u128::from(count.saturating_sub(1));
-    let nearest = (2 * shares + whole) / (2 * whole);
+    let nearest = nearest(from_first, whole, count);
     if is_before {
         return FAR - nearest.max(1).min(u128::from(FAR)) as u64;
     }

@@ -14,7 +14,6 @@ use Rattle.rtui_drawing.specs.declared.cut.Cut.TheVariants.{Middle}
 use Rattle.rtui_drawing.proofs.DrawingLemmas.{part-cut, done-in, continues-in, drawing_steps, drawing_choices}
 use Rattle.rtui_drawing.proofs.{Laws.Continues, WriteLemmas.row-of}
 use Rattle.rtui_inside.proofs.InsideLemmas.{box-part}
-use Rattle.widget_sparkline.specs.Levels.{level_text}
 use Rattle.widget_sparkline.proofs.LevelLemmas.{level-any}
 use Rattle.widget_bars.specs.{declared.group.Bar.Bar, declared.group.BarGroup.BarGroup, declared.chart.BarChart.BarChart}
 use Rattle.widget_bars.specs.BarAreas.{cells_along, bar_cut, behind_cut}
@@ -99,9 +98,6 @@ shown-count c group r items cells fit least = rw (least, fit, cells, items) (tak
 pub ruleset bar_steps = (drawing_steps, drawing_choices, part-cut, row-of, box-part, across-some)
 
 -- the symbols of bars that take no memory, one by one
-pub short-level : (set : BarSet) (n : ℕ) → HasShortBars set → IsShort (level_text set n)
-short-level set n short = level-any IsShort set n short
-
 pub short-full : (set : BarSet) → HasShortBars set → IsShort set.full.now
 short-full set short = level-any IsShort set 8 short
 
@@ -109,4 +105,4 @@ pub short-empty : (set : BarSet) → HasShortBars set → IsShort set.empty.now
 short-empty set short = level-any IsShort set 0 short
 
 -- that a bar's cells take no memory
-pub ruleset short_bars = (short-level, short-full, short-empty)
+pub ruleset short_bars = (short-full, short-empty)

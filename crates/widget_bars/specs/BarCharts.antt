@@ -20,7 +20,7 @@ use Rattle.rtui_drawing.specs.declared.cut.Cut.TheVariants.{First, After, Middle
 use Rattle.rtui_drawing.specs.Drawings.{Drawing, nothing, over, ◌before◌, draw_if, put_style, put_line, put_pieces}
 use Rattle.rtui_drawing.specs.Drawings.{put_change}
 use Rattle.rtui_inside.specs.Inside.{DrawsInside, LeavesInside, IsShortInside}
-use Rattle.widget_sparkline.specs.Levels.{eighths_of_value, left_at, level_text, row_from_below}
+use Rattle.widget_sparkline.specs.Levels.{eighths_of_value, level_mark}
 use Rattle.widget_bars.specs.{declared.group.Bar.Bar, declared.group.BarGroup.BarGroup}
 use Rattle.widget_bars.specs.{declared.chart.BarChart.BarChart}
 use Rattle.widget_bars.specs.BarAreas.{cells_along, bar_cut, behind_cut, beside_labels}
@@ -75,7 +75,7 @@ greatest_of_chart c = max (unwrap_or c.max (greatest_group c.groups.items)) 1
 -- a cell of a bar that is so many eighths of a cell high
 abbrev pub chart_cell : BarSet → Rect → Style → ℕ → Position → Cell → Cell
 chart_cell set r style eighths p c =
-    styled style (with_symbol (level_text set (left_at eighths (row_from_below r p.y))) c)
+    styled style (level_mark set r eighths p c)
 
 -- the rows of labels under the bars: one for those of bars if there are two rows, and one for those of
 -- groups if there is one row more

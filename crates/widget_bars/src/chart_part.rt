@@ -2,12 +2,11 @@
 
 ghost use Rattle.std.specs.Prelude.{◌≡◌, ◌≤◌, ◌<◌, ◌+◌, ◌*◌, length, true, IfOk};
 ghost use Rattle.std.specs.List.{list_any};
-ghost use Rattle.ratatui_core.specs.Buffer.{text_columns, IsShort};
+ghost use Rattle.ratatui_core.specs.Buffer.{text_columns};
 ghost use Rattle.ratatui_core.specs.Style.{patch};
 ghost use Rattle.ratatui_core.specs.declared.layout.Direction.TheVariants.{Horizontal, Vertical};
 ghost use Rattle.widget_boxes.specs.Titles.{title_width};
 ghost use Rattle.rtui_drawing.specs.Drawings.{IsDone, IsRowIn, IsPartOf, draw_if};
-ghost use Rattle.widget_sparkline.specs.Levels.{left_at, level_text, row_from_below};
 ghost use Rattle.widget_bars.specs.BarAreas.{cells_along};
 ghost use Rattle.widget_bars.specs.BarCharts.{greatest_of_chart, label_columns, has_label, has_labelled_bar};
 ghost use Rattle.widget_bars.specs.BarCharts.{has_bar_labels, bar_label_rows, has_group_labels};
@@ -16,21 +15,22 @@ ghost use Rattle.widget_bars.specs.BarCharts.{styled_line, bar_label, middle_tex
 ghost use Rattle.widget_bars.specs.BarCharts.{tall_value, tall_bar, bar_in, bars_from, after_bars};
 ghost use Rattle.widget_bars.specs.BarCharts.{fitting_count, shown_bars, bars_columns, label_indent};
 ghost use Rattle.widget_bars.specs.BarCharts.{group_label, label_of, group_drawing, groups_from};
-ghost use Rattle.widget_bars.specs.BarCharts.{HasShortBars};
+ghost use Rattle.widget_bars.specs.BarCharts.{chart_cell, filled_by};
 ghost use Rattle.widget_bars.specs.Inner.{measures_of, cells_across, BarsFit};
 
 use crate::area::{bar_cut, behind_cut, beside_labels, cells_along};
 use crate::chart::{BarChart, Measures};
 use crate::group::{Bar, BarGroup};
 use itoa::Buffer as Digits;
-use ratatui_core::buffer::{Buffer, Cell, CellChange};
-use ratatui_core::layout::{Direction, HorizontalAlignment, Position, Rect};
+use ratatui_core::buffer::Buffer;
+use ratatui_core::layout::{Direction, HorizontalAlignment, Rect};
 use ratatui_core::style::Style;
 use ratatui_core::symbols::bar;
 use ratatui_core::text::{Line, text_columns};
-use rtui_drawing::{Cut, put_change, put_line, put_style, write};
-use std::alloc::{AllocError, Global};
-use widget_sparkline::level::{eighths_of, left_at, level_of, put_level};
+use rtui_drawing::{Cut, put_line, put_style, write};
+use std::alloc::AllocError;
+use widget_sparkline::fill::{fill_levels, lay_style};
+use widget_sparkline::level::eighths_of;
 
 // How many columns a line takes, at most 65535.
 pub(crate) fn columns_of(line: &Line<'_>) -> u16
@@ -39,41 +39,19 @@ pub(crate) fn columns_of(line: &Line<'_>) -> u16
     line.width().min(65535) as u16
 }
 
-// The cells of a bar that is so many eighths of a cell high, from below.
-#[derive(Drop)]
-pub(crate) struct Filling<'b, 'a> {
-    set: &'b bar::Set<'a>,
-    area: Rect,
+// Fills the cells of an area, as those of a bar that is so many eighths of a cell high.
+fn fill_bar(
+    set: &bar::Set<'_>,
     style: Style,
     eighths: u128,
-}
-
-impl<'b, 'a> Filling<'b, 'a> {
-    // The symbol of a row.
-    #[inline(always)]
-    fn symbol(&self, y: u16) -> &'a str
-        ensures value { let row = row_from_below self.now.area y in
-            result.now ≡ level_text self.now.set.now (left_at self.now.eighths row) }
-        ensures short { HasShortBars self.now.set.now → IsShort result.now }
-    {
-        let from_top = y.saturating_sub(self.area.y);
-        let row = self.area.height.saturating_sub(from_top).saturating_sub(1);
-        level_of(self.set, left_at(self.eighths, row))
-    }
-}
-
-impl<'b, 'a> CellChange for Filling<'b, 'a> {
-    ghost use Rattle.widget_bars.specs.BarCharts.{chart_cell, HasShortBars};
-
-    ghost made = { λ f. chart_cell f.set.now f.area f.style f.eighths };
-
-    ghost is_light = { λ f _ _. HasShortBars f.set.now };
-
-    fn change(&self, alloc: Global, position: Position, cell: &mut Cell) -> Result<(), AllocError> {
-        put_level(alloc, self.symbol(position.y), cell)?;
-        cell.set_style(self.style);
-        Ok(())
-    }
+    area: Rect,
+    buf: &mut Buffer,
+) -> Result<(), AllocError>
+    ensures { let f = chart_cell set.now area style eighths in
+        IsDone (filled_by set.now f) area result buf.old buf.new }
+{
+    lay_style(style, area, buf);
+    fill_levels(set, eighths, area, buf)
 }
 
 // Lays a style over an area and puts a line there.
@@ -258,13 +236,8 @@ impl<'a> BarChart<'a> {
         ensures { IsDone (tall_cells self.now bar.now area) area result buf.old buf.new }
     {
         let part = Cut::Rows(0, rows).of(area);
-        let filling = Filling {
-            set: &self.bar_set,
-            area: part,
-            style: self.bar_style.patch(bar.style),
-            eighths,
-        };
-        put_change(&filling, part, buf)
+        let style = self.bar_style.patch(bar.style);
+        fill_bar(&self.bar_set, style, eighths, part, buf)
     }
 
     // Puts the label of a vertical bar under it, if there is a row for it.

@@ -31,6 +31,7 @@ fn half_mark(dots: &DotCell) -> char
 }
 
 // The character of a cell's dots.
+#[inline(always)]
 fn dot_mark(marker: Marker, dots: &DotCell) -> char
     ensures { result ≡ dot_mark marker dots.now }
 {
@@ -65,7 +66,8 @@ fn set_color(marker: Marker, dots: &DotCell, cell: &mut Cell)
     }
 }
 
-// Shows dots in a cell, if there are any.
+// Shows dots in a cell, if there are any. Braille stands apart, since its characters have a known
+// length.
 fn show_cell(
     alloc: Global,
     marker: Marker,
@@ -78,7 +80,10 @@ fn show_cell(
     if dots.pattern == 0 {
         return Ok(());
     }
-    cell.set_char(alloc, dot_mark(marker, dots))?;
+    match marker {
+        Marker::Braille => cell.set_char(alloc, dot_mark(Marker::Braille, dots))?,
+        marker => cell.set_char(alloc, dot_mark(marker, dots))?,
+    }
     set_color(marker, dots, cell);
     Ok(())
 }

@@ -1,2 +1,4 @@
+pub mod BlockLemmas
+pub mod ColumnLemmas
 pub mod LevelLemmas
 pub mod SparklineLemmas

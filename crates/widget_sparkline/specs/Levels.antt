@@ -1,6 +1,6 @@
 -- How high a value is in eighths of a cell, and by which symbol a cell shows it.
 use Rattle.std.specs.Prelude.{ℕ, ◌-◌, ◌*◌, ◌/◌, ◌==◌, min, List, if◌then◌else◌, slice_index_or}
-use Rattle.ratatui_core.specs.{Layout.Rect}
+use Rattle.ratatui_core.specs.{Layout.Rect, Layout.Position, Buffer.Cell, Buffer.with_symbol}
 use Rattle.ratatui_core.specs.declared.symbols.bar.Set.{Set as BarSet}
 use Rattle.ratatui_core.specs.Symbols.{bar_texts}
 
@@ -19,3 +19,11 @@ row_from_below r y = r.height - (y - r.y) - 1
 -- the symbol of a cell that is filled by so many eighths; a set lists them from full to empty
 abbrev pub level_text : BarSet → ℕ → List ℕ
 level_text set eighths = slice_index_or (bar_texts set) (8 - eighths) set.full.now
+
+-- the symbol in a row of an area, of a bar that is so many eighths of a cell high
+abbrev pub level_in : BarSet → Rect → ℕ → ℕ → List ℕ
+level_in set r eighths y = level_text set (left_at eighths (row_from_below r y))
+
+-- a cell with that symbol
+abbrev pub level_mark : BarSet → Rect → ℕ → Position → Cell → Cell
+level_mark set r eighths p = with_symbol (level_in set r eighths p.y)

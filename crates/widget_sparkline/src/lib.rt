@@ -2,9 +2,10 @@
 //!
 //! It stands on `ratatui_core` and `widget_boxes`. `specs/Levels` says how high a value is in
 //! eighths of a cell and by which symbol a cell shows it, `specs/Sparklines` what each cell of a
-//! sparkline shows.
+//! sparkline shows. [`fill`] sets the symbols of such bars, and of a bar chart's, in an area.
 #![tactic(auto)]
 
+pub mod fill;
 pub mod laws;
 pub mod level;
 mod sparkline;

@@ -2,20 +2,23 @@
 
 ghost use Rattle.std.specs.Prelude.{◌≡◌, ◌<◌, ◌+◌, ◌-◌, Some, IfOk, true};
 ghost use Rattle.ratatui_core.specs.Style.{patch};
-ghost use Rattle.ratatui_core.specs.Buffer.{IsShort, styled};
+ghost use Rattle.ratatui_core.specs.Buffer.{ChangesEach};
+ghost use Rattle.std.specs.List.{list_any};
 ghost use Rattle.widget_sparkline.specs.Sparklines.{IsNewSparkline, greatest_of, bars_width, bars_cut};
-ghost use Rattle.widget_sparkline.specs.Sparklines.{HasShortLevels, number_of_column, mark_of_value};
-ghost use Rattle.widget_sparkline.specs.Sparklines.{style_of_bar};
-ghost use Rattle.widget_sparkline.specs.Levels.{row_from_below};
+ghost use Rattle.widget_sparkline.specs.Sparklines.{HasShortLevels, number_of_column};
+ghost use Rattle.widget_sparkline.specs.Sparklines.{style_of_bar, bar_cell_of};
+ghost use Rattle.widget_sparkline.specs.Inner.{has_own_style, column_of, bar_style_at, mark_at, bar_mark, IsColumnsOf};
+ghost use Rattle.rtui_drawing.specs.{Cuts.cut_from, Drawings.IsDone, Drawings.put_change};
 
-use crate::level::{eighths_in, level_of, put_level};
-use ratatui_core::buffer::{Buffer, Cell, CellChange};
-use ratatui_core::layout::{Position, Rect};
+use crate::fill::{fill, fill_levels, lay_style};
+use crate::level::eighths_of;
+use ratatui_core::buffer::Buffer;
+use ratatui_core::layout::Rect;
 use ratatui_core::style::Style;
 use ratatui_core::style::laws::new_style_is_identity;
 use ratatui_core::symbols::{bar, shade};
 use ratatui_core::widgets::Widget;
-use rtui_drawing::{Cut, put_change};
+use rtui_drawing::{Cut, put_style};
 use rtui_inside::{DrawInside, render_inside};
 use std::alloc::{AllocError, Global};
 use widget_boxes::{Block, cloned_block};
@@ -191,6 +194,15 @@ impl<'a> Sparkline<'a> {
         greatest
     }
 
+    // Whether some bar has another style than the sparkline.
+    fn has_own_styles(&self) -> bool
+        ensures { result ≡ list_any has_own_style self.now.bars.items }
+    {
+        let bars = self.bars.as_slice();
+        bars.iter()
+            .any(|bar| bar.value.is_none() || bar.style.is_some())
+    }
+
     // The part of an area in which the bars stand.
     fn bars_cut(&self, inner: Rect) -> Cut
         ensures { result ≡ bars_cut self.now.direction (bars_width self.now inner) }
@@ -216,7 +228,7 @@ impl<'a> DrawInside for Sparkline<'a> {
             greatest: self.greatest(),
             area: inner,
         };
-        put_change(&bars, self.bars_cut(inner).of(inner), buf)
+        bars.put_all(self.bars_cut(inner).of(inner), buf)
     }
 }
 
@@ -242,43 +254,7 @@ impl<'b, 'a> Bars<'b, 'a> {
         }
     }
 
-    // The symbol of what shows of a bar in a row.
-    #[inline(always)]
-    fn symbol(&self, bar: &SparklineBar, y: u16) -> &'a str
-        ensures value { let s = self.now.sparkline.now in let r = self.now.area in
-            result.now ≡ mark_of_value s self.now.greatest r.height bar.now.value
-            (row_from_below r y) }
-        ensures short { HasShortLevels self.now.sparkline.now → IsShort result.now }
-    {
-        match bar.value {
-            Some(value) => {
-                let eighths = eighths_in(value, self.greatest, self.area.height, self.row(y));
-                level_of(&self.sparkline.bar_set, eighths)
-            }
-            None => self.sparkline.absent_value_symbol,
-        }
-    }
-
-    // Lays the style of a bar over a cell; apart where the bar has one of its own.
-    #[inline(always)]
-    fn lay_style(&self, bar: &SparklineBar, cell: &mut Cell)
-        ensures { let s = self.now.sparkline.now in
-            let style = patch s.style (style_of_bar s bar.now.value bar.now.style) in
-            cell.new ≡ styled style cell.old }
-    {
-        match (bar.value, bar.style) {
-            (Some(_), None) => {
-                new_style_is_identity(self.sparkline.style);
-                cell.set_style(self.sparkline.style);
-            }
-            _ => {
-                cell.set_style(self.style(bar));
-            }
-        }
-    }
-
     // The style of a bar, over that of the sparkline.
-    #[inline(never)]
     fn style(&self, bar: &SparklineBar) -> Style
         ensures { let s = self.now.sparkline.now in
             result ≡ patch s.style (style_of_bar s bar.now.value bar.now.style) }
@@ -290,32 +266,108 @@ impl<'b, 'a> Bars<'b, 'a> {
         self.sparkline.style.patch(own)
     }
 
-    // Which row from below it is, from 0 on.
-    fn row(&self, y: u16) -> u16
-        ensures { result ≡ row_from_below self.now.area y }
+    // A column of the area.
+    fn column(&self, x: u16) -> Rect
+        ensures { result ≡ column_of self.now.area x }
     {
-        let from_top = y.saturating_sub(self.area.y);
-        self.area.height.saturating_sub(from_top).saturating_sub(1)
+        Rect {
+            x,
+            width: 1,
+            ..self.area
+        }
     }
-}
 
-impl<'b, 'a> CellChange for Bars<'b, 'a> {
-    ghost use Rattle.widget_sparkline.specs.Sparklines.{bar_cell_of, HasShortLevels};
-
-    ghost made = { λ b. bar_cell_of b.sparkline.now b.greatest b.area };
-
-    ghost is_light = { λ b _ _. HasShortLevels b.sparkline.now };
-
-    fn change(&self, alloc: Global, position: Position, cell: &mut Cell) -> Result<(), AllocError> {
+    // Lays the style of a column's bar over it, if there is one.
+    fn lay_style(&self, x: u16, buf: &mut Buffer)
+        ensures { let r = self.now.area in
+            ChangesEach (column_of r x) (bar_style_at self.now.sparkline.now r) buf.old buf.new }
+    {
         let bars = self.sparkline.bars.as_slice();
-        let number = self.number(position.x);
+        let number = self.number(x);
+        if number < bars.len() {
+            lay_style(self.style(&bars[number]), self.column(x), buf);
+        }
+    }
+
+    // Lays the styles of the bars over their columns of an area.
+    fn lay_own_styles(&self, area: Rect, buf: &mut Buffer)
+        requires { IsColumnsOf area self.now.area }
+        ensures { let f = bar_style_at self.now.sparkline.now self.now.area in
+            ChangesEach area f buf.old buf.new }
+    {
+        for x in area.left()..area.right() {
+            self.lay_style(x, buf);
+        }
+    }
+
+    // Lays the styles of the bars over their columns of an area; all at once, if none has its own.
+    fn lay_styles(&self, area: Rect, buf: &mut Buffer)
+        requires { let s = self.now.sparkline.now in let r = self.now.area in
+            area ≡ cut_from (bars_cut s.direction (bars_width s r)) r }
+        ensures { let f = bar_style_at self.now.sparkline.now self.now.area in
+            ChangesEach area f buf.old buf.new }
+    {
+        if self.sparkline.has_own_styles() {
+            self.lay_own_styles(area, buf);
+        } else {
+            new_style_is_identity(self.sparkline.style);
+            put_style(self.sparkline.style, area, buf);
+        }
+    }
+
+    // Sets the symbols of a bar in a column of the area.
+    fn put_bar(&self, bar: &SparklineBar, x: u16, buf: &mut Buffer) -> Result<(), AllocError>
+        ensures { let s = self.now.sparkline.now in let r = self.now.area in
+            let f = bar_mark s self.now.greatest r bar.now in
+            IsDone (put_change f (λ _ _. HasShortLevels s)) (column_of r x) result buf.old buf.new }
+    {
+        let column = self.column(x);
+        match bar.value {
+            Some(value) => {
+                let eighths = eighths_of(value, self.greatest, column.height);
+                fill_levels(&self.sparkline.bar_set, eighths, column, buf)
+            }
+            None => fill(self.sparkline.absent_value_symbol, column, buf),
+        }
+    }
+
+    // Sets the symbols of a column's bar, if there is one.
+    fn put_column(&self, x: u16, buf: &mut Buffer) -> Result<(), AllocError>
+        ensures { let s = self.now.sparkline.now in let r = self.now.area in
+            let f = mark_at s self.now.greatest r in
+            IsDone (put_change f (λ _ _. HasShortLevels s)) (column_of r x) result buf.old buf.new }
+    {
+        let bars = self.sparkline.bars.as_slice();
+        let number = self.number(x);
         if number >= bars.len() {
             return Ok(());
         }
-        let bar = &bars[number];
-        put_level(alloc, self.symbol(bar, position.y), cell)?;
-        self.lay_style(bar, cell);
+        self.put_bar(&bars[number], x, buf)
+    }
+
+    // Sets the symbols of the bars in their columns of an area.
+    fn put_marks(&self, area: Rect, buf: &mut Buffer) -> Result<(), AllocError>
+        requires { IsColumnsOf area self.now.area }
+        ensures { let s = self.now.sparkline.now in
+            let f = mark_at s self.now.greatest self.now.area in
+            IsDone (put_change f (λ _ _. HasShortLevels s)) area result buf.old buf.new }
+    {
+        for x in area.left()..area.right() {
+            self.put_column(x, buf)?;
+        }
         Ok(())
+    }
+
+    // Puts the bars over their columns of an area.
+    fn put_all(&self, area: Rect, buf: &mut Buffer) -> Result<(), AllocError>
+        requires { let s = self.now.sparkline.now in let r = self.now.area in
+            area ≡ cut_from (bars_cut s.direction (bars_width s r)) r }
+        ensures { let s = self.now.sparkline.now in
+            let f = bar_cell_of s self.now.greatest self.now.area in
+            IsDone (put_change f (λ _ _. HasShortLevels s)) area result buf.old buf.new }
+    {
+        self.lay_styles(area, buf);
+        self.put_marks(area, buf)
     }
 }
 
