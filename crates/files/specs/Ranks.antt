@@ -1,5 +1,6 @@
 -- The beginning of a key as one number, by which keys are told apart before they are compared.
-use Rattle.std.specs.Prelude.{ℕ, Bool, true, false, zero, suc, ◌+◌, ◌*◌, ◌/◌, ◌%◌, ◌^◌, ◌==◌, nat_lt, if◌then◌else◌, List, [], ◌∷◌}
+use Rattle.std.specs.Prelude.{ℕ, zero, suc, ◌+◌, ◌*◌, ◌/◌, ◌%◌, ◌^◌, ◌==◌, nat_lt, List, [], ◌∷◌}
+use Rattle.std.specs.Prelude.{Bool, true, false, if◌then◌else◌}
 
 -- a number in bytes, the highest first, and so many after that one: what the others don't hold is the first
 unfoldable pub in_bytes : ℕ → ℕ → List ℕ → List ℕ

@@ -3,11 +3,13 @@
 ghost use Rattle.std.specs.Prelude.{◌≡◌, ◌<◌, ◌+◌, ◌*◌, ◌^◌, ◌∷◌, List, ℕ, true, false};
 ghost use Rattle.files.specs.Ranks.{in_bytes, more_bytes, key_bytes, worth, key_rank};
 
-// The bytes of a key up to one: what they are worth, and what one is worth in the next byte.
+// The bytes of a key up to one: what they are worth, and what one is worth in the next byte. Even
+// the highest byte fits.
 #[derive(Drop)]
 struct Rank {
     value: u128,
     unit: u128,
+    ghost has_room: { value + 255 * unit < 2 ^ 128 },
 }
 
 // How many bytes a number takes after its first one, 3 at most.
@@ -25,9 +27,7 @@ fn more_bytes(number: u64) -> u8
 impl Rank {
     // Appends a byte. The first one from 255 on counts as 255, and nothing counts after it.
     fn push(&mut self, byte: u64)
-        requires { self.now.value + 255 * self.now.unit < 2 ^ 128 }
-        ensures room { self.new.value + 255 * self.new.unit < 2 ^ 128 }
-        ensures worth { (rest : List ℕ) → self.new.value + worth self.new.unit rest
+        ensures { (rest : List ℕ) → self.new.value + worth self.new.unit rest
             ≡ self.old.value + worth self.old.unit (byte ∷ rest) }
     {
         if byte < 255 {
@@ -41,9 +41,7 @@ impl Rank {
 
     // Appends a number in bytes, so many after the first one.
     fn push_bytes(&mut self, more: u8, number: u64)
-        requires { self.now.value + 255 * self.now.unit < 2 ^ 128 }
-        ensures room { self.new.value + 255 * self.new.unit < 2 ^ 128 }
-        ensures worth { (rest : List ℕ) → self.new.value + worth self.new.unit rest
+        ensures { (rest : List ℕ) → self.new.value + worth self.new.unit rest
             ≡ self.old.value + worth self.old.unit (in_bytes more number rest) }
     {
         if more == 0 {
@@ -56,9 +54,8 @@ impl Rank {
 
     // Appends a number.
     fn push_number(&mut self, number: u64)
-        requires { self.now.value + 255 * self.now.unit < 2 ^ 128 }
-        ensures room { self.new.value + 255 * self.new.unit < 2 ^ 128 }
-        ensures worth { (rest : List ℕ) → self.new.value + worth self.new.unit (key_bytes false rest)
+        ensures { (rest : List ℕ)
+            → self.new.value + worth self.new.unit (key_bytes false rest)
             ≡ self.old.value + worth self.old.unit (key_bytes true (number ∷ rest)) }
     {
         let more = more_bytes(number);
@@ -68,9 +65,8 @@ impl Rank {
 
     // Appends an item of a key, perhaps a number; returns whether the next one is a number.
     fn push_item(&mut self, is_number: bool, item: u64) -> bool
-        requires { self.now.value + 255 * self.now.unit < 2 ^ 128 }
-        ensures room { self.new.value + 255 * self.new.unit < 2 ^ 128 }
-        ensures worth { (rest : List ℕ) → self.new.value + worth self.new.unit (key_bytes result rest)
+        ensures { (rest : List ℕ)
+            → self.new.value + worth self.new.unit (key_bytes result rest)
             ≡ self.old.value + worth self.old.unit (key_bytes is_number (item ∷ rest)) }
     {
         if is_number {

@@ -3,15 +3,15 @@ use Rattle.files.specs.Ranks.{worth}
 use Rattle.files.proofs.RankLemmas.{bytes-one, bytes-more}
 use Rattle.files.proofs.ranks.Rank.+push_bytes.Goals as goal
 
-pub returns-then-more-eq0-clause-worth : goal.returns-then-more-eq0-clause-worth
-returns-then-more-eq0-clause-worth t c = λ rest.
-    c.push.ensures.worth rest
+pub returns-then-more-eq0 : goal.returns-then-more-eq0
+returns-then-more-eq0 t c = λ rest.
+    c.push.ensures rest
     ∙ ap (λ bytes. c.args.self.now.value + worth c.args.self.now.unit bytes)
     (bytes-one c.args.more c.args.number rest (omega (arith, c.if-more-eq0.true)))
 
-pub returns-else-more-eq0-clause-worth : goal.returns-else-more-eq0-clause-worth
-returns-else-more-eq0-clause-worth t c = λ rest.
-    c.push-else-more-eq0.ensures.worth rest
-    ∙ c.push_bytes.ensures.worth (c.args.number % 256 ∷ rest)
+pub returns-else-more-eq0 : goal.returns-else-more-eq0
+returns-else-more-eq0 t c = λ rest.
+    c.push-else-more-eq0.ensures rest
+    ∙ c.push_bytes.ensures (c.args.number % 256 ∷ rest)
     ∙ ap (λ bytes. c.args.self.now.value + worth c.args.self.now.unit bytes)
     (bytes-more c.args.more c.args.number rest (omega (arith, c.if-more-eq0.false)))
