@@ -262,11 +262,11 @@ key-less false (a ∷ s) (b ∷ t) h =
 rank-less : (s t : List ℕ) → key_rank s < key_rank t → compared s t ≡ Less
 rank-less s t h = key-less false s t (worth-less (2 ^ 120) (key_bytes false s) (key_bytes false t) h)
 
-pub rank-decides : (s t : List ℕ) (o : Ordering) → o ≡ nat_cmp (key_rank s) (key_rank t) → (o ≡ Equal → ⊥)
+pub rank_decides : (s t : List ℕ) (o : Ordering) → o ≡ nat_cmp (key_rank s) (key_rank t) → (o ≡ Equal → ⊥)
     → o ≡ slice_cmp nat_cmp s t
-rank-decides s t Less is unlike = sym (rank-less s t (ranked (key_rank s) (key_rank t) Less is))
-rank-decides s t Equal is unlike = absurd (unlike refl)
-rank-decides s t Greater is unlike = sym (less-back s t (rank-less t s (ranked (key_rank s) (key_rank t) Greater is)))
+rank_decides s t Less is unlike = sym (rank-less s t (ranked (key_rank s) (key_rank t) Less is))
+rank_decides s t Equal is unlike = absurd (unlike refl)
+rank_decides s t Greater is unlike = sym (less-back s t (rank-less t s (ranked (key_rank s) (key_rank t) Greater is)))
 
 -- ---- what is pushed
 

@@ -46,6 +46,7 @@ impl SortKey {
     }
 
     /// Compares it to another one.
+    #[tactic(auto, using(crate::proofs::RankLemmas::rank_decides))]
     pub fn compare(&self, other: &SortKey) -> Ordering
         ensures { result ≡ slice_cmp nat_cmp self.now other.now }
     {
