@@ -112,6 +112,11 @@ stays command a t t' none (inl exactly) =
     exactly.1 ∙ stays-by (refusal command t.entries) command t (λ is. none (exactly.0 ∙ is))
 stays command a t t' none (inr refused) = refused.1
 
+-- one that is answered so isn't refused
+allowed-by : (why : Option Failure) (a : Answer) → answer.Done ≡ option_map_or answer.Failed why a → why ≡ None
+allowed-by None a is = refl
+allowed-by (Some f) a is = absurd (cc)
+
 does-nothing : (command : Command) (a : Answer) (t t' : Tree) → done command t ≡ t.entries
     → DoesExactly t command a t' → t' ≡ t
 does-nothing command a t t' same (inl exactly) = exactly.1 ∙ keeps command t same
@@ -150,18 +155,18 @@ undone-or Tells o by (inr refused) is = undone o failure.Memory refused is
 
 record Makes (mode : Mode) (b : Browser) (o : Outcome) (t t' : Tree) : Type 0 where
   pub steps : Steps (IsNamedIn mode b) t t'
-  pub told : IsTold o mode b steps.commands
+  pub told : IsTold o mode b t steps.commands
 
-not-done : (o : Outcome) (mode : Mode) (b : Browser) (commands : List Command) → (o ≡ outcome.Done → ⊥)
-    → NoneIsAsked mode b commands → IsTold o mode b commands
-not-done outcome.Done mode b commands none all = absurd (none refl)
-not-done o mode b commands none all = all
+not-done : (o : Outcome) (mode : Mode) (b : Browser) (t : Tree) (commands : List Command) → (o ≡ outcome.Done → ⊥)
+    → NoneIsAsked mode b commands → IsTold o mode b t commands
+not-done outcome.Done mode b t commands none all = absurd (none refl)
+not-done o mode b t commands none all = all
 
 makes-nothing : (mode : Mode) (b : Browser) (o : Outcome) (t t' : Tree) → (o ≡ outcome.Done → ⊥) → t' ≡ t
     → Makes mode b o t t'
 makes-nothing mode b o t t' none same = record {
   steps = no-steps (IsNamedIn mode b) t t' same;
-  told = not-done o mode b [] none (All-nil (λ command. IsAskedIn mode b command → ⊥));
+  told = not-done o mode b t [] none (All-nil (λ command. IsAskedIn mode b command → ⊥));
 }
 
 change-makes : (mode : Mode) (b : Browser) (command : Command) (a : Answer) (o : Outcome) (t t' : Tree)
@@ -169,12 +174,13 @@ change-makes : (mode : Mode) (b : Browser) (command : Command) (a : Answer) (o :
     → IsAskedIn mode b command → o ≡ told_of a → DoesExactly t command a t' → Makes mode b o t t'
 change-makes mode b command answer.Done o t t' named asked tells (inl exactly) = record {
   steps = step (IsNamedIn mode b) command t t' named exactly.1;
-  told = subst (λ (x : Outcome). IsTold x mode b (command ∷ [])) (sym tells) (record {
+  told = subst (λ (x : Outcome). IsTold x mode b t (command ∷ [])) (sym tells) (record {
     earlier = [];
     last = command;
     split = refl;
     before = All-nil (λ command. IsAskedIn mode b command → ⊥);
     asked = asked;
+    allowed = allowed-by (refusal command t.entries) (done_answer command t) exactly.0;
   });
 }
 change-makes mode b command answer.Done o t t' named asked tells (inr refused) =
@@ -269,7 +275,7 @@ around-makes : (b : Browser) (o : Outcome) (t t' : Tree) → (o ≡ outcome.Done
     → Makes Trashing b o t t'
 around-makes b o t t' none around = record {
   steps = around-named b t t' around;
-  told = not-done o Trashing b around.commands none (none-asked b around.commands around.all);
+  told = not-done o Trashing b t around.commands none (none-asked b around.commands around.all);
 }
 
 module _ (b : Browser) (d : Discard) (is : discard_in b ≡ Some d) (n : ℕ) (date : DateTime) where
@@ -284,24 +290,26 @@ module _ (b : Browser) (d : Discard) (is : discard_in b ≡ Some d) (n : ℕ) (d
       ((d, is, (n, date, inr (inr refl))), λ asked. let bad : plan.undo ≡ Rename _ _ = asked.2.1 in absurd (cc))
 
   put-makes : (o : Outcome) (t written t' : Tree) → o ≡ outcome.Done → Steps (IsAround b) t written
-      → t' ≡ tree_after plan.put written → Makes Trashing b o t t'
-  put-makes o t written t' tells around put = record {
+      → refusal plan.put written.entries ≡ None → t' ≡ tree_after plan.put written → Makes Trashing b o t t'
+  put-makes o t written t' tells around allowed put = record {
     steps = steps-then (IsNamedIn Trashing b) t written t'
         (around-named b t written around)
         (step (IsNamedIn Trashing b) plan.put written t' (d, is, (n, date, inr (inl refl))) put);
-    told = subst (λ (x : Outcome). IsTold x Trashing b (around.commands ++ plan.put ∷ [])) (sym tells) (record {
+    told = subst (λ (x : Outcome). IsTold x Trashing b t (around.commands ++ plan.put ∷ [])) (sym tells) (record {
       earlier = around.commands;
       last = plan.put;
       split = refl;
       before = none-asked b around.commands around.all;
       asked = (d, is, (n, refl));
+      allowed = subst (λ (x : Tree). refusal plan.put x.entries ≡ None) around.made allowed;
     });
   }
 
   moved-makes : (a : Answer) (o : Outcome) (t written moved t' : Tree) → Steps (IsAround b) t written
       → DoesExactly written plan.put a moved → EndsMoved DoesExactly a plan moved o t' → Makes Trashing b o t t'
   moved-makes answer.Done o t written moved t' around (inl exactly) ends =
-      put-makes o t written t' ends.1 around (ends.0 ∙ exactly.1)
+      put-makes o t written t' ends.1 around
+      (allowed-by (refusal plan.put written.entries) (done_answer plan.put written) exactly.0) (ends.0 ∙ exactly.1)
   moved-makes answer.Done o t written moved t' around (inr refused) ends =
       let bad : answer.Done ≡ answer.Failed failure.Memory = refused.0 in absurd (cc)
   moved-makes a o t written moved t' around put ends =
@@ -380,7 +388,7 @@ named-sure b (command ∷ commands) all sure =
 
 record TurnMade (turn : Turn Browser Outcome) (t t' : Tree) : Type 0 where
   pub commands : List Command
-  pub turn_is : MadeInTurn turn commands
+  pub turn_is : MadeInTurn turn t commands
   pub made : t' ≡ tree_after_all commands t
 
 -- files in memory are outside

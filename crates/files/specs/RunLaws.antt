@@ -1,5 +1,5 @@
 -- What is known of runs of a browser on a terminal.
-use Rattle.std.specs.Prelude.{◌≡◌, ◌⊎◌, ℕ, true, false, List, [], ◌∷◌, ◌++◌, All, Some}
+use Rattle.std.specs.Prelude.{◌≡◌, ◌⊎◌, ℕ, true, false, List, [], ◌∷◌, ◌++◌, All, Some, None}
 use Rattle.std.specs.declared.time.Duration.{Duration}
 use Rattle.ratatui_core.specs.Terminal.{TerminalError}
 use Rattle.ratatui_ansi.specs.{declared.error.AnsiError.AnsiError}
@@ -10,12 +10,13 @@ use Rattle.ratatui_app.specs.Glass.{StandsOnGlass, never_short}
 use Rattle.ratatui_app.specs.declared.on_glass.OnGlass.{OnGlass}
 use Rattle.ratatui_files.specs.Paths.{path_in}
 use Rattle.ratatui_files.specs.Trees.{Tree}
-use Rattle.ratatui_files.specs.Changes.{tree_after}
+use Rattle.ratatui_files.specs.Changes.{refusal, tree_after}
 use Rattle.ratatui_files.specs.declared.command.Command.{Command}
 use Rattle.ratatui_files.specs.declared.command.Command.TheVariants.{Rename}
 use Rattle.files.specs.declared.browser.Browser.{Browser}
 use Rattle.files.specs.declared.browser.Mode.{Mode}
 use Rattle.files.specs.declared.browser.Mode.TheVariants.{Trashing}
+use Rattle.files.specs.declared.hands.Hands.{Hands}
 use Rattle.files.specs.declared.list.Outcome.{Outcome}
 use Rattle.files.specs.declared.list.Outcome.TheVariants as outcome
 use Rattle.files.specs.declared.trash.Discard.{Discard}
@@ -92,34 +93,35 @@ IsAskedIn mode b command = change_in mode b ≡ Some command
 abbrev pub NoneIsAsked : Mode → Browser → List Command → Type 0
 NoneIsAsked mode b commands = All (λ command. IsAskedIn mode b command → ⊥) commands
 
--- the last one of these commands is, and no other
-pub record EndsAsAsked (mode : Mode) (b : Browser) (commands : List Command) : Type 0 where
+-- the last one of these commands is, and no other; and after them it isn't refused
+pub record EndsAsAsked (mode : Mode) (b : Browser) (t : Tree) (commands : List Command) : Type 0 where
   pub earlier : List Command
   pub last : Command
   pub split : commands ≡ earlier ++ last ∷ []
   pub before : NoneIsAsked mode b earlier
   pub asked : IsAskedIn mode b last
+  pub allowed : refusal last (tree_after_all earlier t).entries ≡ None
 
 -- it is told that it was done, and so it was; or that it wasn't, and it wasn't
-abbrev pub IsTold : Outcome → Mode → Browser → List Command → Type 0
-IsTold outcome.Done mode b commands = EndsAsAsked mode b commands
-IsTold o mode b commands = NoneIsAsked mode b commands
+abbrev pub IsTold : Outcome → Mode → Browser → Tree → List Command → Type 0
+IsTold outcome.Done mode b t commands = EndsAsAsked mode b t commands
+IsTold o mode b t commands = NoneIsAsked mode b commands
 
--- the commands that were done for a question: it names each of them, and without a yes there is none; and what is
--- told of it is so
-pub record MadeBy (b : Browser) (o : Outcome) (commands : List Command) : Type 0 where
+-- the commands that were done to a tree for a question: it names each of them, and without a yes there is none; and
+-- what is told of it is so
+pub record MadeBy (b : Browser) (o : Outcome) (t : Tree) (commands : List Command) : Type 0 where
   pub named : All (IsNamedIn b.mode b) commands
   pub sure : (commands ≡ []) ⊎ (b.is_sure ≡ true)
-  pub told : IsTold o b.mode b commands
+  pub told : IsTold o b.mode b t commands
 
 -- a turn at files in memory: a read does nothing
-abbrev pub MadeInTurn : Turn Browser Outcome → List Command → Type 0
-MadeInTurn (Came bytes passed) commands = commands ≡ []
-MadeInTurn (Done b o) commands = MadeBy b o commands
+abbrev pub MadeInTurn : Turn Browser Outcome → Tree → List Command → Type 0
+MadeInTurn (Came bytes passed) t commands = commands ≡ []
+MadeInTurn (Done b o) t commands = MadeBy b o t commands
 
-module _ {W H O : Type 0} where
+module _ {W H : Type 0} where
   -- the commands of turns, in the order in which they were done
-  abbrev pub MadeByTurns : List (Past Browser Browser Outcome (OnGlass W) H O) → List Command → Type 0
+  abbrev pub MadeByTurns : List (Past Browser Browser Outcome (OnGlass W) H (Hands Tree)) → List Command → Type 0
   MadeByTurns [] commands = commands ≡ []
   MadeByTurns (p ∷ earlier) commands = (before : List Command) × (last : List Command)
-      × (commands ≡ before ++ last) × MadeByTurns earlier before × MadeInTurn p.turn last
+      × (commands ≡ before ++ last) × MadeByTurns earlier before × MadeInTurn p.turn p.before.outside.files last

@@ -358,9 +358,10 @@ pub fn questions_are_answered_after_they_are_shown<
         → HasRun (browsing_on H.gives H.fails O.answers) begun past now → WereAsked past }
 {}
 
-/// What a run makes of files in memory is what the confirmed commands make of them, and nothing
-/// else: each command was named by the question of the turn that did it, and that was answered by
-/// yes. What lists, looks, completes or reads changes nothing.
+/// What a run makes of files in memory is what the confirmed commands make of them, one after the
+/// other, and nothing else. Each was named by the question of its turn, and that was answered by
+/// yes. What is told to be done was done, and what is told to have failed wasn't. What lists, looks,
+/// completes or reads does nothing to them.
 pub fn a_run_makes_of_files_what_was_confirmed<W: Write + Drop, H: Hears<Browser, OnGlass<W>>>()
     ensures { (begun now : Now Browser (OnGlass W) H (HandsData Tree))
         (past : List (Past Browser Browser Outcome (OnGlass W) H (HandsData Tree)))
