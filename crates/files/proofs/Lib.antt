@@ -21,3 +21,4 @@ pub mod QuestionLemmas
 pub mod SoundLemmas
 pub mod RunLemmas
 pub mod AskLemmas
+pub mod MadeLemmas

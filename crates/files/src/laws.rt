@@ -47,6 +47,10 @@ ghost use Rattle.files.specs.Questions.{change_in};
 ghost use Rattle.ratatui_acts.specs.Runs.{Now, Past, HasRun};
 ghost use Rattle.ratatui_app.specs.declared.on_glass.OnGlass.{OnGlass};
 ghost use Rattle.files.specs.RunLaws.{browsing_on, WereOnTheGlass, WereAsked};
+ghost use Rattle.files.specs.RunLaws.{MadeByTurns, tree_after_all};
+ghost use Rattle.files.specs.declared.hands.Hands.{Hands as HandsData};
+ghost use Rattle.ratatui_files.specs.declared.command.Command.{Command};
+ghost use Rattle.ratatui_files.specs.Trees.{Tree};
 ghost use Rattle.files.specs.Laws.{IsSound, IsPlaced, ListsSame, AsksToRemove, AsksToRename, AsksToTrash, AsksToPaste, AsksToUndo};
 ghost use Rattle.files.specs.Laws.{AsksAbout, WillAskAbout, IsLook, seen_last, IsWithin, LeadsToEntry};
 ghost use Rattle.files.specs.declared.browser.Mode.TheVariants.{Looking};
@@ -65,8 +69,10 @@ ghost use Rattle.files.specs.Completions.{entry_rest, completion};
 ghost use Rattle.files.specs.HelpTable.{key_table, AreListedKeys, HasEntryFor};
 
 use crate::browser::Browser;
+use crate::hands::Hands;
 use ratatui_acts::{Hears, Outside};
 use ratatui_app::OnGlass;
+use ratatui_files::InMemory;
 use std::io::Write;
 
 /// Names that are shown alike are the same.
@@ -350,4 +356,17 @@ pub fn questions_are_answered_after_they_are_shown<
         (past : List (Past Browser Browser Outcome (OnGlass W) H O))
         → begun.standing.state.is_sure ≡ false → begun.standing.state.is_quiet ≡ false
         → HasRun (browsing_on H.gives H.fails O.answers) begun past now → WereAsked past }
+{}
+
+/// What a run makes of files in memory is what the confirmed commands make of them, one after the
+/// other, and nothing else. Each was named by the question of its turn, and that was answered by
+/// yes. What is told to be done was done, and what is told to have failed wasn't. What lists, looks,
+/// completes or reads does nothing to them.
+pub fn a_run_makes_of_files_what_was_confirmed<W: Write + Drop, H: Hears<Browser, OnGlass<W>>>()
+    ensures { (begun now : Now Browser (OnGlass W) H (HandsData Tree))
+        (past : List (Past Browser Browser Outcome (OnGlass W) H (HandsData Tree)))
+        → let answers = ⟦<Hands<InMemory> as Outside<Browser, OnGlass<W>>>⟧.answers in
+        HasRun (browsing_on H.gives H.fails answers) begun past now
+        → (commands : List Command) × MadeByTurns past commands
+        × (now.outside.files ≡ tree_after_all commands begun.outside.files) }
 {}
