@@ -1,6 +1,7 @@
 pub mod PaintLemmas
 pub mod SortLemmas
 pub mod KeyLemmas
+pub mod RankLemmas
 pub mod OrderLemmas
 pub mod FindLemmas
 pub mod StayLemmas

@@ -3,6 +3,7 @@ pub mod Help
 pub mod HelpTable
 pub mod Names
 pub mod NameKeys
+pub mod Ranks
 pub mod Orders
 pub mod Marks
 pub mod Texts

@@ -12,7 +12,7 @@ use Rattle.files.specs.declared.order.SortBy.TheVariants.{Name, Size, Date}
 -- by name: numbers as numbers, and then byte by byte
 abbrev pub compare_names : Row → Row → Ordering
 compare_names =
-    then_cmp (on (λ row. row.key.items) (slice_cmp nat_cmp)) (on (λ row. string_bytes row.name) (slice_cmp nat_cmp))
+    then_cmp (on (λ row. row.key) (slice_cmp nat_cmp)) (on (λ row. string_bytes row.name) (slice_cmp nat_cmp))
 
 -- rows that have no size, or no date, come first; what is alike goes by name
 abbrev pub compare_by : SortBy → Row → Row → Ordering

@@ -38,7 +38,7 @@ pub record IsRowFor (info : Info) (row : Row) : Type 0 where
   pub link : row.is_link ≡ is_a_link info.kind
   pub size : row.size ≡ told_size info.kind info.size
   pub changed : row.changed ≡ option_map as_nanos info.modified
-  pub key : row.key.items ≡ name_sort_key info.name
+  pub key : row.key ≡ name_sort_key info.name
 
 -- the rows of entries that are listed
 abbrev pub AreRowsFor : Bool → List Info → List Row → Type 0

@@ -3,6 +3,7 @@
 ghost use Rattle.std.specs.Prelude.{◌≡◌, length, option_map, slice_get};
 
 use crate::glance::Glance;
+use crate::sort_key::SortKey;
 use ratatui_files::{Failure, Path, Text};
 use std::marker::Model;
 
@@ -20,7 +21,7 @@ pub struct Row {
     /// When it was changed last, in nanoseconds since 1970, if that is known.
     pub changed: Option<u128>,
     /// What its name is compared by: its numbers as numbers.
-    pub key: Vec<u64>,
+    pub key: SortKey,
 }
 
 /// Rows of a list.

@@ -3,6 +3,7 @@
 ghost use Rattle.std.specs.Prelude.{◌≡◌, ◌++◌, ◌∷◌, [], List, ℕ, IfOk, OnOk, Some, true};
 ghost use Rattle.files.specs.NameKeys.{is_digit_byte, sort_key_in, name_sort_key};
 
+use crate::sort_key::SortKey;
 use std::alloc::{AllocError, Global};
 
 // A number with a digit more, or the number of a digit.
@@ -42,8 +43,8 @@ fn push_byte(key: &mut Vec<u64>, number: Option<u64>, byte: u8) -> Result<Option
 }
 
 /// Returns what a name is compared by.
-pub(crate) fn name_sort_key(alloc: Global, name: &str) -> Result<Vec<u64>, AllocError>
-    ensures { IfOk result (λ key. key.items ≡ name_sort_key name.now) }
+pub(crate) fn name_sort_key(alloc: Global, name: &str) -> Result<SortKey, AllocError>
+    ensures { IfOk result (λ key. key ≡ name_sort_key name.now) }
 {
     let mut key = Vec::with_capacity(alloc, name.len())?;
     let mut number = None;
@@ -51,5 +52,5 @@ pub(crate) fn name_sort_key(alloc: Global, name: &str) -> Result<Vec<u64>, Alloc
         number = push_byte(&mut key, number, *byte)?;
     }
     push_number(&mut key, number)?;
-    Ok(key)
+    Ok(SortKey::new(key))
 }

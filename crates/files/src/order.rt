@@ -32,7 +32,7 @@ impl Order {
     fn names(one: &Row, other: &Row) -> Ordering
         ensures { result ≡ compare_names one.now other.now }
     {
-        match one.key.cmp(&other.key) {
+        match one.key.compare(&other.key) {
             Ordering::Equal => one.name.cmp(&other.name),
             unlike => unlike,
         }

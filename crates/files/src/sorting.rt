@@ -74,8 +74,9 @@ pub(crate) fn sorted(
 ) -> Result<Rows, AllocError>
     ensures { IfOk result (IsListOf order has_hidden entries) }
 {
-    let mut rows = Vec::new(alloc);
-    for info in entries.into_vec() {
+    let entries = entries.into_vec();
+    let mut rows = Vec::with_capacity(alloc, entries.len())?;
+    for info in entries {
         add(alloc, info, has_hidden, &mut rows)?;
     }
     order.sort(&mut rows)?;

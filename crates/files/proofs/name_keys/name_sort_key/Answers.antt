@@ -15,5 +15,5 @@ pub returns : goal.returns
 returns c =
     let bytes = c.as_bytes-byte-items.result.now in
     let none : drop c.loop-byte.byte-index bytes ≡ [] = drop_all c.loop-byte.byte-index bytes (omega (arith, c.loop-byte-test.false)) in
-    c.in_ok-push_number.ensures ∙ ap (λ t. c.loop-byte.key.items ++ sort_key_in c.loop-byte.number t) (sym none)
+    c.new.ensures ∙ c.in_ok-push_number.ensures ∙ ap (λ t. c.loop-byte.key.items ++ sort_key_in c.loop-byte.number t) (sym none)
     ∙ c.loop-byte.invariant ∙ ap name_sort_key c.as_bytes-byte-items.ensures.value

@@ -1,0 +1,4 @@
+use Rattle.files.proofs.ranks.Rank.+push_bytes.Given as goal
+
+abbrev pub decreases-push_bytes : goal.decreases-push_bytes
+decreases-push_bytes l = l.more
