@@ -40,8 +40,7 @@ use Rattle.files.specs.Moves.{asks, browser_asked}
 use Rattle.files.specs.Trash.{discard_in, IsTrashFolder, discard_plan}
 use Rattle.files.specs.Questions.{change_in, IsNamedIn}
 use Rattle.files.specs.Discards.{IsPreparing, ArePreparing, Did, Prepares, IsPrepared, EndsMoved}
-use Rattle.files.specs.Discards.{EndsWritten, Ends, PutsAway}
-use Rattle.files.specs.Discards.{StopsShort, Discarded}
+use Rattle.files.specs.Discards.{EndsWritten, Ends, PutsAway, StopsShort, Discarded}
 use Rattle.files.specs.Looks.{TellsGlance, Looked}
 use Rattle.files.specs.Doing.{TellsListing, TellsCompletion, Changed, Listed, Completed, DoesIn, DoesAsked}
 use Rattle.files.specs.Laws.{IsLook, is_change}
@@ -86,6 +85,7 @@ steps-then Is t u v one two = record {
 
 -- ---- what changes nothing
 
+-- a command that leaves what stands there
 keeps-by : (why : Option Failure) (t : Tree) (entries : List Entry) → entries ≡ t.entries
     → option_map_or (λ (f : Failure). t) why (record { entries = entries; time = t.time }) ≡ t
 keeps-by None t entries same = ap (λ (x : List Entry). record { entries = x; time = t.time }) same
@@ -94,7 +94,7 @@ keeps-by (Some f) t entries same = refl
 keeps : (command : Command) (t : Tree) → done command t ≡ t.entries → tree_after command t ≡ t
 keeps command t same = keeps-by (refusal command t.entries) t (done command t) same
 
--- nor does one that isn't answered that it was done
+-- a command that isn't answered that it was done
 no-change : (command : Command) (t : Tree) → (done_answer command t ≡ answer.Done → ⊥) → done command t ≡ t.entries
 no-change (ListFolder path) t none = refl
 no-change (Read path start most) t none = refl
@@ -112,11 +112,12 @@ stays command a t t' none (inl exactly) =
     exactly.1 ∙ stays-by (refusal command t.entries) command t (λ is. none (exactly.0 ∙ is))
 stays command a t t' none (inr refused) = refused.1
 
--- one that is answered so isn't refused
+-- a command that is answered so isn't refused
 allowed-by : (why : Option Failure) (a : Answer) → answer.Done ≡ option_map_or answer.Failed why a → why ≡ None
 allowed-by None a is = refl
 allowed-by (Some f) a is = absurd (cc)
 
+-- a command that only reads
 does-nothing : (command : Command) (a : Answer) (t t' : Tree) → done command t ≡ t.entries
     → DoesExactly t command a t' → t' ≡ t
 does-nothing command a t t' same (inl exactly) = exactly.1 ∙ keeps command t same

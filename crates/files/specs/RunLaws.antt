@@ -93,7 +93,7 @@ IsAskedIn mode b command = change_in mode b ≡ Some command
 abbrev pub NoneIsAsked : Mode → Browser → List Command → Type 0
 NoneIsAsked mode b commands = All (λ command. IsAskedIn mode b command → ⊥) commands
 
--- the last one of these commands is, and no other; and after them it isn't refused
+-- the last one of these commands is what it asks for, and no other; and after the others it isn't refused
 pub record EndsAsAsked (mode : Mode) (b : Browser) (t : Tree) (commands : List Command) : Type 0 where
   pub earlier : List Command
   pub last : Command
@@ -102,13 +102,13 @@ pub record EndsAsAsked (mode : Mode) (b : Browser) (t : Tree) (commands : List C
   pub asked : IsAskedIn mode b last
   pub allowed : refusal last (tree_after_all earlier t).entries ≡ None
 
--- it is told that it was done, and so it was; or that it wasn't, and it wasn't
+-- what is told is so: what the question asks for was done, or it wasn't
 abbrev pub IsTold : Outcome → Mode → Browser → Tree → List Command → Type 0
 IsTold outcome.Done mode b t commands = EndsAsAsked mode b t commands
 IsTold o mode b t commands = NoneIsAsked mode b commands
 
--- the commands that were done to a tree for a question: it names each of them, and without a yes there is none; and
--- what is told of it is so
+-- the commands that were done to a tree for a question: it names each of them; without a yes there is none; and what
+-- is told of them is so
 pub record MadeBy (b : Browser) (o : Outcome) (t : Tree) (commands : List Command) : Type 0 where
   pub named : All (IsNamedIn b.mode b) commands
   pub sure : (commands ≡ []) ⊎ (b.is_sure ≡ true)
