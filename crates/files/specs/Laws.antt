@@ -18,6 +18,7 @@ use Rattle.files.specs.Moves.{last_row_place, list_rows, acts, browsed_after, br
 use Rattle.files.specs.Names.{shown_name}
 use Rattle.files.specs.Sorting.{IsPlaceOf}
 use Rattle.files.specs.Ways.{way_of}
+use Rattle.files.specs.Counting.{asked_mode, row_count_told}
 use Rattle.files.specs.declared.list.Listing.{Listing as ListingData}
 use Rattle.files.specs.Texts.{shown_row, selected_text, status_told, fits}
 
@@ -33,18 +34,20 @@ pub record ListsSame (b c : Browser) : Type 0 where
   pub list : c.list ≡ b.list
   pub unnamed : c.unnamed ≡ b.unnamed
 
--- the status asks whether the entry of a path is to be removed for good
+-- the status asks whether the entry of a path is to be removed for good, and tells how many entries a folder has
 pub record AsksToRemove (b : Browser) (path : List ℕ) : Type 0 where
   pub row : Row
   pub path_is : path ≡ path_in b.folder (string_bytes row.name)
-  pub asks : status_told b ≡ codes "remove \"" ++ shown_row row ++ codes "\" for good? y/n"
+  pub asks : status_told b
+      ≡ codes "remove \"" ++ shown_row row ++ codes "\"" ++ row_count_told row b.count ++ codes " for good? y/n"
 
--- the status asks whether an entry is to be moved to the trash, and names both
+-- the status asks whether an entry is to be moved to the trash, names both, and tells how many entries a folder has
 pub record AsksToTrash (b : Browser) (d : Discard) : Type 0 where
   pub row : Row
   pub from_is : d.from ≡ path_in b.folder (string_bytes row.name)
   pub asks : status_told b
-      ≡ codes "move \"" ++ shown_row row ++ codes "\" to \"" ++ (codes "/" ++ shown_name d.trash) ++ codes "\"? y/n"
+      ≡ codes "move \"" ++ shown_row row ++ codes "\"" ++ row_count_told row b.count ++ codes " to \""
+      ++ (codes "/" ++ shown_name d.trash) ++ codes "\"? y/n"
 
 -- the status asks for another name of the entry of a path: that of another path
 pub record AsksToRename (b : Browser) (from to : List ℕ) : Type 0 where
@@ -67,9 +70,9 @@ pub record AsksToUndo (b : Browser) (from to : List ℕ) : Type 0 where
       ≡ codes "move \"" ++ (codes "/" ++ shown_name from) ++ codes "\" back to \"" ++ (codes "/" ++ shown_name to)
       ++ codes "\"? y/n"
 
--- an entry is selected, by its name, and this is asked about it
+-- an entry is selected, by its name, and this is asked about it; but a folder is counted first
 pub record AsksAbout (question : Mode) (name : List ℕ) (b : Browser) : Type 0 where
-  pub mode : b.mode ≡ question
+  pub mode : b.mode ≡ asked_mode question b
   pub entry : selected_text b ≡ name
 
 -- the folder is listed anew, and then this is asked about an entry that is selected, by its name

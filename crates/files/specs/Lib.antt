@@ -5,8 +5,10 @@ pub mod Names
 pub mod NameKeys
 pub mod Orders
 pub mod Marks
+pub mod Counting
 pub mod Texts
 pub mod Dates
+pub mod Details
 pub mod Trash
 pub mod Ways
 pub mod Completions
