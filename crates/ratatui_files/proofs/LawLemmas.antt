@@ -1,5 +1,5 @@
 -- What commands keep, and what they make.
-use Rattle.std.proofs.Common.{◌≡◌, ◌≢◌, ℕ, Bool, true, false, not, cond, ◌||◌, List, [], ◌∷◌, ◌++◌, length}
+use Rattle.std.proofs.Common.{◌≡◌, ◌≢◌, ℕ, zero, suc, Bool, true, false, not, cond, ◌||◌, List, [], ◌∷◌, ◌++◌, length}
 use Rattle.std.proofs.Common.{take}
 use Rattle.std.proofs.Common.{drop}
 use Rattle.std.proofs.Common.{Option, None, Some, refl, ap, sym, ◌∙◌, subst, append_assoc}
@@ -191,6 +191,7 @@ done-elsewhere q (command.Copy from to) t h = put-elsewhere q to (File (bytes_at
 done-elsewhere q (command.Remove path) t h = taken-elsewhere q path t.entries h
 done-elsewhere q (command.RemoveFolder path) t h = taken-elsewhere q path t.entries h
 done-elsewhere q (command.MakeFolder path) t h = put-elsewhere q path Folder t.time t.entries h
+done-elsewhere q (command.MakeFile path) t h = put-elsewhere q path (File []) t.time t.entries h
 done-elsewhere q command.Now t h = refl
 
 pub stays : (q : List ℕ) (c : Command) (t : Tree) → NamesOther q c → node_at q (tree_after c t).entries ≡ node_at q t.entries
@@ -211,6 +212,7 @@ done-fine (command.Copy from to) t failure e = cc
 done-fine (command.Remove path) t failure e = cc
 done-fine (command.RemoveFolder path) t failure e = cc
 done-fine (command.MakeFolder path) t failure e = cc
+done-fine (command.MakeFile path) t failure e = cc
 done-fine command.Now t failure e = cc
 
 pub failed-same : (c : Command) (t : Tree) (failure : Failure) → answer_to c t ≡ answer.Failed failure → tree_after c t ≡ t
@@ -255,3 +257,31 @@ written-read (b ∷ path) bytes most t e =
     ap (λ (x : Tree). answer_to (command.Read (b ∷ path) 0 most) x) (after-done (command.Write (b ∷ path) bytes) t e)
     ∙ ap (read-from (b ∷ path) most (with_node (b ∷ path) (File bytes) t.time t.entries))
     (put-here b path (File bytes) t.time t.entries)
+
+-- an empty file has no bytes, from any one on
+drop-nothing : (n : ℕ) (bytes : List ℕ) → bytes ≡ [] → drop n bytes ≡ bytes
+drop-nothing zero bytes e = refl
+drop-nothing (suc n) [] e = refl
+drop-nothing (suc n) (b ∷ bytes) e = cc
+
+take-nothing : (n : ℕ) (bytes : List ℕ) → bytes ≡ [] → take n bytes ≡ bytes
+take-nothing zero [] e = refl
+take-nothing zero (b ∷ bytes) e = cc
+take-nothing (suc n) [] e = refl
+take-nothing (suc n) (b ∷ bytes) e = cc
+
+-- what a file is read as, from some byte on
+read-on : List ℕ → ℕ → ℕ → List Entry → Option Node → Answer
+read-on path start most t o =
+    option_map_or answer.Failed (wants_file (lack path t) o)
+    (answer.Read (take most (drop start (option_map_or bytes_of o []))))
+
+pub made-empty : (path : List ℕ) (start most : ℕ) (t : Tree) → answer_to (command.MakeFile path) t ≡ answer.Done
+    → answer_to (command.Read path start most) (tree_after (command.MakeFile path) t) ≡ answer.Read []
+unfolding read-on
+made-empty [] start most t e = let no = not-refused (command.MakeFile []) t e in cc
+made-empty (b ∷ path) start most t e =
+    ap (λ (x : Tree). answer_to (command.Read (b ∷ path) start most) x) (after-done (command.MakeFile (b ∷ path)) t e)
+    ∙ ap (read-on (b ∷ path) start most (with_node (b ∷ path) (File []) t.time t.entries))
+    (put-here b path (File []) t.time t.entries)
+    ∙ ap (λ bytes. answer.Read bytes) (ap (take most) (drop-nothing start [] refl) ∙ take-nothing most [] refl)

@@ -95,6 +95,7 @@ refusal (command.Copy from to) t = or_else (refuses_file from t) (refuses_new to
 refusal (command.Remove path) t = refuses_file path t
 refusal (command.RemoveFolder path) t = refuses_remove_folder path t
 refusal (command.MakeFolder path) t = refuses_new path t
+refusal (command.MakeFile path) t = refuses_new path t
 refusal command.Now t = None
 
 -- ---- what a command that isn't refused does
@@ -109,6 +110,7 @@ done (command.Copy from to) t = with_node to (File (bytes_at from t.entries)) t.
 done (command.Remove path) t = without path t.entries
 done (command.RemoveFolder path) t = without path t.entries
 done (command.MakeFolder path) t = with_node path Folder t.time t.entries
+done (command.MakeFile path) t = with_node path (File []) t.time t.entries
 done command.Now t = t.entries
 
 -- what it is answered
@@ -121,6 +123,7 @@ done_answer (command.Copy from to) t = answer.Done
 done_answer (command.Remove path) t = answer.Done
 done_answer (command.RemoveFolder path) t = answer.Done
 done_answer (command.MakeFolder path) t = answer.Done
+done_answer (command.MakeFile path) t = answer.Done
 done_answer command.Now t = answer.Time t.time
 
 -- ---- what a command does, refused or not

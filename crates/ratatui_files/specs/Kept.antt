@@ -19,4 +19,5 @@ NamesOther path (command.Copy from to) = path ≢ to
 NamesOther path (command.Remove other) = path ≢ other
 NamesOther path (command.RemoveFolder other) = path ≢ other
 NamesOther path (command.MakeFolder other) = path ≢ other
+NamesOther path (command.MakeFile other) = path ≢ other
 NamesOther path command.Now = Unit {0}

@@ -25,5 +25,6 @@ IsAnswerTo (command.Copy from to) answer.Done = Unit {0}
 IsAnswerTo (command.Remove path) answer.Done = Unit {0}
 IsAnswerTo (command.RemoveFolder path) answer.Done = Unit {0}
 IsAnswerTo (command.MakeFolder path) answer.Done = Unit {0}
+IsAnswerTo (command.MakeFile path) answer.Done = Unit {0}
 IsAnswerTo command.Now (answer.Time time) = Unit {0}
 IsAnswerTo c a = ⊥

@@ -24,6 +24,8 @@ pub enum Command {
     RemoveFolder(Path),
     /// Make a folder where nothing stands.
     MakeFolder(Path),
+    /// Make an empty file where nothing stands.
+    MakeFile(Path),
     /// Tell the time.
     Now,
 }

@@ -125,6 +125,7 @@ impl InMemory {
                 Ok(())
             }
             Command::MakeFolder(path) => self.put(path, Node::Folder),
+            Command::MakeFile(path) => self.put(path, Node::File(Bytes::new(Vec::new(self.alloc)))),
             Command::List(_) | Command::Read(_, _, _) | Command::Now => Ok(()),
         }
     }

@@ -1,7 +1,7 @@
 //! Laws of trees of files and of what commands make of them. What stands at a path of a tree in
 //! memory after a command is what the tree after it has there.
 
-ghost use Rattle.std.specs.Prelude.{◌≡◌, List, ℕ, None, Some, take};
+ghost use Rattle.std.specs.Prelude.{◌≡◌, List, [], ℕ, None, Some, take};
 ghost use Rattle.ratatui_files.specs.declared.answer.Answer.TheVariants as answer;
 ghost use Rattle.ratatui_files.specs.declared.answer.Failure.{Failure};
 ghost use Rattle.ratatui_files.specs.declared.command.Command.{Command};
@@ -22,6 +22,14 @@ pub fn what_was_written_is_read()
         → answer_to (command.Write path bytes) t ≡ answer.Done
         → answer_to (command.Read path 0 most) (tree_after (command.Write path bytes) t)
         ≡ answer.Read (take most bytes) }
+{}
+
+/// A file that was made is read as empty.
+pub fn what_was_made_is_empty()
+    ensures { (path : List ℕ) (start most : ℕ) (t : Tree)
+        → answer_to (command.MakeFile path) t ≡ answer.Done
+        → answer_to (command.Read path start most) (tree_after (command.MakeFile path) t)
+        ≡ answer.Read [] }
 {}
 
 /// What was removed is gone.

@@ -92,7 +92,7 @@ fn folder_of(place: &str) -> &str {
 ///
 /// A file is written, and copied, beside its place, and put there when it is whole. Whether anything
 /// stands where nothing is to stand is looked at first: what another program makes there meanwhile
-/// is replaced.
+/// is replaced. But an empty file or a folder that is made never replaces anything.
 #[derive(Drop)]
 pub struct OnDisk<'a, R> {
     rt: &'a R,
@@ -185,16 +185,20 @@ impl<'a, R: Files + Alloc<A = Global> + Clock + Clone + Drop> OnDisk<'a, R> {
         Ok(Bytes::new(bytes))
     }
 
+    // Makes an empty file, and opens it. Fails if something stands there.
+    fn create_new(&self, place: &str) -> io::Result<R::File> {
+        OpenOptions::new()
+            .write(true)
+            .create_new(true)
+            .open(self.rt, place)
+    }
+
     // Makes an empty file beside a place, and tells where.
     fn make_beside(&self, place: &str) -> Result<(String, R::File), Failure> {
         let folder = folder_of(place);
         for number in 0..u8::MAX {
             let beside = format!(in self.rt.alloc(); "{folder}/.new~{number}")?;
-            let opened = OpenOptions::new()
-                .write(true)
-                .create_new(true)
-                .open(self.rt, beside.as_str());
-            match opened {
+            match self.create_new(beside.as_str()) {
                 Ok(file) => return Ok((beside, file)),
                 Err(error) => match Failure::from(error) {
                     Failure::Exists => {}
@@ -296,6 +300,15 @@ impl<'a, R: Files + Alloc<A = Global> + Clock + Clone + Drop> OnDisk<'a, R> {
         Ok(())
     }
 
+    fn make_file(&self, path: &Path) -> Result<(), Failure> {
+        if path.as_str().is_empty() {
+            return Err(Failure::Exists);
+        }
+        let place = self.place(path)?;
+        self.create_new(place.as_str())?;
+        Ok(())
+    }
+
     fn answer(&self, command: &Command) -> Result<Answer, Failure>
         ensures { IfOk result (λ answer. IsAnswerTo command.now answer) }
     {
@@ -314,6 +327,7 @@ impl<'a, R: Files + Alloc<A = Global> + Clock + Clone + Drop> OnDisk<'a, R> {
             Command::Remove(path) => self.remove(path)?,
             Command::RemoveFolder(path) => self.remove_folder(path)?,
             Command::MakeFolder(path) => self.make_folder(path)?,
+            Command::MakeFile(path) => self.make_file(path)?,
         }
         Ok(Answer::Done)
     }

@@ -229,7 +229,7 @@ pub(crate) fn refusal(command: &Command, entries: &[Entry]) -> Option<Failure>
         Command::Rename(from, to) => refuses_rename(from.as_str(), to.as_str(), entries),
         Command::Copy(from, to) => refuses_copy(from.as_str(), to.as_str(), entries),
         Command::RemoveFolder(path) => refuses_remove_folder(path.as_str(), entries),
-        Command::MakeFolder(path) => refuses_new(path.as_str(), entries),
+        Command::MakeFolder(path) | Command::MakeFile(path) => refuses_new(path.as_str(), entries),
         Command::Now => None,
     }
 }

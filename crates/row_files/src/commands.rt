@@ -31,6 +31,7 @@ fn command_at(
         "remove" => Some(Command::Remove(path)),
         "remove-folder" => Some(Command::RemoveFolder(path)),
         "folder" => Some(Command::MakeFolder(path)),
+        "file" => Some(Command::MakeFile(path)),
         _ => None,
     })
 }
