@@ -20,3 +20,4 @@ pub mod QuestionLemmas
 pub mod SoundLemmas
 pub mod RunLemmas
 pub mod AskLemmas
+pub mod CountLemmas

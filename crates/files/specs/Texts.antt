@@ -137,11 +137,14 @@ marked_text n = if nat_lt 0 n then codes ", " ++ decimal n ++ codes " marked" el
 abbrev pub selected_details : Browser → List ℕ
 selected_details b = option_map_or details_told (slice_get b.list b.selected) []
 
--- which entry is selected, of how many, as `3/120`, and what is told of it
+-- how many entries have names that are no texts, the order, how many are marked, and what is told of the selected one
+abbrev pub place_notes : Browser → List ℕ
+place_notes b = unnamed_text b.unnamed ++ order_told b.order ++ marked_text (length b.marks) ++ selected_details b
+
+-- which entry is selected, of how many, as `3/120`, and that
 abbrev pub place_told : Browser → List ℕ
 place_told b =
-    decimal (min (b.selected + 1) (length b.list)) ++ codes "/" ++ decimal (length b.list) ++ unnamed_text b.unnamed
-    ++ order_told b.order ++ marked_text (length b.marks) ++ selected_details b
+    decimal (min (b.selected + 1) (length b.list)) ++ codes "/" ++ decimal (length b.list) ++ place_notes b
 
 -- why something wasn't done
 abbrev pub failure_text : Failure → List ℕ

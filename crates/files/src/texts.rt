@@ -6,7 +6,7 @@ ghost use Rattle.std.specs.Option.{option_copied};
 ghost use Rattle.ratatui_files.specs.Paths.{after_start};
 ghost use Rattle.ratatui_core.specs.Buffer.{text_columns};
 ghost use Rattle.files.specs.Texts.{failure_text, shown_row, file_size_text, text_beside, row_told, title_text, selected_text, sought_text};
-ghost use Rattle.files.specs.Texts.{has_dates, size_end, row_date, sized_row, folder_typed, name_typed, make_prompt, selected_details};
+ghost use Rattle.files.specs.Texts.{has_dates, size_end, row_date, sized_row, folder_typed, name_typed, make_prompt, selected_details, place_notes};
 ghost use Rattle.files.specs.Texts.{without_start, inner_text, trash_shown, trash_question, removal_question};
 ghost use Rattle.files.specs.Texts.{selected_shown, place_told, subject, note_told, prompt, status_told, column_in};
 ghost use Rattle.files.specs.Texts.{fits, text_in, entry_at, row_place, place_in_row, body_in};
@@ -303,8 +303,7 @@ impl Browser {
         Ok(text)
     }
 
-    // Appends which entry is selected, of how many, how many more can't be named, and what is told
-    // of it.
+    // Appends which entry is selected, of how many, and what is told of that.
     fn push_place(&self, text: &mut String) -> Result<(), AllocError>
         ensures { OnOk result (string_bytes text.new
             ≡ string_bytes text.old ++ place_told self.now) }
@@ -314,6 +313,15 @@ impl Browser {
         text.push_str(digits.format(self.selected.saturating_add(1).min(count)))?;
         text.push_str("/")?;
         text.push_str(digits.format(count))?;
+        self.push_place_notes(text)
+    }
+
+    // Appends how many entries can't be named, the order, how many are marked, and what is told of
+    // the one that is selected.
+    fn push_place_notes(&self, text: &mut String) -> Result<(), AllocError>
+        ensures { OnOk result (string_bytes text.new
+            ≡ string_bytes text.old ++ place_notes self.now) }
+    {
         push_unnamed(text, self.unnamed)?;
         push_order(text, self.order)?;
         push_marked(text, self.marks.len())?;
