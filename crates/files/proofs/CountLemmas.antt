@@ -56,11 +56,11 @@ abbrev Asks : Browser → Browser → Type 0
 Asks b c = AsksOfFolder c → AskedBefore b c
 
 asks-same : (b c : Browser) → c.mode ≡ b.mode → c.folder ≡ b.folder → c.list ≡ b.list → c.selected ≡ b.selected → c.count ≡ b.count → Asks b c
-asks-same b c mode folder list selected count asks =
+asks-same b c mode folder list selected count = λ asks.
     record { mode = mode; entry = record { folder = folder; list = list; selected = selected }; count = count }
 
 asks-none : (b c : Browser) (m : Mode) → c.mode ≡ m → is_removal m ≡ false → Asks b c
-asks-none b c m at no asks = let bad : true ≡ false = sym asks.removal ∙ ap is_removal at ∙ no in absurd (cc)
+asks-none b c m at other = λ asks. let bad : true ≡ false = sym asks.removal ∙ ap is_removal at ∙ other in absurd (cc)
 
 asks-if : (test : Bool) (b c d : Browser) → Asks b c → Asks b d → Asks b (if test then c else d)
 asks-if true b c d one two = one
@@ -69,7 +69,7 @@ asks-if false b c d one two = two
 -- a note and two flags change no question
 noted-asks : (b c d : Browser) → d.mode ≡ c.mode → d.folder ≡ c.folder → d.list ≡ c.list → d.selected ≡ c.selected → d.count ≡ c.count
     → selects_folder d ≡ selects_folder c → Asks b c → Asks b d
-noted-asks b c d mode folder list selected count same k asks =
+noted-asks b c d mode folder list selected count same k = λ asks.
     let was = k (record { removal = ap is_removal (sym mode) ∙ asks.removal; folder = sym same ∙ asks.folder }) in
     record {
       mode = mode ∙ was.mode;
@@ -90,11 +90,11 @@ found-mode (Some place) b = refl
 -- a folder isn't asked about, but counted
 counting-none : (folder : Bool) (b c : Browser) (question : Mode) → is_removal (counting_for question) ≡ false
     → selects_folder c ≡ folder → Asks b (record c { mode = if folder then counting_for question else question })
-counting-none true b c question no is = asks-none b _ (counting_for question) refl no
-counting-none false b c question no is asks = let bad : true ≡ false = sym asks.folder ∙ is in absurd (cc)
+counting-none true b c question other is = asks-none b _ (counting_for question) refl other
+counting-none false b c question other is = λ asks. let bad : true ≡ false = sym asks.folder ∙ is in absurd (cc)
 
 about-none : (b c : Browser) (question : Mode) → is_removal (counting_for question) ≡ false → Asks b (asking_about question c)
-about-none b c question no = counting-none (selects_folder c) b c question no refl
+about-none b c question other = counting-none (selects_folder c) b c question other refl
 
 entered-none : (b : Browser) → b.mode ≡ Looking → Asks b (entered b)
 entered-none b at = asks-if (is_folder_selected b) b _ b (asks-none b _ Entering refl refl) (asks-none b b Looking at refl)
@@ -231,8 +231,8 @@ failed-asks why b = asks-if (is_completing b.mode) b _ _ (asks-none b _ Going re
 
 following-by : (marked : Bool) (b c : Browser) (question : Mode) → is_removal (counting_for question) ≡ false
     → Asks b (record c { mode = if marked then asked_mode question c else Looking })
-following-by true b c question no = about-none b c question no
-following-by false b c question no = asks-none b _ Looking refl refl
+following-by true b c question other = about-none b c question other
+following-by false b c question other = asks-none b _ Looking refl refl
 
 pasting-by : (noted : Bool) (b c : Browser) → Asks b (record c { mode = if noted then Pasting else Looking })
 pasting-by true b c = asks-none b _ Pasting refl refl
@@ -279,9 +279,9 @@ is-zero n is = grind (arith, nat_tests)
 removing-by : (none : Bool) (n : ℕ) (b c : Browser) → (n == 0) ≡ none → b.mode ≡ CountingToRemove
     → c ≡ (if none then record b { mode = Removing; count = 0 } else failed failure.NotEmpty b) → AsksOfFolder (outcome_flags c)
     → AskedBefore b (outcome_flags c) ⊎ JustCounted b (message.Answer (outcome.Counted n)) (outcome_flags c)
-removing-by true n b c zero at is asks =
-    rw is (inr (counts n b _ (ap is_counting at) refl refl refl (is-zero n zero)))
-removing-by false n b c zero at is asks =
+removing-by true n b c nothing at is asks =
+    rw is (inr (counts n b _ (ap is_counting at) refl refl refl (is-zero n nothing)))
+removing-by false n b c nothing at is asks =
     inl (noted-asks b c (outcome_flags c) refl refl refl refl refl refl (rw is (failed-asks failure.NotEmpty b)) asks)
 
 counted-asks : (mode : Mode) (n : ℕ) (b : Browser) → b.mode ≡ mode → AsksOfFolder (outcome_flags (counted_in mode n b))
