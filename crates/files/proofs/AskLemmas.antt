@@ -16,10 +16,10 @@ use Rattle.files.specs.declared.browser.Browser.{Browser}
 use Rattle.files.specs.declared.browser.Mode.{Mode}
 use Rattle.files.specs.declared.browser.Mode.TheVariants.{Looking, Listing, Entering, Leaving, Trashing, Removing}
 use Rattle.files.specs.declared.browser.Mode.TheVariants.{Renaming, Making, Over, Pasting, Sorting, Seeking}
-use Rattle.files.specs.declared.browser.Mode.TheVariants.{Going, Visiting, Locating, Completing}
+use Rattle.files.specs.declared.browser.Mode.TheVariants.{Going, Visiting, Locating, Completing, CountingToTrash, CountingToRemove}
 use Rattle.files.specs.declared.browser.Mode.TheVariants.{Returning, Undoing, Helping, Chosen}
 use Rattle.files.specs.declared.browser.Note.{Note}
-use Rattle.files.specs.declared.browser.Note.TheVariants.{Place, Failed, Narrow, NoTrash, Missing, Noted, NothingNoted, NothingMoved, Outside}
+use Rattle.files.specs.declared.browser.Note.TheVariants.{Place, Failed, Narrow, NoTrash, Missing, Noted, NothingNoted, NothingMoved, Outside, NothingAbove}
 use Rattle.files.specs.declared.list.Outcome.{Outcome}
 use Rattle.files.specs.Keys.{is_input}
 use Rattle.files.specs.Texts.{subject, note_told, failure_text, status_in}
@@ -57,6 +57,8 @@ subject-sized Going size b = refl
 subject-sized Visiting size b = refl
 subject-sized Locating size b = refl
 subject-sized Completing size b = refl
+subject-sized CountingToTrash size b = refl
+subject-sized CountingToRemove size b = refl
 subject-sized Over size b = refl
 subject-sized Returning size b = refl
 subject-sized Undoing size b = refl
@@ -73,6 +75,7 @@ note-sized Noted size b = refl
 note-sized NothingNoted size b = refl
 note-sized NothingMoved size b = refl
 note-sized Outside size b = refl
+note-sized NothingAbove size b = refl
 
 status-sized : (m : Mode) (size : ℕ × ℕ) (b : Browser) → status_in m (browser_at_told_size (Some size) b) ≡ status_in m b
 status-sized Looking size b = note-sized b.note size b
@@ -90,6 +93,8 @@ status-sized Going size b = refl
 status-sized Visiting size b = refl
 status-sized Locating size b = refl
 status-sized Completing size b = refl
+status-sized CountingToTrash size b = note-sized b.note size b
+status-sized CountingToRemove size b = note-sized b.note size b
 status-sized Undoing size b = refl
 status-sized Helping size b = refl
 status-sized Returning size b = note-sized b.note size b

@@ -13,7 +13,7 @@ use Rattle.files.specs.declared.browser.Browser.{Browser}
 use Rattle.files.specs.declared.browser.Mode.{Mode}
 use Rattle.files.specs.declared.browser.Mode.TheVariants.{Looking, Listing, Entering, Leaving, Trashing, Removing}
 use Rattle.files.specs.declared.browser.Mode.TheVariants.{Renaming, Making, Over, Pasting, Sorting, Seeking}
-use Rattle.files.specs.declared.browser.Mode.TheVariants.{Going, Visiting, Locating, Completing}
+use Rattle.files.specs.declared.browser.Mode.TheVariants.{Going, Visiting, Locating, Completing, CountingToTrash, CountingToRemove}
 use Rattle.files.specs.declared.browser.Mode.TheVariants.{Returning, Undoing, Helping, Chosen}
 use Rattle.files.specs.declared.trash.Discard.{Discard}
 use Rattle.files.specs.declared.trash.Plan.{Plan}
@@ -112,33 +112,37 @@ asked-look does state b files o files' asked at is =
 changes-in : {P : Type 0} (does : P → Command → Answer → P → Type 0) (mode : Mode) (b : Browser) (files : P) (o : Outcome) (files' : P)
     → (mode ≡ Listing → ⊥) → (mode ≡ Entering → ⊥) → (mode ≡ Leaving → ⊥) → (mode ≡ Returning → ⊥) → (mode ≡ Trashing → ⊥)
     → (mode ≡ Looking → ⊥) → (mode ≡ Visiting → ⊥) → (mode ≡ Locating → ⊥) → (mode ≡ Completing → ⊥)
+    → (mode ≡ CountingToTrash → ⊥) → (mode ≡ CountingToRemove → ⊥)
     → Changed does (change_in mode b) files o files' → DoesIn does mode b files o files'
-changes-in does Looking b files o files' one two three back four five six seven eight is = absurd (five refl)
-changes-in does Listing b files o files' one two three back four five six seven eight is = absurd (one refl)
-changes-in does Entering b files o files' one two three back four five six seven eight is = absurd (two refl)
-changes-in does Leaving b files o files' one two three back four five six seven eight is = absurd (three refl)
-changes-in does Trashing b files o files' one two three back four five six seven eight is = absurd (four refl)
-changes-in does Removing b files o files' one two three back four five six seven eight is = is
-changes-in does Renaming b files o files' one two three back four five six seven eight is = is
-changes-in does Making b files o files' one two three back four five six seven eight is = is
-changes-in does Pasting b files o files' one two three back four five six seven eight is = is
-changes-in does Sorting b files o files' one two three back four five six seven eight is = is
-changes-in does Seeking b files o files' one two three back four five six seven eight is = is
-changes-in does Going b files o files' one two three back four five six seven eight is = is
-changes-in does Visiting b files o files' one two three back four five six seven eight is = absurd (six refl)
-changes-in does Locating b files o files' one two three back four five six seven eight is = absurd (seven refl)
-changes-in does Completing b files o files' one two three back four five six seven eight is = absurd (eight refl)
-changes-in does Over b files o files' one two three back four five six seven eight is = is
-changes-in does Returning b files o files' one two three back four five six seven eight is = absurd (back refl)
-changes-in does Undoing b files o files' one two three back four five six seven eight is = is
-changes-in does Helping b files o files' one two three back four five six seven eight is = is
-changes-in does Chosen b files o files' one two three back four five six seven eight is = is
+changes-in does Looking b files o files' one two three back four five six seven eight nine ten is = absurd (five refl)
+changes-in does Listing b files o files' one two three back four five six seven eight nine ten is = absurd (one refl)
+changes-in does Entering b files o files' one two three back four five six seven eight nine ten is = absurd (two refl)
+changes-in does Leaving b files o files' one two three back four five six seven eight nine ten is = absurd (three refl)
+changes-in does Trashing b files o files' one two three back four five six seven eight nine ten is = absurd (four refl)
+changes-in does Removing b files o files' one two three back four five six seven eight nine ten is = is
+changes-in does Renaming b files o files' one two three back four five six seven eight nine ten is = is
+changes-in does Making b files o files' one two three back four five six seven eight nine ten is = is
+changes-in does Pasting b files o files' one two three back four five six seven eight nine ten is = is
+changes-in does Sorting b files o files' one two three back four five six seven eight nine ten is = is
+changes-in does Seeking b files o files' one two three back four five six seven eight nine ten is = is
+changes-in does Going b files o files' one two three back four five six seven eight nine ten is = is
+changes-in does Visiting b files o files' one two three back four five six seven eight nine ten is = absurd (six refl)
+changes-in does Locating b files o files' one two three back four five six seven eight nine ten is = absurd (seven refl)
+changes-in does Completing b files o files' one two three back four five six seven eight nine ten is = absurd (eight refl)
+changes-in does CountingToTrash b files o files' one two three back four five six seven eight nine ten is = absurd (nine refl)
+changes-in does CountingToRemove b files o files' one two three back four five six seven eight nine ten is = absurd (ten refl)
+changes-in does Over b files o files' one two three back four five six seven eight nine ten is = is
+changes-in does Returning b files o files' one two three back four five six seven eight nine ten is = absurd (back refl)
+changes-in does Undoing b files o files' one two three back four five six seven eight nine ten is = is
+changes-in does Helping b files o files' one two three back four five six seven eight nine ten is = is
+changes-in does Chosen b files o files' one two three back four five six seven eight nine ten is = is
 
 pub asked-change : {P : Type 0} (does : P → Command → Answer → P → Type 0) (state b : Browser) (files : P) (o : Outcome) (files' : P)
     → browser_asked state ≡ Some b → (state.mode ≡ Listing → ⊥) → (state.mode ≡ Entering → ⊥) → (state.mode ≡ Leaving → ⊥)
     → (state.mode ≡ Returning → ⊥) → (state.mode ≡ Trashing → ⊥) → (state.mode ≡ Looking → ⊥)
     → (state.mode ≡ Visiting → ⊥) → (state.mode ≡ Locating → ⊥) → (state.mode ≡ Completing → ⊥)
+    → (state.mode ≡ CountingToTrash → ⊥) → (state.mode ≡ CountingToRemove → ⊥)
     → Changed does (change_in state.mode state) files o files' → DoesAsked does b files o files'
-asked-change does state b files o files' asked one two three back four five six seven eight is =
+asked-change does state b files o files' asked one two three back four five six seven eight nine ten is =
     subst (λ (x : Browser). DoesAsked does x files o files') (asked-self state b asked)
-    (changes-in does state.mode state files o files' one two three back four five six seven eight is)
+    (changes-in does state.mode state files o files' one two three back four five six seven eight nine ten is)

@@ -5,7 +5,7 @@ use Rattle.files.specs.declared.browser.Browser.{Browser}
 use Rattle.files.specs.declared.browser.Mode.{Mode}
 use Rattle.files.specs.declared.browser.Mode.TheVariants.{Looking, Listing, Entering, Leaving, Trashing, Removing}
 use Rattle.files.specs.declared.browser.Mode.TheVariants.{Renaming, Making, Over, Pasting, Sorting, Seeking}
-use Rattle.files.specs.declared.browser.Mode.TheVariants.{Going, Visiting, Locating, Completing}
+use Rattle.files.specs.declared.browser.Mode.TheVariants.{Going, Visiting, Locating, Completing, CountingToTrash, CountingToRemove}
 use Rattle.files.specs.declared.browser.Mode.TheVariants.{Returning, Undoing, Helping, Chosen}
 use Rattle.files.specs.declared.undo.Moved.{Moved}
 use Rattle.files.specs.Marks.{marks_but, first_mark_place}
@@ -45,6 +45,8 @@ stays-gone Going b = record { mode = refl; last = refl }
 stays-gone Visiting b = record { mode = refl; last = refl }
 stays-gone Locating b = record { mode = refl; last = refl }
 stays-gone Completing b = record { mode = refl; last = refl }
+stays-gone CountingToTrash b = record { mode = refl; last = refl }
+stays-gone CountingToRemove b = record { mode = refl; last = refl }
 stays-gone Undoing b = record { mode = refl; last = refl }
 stays-gone Helping b = record { mode = refl; last = refl }
 stays-gone Over b = record { mode = refl; last = refl }

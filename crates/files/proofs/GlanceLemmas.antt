@@ -12,7 +12,7 @@ use Rattle.files.specs.declared.browser.Browser.{Browser}
 use Rattle.files.specs.declared.browser.Mode.{Mode}
 use Rattle.files.specs.declared.browser.Mode.TheVariants.{Looking, Listing, Entering, Leaving, Trashing, Removing}
 use Rattle.files.specs.declared.browser.Mode.TheVariants.{Renaming, Making, Over, Pasting, Sorting, Seeking}
-use Rattle.files.specs.declared.browser.Mode.TheVariants.{Going, Visiting, Locating, Completing}
+use Rattle.files.specs.declared.browser.Mode.TheVariants.{Going, Visiting, Locating, Completing, CountingToTrash, CountingToRemove}
 use Rattle.files.specs.declared.browser.Mode.TheVariants.{Returning, Undoing, Helping, Chosen}
 use Rattle.files.specs.declared.list.Outcome.TheVariants as outcome
 use Rattle.files.specs.declared.glance.Side.{Side}
@@ -134,6 +134,8 @@ looking-mode Going is = absurd (cc)
 looking-mode Visiting is = absurd (cc)
 looking-mode Locating is = absurd (cc)
 looking-mode Completing is = absurd (cc)
+looking-mode CountingToTrash is = absurd (cc)
+looking-mode CountingToRemove is = absurd (cc)
 looking-mode Undoing is = absurd (cc)
 looking-mode Helping is = absurd (cc)
 looking-mode Over is = absurd (cc)

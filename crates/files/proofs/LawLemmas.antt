@@ -18,7 +18,7 @@ use Rattle.files.specs.declared.browser.Browser.{Browser}
 use Rattle.files.specs.declared.browser.Mode.{Mode}
 use Rattle.files.specs.declared.browser.Mode.TheVariants.{Looking, Listing, Entering, Leaving, Trashing, Removing}
 use Rattle.files.specs.declared.browser.Mode.TheVariants.{Renaming, Making, Over, Pasting, Sorting, Seeking}
-use Rattle.files.specs.declared.browser.Mode.TheVariants.{Going, Visiting, Locating, Completing}
+use Rattle.files.specs.declared.browser.Mode.TheVariants.{Going, Visiting, Locating, Completing, CountingToTrash, CountingToRemove}
 use Rattle.files.specs.declared.browser.Mode.TheVariants.{Returning, Undoing, Helping, Chosen}
 use Rattle.files.specs.declared.browser.Note.TheVariants.{Narrow}
 use Rattle.files.specs.declared.keys.Wish.{Wish}
@@ -33,6 +33,9 @@ use Rattle.files.specs.Moves.{scrolled_list, selected_at, last_row_place, list_r
 use Rattle.files.specs.Moves.{asks, asks_in, confirmed, typed_into, browsed, browser_at_told_size, outcome_told, browsed_after, new_browser}
 use Rattle.files.specs.Moves.{is_folder_selected, removal_answered, next_found, previous_found, found_selected, found_note}
 use Rattle.files.specs.Moves.{typing_name, seeking_typed, sought_into, order_taken, is_entry_row, entered, clicked, help_left}
+use Rattle.ratatui_files.specs.declared.answer.Failure.TheVariants.{NotEmpty}
+use Rattle.files.specs.Counting.{asked_mode}
+use Rattle.files.specs.Moves.{first_mark_selected, counted_in}
 use Rattle.files.specs.Moves.{going_to, path_into, gone_by, is_completing, path_completed, leads_to_leaf, failed}
 use Rattle.files.specs.Ways.{way_of}
 use Rattle.files.specs.Help.{help_rows}
@@ -211,7 +214,7 @@ granted-keeps wish.Hidden b = keeps-same b _ refl refl refl refl refl refl refl 
 granted-keeps wish.Rename b = keeps-if (length b.list == 0) b b _ (keeps-it b) (keeps-typing Renaming _ b)
 granted-keeps wish.Make b = keeps-typing Making _ b
 granted-keeps wish.Trash b =
-    keeps-if (is_some b.trash && nat_lt 0 (length b.list)) b _ b (keeps-first Trashing (first_mark_place b) b) (keeps-it b)
+    keeps-if (is_some b.trash && nat_lt 0 (length b.list)) b _ b (keeps-first (asked_mode Trashing (first_mark_selected b)) (first_mark_place b) b) (keeps-it b)
 granted-keeps wish.Sort b = keeps-mode Sorting b
 granted-keeps wish.Seek b = keeps-typing Seeking _ b
 granted-keeps wish.Go b = keeps-typing Going _ b
@@ -223,7 +226,7 @@ granted-keeps wish.NoteCopy b = keeps-noting (all_taken false b) b
 granted-keeps wish.NoteMove b = keeps-noting (all_taken true b) b
 granted-keeps wish.Paste b = keeps-pasting b.noted (length b.more) b
 granted-keeps wish.Remove b =
-    keeps-if (nat_lt 0 (length b.list)) b _ b (keeps-first Removing (first_mark_place b) b) (keeps-it b)
+    keeps-if (nat_lt 0 (length b.list)) b _ b (keeps-first (asked_mode Removing (first_mark_selected b)) (first_mark_place b) b) (keeps-it b)
 granted-keeps wish.Quit b = keeps-mode Over b
 
 sure-if : (test : Bool) (b c d : Browser) → c.is_sure ≡ b.is_sure → d.is_sure ≡ b.is_sure → (if test then c else d).is_sure ≡ b.is_sure
@@ -274,7 +277,8 @@ granted-sure wish.Leave b = search rules
 granted-sure wish.Hidden b = refl
 granted-sure wish.Rename b = search rules
 granted-sure wish.Make b = refl
-granted-sure wish.Trash b = sure-if (is_some b.trash && nat_lt 0 (length b.list)) b _ b (sure-first Trashing (first_mark_place b) b) refl
+granted-sure wish.Trash b = sure-if (is_some b.trash && nat_lt 0 (length b.list)) b _ b
+    (sure-first (asked_mode Trashing (first_mark_selected b)) (first_mark_place b) b) refl
 granted-sure wish.Sort b = refl
 granted-sure wish.Seek b = refl
 granted-sure wish.Go b = refl
@@ -285,7 +289,8 @@ granted-sure wish.Unmark b = refl
 granted-sure wish.NoteCopy b = refl
 granted-sure wish.NoteMove b = refl
 granted-sure wish.Paste b = sure-pasting b.noted (length b.more) b
-granted-sure wish.Remove b = sure-if (nat_lt 0 (length b.list)) b _ b (sure-first Removing (first_mark_place b) b) refl
+granted-sure wish.Remove b = sure-if (nat_lt 0 (length b.list)) b _ b
+    (sure-first (asked_mode Removing (first_mark_selected b)) (first_mark_place b) b) refl
 granted-sure wish.Quit b = refl
 
 wished-keeps : (w : Wish) (b : Browser) → Keeps b (wished w b)
@@ -367,6 +372,31 @@ failed-keeps why b = keeps-if (is_completing b.mode) b _ _ (keeps-mode Going b)
     (keeps-if (leads_to_leaf b.mode why) b _ _ (keeps-mode Locating b)
     (keeps-same b _ refl refl refl refl refl refl refl refl refl))
 
+pub counted-keeps : (mode : Mode) (n : ℕ) (b : Browser) → Keeps b (counted_in mode n b)
+counted-keeps CountingToTrash n b = keeps-same b _ refl refl refl refl refl refl refl refl refl
+counted-keeps CountingToRemove n b = keeps-if (n == 0) b _ _ (keeps-same b _ refl refl refl refl refl refl refl refl refl)
+    (failed-keeps NotEmpty b)
+counted-keeps Looking n b = keeps-it b
+counted-keeps Listing n b = keeps-it b
+counted-keeps Entering n b = keeps-it b
+counted-keeps Leaving n b = keeps-it b
+counted-keeps Returning n b = keeps-it b
+counted-keeps Trashing n b = keeps-it b
+counted-keeps Removing n b = keeps-it b
+counted-keeps Renaming n b = keeps-it b
+counted-keeps Making n b = keeps-it b
+counted-keeps Pasting n b = keeps-it b
+counted-keeps Sorting n b = keeps-it b
+counted-keeps Seeking n b = keeps-it b
+counted-keeps Going n b = keeps-it b
+counted-keeps Visiting n b = keeps-it b
+counted-keeps Locating n b = keeps-it b
+counted-keeps Completing n b = keeps-it b
+counted-keeps Undoing n b = keeps-it b
+counted-keeps Helping n b = keeps-it b
+counted-keeps Over n b = keeps-it b
+counted-keeps Chosen n b = keeps-it b
+
 order-keeps : (o : Option Order) (b : Browser) → Keeps b (order_taken o b)
 order-keeps None b = keeps-mode Looking b
 order-keeps (Some order) b = keeps-same b _ refl refl refl refl refl refl refl refl refl
@@ -395,6 +425,8 @@ browsed-keeps Going e b at = gone-keeps e b
 browsed-keeps Visiting e b at = keeps-it b
 browsed-keeps Locating e b at = keeps-it b
 browsed-keeps Completing e b at = keeps-it b
+browsed-keeps CountingToTrash e b at = keeps-it b
+browsed-keeps CountingToRemove e b at = keeps-it b
 browsed-keeps Sorting e b at = order-keeps (event_order e) b
 browsed-keeps Listing e b at = keeps-it b
 browsed-keeps Entering e b at = keeps-it b
@@ -446,6 +478,10 @@ event-folder b e = told-folder (is_input e) e b
 pub completed-folder : (b : Browser) (rest : List ℕ) → ListsSame b (browsed_after b (message.Answer (outcome.Completed rest)))
 unfolding browsed_after
 completed-folder b rest = let k = completed-keeps rest b in record { folder = k.folder; list = k.list; unnamed = k.unnamed }
+
+pub counted-folder : (b : Browser) (n : ℕ) → ListsSame b (browsed_after b (message.Answer (outcome.Counted n)))
+unfolding browsed_after
+counted-folder b n = let k = counted-keeps b.mode n b in record { folder = k.folder; list = k.list; unnamed = k.unnamed }
 
 pub failed-folder : (b : Browser) (why : Failure) → ListsSame b (browsed_after b (message.Answer (outcome.Failed why)))
 unfolding browsed_after
@@ -514,6 +550,8 @@ goes-on Going b = goes-same b
 goes-on Visiting b = goes-same b
 goes-on Locating b = goes-same b
 goes-on Completing b = goes-same b
+goes-on CountingToTrash b = goes-same b
+goes-on CountingToRemove b = goes-same b
 goes-on Undoing b = goes-same b
 goes-on Helping b = goes-same b
 goes-on Over b = goes-same b
@@ -539,6 +577,8 @@ outcome-placed (outcome.Glanced g) b p = placed-same b _ refl refl refl refl p
 outcome-placed outcome.Done b p = placed-same (gone_on b.mode b) _ refl refl refl refl ((goes-on b.mode b).placed p)
 outcome-placed (outcome.Completed rest) b p =
     placed-same (path_completed rest b) _ refl refl refl refl ((completed-keeps rest b).placed p)
+outcome-placed (outcome.Counted n) b p =
+    placed-same (counted_in b.mode n b) _ refl refl refl refl ((counted-keeps b.mode n b).placed p)
 outcome-placed (outcome.Failed why) b p = placed-same (failed why b) _ refl refl refl refl ((failed-keeps why b).placed p)
 
 pub placed-next : (b : Browser) (m : Message Outcome) → IsPlaced b → IsPlaced (browsed_after b m)
@@ -642,6 +682,8 @@ helping-browsed Going e b is at = absurd (cc)
 helping-browsed Visiting e b is at = absurd (cc)
 helping-browsed Locating e b is at = absurd (cc)
 helping-browsed Completing e b is at = absurd (cc)
+helping-browsed CountingToTrash e b is at = absurd (cc)
+helping-browsed CountingToRemove e b is at = absurd (cc)
 helping-browsed Undoing e b is at = absurd (cc)
 helping-browsed Over e b is at = absurd (cc)
 helping-browsed Chosen e b is at = absurd (cc)

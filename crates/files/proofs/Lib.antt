@@ -22,3 +22,4 @@ pub mod SoundLemmas
 pub mod RunLemmas
 pub mod AskLemmas
 pub mod MadeLemmas
+pub mod CountLemmas

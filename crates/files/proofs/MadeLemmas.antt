@@ -26,7 +26,7 @@ use Rattle.files.specs.declared.browser.Mode.{Mode}
 use Rattle.files.specs.declared.browser.Mode.TheVariants.{Looking, Listing, Entering, Leaving}
 use Rattle.files.specs.declared.browser.Mode.TheVariants.{Returning, Trashing, Removing}
 use Rattle.files.specs.declared.browser.Mode.TheVariants.{Renaming, Making, Pasting, Undoing}
-use Rattle.files.specs.declared.browser.Mode.TheVariants.{Visiting, Locating, Completing}
+use Rattle.files.specs.declared.browser.Mode.TheVariants.{Visiting, Locating, Completing, CountingToTrash, CountingToRemove}
 use Rattle.files.specs.declared.hands.Hands.{Hands}
 use Rattle.files.specs.declared.hands.Wanted.{Wanted}
 use Rattle.files.specs.declared.looks.Aim.{Aim}
@@ -42,7 +42,7 @@ use Rattle.files.specs.Questions.{change_in, IsNamedIn}
 use Rattle.files.specs.Discards.{IsPreparing, ArePreparing, Did, Prepares, IsPrepared, EndsMoved}
 use Rattle.files.specs.Discards.{EndsWritten, Ends, PutsAway, StopsShort, Discarded}
 use Rattle.files.specs.Looks.{TellsGlance, Looked}
-use Rattle.files.specs.Doing.{TellsListing, TellsCompletion, Changed, Listed, Completed, DoesIn, DoesAsked}
+use Rattle.files.specs.Doing.{TellsListing, TellsCompletion, TellsCount, Changed, Listed, Completed, Counted, DoesIn, DoesAsked}
 use Rattle.files.specs.Laws.{IsLook, is_change}
 use Rattle.files.specs.RunLaws.{browsing_on, tree_after_all, IsAskedIn, NoneIsAsked, IsTold, MadeInTurn, MadeByTurns}
 use Rattle.files.proofs.DiscardLemmas.{prepares-then, prepares-entries, prepares-time}
@@ -143,6 +143,11 @@ completion-undone b (answer.Listed entries unnamed) o tells is =
     let bad : outcome.Completed _ ≡ outcome.Done = sym tells ∙ is in absurd (cc)
 completion-undone b a o tells is = undone o _ tells is
 
+count-undone : (a : Answer) (o : Outcome) → TellsCount a o → o ≡ outcome.Done → ⊥
+count-undone (answer.Listed entries unnamed) o tells is =
+    let bad : outcome.Counted _ ≡ outcome.Done = sym tells ∙ is in absurd (cc)
+count-undone a o tells is = undone o _ tells is
+
 glance-undone : (b : Browser) (aim : Aim) (a : Answer) (o : Outcome) → TellsGlance b aim a o → o ≡ outcome.Done → ⊥
 glance-undone b aim a (outcome.Glanced g) tells is = absurd (cc)
 glance-undone b aim a o tells is = absurd tells
@@ -216,6 +221,12 @@ completed-makes : (mode : Mode) (b : Browser) (o : Outcome) (t t' : Tree) → Co
 completed-makes mode b o t t' (inl is) = makes-nothing mode b o t t' (undone o is.why is.tells) is.kept
 completed-makes mode b o t t' (inr is) = look-makes mode b (ListFolder is.folder) is.answer o t t' tt
     (undone-or (TellsCompletion b is.answer o) o (completion-undone b is.answer o) is.tells) is.done
+
+counted-makes : (mode : Mode) (b : Browser) (o : Outcome) (t t' : Tree) → Counted DoesExactly b t o t'
+    → Makes mode b o t t'
+counted-makes mode b o t t' (inl is) = makes-nothing mode b o t t' (undone o is.why is.tells) is.kept
+counted-makes mode b o t t' (inr is) = look-makes mode b (ListFolder is.folder) is.answer o t t' tt
+    (count-undone is.answer o is.tells) is.done
 
 looked-makes : (mode : Mode) (b : Browser) (o : Outcome) (t t' : Tree) → Looked DoesExactly b t o t'
     → Makes mode b o t t'
@@ -359,6 +370,8 @@ does-makes Returning b o t t' is = listed-makes Returning b o t t' is
 does-makes Visiting b o t t' is = listed-makes Visiting b o t t' is
 does-makes Locating b o t t' is = listed-makes Locating b o t t' is
 does-makes Completing b o t t' is = completed-makes Completing b o t t' is
+does-makes CountingToTrash b o t t' is = counted-makes CountingToTrash b o t t' is
+does-makes CountingToRemove b o t t' is = counted-makes CountingToRemove b o t t' is
 does-makes Looking b o t t' is = looked-makes Looking b o t t' is
 does-makes Trashing b o t t' is = discarded-makes b o t t' is
 does-makes mode b o t t' is =

@@ -6,17 +6,18 @@ use Rattle.files.specs.Moves.{move_by, move_made}
 use Rattle.text_field.specs.Field.{field_text}
 use Rattle.ratatui_files.specs.Paths.{is_name, path_in}
 use Rattle.ratatui_files.specs.declared.command.Command.{Command}
-use Rattle.ratatui_files.specs.declared.command.Command.TheVariants.{Rename, Copy, Remove, RemoveFolder, MakeFolder}
+use Rattle.ratatui_files.specs.declared.command.Command.TheVariants.{Rename, Copy, Remove, RemoveFolder, MakeFile, MakeFolder}
 use Rattle.files.specs.declared.list.Row.{Row}
 use Rattle.files.specs.declared.browser.Browser.{Browser}
 use Rattle.files.specs.declared.browser.Mode.{Mode}
 use Rattle.files.specs.declared.browser.Mode.TheVariants.{Looking, Listing, Entering, Leaving, Trashing, Removing}
 use Rattle.files.specs.declared.browser.Mode.TheVariants.{Renaming, Making, Over, Pasting, Sorting, Seeking}
-use Rattle.files.specs.declared.browser.Mode.TheVariants.{Going, Visiting, Locating, Completing}
+use Rattle.files.specs.declared.browser.Mode.TheVariants.{Going, Visiting, Locating, Completing, CountingToTrash, CountingToRemove}
 use Rattle.files.specs.declared.browser.Mode.TheVariants.{Returning, Undoing, Helping, Chosen}
 use Rattle.files.specs.Names.{shown_name}
-use Rattle.files.specs.Texts.{shown_row, selected_text, selected_shown, status_in}
-use Rattle.files.specs.Questions.{removal_by, removal_in, paste_by, paste_of, change_in}
+use Rattle.files.specs.Texts.{shown_row, selected_text, selected_shown, status_in, folder_typed}
+use Rattle.files.specs.Questions.{removal_by, removal_in, paste_by, paste_of, make_by, change_in}
+use Rattle.files.specs.Counting.{row_count_told, count_told}
 use Rattle.files.specs.declared.trash.Discard.{Discard}
 use Rattle.files.specs.Texts.{trash_shown, status_told}
 use Rattle.files.specs.Trash.{discard_of, discard_to, discard_in}
@@ -71,6 +72,9 @@ row-of b (Some row) is = (row, refl)
 shown-of : (b : Browser) (row : Row) → slice_get b.list b.selected ≡ Some row → selected_shown b ≡ shown_row row
 shown-of b row is = ap (λ o. option_map_or shown_row o []) is
 
+count-of : (b : Browser) (row : Row) → slice_get b.list b.selected ≡ Some row → count_told b ≡ row_count_told row b.count
+count-of b row is = ap (λ o. option_map_or (λ r. row_count_told r b.count) o []) is
+
 text-of : (b : Browser) (row : Row) → slice_get b.list b.selected ≡ Some row → selected_text b ≡ string_bytes row.name
 text-of b row is = ap (λ o. option_map_or (λ r. string_bytes r.name) o []) is
 
@@ -100,6 +104,35 @@ make-no-folder false a path is = absurd (cc)
 make-no-rename : (one : Bool) (a from to : List ℕ) → option_map MakeFolder (if one then Some a else None) ≡ Some (Rename from to) → ⊥
 make-no-rename true a from to is = absurd (cc)
 make-no-rename false a from to is = absurd (cc)
+
+file-not : (one : Bool) (a path : List ℕ) → option_map MakeFile (if one then Some a else None) ≡ Some (Remove path) → ⊥
+file-not true a path is = absurd (cc)
+file-not false a path is = absurd (cc)
+
+file-no-folder : (one : Bool) (a path : List ℕ) → option_map MakeFile (if one then Some a else None) ≡ Some (RemoveFolder path) → ⊥
+file-no-folder true a path is = absurd (cc)
+file-no-folder false a path is = absurd (cc)
+
+file-no-rename : (one : Bool) (a from to : List ℕ) → option_map MakeFile (if one then Some a else None) ≡ Some (Rename from to) → ⊥
+file-no-rename true a from to is = absurd (cc)
+file-no-rename false a from to is = absurd (cc)
+
+file-no-copy : (one : Bool) (a from to : List ℕ) → option_map MakeFile (if one then Some a else None) ≡ Some (Copy from to) → ⊥
+file-no-copy true a from to is = absurd (cc)
+file-no-copy false a from to is = absurd (cc)
+
+-- what is made is neither removed nor renamed nor copied
+made-not : (b : Browser) (text : List ℕ) (o : Option (List ℕ)) (path : List ℕ) → make_by b text o ≡ Some (Remove path) → ⊥
+made-not b text (Some name) path is = make-not (is_name name) _ path is
+made-not b text None path is = file-not (is_name text) _ path is
+
+made-no-folder : (b : Browser) (text : List ℕ) (o : Option (List ℕ)) (path : List ℕ) → make_by b text o ≡ Some (RemoveFolder path) → ⊥
+made-no-folder b text (Some name) path is = make-no-folder (is_name name) _ path is
+made-no-folder b text None path is = file-no-folder (is_name text) _ path is
+
+made-no-rename : (b : Browser) (text : List ℕ) (o : Option (List ℕ)) (from to : List ℕ) → make_by b text o ≡ Some (Rename from to) → ⊥
+made-no-rename b text (Some name) from to is = make-no-rename (is_name name) _ from to is
+made-no-rename b text None from to is = file-no-rename (is_name text) _ from to is
 
 none-some : (c : Command) → None ≡ Some c → ⊥
 none-some c is = absurd (cc)
@@ -173,6 +206,10 @@ make-no-copy : (one : Bool) (a from to : List ℕ) → option_map MakeFolder (if
 make-no-copy true a from to is = absurd (cc)
 make-no-copy false a from to is = absurd (cc)
 
+made-no-copy : (b : Browser) (text : List ℕ) (o : Option (List ℕ)) (from to : List ℕ) → make_by b text o ≡ Some (Copy from to) → ⊥
+made-no-copy b text (Some name) from to is = make-no-copy (is_name name) _ from to is
+made-no-copy b text None from to is = file-no-copy (is_name text) _ from to is
+
 -- what is moved back is renamed
 back-no-file : (o : Option Moved) (path : List ℕ) → option_map way_back o ≡ Some (Remove path) → ⊥
 back-no-file None path is = absurd (cc)
@@ -201,8 +238,10 @@ back-asks b moved from to is one two =
     ∙ ap (λ p. codes "move \"" ++ place_shown from ++ codes "\" back to \"" ++ place_shown p ++ codes "\"? y/n") two
 
 asks-of : (b : Browser) (row : Row) → slice_get b.list b.selected ≡ Some row
-    → status_in Removing b ≡ codes "remove \"" ++ shown_row row ++ codes "\" for good? y/n"
-asks-of b row is = ap (λ shown. codes "remove \"" ++ shown ++ codes "\" for good? y/n") (shown-of b row is)
+    → status_in Removing b ≡ codes "remove \"" ++ shown_row row ++ codes "\"" ++ row_count_told row b.count ++ codes " for good? y/n"
+asks-of b row is =
+    ap (λ shown. codes "remove \"" ++ shown ++ codes "\"" ++ count_told b ++ codes " for good? y/n") (shown-of b row is)
+    ∙ ap (λ told. codes "remove \"" ++ shown_row row ++ codes "\"" ++ told ++ codes " for good? y/n") (count-of b row is)
 
 pub asks-file : (mode : Mode) (b : Browser) (path : List ℕ) → b.mode ≡ mode → change_in mode b ≡ Some (Remove path)
     → AsksToRemove b path
@@ -210,7 +249,7 @@ asks-file Removing b path at is =
     let it = file-of b (slice_get b.list b.selected) path is in
     record { row = it.0; path_is = it.2; asks = ap (λ m. status_in m b) at ∙ asks-of b it.0 it.1 }
 asks-file Renaming b path at is = absurd (rename-not (is_name (selected_text b)) (is_name (field_text b.typed)) _ _ path is)
-asks-file Making b path at is = absurd (make-not (is_name (field_text b.typed)) _ path is)
+asks-file Making b path at is = absurd (made-not b (field_text b.typed) (folder_typed (field_text b.typed)) path is)
 asks-file Pasting b path at is = absurd (paste-no-file b b.noted path is)
 asks-file Undoing b path at is = absurd (back-no-file b.last_move path is)
 asks-file Returning b path at is = absurd (none-some _ is)
@@ -222,6 +261,8 @@ asks-file Going b path at is = absurd (none-some _ is)
 asks-file Visiting b path at is = absurd (none-some _ is)
 asks-file Locating b path at is = absurd (none-some _ is)
 asks-file Completing b path at is = absurd (none-some _ is)
+asks-file CountingToTrash b path at is = absurd (none-some _ is)
+asks-file CountingToRemove b path at is = absurd (none-some _ is)
 asks-file Trashing b path at is = absurd (none-some _ is)
 asks-file Looking b path at is = absurd (none-some _ is)
 asks-file Listing b path at is = absurd (none-some _ is)
@@ -236,7 +277,7 @@ asks-folder Removing b path at is =
     record { row = it.0; path_is = it.2; asks = ap (λ m. status_in m b) at ∙ asks-of b it.0 it.1 }
 asks-folder Renaming b path at is =
     absurd (rename-no-folder (is_name (selected_text b)) (is_name (field_text b.typed)) _ _ path is)
-asks-folder Making b path at is = absurd (make-no-folder (is_name (field_text b.typed)) _ path is)
+asks-folder Making b path at is = absurd (made-no-folder b (field_text b.typed) (folder_typed (field_text b.typed)) path is)
 asks-folder Pasting b path at is = absurd (paste-no-folder b b.noted path is)
 asks-folder Undoing b path at is = absurd (back-no-folder b.last_move path is)
 asks-folder Returning b path at is = absurd (none-some _ is)
@@ -248,6 +289,8 @@ asks-folder Going b path at is = absurd (none-some _ is)
 asks-folder Visiting b path at is = absurd (none-some _ is)
 asks-folder Locating b path at is = absurd (none-some _ is)
 asks-folder Completing b path at is = absurd (none-some _ is)
+asks-folder CountingToTrash b path at is = absurd (none-some _ is)
+asks-folder CountingToRemove b path at is = absurd (none-some _ is)
 asks-folder Trashing b path at is = absurd (none-some _ is)
 asks-folder Looking b path at is = absurd (none-some _ is)
 asks-folder Listing b path at is = absurd (none-some _ is)
@@ -294,13 +337,15 @@ asks-rename Returning b from to at is = absurd (none-some _ is)
 asks-rename Helping b from to at is = absurd (none-some _ is)
 asks-rename Chosen b from to at is = absurd (none-some _ is)
 asks-rename Removing b from to at is = absurd (removal-no-rename b (slice_get b.list b.selected) from to is)
-asks-rename Making b from to at is = absurd (make-no-rename (is_name (field_text b.typed)) _ from to is)
+asks-rename Making b from to at is = absurd (made-no-rename b (field_text b.typed) (folder_typed (field_text b.typed)) from to is)
 asks-rename Sorting b from to at is = absurd (none-some _ is)
 asks-rename Seeking b from to at is = absurd (none-some _ is)
 asks-rename Going b from to at is = absurd (none-some _ is)
 asks-rename Visiting b from to at is = absurd (none-some _ is)
 asks-rename Locating b from to at is = absurd (none-some _ is)
 asks-rename Completing b from to at is = absurd (none-some _ is)
+asks-rename CountingToTrash b from to at is = absurd (none-some _ is)
+asks-rename CountingToRemove b from to at is = absurd (none-some _ is)
 asks-rename Trashing b from to at is = absurd (none-some _ is)
 asks-rename Looking b from to at is = absurd (none-some _ is)
 asks-rename Listing b from to at is = absurd (none-some _ is)
@@ -321,7 +366,7 @@ asks-copy Pasting b from to at is =
 asks-copy Removing b from to at is = absurd (removal-no-copy b (slice_get b.list b.selected) from to is)
 asks-copy Renaming b from to at is =
     absurd (rename-no-copy (is_name (selected_text b)) (is_name (field_text b.typed)) _ _ from to is)
-asks-copy Making b from to at is = absurd (make-no-copy (is_name (field_text b.typed)) _ from to is)
+asks-copy Making b from to at is = absurd (made-no-copy b (field_text b.typed) (folder_typed (field_text b.typed)) from to is)
 asks-copy Undoing b from to at is = absurd (back-no-copy b.last_move from to is)
 asks-copy Returning b from to at is = absurd (none-some _ is)
 asks-copy Helping b from to at is = absurd (none-some _ is)
@@ -337,6 +382,8 @@ asks-copy Going b from to at is = absurd (none-some _ is)
 asks-copy Visiting b from to at is = absurd (none-some _ is)
 asks-copy Locating b from to at is = absurd (none-some _ is)
 asks-copy Completing b from to at is = absurd (none-some _ is)
+asks-copy CountingToTrash b from to at is = absurd (none-some _ is)
+asks-copy CountingToRemove b from to at is = absurd (none-some _ is)
 asks-copy Over b from to at is = absurd (none-some _ is)
 
 -- ---- the trash
@@ -360,9 +407,14 @@ asks-trash b d at is =
       row = entry.0;
       from_is = ap (λ (x : Discard). x.from) made.1 ∙ ap (path_in b.folder) (text-of b entry.0 entry.1);
       asks = ap (λ m. status_in m b) at
-          ∙ ap (λ shown. codes "move \"" ++ shown ++ codes "\" to \"" ++ trash_shown b.trash ++ codes "\"? y/n") (shown-of b entry.0 entry.1)
-          ∙ ap (λ t. codes "move \"" ++ shown_row entry.0 ++ codes "\" to \"" ++ trash_shown t ++ codes "\"? y/n") it.1
-          ∙ ap (λ t. codes "move \"" ++ shown_row entry.0 ++ codes "\" to \"" ++ (codes "/" ++ shown_name t) ++ codes "\"? y/n") (sym place);
+          ∙ ap (λ shown. codes "move \"" ++ shown ++ codes "\"" ++ count_told b ++ codes " to \"" ++ trash_shown b.trash ++ codes "\"? y/n")
+          (shown-of b entry.0 entry.1)
+          ∙ ap (λ told. codes "move \"" ++ shown_row entry.0 ++ codes "\"" ++ told ++ codes " to \"" ++ trash_shown b.trash ++ codes "\"? y/n")
+          (count-of b entry.0 entry.1)
+          ∙ ap (λ t. codes "move \"" ++ shown_row entry.0 ++ codes "\"" ++ row_count_told entry.0 b.count ++ codes " to \"" ++ trash_shown t
+          ++ codes "\"? y/n") it.1
+          ∙ ap (λ t. codes "move \"" ++ shown_row entry.0 ++ codes "\"" ++ row_count_told entry.0 b.count ++ codes " to \""
+          ++ (codes "/" ++ shown_name t) ++ codes "\"? y/n") (sym place);
     }
 
 -- the two questions begin with other letters

@@ -12,7 +12,7 @@ use Rattle.files.specs.declared.browser.Browser.{Browser}
 use Rattle.files.specs.declared.browser.Mode.{Mode}
 use Rattle.files.specs.declared.browser.Mode.TheVariants.{Looking, Listing, Entering, Leaving, Trashing, Removing}
 use Rattle.files.specs.declared.browser.Mode.TheVariants.{Renaming, Making, Over, Pasting, Sorting, Seeking}
-use Rattle.files.specs.declared.browser.Mode.TheVariants.{Going, Visiting, Locating, Completing}
+use Rattle.files.specs.declared.browser.Mode.TheVariants.{Going, Visiting, Locating, Completing, CountingToTrash, CountingToRemove}
 use Rattle.files.specs.declared.browser.Mode.TheVariants.{Returning, Undoing, Helping, Chosen}
 use Rattle.files.specs.declared.notes.Noted.{Noted}
 use Rattle.files.specs.declared.keys.Wish.TheVariants as wish
@@ -25,7 +25,8 @@ use Rattle.files.specs.Marks.{is_mark_named, first_mark_place, marks_but, is_sel
 use Rattle.files.specs.Moves.{browsed_after, new_browser, wished, first_mark_selected, removals_go_on, gone_on, folder_shown}
 use Rattle.files.specs.Moves.{found_selected, mode_following, typing_name, noted_unless, noted_after}
 use Rattle.files.specs.Laws.{AsksAbout, WillAskAbout}
-use Rattle.files.proofs.LawLemmas.{event-marks, goes-on, completed-keeps, failed-keeps}
+use Rattle.files.proofs.LawLemmas.{event-marks, goes-on, completed-keeps, counted-keeps, failed-keeps}
+use Rattle.files.specs.Counting.{asked_mode, asking_about, counting_for, selects_folder}
 use Rattle.files.proofs.MarkLemmas.{left-listed, first-selected, head-of, some-listed}
 
 pub marks-first : (alloc : Global) (title : List ℕ) (size : Size) → AreMarksListed (new_browser alloc title size)
@@ -39,12 +40,13 @@ marks-next b (message.Answer (outcome.Listed l)) all = left-listed l b
 marks-next b (message.Answer (outcome.Glanced g)) all = all
 marks-next b (message.Answer outcome.Done) all = (goes-on b.mode b).marks all
 marks-next b (message.Answer (outcome.Completed rest)) all = (completed-keeps rest b).marks all
+marks-next b (message.Answer (outcome.Counted n)) all = (counted-keeps b.mode n b).marks all
 marks-next b (message.Answer (outcome.Failed why)) all = (failed-keeps why b).marks all
 
 -- ---- questions
 
 abbrev asked_if : Bool → Mode → Browser → Browser
-asked_if test mode b = if test then record (first_mark_selected b) { mode = mode } else b
+asked_if test mode b = if test then asking_about mode (first_mark_selected b) else b
 
 asks-first : (test : Bool) (mode : Mode) (b : Browser) (mark : Mark) → test ≡ true → AreMarksListed b → slice_get b.marks 0 ≡ Some mark
     → AsksAbout mode mark.name (asked_if test mode b)
@@ -108,11 +110,11 @@ asks-next b mark all at is =
 
 -- ---- after a listing
 
-only-if : (test : Bool) (mode : Mode) → (mode ≡ Removing) ⊎ (mode ≡ Trashing) → ((if test then mode else Looking) ≡ Removing)
+only-if : (test : Bool) (mode : Mode) → ((if test then mode else Looking) ≡ Removing)
     ⊎ ((if test then mode else Looking) ≡ Trashing) → test ≡ true
-only-if true mode is asks = refl
-only-if false mode is (inl asks) = absurd (cc)
-only-if false mode is (inr asks) = absurd (cc)
+only-if true mode asks = refl
+only-if false mode (inl asks) = absurd (cc)
+only-if false mode (inr asks) = absurd (cc)
 
 never-if : (test : Bool) → ((if test then Pasting else Looking) ≡ Removing) ⊎ ((if test then Pasting else Looking) ≡ Trashing) → ⊥
 never-if true (inl asks) = absurd (cc)
@@ -126,8 +128,8 @@ never (inr asks) = absurd (cc)
 
 marked-by : (mode : Mode) (c : Browser) → (mode_following mode c ≡ Removing) ⊎ (mode_following mode c ≡ Trashing)
     → is_selected_marked c ≡ true
-marked-by Trashing c asks = only-if (is_selected_marked c) Trashing (inr refl) asks
-marked-by Removing c asks = only-if (is_selected_marked c) Removing (inl refl) asks
+marked-by Trashing c asks = only-if (is_selected_marked c) (asked_mode Trashing c) asks
+marked-by Removing c asks = only-if (is_selected_marked c) (asked_mode Removing c) asks
 marked-by Pasting c asks = absurd (never-if (is_some c.noted) asks)
 marked-by Looking c asks = absurd (never asks)
 marked-by Listing c asks = absurd (never asks)
@@ -142,6 +144,8 @@ marked-by Going c asks = absurd (never asks)
 marked-by Visiting c asks = absurd (never asks)
 marked-by Locating c asks = absurd (never asks)
 marked-by Completing c asks = absurd (never asks)
+marked-by CountingToTrash c asks = absurd (never asks)
+marked-by CountingToRemove c asks = absurd (never asks)
 marked-by Undoing c asks = absurd (never asks)
 marked-by Helping c asks = absurd (never asks)
 marked-by Over c asks = absurd (never asks)

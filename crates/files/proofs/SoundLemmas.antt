@@ -13,11 +13,11 @@ use Rattle.files.specs.declared.browser.Browser.{Browser}
 use Rattle.files.specs.declared.browser.Mode.{Mode}
 use Rattle.files.specs.declared.browser.Mode.TheVariants.{Looking, Listing, Entering, Leaving, Trashing, Removing}
 use Rattle.files.specs.declared.browser.Mode.TheVariants.{Renaming, Making, Over, Pasting, Sorting, Seeking}
-use Rattle.files.specs.declared.browser.Mode.TheVariants.{Going, Visiting, Locating, Completing}
+use Rattle.files.specs.declared.browser.Mode.TheVariants.{Going, Visiting, Locating, Completing, CountingToTrash, CountingToRemove}
 use Rattle.files.specs.declared.browser.Mode.TheVariants.{Returning, Undoing, Helping, Chosen}
 use Rattle.files.specs.declared.list.Outcome.{Outcome}
 use Rattle.files.specs.declared.browser.Note.{Note}
-use Rattle.files.specs.declared.browser.Note.TheVariants.{Place, Failed, Narrow, NoTrash, Missing, Noted, NothingNoted, NothingMoved, Outside}
+use Rattle.files.specs.declared.browser.Note.TheVariants.{Place, Failed, Narrow, NoTrash, Missing, Noted, NothingNoted, NothingMoved, Outside, NothingAbove}
 use Rattle.files.specs.Texts.{fits, subject, note_told, failure_text, status_in}
 use Rattle.files.specs.declared.glance.Side.{Side}
 use Rattle.files.specs.Glances.{is_looking, is_wide, side_lacking, side_wanted}
@@ -46,6 +46,8 @@ subject-flags Going s q b = refl
 subject-flags Visiting s q b = refl
 subject-flags Locating s q b = refl
 subject-flags Completing s q b = refl
+subject-flags CountingToTrash s q b = refl
+subject-flags CountingToRemove s q b = refl
 subject-flags Over s q b = refl
 subject-flags Returning s q b = refl
 subject-flags Undoing s q b = refl
@@ -62,6 +64,7 @@ note-flags Noted s q b = refl
 note-flags NothingNoted s q b = refl
 note-flags NothingMoved s q b = refl
 note-flags Outside s q b = refl
+note-flags NothingAbove s q b = refl
 
 pub status-flags : (m : Mode) (s q : Bool) (b : Browser) → status_in m (flagged s q b) ≡ status_in m b
 status-flags Looking s q b = note-flags b.note s q b
@@ -79,6 +82,8 @@ status-flags Going s q b = refl
 status-flags Visiting s q b = refl
 status-flags Locating s q b = refl
 status-flags Completing s q b = refl
+status-flags CountingToTrash s q b = note-flags b.note s q b
+status-flags CountingToRemove s q b = note-flags b.note s q b
 status-flags Undoing s q b = refl
 status-flags Helping s q b = refl
 status-flags Returning s q b = note-flags b.note s q b
@@ -183,6 +188,8 @@ sure-in Going sure change is = absurd (cc)
 sure-in Visiting sure change is = absurd (cc)
 sure-in Locating sure change is = absurd (cc)
 sure-in Completing sure change is = absurd (cc)
+sure-in CountingToTrash sure change is = absurd (cc)
+sure-in CountingToRemove sure change is = absurd (cc)
 sure-in Looking sure change is = absurd (cc)
 sure-in Listing sure change is = absurd (cc)
 sure-in Entering sure change is = absurd (cc)
@@ -207,6 +214,8 @@ none-wanted Going quiet wide side change = refl
 none-wanted Visiting quiet wide side change = refl
 none-wanted Locating quiet wide side change = refl
 none-wanted Completing quiet wide side change = refl
+none-wanted CountingToTrash quiet wide side change = refl
+none-wanted CountingToRemove quiet wide side change = refl
 none-wanted Looking quiet wide side change = absurd (cc)
 none-wanted Listing quiet wide side change = refl
 none-wanted Entering quiet wide side change = refl

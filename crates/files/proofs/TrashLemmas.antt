@@ -10,10 +10,11 @@ use Rattle.files.specs.declared.browser.Browser.{Browser}
 use Rattle.files.specs.declared.browser.Mode.{Mode}
 use Rattle.files.specs.declared.browser.Mode.TheVariants.{Looking, Listing, Entering, Leaving, Trashing, Removing}
 use Rattle.files.specs.declared.browser.Mode.TheVariants.{Renaming, Making, Over, Pasting, Sorting, Seeking}
-use Rattle.files.specs.declared.browser.Mode.TheVariants.{Going, Visiting, Locating, Completing}
+use Rattle.files.specs.declared.browser.Mode.TheVariants.{Going, Visiting, Locating, Completing, CountingToTrash, CountingToRemove}
 use Rattle.files.specs.declared.browser.Mode.TheVariants.{Returning, Undoing, Helping, Chosen}
 use Rattle.files.specs.declared.trash.Discard.{Discard}
-use Rattle.files.specs.Texts.{prompt}
+use Rattle.text_field.specs.Field.{FieldData}
+use Rattle.files.specs.Texts.{prompt, make_prompt}
 use Rattle.files.specs.Trash.{numbered, info_name, info_text, discard_plan}
 
 -- two texts were appended
@@ -34,29 +35,31 @@ pub appended-one : {A E : Type 0} (r : Result A E) (new old one two : List ℕ) 
 appended-one (Ok v) new old one two same last = last ∙ ap (λ t. old ++ t) same
 appended-one (Err e) new old one two same last = tt
 
--- what stands before a name that is typed for a new folder
-pub prompt-other : (mode : Mode) (b : Browser) → (mode ≡ Renaming → ⊥) → (mode ≡ Pasting → ⊥) → (mode ≡ Seeking → ⊥)
-    → (mode ≡ Going → ⊥) → prompt mode b ≡ codes "make the folder \""
-prompt-other Looking b one two three four = refl
-prompt-other Listing b one two three four = refl
-prompt-other Entering b one two three four = refl
-prompt-other Leaving b one two three four = refl
-prompt-other Trashing b one two three four = refl
-prompt-other Removing b one two three four = refl
-prompt-other Renaming b one two three four = absurd (one refl)
-prompt-other Making b one two three four = refl
-prompt-other Pasting b one two three four = absurd (two refl)
-prompt-other Sorting b one two three four = refl
-prompt-other Seeking b one two three four = absurd (three refl)
-prompt-other Going b one two three four = absurd (four refl)
-prompt-other Visiting b one two three four = refl
-prompt-other Locating b one two three four = refl
-prompt-other Completing b one two three four = refl
-prompt-other Over b one two three four = refl
-prompt-other Returning b one two three four = refl
-prompt-other Undoing b one two three four = refl
-prompt-other Helping b one two three four = refl
-prompt-other Chosen b one two three four = refl
+-- what stands before a name that is typed for something new
+pub prompt-other : (mode : Mode) (typed : FieldData) (b : Browser) → (mode ≡ Renaming → ⊥) → (mode ≡ Pasting → ⊥) → (mode ≡ Seeking → ⊥)
+    → (mode ≡ Going → ⊥) → prompt mode typed b ≡ make_prompt typed
+prompt-other Looking typed b one two three four = refl
+prompt-other Listing typed b one two three four = refl
+prompt-other Entering typed b one two three four = refl
+prompt-other Leaving typed b one two three four = refl
+prompt-other Trashing typed b one two three four = refl
+prompt-other Removing typed b one two three four = refl
+prompt-other Renaming typed b one two three four = absurd (one refl)
+prompt-other Making typed b one two three four = refl
+prompt-other Pasting typed b one two three four = absurd (two refl)
+prompt-other Sorting typed b one two three four = refl
+prompt-other Seeking typed b one two three four = absurd (three refl)
+prompt-other Going typed b one two three four = absurd (four refl)
+prompt-other Visiting typed b one two three four = refl
+prompt-other Locating typed b one two three four = refl
+prompt-other Completing typed b one two three four = refl
+prompt-other CountingToTrash typed b one two three four = refl
+prompt-other CountingToRemove typed b one two three four = refl
+prompt-other Over typed b one two three four = refl
+prompt-other Returning typed b one two three four = refl
+prompt-other Undoing typed b one two three four = refl
+prompt-other Helping typed b one two three four = refl
+prompt-other Chosen typed b one two three four = refl
 
 -- the path of a name, if it is one
 pub entry-by : (named : Bool) (path got : List ℕ) (o : Option (List ℕ)) → o ≡ (if named then Some path else None) → o ≡ Some got

@@ -12,7 +12,7 @@ use Rattle.files.specs.declared.list.Outcome.TheVariants as outcome
 use Rattle.files.specs.declared.browser.Browser.{Browser}
 use Rattle.files.specs.declared.browser.Mode.{Mode}
 use Rattle.files.specs.declared.browser.Mode.TheVariants.{Looking, Listing, Entering, Leaving, Returning, Trashing}
-use Rattle.files.specs.declared.browser.Mode.TheVariants.{Visiting, Locating, Completing}
+use Rattle.files.specs.declared.browser.Mode.TheVariants.{Visiting, Locating, Completing, CountingToTrash, CountingToRemove}
 use Rattle.files.specs.declared.hands.Wanted.{Wanted}
 use Rattle.ratatui_files.specs.declared.answer.Info.{Info}
 use Rattle.files.specs.Texts.{selected_text, sought_text}
@@ -27,6 +27,7 @@ use Rattle.text_field.specs.Field.{field_text}
 use Rattle.ratatui_files.specs.Paths.{is_inside}
 use Rattle.files.specs.Ways.{way_of}
 use Rattle.files.specs.Completions.{folder_part, last_part, completion}
+use Rattle.files.specs.Counting.{entry_count}
 
 -- the folder that is shown is wanted, with the same entry selected, or the one whose name was typed
 pub record WantsShown (b : Browser) (w : Wanted) : Type 0 where
@@ -90,6 +91,12 @@ TellsCompletion b (answer.Listed entries unnamed) o =
 TellsCompletion b (answer.Failed why) o = o ≡ outcome.Failed why
 TellsCompletion b a o = o ≡ outcome.Failed failure.Other
 
+-- a folder was listed with this answer: it is told how many entries it has, or why nobody knows
+abbrev pub TellsCount : Answer → Outcome → Type 0
+TellsCount (answer.Listed entries unnamed) o = o ≡ outcome.Counted (entry_count entries unnamed)
+TellsCount (answer.Failed why) o = o ≡ outcome.Failed why
+TellsCount a o = o ≡ outcome.Failed failure.Other
+
 module _ {P : Type 0} (does : P → Command → Answer → P → Type 0) where
   -- a change was done, this one and no other, and what came of it is told; or nothing was done
   pub record Touches (command : Command) (files : P) (o : Outcome) (files' : P) : Type 0 where
@@ -124,6 +131,17 @@ module _ {P : Type 0} (does : P → Command → Answer → P → Type 0) where
   abbrev pub Completed : Browser → P → Outcome → P → Type 0
   Completed b files o files' = DoesNothing files o files' ⊎ LooksOn b files o files'
 
+  -- the folder that is selected was listed, and how many entries it has is told
+  pub record LooksInto (b : Browser) (files : P) (o : Outcome) (files' : P) : Type 0 where
+    pub folder : List ℕ
+    pub is : named_path b (selected_text b) ≡ Some folder
+    pub answer : Answer
+    pub done : does files (ListFolder folder) answer files'
+    pub tells : TellsCount answer o
+
+  abbrev pub Counted : Browser → P → Outcome → P → Type 0
+  Counted b files o files' = DoesNothing files o files' ⊎ LooksInto b files o files'
+
   abbrev pub DoesIn : Mode → Browser → P → Outcome → P → Type 0
   DoesIn Listing b files o files' = Listed b files o files'
   DoesIn Entering b files o files' = Listed b files o files'
@@ -132,6 +150,8 @@ module _ {P : Type 0} (does : P → Command → Answer → P → Type 0) where
   DoesIn Visiting b files o files' = Listed b files o files'
   DoesIn Locating b files o files' = Listed b files o files'
   DoesIn Completing b files o files' = Completed b files o files'
+  DoesIn CountingToTrash b files o files' = Counted b files o files'
+  DoesIn CountingToRemove b files o files' = Counted b files o files'
   DoesIn Looking b files o files' = Looked does b files o files'
   DoesIn Trashing b files o files' = Discarded does (discard_in b) files o files'
   DoesIn mode b files o files' = Changed (change_in mode b) files o files'

@@ -72,10 +72,10 @@ key_words wish.NoteCopy = codes "notes to copy"
 key_words wish.NoteMove = codes "to move"
 key_words wish.Paste = codes "pastes what is noted"
 key_words wish.Rename = codes "renames"
-key_words wish.Make = codes "makes a folder"
+key_words wish.Make = codes "makes a file, folder/"
 key_words wish.Trash = codes "to the trash"
 key_words wish.Remove = codes "for good"
-key_words wish.Undo = codes "undoes the last move"
+key_words wish.Undo = codes "undoes a move"
 key_words wish.Help = codes "this list"
 key_words wish.Quit = codes "the end"
 key_words wish.Choose = codes "told where"
@@ -103,10 +103,10 @@ key_letters =
     ∷ lists_letter 14 1 (byte "d") wish.NoteMove 31
     ∷ lists_letter 15 0 (byte "p") wish.Paste 16
     ∷ lists_letter 16 0 (byte "r") wish.Rename 16
-    ∷ lists_letter 16 1 (byte "a") wish.Make 25
-    ∷ lists_letter 17 0 (byte "D") wish.Trash 16
-    ∷ lists_letter 17 1 (byte "X") wish.Remove 30
-    ∷ lists_letter 18 0 (byte "z") wish.Undo 16
+    ∷ lists_letter 17 0 (byte "a") wish.Make 16
+    ∷ lists_letter 18 0 (byte "D") wish.Trash 16
+    ∷ lists_letter 18 1 (byte "X") wish.Remove 30
+    ∷ lists_letter 16 1 (byte "z") wish.Undo 25
     ∷ lists_letter 20 0 (byte "?") wish.Help 16
     ∷ lists_letter 21 0 (byte "q") wish.Quit 16
     ∷ lists_letter 21 4 (byte "Q") wish.Choose 25

@@ -18,6 +18,15 @@ use Rattle.files.specs.Moves.{last_row_place, list_rows, acts, browsed_after, br
 use Rattle.files.specs.Names.{shown_name}
 use Rattle.files.specs.Sorting.{IsPlaceOf}
 use Rattle.files.specs.Ways.{way_of}
+use Rattle.files.specs.Counting.{asked_mode, row_count_told, selects_folder, entry_count}
+use Rattle.files.specs.Questions.{named_path}
+use Rattle.files.specs.declared.list.Outcome.TheVariants as outcome
+use Rattle.files.specs.declared.browser.Mode.TheVariants.{CountingToTrash, CountingToRemove}
+use Rattle.ratatui_acts.specs.declared.message.Message.{Message}
+use Rattle.ratatui_acts.specs.declared.message.Message.TheVariants as message
+use Rattle.ratatui_files.specs.declared.answer.Answer.{Answer}
+use Rattle.ratatui_files.specs.declared.answer.Answer.TheVariants as answer
+use Rattle.ratatui_files.specs.declared.answer.Info.{Info}
 use Rattle.files.specs.declared.list.Listing.{Listing as ListingData}
 use Rattle.files.specs.Texts.{shown_row, selected_text, status_told, fits}
 
@@ -33,18 +42,20 @@ pub record ListsSame (b c : Browser) : Type 0 where
   pub list : c.list ≡ b.list
   pub unnamed : c.unnamed ≡ b.unnamed
 
--- the status asks whether the entry of a path is to be removed for good
+-- the status asks whether the entry of a path is to be removed for good, and tells how many entries a folder has
 pub record AsksToRemove (b : Browser) (path : List ℕ) : Type 0 where
   pub row : Row
   pub path_is : path ≡ path_in b.folder (string_bytes row.name)
-  pub asks : status_told b ≡ codes "remove \"" ++ shown_row row ++ codes "\" for good? y/n"
+  pub asks : status_told b
+      ≡ codes "remove \"" ++ shown_row row ++ codes "\"" ++ row_count_told row b.count ++ codes " for good? y/n"
 
--- the status asks whether an entry is to be moved to the trash, and names both
+-- the status asks whether an entry is to be moved to the trash, names both, and tells how many entries a folder has
 pub record AsksToTrash (b : Browser) (d : Discard) : Type 0 where
   pub row : Row
   pub from_is : d.from ≡ path_in b.folder (string_bytes row.name)
   pub asks : status_told b
-      ≡ codes "move \"" ++ shown_row row ++ codes "\" to \"" ++ (codes "/" ++ shown_name d.trash) ++ codes "\"? y/n"
+      ≡ codes "move \"" ++ shown_row row ++ codes "\"" ++ row_count_told row b.count ++ codes " to \""
+      ++ (codes "/" ++ shown_name d.trash) ++ codes "\"? y/n"
 
 -- the status asks for another name of the entry of a path: that of another path
 pub record AsksToRename (b : Browser) (from to : List ℕ) : Type 0 where
@@ -67,9 +78,9 @@ pub record AsksToUndo (b : Browser) (from to : List ℕ) : Type 0 where
       ≡ codes "move \"" ++ (codes "/" ++ shown_name from) ++ codes "\" back to \"" ++ (codes "/" ++ shown_name to)
       ++ codes "\"? y/n"
 
--- an entry is selected, by its name, and this is asked about it
+-- an entry is selected, by its name, and this is asked about it; but a folder is counted first
 pub record AsksAbout (question : Mode) (name : List ℕ) (b : Browser) : Type 0 where
-  pub mode : b.mode ≡ question
+  pub mode : b.mode ≡ asked_mode question b
   pub entry : selected_text b ≡ name
 
 -- the folder is listed anew, and then this is asked about an entry that is selected, by its name
@@ -129,3 +140,50 @@ pub record LeadsToEntry (b : Browser) (l : ListingData) (c : Browser) : Type 0 w
 pub record IsFront (front text : List ℕ) : Type 0 where
   pub count : ℕ
   pub is : front ≡ take count text
+
+-- ---- folders that are counted
+
+-- it is asked whether an entry is to be removed, or put into the trash
+abbrev pub is_removal : Mode → Bool
+is_removal Trashing = true
+is_removal Removing = true
+is_removal _ = false
+
+-- a folder is counted before that is asked about it
+abbrev pub is_counting : Mode → Bool
+is_counting CountingToTrash = true
+is_counting CountingToRemove = true
+is_counting _ = false
+
+-- that is asked about a folder
+pub record AsksOfFolder (b : Browser) : Type 0 where
+  pub removal : is_removal b.mode ≡ true
+  pub folder : selects_folder b ≡ true
+
+-- the same entry is selected in the same folder
+pub record SelectsSame (b c : Browser) : Type 0 where
+  pub folder : c.folder ≡ b.folder
+  pub list : c.list ≡ b.list
+  pub selected : c.selected ≡ b.selected
+
+-- the same was asked about the same entry before, with the same number
+pub record AskedBefore (b c : Browser) : Type 0 where
+  pub mode : c.mode ≡ b.mode
+  pub entry : SelectsSame b c
+  pub count : c.count ≡ b.count
+
+-- it was just answered how many entries there are, as was asked about the same entry
+pub record JustCounted (b : Browser) (m : Message Outcome) (c : Browser) : Type 0 where
+  pub counting : is_counting b.mode ≡ true
+  pub entry : SelectsSame b c
+  pub count : m ≡ message.Answer (outcome.Counted c.count)
+
+-- just the folder that is selected was listed, and so many entries were answered
+pub record WasListed {P : Type 0} (does : P → Command → Answer → P → Type 0) (b : Browser) (files : P) (n : ℕ) (files' : P)
+    : Type 0 where
+  pub folder : List ℕ
+  pub is : named_path b (selected_text b) ≡ Some folder
+  pub entries : List Info
+  pub unnamed : ℕ
+  pub done : does files (ListFolder folder) (answer.Listed entries unnamed) files'
+  pub count : n ≡ entry_count entries unnamed

@@ -6,8 +6,10 @@ pub mod NameKeys
 pub mod Ranks
 pub mod Orders
 pub mod Marks
+pub mod Counting
 pub mod Texts
 pub mod Dates
+pub mod Details
 pub mod Trash
 pub mod Ways
 pub mod Completions

@@ -19,10 +19,10 @@ use Rattle.files.specs.declared.browser.Mode.{Mode}
 use Rattle.files.specs.declared.browser.Mode.TheVariants.{Looking, Listing, Entering, Leaving, Trashing, Removing}
 use Rattle.files.specs.declared.browser.Mode.TheVariants.{Renaming, Making, Pasting, Sorting, Seeking, Over}
 use Rattle.files.specs.declared.browser.Mode.TheVariants.{Returning, Undoing, Helping, Chosen}
-use Rattle.files.specs.declared.browser.Mode.TheVariants.{Going, Visiting, Locating, Completing}
+use Rattle.files.specs.declared.browser.Mode.TheVariants.{Going, Visiting, Locating, Completing, CountingToTrash, CountingToRemove}
 use Rattle.files.specs.declared.browser.Note.{Note}
 use Rattle.files.specs.declared.browser.Note.TheVariants.{Place, Failed, Narrow, NoTrash, Missing}
-use Rattle.files.specs.declared.browser.Note.TheVariants.{Noted as TellsNoted, NothingNoted, NothingMoved, Outside}
+use Rattle.files.specs.declared.browser.Note.TheVariants.{Noted as TellsNoted, NothingNoted, NothingMoved, Outside, NothingAbove}
 use Rattle.files.specs.declared.notes.Noted.{Noted}
 use Rattle.files.specs.declared.order.Order.{Order}
 use Rattle.files.specs.declared.order.SortBy.TheVariants.{Name}
@@ -46,6 +46,7 @@ use Rattle.files.specs.Glances.{no_glances, aged, glance_taken, side_wanted}
 use Rattle.files.specs.Texts.{selected_text, column_in, fits, place_in_row}
 use Rattle.files.specs.Questions.{named_path, change_in}
 use Rattle.files.specs.Ways.{way_of}
+use Rattle.files.specs.Counting.{asked_mode, asking_about}
 use Rattle.ratatui_files.specs.declared.answer.Failure.{Failure}
 use Rattle.ratatui_files.specs.declared.answer.Failure.TheVariants as failure
 
@@ -76,6 +77,7 @@ new_browser alloc title size = record {
   marks = [];
   follows = Looking;
   last_move = None;
+  count = 0;
   helped = 0;
   typed = new_field;
   column = 0;
@@ -184,22 +186,28 @@ clicked row b =
 abbrev pub went : Wish → Browser → Browser
 went wish.Enter b = entered b
 went (wish.Click row) b = clicked row b
-went wish.Leave b = if bytes_eq b.folder b.base then b else record b { mode = Leaving }
 went wish.Base b = if bytes_eq b.folder b.base then b else record b { mode = Returning }
 went wish.Hidden b = record b { has_hidden = not b.has_hidden; mode = Listing }
 went wish.Sort b = record b { mode = Sorting }
-went wish.Remove b = if nat_lt 0 (length b.list) then record (first_mark_selected b) { mode = Removing } else b
+went wish.Remove b = if nat_lt 0 (length b.list) then asking_about Removing (first_mark_selected b) else b
 went wish.Unmark b = record b { marks = [] }
 went wish.Help b = record b { mode = Helping; helped = 0 }
 went wish.Quit b = record b { mode = Over }
 went wish.Choose b = record b { mode = Chosen }
 went other b = selection_moved other b
 
+-- the folder above is asked for, if it is reached
+abbrev pub leaving : Browser → Browser
+leaving b = if bytes_eq b.folder b.base then b else record b { mode = Leaving }
+
+abbrev pub leave_note : Browser → Note
+leave_note b = if bytes_eq b.folder b.base then NothingAbove else Place
+
 -- the question whether an entry is to be put into the trash, if there is one: the one that was marked first, or
 -- else the one that is selected
 abbrev pub asking_to_trash : Browser → Browser
 asking_to_trash b =
-    if is_some b.trash && nat_lt 0 (length b.list) then record (first_mark_selected b) { mode = Trashing } else b
+    if is_some b.trash && nat_lt 0 (length b.list) then asking_about Trashing (first_mark_selected b) else b
 
 abbrev pub trash_note : Option (List ℕ) → Note
 trash_note (Some trash) = Place
@@ -350,11 +358,13 @@ granted wish.Make b = typing_in Making new_field b
 granted wish.Go b = typing_in Going new_field b
 granted wish.Trash b = asking_to_trash b
 granted wish.Undo b = asking_to_undo b
+granted wish.Leave b = leaving b
 granted other b = went other b
 
 abbrev pub note_of : Wish → Browser → Note
 note_of wish.Trash b = trash_note b.trash
 note_of wish.Undo b = undo_note b.last_move
+note_of wish.Leave b = leave_note b
 note_of wish.SeekOn b = found_note (next_found b)
 note_of wish.SeekBack b = found_note (previous_found b)
 note_of wish.NoteCopy b = noted_note (slice_get (all_taken false b) 0)
@@ -494,8 +504,8 @@ folder_shown l b = selected_at l.place (record b {
 -- the question that follows: whether the entry that is selected is to be removed, if it is marked; or under which
 -- name what is noted next comes here
 abbrev pub mode_following : Mode → Browser → Mode
-mode_following Trashing b = if is_selected_marked b then Trashing else Looking
-mode_following Removing b = if is_selected_marked b then Removing else Looking
+mode_following Trashing b = if is_selected_marked b then asked_mode Trashing b else Looking
+mode_following Removing b = if is_selected_marked b then asked_mode Removing b else Looking
 mode_following Pasting b = if is_some b.noted then Pasting else Looking
 mode_following _ b = Looking
 
@@ -535,12 +545,21 @@ failed why b =
     else if leads_to_leaf b.mode why then record b { mode = Locating }
     else record b { mode = Looking; follows = Looking; seeks_typed = false; note = Failed b.mode why }
 
+-- a folder was counted: the question about it follows; one that has entries can't be removed for good. When that isn't
+-- asked any longer, the answer is dropped
+abbrev pub counted_in : Mode → ℕ → Browser → Browser
+counted_in CountingToTrash n b = record b { mode = Trashing; count = n }
+counted_in CountingToRemove n b =
+    if n == 0 then record b { mode = Removing; count = 0 } else failed failure.NotEmpty b
+counted_in _ n b = b
+
 -- what is done leads to the folder anew, what is seen is shown beside it, and what failed leads to its reason
 abbrev pub outcome_taken : Outcome → Browser → Browser
 outcome_taken (outcome.Listed l) b = listing_shown l b
 outcome_taken outcome.Done b = finished b
 outcome_taken (outcome.Glanced g) b = glance_taken g b
 outcome_taken (outcome.Completed rest) b = path_completed rest b
+outcome_taken (outcome.Counted n) b = counted_in b.mode n b
 outcome_taken (outcome.Failed why) b = failed why b
 
 abbrev pub outcome_told : Outcome → Browser → Browser
@@ -553,7 +572,7 @@ browsed_after b (message.Answer o) = outcome_told o b
 
 -- ---- what is asked for
 
--- something is asked for: a folder that is listed, how a path goes on, or a change that was answered by yes
+-- something is asked for: a folder that is listed or counted, how a path goes on, or a change that was answered by yes
 abbrev pub asks_in : Mode → Bool → Bool
 asks_in Listing sure = true
 asks_in Entering sure = true
@@ -562,6 +581,8 @@ asks_in Returning sure = true
 asks_in Visiting sure = true
 asks_in Locating sure = true
 asks_in Completing sure = true
+asks_in CountingToTrash sure = true
+asks_in CountingToRemove sure = true
 asks_in Trashing sure = sure
 asks_in Removing sure = sure
 asks_in Renaming sure = sure

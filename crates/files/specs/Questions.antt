@@ -5,7 +5,7 @@ use Rattle.std.specs.Option.{option_and_then}
 use Rattle.text_field.specs.Field.{field_text}
 use Rattle.ratatui_files.specs.Paths.{is_name, path_in}
 use Rattle.ratatui_files.specs.declared.command.Command.{Command}
-use Rattle.ratatui_files.specs.declared.command.Command.TheVariants.{Rename, Copy, Remove, RemoveFolder, MakeFolder}
+use Rattle.ratatui_files.specs.declared.command.Command.TheVariants.{Rename, Copy, Remove, RemoveFolder, MakeFile, MakeFolder}
 use Rattle.files.specs.declared.list.Row.{Row}
 use Rattle.files.specs.declared.browser.Browser.{Browser}
 use Rattle.files.specs.declared.browser.Mode.{Mode}
@@ -13,7 +13,7 @@ use Rattle.files.specs.declared.browser.Mode.TheVariants.{Trashing, Removing, Re
 use Rattle.files.specs.declared.notes.Noted.{Noted}
 use Rattle.files.specs.declared.undo.Moved.{Moved}
 use Rattle.files.specs.declared.trash.Discard.{Discard}
-use Rattle.files.specs.Texts.{selected_text}
+use Rattle.files.specs.Texts.{selected_text, folder_typed}
 use Rattle.files.specs.Trash.{discard_in, IsStep}
 
 -- the path of a name in the folder that is shown, if it can be one
@@ -39,6 +39,14 @@ paste_by false from to = Copy from to
 abbrev pub paste_of : Browser → Noted → Option Command
 paste_of b noted = option_map (paste_by noted.is_moved noted.path) (named_path b (field_text b.typed))
 
+-- the making of a file, or of a folder if what is typed ends in a slash
+abbrev pub make_by : Browser → List ℕ → Option (List ℕ) → Option Command
+make_by b text (Some name) = option_map MakeFolder (named_path b name)
+make_by b text None = option_map MakeFile (named_path b text)
+
+abbrev pub make_of : Browser → List ℕ → Option Command
+make_of b text = make_by b text (folder_typed text)
+
 -- the way back of what was renamed or moved
 abbrev pub way_back : Moved → Command
 way_back moved = Rename moved.to moved.from
@@ -49,7 +57,7 @@ change_in Removing b = option_and_then (removal_in b) (slice_get b.list b.select
 change_in Renaming b =
     option_and_then (λ from. option_map (Rename from) (named_path b (field_text b.typed)))
     (named_path b (selected_text b))
-change_in Making b = option_map MakeFolder (named_path b (field_text b.typed))
+change_in Making b = make_of b (field_text b.typed)
 change_in Pasting b = option_and_then (paste_of b) b.noted
 change_in Undoing b = option_map way_back b.last_move
 change_in _ b = None

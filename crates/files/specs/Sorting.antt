@@ -1,6 +1,8 @@
 -- The rows of a folder, in order.
 use Rattle.std.specs.Prelude.{◌≡◌, ◌⊎◌, ℕ, Bool, true, false, not, ◌||◌, ◌==◌, List, [], ◌∷◌, ◌++◌, filter, slice_get}
 use Rattle.std.specs.Prelude.{Option, Some, None, option_map, string_bytes, IsPermutation, IsSorted}
+use Rattle.std.specs.declared.time.Duration.{Duration}
+use Rattle.jiff_core.specs.declared.civil.datetime.DateTime.{DateTime}
 use Rattle.std.specs.{Str.byte, List.AllZip, Duration.as_nanos}
 use Rattle.ratatui_files.specs.declared.answer.Info.{Info}
 use Rattle.ratatui_files.specs.declared.answer.Kind.{Kind}
@@ -8,6 +10,7 @@ use Rattle.ratatui_files.specs.declared.answer.Kind.TheVariants.{Folder, File, L
 use Rattle.files.specs.declared.list.Row.{Row}
 use Rattle.files.specs.declared.order.Order.{Order}
 use Rattle.files.specs.NameKeys.{name_sort_key}
+use Rattle.files.specs.Dates.{IsDateAfter}
 use Rattle.files.specs.Orders.{compare_rows}
 
 -- a name is hidden that begins with a dot
@@ -31,6 +34,11 @@ abbrev pub told_size : Kind → ℕ → Option ℕ
 told_size File size = Some size
 told_size _ size = None
 
+-- the date of a time; of none that isn't known
+abbrev pub IsDateOf : Option Duration → Option DateTime → Type 0
+IsDateOf (Some time) date = IsDateAfter (as_nanos time) date
+IsDateOf None date = date ≡ None
+
 -- what is told of an entry in its row
 pub record IsRowFor (info : Info) (row : Row) : Type 0 where
   pub leaf : row.is_leaf ≡ is_no_folder info.kind
@@ -38,6 +46,8 @@ pub record IsRowFor (info : Info) (row : Row) : Type 0 where
   pub link : row.is_link ≡ is_a_link info.kind
   pub size : row.size ≡ told_size info.kind info.size
   pub changed : row.changed ≡ option_map as_nanos info.modified
+  pub date : IsDateOf info.modified row.date
+  pub mode : row.mode ≡ info.mode
   pub key : row.key ≡ name_sort_key info.name
 
 -- the rows of entries that are listed

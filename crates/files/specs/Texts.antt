@@ -1,7 +1,8 @@
 -- The texts that stand in the rows.
 use Rattle.std.specs.Prelude.{ℕ, Bool, true, false, ◌+◌, ◌-◌, ◌==◌, ◌^◌, min, nat_lt, nat_le, if◌then◌else◌}
-use Rattle.std.specs.Prelude.{List, [], ◌++◌, length, codes, Option, Some, None, slice_get, string_bytes}
-use Rattle.std.specs.{Option.option_map_or, Fmt.decimal, List.repeat}
+use Rattle.std.specs.Prelude.{List, [], ◌++◌, length, codes, Option, Some, None, is_some, slice_get, string_bytes}
+use Rattle.std.specs.{Option.option_map_or, Option.option_and_then, Option.unwrap_or, Fmt.decimal, List.repeat}
+use Rattle.std.specs.{Str.byte, Path.rsplit_once}
 use Rattle.ratatui_core.specs.Buffer.{text_columns}
 use Rattle.text_field.specs.Field.{FieldData, field_text}
 use Rattle.ratatui_files.specs.declared.answer.Failure.{Failure}
@@ -11,10 +12,10 @@ use Rattle.files.specs.declared.browser.Browser.{Browser}
 use Rattle.files.specs.declared.browser.Mode.{Mode}
 use Rattle.files.specs.declared.browser.Mode.TheVariants.{Entering, Leaving, Trashing, Removing, Renaming, Making}
 use Rattle.files.specs.declared.browser.Mode.TheVariants.{Pasting, Sorting, Seeking, Returning, Undoing, Helping}
-use Rattle.files.specs.declared.browser.Mode.TheVariants.{Going, Visiting, Locating, Completing}
+use Rattle.files.specs.declared.browser.Mode.TheVariants.{Going, Visiting, Locating, Completing, CountingToTrash, CountingToRemove}
 use Rattle.files.specs.declared.browser.Note.{Note}
 use Rattle.files.specs.declared.browser.Note.TheVariants.{Place, Failed, Narrow, NoTrash, Missing}
-use Rattle.files.specs.declared.browser.Note.TheVariants.{Noted as TellsNoted, NothingNoted, NothingMoved, Outside}
+use Rattle.files.specs.declared.browser.Note.TheVariants.{Noted as TellsNoted, NothingNoted, NothingMoved, Outside, NothingAbove}
 use Rattle.files.specs.declared.notes.Noted.{Noted}
 use Rattle.files.specs.declared.undo.Moved.{Moved}
 use Rattle.files.specs.Help.{keys_row}
@@ -24,6 +25,8 @@ use Rattle.files.specs.declared.order.SortBy.TheVariants.{Name, Size, Date}
 use Rattle.ratatui_files.specs.Paths.{after_start}
 use Rattle.files.specs.Names.{shown_name}
 use Rattle.files.specs.Marks.{mark_lead}
+use Rattle.files.specs.Details.{date_shown, details_told}
+use Rattle.files.specs.Counting.{count_told}
 
 -- ---- the list
 
@@ -41,18 +44,33 @@ abbrev pub file_size_text : Option ℕ → List ℕ
 file_size_text (Some size) = decimal size
 file_size_text None = []
 
--- a size behind so many blanks that it ends in the last column; nothing if there is no room
-abbrev pub size_beside : ℕ → List ℕ → List ℕ → List ℕ
-size_beside width text size =
-    let gap = width - (text_columns text + length size) in
-    if gap == 0 then [] else repeat gap (codes " ") ++ size
+-- a text after so many blanks that it ends in the last column; nothing if there is no room
+abbrev pub text_beside : ℕ → List ℕ → List ℕ → List ℕ
+text_beside width text beside =
+    let gap = width - (text_columns text + length beside) in
+    if gap == 0 then [] else repeat gap (codes " ") ++ beside
 
 -- what stands before it, and the entry
 abbrev pub led_row : List ℕ → Row → List ℕ
 led_row lead row = lead ++ shown_row row
 
+-- rows of 48 columns and more have dates in the last 16, and two blanks before them
+abbrev pub has_dates : ℕ → Bool
+has_dates width = nat_le 48 width
+
+abbrev pub size_end : ℕ → ℕ
+size_end width = if has_dates width then width - 18 else width
+
+abbrev pub sized_row : ℕ → List ℕ → Row → List ℕ
+sized_row width lead row =
+    led_row lead row ++ text_beside (size_end width) (led_row lead row) (file_size_text row.size)
+
+abbrev pub row_date : ℕ → Row → List ℕ
+row_date width row = if has_dates width then date_shown row.date else []
+
 abbrev pub row_told : ℕ → List ℕ → Row → List ℕ
-row_told width lead row = led_row lead row ++ size_beside width (led_row lead row) (file_size_text row.size)
+row_told width lead row =
+    sized_row width lead row ++ text_beside width (sized_row width lead row) (row_date width row)
 
 -- an entry in a row, if there is one
 abbrev pub entry_at : ℕ → ℕ → Browser → List ℕ
@@ -78,9 +96,19 @@ title_text b = shown_name b.title ++ codes "/" ++ shown_name (inner_text b)
 abbrev pub selected_text : Browser → List ℕ
 selected_text b = option_map_or (λ row. string_bytes row.name) (slice_get b.list b.selected) []
 
+-- a slash at the end of what is typed says that it is the name of a folder, which stands before it
+abbrev pub front_if_last : List ℕ × List ℕ → Option (List ℕ)
+front_if_last parts = if length parts.1 == 0 then Some parts.0 else None
+
+abbrev pub folder_typed : List ℕ → Option (List ℕ)
+folder_typed text = option_and_then front_if_last (rsplit_once (byte "/") text)
+
+abbrev pub name_typed : List ℕ → List ℕ
+name_typed text = unwrap_or (folder_typed text) text
+
 -- the name that is to be selected once the folder is listed anew: the typed one, or the one that is selected
 abbrev pub sought_text : Browser → List ℕ
-sought_text b = if b.seeks_typed then field_text b.typed else selected_text b
+sought_text b = if b.seeks_typed then name_typed (field_text b.typed) else selected_text b
 
 abbrev pub selected_shown : Browser → List ℕ
 selected_shown b = option_map_or shown_row (slice_get b.list b.selected) []
@@ -105,11 +133,18 @@ order_told order = sort_told order.by order.is_reversed
 abbrev pub marked_text : ℕ → List ℕ
 marked_text n = if nat_lt 0 n then codes ", " ++ decimal n ++ codes " marked" else []
 
--- which entry is selected, of how many, as `3/120`
+-- what is told of the entry that is selected
+abbrev pub selected_details : Browser → List ℕ
+selected_details b = option_map_or details_told (slice_get b.list b.selected) []
+
+-- how many entries have names that are no texts, the order, how many are marked, and what is told of the selected one
+abbrev pub place_notes : Browser → List ℕ
+place_notes b = unnamed_text b.unnamed ++ order_told b.order ++ marked_text (length b.marks) ++ selected_details b
+
+-- which entry is selected, of how many, as `3/120`, and that
 abbrev pub place_told : Browser → List ℕ
 place_told b =
-    decimal (min (b.selected + 1) (length b.list)) ++ codes "/" ++ decimal (length b.list) ++ unnamed_text b.unnamed
-    ++ order_told b.order ++ marked_text (length b.marks)
+    decimal (min (b.selected + 1) (length b.list)) ++ codes "/" ++ decimal (length b.list) ++ place_notes b
 
 -- why something wasn't done
 abbrev pub failure_text : Failure → List ℕ
@@ -181,6 +216,8 @@ subject Entering b = selected_shown b
 subject Trashing b = selected_shown b
 subject Removing b = selected_shown b
 subject Renaming b = selected_shown b
+subject CountingToTrash b = selected_shown b
+subject CountingToRemove b = selected_shown b
 subject Making b = shown_name (field_text b.typed)
 subject Pasting b = noted_shown b.noted
 subject Undoing b = now_shown b.last_move
@@ -201,14 +238,20 @@ note_told TellsNoted b = paste_note_told b
 note_told NothingNoted b = codes "nothing is noted: y takes a file, d a file or a folder"
 note_told NothingMoved b = codes "nothing was renamed or moved"
 note_told Outside b = outside_told b
+note_told NothingAbove b = codes "can't go above the folder that was opened"
 
--- what stands before a name or a path that is typed
-abbrev pub prompt : Mode → Browser → List ℕ
-prompt Renaming b = codes "rename \"" ++ selected_shown b ++ codes "\" to \""
-prompt Pasting b = paste_prompt b
-prompt Seeking b = codes "/"
-prompt Going b = codes ":"
-prompt _ b = codes "make the folder \""
+-- a file is made, or a folder if what is typed ends in a slash
+abbrev pub make_prompt : FieldData → List ℕ
+make_prompt typed =
+    if is_some (folder_typed (field_text typed)) then codes "make the folder \"" else codes "make the file \""
+
+-- what stands before a name or a path, with that in the field
+abbrev pub prompt : Mode → FieldData → Browser → List ℕ
+prompt Renaming typed b = codes "rename \"" ++ selected_shown b ++ codes "\" to \""
+prompt Pasting typed b = paste_prompt b
+prompt Seeking typed b = codes "/"
+prompt Going typed b = codes ":"
+prompt _ typed b = make_prompt typed
 
 -- where the trash is, from the folder on that all is in
 abbrev pub trash_shown : Option (List ℕ) → List ℕ
@@ -218,14 +261,15 @@ trash_shown None = []
 -- a question with a name that is typed, and the questions whether an entry is to be put into the trash, or
 -- removed
 abbrev pub name_question : Mode → Browser → List ℕ
-name_question mode b = prompt mode b ++ shown_name (field_text b.typed) ++ codes "\""
+name_question mode b = prompt mode b.typed b ++ shown_name (field_text b.typed) ++ codes "\""
 
 abbrev pub trash_question : Browser → List ℕ
 trash_question b =
-    codes "move \"" ++ selected_shown b ++ codes "\" to \"" ++ trash_shown b.trash ++ codes "\"? y/n"
+    codes "move \"" ++ selected_shown b ++ codes "\"" ++ count_told b ++ codes " to \"" ++ trash_shown b.trash
+    ++ codes "\"? y/n"
 
 abbrev pub removal_question : Browser → List ℕ
-removal_question b = codes "remove \"" ++ selected_shown b ++ codes "\" for good? y/n"
+removal_question b = codes "remove \"" ++ selected_shown b ++ codes "\"" ++ count_told b ++ codes " for good? y/n"
 
 abbrev pub undo_question : Browser → List ℕ
 undo_question b =
@@ -233,7 +277,7 @@ undo_question b =
 
 -- a path that is typed
 abbrev pub typed_path_told : Browser → List ℕ
-typed_path_told b = prompt Going b ++ shown_name (field_text b.typed)
+typed_path_told b = prompt Going b.typed b ++ shown_name (field_text b.typed)
 
 -- what the last row tells
 abbrev pub status_in : Mode → Browser → List ℕ
@@ -244,7 +288,7 @@ status_in Helping b = codes "any key goes on, or back"
 status_in Renaming b = name_question Renaming b
 status_in Making b = name_question Making b
 status_in Pasting b = name_question Pasting b
-status_in Seeking b = prompt Seeking b ++ shown_name (field_text b.typed)
+status_in Seeking b = prompt Seeking b.typed b ++ shown_name (field_text b.typed)
 status_in Going b = typed_path_told b
 status_in Visiting b = typed_path_told b
 status_in Locating b = typed_path_told b
@@ -257,7 +301,7 @@ status_told b = status_in b.mode b
 
 -- so many columns of the status stand before the cursor, with a name in the field
 abbrev pub column_in : Mode → FieldData → Browser → ℕ
-column_in mode typed b = text_columns (prompt mode b ++ shown_name typed.before)
+column_in mode typed b = text_columns (prompt mode typed b ++ shown_name typed.before)
 
 -- so many columns show all that the last row tells
 abbrev pub fits : ℕ → Browser → Bool

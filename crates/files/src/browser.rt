@@ -57,6 +57,10 @@ pub enum Mode {
     Locating,
     /// It is asked how that goes on.
     Completing,
+    /// It is asked how many entries the folder has about which `Trashing` asks then.
+    CountingToTrash,
+    /// The same before `Removing`.
+    CountingToRemove,
     /// Keys say whether what was renamed or moved last is to get its old place back.
     Undoing,
     /// The list of the keys is shown, until one of them.
@@ -88,6 +92,8 @@ pub enum Note {
     NothingMoved,
     /// That the typed path leads out of the folder above which nothing is reached.
     Outside,
+    /// That nothing is reached above the folder that is shown.
+    NothingAbove,
 }
 
 /// A folder in rows, of which one is selected. What it asks for is told by itself: it is a function
@@ -137,6 +143,8 @@ pub struct Browser {
     pub(crate) follows: Mode,
     /// What was renamed or moved last, if something was.
     pub(crate) last_move: Option<Moved>,
+    /// How many entries the folder has that was counted last.
+    pub(crate) count: u64,
     /// The row of the list of the keys that is shown first.
     pub(crate) helped: usize,
     /// What is typed, and how many columns of the status stand before its cursor.
@@ -180,6 +188,7 @@ impl Browser {
             marks: Marks::new(alloc),
             follows: Mode::Looking,
             last_move: None,
+            count: 0,
             helped: 0,
             typed: TextField::new(alloc),
             column: 0,
@@ -285,6 +294,8 @@ impl Browser {
             | Mode::Visiting
             | Mode::Locating
             | Mode::Completing
+            | Mode::CountingToTrash
+            | Mode::CountingToRemove
             | Mode::Over
             | Mode::Chosen => Ok(()),
         }
@@ -332,7 +343,7 @@ impl Browser {
 
     // Tells why what was asked for failed. But a path that was to be completed goes on being typed,
     // and what the typed path leads to is selected in its folder if it is none.
-    fn fail(&mut self, failure: Failure)
+    pub(crate) fn fail(&mut self, failure: Failure)
         ensures { self.new ≡ failed failure self.old }
     {
         if is_completing(self.mode) {
@@ -357,6 +368,7 @@ impl Browser {
             Outcome::Done => self.finish()?,
             Outcome::Glanced(glance) => self.take_glance(glance),
             Outcome::Completed(rest) => self.complete(rest)?,
+            Outcome::Counted(count) => self.take_count(count),
             Outcome::Failed(failure) => self.fail(failure),
         }
         self.is_sure = false;
@@ -393,7 +405,9 @@ impl Browser {
             | Mode::Returning
             | Mode::Visiting
             | Mode::Locating
-            | Mode::Completing => true,
+            | Mode::Completing
+            | Mode::CountingToTrash
+            | Mode::CountingToRemove => true,
             Mode::Trashing
             | Mode::Removing
             | Mode::Renaming

@@ -1,9 +1,9 @@
 //! Dates as they are written.
 
-ghost use Rattle.std.specs.Prelude.{◌≡◌, ◌++◌, OnOk, IfSome, pos, string_bytes, unsigned_abs};
+ghost use Rattle.std.specs.Prelude.{◌≡◌, ◌++◌, OnOk, string_bytes, unsigned_abs};
 ghost use Rattle.std.specs.Duration.{as_nanos};
-ghost use Rattle.jiff_core.specs.DateTime.{civil_nanos};
-ghost use Rattle.files.specs.Dates.{two_digits, four_digits, day_text, date_text, clock_text, time_text, date_time_text};
+ghost use Rattle.files.specs.Dates.{IsDateAfter, two_digits, four_digits, day_text, date_text, minute_text, clock_text, time_text};
+ghost use Rattle.files.specs.Dates.{date_time_text, date_minute_text};
 
 use itoa::Buffer as Digits;
 use jiff_core::civil::{Date, DateTime, Time};
@@ -11,9 +11,9 @@ use std::alloc::AllocError;
 use std::time::Duration;
 
 /// Returns the date and the time of day so long after 1970, where no zone's time is counted. None
-/// after the year 9999.
+/// after the year 9999, and only then.
 pub(crate) fn date_after(since_1970: Duration) -> Option<DateTime>
-    ensures { IfSome result (λ date. civil_nanos date ≡ pos (as_nanos since_1970)) }
+    ensures { IsDateAfter (as_nanos since_1970) result }
 {
     let Ok(nanos) = i128::try_from(since_1970.as_nanos()) else {
         return None;
@@ -67,13 +67,20 @@ fn push_date(text: &mut String, date: Date) -> Result<(), AllocError>
     push_day(text, date.month, date.day)
 }
 
+// Appends a time of day up to its minute, as `23:59`.
+fn push_minute(text: &mut String, time: Time) -> Result<(), AllocError>
+    ensures { OnOk result (string_bytes text.new ≡ string_bytes text.old ++ minute_text time) }
+{
+    push_two(text, u32::from(time.hour))?;
+    text.push_str(":")?;
+    push_two(text, u32::from(time.minute))
+}
+
 // Appends a time of day, as `23:59:05`.
 fn push_clock(text: &mut String, time: Time) -> Result<(), AllocError>
     ensures { OnOk result (string_bytes text.new ≡ string_bytes text.old ++ clock_text time) }
 {
-    push_two(text, u32::from(time.hour))?;
-    text.push_str(":")?;
-    push_two(text, u32::from(time.minute))?;
+    push_minute(text, time)?;
     text.push_str(":")?;
     push_two(text, u32::from(time.second))
 }
@@ -92,4 +99,13 @@ pub(crate) fn push_date_time(text: &mut String, date: DateTime) -> Result<(), Al
 {
     push_date(text, date.date)?;
     push_time(text, date.time)
+}
+
+/// Appends a date and a time of day up to its minute, as `2024-02-29 23:59`.
+pub(crate) fn push_date_minute(text: &mut String, date: DateTime) -> Result<(), AllocError>
+    ensures { OnOk result (string_bytes text.new ≡ string_bytes text.old ++ date_minute_text date) }
+{
+    push_date(text, date.date)?;
+    text.push_str(" ")?;
+    push_minute(text, date.time)
 }

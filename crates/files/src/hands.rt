@@ -272,6 +272,7 @@ impl<P: Performs + Drop, W: Write + Drop> Outside<Browser, OnGlass<W>> for Hands
             | Mode::Visiting
             | Mode::Locating => Ok(self.list(state)),
             Mode::Completing => Ok(self.complete(state)),
+            Mode::CountingToTrash | Mode::CountingToRemove => Ok(self.count(state)),
             Mode::Trashing => Ok(self.discard(glass, state)),
             Mode::Looking => Ok(self.look(state)),
             _ => Ok(self.change(glass, state)),

@@ -8,7 +8,8 @@ ghost use Rattle.files.specs.declared.order.Order.{Order};
 ghost use Rattle.files.specs.Orders.{compare_rows};
 ghost use Rattle.files.specs.Finding.{next_named, previous_named, NoneBetween, IsNextNamed, IsPreviousNamed};
 ghost use Rattle.files.specs.declared.hands.Wanted.{Wanted};
-ghost use Rattle.files.specs.Doing.{Lists, TellsListing};
+ghost use Rattle.files.specs.Doing.{Lists, TellsListing, DoesAsked};
+ghost use Rattle.files.specs.Counting.{count_told, entries_told};
 ghost use Rattle.files.specs.Sorting.{HasName, IsPlaceOf};
 ghost use Rattle.files.specs.Keys.{is_input, event_order, event_wish};
 ghost use Rattle.ratatui_events.specs.declared.event.Event.TheVariants.{Key};
@@ -53,6 +54,7 @@ ghost use Rattle.ratatui_files.specs.declared.command.Command.{Command};
 ghost use Rattle.ratatui_files.specs.Trees.{Tree};
 ghost use Rattle.files.specs.Laws.{IsSound, IsPlaced, ListsSame, AsksToRemove, AsksToRename, AsksToTrash, AsksToPaste, AsksToUndo};
 ghost use Rattle.files.specs.Laws.{AsksAbout, WillAskAbout, IsLook, seen_last, IsWithin, LeadsToEntry};
+ghost use Rattle.files.specs.Laws.{AsksOfFolder, AskedBefore, JustCounted, WasListed, is_counting};
 ghost use Rattle.files.specs.declared.browser.Mode.TheVariants.{Looking};
 ghost use Rattle.files.specs.declared.glance.Side.{Side as SideName};
 ghost use Rattle.files.specs.declared.glance.Glance.{Glance as GlanceData};
@@ -72,7 +74,7 @@ use crate::browser::Browser;
 use crate::hands::Hands;
 use ratatui_acts::{Hears, Outside};
 use ratatui_app::OnGlass;
-use ratatui_files::InMemory;
+use ratatui_files::{InMemory, Performs};
 use std::io::Write;
 
 /// Names that are shown alike are the same.
@@ -325,6 +327,25 @@ pub fn completions_go_on_with_what_is_typed()
         → (browsed_after b (message.Event e)).typed ≡ b.typed }
     ensures dropped { (b : Browser) (rest : List ℕ) → is_completing b.mode ≡ false
         → (browsed_after b (message.Answer (outcome.Completed rest))).typed ≡ b.typed }
+{}
+
+/// A question whether a folder is to be removed, or put into the trash, stands only after just this
+/// folder was listed: where it didn't stand before, what was answered last is how many entries that
+/// is told to have, and the question tells this number. By itself, after a listing, no folder is
+/// counted that isn't marked. Counting changes nothing that is shown of the folder.
+pub fn folders_are_counted_before_they_are_asked_about<P: Performs + Drop>()
+    ensures asked { (b : Browser) (m : Message Outcome) → AsksOfFolder (browsed_after b m)
+        → AskedBefore b (browsed_after b m) ⊎ JustCounted b m (browsed_after b m) }
+    ensures listed { (b : Browser) (files after : P) (n : ℕ) → is_counting b.mode ≡ true
+        → DoesAsked P.does b files (outcome.Counted n) after → WasListed P.does b files n after }
+    ensures told { (b : Browser) → AsksOfFolder b → count_told b ≡ entries_told b.count }
+    ensures marked { (b : Browser) (l : ListingData)
+        → let c = browsed_after b (message.Answer (outcome.Listed l)) in
+        is_counting c.mode ≡ true → is_selected_marked c ≡ true }
+    ensures kept { (b : Browser) (n : ℕ)
+        → ListsSame b (browsed_after b (message.Answer (outcome.Counted n))) }
+    ensures seen { (b : Browser) (n : ℕ)
+        → (browsed_after b (message.Answer (outcome.Counted n))).glances ≡ b.glances }
 {}
 
 // ---- runs

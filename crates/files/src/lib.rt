@@ -8,7 +8,9 @@
 mod browser;
 mod columns;
 mod completions;
+mod counting;
 mod dates;
+mod details;
 mod discards;
 mod glance;
 mod glancing;

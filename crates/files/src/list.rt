@@ -4,6 +4,7 @@ ghost use Rattle.std.specs.Prelude.{◌≡◌, length, option_map, slice_get};
 
 use crate::glance::Glance;
 use crate::sort_key::SortKey;
+use jiff_core::civil::DateTime;
 use ratatui_files::{Failure, Path, Text};
 use std::marker::Model;
 
@@ -20,6 +21,10 @@ pub struct Row {
     pub size: Option<u64>,
     /// When it was changed last, in nanoseconds since 1970, if that is known.
     pub changed: Option<u128>,
+    /// The date of that, where no zone's time is counted; none after the year 9999.
+    pub date: Option<DateTime>,
+    /// Who may read, write and run it, as the lowest nine bits, if that is known.
+    pub mode: Option<u32>,
     /// What its name is compared by: its numbers as numbers.
     pub key: SortKey,
 }
@@ -91,6 +96,8 @@ pub enum Outcome {
     Glanced(Glance),
     /// How a typed path goes on.
     Completed(Text),
+    /// How many entries a folder has.
+    Counted(u64),
     /// It was done.
     Done,
     /// It wasn't done, and nothing has changed.

@@ -269,7 +269,7 @@ impl Browser {
         ensures { result ≡ mode_following next self.now }
     {
         match next {
-            Mode::Trashing | Mode::Removing if self.is_selected_marked() => next,
+            Mode::Trashing | Mode::Removing if self.is_selected_marked() => self.asked_mode(next),
             Mode::Pasting if self.noted.is_some() => next,
             _ => Mode::Looking,
         }

@@ -4,7 +4,8 @@ ghost use Rattle.std.specs.Prelude.{◌≡◌, ◌+◌, ◌-◌, if◌then◌els
 ghost use Rattle.std.specs.Str.{bytes_eq};
 ghost use Rattle.text_field.specs.Keys.{edited};
 ghost use Rattle.files.specs.Moves.{list_rows, last_row_place, scrolled_list, selected_at, selection_moved, is_folder_selected};
-ghost use Rattle.files.specs.Moves.{follows_dot, to_dot, at_extension, typing_in, typing_name, renaming, went, asking_to_trash, trash_note, wished};
+ghost use Rattle.files.specs.Moves.{follows_dot, to_dot, at_extension, typing_in, typing_name, renaming, leaving, leave_note, went};
+ghost use Rattle.files.specs.Moves.{asking_to_trash, trash_note, wished};
 ghost use Rattle.files.specs.Texts.{selected_text};
 ghost use Rattle.files.specs.Moves.{confirmed, typed_into, names_typed, folder_shown, listing_shown, entered, is_entry_row, clicked};
 
@@ -210,6 +211,18 @@ impl Browser {
         }
     }
 
+    // Asks for the folder above, if it is reached, and answers what is told.
+    fn leave(&mut self) -> Note
+        ensures mode { self.new ≡ leaving self.old }
+        ensures note { result ≡ leave_note self.old }
+    {
+        if !self.is_inside() {
+            return Note::NothingAbove;
+        }
+        self.mode = Mode::Leaving;
+        Note::Place
+    }
+
     // Does what is asked for that takes no memory.
     fn go(&mut self, wish: Wish)
         ensures { self.new ≡ went wish self.old }
@@ -217,10 +230,6 @@ impl Browser {
         match wish {
             Wish::Enter => self.enter(),
             Wish::Click(row) => self.click(row),
-            Wish::Leave => {
-                let may = self.is_inside();
-                self.turn_if(may, Mode::Leaving);
-            }
             Wish::Base => {
                 let may = self.is_inside();
                 self.turn_if(may, Mode::Returning);
@@ -233,7 +242,7 @@ impl Browser {
             Wish::Remove => {
                 if self.list.len() > 0 {
                     self.select_first_mark();
-                    self.mode = Mode::Removing;
+                    self.ask_about(Mode::Removing);
                 }
             }
             Wish::Unmark => self.unmark(),
@@ -258,7 +267,7 @@ impl Browser {
         }
         if self.list.len() > 0 {
             self.select_first_mark();
-            self.mode = Mode::Trashing;
+            self.ask_about(Mode::Trashing);
         }
         Note::Place
     }
@@ -274,6 +283,7 @@ impl Browser {
             Wish::Make => self.begin(Mode::Making, TextField::new(self.alloc))?,
             Wish::Trash => note = self.ask_to_trash(),
             Wish::Undo => note = self.ask_to_undo(),
+            Wish::Leave => note = self.leave(),
             Wish::Seek => self.begin(Mode::Seeking, TextField::new(self.alloc))?,
             Wish::Go => self.begin(Mode::Going, TextField::new(self.alloc))?,
             Wish::SeekOn => note = self.seek_on(),

@@ -5,6 +5,7 @@ ghost use Rattle.files.specs.Questions.{removal, change_in};
 
 use crate::browser::{Browser, Mode};
 use crate::list::Row;
+use crate::texts::folder_typed;
 use ratatui_files::{Command, Path};
 use std::alloc::AllocError;
 
@@ -46,14 +47,17 @@ impl Browser {
         }
     }
 
-    // The making of a folder.
+    // The making of a file, or of a folder if that is what the typed text names.
     fn making(&self) -> Result<Option<Command>, AllocError>
         ensures { IfOk result (λ command. command ≡ change_in Mode.Making self.now) }
     {
-        match self.folder.entry(self.alloc, self.typed.text())? {
-            Some(path) => Ok(Some(Command::MakeFolder(path))),
-            None => Ok(None),
+        let text = self.typed.text();
+        if let Some(name) = folder_typed(text) {
+            let path = self.folder.entry(self.alloc, name)?;
+            return Ok(path.map(Command::MakeFolder));
         }
+        let path = self.folder.entry(self.alloc, text)?;
+        Ok(path.map(Command::MakeFile))
     }
 
     // The copying or moving of what was noted.

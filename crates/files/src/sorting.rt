@@ -2,11 +2,13 @@
 
 ghost use Rattle.std.specs.Prelude.{◌≡◌, IfOk, OnOk, option_map};
 ghost use Rattle.std.specs.Duration.{as_nanos};
-ghost use Rattle.files.specs.Sorting.{is_listed, IsRowFor, AddsIf, IsListOf, IsPlaceOf};
+ghost use Rattle.files.specs.Sorting.{is_listed, IsDateOf, IsRowFor, AddsIf, IsListOf, IsPlaceOf};
 
+use crate::dates::date_after;
 use crate::list::{Row, Rows};
 use crate::name_keys::name_sort_key;
 use crate::order::Order;
+use jiff_core::civil::DateTime;
 use ratatui_files::{Entries, Info, Kind};
 use std::alloc::{AllocError, Global};
 use std::time::Duration;
@@ -28,6 +30,16 @@ fn nanos(time: Option<Duration>) -> Option<u128>
     }
 }
 
+// The date of a time, if that is known.
+fn date_of(time: Option<Duration>) -> Option<DateTime>
+    ensures { IsDateOf time result }
+{
+    match time {
+        Some(time) => date_after(time),
+        None => None,
+    }
+}
+
 // What is told of an entry in its row.
 fn row_of(alloc: Global, info: Info) -> Result<Row, AllocError>
     ensures { IfOk result (IsRowFor info) }
@@ -38,7 +50,7 @@ fn row_of(alloc: Global, info: Info) -> Result<Row, AllocError>
         kind,
         size,
         modified,
-        ..
+        mode,
     } = info;
     let size = match kind {
         Kind::File => Some(size),
@@ -50,6 +62,8 @@ fn row_of(alloc: Global, info: Info) -> Result<Row, AllocError>
         is_link: kind == Kind::Link,
         size,
         changed: nanos(modified),
+        date: date_of(modified),
+        mode,
         key,
     })
 }

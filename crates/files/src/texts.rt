@@ -1,11 +1,13 @@
 //! The texts that stand in the rows.
 
 ghost use Rattle.std.specs.Prelude.{◌≡◌, ◌++◌, ◌<◌, OnOk, IfOk, string_bytes};
+ghost use Rattle.text_field.specs.Field.{field_text};
 ghost use Rattle.std.specs.Option.{option_copied};
 ghost use Rattle.ratatui_files.specs.Paths.{after_start};
 ghost use Rattle.ratatui_core.specs.Buffer.{text_columns};
-ghost use Rattle.files.specs.Texts.{failure_text, shown_row, file_size_text, size_beside, row_told, title_text, selected_text, sought_text};
-ghost use Rattle.files.specs.Texts.{without_start, inner_text, trash_shown, trash_question};
+ghost use Rattle.files.specs.Texts.{failure_text, shown_row, file_size_text, text_beside, row_told, title_text, selected_text, sought_text};
+ghost use Rattle.files.specs.Texts.{has_dates, size_end, row_date, sized_row, folder_typed, name_typed, make_prompt, selected_details, place_notes};
+ghost use Rattle.files.specs.Texts.{without_start, inner_text, trash_shown, trash_question, removal_question};
 ghost use Rattle.files.specs.Texts.{selected_shown, place_told, subject, note_told, prompt, status_told, column_in};
 ghost use Rattle.files.specs.Texts.{fits, text_in, entry_at, row_place, place_in_row, body_in};
 ghost use Rattle.files.specs.Texts.{place_shown, now_shown, was_shown, undo_question};
@@ -14,10 +16,12 @@ ghost use Rattle.files.specs.Texts.{marked_text, more_text, outside_told};
 ghost use Rattle.files.specs.Marks.{mark_lead};
 
 use crate::browser::{Browser, Mode, Note};
+use crate::details::{push_date_shown, push_details};
 use crate::help::keys_row;
 use crate::list::Row;
 use crate::names::push_name;
 use crate::order::{Order, SortBy};
+use crate::ways::cut_at_slash;
 use itoa::Buffer as Digits;
 use ratatui_core::text::Span;
 use ratatui_files::{Failure, Path};
@@ -59,19 +63,24 @@ pub(crate) fn push_row(text: &mut String, row: &Row) -> Result<(), AllocError>
     }
 }
 
-// Appends a size behind so many blanks that it ends in the last column, if there is room.
-fn push_size(alloc: Global, text: &mut String, size: &str, width: u16) -> Result<(), AllocError>
+// Appends a text after so many blanks that it ends in the last column, if there is room.
+fn push_beside(
+    alloc: Global,
+    text: &mut String,
+    beside: &str,
+    width: u16,
+) -> Result<(), AllocError>
     ensures { OnOk result (string_bytes text.new
-        ≡ string_bytes text.old ++ size_beside width (string_bytes text.old) size.now) }
+        ≡ string_bytes text.old ++ text_beside width (string_bytes text.old) beside.now) }
 {
-    let used = Span::raw(text.as_str()).width().saturating_add(size.len());
+    let used = Span::raw(text.as_str()).width().saturating_add(beside.len());
     let gap = usize::from(width).saturating_sub(used);
     if gap == 0 {
         return Ok(());
     }
     let blanks = " ".repeat(alloc, gap)?;
     text.push_str(blanks.as_str())?;
-    text.push_str(size)
+    text.push_str(beside)
 }
 
 // Appends how many more entries there are, whose names are no texts.
@@ -162,9 +171,34 @@ fn without_start<'a>(start: &str, text: &'a str) -> &'a str
     }
 }
 
-// An entry in a row of so many columns, after what leads to it.
-fn row_told(alloc: Global, lead: &str, row: &Row, width: u16) -> Result<String, AllocError>
-    ensures { IfOk result (λ text. string_bytes text ≡ row_told width lead.now row.now) }
+// Whether rows of so many columns have dates.
+fn has_dates(width: u16) -> bool
+    ensures { result ≡ has_dates width }
+{
+    width >= 48
+}
+
+// Where a size ends in a row of so many columns.
+fn size_end(width: u16) -> u16
+    ensures { result ≡ size_end width }
+{
+    if has_dates(width) { width - 18 } else { width }
+}
+
+// The date in a row of so many columns.
+fn row_date(alloc: Global, row: &Row, width: u16) -> Result<String, AllocError>
+    ensures { IfOk result (λ text. string_bytes text ≡ row_date width row.now) }
+{
+    let mut text = String::new(alloc);
+    if has_dates(width) {
+        push_date_shown(&mut text, row.date)?;
+    }
+    Ok(text)
+}
+
+// An entry and its size in a row of so many columns, after what leads to it.
+fn sized_row(alloc: Global, lead: &str, row: &Row, width: u16) -> Result<String, AllocError>
+    ensures { IfOk result (λ text. string_bytes text ≡ sized_row width lead.now row.now) }
 {
     let mut text = String::from_str(alloc, lead)?;
     push_row(&mut text, row)?;
@@ -173,8 +207,49 @@ fn row_told(alloc: Global, lead: &str, row: &Row, width: u16) -> Result<String, 
         Some(size) => digits.format(size),
         None => "",
     };
-    push_size(alloc, &mut text, size, width)?;
+    push_beside(alloc, &mut text, size, size_end(width))?;
     Ok(text)
+}
+
+// An entry in a row of so many columns, after what leads to it.
+fn row_told(alloc: Global, lead: &str, row: &Row, width: u16) -> Result<String, AllocError>
+    ensures { IfOk result (λ text. string_bytes text ≡ row_told width lead.now row.now) }
+{
+    let mut text = sized_row(alloc, lead, row, width)?;
+    let date = row_date(alloc, row, width)?;
+    push_beside(alloc, &mut text, date.as_str(), width)?;
+    Ok(text)
+}
+
+/// Returns the name of the folder that is typed: what stands before a slash at the end.
+pub(crate) fn folder_typed(text: &str) -> Option<&str>
+    ensures { option_copied result ≡ folder_typed text.now }
+{
+    match cut_at_slash(text) {
+        Some((front, last)) if last.is_empty() => Some(front),
+        _ => None,
+    }
+}
+
+// The name that is typed.
+fn name_typed(text: &str) -> &str
+    ensures { result.now ≡ name_typed text.now }
+{
+    match folder_typed(text) {
+        Some(name) => name,
+        None => text,
+    }
+}
+
+// What stands before the name of what is to be made.
+fn make_prompt(typed: &TextField) -> &'static str
+    ensures { result.now ≡ make_prompt typed.now }
+{
+    if folder_typed(typed.text()).is_some() {
+        "make the folder \""
+    } else {
+        "make the file \""
+    }
 }
 
 impl Browser {
@@ -193,7 +268,7 @@ impl Browser {
         ensures { result.now ≡ sought_text self.now }
     {
         if self.seeks_typed {
-            self.typed.text()
+            name_typed(self.typed.text())
         } else {
             self.selected_text()
         }
@@ -228,7 +303,7 @@ impl Browser {
         Ok(text)
     }
 
-    // Appends which entry is selected, of how many, and how many more can't be named.
+    // Appends which entry is selected, of how many, and what is told of that.
     fn push_place(&self, text: &mut String) -> Result<(), AllocError>
         ensures { OnOk result (string_bytes text.new
             ≡ string_bytes text.old ++ place_told self.now) }
@@ -238,9 +313,30 @@ impl Browser {
         text.push_str(digits.format(self.selected.saturating_add(1).min(count)))?;
         text.push_str("/")?;
         text.push_str(digits.format(count))?;
+        self.push_place_notes(text)
+    }
+
+    // Appends how many entries can't be named, the order, how many are marked, and what is told of
+    // the one that is selected.
+    fn push_place_notes(&self, text: &mut String) -> Result<(), AllocError>
+        ensures { OnOk result (string_bytes text.new
+            ≡ string_bytes text.old ++ place_notes self.now) }
+    {
         push_unnamed(text, self.unnamed)?;
         push_order(text, self.order)?;
-        push_marked(text, self.marks.len())
+        push_marked(text, self.marks.len())?;
+        self.push_selected_details(text)
+    }
+
+    // Appends what is told of the entry that is selected.
+    fn push_selected_details(&self, text: &mut String) -> Result<(), AllocError>
+        ensures { OnOk result (string_bytes text.new
+            ≡ string_bytes text.old ++ selected_details self.now) }
+    {
+        match self.list.get(self.selected) {
+            Some(row) => push_details(text, row),
+            None => Ok(()),
+        }
     }
 
     // Appends where it is that is noted, from the folder on that all is in.
@@ -319,9 +415,12 @@ impl Browser {
             ≡ string_bytes text.old ++ subject mode self.now) }
     {
         match mode {
-            Mode::Entering | Mode::Trashing | Mode::Removing | Mode::Renaming => {
-                self.push_selected(text)
-            }
+            Mode::Entering
+            | Mode::Trashing
+            | Mode::Removing
+            | Mode::CountingToTrash
+            | Mode::CountingToRemove
+            | Mode::Renaming => self.push_selected(text),
             Mode::Making => push_name(text, self.typed.text()),
             Mode::Pasting => self.push_noted(text),
             Mode::Undoing => self.push_now(text),
@@ -348,6 +447,7 @@ impl Browser {
             }
             Note::NothingMoved => text.push_str("nothing was renamed or moved"),
             Note::Outside => self.push_outside(text),
+            Note::NothingAbove => text.push_str("can't go above the folder that was opened"),
             Note::Failed(mode, failure) => {
                 self.push_subject(mode, text)?;
                 text.push_str(": ")?;
@@ -356,10 +456,15 @@ impl Browser {
         }
     }
 
-    // Appends what stands before a name or a path that is typed.
-    fn push_prompt(&self, mode: Mode, text: &mut String) -> Result<(), AllocError>
+    // Appends what stands before a name or a path, with that in the field.
+    fn push_prompt(
+        &self,
+        mode: Mode,
+        typed: &TextField,
+        text: &mut String,
+    ) -> Result<(), AllocError>
         ensures { OnOk result (string_bytes text.new
-            ≡ string_bytes text.old ++ prompt mode self.now) }
+            ≡ string_bytes text.old ++ prompt mode typed.now self.now) }
     {
         match mode {
             Mode::Renaming => {
@@ -370,7 +475,7 @@ impl Browser {
             Mode::Pasting => self.push_paste_prompt(text),
             Mode::Seeking => text.push_str("/"),
             Mode::Going => text.push_str(":"),
-            _ => text.push_str("make the folder \""),
+            _ => text.push_str(make_prompt(typed)),
         }
     }
 
@@ -395,7 +500,9 @@ impl Browser {
     {
         text.push_str("move \"")?;
         self.push_selected(text)?;
-        text.push_str("\" to \"")?;
+        text.push_str("\"")?;
+        self.push_count(text)?;
+        text.push_str(" to \"")?;
         self.push_trash(text)?;
         text.push_str("\"? y/n")
     }
@@ -435,6 +542,18 @@ impl Browser {
         text.push_str("\"? y/n")
     }
 
+    // Appends the question whether the entry that is selected is to be removed for good.
+    fn push_removal_question(&self, text: &mut String) -> Result<(), AllocError>
+        ensures { OnOk result (string_bytes text.new
+            ≡ string_bytes text.old ++ removal_question self.now) }
+    {
+        text.push_str("remove \"")?;
+        self.push_selected(text)?;
+        text.push_str("\"")?;
+        self.push_count(text)?;
+        text.push_str(" for good? y/n")
+    }
+
     /// Returns what the last row tells.
     pub(crate) fn status_told(&self) -> Result<String, AllocError>
         ensures { IfOk result (λ text. string_bytes text ≡ status_told self.now) }
@@ -444,22 +563,18 @@ impl Browser {
             Mode::Trashing => self.push_trash_question(&mut text)?,
             Mode::Undoing => self.push_undo_question(&mut text)?,
             Mode::Helping => text.push_str("any key goes on, or back")?,
-            Mode::Removing => {
-                text.push_str("remove \"")?;
-                self.push_selected(&mut text)?;
-                text.push_str("\" for good? y/n")?;
-            }
+            Mode::Removing => self.push_removal_question(&mut text)?,
             Mode::Renaming | Mode::Making | Mode::Pasting => {
-                self.push_prompt(self.mode, &mut text)?;
+                self.push_prompt(self.mode, &self.typed, &mut text)?;
                 push_name(&mut text, self.typed.text())?;
                 text.push_str("\"")?;
             }
             Mode::Seeking => {
-                self.push_prompt(Mode::Seeking, &mut text)?;
+                self.push_prompt(Mode::Seeking, &self.typed, &mut text)?;
                 push_name(&mut text, self.typed.text())?;
             }
             Mode::Going | Mode::Visiting | Mode::Locating | Mode::Completing => {
-                self.push_prompt(Mode::Going, &mut text)?;
+                self.push_prompt(Mode::Going, &self.typed, &mut text)?;
                 push_name(&mut text, self.typed.text())?;
             }
             Mode::Sorting => {
@@ -475,7 +590,7 @@ impl Browser {
         ensures { IfOk result (λ column. column ≡ column_in mode typed.now self.now) }
     {
         let mut text = String::new(self.alloc);
-        self.push_prompt(mode, &mut text)?;
+        self.push_prompt(mode, typed, &mut text)?;
         push_name(&mut text, typed.before())?;
         Ok(Span::raw(text.as_str()).width())
     }

@@ -124,7 +124,7 @@ fn renames_and_makes_folders(rt: HostRuntime) -> Result<(), Fail> {
     let end = play(
         rt.alloc(),
         60,
-        &[b"jr", b"\x01n", b"", b"\r", b"anew", b"", b"\r", b"q"],
+        &[b"jr", b"\x01n", b"", b"\r", b"anew/", b"", b"\r", b"q"],
     )?;
     assert!(rt; has(&end, "na.txt"));
     assert!(rt; !has(&end, "a.txt"));
@@ -355,5 +355,99 @@ fn stays_where_a_typed_path_leads_to_nothing(rt: HostRuntime) -> Result<(), Fail
     let end = play(rt.alloc(), 60, &[b":../docs\rax", b"", b"\r", b"q"])?;
     assert!(rt; has(&end, "x"));
     assert!(rt; !has(&end, "docs/x"));
+    Ok(())
+}
+
+// The same tree, with two files in its folder.
+fn filled(alloc: Global) -> Result<InMemory, AllocError> {
+    let mut tree = tree(alloc)?;
+    let _made = tree.perform(&Command::MakeFile(path(alloc, "docs/one")?));
+    let _made = tree.perform(&Command::MakeFile(path(alloc, "docs/.two")?));
+    Ok(tree)
+}
+
+// Whether a file without bytes stands at a path.
+fn has_empty_file(played: &Played, path: &str) -> bool {
+    for entry in played.hands.files().entries() {
+        if entry.path.as_str() == path {
+            return match &entry.node {
+                Node::File(bytes) => bytes.as_slice().is_empty(),
+                Node::Folder => false,
+            };
+        }
+    }
+    false
+}
+
+#[test]
+fn makes_files_and_folders(rt: HostRuntime) -> Result<(), Fail> {
+    let keys: &[&[u8]] = &[
+        b"aone", b"", b"\r", b"atwo/", b"", b"\r", b"a/", b"", b"\r", b"X", b"", b"y", b"q",
+    ];
+    let end = play(rt.alloc(), 60, keys)?;
+    assert!(rt; has_empty_file(&end, "one"));
+    assert!(rt; has(&end, "a.txt"));
+    assert!(rt; !has(&end, "two"));
+    let end = play(
+        rt.alloc(),
+        60,
+        &[b"atwo/", b"", b"\r", b"laone", b"", b"\r", b"q"],
+    )?;
+    assert!(rt; has_empty_file(&end, "two/one"));
+    Ok(())
+}
+
+#[test]
+fn counts_a_folder_before_it_asks(rt: HostRuntime) -> Result<(), Fail> {
+    let end = play_on(rt.alloc(), 72, filled(rt.alloc())?, &[b"D", b"", b"n", b"q"])?;
+    assert!(rt; has(&end, "docs/one"));
+    let end = play_on(
+        rt.alloc(),
+        72,
+        filled(rt.alloc())?,
+        &[b"D", b"", b"y", b"q"],
+    )?;
+    assert!(rt; has(&end, "trash/files/docs/one"));
+    assert!(rt; !has(&end, "docs"));
+    Ok(())
+}
+
+#[test]
+fn takes_no_yes_to_a_count_that_is_cut(rt: HostRuntime) -> Result<(), Fail> {
+    let end = play_on(
+        rt.alloc(),
+        43,
+        filled(rt.alloc())?,
+        &[b"D", b"", b"y", b"q"],
+    )?;
+    assert!(rt; has(&end, "docs/one"));
+    let end = play_on(
+        rt.alloc(),
+        44,
+        filled(rt.alloc())?,
+        &[b"D", b"", b"y", b"q"],
+    )?;
+    assert!(rt; !has(&end, "docs"));
+    Ok(())
+}
+
+#[test]
+fn removes_no_folder_that_has_entries(rt: HostRuntime) -> Result<(), Fail> {
+    let end = play_on(
+        rt.alloc(),
+        60,
+        filled(rt.alloc())?,
+        &[b"X", b"", b"y", b"q"],
+    )?;
+    assert!(rt; has(&end, "docs/one"));
+    let end = play(rt.alloc(), 60, &[b"X", b"", b"y", b"q"])?;
+    assert!(rt; !has(&end, "docs"));
+    Ok(())
+}
+
+#[test]
+fn shows_dates_if_there_is_room(rt: HostRuntime) -> Result<(), Fail> {
+    let end = play(rt.alloc(), 48, &[b"j", b"q"])?;
+    assert_stored!(rt; end.screen.terminal().backend(), screens::DATED);
     Ok(())
 }

@@ -31,7 +31,7 @@ pub(crate) const REMOVED: &[&str] = &[
     "b.txt                                  6",
     "                                        ",
     "                                        ",
-    "2/2                                     ",
+    "2/2  -rw-r--r--  6  1970-01-01 00:00    ",
 ];
 
 pub(crate) const NARROW: &[&str] = &[
@@ -40,7 +40,7 @@ pub(crate) const NARROW: &[&str] = &[
     "a.txt            3",
     "b.txt            6",
     "                  ",
-    "2/3               ",
+    "2/3  -rw-r--r--  3",
 ];
 
 pub(crate) const NAMED: &[&str] = &[
@@ -49,7 +49,7 @@ pub(crate) const NAMED: &[&str] = &[
     "          new/                                              ",
     "          b.txt                  6                          ",
     "          na.txt                 3                          ",
-    "2/4                                                         ",
+    "2/4  drwxr-xr-x  1970-01-01 00:00                           ",
 ];
 
 pub(crate) const AHEAD: &[&str] = &[
@@ -58,7 +58,7 @@ pub(crate) const AHEAD: &[&str] = &[
     "            a.txt                       3                               ",
     "            b.txt                       6                               ",
     "                                                                        ",
-    "2/3                                                                     ",
+    "2/3  -rw-r--r--  3  1970-01-01 00:00                                    ",
 ];
 
 pub(crate) const ABOVE: &[&str] = &[
@@ -76,5 +76,14 @@ pub(crate) const CLICKED: &[&str] = &[
     "b.txt                                  6",
     "                                        ",
     "                                        ",
-    "1/2                                     ",
+    "1/2  drwxr-xr-x  1970-01-01 00:00       ",
+];
+
+pub(crate) const DATED: &[&str] = &[
+    "tree/                                           ",
+    "docs/                           1970-01-01 00:00",
+    "a.txt                        3  1970-01-01 00:00",
+    "b.txt                        6  1970-01-01 00:00",
+    "                                                ",
+    "2/3  -rw-r--r--  3  1970-01-01 00:00            ",
 ];

@@ -16,5 +16,6 @@ pub returns-in_default : goal.returns-in_default
 returns-in_default g c = record {
   answers = asked-change g.P.Performs.does c.args.state.now c.args._command.now _ _ _ c.requires.asked c.in_default.not-Listing
       c.in_default.not-Entering c.in_default.not-Leaving c.in_default.not-Returning c.in_default.not-Trashing c.in_default.not-Looking
-      c.in_default.not-Visiting c.in_default.not-Locating c.in_default.not-Completing c.change.ensures;
+      c.in_default.not-Visiting c.in_default.not-Locating c.in_default.not-Completing
+      c.in_default.not-CountingToTrash c.in_default.not-CountingToRemove c.change.ensures;
 }
