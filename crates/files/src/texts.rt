@@ -64,16 +64,13 @@ pub(crate) fn push_row(text: &mut String, row: &Row) -> Result<(), AllocError>
 }
 
 // Appends a text after so many blanks that it ends in the last column, if there is room.
-fn push_beside(
-    alloc: Global,
-    text: &mut String,
-    beside: &str,
-    width: u16,
-) -> Result<(), AllocError>
+fn push_beside(alloc: Global, text: &mut String, beside: &str, width: u16) -> Result<(), AllocError>
     ensures { OnOk result (string_bytes text.new
         ≡ string_bytes text.old ++ text_beside width (string_bytes text.old) beside.now) }
 {
-    let used = Span::raw(text.as_str()).width().saturating_add(beside.len());
+    let used = Span::raw(text.as_str())
+        .width()
+        .saturating_add(beside.len());
     let gap = usize::from(width).saturating_sub(used);
     if gap == 0 {
         return Ok(());

@@ -399,7 +399,12 @@ fn makes_files_and_folders(rt: HostRuntime) -> Result<(), Fail> {
 
 #[test]
 fn counts_a_folder_before_it_asks(rt: HostRuntime) -> Result<(), Fail> {
-    let end = play_on(rt.alloc(), 72, filled(rt.alloc())?, &[b"D", b"", b"n", b"q"])?;
+    let end = play_on(
+        rt.alloc(),
+        72,
+        filled(rt.alloc())?,
+        &[b"D", b"", b"n", b"q"],
+    )?;
     assert!(rt; has(&end, "docs/one"));
     let end = play_on(
         rt.alloc(),
