@@ -26,17 +26,17 @@ kind_letter row =
     else codes "?"
 
 -- who may do what with it, the size of a file, and when it was changed: each after two blanks, if it is known
-abbrev pub mode_told : Row → List ℕ
-mode_told row = option_map_or (λ mode. codes "  " ++ kind_letter row ++ mode_text mode) row.mode []
+abbrev pub mode_detail : Row → List ℕ
+mode_detail row = option_map_or (λ mode. codes "  " ++ kind_letter row ++ mode_text mode) row.mode []
 
-abbrev pub size_told : Option ℕ → List ℕ
-size_told size = option_map_or (λ n. codes "  " ++ decimal n) size []
+abbrev pub size_detail : Option ℕ → List ℕ
+size_detail size = option_map_or (λ n. codes "  " ++ decimal n) size []
 
 abbrev pub date_shown : Option DateTime → List ℕ
 date_shown date = option_map_or date_minute_text date []
 
-abbrev pub date_told : Option DateTime → List ℕ
-date_told date = option_map_or (λ d. codes "  " ++ date_minute_text d) date []
+abbrev pub date_detail : Option DateTime → List ℕ
+date_detail date = option_map_or (λ d. codes "  " ++ date_minute_text d) date []
 
 abbrev pub details_told : Row → List ℕ
-details_told row = mode_told row ++ size_told row.size ++ date_told row.date
+details_told row = mode_detail row ++ size_detail row.size ++ date_detail row.date

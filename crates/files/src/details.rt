@@ -1,7 +1,7 @@
 //! What is told of an entry beside its name: who may do what, its size, and when it was changed.
 
 ghost use Rattle.std.specs.Prelude.{◌≡◌, ◌++◌, OnOk, string_bytes};
-ghost use Rattle.files.specs.Details.{right_shown, three_rights, mode_text, kind_letter, mode_told, size_told, date_shown, date_told, details_told};
+ghost use Rattle.files.specs.Details.{right_shown, three_rights, mode_text, kind_letter, mode_detail, size_detail, date_shown, date_detail, details_told};
 
 use crate::dates::push_date_minute;
 use crate::list::Row;
@@ -51,8 +51,8 @@ fn kind_letter(row: &Row) -> &'static str
 }
 
 // Appends what an entry is, and who may do what with it, if that is known.
-fn push_mode_told(text: &mut String, row: &Row) -> Result<(), AllocError>
-    ensures { OnOk result (string_bytes text.new ≡ string_bytes text.old ++ mode_told row.now) }
+fn push_mode_detail(text: &mut String, row: &Row) -> Result<(), AllocError>
+    ensures { OnOk result (string_bytes text.new ≡ string_bytes text.old ++ mode_detail row.now) }
 {
     match row.mode {
         Some(mode) => {
@@ -65,8 +65,8 @@ fn push_mode_told(text: &mut String, row: &Row) -> Result<(), AllocError>
 }
 
 // Appends how many bytes a file has.
-fn push_size_told(text: &mut String, size: Option<u64>) -> Result<(), AllocError>
-    ensures { OnOk result (string_bytes text.new ≡ string_bytes text.old ++ size_told size) }
+fn push_size_detail(text: &mut String, size: Option<u64>) -> Result<(), AllocError>
+    ensures { OnOk result (string_bytes text.new ≡ string_bytes text.old ++ size_detail size) }
 {
     match size {
         Some(size) => {
@@ -89,8 +89,8 @@ pub(crate) fn push_date_shown(text: &mut String, date: Option<DateTime>) -> Resu
 }
 
 // Appends when an entry was changed, if that is known.
-fn push_date_told(text: &mut String, date: Option<DateTime>) -> Result<(), AllocError>
-    ensures { OnOk result (string_bytes text.new ≡ string_bytes text.old ++ date_told date) }
+fn push_date_detail(text: &mut String, date: Option<DateTime>) -> Result<(), AllocError>
+    ensures { OnOk result (string_bytes text.new ≡ string_bytes text.old ++ date_detail date) }
 {
     match date {
         Some(date) => {
@@ -106,7 +106,7 @@ fn push_date_told(text: &mut String, date: Option<DateTime>) -> Result<(), Alloc
 pub(crate) fn push_details(text: &mut String, row: &Row) -> Result<(), AllocError>
     ensures { OnOk result (string_bytes text.new ≡ string_bytes text.old ++ details_told row.now) }
 {
-    push_mode_told(text, row)?;
-    push_size_told(text, row.size)?;
-    push_date_told(text, row.date)
+    push_mode_detail(text, row)?;
+    push_size_detail(text, row.size)?;
+    push_date_detail(text, row.date)
 }
