@@ -1,7 +1,7 @@
 -- What questions name.
 use Rattle.std.proofs.Common.{◌≡◌, ◌⊎◌, inl, inr, Bool, true, false, ℕ, List, [], ◌++◌, codes, Option, Some, None, if◌then◌else◌, refl, sym, ap, ◌∙◌, arith}
-use Rattle.std.specs.Prelude.{slice_get, option_map, string_bytes, get_or}
-use Rattle.std.specs.Option.{option_and_then, option_map_or, option_or}
+use Rattle.std.specs.Prelude.{slice_get, option_map, string_bytes, get_or, is_some}
+use Rattle.std.specs.Option.{option_and_then, option_map_or, option_or, unwrap_or}
 use Rattle.files.specs.Moves.{move_by, move_made}
 use Rattle.text_field.specs.Field.{field_text}
 use Rattle.ratatui_files.specs.Paths.{is_name, path_in}
@@ -26,7 +26,7 @@ use Rattle.files.specs.Texts.{noted_shown, verb_if, paste_verb}
 use Rattle.files.specs.declared.undo.Moved.{Moved}
 use Rattle.files.specs.Questions.{way_back}
 use Rattle.files.specs.Texts.{now_shown, was_shown, place_shown}
-use Rattle.files.specs.Laws.{AsksToRemove, AsksToRename, AsksToTrash, AsksToPaste, AsksToUndo}
+use Rattle.files.specs.Laws.{AsksToRemove, AsksToRename, AsksToMake, AsksToTrash, AsksToPaste, AsksToUndo}
 
 -- the path of a removal is that of the name
 removed-by : (leaf named : Bool) (path other : List ℕ)
@@ -133,6 +133,49 @@ made-no-folder b text None path is = file-no-folder (is_name text) _ path is
 made-no-rename : (b : Browser) (text : List ℕ) (o : Option (List ℕ)) (from to : List ℕ) → make_by b text o ≡ Some (Rename from to) → ⊥
 made-no-rename b text (Some name) from to is = make-no-rename (is_name name) _ from to is
 made-no-rename b text None from to is = file-no-rename (is_name text) _ from to is
+
+-- what is made has the name that is typed; a folder's stands before a slash
+file-made : (one : Bool) (a path : List ℕ) → option_map MakeFile (if one then Some a else None) ≡ Some (MakeFile path) → path ≡ a
+file-made true a path is = cc
+file-made false a path is = absurd (cc)
+
+folder-made : (one : Bool) (a path : List ℕ) → option_map MakeFolder (if one then Some a else None) ≡ Some (MakeFolder path) → path ≡ a
+folder-made true a path is = cc
+folder-made false a path is = absurd (cc)
+
+file-or-folder : (one : Bool) (a path : List ℕ) → option_map MakeFile (if one then Some a else None) ≡ Some (MakeFolder path) → ⊥
+file-or-folder true a path is = absurd (cc)
+file-or-folder false a path is = absurd (cc)
+
+folder-or-file : (one : Bool) (a path : List ℕ) → option_map MakeFolder (if one then Some a else None) ≡ Some (MakeFile path) → ⊥
+folder-or-file true a path is = absurd (cc)
+folder-or-file false a path is = absurd (cc)
+
+file-typed : (b : Browser) (text : List ℕ) (o : Option (List ℕ)) (path : List ℕ) → make_by b text o ≡ Some (MakeFile path)
+    → (is_some o ≡ false) × (path ≡ path_in b.folder (unwrap_or o text))
+file-typed b text (Some name) path is = absurd (folder-or-file (is_name name) _ path is)
+file-typed b text None path is = (refl, file-made (is_name text) _ path is)
+
+folder-named : (b : Browser) (text : List ℕ) (o : Option (List ℕ)) (path : List ℕ) → make_by b text o ≡ Some (MakeFolder path)
+    → (is_some o ≡ true) × (path ≡ path_in b.folder (unwrap_or o text))
+folder-named b text (Some name) path is = (refl, folder-made (is_name name) _ path is)
+folder-named b text None path is = absurd (file-or-folder (is_name text) _ path is)
+
+abbrev asks-by : Bool → Browser → List ℕ
+asks-by folder b =
+    (if folder then codes "make the folder \"" else codes "make the file \"") ++ shown_name (field_text b.typed) ++ codes "\""
+
+pub asks-make-file : (b : Browser) (path : List ℕ) → b.mode ≡ Making → change_in Making b ≡ Some (MakeFile path)
+    → AsksToMake (codes "make the file \"") b path
+asks-make-file b path at is =
+    let it = file-typed b (field_text b.typed) (folder_typed (field_text b.typed)) path is in
+    record { path_is = it.1; asks = ap (λ m. status_in m b) at ∙ ap (λ folder. asks-by folder b) it.0 }
+
+pub asks-make-folder : (b : Browser) (path : List ℕ) → b.mode ≡ Making → change_in Making b ≡ Some (MakeFolder path)
+    → AsksToMake (codes "make the folder \"") b path
+asks-make-folder b path at is =
+    let it = folder-named b (field_text b.typed) (folder_typed (field_text b.typed)) path is in
+    record { path_is = it.1; asks = ap (λ m. status_in m b) at ∙ ap (λ folder. asks-by folder b) it.0 }
 
 none-some : (c : Command) → None ≡ Some c → ⊥
 none-some c is = absurd (cc)

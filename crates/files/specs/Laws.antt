@@ -28,7 +28,7 @@ use Rattle.ratatui_files.specs.declared.answer.Answer.{Answer}
 use Rattle.ratatui_files.specs.declared.answer.Answer.TheVariants as answer
 use Rattle.ratatui_files.specs.declared.answer.Info.{Info}
 use Rattle.files.specs.declared.list.Listing.{Listing as ListingData}
-use Rattle.files.specs.Texts.{shown_row, selected_text, status_told, fits}
+use Rattle.files.specs.Texts.{shown_row, selected_text, status_told, fits, name_typed}
 
 -- the selection is an entry of the list, unless that is empty, and stands in one of its rows, if there are some
 pub record IsPlaced (b : Browser) : Type 0 where
@@ -64,6 +64,12 @@ pub record AsksToRename (b : Browser) (from to : List ℕ) : Type 0 where
   pub from_is : from ≡ path_in b.folder (string_bytes row.name)
   pub to_is : to ≡ path_in b.folder name
   pub asks : status_told b ≡ (codes "rename \"" ++ shown_row row ++ codes "\" to \"") ++ shown_name name ++ codes "\""
+
+-- the status asks for the name of what is to be made at a path: what is typed, and of a folder what stands before the
+-- slash at its end
+pub record AsksToMake (beginning : List ℕ) (b : Browser) (path : List ℕ) : Type 0 where
+  pub path_is : path ≡ path_in b.folder (name_typed (field_text b.typed))
+  pub asks : status_told b ≡ beginning ++ shown_name (field_text b.typed) ++ codes "\""
 
 -- the status asks whether what is at a path is to be copied, or moved, to another one
 pub record AsksToPaste (verb : List ℕ) (b : Browser) (from to : List ℕ) : Type 0 where

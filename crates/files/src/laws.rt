@@ -33,9 +33,9 @@ ghost use Rattle.ratatui_events.specs.declared.event.Event.{Event};
 ghost use Rattle.ratatui_acts.specs.declared.message.Message.TheVariants as message;
 ghost use Rattle.ratatui_acts.specs.declared.message.Message.{Message};
 ghost use Rattle.ratatui_files.specs.declared.answer.Failure.{Failure};
-ghost use Rattle.ratatui_files.specs.declared.command.Command.TheVariants.{Rename, Copy, Remove, RemoveFolder};
+ghost use Rattle.ratatui_files.specs.declared.command.Command.TheVariants.{Rename, Copy, Remove, RemoveFolder, MakeFile, MakeFolder};
 ghost use Rattle.files.specs.declared.browser.Browser.{Browser};
-ghost use Rattle.files.specs.declared.browser.Mode.TheVariants.{Listing, Sorting, Trashing, Removing, Pasting};
+ghost use Rattle.files.specs.declared.browser.Mode.TheVariants.{Listing, Sorting, Trashing, Removing, Making, Pasting};
 ghost use Rattle.files.specs.declared.trash.Discard.{Discard};
 ghost use Rattle.files.specs.declared.list.Listing.{Listing as ListingData};
 ghost use Rattle.files.specs.declared.list.Outcome.{Outcome};
@@ -52,7 +52,7 @@ ghost use Rattle.files.specs.RunLaws.{MadeByTurns, tree_after_all};
 ghost use Rattle.files.specs.declared.hands.Hands.{Hands as HandsData};
 ghost use Rattle.ratatui_files.specs.declared.command.Command.{Command};
 ghost use Rattle.ratatui_files.specs.Trees.{Tree};
-ghost use Rattle.files.specs.Laws.{IsSound, IsPlaced, ListsSame, AsksToRemove, AsksToRename, AsksToTrash, AsksToPaste, AsksToUndo};
+ghost use Rattle.files.specs.Laws.{IsSound, IsPlaced, ListsSame, AsksToRemove, AsksToRename, AsksToMake, AsksToTrash, AsksToPaste, AsksToUndo};
 ghost use Rattle.files.specs.Laws.{AsksAbout, WillAskAbout, IsLook, seen_last, IsWithin, LeadsToEntry};
 ghost use Rattle.files.specs.Laws.{AsksOfFolder, AskedBefore, JustCounted, WasListed, is_counting};
 ghost use Rattle.files.specs.declared.browser.Mode.TheVariants.{Looking};
@@ -112,8 +112,9 @@ pub fn only_listings_change_the_list()
 
 /// A question that removes or renames something names it, whole, and the name that it is given, or
 /// the trash; one that copies or moves something names where it is, whole, and the name that it gets
-/// in the folder that is shown; one that moves something back names both places, whole. None whether
-/// something is to be put into the trash can be taken for one whether it is to be removed for good.
+/// in the folder that is shown; one that moves something back names both places, whole; one that
+/// makes a file or a folder says which, and names it. None whether something is to be put into the
+/// trash can be taken for one whether it is to be removed for good.
 pub fn questions_name_what_they_change()
     ensures file { (b : Browser) (path : List ℕ) → change_in b.mode b ≡ Some (Remove path)
         → AsksToRemove b path }
@@ -126,6 +127,11 @@ pub fn questions_name_what_they_change()
         → AsksToPaste (codes "copy") b from to }
     ensures trashed { (b : Browser) (d : Discard) → b.mode ≡ Trashing → discard_in b ≡ Some d
         → AsksToTrash b d }
+    ensures file_made { (b : Browser) (path : List ℕ) → b.mode ≡ Making
+        → change_in Making b ≡ Some (MakeFile path) → AsksToMake (codes "make the file \"") b path }
+    ensures folder_made { (b : Browser) (path : List ℕ) → b.mode ≡ Making
+        → change_in Making b ≡ Some (MakeFolder path)
+        → AsksToMake (codes "make the folder \"") b path }
     ensures verbs { (b c : Browser) → b.mode ≡ Trashing → c.mode ≡ Removing
         → status_told b ≢ status_told c }
 {}

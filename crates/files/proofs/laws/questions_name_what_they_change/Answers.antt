@@ -1,5 +1,5 @@
 use Rattle.std.proofs.Common.{refl}
-use Rattle.files.proofs.QuestionLemmas.{asks-file, asks-folder, asks-rename, asks-copy, asks-trash, verbs-differ}
+use Rattle.files.proofs.QuestionLemmas.{asks-file, asks-folder, asks-rename, asks-copy, asks-trash, asks-make-file, asks-make-folder, verbs-differ}
 use Rattle.files.proofs.laws.questions_name_what_they_change.Goals as goal
 
 pub returns-clause-file : goal.returns-clause-file
@@ -16,6 +16,12 @@ returns-clause-copied c = λ b from to is. asks-copy b.mode b from to refl is
 
 pub returns-clause-trashed : goal.returns-clause-trashed
 returns-clause-trashed c = asks-trash
+
+pub returns-clause-file_made : goal.returns-clause-file_made
+returns-clause-file_made c = asks-make-file
+
+pub returns-clause-folder_made : goal.returns-clause-folder_made
+returns-clause-folder_made c = asks-make-folder
 
 pub returns-clause-verbs : goal.returns-clause-verbs
 returns-clause-verbs c = verbs-differ
