@@ -41,7 +41,7 @@ ready-below x y s ready = record {
   plain = λ p has below. ready.plain p has (inl (omega arith));
 }
 
--- a text in a row leaves the columns behind it ready
+-- a text in a row leaves the columns after it ready
 pub text-ready : {A : Type 0} (r : Result A AllocError) (from right y end : ℕ) (new : BufferData)
     → OnOk r ((e : ℕ) → from ≤ e → e ≤ right → IsReadyAt e y new) → from ≤ end → end ≤ right → OnOk r (IsReadyAt end y new)
 text-ready (Ok v) from right y end new is more fits = is end more fits

@@ -46,7 +46,7 @@ cut-none c text low none =
     sym (ap (option_map (λ i. (take i text, drop (i + 1) text)))
     (none-below c text (length text) (λ i. NoCharPasses-char c text i none low)))
 
--- a byte stands at a place, and none like it behind that
+-- a byte stands at a place, and none like it after that
 none-later : (c : ℕ) (text : List ℕ) (i : ℕ) → c < 128 → NoCharPasses (λ d. d == c) (drop (i + 1) text)
     → (k : ℕ) → i < k → k < length text → get_or text k 0 ≡ c → ⊥
 none-later c text i low none k after within at =

@@ -137,7 +137,7 @@ may_enter row = not row.is_leaf || row.is_link
 abbrev pub is_folder_selected : Browser → Bool
 is_folder_selected b = option_map_or may_enter (slice_get b.list b.selected) false
 
--- the cursor stands behind a dot that isn't the first character
+-- the cursor stands after a dot that isn't the first character
 abbrev pub is_behind_dot : List ℕ → Bool
 is_behind_dot before = nat_lt 1 (length before) && (get_or before (length before - 1) 0 == byte ".")
 

@@ -28,7 +28,7 @@ fn folder_part(alloc: Global, text: &str) -> Result<String, AllocError>
     Ok(part)
 }
 
-// The last part of a typed path, behind its last slash.
+// The last part of a typed path, after its last slash.
 fn last_part(text: &str) -> &str
     ensures { result.now ≡ last_part text.now }
 {

@@ -17,7 +17,7 @@ use crate::typing::Typing;
 use std::alloc::AllocError;
 use text_field::{Edit, Reach, TextField};
 
-// Whether the cursor stands behind a dot that isn't the first character.
+// Whether the cursor stands after a dot that isn't the first character.
 fn follows_dot(field: &TextField) -> bool
     ensures { result ≡ follows_dot field.now }
 {

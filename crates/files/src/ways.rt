@@ -23,7 +23,7 @@ fn after_tilde(text: &str) -> Option<&str>
     }
 }
 
-/// Returns what stands before the last slash of a path and what stands behind it, if it has one.
+/// Returns what stands before the last slash of a path and what stands after it, if it has one.
 pub(crate) fn cut_at_slash(path: &str) -> Option<(&str, &str)>
     ensures { option_map (λ parts. (parts.0.now, parts.1.now)) result
         ≡ rsplit_once (byte "/") path.now }

@@ -112,7 +112,7 @@ abbrev pub PaintsRowIn : Mode → Pager → Rect → ℕ → Place → BufferDat
 PaintsRowIn Helping p r k q = PaintsLine r.x (r.y + k) (view_from 0 r.width) (Plain []) [] (help_text k)
 PaintsRowIn _ p r k q = PaintsTextRow p q r (r.y + k)
 
--- row k of a page shows the place that is so many rows behind the first one
+-- row k of a page shows the place that is so many rows after the first one
 abbrev pub PaintsPageRow : Pager → Rect → ℕ → BufferData → BufferData → Type 0
 PaintsPageRow p r k = PaintsRowIn p.mode p r k (places_after (breaking p) k (page_place p))
 

@@ -46,7 +46,7 @@ abbrev pub rows_of_line : Breaking → List ℕ → ℕ
 rows_of_line t line = if t.wraps then min (last_start 0 (line_symbols (Plain []) [] line)) (2 ^ 32 - 1) / t.stride + 1
     else 1
 
--- the next row of a text, which goes on behind its end
+-- the next row of a text, which goes on after its end
 abbrev pub next_place : Breaking → Place → Place
 next_place t q =
     if nat_lt (q.row + 1) (rows_of_line t (numbered_line t.lines q.line)) then text_place q.line (q.row + 1)

@@ -87,7 +87,7 @@ impl<'a> Pager<'a> {
         u64::from(last_start(self.document.line_or_empty(line)) / u32::from(self.stride())) + 1
     }
 
-    // The next row of the text, which goes on behind its end.
+    // The next row of the text, which goes on after its end.
     pub(crate) fn next_place(&self, place: Place) -> Place
         requires { place.line < 2 ^ 63 }
         ensures place { result ≡ next_place (breaking self.now) place }

@@ -55,7 +55,7 @@ dots-none s f k (suc n) cells none =
     ap (with_dots s (dots_from f (k + 1) n)) (with_dot-none s (f k) cells (none k (omega arith) (omega arith)))
     ∙ dots-none s f (k + 1) n cells (λ j ge lt. none j (omega arith) (omega arith))
 
--- a place before the first one or behind the last one is none of the grid's
+-- a place before the first one or after the last one is none of the grid's
 outside : (s : Scale) (flat : Bool) (along across : ℕ) (color : Color) → (along < far) ⊎ (far + places_along flat s ≤ along)
     → has_dot s (dot_by flat along across color).x (dot_by flat along across color).y ≡ false
 outside s true along across color out = ⊎_elim (λ (h : along < far). grind arith)
@@ -63,7 +63,7 @@ outside s true along across color out = ⊎_elim (λ (h : along < far). grind ar
 outside s false along across color out = ⊎_elim (λ (h : along < far). grind arith)
     (λ (h : far + places_along false s ≤ along). grind arith) out
 
--- the steps before some and behind them change nothing
+-- the steps before some and after them change nothing
 middle-only : (s : Scale) (f : ℕ → Dot) (a b c : ℕ) (cells : List DotCell)
     → ((j : ℕ) → 0 ≤ j → j < 0 + a → has_dot s (f j).x (f j).y ≡ false)
     → ((j : ℕ) → a + b ≤ j → j < a + b + c → has_dot s (f j).x (f j).y ≡ false)
@@ -77,7 +77,7 @@ middle-only s f a b c cells before behind =
     ∙ with_dots-append s (dots_from f a b) (dots_from f (a + b) c) cells
     ∙ dots-none s f (a + b) c (with_dots s (dots_from f a b) cells) behind
 
--- the steps before the grid and behind it change nothing
+-- the steps before the grid and after it change nothing
 pub run-shown : (s : Scale) (r : Run) (color : Color) (first end : ℕ) (cells : List DotCell) → first ≡ far - r.along
     → end ≡ min (far + places_along r.is_flat s - r.along) (r.long + 1)
     → with_dots s (dots_from (run_dot r color) first (end - first)) cells ≡ with_dots s (run_dots r color) cells

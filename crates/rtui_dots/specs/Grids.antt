@@ -47,7 +47,7 @@ share n whole count = n * (count - 1) / whole
 abbrev pub nearest : ℕ → ℕ → ℕ → ℕ
 nearest n whole count = (2 * (n * (count - 1)) + whole) / (2 * whole)
 
--- the nearest place of a grid; outside it, if it lies before the first one or behind the last one
+-- the nearest place of a grid; outside it, if it lies before the first one or after the last one
 abbrev pub dot_place : Bool → Bool → ℕ → ℕ → ℕ → ℕ
 dot_place true behind n whole count = far - min (max (nearest n whole count) 1) far
 dot_place false true n whole count = far + min (max (nearest n whole count) count) far

@@ -77,7 +77,7 @@ fn nearest(from_first: u128, whole: u128, count: u64) -> u128
 }
 
 // The place nearest to what lies `from_first` from the first one of so many over a whole length; not
-// one of them, if it lies before the first one or behind the last one.
+// one of them, if it lies before the first one or after the last one.
 fn dot_place(is_before: bool, is_behind: bool, from_first: u128, whole: u128, count: u64) -> u64
     requires whole { 0 < whole }
     requires short { whole < 2 ^ 100 }

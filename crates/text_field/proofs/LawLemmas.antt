@@ -18,7 +18,7 @@ pub text-right : (f : FieldData) (n : ℕ) → field_text (moved_right n f) ≡ 
 text-right f n = append_assoc f.before (take n f.after) (drop n f.after)
     ∙ ap (λ w. f.before ++ w) (take-append-drop n f.after)
 
--- the front of a list with something behind it
+-- the front of a list with something after it
 pub front-again : (xs ys : List ℕ) → take (length (xs ++ ys) - length ys) (xs ++ ys) ≡ xs
 front-again xs ys =
     let size : length (xs ++ ys) - length ys ≡ length xs = omega (arith, length-append xs ys) in

@@ -70,7 +70,7 @@ pub boundary-behind : (text : List ℕ) (at n : ℕ) → IsCharBoundary text at 
     → IsCharBoundary text (at + n)
 boundary-behind text at n whole part = IsCharBoundary-from_rest text at n whole.0 part
 
--- no character is cut behind a blank
+-- no character is cut after a blank
 pub boundary-blank : (text : List ℕ) (n : ℕ) → IsUtf8 text → n ≤ length text → (0 < n → get_or text (n - 1) 0 ≡ 32)
     → IsCharBoundary text n
 boundary-blank text zero utf8 le blank = IsCharBoundary-start text utf8

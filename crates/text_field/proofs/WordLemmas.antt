@@ -51,7 +51,7 @@ pub last_solid-stop : (xs : List ℕ) (i : ℕ) → i < length xs → get_or xs 
     → solid_len (reverse (take (i + 1) xs)) ≡ 0
 last_solid-stop xs i lt is = back_len-stop is_solid xs i lt (is_solid-no _ is)
 
--- what is behind the blanks of a text that is read from its end
+-- what is after the blanks of a text that is read from its end
 pub word-behind : (xs : List ℕ) (start : ℕ) → start ≤ length xs → length xs ≡ blanks_len (reverse xs) + start
     → solid_len (reverse (take start xs)) + length xs ≡ word_len (reverse xs) + start
 word-behind xs start le is =

@@ -28,11 +28,11 @@ blanks_len text = length (take_while is_blank text)
 abbrev pub solid_len : List ℕ → ℕ
 solid_len text = length (take_while (λ b. not (is_blank b)) text)
 
--- how many bytes the blanks that a text begins with take, and the word behind them
+-- how many bytes the blanks that a text begins with take, and the word after them
 abbrev pub word_len : List ℕ → ℕ
 word_len text = let blanks = blanks_len text in blanks + solid_len (drop blanks text)
 
--- how far it is to the right: over the first grapheme, over the blanks and the word behind them, or over all
+-- how far it is to the right: over the first grapheme, over the blanks and the word after them, or over all
 abbrev pub reach_right : Reach → List ℕ → ℕ
 reach_right Grapheme text = length (first_text (graphemes true text))
 reach_right Word text = word_len text

@@ -7,7 +7,7 @@ ghost use Rattle.text_field.specs.Inner.{IsPutIn};
 
 use std::alloc::AllocError;
 
-// Puts a piece into a text; answers the place behind it.
+// Puts a piece into a text; answers the place after it.
 pub(crate) fn insert_at(text: &mut String, at: usize, piece: &str) -> Result<usize, AllocError>
     requires { IsCharBoundary (string_bytes text.old) at }
     ensures ok { IfOk result

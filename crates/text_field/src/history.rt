@@ -189,7 +189,7 @@ fn is_move(edit: Edit) -> bool
     }
 }
 
-// Puts one behind the last of a list that has room for it.
+// Puts one after the last of a list that has room for it.
 fn put(list: &mut Vec<Kept>, kept: Kept)
     requires { vec_len list.old < vec_capacity list.old }
     ensures { list.new.items ≡ list.old.items ++ kept ∷ [] }
@@ -200,7 +200,7 @@ fn put(list: &mut Vec<Kept>, kept: Kept)
     }
 }
 
-// Puts one behind the last of a list that has room for it, and takes the first one away if there
+// Puts one after the last of a list that has room for it, and takes the first one away if there
 // are more than so many.
 fn put_last(list: &mut Vec<Kept>, most: usize, kept: Kept)
     requires room { vec_len list.old < vec_capacity list.old }

@@ -13,7 +13,7 @@ use unicode_segmentation::UnicodeSegmentation;
 pub enum Reach {
     /// It goes over one grapheme: what a reader takes for one character.
     Grapheme,
-    /// It goes over blanks, and over the word behind them. Words are parted by blanks (U+0020)
+    /// It goes over blanks, and over the word after them. Words are parted by blanks (U+0020)
     /// alone.
     Word,
     /// It goes over all.

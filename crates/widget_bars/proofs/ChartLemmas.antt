@@ -34,7 +34,7 @@ middle-done n style text row part result at is done =
 pub cut-is : {part : Rect} {c : Cut} {d : Cut} (r : Rect) → part ≡ cut_from c r → c ≡ d → part ≡ cut_from d r
 cut-is r at is = at ∙ ap (λ q. cut_from q r) is
 
--- where a bar stands has cells, and what is behind it has as many along a bar
+-- where a bar stands has cells, and what is after it has as many along a bar
 pub bar-cells : (d : Direction) (n : ℕ) (r : Rect) → 0 < n → n ≤ cells_along d r → 0 < cells_across d r
     → (0 < (cut_from (bar_cut d n) r).width) × (0 < (cut_from (bar_cut d n) r).height)
 bar-cells Vertical n r some le across = (omega arith, across)

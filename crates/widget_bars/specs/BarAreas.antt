@@ -12,7 +12,7 @@ abbrev pub cells_along : Direction → Rect → ℕ
 cells_along Vertical r = r.width
 cells_along Horizontal r = r.height
 
--- where a bar stands that is so many cells wide, and the part behind so many cells
+-- where a bar stands that is so many cells wide, and the part after so many cells
 abbrev pub bar_cut : Direction → ℕ → Cut
 bar_cut Vertical n = First n
 bar_cut Horizontal n = Rows 0 n

@@ -189,7 +189,7 @@ label_columns c = columns_of_labels c.direction c.groups.items
 abbrev pub filled_cells : ℕ → ℕ → ℕ → ℕ
 filled_cells value greatest width = min (value * width / greatest) width
 
--- a cell of a horizontal bar that fills so many: full, or empty behind them
+-- a cell of a horizontal bar that fills so many: full, or empty after them
 abbrev pub long_cell : BarSet → Rect → Style → ℕ → Position → Cell → Cell
 long_cell set r style n p c =
     styled style (with_symbol (if nat_lt (p.x - r.x) n then set.full.now else set.empty.now) c)

@@ -33,7 +33,7 @@ pub(crate) fn bar_cut(direction: Direction, width: u16) -> Cut
     }
 }
 
-// The part behind so many cells.
+// The part after so many cells.
 pub(crate) fn behind_cut(direction: Direction, cells: u16) -> Cut
     ensures { result ≡ behind_cut direction cells }
 {

@@ -127,7 +127,7 @@ fitting-less room (g ∷ gs) =
 
 -- ---- what stands in a column
 
--- nothing, or what is behind a grapheme, or one alone, and then all that it covers is behind one
+-- nothing, or what is after a grapheme, or one alone, and then all that it covers is after one
 pub record IsHead (k x : ℕ) (gs : List (List ℕ)) : Type 0 where
   pub grapheme : List ℕ
   pub there : those_at k x gs ≡ grapheme ∷ []

@@ -37,7 +37,7 @@ pieces-short own x m n style text same fits small short =
 pub never : {P : Type 0} → false ≡ true → P
 never e = cc
 
--- what is behind the cursor takes no memory where nothing is masked
+-- what is after the cursor takes no memory where nothing is masked
 pub short-behind : (input : Input) (f : FieldData) (style : Style) (text after : List ℕ) → input.mask ≡ None
     → style ≡ style_behind input f → text ≡ if_none (field_text f) input.placeholder.now after → after ≡ f.after
     → IsShortIn (style_behind input f) (text_behind input f) → IsShortIn style text

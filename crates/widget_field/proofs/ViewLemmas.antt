@@ -104,7 +104,7 @@ view-whole room behind first start text left kept none all is fits stays =
     let size : length left ≡ 0 = ap length none in
     view-of room behind first start text left kept all is fits stays (λ k lt. absurd (omega (arith, lt, size)))
 
--- what is behind is counted as far as it may matter
+-- what is after is counted as far as it may matter
 pub view-capped : (room behind most : ℕ) (text : List ℕ) (first start : ℕ) → room < most
     → IsView room (min behind most) text first start → IsView room behind text first start
 view-capped room behind most text first start lt view = record {
@@ -143,7 +143,7 @@ view-stays room behind first start n text view within is fits full =
     (λ (lt : c < n). absurd (omega (arith, full c lt, room_left)))
     (λ (ge : n ≤ c). same (omega (arith, le, ge))) (cases_lt c n)) more) view.stays
 
--- what is before a view would not fit beside all that is behind it
+-- what is before a view would not fit beside all that is after it
 pub view-full : (room behind first start k : ℕ) (text : List ℕ) → IsView room behind text first start
     → byte_of (graphemes true text) k < start → room < columns_after (graphemes true text) k + behind
 view-full room behind first start k text view before =

@@ -36,7 +36,7 @@ abbrev pub masked : Option ℕ → List ℕ → List ℕ
 masked None text = text
 masked (Some mask) text = masks mask (graphemes true text)
 
--- what is shown behind the cursor: the text after it, or the placeholder if there is no text
+-- what is shown after the cursor: the text after it, or the placeholder if there is no text
 abbrev pub text_behind : Input → FieldData → List ℕ
 text_behind input f = if_none (field_text f) input.placeholder.now (masked input.mask f.after)
 
@@ -44,8 +44,8 @@ text_behind input f = if_none (field_text f) input.placeholder.now (masked input
 abbrev pub style_behind : Input → FieldData → Style
 style_behind input f = if_none (field_text f) input.placeholder_style new_style
 
--- A text before a cursor and what is behind it in the first row of an area: the text in view, from a byte on;
--- the cursor in the column at the sum of its widths, which lies in the area; and what is behind, as far as the
+-- A text before a cursor and what is after it in the first row of an area: the text in view, from a byte on;
+-- the cursor in the column at the sum of its widths, which lies in the area; and what is after, as far as the
 -- row goes. Each grapheme stands there whole or not at all.
 pub record ShowsParts (text : List ℕ) (first : ℕ) (behind : List ℕ) (style : Style) (r : Rect) (start column : ℕ)
     (old new : BufferData) : Type 0 where

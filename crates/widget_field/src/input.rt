@@ -107,7 +107,7 @@ impl<'a> Input<'a> {
         })
     }
 
-    // What is shown behind the cursor, and in which style, if the text after it is shown so.
+    // What is shown after the cursor, and in which style, if the text after it is shown so.
     fn behind<'f>(&self, field: &TextField, after: &'f str) -> (&'f str, Style)
     where
         'a: 'f,

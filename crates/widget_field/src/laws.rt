@@ -28,7 +28,7 @@ pub fn rendering_keeps_the_text()
 {}
 
 /// Where the view begins is determined by the text, the room, where it began before, and the columns
-/// of what is behind the cursor.
+/// of what is after the cursor.
 pub fn there_is_one_view()
     ensures { (room behind first one other : ℕ) (text : List ℕ)
         → IsView room behind text first one → IsView room behind text first other → one ≡ other }

@@ -40,7 +40,7 @@ pub(crate) fn paint_text(
     Ok(end)
 }
 
-// Renders a text before a cursor, whose view began at a byte, and what is behind the cursor, in the
+// Renders a text before a cursor, whose view began at a byte, and what is after the cursor, in the
 // first row of a part; answers where the view begins, and the cursor's column.
 #[tactic(auto, using(crate::proofs::PaintLemmas::within_steps))]
 pub(crate) fn render_parts(

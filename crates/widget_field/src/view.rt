@@ -24,7 +24,7 @@ fn columns_up_to(text: &str, most: u16) -> u16
 }
 
 // Whether what begins before the former start stays hidden, since there is less room than what is
-// behind takes.
+// after takes.
 fn stays_hidden(at: usize, first: usize, room: u16, behind: u16) -> bool
     ensures hidden { IsTrue result → (at < first) × (room < behind) }
     ensures shown { (first ≤ at) ⊎ ((behind ≤ room) ⊎ IsTrue result) }
@@ -36,7 +36,7 @@ fn stays_hidden(at: usize, first: usize, room: u16, behind: u16) -> bool
 }
 
 // The byte at which the view begins of a text whose cursor stands at its end, if it began at
-// `first` before, and the text behind the cursor takes so many columns: no more is read than what
+// `first` before, and the text after the cursor takes so many columns: no more is read than what
 // is shown, and one grapheme.
 fn start_beside(text: &str, first: usize, room: u16, behind: u16) -> usize
     ensures view { IsView room behind text.now first result }
@@ -61,7 +61,7 @@ fn start_beside(text: &str, first: usize, room: u16, behind: u16) -> usize
 }
 
 // The byte at which the view begins of a text before a cursor in so many columns, if it began at
-// `first` before, and this is the text behind it. One column is the cursor's, at the text's end
+// `first` before, and this is the text after it. One column is the cursor's, at the text's end
 // too.
 #[tactic(auto, using(crate::proofs::ViewLemmas::view_rules))]
 pub(crate) fn view_start(text: &str, first: usize, width: u16, behind: &str) -> usize

@@ -44,7 +44,7 @@ block_of part own = record {
 }
 
 -- The row of a grid that is a row of the screen, on which the grid's first row is another one; the first row of
--- a block, if it lies above that, and the one behind its last one, if it lies below.
+-- a block, if it lies above that, and the one after its last one, if it lies below.
 abbrev pub row_among : ℕ → ℕ → Block → ℕ
 row_among y first k = min (max (y - first) k.top) k.bottom
 

@@ -17,7 +17,7 @@ use ratatui_core::style::Style;
 use ratatui_core::symbols::bar;
 use std::alloc::{AllocError, Global};
 
-// Some columns of some rows of a grid; `right` and `bottom` are behind the last ones.
+// Some columns of some rows of a grid; `right` and `bottom` are after the last ones.
 #[derive(Clone, Copy)]
 pub(crate) struct Block {
     left: usize,
@@ -174,7 +174,7 @@ pub fn fill(symbol: &str, area: Rect, buf: &mut Buffer) -> Result<(), AllocError
 }
 
 // The row of a grid that is row `y` of the screen, on which the grid's first row is row `first`; the
-// first row of a block, if it lies above that, and the one behind its last one, if it lies below.
+// first row of a block, if it lies above that, and the one after its last one, if it lies below.
 fn row_among(y: usize, first: u16, block: Block) -> usize
     ensures { result ≡ row_among y first block }
 {
