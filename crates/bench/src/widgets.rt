@@ -1,6 +1,6 @@
 //! Workloads on widgets.
 use crate::texts::sum;
-use crate::{Done, Size};
+use crate::{Done, Size, plots};
 use ratatui_core::buffer::Buffer;
 use ratatui_core::layout::Rect;
 use ratatui_core::style::{Color, Style};
@@ -87,6 +87,6 @@ pub fn run(alloc: Global, name: &str, size: Size) -> Done {
         "paragraph_long" => paragraphs(alloc, size, long_line(alloc)?),
         "list" => lists(alloc, size, 100_000),
         "list_1000" => lists(alloc, size, 1_000),
-        _ => Ok(None),
+        _ => plots::run(alloc, name, size),
     }
 }
