@@ -1,5 +1,6 @@
 -- Folders are counted before it is asked about them.
-use Rattle.std.proofs.Common.{◌≡◌, ◌⊎◌, inl, inr, ℕ, zero, suc, ◌-◌, ◌==◌, ◌&&◌, Bool, true, false, not, nat_lt, List, [], length, Option, Some, None}
+use Rattle.std.proofs.Common.{◌≡◌, ◌⊎◌, inl, inr, ℕ, zero, suc, ◌-◌, ◌==◌, ◌&&◌, Bool, true, false, not, nat_lt, List, [], length}
+use Rattle.std.proofs.Common.{Option, Some, None}
 use Rattle.std.proofs.Common.{if◌then◌else◌, refl, sym, ap, ◌∙◌, arith}
 use Rattle.std.specs.Prelude.{is_some, slice_get}
 use Rattle.std.specs.Option.{option_map_or}
@@ -20,7 +21,8 @@ use Rattle.files.specs.declared.browser.Browser.{Browser}
 use Rattle.files.specs.declared.browser.Mode.{Mode}
 use Rattle.files.specs.declared.browser.Mode.TheVariants.{Looking, Listing, Entering, Leaving, Trashing, Removing}
 use Rattle.files.specs.declared.browser.Mode.TheVariants.{Renaming, Making, Over, Pasting, Sorting, Seeking}
-use Rattle.files.specs.declared.browser.Mode.TheVariants.{Going, Visiting, Locating, Completing, CountingToTrash, CountingToRemove}
+use Rattle.files.specs.declared.browser.Mode.TheVariants.{Going, Visiting, Locating, Completing}
+use Rattle.files.specs.declared.browser.Mode.TheVariants.{CountingToTrash, CountingToRemove}
 use Rattle.files.specs.declared.browser.Mode.TheVariants.{Returning, Undoing, Helping, Chosen}
 use Rattle.files.specs.declared.browser.Note.TheVariants.{Narrow}
 use Rattle.files.specs.declared.keys.Wish.{Wish}
@@ -43,9 +45,11 @@ use Rattle.files.specs.Marks.{is_selected_marked, first_mark_place}
 use Rattle.files.specs.Counting.{selects_folder, counting_for, asked_mode, asking_about, row_count_told, entries_told, count_told}
 use Rattle.files.specs.Moves.{granted, wished, confirmed, typed_into, removal_answered, sought_into, gone_by, path_into, going_to}
 use Rattle.files.specs.Moves.{order_taken, help_left, list_rows, browsed, browser_at_told_size, outcome_told, browsed_after}
-use Rattle.files.specs.Moves.{found_selected, next_found, previous_found, first_mark_selected, typing_in, typing_name, is_completing}
+use Rattle.files.specs.Moves.{found_selected, next_found, previous_found, first_mark_selected, typing_in, typing_name}
+use Rattle.files.specs.Moves.{is_completing}
 use Rattle.files.specs.Moves.{leads_to_leaf, failed, counted_in, mode_following, folder_shown, finished, path_completed}
-use Rattle.files.specs.Moves.{is_folder_selected, entered, is_entry_row, clicked, selected_at, seeking_typed, typed_sought, found_note}
+use Rattle.files.specs.Moves.{is_folder_selected, entered, is_entry_row, clicked, selected_at, seeking_typed, typed_sought}
+use Rattle.files.specs.Moves.{found_note}
 use Rattle.files.specs.Doing.{Counted, TellsCount, DoesIn, DoesAsked}
 use Rattle.files.proofs.LawLemmas.{counted-keeps}
 use Rattle.files.specs.Laws.{is_removal, is_counting, AsksOfFolder, SelectsSame, AskedBefore, JustCounted, WasListed}
@@ -55,7 +59,8 @@ use Rattle.files.specs.Laws.{is_removal, is_counting, AsksOfFolder, SelectsSame,
 abbrev Asks : Browser → Browser → Type 0
 Asks b c = AsksOfFolder c → AskedBefore b c
 
-asks-same : (b c : Browser) → c.mode ≡ b.mode → c.folder ≡ b.folder → c.list ≡ b.list → c.selected ≡ b.selected → c.count ≡ b.count → Asks b c
+asks-same : (b c : Browser) → c.mode ≡ b.mode → c.folder ≡ b.folder → c.list ≡ b.list → c.selected ≡ b.selected
+    → c.count ≡ b.count → Asks b c
 asks-same b c mode folder list selected count = λ asks.
     record { mode = mode; entry = record { folder = folder; list = list; selected = selected }; count = count }
 
@@ -67,7 +72,8 @@ asks-if true b c d one two = one
 asks-if false b c d one two = two
 
 -- a note and two flags change no question
-noted-asks : (b c d : Browser) → d.mode ≡ c.mode → d.folder ≡ c.folder → d.list ≡ c.list → d.selected ≡ c.selected → d.count ≡ c.count
+noted-asks : (b c d : Browser) → d.mode ≡ c.mode → d.folder ≡ c.folder → d.list ≡ c.list → d.selected ≡ c.selected
+    → d.count ≡ c.count
     → selects_folder d ≡ selects_folder c → Asks b c → Asks b d
 noted-asks b c d mode folder list selected count same k = λ asks.
     let was = k (record { removal = ap is_removal (sym mode) ∙ asks.removal; folder = sym same ∙ asks.folder }) in
@@ -122,17 +128,23 @@ granted-none wish.WheelDown b at = asks-none b _ Looking at refl
 granted-none wish.WheelUp b at = asks-none b _ Looking at refl
 granted-none (wish.Click row) b at = clicked-none row b at
 granted-none wish.Enter b at = entered-none b at
-granted-none wish.Leave b at = asks-if (bytes_eq b.folder b.base) b b _ (asks-none b _ Looking at refl) (asks-none b _ Leaving refl refl)
-granted-none wish.Base b at = asks-if (bytes_eq b.folder b.base) b b _ (asks-none b _ Looking at refl) (asks-none b _ Returning refl refl)
-granted-none wish.Undo b at = asks-if (is_some b.last_move) b _ b (asks-none b _ Undoing refl refl) (asks-none b _ Looking at refl)
+granted-none wish.Leave b at =
+    asks-if (bytes_eq b.folder b.base) b b _ (asks-none b _ Looking at refl) (asks-none b _ Leaving refl refl)
+granted-none wish.Base b at =
+    asks-if (bytes_eq b.folder b.base) b b _ (asks-none b _ Looking at refl) (asks-none b _ Returning refl refl)
+granted-none wish.Undo b at =
+    asks-if (is_some b.last_move) b _ b (asks-none b _ Undoing refl refl) (asks-none b _ Looking at refl)
 granted-none wish.Help b at = asks-none b _ Helping refl refl
 granted-none wish.Choose b at = asks-none b _ Chosen refl refl
 granted-none wish.Hidden b at = asks-none b _ Listing refl refl
-granted-none wish.Rename b at = asks-if (length b.list == 0) b b _ (asks-none b _ Looking at refl) (asks-none b _ Renaming refl refl)
+granted-none wish.Rename b at =
+    asks-if (length b.list == 0) b b _ (asks-none b _ Looking at refl) (asks-none b _ Renaming refl refl)
 granted-none wish.Make b at = asks-none b _ Making refl refl
 granted-none wish.Trash b at = asks-if (is_some b.trash && nat_lt 0 (length b.list)) b _ b
     (about-none b (first_mark_selected b) Trashing refl) (asks-none b _ Looking at refl)
-granted-none wish.Remove b at = asks-if (nat_lt 0 (length b.list)) b _ b (about-none b (first_mark_selected b) Removing refl) (asks-none b _ Looking at refl)
+granted-none wish.Remove b at =
+    asks-if (nat_lt 0 (length b.list)) b _ b (about-none b (first_mark_selected b) Removing refl)
+    (asks-none b _ Looking at refl)
 granted-none wish.Sort b at = asks-none b _ Sorting refl refl
 granted-none wish.Seek b at = asks-none b _ Seeking refl refl
 granted-none wish.Go b at = asks-none b _ Going refl refl
@@ -262,7 +274,8 @@ following-asks Helping b c = asks-none b _ Looking refl refl
 following-asks Over b c = asks-none b _ Looking refl refl
 following-asks Chosen b c = asks-none b _ Looking refl refl
 
-counts : (n : ℕ) (b c : Browser) → is_counting b.mode ≡ true → c.folder ≡ b.folder → c.list ≡ b.list → c.selected ≡ b.selected → n ≡ c.count
+counts : (n : ℕ) (b c : Browser) → is_counting b.mode ≡ true → c.folder ≡ b.folder → c.list ≡ b.list
+    → c.selected ≡ b.selected → n ≡ c.count
     → JustCounted b (message.Answer (outcome.Counted n)) c
 counts n b c counting folder list selected count = record {
   counting = counting;
@@ -316,7 +329,8 @@ unfolding browsed_after
 asked-counted b (message.Event e) asks = inl (told-asks (is_input e) e b asks)
 asked-counted b (message.Tick passed) asks = inl (asks-same b _ refl refl refl refl refl asks)
 asked-counted b (message.Answer (outcome.Listed l)) asks =
-    inl (noted-asks b (record (folder_shown l b) { mode = mode_following b.follows (folder_shown l b) }) _ refl refl refl refl refl refl
+    inl (noted-asks b (record (folder_shown l b) { mode = mode_following b.follows (folder_shown l b) }) _
+    refl refl refl refl refl refl
     (following-asks b.follows b (folder_shown l b)) asks)
 asked-counted b (message.Answer (outcome.Glanced g)) asks = inl (asks-same b _ refl refl refl refl refl asks)
 asked-counted b (message.Answer outcome.Done) asks = inl (asks-none b _ Listing refl refl asks)
@@ -333,7 +347,8 @@ failed-counted : (n : ℕ) (why : Failure) → outcome.Counted n ≡ outcome.Fai
 failed-counted n why is = absurd (cc)
 
 listed-by : {P : Type 0} (does : P → Command → Answer → P → Type 0) (b : Browser) (files files' : P) (n : ℕ) (folder : List ℕ)
-    → named_path b (selected_text b) ≡ Some folder → (a : Answer) → does files (ListFolder folder) a files' → TellsCount a (outcome.Counted n)
+    → named_path b (selected_text b) ≡ Some folder → (a : Answer) → does files (ListFolder folder) a files'
+    → TellsCount a (outcome.Counted n)
     → WasListed does b files n files'
 listed-by does b files files' n folder is (answer.Listed entries unnamed) done tells =
     record { folder = folder; is = is; entries = entries; unnamed = unnamed; done = done; count = cc }

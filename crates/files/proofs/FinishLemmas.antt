@@ -5,7 +5,8 @@ use Rattle.files.specs.declared.browser.Browser.{Browser}
 use Rattle.files.specs.declared.browser.Mode.{Mode}
 use Rattle.files.specs.declared.browser.Mode.TheVariants.{Looking, Listing, Entering, Leaving, Trashing, Removing}
 use Rattle.files.specs.declared.browser.Mode.TheVariants.{Renaming, Making, Over, Pasting, Sorting, Seeking}
-use Rattle.files.specs.declared.browser.Mode.TheVariants.{Going, Visiting, Locating, Completing, CountingToTrash, CountingToRemove}
+use Rattle.files.specs.declared.browser.Mode.TheVariants.{Going, Visiting, Locating, Completing}
+use Rattle.files.specs.declared.browser.Mode.TheVariants.{CountingToTrash, CountingToRemove}
 use Rattle.files.specs.declared.browser.Mode.TheVariants.{Returning, Undoing, Helping, Chosen}
 use Rattle.files.specs.declared.undo.Moved.{Moved}
 use Rattle.files.specs.Marks.{marks_but, first_mark_place}

@@ -18,7 +18,8 @@ use Rattle.files.specs.declared.browser.Browser.{Browser}
 use Rattle.files.specs.declared.browser.Mode.{Mode}
 use Rattle.files.specs.declared.browser.Mode.TheVariants.{Looking, Listing, Entering, Leaving, Trashing, Removing}
 use Rattle.files.specs.declared.browser.Mode.TheVariants.{Renaming, Making, Over, Pasting, Sorting, Seeking}
-use Rattle.files.specs.declared.browser.Mode.TheVariants.{Going, Visiting, Locating, Completing, CountingToTrash, CountingToRemove}
+use Rattle.files.specs.declared.browser.Mode.TheVariants.{Going, Visiting, Locating, Completing}
+use Rattle.files.specs.declared.browser.Mode.TheVariants.{CountingToTrash, CountingToRemove}
 use Rattle.files.specs.declared.browser.Mode.TheVariants.{Returning, Undoing, Helping, Chosen}
 use Rattle.files.specs.declared.browser.Note.TheVariants.{Narrow}
 use Rattle.files.specs.declared.keys.Wish.{Wish}
@@ -214,7 +215,8 @@ granted-keeps wish.Hidden b = keeps-same b _ refl refl refl refl refl refl refl 
 granted-keeps wish.Rename b = keeps-if (length b.list == 0) b b _ (keeps-it b) (keeps-typing Renaming _ b)
 granted-keeps wish.Make b = keeps-typing Making _ b
 granted-keeps wish.Trash b =
-    keeps-if (is_some b.trash && nat_lt 0 (length b.list)) b _ b (keeps-first (asked_mode Trashing (first_mark_selected b)) (first_mark_place b) b) (keeps-it b)
+    keeps-if (is_some b.trash && nat_lt 0 (length b.list)) b _ b
+    (keeps-first (asked_mode Trashing (first_mark_selected b)) (first_mark_place b) b) (keeps-it b)
 granted-keeps wish.Sort b = keeps-mode Sorting b
 granted-keeps wish.Seek b = keeps-typing Seeking _ b
 granted-keeps wish.Go b = keeps-typing Going _ b
@@ -226,7 +228,8 @@ granted-keeps wish.NoteCopy b = keeps-noting (all_taken false b) b
 granted-keeps wish.NoteMove b = keeps-noting (all_taken true b) b
 granted-keeps wish.Paste b = keeps-pasting b.noted (length b.more) b
 granted-keeps wish.Remove b =
-    keeps-if (nat_lt 0 (length b.list)) b _ b (keeps-first (asked_mode Removing (first_mark_selected b)) (first_mark_place b) b) (keeps-it b)
+    keeps-if (nat_lt 0 (length b.list)) b _ b
+    (keeps-first (asked_mode Removing (first_mark_selected b)) (first_mark_place b) b) (keeps-it b)
 granted-keeps wish.Quit b = keeps-mode Over b
 
 sure-if : (test : Bool) (b c d : Browser) → c.is_sure ≡ b.is_sure → d.is_sure ≡ b.is_sure → (if test then c else d).is_sure ≡ b.is_sure

@@ -62,7 +62,7 @@ shown-by false false c = refl
 low-high : (c d : ℕ) (r t : List ℕ) → escaped_low c ++ r ≡ escaped_high d ++ t → ⊥
 low-high c d r t same = let x : ◌≡◌ {A = ℕ} 120 117 = cc in omega (arith, x)
 
-is-below : (c n : ℕ) → nat_lt c n ≡ true → c < n
+pub is-below : (c n : ℕ) → nat_lt c n ≡ true → c < n
 is-below c n is = grind (arith, nat_tests)
 
 is-small : (c : ℕ) → scalar c ≡ true → c < 16777216

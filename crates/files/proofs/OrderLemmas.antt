@@ -13,7 +13,9 @@ use Rattle.files.specs.declared.order.SortBy.TheVariants.{Name, Size, Date}
 use Rattle.files.specs.Orders.{compare_names, compare_by, turned_if, compare_rows}
 
 names-total : IsTotalOrder compare_names
-names-total = then_total (on_total (λ (row : Row). row.key) nat_list_cmp_total) (on_total (λ (row : Row). string_bytes row.name) nat_list_cmp_total)
+names-total =
+    then_total (on_total (λ (row : Row). row.key) nat_list_cmp_total)
+    (on_total (λ (row : Row). string_bytes row.name) nat_list_cmp_total)
 
 by-total : (by : SortBy) → IsTotalOrder (compare_by by)
 by-total Name = names-total

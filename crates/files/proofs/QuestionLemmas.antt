@@ -12,7 +12,8 @@ use Rattle.files.specs.declared.browser.Browser.{Browser}
 use Rattle.files.specs.declared.browser.Mode.{Mode}
 use Rattle.files.specs.declared.browser.Mode.TheVariants.{Looking, Listing, Entering, Leaving, Trashing, Removing}
 use Rattle.files.specs.declared.browser.Mode.TheVariants.{Renaming, Making, Over, Pasting, Sorting, Seeking}
-use Rattle.files.specs.declared.browser.Mode.TheVariants.{Going, Visiting, Locating, Completing, CountingToTrash, CountingToRemove}
+use Rattle.files.specs.declared.browser.Mode.TheVariants.{Going, Visiting, Locating, Completing}
+use Rattle.files.specs.declared.browser.Mode.TheVariants.{CountingToTrash, CountingToRemove}
 use Rattle.files.specs.declared.browser.Mode.TheVariants.{Returning, Undoing, Helping, Chosen}
 use Rattle.files.specs.Names.{shown_name}
 use Rattle.files.specs.Texts.{shown_row, selected_text, selected_shown, status_in, folder_typed}
@@ -109,11 +110,13 @@ file-not : (one : Bool) (a path : List ℕ) → option_map MakeFile (if one then
 file-not true a path is = absurd (cc)
 file-not false a path is = absurd (cc)
 
-file-no-folder : (one : Bool) (a path : List ℕ) → option_map MakeFile (if one then Some a else None) ≡ Some (RemoveFolder path) → ⊥
+file-no-folder : (one : Bool) (a path : List ℕ)
+    → option_map MakeFile (if one then Some a else None) ≡ Some (RemoveFolder path) → ⊥
 file-no-folder true a path is = absurd (cc)
 file-no-folder false a path is = absurd (cc)
 
-file-no-rename : (one : Bool) (a from to : List ℕ) → option_map MakeFile (if one then Some a else None) ≡ Some (Rename from to) → ⊥
+file-no-rename : (one : Bool) (a from to : List ℕ)
+    → option_map MakeFile (if one then Some a else None) ≡ Some (Rename from to) → ⊥
 file-no-rename true a from to is = absurd (cc)
 file-no-rename false a from to is = absurd (cc)
 
@@ -126,11 +129,13 @@ made-not : (b : Browser) (text : List ℕ) (o : Option (List ℕ)) (path : List 
 made-not b text (Some name) path is = make-not (is_name name) _ path is
 made-not b text None path is = file-not (is_name text) _ path is
 
-made-no-folder : (b : Browser) (text : List ℕ) (o : Option (List ℕ)) (path : List ℕ) → make_by b text o ≡ Some (RemoveFolder path) → ⊥
+made-no-folder : (b : Browser) (text : List ℕ) (o : Option (List ℕ)) (path : List ℕ)
+    → make_by b text o ≡ Some (RemoveFolder path) → ⊥
 made-no-folder b text (Some name) path is = make-no-folder (is_name name) _ path is
 made-no-folder b text None path is = file-no-folder (is_name text) _ path is
 
-made-no-rename : (b : Browser) (text : List ℕ) (o : Option (List ℕ)) (from to : List ℕ) → make_by b text o ≡ Some (Rename from to) → ⊥
+made-no-rename : (b : Browser) (text : List ℕ) (o : Option (List ℕ)) (from to : List ℕ)
+    → make_by b text o ≡ Some (Rename from to) → ⊥
 made-no-rename b text (Some name) from to is = make-no-rename (is_name name) _ from to is
 made-no-rename b text None from to is = file-no-rename (is_name text) _ from to is
 
@@ -139,7 +144,8 @@ file-made : (one : Bool) (a path : List ℕ) → option_map MakeFile (if one the
 file-made true a path is = cc
 file-made false a path is = absurd (cc)
 
-folder-made : (one : Bool) (a path : List ℕ) → option_map MakeFolder (if one then Some a else None) ≡ Some (MakeFolder path) → path ≡ a
+folder-made : (one : Bool) (a path : List ℕ)
+    → option_map MakeFolder (if one then Some a else None) ≡ Some (MakeFolder path) → path ≡ a
 folder-made true a path is = cc
 folder-made false a path is = absurd (cc)
 
@@ -281,7 +287,8 @@ back-asks b moved from to is one two =
     ∙ ap (λ p. codes "move \"" ++ place_shown from ++ codes "\" back to \"" ++ place_shown p ++ codes "\"? y/n") two
 
 asks-of : (b : Browser) (row : Row) → slice_get b.list b.selected ≡ Some row
-    → status_in Removing b ≡ codes "remove \"" ++ shown_row row ++ codes "\"" ++ row_count_told row b.count ++ codes " for good? y/n"
+    → status_in Removing b
+    ≡ codes "remove \"" ++ shown_row row ++ codes "\"" ++ row_count_told row b.count ++ codes " for good? y/n"
 asks-of b row is =
     ap (λ shown. codes "remove \"" ++ shown ++ codes "\"" ++ count_told b ++ codes " for good? y/n") (shown-of b row is)
     ∙ ap (λ told. codes "remove \"" ++ shown_row row ++ codes "\"" ++ told ++ codes " for good? y/n") (count-of b row is)
@@ -440,6 +447,9 @@ discard-by : (named : Bool) (x d : Discard) → (if named then Some x else None)
 discard-by true x d is = (refl, cc)
 discard-by false x d is = absurd (cc)
 
+abbrev asks-move : List ℕ → List ℕ → List ℕ → List ℕ
+asks-move shown told to = codes "move \"" ++ shown ++ codes "\"" ++ told ++ codes " to \"" ++ to ++ codes "\"? y/n"
+
 pub asks-trash : (b : Browser) (d : Discard) → b.mode ≡ Trashing → discard_in b ≡ Some d → AsksToTrash b d
 asks-trash b d at is =
     let it = trash-of b.trash b d is in
@@ -450,14 +460,10 @@ asks-trash b d at is =
       row = entry.0;
       from_is = ap (λ (x : Discard). x.from) made.1 ∙ ap (path_in b.folder) (text-of b entry.0 entry.1);
       asks = ap (λ m. status_in m b) at
-          ∙ ap (λ shown. codes "move \"" ++ shown ++ codes "\"" ++ count_told b ++ codes " to \"" ++ trash_shown b.trash ++ codes "\"? y/n")
-          (shown-of b entry.0 entry.1)
-          ∙ ap (λ told. codes "move \"" ++ shown_row entry.0 ++ codes "\"" ++ told ++ codes " to \"" ++ trash_shown b.trash ++ codes "\"? y/n")
-          (count-of b entry.0 entry.1)
-          ∙ ap (λ t. codes "move \"" ++ shown_row entry.0 ++ codes "\"" ++ row_count_told entry.0 b.count ++ codes " to \"" ++ trash_shown t
-          ++ codes "\"? y/n") it.1
-          ∙ ap (λ t. codes "move \"" ++ shown_row entry.0 ++ codes "\"" ++ row_count_told entry.0 b.count ++ codes " to \""
-          ++ (codes "/" ++ shown_name t) ++ codes "\"? y/n") (sym place);
+          ∙ ap (λ shown. asks-move shown (count_told b) (trash_shown b.trash)) (shown-of b entry.0 entry.1)
+          ∙ ap (λ told. asks-move (shown_row entry.0) told (trash_shown b.trash)) (count-of b entry.0 entry.1)
+          ∙ ap (λ t. asks-move (shown_row entry.0) (row_count_told entry.0 b.count) (trash_shown t)) it.1
+          ∙ ap (λ t. asks-move (shown_row entry.0) (row_count_told entry.0 b.count) (codes "/" ++ shown_name t)) (sym place);
     }
 
 -- the two questions begin with other letters

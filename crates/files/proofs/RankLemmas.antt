@@ -11,14 +11,12 @@ use Rattle.std.proofs.lemmas.{Bool.Decides.nat_tests}
 use Rattle.std.proofs.lemmas.Nat.{mul-le, div-add-mod', mod_below}
 use Rattle.std.proofs.lemmas.Cmp.{ranked, nat_list_cmp_total, nat_cmp_total, tied_itself}
 use Rattle.files.specs.Ranks.{in_bytes, more_bytes, key_bytes, worth, key_rank}
+use Rattle.files.proofs.NameLemmas.{is-below}
 
 -- ---- lists in order
 
 abbrev compared : List ℕ → List ℕ → Ordering
 compared = slice_cmp nat_cmp
-
-is-below : (a b : ℕ) → nat_lt a b ≡ true → a < b
-is-below a b h = grind (arith, nat_tests)
 
 not-below : (a b : ℕ) → nat_lt a b ≡ false → b ≤ a
 not-below a b h = grind (arith, nat_tests)

@@ -10,7 +10,8 @@ use Rattle.files.specs.declared.browser.Browser.{Browser}
 use Rattle.files.specs.declared.browser.Mode.{Mode}
 use Rattle.files.specs.declared.browser.Mode.TheVariants.{Looking, Listing, Entering, Leaving, Trashing, Removing}
 use Rattle.files.specs.declared.browser.Mode.TheVariants.{Renaming, Making, Over, Pasting, Sorting, Seeking}
-use Rattle.files.specs.declared.browser.Mode.TheVariants.{Going, Visiting, Locating, Completing, CountingToTrash, CountingToRemove}
+use Rattle.files.specs.declared.browser.Mode.TheVariants.{Going, Visiting, Locating, Completing}
+use Rattle.files.specs.declared.browser.Mode.TheVariants.{CountingToTrash, CountingToRemove}
 use Rattle.files.specs.declared.browser.Mode.TheVariants.{Returning, Undoing, Helping, Chosen}
 use Rattle.files.specs.declared.trash.Discard.{Discard}
 use Rattle.text_field.specs.Field.{FieldData}
@@ -36,8 +37,8 @@ appended-one (Ok v) new old one two same last = last ∙ ap (λ t. old ++ t) sam
 appended-one (Err e) new old one two same last = tt
 
 -- what stands before a name that is typed for something new
-pub prompt-other : (mode : Mode) (typed : FieldData) (b : Browser) → (mode ≡ Renaming → ⊥) → (mode ≡ Pasting → ⊥) → (mode ≡ Seeking → ⊥)
-    → (mode ≡ Going → ⊥) → prompt mode typed b ≡ make_prompt typed
+pub prompt-other : (mode : Mode) (typed : FieldData) (b : Browser) → (mode ≡ Renaming → ⊥) → (mode ≡ Pasting → ⊥)
+    → (mode ≡ Seeking → ⊥) → (mode ≡ Going → ⊥) → prompt mode typed b ≡ make_prompt typed
 prompt-other Looking typed b one two three four = refl
 prompt-other Listing typed b one two three four = refl
 prompt-other Entering typed b one two three four = refl

@@ -1,11 +1,13 @@
 -- Folders are counted before it is asked whether they are to be removed.
-use Rattle.std.specs.Prelude.{ℕ, Bool, false, not, ◌+◌, ◌-◌, ◌^◌, ◌==◌, min, if◌then◌else◌, List, [], ◌++◌, length, codes, slice_get}
+use Rattle.std.specs.Prelude.{ℕ, Bool, false, not, ◌+◌, ◌-◌, ◌^◌, ◌==◌, min, if◌then◌else◌, List, [], ◌++◌}
+use Rattle.std.specs.Prelude.{length, codes, slice_get}
 use Rattle.std.specs.{Option.option_map_or, Fmt.decimal}
 use Rattle.ratatui_files.specs.declared.answer.Info.{Info}
 use Rattle.files.specs.declared.list.Row.{Row}
 use Rattle.files.specs.declared.browser.Browser.{Browser}
 use Rattle.files.specs.declared.browser.Mode.{Mode}
-use Rattle.files.specs.declared.browser.Mode.TheVariants.{Trashing, Removing, CountingToTrash, CountingToRemove}
+use Rattle.files.specs.declared.browser.Mode.TheVariants.{Trashing, Removing}
+use Rattle.files.specs.declared.browser.Mode.TheVariants.{CountingToTrash, CountingToRemove}
 
 -- a folder is selected
 abbrev pub selects_folder : Browser → Bool

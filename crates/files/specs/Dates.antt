@@ -10,8 +10,8 @@ use Rattle.jiff_core.specs.declared.civil.time.Time.{Time}
 abbrev pub last_nanos : ℕ
 last_nanos = 253402300799999999999
 
--- the date and the time of day so many nanoseconds after 1970, where no zone's time is counted; only after the year
--- 9999 there is none
+-- the date and the time of day so many nanoseconds after 1970, where no zone's time is counted; only after
+-- the year 9999 there is none
 abbrev pub IsDateAfter : ℕ → Option DateTime → Type 0
 IsDateAfter nanos (Some date) = civil_nanos date ≡ pos nanos
 IsDateAfter nanos None = last_nanos < nanos
@@ -31,7 +31,8 @@ day_text month day = codes "-" ++ two_digits month ++ codes "-" ++ two_digits da
 abbrev pub date_text : Date → List ℕ
 date_text d = four_digits (unsigned_abs d.year) ++ day_text d.month d.day
 
--- a time of day up to its minute, as `23:59`, and whole, as `23:59:05`, also after the letter that leads to it
+-- a time of day up to its minute, as `23:59`, and whole, as `23:59:05`, also after the letter that leads to
+-- it
 abbrev pub minute_text : Time → List ℕ
 minute_text t = two_digits t.hour ++ codes ":" ++ two_digits t.minute
 

@@ -11,7 +11,8 @@ right_shown bits letter = if bits % 2 == 1 then letter else codes "-"
 
 -- whether something may be read, written and run: three bits
 abbrev pub three_rights : ℕ → List ℕ
-three_rights bits = right_shown (bits / 4) (codes "r") ++ right_shown (bits / 2) (codes "w") ++ right_shown bits (codes "x")
+three_rights bits =
+    right_shown (bits / 4) (codes "r") ++ right_shown (bits / 2) (codes "w") ++ right_shown bits (codes "x")
 
 -- who may do what, as `rwxr-xr-x`: the owner, the group, and all others
 abbrev pub mode_text : ℕ → List ℕ

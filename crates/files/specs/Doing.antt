@@ -12,7 +12,8 @@ use Rattle.files.specs.declared.list.Outcome.TheVariants as outcome
 use Rattle.files.specs.declared.browser.Browser.{Browser}
 use Rattle.files.specs.declared.browser.Mode.{Mode}
 use Rattle.files.specs.declared.browser.Mode.TheVariants.{Looking, Listing, Entering, Leaving, Returning, Trashing}
-use Rattle.files.specs.declared.browser.Mode.TheVariants.{Visiting, Locating, Completing, CountingToTrash, CountingToRemove}
+use Rattle.files.specs.declared.browser.Mode.TheVariants.{Visiting, Locating, Completing}
+use Rattle.files.specs.declared.browser.Mode.TheVariants.{CountingToTrash, CountingToRemove}
 use Rattle.files.specs.declared.hands.Wanted.{Wanted}
 use Rattle.ratatui_files.specs.declared.answer.Info.{Info}
 use Rattle.files.specs.Texts.{selected_text, sought_text}

@@ -42,14 +42,17 @@ pub record ListsSame (b c : Browser) : Type 0 where
   pub list : c.list ≡ b.list
   pub unnamed : c.unnamed ≡ b.unnamed
 
--- the status asks whether the entry of a path is to be removed for good, and tells how many entries a folder has
+-- the status asks whether the entry of a path is to be removed for good, and tells of a folder how many
+-- entries it has
 pub record AsksToRemove (b : Browser) (path : List ℕ) : Type 0 where
   pub row : Row
   pub path_is : path ≡ path_in b.folder (string_bytes row.name)
   pub asks : status_told b
-      ≡ codes "remove \"" ++ shown_row row ++ codes "\"" ++ row_count_told row b.count ++ codes " for good? y/n"
+      ≡ codes "remove \"" ++ shown_row row ++ codes "\"" ++ row_count_told row b.count
+      ++ codes " for good? y/n"
 
--- the status asks whether an entry is to be moved to the trash, names both, and tells how many entries a folder has
+-- the status asks whether an entry is to be moved to the trash, names both, and tells of a folder how many
+-- entries it has
 pub record AsksToTrash (b : Browser) (d : Discard) : Type 0 where
   pub row : Row
   pub from_is : d.from ≡ path_in b.folder (string_bytes row.name)
@@ -65,8 +68,8 @@ pub record AsksToRename (b : Browser) (from to : List ℕ) : Type 0 where
   pub to_is : to ≡ path_in b.folder name
   pub asks : status_told b ≡ (codes "rename \"" ++ shown_row row ++ codes "\" to \"") ++ shown_name name ++ codes "\""
 
--- the status asks for the name of what is to be made at a path: what is typed, and of a folder what stands before the
--- slash at its end
+-- the status asks for the name of what is to be made at a path: what is typed, and of a folder what stands
+-- before the slash at its end
 pub record AsksToMake (beginning : List ℕ) (b : Browser) (path : List ℕ) : Type 0 where
   pub path_is : path ≡ path_in b.folder (name_typed (field_text b.typed))
   pub asks : status_told b ≡ beginning ++ shown_name (field_text b.typed) ++ codes "\""
@@ -185,8 +188,8 @@ pub record JustCounted (b : Browser) (m : Message Outcome) (c : Browser) : Type 
   pub count : m ≡ message.Answer (outcome.Counted c.count)
 
 -- just the folder that is selected was listed, and so many entries were answered
-pub record WasListed {P : Type 0} (does : P → Command → Answer → P → Type 0) (b : Browser) (files : P) (n : ℕ) (files' : P)
-    : Type 0 where
+pub record WasListed {P : Type 0} (does : P → Command → Answer → P → Type 0) (b : Browser) (files : P) (n : ℕ)
+    (files' : P) : Type 0 where
   pub folder : List ℕ
   pub is : named_path b (selected_text b) ≡ Some folder
   pub entries : List Info

@@ -19,10 +19,12 @@ use Rattle.files.specs.declared.browser.Mode.{Mode}
 use Rattle.files.specs.declared.browser.Mode.TheVariants.{Looking, Listing, Entering, Leaving, Trashing, Removing}
 use Rattle.files.specs.declared.browser.Mode.TheVariants.{Renaming, Making, Pasting, Sorting, Seeking, Over}
 use Rattle.files.specs.declared.browser.Mode.TheVariants.{Returning, Undoing, Helping, Chosen}
-use Rattle.files.specs.declared.browser.Mode.TheVariants.{Going, Visiting, Locating, Completing, CountingToTrash, CountingToRemove}
+use Rattle.files.specs.declared.browser.Mode.TheVariants.{Going, Visiting, Locating, Completing}
+use Rattle.files.specs.declared.browser.Mode.TheVariants.{CountingToTrash, CountingToRemove}
 use Rattle.files.specs.declared.browser.Note.{Note}
 use Rattle.files.specs.declared.browser.Note.TheVariants.{Place, Failed, Narrow, NoTrash, Missing}
-use Rattle.files.specs.declared.browser.Note.TheVariants.{Noted as TellsNoted, NothingNoted, NothingMoved, Outside, NothingAbove}
+use Rattle.files.specs.declared.browser.Note.TheVariants.{Noted as TellsNoted, NothingNoted, NothingMoved}
+use Rattle.files.specs.declared.browser.Note.TheVariants.{Outside, NothingAbove}
 use Rattle.files.specs.declared.notes.Noted.{Noted}
 use Rattle.files.specs.declared.order.Order.{Order}
 use Rattle.files.specs.declared.order.SortBy.TheVariants.{Name}
@@ -138,11 +140,11 @@ abbrev pub is_folder_selected : Browser → Bool
 is_folder_selected b = option_map_or may_enter (slice_get b.list b.selected) false
 
 -- the cursor stands after a dot that isn't the first character
-abbrev pub is_behind_dot : List ℕ → Bool
-is_behind_dot before = nat_lt 1 (length before) && (get_or before (length before - 1) 0 == byte ".")
+abbrev pub is_after_dot : List ℕ → Bool
+is_after_dot before = nat_lt 1 (length before) && (get_or before (length before - 1) 0 == byte ".")
 
 abbrev pub follows_dot : FieldData → Bool
-follows_dot f = is_behind_dot f.before
+follows_dot f = is_after_dot f.before
 
 -- the cursor before the dot that it comes to first on its way to the left, or at the start
 unfoldable pub to_dot : ℕ → FieldData → FieldData
@@ -545,8 +547,8 @@ failed why b =
     else if leads_to_leaf b.mode why then record b { mode = Locating }
     else record b { mode = Looking; follows = Looking; seeks_typed = false; note = Failed b.mode why }
 
--- a folder was counted: the question about it follows; one that has entries can't be removed for good. When that isn't
--- asked any longer, the answer is dropped
+-- a folder was counted: the question about it follows; one that has entries can't be removed for good. When
+-- that isn't asked any longer, the answer is dropped
 abbrev pub counted_in : Mode → ℕ → Browser → Browser
 counted_in CountingToTrash n b = record b { mode = Trashing; count = n }
 counted_in CountingToRemove n b =
@@ -572,7 +574,8 @@ browsed_after b (message.Answer o) = outcome_told o b
 
 -- ---- what is asked for
 
--- something is asked for: a folder that is listed or counted, how a path goes on, or a change that was answered by yes
+-- something is asked for: a folder that is listed or counted, how a path goes on, or a change that was
+-- answered by yes
 abbrev pub asks_in : Mode → Bool → Bool
 asks_in Listing sure = true
 asks_in Entering sure = true

@@ -12,15 +12,15 @@ abbrev pub more_bytes : ℕ → ℕ
 more_bytes n =
     if nat_lt n (2 ^ 8) then 0 else if nat_lt n (2 ^ 16) then 1 else if nat_lt n (2 ^ 24) then 2 else 3
 
--- a key in bytes, perhaps after the zero before a number. A number has before it how many bytes it takes, 1 to 4. Each
--- other thing is one byte above these. So what is less stays less.
+-- a key in bytes, perhaps after the zero before a number. A number has before it how many bytes it takes, 1
+-- to 4. Each other thing is one byte above these. So what is less stays less.
 unfoldable pub key_bytes : Bool → List ℕ → List ℕ
 key_bytes number [] = []
 key_bytes true (n ∷ rest) = (more_bytes n + 1) ∷ in_bytes (more_bytes n) n (key_bytes false rest)
 key_bytes false (k ∷ rest) = if k == 0 then key_bytes true rest else (k + 4) ∷ key_bytes false rest
 
--- bytes as one number, in which the first is worth so much. The first one from 255 on counts as 255, and is the last
--- that counts.
+-- bytes as one number, in which the first is worth so much. The first one from 255 on counts as 255, and is
+-- the last that counts.
 unfoldable pub worth : ℕ → List ℕ → ℕ
 worth unit [] = 0
 worth unit (b ∷ rest) = if nat_lt b 255 then b * unit + worth (unit / 256) rest else 255 * unit

@@ -107,8 +107,8 @@ abbrev pub IsTold : Outcome → Mode → Browser → Tree → List Command → T
 IsTold outcome.Done mode b t commands = EndsAsAsked mode b t commands
 IsTold o mode b t commands = NoneIsAsked mode b commands
 
--- the commands that were done to a tree for a question: it names each of them; without a yes there is none; and what
--- is told of them is so
+-- the commands that were done to a tree for a question: it names each of them; without a yes there is none;
+-- and what is told of them is so
 pub record MadeBy (b : Browser) (o : Outcome) (t : Tree) (commands : List Command) : Type 0 where
   pub named : All (IsNamedIn b.mode b) commands
   pub sure : (commands ≡ []) ⊎ (b.is_sure ≡ true)
@@ -121,7 +121,9 @@ MadeInTurn (Done b o) t commands = MadeBy b o t commands
 
 module _ {W H : Type 0} where
   -- the commands of turns, in the order in which they were done
-  abbrev pub MadeByTurns : List (Past Browser Browser Outcome (OnGlass W) H (Hands Tree)) → List Command → Type 0
+  abbrev pub MadeByTurns : List (Past Browser Browser Outcome (OnGlass W) H (Hands Tree)) → List Command
+      → Type 0
   MadeByTurns [] commands = commands ≡ []
   MadeByTurns (p ∷ earlier) commands = (before : List Command) × (last : List Command)
-      × (commands ≡ before ++ last) × MadeByTurns earlier before × MadeInTurn p.turn p.before.outside.files last
+      × (commands ≡ before ++ last) × MadeByTurns earlier before
+      × MadeInTurn p.turn p.before.outside.files last

@@ -1,7 +1,9 @@
 -- The texts that stand in the rows.
 use Rattle.std.specs.Prelude.{ℕ, Bool, true, false, ◌+◌, ◌-◌, ◌==◌, ◌^◌, min, nat_lt, nat_le, if◌then◌else◌}
-use Rattle.std.specs.Prelude.{List, [], ◌++◌, length, codes, Option, Some, None, is_some, slice_get, string_bytes}
-use Rattle.std.specs.{Option.option_map_or, Option.option_and_then, Option.unwrap_or, Fmt.decimal, List.repeat}
+use Rattle.std.specs.Prelude.{List, [], ◌++◌, length, codes, Option, Some, None, is_some, slice_get}
+use Rattle.std.specs.Prelude.{string_bytes}
+use Rattle.std.specs.{Option.option_map_or, Option.option_and_then, Option.unwrap_or}
+use Rattle.std.specs.{Fmt.decimal, List.repeat}
 use Rattle.std.specs.{Str.byte, Path.rsplit_once}
 use Rattle.ratatui_core.specs.Buffer.{text_columns}
 use Rattle.text_field.specs.Field.{FieldData, field_text}
@@ -12,10 +14,12 @@ use Rattle.files.specs.declared.browser.Browser.{Browser}
 use Rattle.files.specs.declared.browser.Mode.{Mode}
 use Rattle.files.specs.declared.browser.Mode.TheVariants.{Entering, Leaving, Trashing, Removing, Renaming, Making}
 use Rattle.files.specs.declared.browser.Mode.TheVariants.{Pasting, Sorting, Seeking, Returning, Undoing, Helping}
-use Rattle.files.specs.declared.browser.Mode.TheVariants.{Going, Visiting, Locating, Completing, CountingToTrash, CountingToRemove}
+use Rattle.files.specs.declared.browser.Mode.TheVariants.{Going, Visiting, Locating, Completing}
+use Rattle.files.specs.declared.browser.Mode.TheVariants.{CountingToTrash, CountingToRemove}
 use Rattle.files.specs.declared.browser.Note.{Note}
 use Rattle.files.specs.declared.browser.Note.TheVariants.{Place, Failed, Narrow, NoTrash, Missing}
-use Rattle.files.specs.declared.browser.Note.TheVariants.{Noted as TellsNoted, NothingNoted, NothingMoved, Outside, NothingAbove}
+use Rattle.files.specs.declared.browser.Note.TheVariants.{Noted as TellsNoted, NothingNoted, NothingMoved}
+use Rattle.files.specs.declared.browser.Note.TheVariants.{Outside, NothingAbove}
 use Rattle.files.specs.declared.notes.Noted.{Noted}
 use Rattle.files.specs.declared.undo.Moved.{Moved}
 use Rattle.files.specs.Help.{keys_row}
@@ -137,9 +141,11 @@ marked_text n = if nat_lt 0 n then codes ", " ++ decimal n ++ codes " marked" el
 abbrev pub selected_details : Browser → List ℕ
 selected_details b = option_map_or details_told (slice_get b.list b.selected) []
 
--- how many entries have names that are no texts, the order, how many are marked, and what is told of the selected one
+-- how many entries have names that are no texts, the order, how many are marked, and what is told of the
+-- selected one
 abbrev pub place_notes : Browser → List ℕ
-place_notes b = unnamed_text b.unnamed ++ order_told b.order ++ marked_text (length b.marks) ++ selected_details b
+place_notes b =
+    unnamed_text b.unnamed ++ order_told b.order ++ marked_text (length b.marks) ++ selected_details b
 
 -- which entry is selected, of how many, as `3/120`, and that
 abbrev pub place_told : Browser → List ℕ
@@ -269,7 +275,8 @@ trash_question b =
     ++ codes "\"? y/n"
 
 abbrev pub removal_question : Browser → List ℕ
-removal_question b = codes "remove \"" ++ selected_shown b ++ codes "\"" ++ count_told b ++ codes " for good? y/n"
+removal_question b =
+    codes "remove \"" ++ selected_shown b ++ codes "\"" ++ count_told b ++ codes " for good? y/n"
 
 abbrev pub undo_question : Browser → List ℕ
 undo_question b =

@@ -1,7 +1,8 @@
 //! Folders are counted before it is asked whether they are to be removed.
 
 ghost use Rattle.std.specs.Prelude.{◌≡◌, ◌++◌, OnOk, string_bytes};
-ghost use Rattle.files.specs.Counting.{selects_folder, counting_for, asked_mode, asking_about, entry_count, entries_told, row_count_told, count_told};
+ghost use Rattle.files.specs.Counting.{selects_folder, counting_for, asked_mode, asking_about, entry_count};
+ghost use Rattle.files.specs.Counting.{entries_told, row_count_told, count_told};
 ghost use Rattle.files.specs.Moves.{counted_in};
 ghost use Rattle.files.specs.Doing.{TellsCount, Counted};
 

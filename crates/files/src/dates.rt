@@ -2,7 +2,8 @@
 
 ghost use Rattle.std.specs.Prelude.{◌≡◌, ◌++◌, OnOk, string_bytes, unsigned_abs};
 ghost use Rattle.std.specs.Duration.{as_nanos};
-ghost use Rattle.files.specs.Dates.{IsDateAfter, two_digits, four_digits, day_text, date_text, minute_text, clock_text, time_text};
+ghost use Rattle.files.specs.Dates.{IsDateAfter, two_digits, four_digits, day_text, date_text, minute_text};
+ghost use Rattle.files.specs.Dates.{clock_text, time_text};
 ghost use Rattle.files.specs.Dates.{date_time_text, date_minute_text};
 
 use itoa::Buffer as Digits;

@@ -1,7 +1,8 @@
 //! What is told of an entry beside its name: who may do what, its size, and when it was changed.
 
 ghost use Rattle.std.specs.Prelude.{◌≡◌, ◌++◌, OnOk, string_bytes};
-ghost use Rattle.files.specs.Details.{right_shown, three_rights, mode_text, kind_letter, mode_detail, size_detail, date_shown, date_detail, details_told};
+ghost use Rattle.files.specs.Details.{right_shown, three_rights, mode_text, kind_letter, mode_detail};
+ghost use Rattle.files.specs.Details.{size_detail, date_shown, date_detail, details_told};
 
 use crate::dates::push_date_minute;
 use crate::list::Row;

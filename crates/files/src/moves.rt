@@ -4,7 +4,8 @@ ghost use Rattle.std.specs.Prelude.{◌≡◌, ◌+◌, ◌-◌, if◌then◌els
 ghost use Rattle.std.specs.Str.{bytes_eq};
 ghost use Rattle.text_field.specs.Keys.{edited};
 ghost use Rattle.files.specs.Moves.{list_rows, last_row_place, scrolled_list, selected_at, selection_moved, is_folder_selected};
-ghost use Rattle.files.specs.Moves.{follows_dot, to_dot, at_extension, typing_in, typing_name, renaming, leaving, leave_note, went};
+ghost use Rattle.files.specs.Moves.{follows_dot, to_dot, at_extension, typing_in, typing_name, renaming};
+ghost use Rattle.files.specs.Moves.{leaving, leave_note, went};
 ghost use Rattle.files.specs.Moves.{asking_to_trash, trash_note, wished};
 ghost use Rattle.files.specs.Texts.{selected_text};
 ghost use Rattle.files.specs.Moves.{confirmed, typed_into, names_typed, folder_shown, listing_shown, entered, is_entry_row, clicked};

@@ -38,13 +38,6 @@ impl SortKey {
         }
     }
 
-    /// Lends its numbers.
-    pub fn as_slice(&self) -> &[u64]
-        ensures { result.now ≡ self.now }
-    {
-        self.items.as_slice()
-    }
-
     /// Compares it to another one.
     #[tactic(auto, using(crate::proofs::RankLemmas::rank_decides))]
     pub fn compare(&self, other: &SortKey) -> Ordering

@@ -41,16 +41,16 @@ colon the path of a folder, or of an entry, is typed: from the folder that is sh
 The wheel moves by three, a click selects an entry, and enters the selected folder.
 On 60 columns and more the folder above is seen on the left, and what is selected on the right: what
 a folder holds, the first 65536 bytes of a text, or how many bytes another file has. The last row
-tells of the selected entry who may read, write and run it, as ls -l does, its size, and when it was
-changed (UTC); a list of 48 columns and more tells that of each entry.
+tells of the selected entry who may read, write and run it, its size, and when it was changed (UTC);
+a list of 48 columns and more has the date of each entry, too.
 s and then n, s or d sorts by name, size or date, and N, S or D the other way round; folders stay
 first. / finds a text in names, whatever letters are capitals unless one is typed; n and N go on.
 r gives the entry another name. a makes a file, or a folder if the name is typed with a slash after
 it. D puts the entry into the trash; X removes it for good, if it is no folder that holds something.
-Questions about a folder say how many entries it has. y notes a file to be copied, d an entry to be
-moved, and p does so, to the folder that is shown; z moves back what was moved or renamed last. Each
-asks first: y, or Enter after a name, says yes once the question has stood for a tenth of a second,
-any other key or Esc says no. Space marks an entry, or no longer, and Esc unmarks all. y, d, D and X
+Of a folder both say how many entries it has. y notes a file to be copied, d an entry to be moved,
+and p does so, to the folder that is shown; z moves back what was moved or renamed last. Each asks
+first: y, or Enter after a name, says yes once the question has stood for a tenth of a second, any
+other key or Esc says no. Space marks an entry, or no longer, and Esc unmarks all. y, d, D and X
 take the marked entries if there are some, and it is asked about each in turn; a no ends that. ? and
 F1 list the keys. q ends. Q ends and prints the folder that is shown: where standard output is no
 terminal, as in cd \"$(files)\", the terminal itself is drawn on.

@@ -16,10 +16,10 @@ columns_after gs n = sum_by text_width (drop n gs)
 abbrev pub columns_in : List ℕ → ℕ
 columns_in text = sum_by text_width (graphemes true text)
 
--- The view of a text whose cursor stands at its end, if it began at the byte `first` before, and the text after
--- the cursor takes `behind` columns. It begins with a grapheme, and all from there on fit the room.
--- It moves no further than it must: to the right of `first` only as far as the cursor wants it, and to the left of
--- it only if the cursor stands there, or if all to the text's end fits then.
+-- The view of a text whose cursor stands at its end, if it began at the byte `first` before, and the text
+-- after the cursor takes `behind` columns. It begins with a grapheme, and all from there on fit the room. It
+-- moves no further than it must: to the right of `first` only as far as the cursor wants it, and to the left
+-- of it only if the cursor stands there, or if all to the text's end fits then.
 pub record IsView (room behind : ℕ) (text : List ℕ) (first start : ℕ) : Type 0 where
   pub count : ℕ
   pub within : count ≤ length (graphemes true text)

@@ -1,5 +1,6 @@
 use Rattle.std.proofs.Common.{refl}
-use Rattle.files.proofs.QuestionLemmas.{asks-file, asks-folder, asks-rename, asks-copy, asks-trash, asks-make-file, asks-make-folder, verbs-differ}
+use Rattle.files.proofs.QuestionLemmas.{asks-file, asks-folder, asks-rename, asks-copy, asks-trash, asks-make-file}
+use Rattle.files.proofs.QuestionLemmas.{asks-make-folder, verbs-differ}
 use Rattle.files.proofs.laws.questions_name_what_they_change.Goals as goal
 
 pub returns-clause-file : goal.returns-clause-file

@@ -11,7 +11,8 @@ loop-info-preserved c = rows-step c.args.has_hidden c.loop-info.yielded c.in-Som
 pub returns : goal.returns
 returns c =
     let gives = c.into_iter-info-iterator.ensures.into_iter_gives in
-    let all = YieldsList-end (YieldsList-from_vec {s = c.into_iter-info-iterator.result} c.args.entries (gives.0 ∙ c.into_vec-entries.ensures)
+    let all = YieldsList-end
+    (YieldsList-from_vec {s = c.into_iter-info-iterator.result} c.args.entries (gives.0 ∙ c.into_vec-entries.ensures)
     (gives.1 ∙ c.into_vec-entries.result.ok.0 ∙ ap length c.into_vec-entries.ensures))
     c.loop-info.yielded c.loop-info.info-iterator c.loop-info.yielded_by _ c.next.new.self c.in-None.is c.next.ensures.steps in
     record {
