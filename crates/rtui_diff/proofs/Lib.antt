@@ -2,7 +2,8 @@ pub mod WalkLemmas
 pub mod ColumnLemmas
 pub mod FrameLemmas
 pub mod SettledLemmas
-pub mod ScreenLemmas
+pub mod SameLemmas
+mod ScreenLemmas
 pub mod ReplayLemmas
 pub mod RepaintLemmas
 pub mod GivenLemmas

@@ -1,6 +1,7 @@
 -- What one step of the walk does, by its cases.
-use Rattle.std.proofs.Common.{◌*◌, ◌≡◌, ℕ, zero, suc, ◌-◌, ◌&&◌, ◌||◌, Bool, true, false, not, List, ◌∷◌, cond, refl}
+use Rattle.std.proofs.Common.{◌*◌, ◌≡◌, ℕ, zero, suc, ◌-◌, ◌&&◌, ◌||◌, Bool, true, false, not, List, ◌∷◌, cond, refl, sym}
 use Rattle.std.proofs.Common.{if◌then◌else◌, nat_lt}
+use Rattle.std.proofs.Math.Bool.{and-false}
 use Rattle.std.proofs.lemmas.Bool.{false≢true, and_parts, or_parts, not-true, not-false}
 use Rattle.rtui_cell.specs.{declared.cell.Cell.Cell, declared.cell.CellDiffOption.CellDiffOption, Equality.is_same}
 use Rattle.rtui_cell.specs.declared.cell.CellDiffOption.TheVariants as DiffOption
@@ -63,6 +64,11 @@ plain_always (DiffOption.ForcedWidth forced) e = refl
 pub single_byte_always : (n : Cell) → is_single_byte n ≡ true → is_always n ≡ false
 unfolding is_always
 single_byte_always n e = plain_always n.diff_option (single_byte_option n e)
+
+-- a cell of a single byte that is the same as the former one is not given
+pub same_byte_stays : (p n : Cell) (same : Bool) → is_single_byte n ≡ true → same ≡ is_same p n → same ≡ true → false ≡ gives_other p n
+same_byte_stays p n same single is holds =
+    rw (single_byte_always n single, ← is, holds) (sym (and-false (not (is_skipped n))))
 
 -- the places that are given, over h rows of w columns
 abbrev pub places : ℕ → ℕ → List Cell → List Cell → List ℕ

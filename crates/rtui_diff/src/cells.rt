@@ -1,7 +1,9 @@
 //! What the walk asks of a cell.
 
-ghost use Rattle.std.specs.Prelude.{◌≡◌};
+ghost use Rattle.std.specs.Prelude.{◌≡◌, IsTrue};
+ghost use Rattle.rtui_cell.specs.Cell.{is_single_byte};
 ghost use Rattle.rtui_cell.specs.Equality.{is_same, is_same_symbol};
+ghost use Rattle.rtui_diff.specs.Inner.{has_same_style};
 ghost use Rattle.rtui_diff.specs.Cells.{has_fe0f, is_forced, is_always, shows_on_blank};
 
 use bitflags::Flags;
@@ -56,9 +58,32 @@ pub fn has_same_symbol(a: &Cell, b: &Cell) -> bool
     a.symbol() == b.symbol()
 }
 
-#[tactic(auto, unfolding(rtui_cell::specs::Equality::is_same))]
+// Whether two cells have the same colours, modifiers and flag.
+#[inline(always)]
+#[tactic(auto, unfolding(crate::specs::Inner::has_same_style))]
+fn has_same_style(a: &Cell, b: &Cell) -> bool
+    ensures { result ≡ has_same_style a.now b.now }
+{
+    a.fg == b.fg
+        && a.bg == b.bg
+        && a.underline_color == b.underline_color
+        && a.modifier == b.modifier
+        && a.skip == b.skip
+}
+
+// Whether two cells are the same. Their symbols differ most often.
 pub fn is_same(a: &Cell, b: &Cell) -> bool
     ensures { result ≡ is_same a.now b.now }
 {
-    a == b
+    has_same_symbol(a, b) && has_same_style(a, b) && a.diff_option == b.diff_option
+}
+
+// Whether two cells of a single byte each are the same.
+#[inline(always)]
+pub fn is_same_byte(a: &Cell, b: &Cell) -> bool
+    requires former { IsTrue (is_single_byte a.now) }
+    requires next { IsTrue (is_single_byte b.now) }
+    ensures { result ≡ is_same a.now b.now }
+{
+    a.symbol().as_bytes()[0] == b.symbol().as_bytes()[0] && has_same_style(a, b)
 }

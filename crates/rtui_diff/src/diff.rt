@@ -4,7 +4,7 @@ ghost use Rattle.std.specs.Prelude.{◌≡◌, ◌+◌, ◌*◌, ◌^◌, ◌<�
 ghost use Rattle.rtui_cell.specs.Grid.{update_by};
 ghost use Rattle.rtui_diff.specs.Diff.{IsDiff};
 
-use crate::cells::is_same;
+use crate::cells::{is_same, is_same_byte};
 use crate::step::{is_given, is_given_when_visited, is_single_byte_given, step_after};
 use rtui_cell::{Cell, CellWidth};
 use std::marker::Model;
@@ -69,6 +69,9 @@ impl<'prev, 'next> Iterator for BufferDiff<'prev, 'next> {
             let at = self.walk.pos;
             if self.walk.advance() {
                 return Some(self.walk.item(at));
+            }
+            if self.walk.pos == at + 1 {
+                self.walk.pass_same();
             }
         }
         None
@@ -157,17 +160,38 @@ impl<'prev, 'next> DiffWalk<'prev, 'next> {
             self.pos = at + usize::from(next.cell_width().max(1));
             return is_given_when_visited(self.force, prev, next);
         }
-        let same = is_same(prev, next);
-        if next.is_single_byte() && (same || prev.is_single_byte()) {
+        if next.is_single_byte() && prev.is_single_byte() {
             self.pos = at + 1;
-            return is_single_byte_given(next, same);
+            return is_single_byte_given(next, is_same_byte(prev, next));
         }
-        let given = is_given(next, same);
+        let given = is_given(next, is_same(prev, next));
         let step = step_after(prev, next, given);
         self.pos = place_behind(at, step.over);
         self.end = at + 1 + usize::from(step.left);
         self.force = step.force;
         given
+    }
+
+    // Goes past cells of a single byte that are the same in both frames, up to any other one.
+    #[inline(never)]
+    fn pass_same(&mut self)
+        ensures left { places_left self.new ≡ places_left self.old }
+        ensures further { self.old.pos ≤ self.new.pos }
+        ensures row { self.new.row ≡ self.old.row }
+        ensures same { IsSameBut self.old self.new }
+    {
+        if self.pos < self.end {
+            return;
+        }
+        while self.pos < self.len {
+            let at = self.pos;
+            let prev = &self.prev[at];
+            let next = &self.next[at];
+            if !next.is_single_byte() || !prev.is_single_byte() || !is_same_byte(prev, next) {
+                return;
+            }
+            self.pos = at + 1;
+        }
     }
 
     // The update at a place that the walk has come past.

@@ -1,10 +1,8 @@
-use Rattle.std.proofs.Common.{◌+◌, sym, ◌∙◌, arith}
+use Rattle.std.proofs.Common.{◌+◌, arith}
 use Rattle.std.proofs.lemmas.List.{get_or_default}
 use Rattle.rtui_cell.specs.Cell.{empty_cell}
 use Rattle.rtui_diff.proofs.DiffLemmas.{given-visited, given-plain, given-narrow}
-use Rattle.rtui_cell.proofs.CellLemmas.{same_width}
 use Rattle.rtui_diff.proofs.diff.DiffWalk.advance.Goals as goal
-use Rattle.rtui_diff.proofs.diff.DiffWalk.advance.Goals.{then-same, else-same}
 
 pub returns-then-at-self-clause-gives : goal.returns-then-at-self-clause-gives
 returns-then-at-self-clause-gives c =
@@ -17,14 +15,10 @@ returns-then-at-self-clause-gives c =
 pub returns-then-is_single_byte-2-clause-gives : goal.returns-then-is_single_byte-2-clause-gives
 returns-then-is_single_byte-2-clause-gives c =
     let s = c.args.self.now in
-    let narrow = c.is_single_byte.ensures.narrow c.if-is_single_byte.true in
     given-narrow s.prev.now s.next.now s.len s.pos s.end s.force c.is_single_byte_given.result _ _ (omega arith) (omega arith)
-    (rw c.is_same-same.ensures at c.is_single_byte_given.ensures)
-    (elim c.if-same.branch [
-      | then-same w ↦ same_width _ _ (sym c.is_same-same.ensures ∙ w.if-same.true) ∙ narrow
-      | else-same w ↦ w.is_single_byte-else-same.ensures.narrow (sym w.value-is ∙ c.if-is_single_byte-2.true)
-    ])
-    narrow (get_or_default s.prev.now s.pos _ empty_cell (omega arith))
+    (rw c.is_same_byte.ensures at c.is_single_byte_given.ensures)
+    (c.is_single_byte-then-is_single_byte.ensures.narrow c.if-is_single_byte-2.true)
+    (c.is_single_byte.ensures.narrow c.if-is_single_byte.true) (get_or_default s.prev.now s.pos _ empty_cell (omega arith))
     (get_or_default s.next.now s.pos _ empty_cell (omega arith))
 
 pub returns-clause-gives : goal.returns-clause-gives
@@ -33,5 +27,5 @@ returns-clause-gives c =
     let t = c.step_after-step.result in
     rw (c.place_behind-self.ensures, c.from-2.ensures)
     (given-plain s.prev.now s.next.now s.len s.pos s.end t.over t.left s.force c.is_given-given.result t.force _ _ (omega arith)
-    (omega arith) (rw c.is_same-same.ensures at c.is_given-given.ensures) c.step_after-step.ensures
+    (omega arith) (rw c.is_same.ensures at c.is_given-given.ensures) c.step_after-step.ensures
     (get_or_default s.prev.now s.pos _ empty_cell (omega arith)) (get_or_default s.next.now s.pos _ empty_cell (omega arith)))
