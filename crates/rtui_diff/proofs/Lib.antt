@@ -2,8 +2,8 @@ pub mod WalkLemmas
 pub mod ColumnLemmas
 pub mod FrameLemmas
 pub mod SettledLemmas
-pub mod SameLemmas
-mod ScreenLemmas
+mod SameLemmas
+pub mod ScreenLemmas
 pub mod ReplayLemmas
 pub mod RepaintLemmas
 pub mod GivenLemmas
