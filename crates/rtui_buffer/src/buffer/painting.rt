@@ -4,6 +4,7 @@ ghost use Rattle.std.specs.Prelude.{true, ◌≡◌, ◌+◌, ◌-◌, ◌*◌, 
 ghost use Rattle.std.specs.Prelude.{IfOk};
 ghost use Rattle.unicode_segmentation.specs.Grapheme.{graphemes};
 ghost use Rattle.rtui_geometry.specs.Rect.{EdgesFit};
+ghost use Rattle.rtui_style.specs.Style.{new_style, modifier_after};
 ghost use Rattle.rtui_cell.specs.Symbol.{IsShort};
 ghost use Rattle.rtui_cell.specs.Cell.{styled};
 ghost use Rattle.rtui_cell.specs.Width.{text_width};
@@ -18,7 +19,7 @@ use crate::buffer::Buffer;
 use rtui_cell::{Cell, CellWidth};
 use rtui_geometry::Rect;
 use rtui_grid::fill;
-use rtui_style::Style;
+use rtui_style::{Modifier, Style};
 use rtui_text::{has_control, printable_front};
 use std::alloc::{AllocError, Global};
 use unicode_segmentation::UnicodeSegmentation;
@@ -311,9 +312,30 @@ fn style_part(cells: &mut [Cell], from: usize, to: usize, style: Style)
     }
 }
 
-// Lays a style over a cell.
+// The new style leaves modifiers as they are. Calling it costs nothing, and tells the proof so.
+fn new_style_leaves(modifier: Modifier)
+    ensures { modifier_after new_style modifier ≡ modifier }
+{}
+
+// Whether a style changes nothing.
+fn changes_nothing(style: &Style) -> bool
+    ensures { result ≡ true → style.now ≡ new_style }
+{
+    style.fg.is_none()
+        && style.bg.is_none()
+        && style.underline_color.is_none()
+        && style.add_modifier == Modifier::NONE
+        && style.sub_modifier == Modifier::NONE
+}
+
+// Lays a style over a cell. Where a loop calls it the question stands before the loop, and a style
+// that changes nothing takes no loop.
 fn lay(cell: &mut Cell, style: Style)
     ensures { cell.new ≡ styled style cell.old }
 {
-    cell.set_style(style);
+    if changes_nothing(&style) {
+        new_style_leaves(cell.modifier);
+    } else {
+        cell.set_style(style);
+    }
 }
