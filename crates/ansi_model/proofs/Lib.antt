@@ -1,4 +1,5 @@
 pub mod ReadLemmas
+mod MoveLemmas
 pub mod TextLemmas
 pub mod SgrLemmas
 pub mod SymbolLemmas

@@ -216,16 +216,6 @@ digits-more n old pre new big small first last =
 pub digits-one : (n : ℕ) (old new : List ℕ) → n < 10 → new ≡ old ++ (48 + n) ∷ [] → new ≡ old ++ decimal n
 digits-one n old new small last = last ∙ ap (λ ds. old ++ ds) (sym (decimal_digit n small))
 
-pub move-appended : (x y fx fy : ℕ) (old first second third fourth new semicolon last : List ℕ) → first ≡ old ++ 27 ∷ 91 ∷ []
-    → second ≡ first ++ decimal (fy + 1) → third ≡ second ++ semicolon
-    → fourth ≡ third ++ decimal (fx + 1) → new ≡ fourth ++ last → fy ≡ y → fx ≡ x → semicolon ≡ 59 ∷ [] → last ≡ 72 ∷ []
-    → new ≡ old ++ cursor_bytes x y
-move-appended x y fx fy old first second third fourth new semicolon last e1 e2 e3 e4 e5 row column is_semicolon is_last =
-    let all : new ≡ old ++ ((27 ∷ 91 ∷ []) ++ (decimal (fy + 1) ++ (semicolon ++ (decimal (fx + 1) ++ last)))) =
-    after-those old first new _ _ e1
-    (after-those first second new _ _ e2 (after-those second third new _ _ e3 (after-those third fourth new _ _ e4 e5))) in
-    rw (row, column, is_semicolon, is_last) at all
-
 abbrev pub erasing : ClearType → List ℕ
 erasing All = 27 ∷ 91 ∷ 50 ∷ 74 ∷ []
 erasing AfterCursor = 27 ∷ 91 ∷ 74 ∷ []

@@ -1,7 +1,7 @@
 //! Escape sequences by their standard names.
 
-ghost use Rattle.std.specs.Prelude.{◌≡◌, ℕ, ◌+◌, ◌-◌, ◌<◌, OnOk, true, false, List, [], ◌∷◌, ◌++◌};
-ghost use Rattle.std.specs.Prelude.{string_bytes};
+ghost use Rattle.std.specs.Prelude.{◌≡◌, ℕ, ◌+◌, ◌-◌, ◌<◌, ◌≤◌, OnOk, true, false, List, [], ◌∷◌, ◌++◌};
+ghost use Rattle.std.specs.Prelude.{length, string_bytes};
 ghost use Rattle.std.specs.Fmt.{decimal};
 ghost use Rattle.ansi_model.specs.Emulator.{cursor_moved, returned, erased, fed, with_region, without_region};
 ghost use Rattle.ansi_model.specs.Emulator.{lines_deleted, lines_inserted, cursor_shown, holding};
@@ -9,6 +9,7 @@ ghost use Rattle.ratatui_core.specs.Backend.{BeforeCursor};
 ghost use Rattle.ansi_model.specs.Commands.{cursor_bytes};
 ghost use Rattle.ansi_model.specs.Sends.{Performs};
 
+use arrayvec::ArrayString;
 use ratatui_core::backend::ClearType;
 use std::alloc::AllocError;
 
@@ -39,7 +40,49 @@ pub fn push_number(out: &mut String, n: u32) -> Result<(), AllocError>
     push_digit(out, n % 10)
 }
 
-/// Moves the cursor to a column and a row: CUP (cursor position).
+// The room for a move: ESC [, two numbers, and what parts and ends them.
+const ROOM: usize = 24;
+
+// Appends a digit to a move.
+fn write_digit(text: &mut ArrayString<ROOM>, digit: u32)
+    requires digit { digit < 10 }
+    requires room { length text.old.bytes + 1 ≤ 24 }
+    ensures { text.new.bytes ≡ text.old.bytes ++ (48 + digit) ∷ [] }
+{
+    text.push(char::from(b'0' + digit as u8));
+}
+
+// Appends a number in decimal digits to a move, each by a call.
+#[inline(never)]
+fn write_digits(text: &mut ArrayString<ROOM>, n: u32)
+    requires { length text.old.bytes + length (decimal n) ≤ 24 }
+    ensures { text.new.bytes ≡ text.old.bytes ++ decimal n }
+{
+    if n < 10 {
+        return write_digit(text, n);
+    }
+    write_digits(text, n / 10);
+    write_digit(text, n % 10);
+}
+
+// Appends a number in decimal digits to a move; most have one or two.
+#[inline(always)]
+fn write_number(text: &mut ArrayString<ROOM>, n: u32)
+    requires { length text.old.bytes + length (decimal n) ≤ 24 }
+    ensures { text.new.bytes ≡ text.old.bytes ++ decimal n }
+{
+    if n < 10 {
+        return write_digit(text, n);
+    }
+    if n >= 100 {
+        return write_digits(text, n);
+    }
+    write_digit(text, n / 10);
+    write_digit(text, n % 10);
+}
+
+/// Moves the cursor to a column and a row: CUP (cursor position). It is made apart and appended at
+/// once, since most of what is sent beside texts is moves.
 ///
 /// # Errors
 ///
@@ -50,11 +93,13 @@ pub fn move_to(out: &mut String, x: u16, y: u16) -> Result<(), AllocError>
     ensures bytes { OnOk result
         (string_bytes out.new ≡ string_bytes out.old ++ cursor_bytes x y) }
 {
-    out.push_str("\u{1b}[")?;
-    push_number(out, u32::from(y) + 1)?;
-    out.push(';')?;
-    push_number(out, u32::from(x) + 1)?;
-    out.push('H')
+    let mut text = ArrayString::new();
+    text.push_str("\u{1b}[");
+    write_number(&mut text, u32::from(y) + 1);
+    text.push_str(";");
+    write_number(&mut text, u32::from(x) + 1);
+    text.push_str("H");
+    out.push_str(text.as_str())
 }
 
 /// Empties a part of the screen: ED and EL (erase in display, erase in line).
