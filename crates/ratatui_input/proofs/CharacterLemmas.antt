@@ -11,7 +11,7 @@ use Rattle.std.proofs.lemmas.Grind.{common_steps}
 use Rattle.ratatui_events.specs.declared.key.KeyEvent.{KeyEvent}
 use Rattle.ratatui_input.specs.declared.decoder.State.{State}
 use Rattle.ratatui_input.specs.declared.decoder.State.TheVariants.{Ground, Escape, Character}
-use Rattle.ratatui_input.specs.declared.decoder.Next.TheVariants.{Whole, More}
+use Rattle.ratatui_input.specs.Decoding.{Whole, More}
 use Rattle.ratatui_input.specs.Keys.{typed_key, control_key, with_alt}
 use Rattle.ratatui_input.specs.Decoding.{stepped, first, begun, partial, after_escape, in_character, character_event, read}
 use Rattle.ratatui_input.specs.Decoding.{byte_told, decoded, told_event}

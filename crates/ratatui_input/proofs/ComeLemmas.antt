@@ -16,8 +16,7 @@ use Rattle.ratatui_input.specs.declared.decoder.Partial.{Partial}
 use Rattle.ratatui_input.specs.declared.decoder.State.{State}
 use Rattle.ratatui_input.specs.declared.decoder.State.TheVariants.{Ground, Escape, Single, Bracket, Function, Numbers, Click}
 use Rattle.ratatui_input.specs.declared.decoder.State.TheVariants.{ClickButton, ClickColumn, Character, Opened, Text, TextEscape}
-use Rattle.ratatui_input.specs.declared.decoder.Next.{Next}
-use Rattle.ratatui_input.specs.declared.decoder.Next.TheVariants.{Whole, More, Apart}
+use Rattle.ratatui_input.specs.Decoding.{Next, Whole, More, Apart}
 use Rattle.ratatui_input.specs.declared.sequence.Sequence.{Sequence}
 use Rattle.ratatui_input.specs.declared.sequence.Source.{Source}
 use Rattle.ratatui_input.specs.declared.sequence.Source.TheVariants.{Keys, Mouse as FromMouse, Other}
@@ -330,7 +329,6 @@ function-some : (b : ℕ) → 27 ∷ 91 ∷ 91 ∷ b ∷ [] ≢ []
 function-some b e = cc
 
 function-follows : (b : ℕ) → Follows (after_function b) (27 ∷ 91 ∷ 91 ∷ b ∷ [])
-unfolding after_function
 function-follows b =
     if-follows (27 ∷ 91 ∷ 91 ∷ b ∷ []) (lies_in 65 69 b) _ _ (λ e. let f = lies 65 69 b e in
     grammar_stands (by_console b f.0 f.1))
@@ -338,7 +336,6 @@ function-follows b =
 
 -- the mouse by three bytes
 click-follows : (bytes : List ℕ) (b : ℕ) (next : Next) → (32 ≤ b → Follows next bytes) → Follows (after_click b next) bytes
-unfolding after_click
 click-follows bytes b next h = if-follows bytes (nat_lt b 32) Apart next (λ e. tt) (λ e. h (not-below b 32 e))
 
 click-some : (n x y : ℕ) → 27 ∷ 91 ∷ 77 ∷ n ∷ x ∷ y ∷ [] ≢ []
@@ -489,7 +486,6 @@ after-snoc true bytes b = refl
 after-snoc false bytes b = refl
 
 opened-follows : {opener : ℕ} (b : ℕ) → IsOpener opener → Follows (after_opened opener b) (27 ∷ opener ∷ b ∷ [])
-unfolding after_opened
 opened-follows {opener = opener} b o =
     if-follows (27 ∷ opener ∷ b ∷ []) (may_be_in_string b) _ _ (λ e. text_comes b [] o (text-asked b e, tt)) (λ n. tt)
 
@@ -509,7 +505,6 @@ text-follows {opener = opener} t ts b o h =
     (λ n3. tt)))
 
 after_text-follows : (come : List ℕ) (b : ℕ) → come ≢ [] → Follows (after_text b) come
-unfolding after_text
 after_text-follows come b some = if-follows come (b == 92) _ _ (λ e. not_known some) (λ n. tt)
 
 pub follows : {s : State} {come : List ℕ} → HasCome s come → (b : ℕ) → b < 256 → Follows (stepped s b) (come ++ (b ∷ []))

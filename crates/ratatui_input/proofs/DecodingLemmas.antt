@@ -11,15 +11,14 @@ use Rattle.ratatui_input.specs.declared.decoder.Decoder.{Decoder}
 use Rattle.ratatui_input.specs.declared.decoder.State.{State}
 use Rattle.ratatui_input.specs.declared.decoder.State.TheVariants.{Ground, Escape, Single, Bracket, Function, Numbers, Click}
 use Rattle.ratatui_input.specs.declared.decoder.State.TheVariants.{ClickButton, ClickColumn, Character, Opened, Text, TextEscape}
-use Rattle.ratatui_input.specs.declared.decoder.Next.{Next}
-use Rattle.ratatui_input.specs.declared.decoder.Next.TheVariants.{Whole, More, Apart}
+use Rattle.ratatui_input.specs.Decoding.{Next, Whole, More, Apart}
 use Rattle.ratatui_input.specs.Keys.{with_alt, typed_key}
 use Rattle.ratatui_input.specs.Sequences.{pushed}
 use Rattle.ratatui_input.specs.Decoding.{Told, stepped, first, after_escape, after_bracket, in_sequence, after_single}
-use Rattle.ratatui_input.specs.Decoding.{after_function, in_character, after_click, cut, read}
+use Rattle.ratatui_input.specs.Decoding.{in_character, cut, read}
 use Rattle.ratatui_input.specs.Decoding.{told_event, fresh, after_cut, byte_told, fed_next, decoded, next_told, escaped}
 use Rattle.ratatui_input.specs.Decoding.{some_list, settled, settled_single}
-use Rattle.ratatui_input.specs.Decoding.{after_opened, after_text, begun_anew}
+use Rattle.ratatui_input.specs.Decoding.{begun_anew}
 use Rattle.ratatui_input.specs.Encodings.{fresh_decoder, settled_after, IsNoText, IsNoString}
 
 -- bytes in two pieces give what they give at once
@@ -35,8 +34,8 @@ decoded-append d (x ∷ a) b =
 pub fed-escape : (state : State) (is_pasting : Bool) → IsNoText state
     → byte_told (record { state = state; is_pasting = is_pasting }) 27 ≡ escaped
     (cut state) is_pasting
-unfolding byte_told stepped first after_escape after_bracket in_sequence after_single after_function in_character after_click cut
-    pushed after_opened after_text begun_anew
+unfolding byte_told stepped first after_escape after_bracket in_sequence after_single in_character cut
+    pushed begun_anew
 fed-escape Ground p h = refl
 fed-escape Escape p h = refl
 fed-escape (Single n) p h = refl

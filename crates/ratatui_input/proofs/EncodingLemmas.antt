@@ -1,7 +1,7 @@
 -- Which bytes stand for which events.
 use Rattle.std.proofs.Common.{◌≡◌, ℕ, ◌≤◌, Bool, List, ◌++◌, ap, ◌∙◌, arith}
 use Rattle.std.proofs.lemmas.Grind.{common_steps}
-use Rattle.ratatui_input.specs.declared.decoder.Next.TheVariants.{Whole}
+use Rattle.ratatui_input.specs.Decoding.{Whole}
 use Rattle.ratatui_events.specs.declared.event.Event.{Event}
 use Rattle.ratatui_input.specs.Keys.{typed_key, with_alt}
 use Rattle.ratatui_input.specs.Decoding.{Told, first, decoded, next_told}

@@ -18,7 +18,7 @@ use Rattle.ratatui_events.specs.Key.{pressed, held}
 use Rattle.ratatui_input.specs.declared.decoder.State.{State}
 use Rattle.ratatui_input.specs.declared.decoder.State.TheVariants.{Bracket, Function, Single, Click, ClickButton, ClickColumn}
 use Rattle.ratatui_input.specs.declared.decoder.State.TheVariants.{Numbers}
-use Rattle.ratatui_input.specs.declared.decoder.Next.TheVariants.{Whole, More}
+use Rattle.ratatui_input.specs.Decoding.{Whole, More}
 use Rattle.ratatui_input.specs.declared.sequence.Source.TheVariants.{Keys, Mouse as FromMouse}
 use Rattle.ratatui_input.specs.Keys.{key_at, code_key, tab_key}
 use Rattle.ratatui_input.specs.Mouse.{mouse_kind, mouse_event, kind_told}
@@ -26,7 +26,7 @@ use Rattle.ratatui_input.specs.Sequences.{sequence_event, keys_event, pointer_ev
 use Rattle.ratatui_input.specs.Sequences.{pushed, digit_pushed, size_event, position_event, letter_event, single_event, key_event}
 use Rattle.ratatui_input.specs.Sequences.{kind_of}
 use Rattle.ratatui_input.specs.Decoding.{Told, stepped, first, after_escape, after_bracket, in_sequence, after_single}
-use Rattle.ratatui_input.specs.Decoding.{after_function, after_click, cut, read, byte_told, decoded, some_list}
+use Rattle.ratatui_input.specs.Decoding.{cut, read, byte_told, decoded, some_list}
 use Rattle.ratatui_input.specs.Encodings.{fresh_decoder, Gives, IsNoText}
 use Rattle.ratatui_input.specs.KeyTables.{IsLetter, IsTilde, IsCode}
 use Rattle.ratatui_input.specs.Grammar.{Encodes, WritesNumber, Held, AreCodes, held_down, held_told, csi, two_numbers}
@@ -159,7 +159,7 @@ unfolding decoded byte_told stepped first after_escape after_bracket
 function-reached rest = refl
 
 console-last : (b : ℕ) → 65 ≤ b → b ≤ 69 → stepped Function b ≡ Whole (Key (pressed (F (b - 64)) (held 0)))
-unfolding stepped after_function
+unfolding stepped
 console-last b low high = grind (arith, common_steps)
 
 console-read : (b : ℕ) → 65 ≤ b → b ≤ 69 → Gives (27 ∷ 91 ∷ 91 ∷ b ∷ []) (Key (pressed (F (b - 64)) (held 0)) ∷ [])
@@ -558,15 +558,15 @@ unfolding decoded byte_told stepped first after_escape after_bracket
 click-reached rest = refl
 
 click-first : (n : ℕ) → stepped Click (n + 32) ≡ More (ClickButton (n + 32))
-unfolding stepped after_click
+unfolding stepped
 click-first n = grind (arith, nat_tests)
 
 click-second : (b x : ℕ) → stepped (ClickButton b) (x + 32) ≡ More (ClickColumn b (x + 32))
-unfolding stepped after_click
+unfolding stepped
 click-second b x = grind (arith, nat_tests)
 
 click-last : (n x y : ℕ) → stepped (ClickColumn (n + 32) (x + 32)) (y + 32) ≡ Whole (mouse_event n x y false)
-unfolding stepped after_click
+unfolding stepped
 click-last n x y = grind (arith, nat_tests)
 
 bytes-read : {kind : MouseEventKind} (n x y : ℕ) → n ≤ 223 → x ≤ 223 → y ≤ 223 → mouse_kind n false ≡ Some kind

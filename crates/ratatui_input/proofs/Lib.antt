@@ -1,3 +1,4 @@
+pub mod NextLemmas
 pub mod DecodingLemmas
 pub mod EncodingLemmas
 pub mod PasteLemmas

@@ -10,7 +10,7 @@ use Rattle.ratatui_events.specs.declared.key.KeyCode.{KeyCode}
 use Rattle.ratatui_events.specs.declared.key.KeyCode.TheVariants.{BackTab, Up, Down, Right, Left, KeypadBegin, End, Home, F}
 use Rattle.ratatui_input.specs.declared.decoder.State.{State}
 use Rattle.ratatui_input.specs.declared.decoder.State.TheVariants.{Ground, Bracket, Numbers}
-use Rattle.ratatui_input.specs.declared.decoder.Next.TheVariants.{Whole}
+use Rattle.ratatui_input.specs.Decoding.{Whole}
 use Rattle.ratatui_input.specs.declared.sequence.Sequence.{Sequence}
 use Rattle.ratatui_input.specs.declared.sequence.Source.{Source}
 use Rattle.ratatui_input.specs.declared.sequence.Source.TheVariants.{Keys, Other}

@@ -14,8 +14,7 @@ use Rattle.ratatui_input.specs.declared.decoder.Decoder.{Decoder}
 use Rattle.ratatui_input.specs.declared.decoder.State.{State}
 use Rattle.ratatui_input.specs.declared.decoder.State.TheVariants.{Ground, Escape, Single, Bracket, Function, Numbers, Click}
 use Rattle.ratatui_input.specs.declared.decoder.State.TheVariants.{ClickButton, ClickColumn, Character, Opened, Text, TextEscape}
-use Rattle.ratatui_input.specs.declared.decoder.Next.{Next}
-use Rattle.ratatui_input.specs.declared.decoder.Next.TheVariants.{Whole, More, Apart}
+use Rattle.ratatui_input.specs.Decoding.{Next, Whole, More, Apart}
 use Rattle.ratatui_input.specs.Keys.{control_key, typed_key, with_alt}
 use Rattle.ratatui_input.specs.Sequences.{sequence_event, keys_event, tilde_event, pushed, digit_pushed}
 use Rattle.ratatui_input.specs.Decoding.{Told, stepped, first, after_escape, after_bracket, in_sequence, cut, read, fresh}

@@ -8,8 +8,7 @@ use Rattle.ratatui_events.specs.declared.event.Event.TheVariants.{Pasted, Size, 
 use Rattle.ratatui_input.specs.declared.decoder.State.{State}
 use Rattle.ratatui_input.specs.declared.decoder.State.TheVariants.{Ground, Escape, Single, Bracket, Function, Numbers, Click}
 use Rattle.ratatui_input.specs.declared.decoder.State.TheVariants.{ClickButton, ClickColumn, Character, Opened, Text, TextEscape}
-use Rattle.ratatui_input.specs.declared.decoder.Next.{Next}
-use Rattle.ratatui_input.specs.declared.decoder.Next.TheVariants.{Whole, More, Apart}
+use Rattle.ratatui_input.specs.Decoding.{Next, Whole, More, Apart}
 use Rattle.ratatui_input.specs.Encodings.{fresh_decoder}
 use Rattle.ratatui_input.specs.Decoding.{Told, told_event, stepped, first, cut, read, byte_told, fed_next, decoded, fresh}
 use Rattle.ratatui_input.specs.Decoding.{after_cut, after_escape, begun_anew, unless_apart}

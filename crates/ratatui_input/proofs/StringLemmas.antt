@@ -6,9 +6,8 @@ use Rattle.std.proofs.lemmas.Bool.Decides.{nat_tests}
 use Rattle.ratatui_events.specs.declared.event.Event.TheVariants.{Unknown}
 use Rattle.ratatui_input.specs.declared.decoder.State.TheVariants.{Ground, Escape, Opened, Text, TextEscape}
 use Rattle.ratatui_input.specs.declared.decoder.Partial.{Partial}
-use Rattle.ratatui_input.specs.declared.decoder.Next.{Next}
-use Rattle.ratatui_input.specs.declared.decoder.Next.TheVariants.{Whole, More, Apart}
-use Rattle.ratatui_input.specs.Decoding.{Told, stepped, first, begun, beginning, after_escape, after_opened, in_text, after_text}
+use Rattle.ratatui_input.specs.Decoding.{Next, Whole, More, Apart}
+use Rattle.ratatui_input.specs.Decoding.{Told, stepped, first, begun, beginning, after_escape, in_text, after_text}
 use Rattle.ratatui_input.specs.Decoding.{opens_string, may_be_in_string, begun_anew, unless_apart, cut, read, byte_told, fed_next}
 use Rattle.ratatui_input.specs.Decoding.{decoded, lies_in, after_cut, settled}
 use Rattle.ratatui_input.specs.Keys.{typed_key, with_alt}
@@ -33,7 +32,7 @@ unfolding stepped after_escape
 opened b h = grind (arith, nat_tests)
 
 text-begun : (opener b : ℕ) → IsText b → stepped (Opened opener) b ≡ More (Text (opener == 93) 0)
-unfolding stepped after_opened
+unfolding stepped
 text-begun opener b h = grind (arith, nat_tests)
 
 text-goes_on : (bell : Bool) (ticks b : ℕ) → IsText b → stepped (Text bell ticks) b ≡ More (Text bell 0)
@@ -65,7 +64,7 @@ text-snoc (t ∷ ts) b h k = (h.0, text-snoc ts b h.1 k)
 
 end-told : {opener : ℕ} {end : List ℕ} → EndsString opener end
     → decoded (at false (Text (opener == 93) 0)) end ≡ (Unknown ∷ [], fresh_decoder)
-unfolding decoded byte_told stepped in_text after_text read
+unfolding decoded byte_told stepped in_text read
 end-told by_terminator = refl
 end-told by_bell = refl
 
@@ -116,7 +115,6 @@ escape-goes_on b h =
     (λ n3. if-goes_on (opens_string b) _ _ (λ e. tt) (λ n4. first-goes_on b h))))
 
 no-end : (b : ℕ) → b ≢ 92 → after_text b ≡ Apart
-unfolding after_text
 no-end b h = grind (arith, nat_tests)
 
 -- what a byte gives that goes on with ESC, and the bytes after it

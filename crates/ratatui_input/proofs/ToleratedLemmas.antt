@@ -11,7 +11,7 @@ use Rattle.ratatui_events.specs.declared.key.KeyCode.{KeyCode}
 use Rattle.ratatui_events.specs.declared.key.KeyCode.TheVariants.{Char}
 use Rattle.ratatui_input.specs.declared.decoder.State.{State}
 use Rattle.ratatui_input.specs.declared.decoder.State.TheVariants.{Ground, Bracket, Numbers}
-use Rattle.ratatui_input.specs.declared.decoder.Next.TheVariants.{Whole, More}
+use Rattle.ratatui_input.specs.Decoding.{Whole, More}
 use Rattle.ratatui_input.specs.declared.sequence.Sequence.{Sequence}
 use Rattle.ratatui_input.specs.declared.sequence.Source.{Source}
 use Rattle.ratatui_input.specs.declared.sequence.Source.TheVariants.{Keys, Mouse as FromMouse}

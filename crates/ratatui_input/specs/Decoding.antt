@@ -21,8 +21,12 @@ use Rattle.ratatui_input.specs.declared.decoder.State.TheVariants.{Ground, Escap
 use Rattle.ratatui_input.specs.declared.decoder.State.TheVariants.{Numbers, Click, ClickButton, ClickColumn}
 use Rattle.ratatui_input.specs.declared.decoder.State.TheVariants.{Character, Opened, Text, TextEscape}
 use Rattle.ratatui_input.specs.declared.decoder.Partial.{Partial}
-use Rattle.ratatui_input.specs.declared.decoder.Next.{Next}
-use Rattle.ratatui_input.specs.declared.decoder.Next.TheVariants.{Whole, More, Apart}
+
+-- what a byte makes of a state: an event, or a further state; or it doesn't go on with what has come
+pub data Next : Type 0 where
+  Whole : Event → Next
+  More : State → Next
+  Apart : Next
 
 -- whether a number lies between two others
 abbrev pub lies_in : ℕ → ℕ → ℕ → Bool
@@ -95,7 +99,7 @@ after_single number b =
     if lies_in (byte "0") (byte "9") b then More (Single (min (number * 10 + bit_and b 15) (2 ^ 32 - 1)))
     else (if lies_in (byte "@") (byte "~") b then Whole (single_event number b) else Apart)
 
-unfoldable pub after_function : ℕ → Next
+abbrev pub after_function : ℕ → Next
 after_function b =
     if lies_in (byte "A") (byte "E") b then Whole (with_alt (pressed (F (b - 64)) (held 0)) false)
     else (if lies_in (byte "@") (byte "~") b then Whole Unknown else Apart)
@@ -122,7 +126,7 @@ in_character p b =
     }))
     else Whole (character_event code p.is_alt))
 
-unfoldable pub after_click : ℕ → Next → Next
+abbrev pub after_click : ℕ → Next → Next
 after_click b next = if nat_lt b 32 then Apart else next
 
 -- whether a byte stands in a string: control characters don't
@@ -130,7 +134,7 @@ abbrev pub may_be_in_string : ℕ → Bool
 may_be_in_string b = lies_in (byte " ") (byte "~") b || nat_le 128 b
 
 -- a string of the terminal: what opens it, text, and its end, which is ESC \ or, after ESC ], also BEL
-unfoldable pub after_opened : ℕ → ℕ → Next
+abbrev pub after_opened : ℕ → ℕ → Next
 after_opened opener b = if may_be_in_string b then More (Text (opener == byte "]") 0) else Apart
 
 unfoldable pub in_text : Bool → ℕ → Next
@@ -140,7 +144,7 @@ in_text has_bell b =
     else (if (b == 7) && has_bell then Whole Unknown
     else Apart))
 
-unfoldable pub after_text : ℕ → Next
+abbrev pub after_text : ℕ → Next
 after_text b = if b == byte "\\" then Whole Unknown else Apart
 
 -- what a byte makes of what has come

@@ -1,19 +1,21 @@
 //! A decoder: bytes in, events out.
 
-ghost use Rattle.std.specs.Prelude.{◌≡◌, ◌↔◌, ◌-◌, IsTrue, true, false};
+ghost use Rattle.std.specs.Prelude.{◌≡◌, ◌↔◌, ◌+◌, ◌-◌, ◌*◌, ◌^◌, ◌∷◌, [], min, IsTrue, true, false};
+ghost use Rattle.std.specs.Int.RustNames.{bit_and};
 ghost use Rattle.ratatui_input.specs.Decoding.{begun, first, after_escape, after_bracket, in_sequence};
 ghost use Rattle.ratatui_input.specs.Decoding.{after_single, after_function, in_character, character_event};
 ghost use Rattle.ratatui_input.specs.Decoding.{stepped, cut, pasted_code, read, byte_told, events_of};
-ghost use Rattle.ratatui_input.specs.Decoding.{some_list};
+ghost use Rattle.ratatui_input.specs.Decoding.{some_list, told_event, fresh};
 ghost use Rattle.ratatui_input.specs.Decoding.{after_cut, settled, may_be_in_string, after_opened, in_text, after_text};
 ghost use Rattle.ratatui_input.specs.Decoding.{begun_anew};
+ghost use Rattle.ratatui_input.specs.Inner.{has_further, further_state, whole_event, takes, IsRare};
 ghost use Rattle.ratatui_input.specs.Keys.{with_alt};
 ghost use Rattle.ratatui_input.specs.Mouse.{mouse_event};
 ghost use Rattle.ratatui_input.specs.declared.decoder.State.TheVariants.{Ground};
 
 use crate::keys::{character, control_key, typed};
 use crate::mouse::mouse_event;
-use crate::sequence::{Sequence, Source};
+use crate::sequence::{Sequence, Source, with_digit};
 use ratatui_events::{Event, KeyCode, KeyEvent, KeyModifiers};
 
 /// What has come of an event that isn't whole.
@@ -59,15 +61,6 @@ struct Partial {
     high: u8,
 }
 
-/// What a byte makes of a state: an event, or a further state.
-#[derive(Debug, Clone, Copy, PartialEq, Eq)]
-enum Next {
-    Whole(Event),
-    More(State),
-    // The byte doesn't go on with what has come.
-    Apart,
-}
-
 /// What a byte gave: the event of what had come before and doesn't go on with it, and its own.
 #[derive(Debug, Clone, Copy, PartialEq, Eq)]
 pub struct Fed {
@@ -109,100 +102,6 @@ fn with_alt(key: KeyEvent, is_alt: bool) -> Event
     Event::Key(key)
 }
 
-// What a byte is with nothing before it, or after ESC.
-// The path of most bytes is inlined where `feed` is called: a call hands whole events over in memory.
-#[inline(always)]
-#[tactic(auto, unfolding(crate::specs::Decoding::first))]
-fn first(byte: u8, is_alt: bool) -> Next
-    ensures { result ≡ first byte is_alt }
-{
-    match byte {
-        0x1b => Next::More(State::Escape),
-        0..=0x1f | 0x7f => Next::Whole(with_alt(control_key(byte), is_alt)),
-        b' '..=b'~' => Next::Whole(with_alt(typed(byte as char), is_alt)),
-        _ => match begun(byte, is_alt) {
-            Some(partial) => Next::More(State::Character(partial)),
-            None if is_alt => Next::Apart,
-            None => Next::Whole(Event::Unknown),
-        },
-    }
-}
-
-#[inline(always)]
-#[tactic(auto, unfolding(crate::specs::Decoding::after_escape))]
-fn after_escape(byte: u8) -> Next
-    ensures { result ≡ after_escape byte }
-{
-    match byte {
-        0x1b => Next::Apart,
-        b'[' => Next::More(State::Bracket),
-        b'O' => Next::More(State::Single(0)),
-        b'P' | b'X' | b']'..=b'_' => Next::More(State::Opened(byte)),
-        _ => first(byte, true),
-    }
-}
-
-#[inline(always)]
-#[tactic(auto, unfolding(crate::specs::Decoding::after_bracket))]
-fn after_bracket(byte: u8) -> Next
-    ensures { result ≡ after_bracket byte }
-{
-    match byte {
-        b'[' => Next::More(State::Function),
-        b'M' => Next::More(State::Click),
-        b'<' => Next::More(State::Numbers(Sequence {
-            source: Source::Mouse,
-            ..Sequence::EMPTY
-        })),
-        _ => in_sequence(Sequence::EMPTY, byte),
-    }
-}
-
-#[inline(always)]
-#[tactic(auto, unfolding(crate::specs::Decoding::in_sequence))]
-fn in_sequence(sequence: Sequence, byte: u8) -> Next
-    ensures { result ≡ in_sequence sequence byte }
-{
-    match byte {
-        b'@'..=b'~' => Next::Whole(sequence.event(byte)),
-        _ => match sequence.push(byte) {
-            Some(longer) => Next::More(State::Numbers(longer)),
-            None => Next::Apart,
-        },
-    }
-}
-
-#[tactic(auto, unfolding(crate::specs::Decoding::after_single, crate::specs::Sequences::single_event))]
-fn after_single(number: u32, byte: u8) -> Next
-    ensures { result ≡ after_single number byte }
-{
-    match byte {
-        b'0'..=b'9' => Next::More(State::Single(
-            number.saturating_mul(10).saturating_add((byte & 15) as u32),
-        )),
-        b'@'..=b'~' => Next::Whole(Sequence {
-            first: number,
-            ..Sequence::EMPTY
-        }
-        .single_event(byte)),
-        _ => Next::Apart,
-    }
-}
-
-#[tactic(auto, unfolding(crate::specs::Decoding::after_function))]
-fn after_function(byte: u8) -> Next
-    ensures { result ≡ after_function byte }
-{
-    match byte {
-        b'A'..=b'E' => Next::Whole(Event::Key(KeyEvent::new(
-            KeyCode::F(byte - 64),
-            KeyModifiers::NONE,
-        ))),
-        b'@'..=b'~' => Next::Whole(Event::Unknown),
-        _ => Next::Apart,
-    }
-}
-
 // The event of a character's code.
 #[tactic(auto, unfolding(crate::specs::Decoding::character_event))]
 fn character_event(code: u32, is_alt: bool) -> Event
@@ -220,29 +119,6 @@ fn character_event(code: u32, is_alt: bool) -> Event
     }
 }
 
-#[tactic(auto, unfolding(crate::specs::Decoding::in_character))]
-fn in_character(partial: Partial, byte: u8) -> Next
-    ensures { result ≡ in_character partial byte }
-{
-    if byte < 0x80 || byte < partial.low || byte > partial.high {
-        return Next::Apart;
-    }
-    let code = partial
-        .code
-        .saturating_mul(64)
-        .saturating_add((byte & 0x3f) as u32);
-    if partial.left > 1 {
-        return Next::More(State::Character(Partial {
-            is_alt: partial.is_alt,
-            code,
-            left: partial.left - 1,
-            low: 0x80,
-            high: 0xbf,
-        }));
-    }
-    Next::Whole(character_event(code, partial.is_alt))
-}
-
 // Whether a byte stands in a string: it is no control character.
 fn may_be_in_string(byte: u8) -> bool
     ensures { result ≡ may_be_in_string byte }
@@ -250,78 +126,281 @@ fn may_be_in_string(byte: u8) -> bool
     (b' ' <= byte && byte <= b'~') || 0x80 <= byte
 }
 
-#[tactic(auto, unfolding(crate::specs::Decoding::after_opened))]
-fn after_opened(opener: u8, byte: u8) -> Next
-    ensures { result ≡ after_opened opener byte }
+impl Partial {
+    // Whether a byte goes on with the character.
+    fn takes(self, byte: u8) -> bool
+        ensures { result ≡ takes self byte }
+    {
+        0x80 <= byte && self.low <= byte && byte <= self.high
+    }
+
+    // The code, with the bits of a further byte.
+    fn code_with(self, byte: u8) -> u32
+        ensures { result ≡ min (self.code * 64 + bit_and byte 63) (2 ^ 32 - 1) }
+    {
+        self.code
+            .saturating_mul(64)
+            .saturating_add((byte & 0x3f) as u32)
+    }
+}
+
+// The event of a byte with nothing before it, or after ESC.
+#[tactic(auto, unfolding(crate::specs::Decoding::first))]
+fn lone(byte: u8, is_alt: bool) -> Option<Event>
+    requires { has_further (first byte is_alt) ≡ false }
+    ensures { result ≡ whole_event (first byte is_alt) }
 {
-    if may_be_in_string(byte) {
-        Next::More(State::Text(opener == b']', 0))
+    match byte {
+        0..=0x1f | 0x7f => Some(with_alt(control_key(byte), is_alt)),
+        b' '..=b'~' => Some(with_alt(typed(byte as char), is_alt)),
+        _ if is_alt => None,
+        _ => Some(Event::Unknown),
+    }
+}
+
+#[tactic(auto, unfolding(crate::specs::Decoding::after_escape))]
+fn last_of_escape(byte: u8) -> Option<Event>
+    requires { has_further (after_escape byte) ≡ false }
+    ensures { result ≡ whole_event (after_escape byte) }
+{
+    match byte {
+        0x1b => None,
+        _ => lone(byte, true),
+    }
+}
+
+#[tactic(auto, unfolding(crate::specs::Decoding::in_character))]
+fn last_of_character(partial: Partial, byte: u8) -> Option<Event>
+    requires { has_further (in_character partial byte) ≡ false }
+    ensures { result ≡ whole_event (in_character partial byte) }
+{
+    if partial.takes(byte) {
+        Some(character_event(partial.code_with(byte), partial.is_alt))
     } else {
-        Next::Apart
+        None
+    }
+}
+
+// The event of a sequence with its last byte.
+#[tactic(auto, unfolding(crate::specs::Decoding::in_sequence))]
+fn last(sequence: &Sequence, byte: u8) -> Option<Event>
+    ensures { result ≡ whole_event (in_sequence sequence.now byte) }
+{
+    match byte {
+        b'@'..=b'~' => Some(sequence.event(byte)),
+        _ => None,
+    }
+}
+
+#[tactic(auto, unfolding(crate::specs::Decoding::after_single, crate::specs::Sequences::single_event))]
+fn last_of_single(number: u32, byte: u8) -> Option<Event>
+    ensures { result ≡ whole_event (after_single number byte) }
+{
+    match byte {
+        b'@'..=b'~' => Some(Sequence {
+            first: number,
+            ..Sequence::EMPTY
+        }
+        .single_event(byte)),
+        _ => None,
+    }
+}
+
+fn last_of_function(byte: u8) -> Option<Event>
+    ensures { result ≡ whole_event (after_function byte) }
+{
+    match byte {
+        b'A'..=b'E' => Some(Event::Key(KeyEvent::new(KeyCode::F(byte - 64), KeyModifiers::NONE))),
+        b'@'..=b'~' => Some(Event::Unknown),
+        _ => None,
     }
 }
 
 #[tactic(auto, unfolding(crate::specs::Decoding::in_text))]
-fn in_text(has_bell: bool, byte: u8) -> Next
-    ensures { result ≡ in_text has_bell byte }
-{
-    if may_be_in_string(byte) {
-        return Next::More(State::Text(has_bell, 0));
-    }
-    match byte {
-        0x1b => Next::More(State::TextEscape),
-        0x07 if has_bell => Next::Whole(Event::Unknown),
-        _ => Next::Apart,
-    }
-}
-
-#[tactic(auto, unfolding(crate::specs::Decoding::after_text))]
-fn after_text(byte: u8) -> Next
-    ensures { result ≡ after_text byte }
+fn last_of_text(has_bell: bool, byte: u8) -> Option<Event>
+    requires { has_further (in_text has_bell byte) ≡ false }
+    ensures { result ≡ whole_event (in_text has_bell byte) }
 {
     match byte {
-        b'\\' => Next::Whole(Event::Unknown),
-        _ => Next::Apart,
+        0x07 if has_bell => Some(Event::Unknown),
+        _ => None,
     }
 }
 
-#[inline(always)]
-#[tactic(auto, unfolding(crate::specs::Decoding::stepped, crate::specs::Decoding::after_click))]
-fn step(state: State, byte: u8) -> Next
-    ensures { result ≡ stepped state byte }
-{
-    match state {
-        State::Ground => first(byte, false),
-        State::Escape => after_escape(byte),
-        State::Single(number) => after_single(number, byte),
-        State::Bracket => after_bracket(byte),
-        State::Function => after_function(byte),
-        State::Numbers(sequence) => in_sequence(sequence, byte),
-        State::Click if byte < 32 => Next::Apart,
-        State::Click => Next::More(State::ClickButton(byte)),
-        State::ClickButton(_) if byte < 32 => Next::Apart,
-        State::ClickButton(button) => Next::More(State::ClickColumn(button, byte)),
-        State::ClickColumn(_, _) if byte < 32 => Next::Apart,
-        State::ClickColumn(button, column) => Next::Whole(click_event(button, column, byte)),
-        State::Character(partial) => in_character(partial, byte),
-        State::Opened(opener) => after_opened(opener, byte),
-        State::Text(has_bell, _) => in_text(has_bell, byte),
-        State::TextEscape => after_text(byte),
+// What a byte makes of a state. If it goes on, the state is changed where it stands, and nothing is
+// told. If not, it makes an event whole or is apart from what has come. To hand states and events
+// over costs more than all else: so the path of most bytes is inlined where `feed` is called.
+impl State {
+    #[inline(always)]
+    fn go_to(&mut self, state: State) -> bool
+        ensures more { result ≡ true }
+        ensures state { self.new ≡ state }
+    {
+        *self = state;
+        true
     }
-}
 
-// What a byte is that doesn't go on with what has come: with nothing before it; but after an ESC
-// that ended a string, with that ESC, if it goes on with it.
-#[tactic(auto, unfolding(crate::specs::Decoding::begun_anew))]
-fn begun_anew(state: State, byte: u8) -> Next
-    ensures { result ≡ begun_anew state byte }
-{
-    match state {
-        State::TextEscape => match after_escape(byte) {
-            Next::Apart => first(byte, false),
-            next => next,
-        },
-        _ => first(byte, false),
+    // Whether a byte begins an event of several bytes, with nothing before it or after ESC.
+    #[inline(always)]
+    #[tactic(auto, unfolding(crate::specs::Decoding::first))]
+    fn begins(&mut self, byte: u8, is_alt: bool) -> bool
+        ensures more { result ≡ has_further (first byte is_alt) }
+        ensures state { self.new ≡ further_state (first byte is_alt) self.old }
+    {
+        if byte < 0x80 {
+            return byte == 0x1b && self.go_to(State::Escape);
+        }
+        match begun(byte, is_alt) {
+            Some(partial) => self.go_to(State::Character(partial)),
+            None => false,
+        }
+    }
+
+    #[inline(always)]
+    #[tactic(auto, unfolding(crate::specs::Decoding::after_escape))]
+    fn goes_on_escape(&mut self, byte: u8) -> bool
+        ensures more { result ≡ has_further (after_escape byte) }
+        ensures state { self.new ≡ further_state (after_escape byte) self.old }
+    {
+        match byte {
+            0x1b => false,
+            b'[' => self.go_to(State::Bracket),
+            b'O' => self.go_to(State::Single(0)),
+            b'P' | b'X' | b']'..=b'_' => self.go_to(State::Opened(byte)),
+            _ => self.begins(byte, true),
+        }
+    }
+
+    #[inline(always)]
+    #[tactic(auto, using(crate::proofs::NextLemmas::further), unfolding(crate::specs::Decoding::after_bracket))]
+    fn goes_on_bracket(&mut self, byte: u8) -> bool
+        ensures more { result ≡ has_further (after_bracket byte) }
+        ensures state { self.new ≡ further_state (after_bracket byte) self.old }
+    {
+        match byte {
+            b'[' => self.go_to(State::Function),
+            b'M' => self.go_to(State::Click),
+            b'<' => self.go_to(State::Numbers(Sequence {
+                source: Source::Mouse,
+                ..Sequence::EMPTY
+            })),
+            _ => {
+                let mut sequence = Sequence::EMPTY;
+                sequence.push(byte) && self.go_to(State::Numbers(sequence))
+            }
+        }
+    }
+
+    #[inline(always)]
+    #[tactic(auto, unfolding(crate::specs::Decoding::in_character))]
+    fn goes_on_character(&mut self, partial: Partial, byte: u8) -> bool
+        ensures more { result ≡ has_further (in_character partial byte) }
+        ensures state { self.new ≡ further_state (in_character partial byte) self.old }
+    {
+        partial.left > 1
+            && partial.takes(byte)
+            && self.go_to(State::Character(Partial {
+                is_alt: partial.is_alt,
+                code: partial.code_with(byte),
+                left: partial.left - 1,
+                low: 0x80,
+                high: 0xbf,
+            }))
+    }
+
+    #[tactic(auto, unfolding(crate::specs::Decoding::after_single))]
+    fn goes_on_single(&mut self, number: u32, byte: u8) -> bool
+        ensures more { result ≡ has_further (after_single number byte) }
+        ensures state { self.new ≡ further_state (after_single number byte) self.old }
+    {
+        byte.is_ascii_digit() && self.go_to(State::Single(with_digit(number, byte)))
+    }
+
+    #[tactic(auto, unfolding(crate::specs::Decoding::in_text))]
+    fn goes_on_text(&mut self, has_bell: bool, byte: u8) -> bool
+        ensures more { result ≡ has_further (in_text has_bell byte) }
+        ensures state { self.new ≡ further_state (in_text has_bell byte) self.old }
+    {
+        if may_be_in_string(byte) {
+            return self.go_to(State::Text(has_bell, 0));
+        }
+        byte == 0x1b && self.go_to(State::TextEscape)
+    }
+
+    // The same where few bytes come.
+    #[inline(never)]
+    #[tactic(auto, unfolding(crate::specs::Decoding::stepped))]
+    fn goes_on_rare(&mut self, byte: u8) -> bool
+        requires { IsRare self.old }
+        ensures more { result ≡ has_further (stepped self.old byte) }
+        ensures state { self.new ≡ further_state (stepped self.old byte) self.old }
+    {
+        match *self {
+            State::Single(number) => self.goes_on_single(number, byte),
+            State::Click if byte >= 32 => self.go_to(State::ClickButton(byte)),
+            State::ClickButton(button) if byte >= 32 => {
+                self.go_to(State::ClickColumn(button, byte))
+            }
+            State::Opened(opener) if may_be_in_string(byte) => {
+                self.go_to(State::Text(opener == b']', 0))
+            }
+            State::Text(has_bell, _) => self.goes_on_text(has_bell, byte),
+            _ => false,
+        }
+    }
+
+    // Whether a byte goes on with what has come.
+    #[inline(always)]
+    #[tactic(auto, unfolding(crate::specs::Decoding::stepped))]
+    fn goes_on(&mut self, byte: u8) -> bool
+        ensures more { result ≡ has_further (stepped self.old byte) }
+        ensures state { self.new ≡ further_state (stepped self.old byte) self.old }
+    {
+        match *self {
+            State::Ground => self.begins(byte, false),
+            State::Escape => self.goes_on_escape(byte),
+            State::Bracket => self.goes_on_bracket(byte),
+            State::Numbers(ref mut sequence) => sequence.push(byte),
+            State::Character(partial) => self.goes_on_character(partial, byte),
+            _ => self.goes_on_rare(byte),
+        }
+    }
+
+    // The event that a byte makes whole, if it does.
+    #[inline(always)]
+    #[tactic(auto, unfolding(crate::specs::Decoding::stepped, crate::specs::Decoding::after_bracket))]
+    fn whole(&self, byte: u8) -> Option<Event>
+        requires { has_further (stepped self.now byte) ≡ false }
+        ensures { result ≡ whole_event (stepped self.now byte) }
+    {
+        match *self {
+            State::Ground => lone(byte, false),
+            State::Escape => last_of_escape(byte),
+            State::Bracket => last(&Sequence::EMPTY, byte),
+            State::Numbers(ref sequence) => last(sequence, byte),
+            State::Character(partial) => last_of_character(partial, byte),
+            _ => self.whole_rare(byte),
+        }
+    }
+
+    // The same where few bytes come.
+    #[inline(never)]
+    #[tactic(auto, unfolding(crate::specs::Decoding::stepped))]
+    fn whole_rare(&self, byte: u8) -> Option<Event>
+        requires rare { IsRare self.now }
+        requires last { has_further (stepped self.now byte) ≡ false }
+        ensures { result ≡ whole_event (stepped self.now byte) }
+    {
+        match *self {
+            State::Single(number) => last_of_single(number, byte),
+            State::Function => last_of_function(byte),
+            State::ClickColumn(button, column) if byte >= 32 => {
+                Some(click_event(button, column, byte))
+            }
+            State::Text(has_bell, _) => last_of_text(has_bell, byte),
+            State::TextEscape if byte == b'\\' => Some(Event::Unknown),
+            _ => None,
+        }
     }
 }
 
@@ -407,56 +486,83 @@ impl Decoder {
     }
 
     /// Reads one more byte.
+    // Most bytes are characters by themselves: these take the shortest way.
     #[inline(always)]
-    #[tactic(auto, unfolding(crate::specs::Decoding::byte_told))]
+    #[tactic(auto, unfolding(crate::specs::Decoding::byte_told, crate::specs::Decoding::stepped, crate::specs::Decoding::first))]
     pub fn feed(&mut self, byte: u8) -> Fed
         ensures { (events_of result, self.new) ≡ byte_told self.old byte }
     {
-        match step(self.state, byte) {
-            Next::Whole(event) => {
-                self.state = State::Ground;
-                Fed {
-                    cut: None,
-                    event: Some(self.read(event)),
-                }
-            }
-            Next::More(state) => {
-                self.state = state;
-                Fed {
-                    cut: None,
-                    event: None,
-                }
-            }
-            Next::Apart => self.feed_apart(byte),
+        if self.is_empty() && matches!(byte, b' '..=b'~') {
+            let event = self.read(Event::Key(typed(byte as char)));
+            return Fed {
+                cut: None,
+                event: Some(event),
+            };
+        }
+        if self.state.goes_on(byte) {
+            return Fed {
+                cut: None,
+                event: None,
+            };
+        }
+        match self.state.whole(byte) {
+            Some(event) => Fed {
+                cut: None,
+                event: Some(self.tell(event)),
+            },
+            None => self.feed_apart(byte),
         }
     }
 
-    // Reads a byte that doesn't go on with what has come.
+    // Reads a byte that is apart from what has come. An ESC that ended a string goes with the byte,
+    // if the byte goes on with it.
+    #[inline(never)]
+    #[tactic(auto, unfolding(crate::specs::Decoding::begun_anew, crate::specs::Decoding::stepped))]
     fn feed_apart(&mut self, byte: u8) -> Fed
         ensures { (events_of result, self.new)
             ≡ after_cut (cut self.old.state) (begun_anew self.old.state byte) self.old.is_pasting }
     {
-        let cut = match cut(self.state) {
+        let state = self.state;
+        let cut = match cut(state) {
             Some(event) => Some(self.read(event)),
             None => None,
         };
-        match begun_anew(self.state, byte) {
-            Next::Whole(event) => {
-                self.state = State::Ground;
-                Fed {
-                    cut,
-                    event: Some(self.read(event)),
-                }
+        if matches!(state, State::TextEscape) {
+            self.state = State::Escape;
+            if self.state.goes_on(byte) {
+                return Fed { cut, event: None };
             }
-            Next::More(state) => {
-                self.state = state;
-                Fed { cut, event: None }
-            }
-            Next::Apart => {
-                self.state = State::Ground;
-                Fed { cut, event: None }
+            if let Some(event) = self.state.whole(byte) {
+                let event = Some(self.tell(event));
+                return Fed { cut, event };
             }
         }
+        let event = self.feed_anew(byte);
+        Fed { cut, event }
+    }
+
+    // Reads a byte with nothing before it.
+    #[tactic(auto, unfolding(crate::specs::Decoding::stepped))]
+    fn feed_anew(&mut self, byte: u8) -> Option<Event>
+        ensures { (some_list result, self.new) ≡ fresh (first byte false) self.old.is_pasting }
+    {
+        self.state = State::Ground;
+        if self.state.goes_on(byte) {
+            return None;
+        }
+        match self.state.whole(byte) {
+            Some(event) => Some(self.tell(event)),
+            None => None,
+        }
+    }
+
+    // Tells an event that is whole.
+    #[inline(always)]
+    fn tell(&mut self, event: Event) -> Event
+        ensures { (result ∷ [], self.new) ≡ told_event event Ground self.old.is_pasting }
+    {
+        self.state = State::Ground;
+        self.read(event)
     }
 
     /// Returns whether nothing of a further event has come.

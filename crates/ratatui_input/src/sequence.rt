@@ -1,10 +1,13 @@
 //! Sequences that begin with ESC [.
 
-ghost use Rattle.std.specs.Prelude.{◌≡◌, false};
+ghost use Rattle.std.specs.Prelude.{◌≡◌, Some, false};
 ghost use Rattle.ratatui_input.specs.Sequences.{with_digit, digit_pushed, pushed, key_event, with_shift};
 ghost use Rattle.ratatui_input.specs.Sequences.{letter_event, code_event, tilde_event, size_event};
 ghost use Rattle.ratatui_input.specs.Sequences.{position_event, keys_event, pointer_event, sequence_event};
 ghost use Rattle.ratatui_input.specs.Sequences.{no_numbers, code_key_event, typed_event, told_key_event, text_event};
+ghost use Rattle.ratatui_input.specs.Decoding.{in_sequence};
+ghost use Rattle.ratatui_input.specs.Inner.{has_further, further_state};
+ghost use Rattle.ratatui_input.specs.declared.decoder.State.TheVariants.{Numbers};
 ghost use Rattle.ratatui_input.specs.Keys.{code_key};
 ghost use Rattle.ratatui_events.specs.declared.key.KeyCode.TheVariants.{BackTab};
 
@@ -36,7 +39,7 @@ pub(crate) struct Sequence {
     pub kind: u32,
 }
 
-fn with_digit(number: u32, byte: u8) -> u32
+pub(crate) fn with_digit(number: u32, byte: u8) -> u32
     ensures { result ≡ with_digit number byte }
 {
     number.saturating_mul(10).saturating_add((byte & 15) as u32)
@@ -53,9 +56,11 @@ impl Sequence {
         kind: 0,
     };
 
+    // Takes a further digit.
+    #[inline(always)]
     #[tactic(auto, unfolding(crate::specs::Sequences::digit_pushed))]
-    fn push_digit(mut self, byte: u8) -> Sequence
-        ensures { result ≡ digit_pushed self byte }
+    fn push_digit(&mut self, byte: u8)
+        ensures { self.new ≡ digit_pushed self.old byte }
     {
         match (self.numbers, self.parts) {
             (0, 0) => self.first = with_digit(self.first, byte),
@@ -64,42 +69,48 @@ impl Sequence {
             (1, 1) => self.kind = with_digit(self.kind, byte),
             _ => {}
         }
-        self
     }
 
-    // The sequence with a byte that doesn't end it, or nothing where none stands.
+    // Takes a semicolon: a further number begins.
+    #[inline(always)]
     #[tactic(auto, unfolding(crate::specs::Sequences::pushed))]
-    pub(crate) fn push(self, byte: u8) -> Option<Sequence>
-        ensures { result ≡ pushed self byte }
+    fn push_semicolon(&mut self)
+        ensures { Some self.new ≡ pushed self.old 59 }
     {
-        match byte {
-            b'0'..=b'9' => Some(self.push_digit(byte)),
-            b';' => Some(Sequence {
-                numbers: if self.numbers < 3 {
-                    self.numbers + 1
-                } else {
-                    3
-                },
-                parts: 0,
-                third: if self.numbers == 1 { 0 } else { self.third },
-                ..self
-            }),
-            b':' => Some(Sequence {
-                parts: if self.parts < 2 { self.parts + 1 } else { 2 },
-                ..self
-            }),
-            b' '..=b'/' | b'<'..=b'?' => Some(Sequence {
-                source: Source::Other,
-                ..self
-            }),
-            _ => None,
+        self.third = if self.numbers == 1 { 0 } else { self.third };
+        self.numbers = if self.numbers < 3 {
+            self.numbers + 1
+        } else {
+            3
+        };
+        self.parts = 0;
+    }
+
+    // Takes a byte that doesn't end the sequence, if it is one that stands there. Most are digits.
+    #[inline(always)]
+    #[tactic(auto, unfolding(crate::specs::Decoding::in_sequence, crate::specs::Sequences::pushed))]
+    pub(crate) fn push(&mut self, byte: u8) -> bool
+        ensures more { result ≡ has_further (in_sequence self.old byte) }
+        ensures sequence { Numbers self.new
+            ≡ further_state (in_sequence self.old byte) (Numbers self.old) }
+    {
+        if byte.is_ascii_digit() {
+            self.push_digit(byte);
+            return true;
         }
+        match byte {
+            b';' => self.push_semicolon(),
+            b':' => self.parts = if self.parts < 2 { self.parts + 1 } else { 2 },
+            b' '..=b'/' | b'<'..=b'?' => self.source = Source::Other,
+            _ => return false,
+        }
+        true
     }
 
     // The event of the sequence with its last byte.
     #[tactic(auto, unfolding(crate::specs::Sequences::sequence_event))]
-    pub(crate) fn event(self, byte: u8) -> Event
-        ensures { result ≡ sequence_event self byte }
+    pub(crate) fn event(&self, byte: u8) -> Event
+        ensures { result ≡ sequence_event self.now byte }
     {
         match self.source {
             Source::Keys => self.keys_event(byte),
