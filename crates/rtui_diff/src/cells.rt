@@ -80,7 +80,7 @@ pub fn is_same(a: &Cell, b: &Cell) -> bool
 
 // Whether two cells of a single byte each are the same.
 #[inline(always)]
-pub fn is_same_byte(a: &Cell, b: &Cell) -> bool
+pub(crate) fn is_same_byte(a: &Cell, b: &Cell) -> bool
     requires former { IsTrue (is_single_byte a.now) }
     requires next { IsTrue (is_single_byte b.now) }
     ensures { result ≡ is_same a.now b.now }
