@@ -12,6 +12,7 @@ pub mod MeetLemmas
 pub mod BrokenLemmas
 pub mod LeaveLemmas
 pub mod LinesLemmas
+pub mod FirstLineLemmas
 pub mod PieceLemmas
 pub mod GrowLemmas
 pub mod KnownLemmas

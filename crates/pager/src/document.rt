@@ -2,11 +2,13 @@
 
 ghost use Rattle.std.specs.Prelude.{◌≡◌, ◌≤◌, ◌-◌, ◌^◌, [], length, map, min, slice_get, slice_index_or};
 ghost use Rattle.std.specs.Prelude.{◌<◌, ◌∷◌, ◌++◌, if◌then◌else◌, option_map, take, IfOk, OnOk, OnErr};
-ghost use Rattle.std.specs.Str.Lines.{lines};
+ghost use Rattle.std.specs.Prelude.{IsNone, IfSome};
+ghost use Rattle.std.specs.Str.Lines.{lines, strip_carriage_return};
 ghost use Rattle.pager.specs.Search.{numbered_line, matching, picked};
 ghost use Rattle.pager.specs.Pages.{bytes_before};
 
 use crate::sought::Sought;
+use memchr::memchr;
 use std::alloc::{AllocError, Global};
 use std::marker::Model;
 use thiserror::Error;
@@ -89,7 +91,8 @@ impl<'a> Document<'a> {
     pub fn new(alloc: Global, text: &'a str) -> Result<Document<'a>, TextError>
         ensures { IfOk result (λ d. d ≡ lines text.now) }
     {
-        let lines = collected(alloc, text)?;
+        let mut lines = Vec::new(alloc);
+        push_lines(&mut lines, text)?;
         if lines.len() > 0xffff_ffff {
             return Err(TextError::Lines);
         }
@@ -106,11 +109,13 @@ impl<'a> Document<'a> {
         ensures ok { OnOk result (self.new ≡ self.old ++ lines text.now) }
         ensures err { OnErr result (self.new ≡ self.old) }
     {
-        let more = collected(self.allocator(), text)?;
-        if more.len() > 0xffff_ffff - self.lines.len() {
+        let known = self.lines.len();
+        let added = push_lines(&mut self.lines, text);
+        if added.is_err() || self.lines.len() > 0xffff_ffff {
+            self.lines.truncate(known);
             return Err(AllocError);
         }
-        self.lines.extend_from_slice(more.as_slice())
+        Ok(())
     }
 
     /// Keeps so many first lines.
@@ -212,9 +217,40 @@ fn push_if(is_match: bool, number: u32, numbers: &mut Vec<u32>) -> Result<(), Al
     Ok(())
 }
 
-// The lines of a text, in a list.
-fn collected<'a>(alloc: Global, text: &'a str) -> Result<Vec<&'a str>, AllocError>
-    ensures { IfOk result (λ all. map (λ line. line.now) all.items ≡ lines text.now) }
+// A line less the carriage return at its end.
+fn without_return(line: &str) -> &str
+    ensures { result.now ≡ strip_carriage_return line.now }
 {
-    text.lines().collect(alloc)
+    match line.as_bytes().last() {
+        Some(b'\r') => &line[..line.len() - 1],
+        _ => line,
+    }
+}
+
+// The first line of a text, as `str::lines` gives it, and what comes after it.
+fn first_line(text: &str) -> Option<(&str, &str)>
+    ensures none { IsNone result → lines text.now ≡ [] }
+    ensures some { IfSome result (λ r. lines text.now ≡ r.0.now ∷ lines r.1.now) }
+    ensures shorter { IfSome result (λ r. length r.1.now < length text.now) }
+{
+    match memchr(b'\n', text.as_bytes()) {
+        Some(end) => Some((without_return(&text[..end]), &text[end + 1..])),
+        None if text.is_empty() => None,
+        None => Some((text, "")),
+    }
+}
+
+// Appends the lines of a text to a list, or some of them if memory is refused. `memchr` finds their
+// ends many bytes at once, which `str::lines` doesn't.
+fn push_lines<'a>(list: &mut Vec<&'a str>, text: &'a str) -> Result<(), AllocError>
+    ensures all { OnOk result (map (λ line. line.now) list.new.items
+        ≡ map (λ line. line.now) list.old.items ++ lines text.now) }
+    ensures same { take (length list.old.items) list.new.items ≡ list.old.items }
+{
+    let mut rest = text;
+    while let Some((line, after)) = first_line(rest) {
+        list.push(line)?;
+        rest = after;
+    }
+    Ok(())
 }

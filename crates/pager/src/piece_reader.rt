@@ -9,12 +9,14 @@ use crate::growing::Growing;
 use crate::piece::{More, Piece};
 use crate::text::parted_text;
 use bumpalo::Bump;
+use memchr::memrchr;
 use ratatui_acts::{Glass, Outside};
 use std::alloc::{AllocError, Global};
 use std::io::{self, ErrorKind, Read};
 use std::mem;
 
-/// How many bytes are read at once, while no event waits for more lines and while one does.
+/// How many bytes make a piece, while no event waits for more lines and while one does. Of a file
+/// few are read at once also then: they are still in the processor's cache when they are kept.
 const FEW: usize = 1 << 16;
 
 const MANY: usize = 1 << 20;
@@ -38,23 +40,6 @@ pub struct PieceReader<'a, R> {
     rest: Vec<u8>,
     // Whether the last read found something.
     flows: bool,
-}
-
-// What was found after what was read.
-#[derive(Clone, Copy)]
-struct Found {
-    // The end: nothing more comes, unless the text grows.
-    is_end: bool,
-    // Nothing was read.
-    rests: bool,
-}
-
-impl Found {
-    fn new(is_end: bool, rests: bool) -> Found
-        ensures { result ≡ record { is_end = is_end; rests = rests } }
-    {
-        Found { is_end, rests }
-    }
 }
 
 // Reads once if something is there, or the end, and tries so often. Answers how many bytes came, or
@@ -90,13 +75,10 @@ fn whole_lines(bytes: &[u8], from: usize) -> usize
     ensures most { result ≤ length bytes.now }
     ensures whole { AreWholeLines (take result bytes.now) }
 {
-    let end = bytes.len();
-    for back in 0..end - from {
-        if bytes[end - 1 - back] == b'\n' {
-            return end - back;
-        }
+    match memrchr(b'\n', &bytes[from..]) {
+        Some(last) => from + last + 1,
+        None => 0,
     }
-    0
 }
 
 impl<'a, R: Read> PieceReader<'a, R> {
@@ -152,26 +134,39 @@ impl<'a, R: Read> PieceReader<'a, R> {
         Ok(found)
     }
 
-    // Reads, and keeps what came. Answers what was found after it.
-    fn read_on(&mut self, room: usize) -> io::Result<Found>
-        requires { 0 < room }
+    // How many bytes are read at once, if so many make a piece.
+    fn room_for(&self, wanted: usize) -> usize
+        requires { 0 < wanted }
+        ensures { 0 < result }
+    {
+        if self.is_file {
+            wanted.min(FEW)
+        } else {
+            wanted
+        }
+    }
+
+    // Reads once, and a file until so many bytes came; keeps them. Answers whether the end was
+    // found.
+    fn read_on(&mut self, wanted: usize) -> io::Result<bool>
+        requires { 0 < wanted }
         ensures stays { OnOk result (Keeps
             (to_come self.old.rest.items (R.remaining self.old.reader))
             (to_come self.new.rest.items (R.remaining self.new.reader))) }
-        ensures end { IfOk result (λ found. found.is_end ≡ true
+        ensures end { IfOk result (λ is_end. is_end ≡ true
             → IsAtEnd (R.remaining self.new.reader)) }
         ensures more { OnOk result (length self.old.rest.items ≤ length self.new.rest.items) }
     {
-        match self.read_once(room)? {
-            None => return Ok(Found::new(false, true)),
-            Some(0) => return Ok(Found::new(true, true)),
-            Some(count) if !self.is_file || count == room => return Ok(Found::new(false, false)),
-            Some(_) => {}
+        let from = self.rest.len();
+        let room = self.room_for(wanted);
+        for _ in 0..=wanted / room {
+            match self.read_once(room)? {
+                Some(0) => return Ok(true),
+                Some(_) if self.is_file && self.rest.len() - from < wanted => {}
+                _ => return Ok(false),
+            }
         }
-        match self.read_once(room)? {
-            Some(0) => Ok(Found::new(true, false)),
-            _ => Ok(Found::new(false, false)),
-        }
+        Ok(false)
     }
 
     // Whether what was read ends with a line's end, or nothing is kept.
@@ -179,32 +174,34 @@ impl<'a, R: Read> PieceReader<'a, R> {
         self.rest.last().is_none_or(|byte| *byte == b'\n')
     }
 
-    // Takes so many first bytes from those that were read.
-    fn take_rest(&mut self, count: usize) -> Result<Vec<u8>, AllocError>
-        requires { count ≤ length self.old.rest.items }
-        ensures first { IfOk result (λ first. first.items ≡ take count self.old.rest.items) }
-        ensures after { OnOk result (self.new.rest.items ≡ drop count self.old.rest.items) }
-        ensures reader { OnOk result (self.new.reader ≡ self.old.reader) }
-    {
-        let after = Vec::from_slice(self.alloc, &self.rest[count..])?;
-        let mut first = mem::replace(&mut self.rest, after);
-        first.truncate(count);
-        Ok(first)
-    }
-
-    // Makes a piece of bytes, in the arena.
-    fn piece_of(&self, bytes: Vec<u8>, is_last: bool, rests: bool) -> Result<Piece<'a>, AllocError>
-        ensures is { IfOk result (IsPieceOf bytes.items) }
+    // Makes a piece of so many first bytes, in the arena.
+    fn piece_of(&self, count: usize, is_last: bool, rests: bool) -> Result<Piece<'a>, AllocError>
+        requires { count ≤ length self.now.rest.items }
+        ensures is { IfOk result (IsPieceOf (take count self.now.rest.items)) }
         ensures last { IfOk result (λ piece. piece.is_last ≡ is_last) }
     {
-        let (text, styles) = parted_text(self.alloc, bytes)?;
-        let arena: &'a Bump = self.arena;
-        Ok(Piece {
-            text: arena.try_alloc_str(text.as_str())?,
-            styles,
-            is_last,
-            rests,
-        })
+        match parted_text(self.alloc, self.arena, &self.rest[..count]) {
+            Ok((text, styles)) => Ok(Piece {
+                text,
+                styles,
+                is_last,
+                rests,
+            }),
+            Err(error) => Err(error),
+        }
+    }
+
+    // Keeps what comes after so many first bytes.
+    fn forget(&mut self, count: usize)
+        requires { count ≤ length self.old.rest.items }
+        ensures after { self.new.rest.items ≡ drop count self.old.rest.items }
+        ensures reader { self.new.reader ≡ self.old.reader }
+    {
+        if count > 0 {
+            let left = self.rest.len() - count;
+            self.rest.copy_within(count.., 0);
+            self.rest.truncate(left);
+        }
     }
 
     // How many bytes the next piece has: the whole lines that were read, and at the end all.
@@ -230,15 +227,20 @@ impl<'a, R: Read> PieceReader<'a, R> {
         ensures reader { OnOk result (self.new.reader ≡ self.old.reader) }
     {
         let count = self.count_for(is_last, from);
-        let bytes = self.take_rest(count)?;
-        self.piece_of(bytes, is_last, rests)
+        match self.piece_of(count, is_last, rests) {
+            Ok(piece) => {
+                self.forget(count);
+                Ok(piece)
+            }
+            Err(error) => Err(error),
+        }
     }
 
     // Whether all that is kept is given: the end was found, and no line is kept until it is whole.
-    fn gives_all(&self, found: Found, is_followed: bool) -> bool
-        ensures { result ≡ true → found.is_end ≡ true }
+    fn gives_all(&self, is_end: bool, is_followed: bool) -> bool
+        ensures { result ≡ true → is_end ≡ true }
     {
-        found.is_end && (!is_followed || self.is_whole())
+        is_end && (!is_followed || self.is_whole())
     }
 
     /// Reads, and gives the whole lines that came, which may be none yet; at the end all that is
@@ -255,9 +257,10 @@ impl<'a, R: Read> PieceReader<'a, R> {
             (to_come self.new.rest.items (R.remaining self.new.reader))) }
     {
         let from = self.rest.len();
-        let found = self.read_on(if is_many { MANY } else { FEW })?;
-        let is_last = self.gives_all(found, is_followed);
-        match self.cut(is_last, found.rests, from) {
+        let is_end = self.read_on(if is_many { MANY } else { FEW })?;
+        let is_last = self.gives_all(is_end, is_followed);
+        let rests = self.rest.len() == from;
+        match self.cut(is_last, rests, from) {
             Ok(piece) => Ok(piece),
             Err(error) => Err(no_memory(error)),
         }

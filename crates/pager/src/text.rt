@@ -1,11 +1,12 @@
 //! A text of any bytes.
 
-ghost use Rattle.std.specs.Prelude.{◌≡◌, false, [], IfOk, string_bytes};
+ghost use Rattle.std.specs.Prelude.{◌≡◌, false, [], IfOk};
 ghost use Rattle.std.specs.Str.{IsUtf8};
 ghost use Rattle.pager.specs.Parted.{has_signs};
 
 use crate::parting::parted;
 use crate::styles::Styles;
+use bumpalo::Bump;
 use std::alloc::{AllocError, Global};
 
 // Puts a byte as `<FF>` at the end of a text: its value in two hexadecimal digits.
@@ -32,31 +33,39 @@ fn with_bytes_shown(alloc: Global, bytes: &[u8]) -> Result<String, AllocError> {
     Ok(text)
 }
 
-// The text that bytes are in UTF-8. A byte that is part of no character stands as `<FF>`.
-fn text_of(alloc: Global, bytes: Vec<u8>) -> Result<String, AllocError>
-    ensures { IfOk result (λ text. IsUtf8 bytes.items → string_bytes text ≡ bytes.items) }
+// What a text says, in an arena, and the styles in which it says it.
+fn kept<'a>(alloc: Global, arena: &'a Bump, text: &str) -> Result<(&'a str, Styles), AllocError>
+    ensures text { IfOk result (λ r. has_signs text.now ≡ false → r.0.now ≡ text.now) }
+    ensures plain { IfOk result (λ r. has_signs text.now ≡ false → r.1 ≡ []) }
 {
-    match String::from_utf8(bytes) {
-        Ok(text) => Ok(text),
-        Err(error) => with_bytes_shown(alloc, error.as_bytes()),
+    match parted(alloc, text)? {
+        Some((said, styles)) => Ok((arena.try_alloc_str(said.as_str())?, styles)),
+        None => Ok((arena.try_alloc_str(text)?, Styles::new(alloc))),
     }
 }
 
-/// Returns what bytes say, and the styles in which they say it: themselves in none, if they are
-/// UTF-8 without an escape or a backspace.
+/// Returns what bytes say, in an arena, and the styles in which they say it: themselves in none, if
+/// they are UTF-8 without an escape or a backspace. A byte that is part of no character stands as
+/// `<FF>`.
 ///
 /// # Errors
 ///
 /// `AllocError` if memory is refused.
-pub fn parted_text(alloc: Global, bytes: Vec<u8>) -> Result<(String, Styles), AllocError>
-    ensures text { IfOk result (λ r. IsUtf8 bytes.items → has_signs bytes.items ≡ false
-        → string_bytes r.0 ≡ bytes.items) }
-    ensures plain { IfOk result (λ r. IsUtf8 bytes.items → has_signs bytes.items ≡ false
+pub fn parted_text<'a>(
+    alloc: Global,
+    arena: &'a Bump,
+    bytes: &[u8],
+) -> Result<(&'a str, Styles), AllocError>
+    ensures text { IfOk result (λ r. IsUtf8 bytes.now → has_signs bytes.now ≡ false
+        → r.0.now ≡ bytes.now) }
+    ensures plain { IfOk result (λ r. IsUtf8 bytes.now → has_signs bytes.now ≡ false
         → r.1 ≡ []) }
 {
-    let text = text_of(alloc, bytes)?;
-    match parted(alloc, text.as_str())? {
-        Some(both) => Ok(both),
-        None => Ok((text, Styles::new(alloc))),
+    match str::from_utf8(bytes) {
+        Ok(text) => kept(alloc, arena, text),
+        Err(_) => {
+            let text = with_bytes_shown(alloc, bytes)?;
+            kept(alloc, arena, text.as_str())
+        }
     }
 }
