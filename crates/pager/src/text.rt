@@ -7,6 +7,7 @@ ghost use Rattle.pager.specs.Parted.{has_signs};
 use crate::parting::parted;
 use crate::styles::Styles;
 use bumpalo::Bump;
+use simdutf8::basic::from_utf8;
 use std::alloc::{AllocError, Global};
 
 // Puts a byte as `<FF>` at the end of a text: its value in two hexadecimal digits.
@@ -61,7 +62,7 @@ pub fn parted_text<'a>(
     ensures plain { IfOk result (λ r. IsUtf8 bytes.now → has_signs bytes.now ≡ false
         → r.1 ≡ []) }
 {
-    match str::from_utf8(bytes) {
+    match from_utf8(bytes) {
         Ok(text) => kept(alloc, arena, text),
         Err(_) => {
             let text = with_bytes_shown(alloc, bytes)?;
