@@ -12,3 +12,4 @@ pub mod LawLemmas
 pub mod FindLemmas
 pub mod LineLaws
 pub mod RowLemmas
+pub mod PlainLemmas

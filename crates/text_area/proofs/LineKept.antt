@@ -9,8 +9,7 @@ use Rattle.std.specs.{List.replace_range, Str.IsUtf8, Str.IsCharBoundary}
 use Rattle.unicode_segmentation.specs.Grapheme.{graphemes}
 use Rattle.rtui_text.specs.Printable.{IsPrintable, ArePrintable, IsPrintableFront, singles}
 use Rattle.rtui_text.proofs.{PrintableLemmas.graphemes-front, GraphemeLemmas.graphemes-empty}
-use Rattle.text_area.specs.Extents.{in_run, line_left, line_right}
-use Rattle.text_area.specs.declared.extent.Run.TheVariants as run
+use Rattle.text_area.specs.Extents.{in_line, line_left, line_right}
 use Rattle.text_area.specs.Lines.{feeds, first_line, last_line, column_after, nth_place, place_above, place_below}
 use Rattle.text_area.specs.Inner.{IsKept}
 use Rattle.text_area.specs.declared.kept.KeptLine.{KeptLine}
@@ -36,10 +35,10 @@ pub piece-feeds : (piece : List ℕ) (k : ℕ) → feeds piece ≡ 0 → k < len
 piece-feeds piece k none lt feed =
     omega (arith, none, feeds-step piece k lt feed, feeds-le piece (k + 1))
 
-other : (b : ℕ) → b ≢ 10 → in_run run.Line b ≡ true
+other : (b : ℕ) → b ≢ 10 → in_line b ≡ true
 other b is = ap not (ne_eqb _ _ is)
 
-feed-is : (b : ℕ) → b ≡ 10 → in_run run.Line b ≡ false
+feed-is : (b : ℕ) → b ≡ 10 → in_line b ≡ false
 feed-is b is = ap (λ x. not (x == 10)) is
 
 module _ (text : List ℕ) (line : KeptLine) (kept : IsKept text line) (at : ℕ) (from : line.start ≤ at) (to : at ≤ line.end) where
@@ -51,21 +50,21 @@ module _ (text : List ℕ) (line : KeptLine) (kept : IsKept text line) (at : ℕ
 
   left-is : line_left (take at text) ≡ at - line.start
   left-is =
-      suffix_len_is (in_run run.Line) (take at text) line.start 0 (omega (arith, size, from))
-      (λ k low high. ap (in_run run.Line) (get_or-take at text k 0 (omega (arith, size, high)))
+      suffix_len_is in_line (take at text) line.start 0 (omega (arith, size, from))
+      (λ k low high. ap in_line (get_or-take at text k 0 (omega (arith, size, high)))
       ∙ other (get_or text k 0) (kept.none k low (omega (arith, size, high, to))))
-      (λ some. ap (in_run run.Line) (get_or-take at text (line.start - 1) 0 (omega (arith, some, from)))
+      (λ some. ap in_line (get_or-take at text (line.start - 1) 0 (omega (arith, some, from)))
       ∙ feed-is _ (kept.begins.feed some))
       ∙ ap (λ n. n - line.start) size
 
   right-is : line_right (drop at text) ≡ line.end - at
   right-is =
-      prefix_len_is (in_run run.Line) (drop at text) (line.end - at) 0
+      prefix_len_is in_line (drop at text) (line.end - at) 0
       (omega (arith, length-drop at text, kept.boundary.0))
-      (λ k lt. ap (in_run run.Line) (get_or-drop at text k 0)
+      (λ k lt. ap in_line (get_or-drop at text k 0)
       ∙ other (get_or text (at + k) 0) (kept.none (at + k) (omega (arith, from)) (omega (arith, lt))))
       (λ lt. let end : at + (line.end - at) ≡ line.end = omega (arith, to) in
-      ap (in_run run.Line) (get_or-drop at text (line.end - at) 0 ∙ ap (λ k. get_or text k 0) end)
+      ap in_line (get_or-drop at text (line.end - at) 0 ∙ ap (λ k. get_or text k 0) end)
       ∙ feed-is _ (kept.feed (omega (arith, lt, length-drop at text, to))))
 
   pub kept-row : feeds (take line.start text) ≡ feeds (take at text)

@@ -17,19 +17,22 @@ is_feed b = b == 10
 abbrev pub is_gap : ℕ → Bool
 is_gap b = (b == 10) || ((b == 9) || (b == 32))
 
--- a byte of a line, of a word or between words
+-- a byte of a line
+abbrev pub in_line : ℕ → Bool
+in_line b = not (is_feed b)
+
+-- a byte of a word or between words
 abbrev pub in_run : Run → ℕ → Bool
-in_run run.Line b = not (is_feed b)
 in_run run.Word b = not (is_gap b)
 in_run run.Gap b = is_gap b
 
 -- how many bytes of a line a text begins with
 abbrev pub line_right : List ℕ → ℕ
-line_right text = prefix_len (in_run run.Line) text
+line_right text = prefix_len in_line text
 
 -- how many bytes of a line it ends with
 abbrev pub line_left : List ℕ → ℕ
-line_left text = suffix_len (in_run run.Line) text
+line_left text = suffix_len in_line text
 
 -- how far it is to the right: over the first grapheme, over what is between words and the word after it, to
 -- the

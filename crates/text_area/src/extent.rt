@@ -10,6 +10,7 @@ ghost use Rattle.text_area.specs.Extents.{is_gap, in_run, line_left, line_right}
 ghost use Rattle.text_area.specs.Extents.{extent_left, extent_right};
 ghost use Rattle.text_area.specs.declared.extent.Extent.TheVariants.{Grapheme, Word, LineOrBreak};
 
+use memchr::{memchr, memrchr};
 use unicode_segmentation::UnicodeSegmentation;
 
 /// An `Extent` says how far a move goes from the cursor on.
@@ -29,12 +30,11 @@ pub enum Extent {
     Text,
 }
 
-// What a run of bytes is made of: what is between words, words or lines.
+// What a run of bytes is made of: what is between words, or words.
 #[derive(Clone, Copy)]
 enum Run {
     Gap,
     Word,
-    Line,
 }
 
 // Whether a byte stands between words.
@@ -51,7 +51,6 @@ fn in_run(run: Run, byte: u8) -> bool
     match run {
         Run::Gap => is_gap(byte),
         Run::Word => !is_gap(byte),
-        Run::Line => byte != b'\n',
     }
 }
 
@@ -83,25 +82,31 @@ fn run_start(bytes: &[u8], end: usize, run: Run) -> usize
 }
 
 // Where the line begins in which a place stands.
-#[tactic(auto, using(crate::proofs::RunLemmas::run_rules))]
+#[tactic(auto, using(crate::proofs::RunLemmas::line_rules))]
 pub(crate) fn line_begin(text: &str, at: usize) -> usize
     requires { at ≤ length text.now }
     ensures value { result + line_left (take at text.now) ≡ at }
     ensures boundary { IsCharBoundary text.now result }
     ensures stops { 0 < result → slice_index text.now (result - 1) ≡ 10 }
 {
-    run_start(text.as_bytes(), at, Run::Line)
+    match memrchr(b'\n', &text.as_bytes()[..at]) {
+        Some(feed) => feed + 1,
+        None => 0,
+    }
 }
 
 // Where the line ends in which a place stands.
-#[tactic(auto, using(crate::proofs::RunLemmas::run_rules))]
+#[tactic(auto, using(crate::proofs::RunLemmas::line_rules))]
 pub(crate) fn line_end(text: &str, at: usize) -> usize
     requires { at ≤ length text.now }
     ensures value { result ≡ at + line_right (drop at text.now) }
     ensures boundary { IsCharBoundary text.now result }
     ensures stops { result < length text.now → slice_index text.now result ≡ 10 }
 {
-    run_end(text.as_bytes(), at, Run::Line)
+    match memchr(b'\n', &text.as_bytes()[at..]) {
+        Some(offset) => at + offset,
+        None => text.len(),
+    }
 }
 
 // Where the word begins that stands before a place, over what is between words.

@@ -7,7 +7,7 @@ ghost use Rattle.text_area.specs.Lines.{feeds};
 ghost use Rattle.text_area.specs.Inner.{IsKept};
 
 use crate::extent::{line_begin, line_end};
-use rtui_text::printable_front;
+use crate::plain::plain_front;
 
 // Where a line begins and ends, and whether it is known to have nothing but printable characters of
 // ASCII.
@@ -22,7 +22,7 @@ pub(crate) struct KeptLine {
 fn is_plain(text: &str) -> bool
     ensures { result ≡ true → ArePrintable text.now }
 {
-    printable_front(text, text.len()) == text.len()
+    plain_front(text, text.len()) == text.len()
 }
 
 // The line in which a place stands.

@@ -28,6 +28,7 @@ mod keys;
 pub mod laws;
 mod lines;
 mod moves;
+mod plain;
 mod rows;
 mod steps;
 mod typed;

@@ -11,7 +11,7 @@ ghost use Rattle.text_area.specs.Lines.{place_below, first_line, nth_line};
 ghost use Rattle.text_area.specs.Inner.{BeginsLine};
 
 use crate::extent::{line_begin, line_end};
-use rtui_text::printable_front;
+use crate::plain::plain_front;
 use unicode_segmentation::UnicodeSegmentation;
 
 // How many graphemes a text has.
@@ -19,7 +19,7 @@ use unicode_segmentation::UnicodeSegmentation;
 fn grapheme_count(text: &str) -> usize
     ensures { result ≡ length (graphemes true text.now) }
 {
-    let front = printable_front(text, text.len());
+    let front = plain_front(text, text.len());
     front + counted(&text[front..])
 }
 
@@ -45,7 +45,7 @@ pub(crate) fn column_after(before: &str) -> usize
 fn after_columns(line: &str, columns: usize) -> &str
     ensures { result.now ≡ concat (drop columns (graphemes true line.now)) }
 {
-    let front = printable_front(line, columns);
+    let front = plain_front(line, columns);
     let mut left = line[front..].graphemes(true);
     let mut more = columns - front;
     'walk: while more > 0 {
@@ -161,18 +161,34 @@ pub(crate) fn place_below(text: &str, at: usize, lines: usize, columns: usize) -
     place_in_line(text, start, columns)
 }
 
-// How many line feeds a text has.
+// How many line feeds a few bytes have. Their number is a byte, too, so that many are counted at once.
 #[tactic(auto, using(crate::proofs::LineLemmas::count_rules))]
+fn few_feeds(bytes: &[u8]) -> u8
+    requires { length bytes.now ≤ 255 }
+    ensures { result ≡ feeds bytes.now }
+{
+    let mut count = 0;
+    for byte in bytes {
+        if *byte == b'\n' {
+            count += 1;
+        }
+    }
+    count
+}
+
+// How many line feeds a text has.
+#[tactic(auto, using(crate::proofs::LineLemmas::count_rules, crate::proofs::KeptLemmas::kept_rules))]
 pub(crate) fn feeds(text: &str) -> usize
     ensures value { result ≡ feeds text.now }
     ensures within { result ≤ length text.now }
 {
     let bytes = text.as_bytes();
     let mut count = 0;
-    for byte in bytes {
-        if *byte == b'\n' {
-            count += 1;
-        }
+    let mut at = 0;
+    'walk: while at < bytes.len() {
+        let end = at + (bytes.len() - at).min(255);
+        count += usize::from(few_feeds(&bytes[at..end]));
+        at = end;
     }
     count
 }

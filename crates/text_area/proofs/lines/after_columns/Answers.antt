@@ -6,12 +6,12 @@ use Rattle.text_area.proofs.lines.after_columns.Goals as goal
 pub walk-init : goal.walk-init
 walk-init c =
     let text = c.args.line.now in
-    let n : ℕ = c.printable_front-front.result in
-    let max = c.printable_front-front.ensures.max in
+    let n : ℕ = c.plain_front-front.result in
+    let max = c.plain_front-front.ensures.max in
     let size : n ≡ c.args.columns - (c.args.columns - n) = omega (arith, max) in (
       c.graphemes-left.ensures.left
           ∙ ap (graphemes true) c.range_from.ensures.value
-          ∙ front-left text n c.printable_front-front.ensures.front.within c.printable_front-front.ensures.graphemes
+          ∙ front-left text n c.plain_front-front.ensures.front.within c.plain_front-front.ensures.graphemes
           ∙ ap (λ k. drop k (graphemes true text)) size,
       omega (arith, max),
     )
