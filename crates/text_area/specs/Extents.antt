@@ -6,8 +6,6 @@ use Rattle.unicode_segmentation.specs.Grapheme.{graphemes}
 use Rattle.text_field.specs.Reach.{first_text, last_text}
 use Rattle.text_area.specs.declared.extent.Extent.{Extent}
 use Rattle.text_area.specs.declared.extent.Extent.TheVariants.{Grapheme, Word, Line, LineOrBreak, Text}
-use Rattle.text_area.specs.declared.extent.Run.{Run}
-use Rattle.text_area.specs.declared.extent.Run.TheVariants as run
 
 -- a line feed, which stands between two lines
 abbrev pub is_feed : ℕ → Bool
@@ -15,16 +13,14 @@ is_feed b = b == 10
 
 -- a byte between two words: a line feed, a tab or a blank
 abbrev pub is_gap : ℕ → Bool
-is_gap b = (b == 10) || ((b == 9) || (b == 32))
+is_gap b = b == 10 || b == 9 || b == 32
 
--- a byte of a line
+-- a byte of a line, and one of a word
 abbrev pub in_line : ℕ → Bool
 in_line b = not (is_feed b)
 
--- a byte of a word or between words
-abbrev pub in_run : Run → ℕ → Bool
-in_run run.Word b = not (is_gap b)
-in_run run.Gap b = is_gap b
+abbrev pub in_word : ℕ → Bool
+in_word b = not (is_gap b)
 
 -- how many bytes of a line a text begins with
 abbrev pub line_right : List ℕ → ℕ
@@ -40,8 +36,8 @@ line_left text = suffix_len in_line text
 abbrev pub extent_right : Extent → List ℕ → ℕ
 extent_right Grapheme text = length (first_text (graphemes true text))
 extent_right Word text =
-    let gap = prefix_len (in_run run.Gap) text in
-    gap + prefix_len (in_run run.Word) (drop gap text)
+    let gap = prefix_len is_gap text in
+    gap + prefix_len in_word (drop gap text)
 extent_right Line text = line_right text
 extent_right LineOrBreak text = if line_right text == 0 then length (take 1 text) else line_right text
 extent_right Text text = length text
@@ -50,8 +46,8 @@ extent_right Text text = length text
 abbrev pub extent_left : Extent → List ℕ → ℕ
 extent_left Grapheme text = length (last_text (graphemes true text))
 extent_left Word text =
-    let gap = suffix_len (in_run run.Gap) text in
-    gap + suffix_len (in_run run.Word) (take (length text - gap) text)
+    let gap = suffix_len is_gap text in
+    gap + suffix_len in_word (take (length text - gap) text)
 extent_left Line text = line_left text
 extent_left LineOrBreak text = if line_left text == 0 then length (take 1 text) else line_left text
 extent_left Text text = length text

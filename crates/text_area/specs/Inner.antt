@@ -1,8 +1,17 @@
 -- What private functions promise one another.
-use Rattle.std.specs.Prelude.{◌≡◌, ◌≢◌, ℕ, ◌-◌, ◌<◌, ◌≤◌, true, List, length, slice_index}
+use Rattle.std.specs.Prelude.{◌≡◌, ◌≢◌, ℕ, ◌-◌, ◌<◌, ◌≤◌, Bool, true, ◌&&◌, nat_le, nat_lt}
+use Rattle.std.specs.Prelude.{List, length, slice_index}
 use Rattle.std.specs.Str.{IsCharBoundary}
 use Rattle.rtui_text.specs.Printable.{IsPrintable}
+use Rattle.text_area.specs.Extents.{is_gap}
+use Rattle.text_area.specs.declared.runs.Run.{Run}
+use Rattle.text_area.specs.declared.runs.Run.TheVariants as run
 use Rattle.text_area.specs.declared.kept.KeptLine.{KeptLine}
+
+-- a byte of a run
+abbrev pub in_run : Run → ℕ → Bool
+in_run run.Gap b = is_gap b
+in_run run.Printable b = nat_le 0x20 b && nat_lt b 0x7F
 
 -- a line begins at a place
 pub record BeginsLine (text : List ℕ) (start : ℕ) : Type 0 where

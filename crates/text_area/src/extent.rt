@@ -6,11 +6,12 @@ ghost use Rattle.std.specs.List.{prefix_len, suffix_len};
 ghost use Rattle.std.specs.Str.{IsCharBoundary};
 ghost use Rattle.unicode_segmentation.specs.Grapheme.{graphemes};
 ghost use Rattle.text_field.specs.Reach.{first_text, last_text};
-ghost use Rattle.text_area.specs.Extents.{is_gap, in_run, line_left, line_right};
+ghost use Rattle.text_area.specs.Extents.{is_gap, in_word, line_left, line_right};
 ghost use Rattle.text_area.specs.Extents.{extent_left, extent_right};
 ghost use Rattle.text_area.specs.declared.extent.Extent.TheVariants.{Grapheme, Word, LineOrBreak};
 
-use memchr::{memchr, memrchr};
+use crate::runs::{Run, run_end, run_start};
+use memchr::{memchr, memchr3, memrchr, memrchr3};
 use unicode_segmentation::UnicodeSegmentation;
 
 /// An `Extent` says how far a move goes from the cursor on.
@@ -30,59 +31,8 @@ pub enum Extent {
     Text,
 }
 
-// What a run of bytes is made of: what is between words, or words.
-#[derive(Clone, Copy)]
-enum Run {
-    Gap,
-    Word,
-}
-
-// Whether a byte stands between words.
-fn is_gap(byte: u8) -> bool
-    ensures { result ≡ is_gap byte }
-{
-    byte == b'\n' || byte == b'\t' || byte == b' '
-}
-
-// Whether a byte is one of a run.
-fn in_run(run: Run, byte: u8) -> bool
-    ensures { result ≡ in_run run byte }
-{
-    match run {
-        Run::Gap => is_gap(byte),
-        Run::Word => !is_gap(byte),
-    }
-}
-
-// Where the run ends that begins at a place.
-fn run_end(bytes: &[u8], start: usize, run: Run) -> usize
-    requires { start ≤ length bytes.now }
-    ensures value { result ≡ start + prefix_len (in_run run) (drop start bytes.now) }
-    ensures within { result ≤ length bytes.now }
-    ensures stops { result < length bytes.now → in_run run (slice_index bytes.now result) ≡ false }
-{
-    let mut end = start;
-    'walk: while end < bytes.len() && in_run(run, bytes[end]) {
-        end += 1;
-    }
-    end
-}
-
-// Where the run begins that ends at a place.
-fn run_start(bytes: &[u8], end: usize, run: Run) -> usize
-    requires { end ≤ length bytes.now }
-    ensures value { result + suffix_len (in_run run) (take end bytes.now) ≡ end }
-    ensures stops { 0 < result → in_run run (slice_index bytes.now (result - 1)) ≡ false }
-{
-    let mut start = end;
-    'walk: while start > 0 && in_run(run, bytes[start - 1]) {
-        start -= 1;
-    }
-    start
-}
-
 // Where the line begins in which a place stands.
-#[tactic(auto, using(crate::proofs::RunLemmas::line_rules))]
+#[tactic(auto, using(crate::proofs::RunLemmas::run_rules))]
 pub(crate) fn line_begin(text: &str, at: usize) -> usize
     requires { at ≤ length text.now }
     ensures value { result + line_left (take at text.now) ≡ at }
@@ -96,7 +46,6 @@ pub(crate) fn line_begin(text: &str, at: usize) -> usize
 }
 
 // Where the line ends in which a place stands.
-#[tactic(auto, using(crate::proofs::RunLemmas::line_rules))]
 pub(crate) fn line_end(text: &str, at: usize) -> usize
     requires { at ≤ length text.now }
     ensures value { result ≡ at + line_right (drop at text.now) }
@@ -109,6 +58,31 @@ pub(crate) fn line_end(text: &str, at: usize) -> usize
     }
 }
 
+// Where the bytes of a word begin that end at a place.
+fn letters_begin(bytes: &[u8], at: usize) -> usize
+    requires { at ≤ length bytes.now }
+    ensures value { result + suffix_len in_word (take at bytes.now) ≡ at }
+    ensures stops { 0 < result → is_gap (slice_index bytes.now (result - 1)) ≡ true }
+{
+    match memrchr3(b'\n', b'\t', b' ', &bytes[..at]) {
+        Some(gap) => gap + 1,
+        None => 0,
+    }
+}
+
+// Where the bytes of a word end that begin at a place.
+fn letters_end(bytes: &[u8], at: usize) -> usize
+    requires { at ≤ length bytes.now }
+    ensures value { result ≡ at + prefix_len in_word (drop at bytes.now) }
+    ensures within { result ≤ length bytes.now }
+    ensures stops { result < length bytes.now → is_gap (slice_index bytes.now result) ≡ true }
+{
+    match memchr3(b'\n', b'\t', b' ', &bytes[at..]) {
+        Some(offset) => at + offset,
+        None => bytes.len(),
+    }
+}
+
 // Where the word begins that stands before a place, over what is between words.
 #[tactic(auto, using(crate::proofs::RunLemmas::run_rules))]
 fn word_begin(text: &str, at: usize) -> usize
@@ -117,8 +91,7 @@ fn word_begin(text: &str, at: usize) -> usize
     ensures boundary { IsCharBoundary text.now result }
 {
     let bytes = text.as_bytes();
-    let gap = run_start(bytes, at, Run::Gap);
-    run_start(bytes, gap, Run::Word)
+    letters_begin(bytes, run_start(bytes, at, Run::Gap))
 }
 
 // Where the word ends that stands after a place, over what is between words.
@@ -129,8 +102,7 @@ fn word_end(text: &str, at: usize) -> usize
     ensures boundary { IsCharBoundary text.now result }
 {
     let bytes = text.as_bytes();
-    let gap = run_end(bytes, at, Run::Gap);
-    run_end(bytes, gap, Run::Word)
+    letters_end(bytes, run_end(bytes, at, Run::Gap))
 }
 
 // Where the line begins in which a place stands, or the place before the line feed there.

@@ -6,36 +6,9 @@ ghost use Rattle.std.specs.Str.{IsCharBoundary};
 ghost use Rattle.unicode_segmentation.specs.Grapheme.{graphemes};
 ghost use Rattle.rtui_text.specs.Printable.{IsPrintable, ArePrintable, IsPrintableFront, singles};
 
-use rtui_text::printable_front;
+use crate::runs::{Run, run_end};
 
-// Whether each byte is a printable character of ASCII. No byte ends the loop early, so that many are
-// tested at once.
-fn are_printable(bytes: &[u8]) -> bool
-    ensures { IsTrue result → ArePrintable bytes.now }
-{
-    let mut all = true;
-    for byte in bytes {
-        all &= *byte >= 0x20 && *byte < 0x7F;
-    }
-    all
-}
-
-// How many bytes the blocks of 128 take that have nothing but printable characters of ASCII.
-#[tactic(auto, using(crate::proofs::PlainLemmas::block_rules))]
-fn blocks_len(bytes: &[u8], max: usize) -> usize
-    ensures max { result ≤ max }
-    ensures within { result ≤ length bytes.now }
-    ensures printable { (k : ℕ) → k < result → IsPrintable (slice_index bytes.now k) }
-{
-    let end = max.min(bytes.len());
-    let mut len = 0;
-    'walk: while end - len >= 128 && are_printable(&bytes[len..len + 128]) {
-        len += 128;
-    }
-    len
-}
-
-// The same number, or one less if a character beyond ASCII stands there, which may join the one before.
+// So many bytes, or one less if a character beyond ASCII stands there, which may join the one before.
 fn front_of(bytes: &[u8], len: usize) -> usize
     requires within { len ≤ length bytes.now }
     requires printable { (k : ℕ) → k < len → IsPrintable (slice_index bytes.now k) }
@@ -59,7 +32,7 @@ pub(crate) fn plain_front(text: &str, max: usize) -> usize
     ensures graphemes { graphemes true text.now
         ≡ singles (take result text.now) ++ graphemes true (drop result text.now) }
 {
-    let blocks = blocks_len(text.as_bytes(), max);
-    let more = printable_front(&text[blocks..], max - blocks);
-    front_of(text.as_bytes(), blocks + more)
+    let bytes = text.as_bytes();
+    let end = max.min(bytes.len());
+    front_of(bytes, run_end(&bytes[..end], 0, Run::Printable))
 }
