@@ -31,7 +31,7 @@ WORKLOADS = (
     "widths_letters widths_wide boxes_exact boxes_fuzzy diff_letters diff_empty diff_wide style reset sets fill_reset "
     "merge_same merge_half empty filled clone resize term_resize "
     "block paragraph_wrapped paragraph_long list_1000 list table_1000 table table_new tabs bars sparkline "
-    "chart_line chart_dots canvas canvas_kept scrollbar keys_text keys_arrows keys_mouse split_3 split_8 split_20"
+    "chart_line chart_dots canvas canvas_kept scrollbar keys_text keys_arrows keys_mouse area_type area_feed area_up split_3 split_8 split_20"
 ).split()
 SECONDS = 0.25
 FEW, MANY = 4, 10
