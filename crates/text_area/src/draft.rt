@@ -183,7 +183,7 @@ impl Draft {
         ensures value { result ≡ place_below lines columns self.now.before (draft_text self.now) }
         ensures boundary { IsCharBoundary (draft_text self.now) result }
     {
-        place_below(self.text.as_str(), self.line.start, lines, columns)
+        place_below(self.text.as_str(), self.line.end, lines, columns)
     }
 
     // A place whose line's number is known: of the text's start, the cursor and the text's end the

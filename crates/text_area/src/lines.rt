@@ -12,6 +12,7 @@ ghost use Rattle.text_area.specs.Inner.{BeginsLine};
 
 use crate::extent::{line_begin, line_end};
 use crate::plain::plain_front;
+use crate::runs::BLOCK;
 use unicode_segmentation::UnicodeSegmentation;
 
 // How many graphemes a text has.
@@ -94,15 +95,75 @@ pub(crate) fn next_line(text: &str, at: usize) -> Option<usize>
     }
 }
 
-// Where the line begins that is so many above the one that begins at a place.
+// How many line feeds a few bytes have. Their number is a byte, too, so that many are counted at once.
+#[tactic(auto, using(crate::proofs::LineLemmas::count_rules))]
+fn few_feeds(bytes: &[u8]) -> u8
+    requires { length bytes.now ≤ 255 }
+    ensures { result ≡ feeds bytes.now }
+{
+    let mut count = 0;
+    for byte in bytes {
+        if *byte == b'\n' {
+            count += 1;
+        }
+    }
+    count
+}
+
+// A place above another one, and how many lines are left to go up from there. It passes over blocks
+// of bytes that have no more line feeds than that.
+#[tactic(auto, using(crate::proofs::KeptLemmas::kept_rules))]
+fn skipped_above(text: &str, at: usize, lines: usize) -> (usize, usize)
+    requires { at ≤ length text.now }
+    ensures within { result.0 ≤ at }
+    ensures left { feeds (take result.0 text.now) + lines ≡ feeds (take at text.now) + result.1 }
+{
+    let bytes = text.as_bytes();
+    let mut top = at;
+    let mut left = lines;
+    'walk: while left > 0 && top >= BLOCK {
+        let count = usize::from(few_feeds(&bytes[top - BLOCK..top]));
+        if count > left {
+            return (top, left);
+        }
+        top -= BLOCK;
+        left -= count;
+    }
+    (top, left)
+}
+
+// A place below another one, and how many lines are left to go down from there. It passes over
+// blocks of bytes that have fewer line feeds than that.
+#[tactic(auto, using(crate::proofs::KeptLemmas::kept_rules))]
+fn skipped_below(text: &str, at: usize, lines: usize) -> (usize, usize)
+    requires { at ≤ length text.now }
+    ensures within { result.0 ≤ length text.now }
+    ensures left { feeds (take result.0 text.now) + result.1 ≡ feeds (take at text.now) + lines }
+{
+    let bytes = text.as_bytes();
+    let mut end = at;
+    let mut left = lines;
+    'walk: while bytes.len() - end >= BLOCK {
+        let count = usize::from(few_feeds(&bytes[end..end + BLOCK]));
+        if count >= left {
+            return (end, left);
+        }
+        end += BLOCK;
+        left -= count;
+    }
+    (end, left)
+}
+
+// Where the line begins that is so many above the one in which a place stands.
 #[tactic(auto, using(crate::proofs::LineLemmas::step_rules))]
-fn start_above(text: &str, start: usize, lines: usize) -> usize
-    requires { BeginsLine text.now start }
-    ensures value { result ≡ nth_start (feeds (take start text.now) - lines) text.now }
+fn start_above(text: &str, at: usize, lines: usize) -> usize
+    requires { at ≤ length text.now }
+    ensures value { result ≡ nth_start (feeds (take at text.now) - lines) text.now }
     ensures begins { BeginsLine text.now result }
 {
-    let mut top = start;
-    let mut left = lines;
+    let (place, more) = skipped_above(text, at, lines);
+    let mut top = start_of_line(text, place);
+    let mut left = more;
     'walk: while left > 0 && top > 0 {
         top = start_of_line(text, top - 1);
         left -= 1;
@@ -110,24 +171,23 @@ fn start_above(text: &str, start: usize, lines: usize) -> usize
     top
 }
 
-// Where the line begins that is so many below the one that begins at a place.
+// Where the line begins that is so many below the one in which a place stands.
 #[tactic(auto, using(crate::proofs::LineLemmas::step_rules))]
-fn start_below(text: &str, start: usize, lines: usize) -> usize
-    requires { BeginsLine text.now start }
+fn start_below(text: &str, at: usize, lines: usize) -> usize
+    requires { at ≤ length text.now }
     ensures value { result
-        ≡ nth_start (min (feeds (take start text.now) + lines) (feeds text.now)) text.now }
+        ≡ nth_start (min (feeds (take at text.now) + lines) (feeds text.now)) text.now }
     ensures begins { BeginsLine text.now result }
 {
-    let mut top = start;
-    let mut left = lines;
+    let (mut place, mut left) = skipped_below(text, at, lines);
     'walk: while left > 0 {
-        let Some(next) = next_line(text, top) else {
-            return top;
+        let Some(next) = next_line(text, place) else {
+            return start_of_line(text, place);
         };
-        top = next;
+        place = next;
         left -= 1;
     }
-    top
+    start_of_line(text, place)
 }
 
 // The place after so many graphemes of the line that begins at a place.
@@ -147,7 +207,7 @@ pub(crate) fn place_above(text: &str, at: usize, lines: usize, columns: usize) -
     ensures value { result ≡ place_above lines columns (take at text.now) text.now }
     ensures boundary { IsCharBoundary text.now result }
 {
-    let start = start_above(text, start_of_line(text, at), lines);
+    let start = start_above(text, at, lines);
     place_in_line(text, start, columns)
 }
 
@@ -157,23 +217,8 @@ pub(crate) fn place_below(text: &str, at: usize, lines: usize, columns: usize) -
     ensures value { result ≡ place_below lines columns (take at text.now) text.now }
     ensures boundary { IsCharBoundary text.now result }
 {
-    let start = start_below(text, start_of_line(text, at), lines);
+    let start = start_below(text, at, lines);
     place_in_line(text, start, columns)
-}
-
-// How many line feeds a few bytes have. Their number is a byte, too, so that many are counted at once.
-#[tactic(auto, using(crate::proofs::LineLemmas::count_rules))]
-fn few_feeds(bytes: &[u8]) -> u8
-    requires { length bytes.now ≤ 255 }
-    ensures { result ≡ feeds bytes.now }
-{
-    let mut count = 0;
-    for byte in bytes {
-        if *byte == b'\n' {
-            count += 1;
-        }
-    }
-    count
 }
 
 // How many line feeds a text has.
@@ -186,7 +231,7 @@ pub(crate) fn feeds(text: &str) -> usize
     let mut count = 0;
     let mut at = 0;
     'walk: while at < bytes.len() {
-        let end = at + (bytes.len() - at).min(255);
+        let end = at + (bytes.len() - at).min(BLOCK);
         count += usize::from(few_feeds(&bytes[at..end]));
         at = end;
     }
@@ -221,7 +266,7 @@ fn start_before(text: &str, at: usize, row: usize, line: usize) -> usize
     if line < above {
         start_below(text, 0, line)
     } else {
-        start_above(text, start_of_line(text, at), above)
+        start_above(text, at, above)
     }
 }
 
@@ -239,9 +284,9 @@ fn start_from(text: &str, at: usize, row: usize, last: usize, line: usize) -> us
     let below = line - row;
     let above = last - line;
     if above < below {
-        start_above(text, start_of_line(text, text.len()), above)
+        start_above(text, text.len(), above)
     } else {
-        start_below(text, start_of_line(text, at), below)
+        start_below(text, at, below)
     }
 }
 

@@ -6,6 +6,9 @@ ghost use Rattle.std.specs.List.{prefix_len, suffix_len};
 ghost use Rattle.text_area.specs.Extents.{is_gap};
 ghost use Rattle.text_area.specs.Inner.{in_run};
 
+// How many bytes are read at once.
+pub(crate) const BLOCK: usize = 192;
+
 // What a run of bytes is made of: what is between words, or printable characters of ASCII.
 #[derive(Clone, Copy)]
 pub(crate) enum Run {
@@ -42,7 +45,7 @@ fn are_in_run(run: Run, bytes: &[u8]) -> bool
     all
 }
 
-// Where the blocks of 128 bytes end that are of a run and begin at a place.
+// Where the blocks end that are of a run and begin at a place.
 fn blocks_end(bytes: &[u8], start: usize, run: Run) -> usize
     requires { start ≤ length bytes.now }
     ensures order { start ≤ result }
@@ -50,21 +53,21 @@ fn blocks_end(bytes: &[u8], start: usize, run: Run) -> usize
     ensures run { (k : ℕ) → start ≤ k → k < result → in_run run (slice_index bytes.now k) ≡ true }
 {
     let mut end = start;
-    'walk: while bytes.len() - end >= 128 && are_in_run(run, &bytes[end..end + 128]) {
-        end += 128;
+    'walk: while bytes.len() - end >= BLOCK && are_in_run(run, &bytes[end..end + BLOCK]) {
+        end += BLOCK;
     }
     end
 }
 
-// Where the blocks of 128 bytes begin that are of a run and end at a place.
+// Where the blocks begin that are of a run and end at a place.
 fn blocks_start(bytes: &[u8], end: usize, run: Run) -> usize
     requires { end ≤ length bytes.now }
     ensures order { result ≤ end }
     ensures run { (k : ℕ) → result ≤ k → k < end → in_run run (slice_index bytes.now k) ≡ true }
 {
     let mut start = end;
-    'walk: while start >= 128 && are_in_run(run, &bytes[start - 128..start]) {
-        start -= 128;
+    'walk: while start >= BLOCK && are_in_run(run, &bytes[start - BLOCK..start]) {
+        start -= BLOCK;
     }
     start
 }

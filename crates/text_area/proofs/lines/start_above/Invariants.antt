@@ -4,7 +4,7 @@ use Rattle.text_area.proofs.lines.start_above.Given as goal
 
 abbrev pub invariant-walk : goal.invariant-walk
 invariant-walk l = BeginsLine l.text l.top
-    × (feeds (take l.top l.text) - l.left ≡ feeds (take l.start l.text) - l.lines)
+    × (feeds (take l.top l.text) - l.left ≡ feeds (take l.at l.text) - l.lines)
 
 abbrev pub decreases-walk : goal.decreases-walk
 decreases-walk l = l.left
