@@ -1,6 +1,7 @@
 //! What the walk asks of a cell.
 
-ghost use Rattle.std.specs.Prelude.{◌≡◌, IsTrue};
+ghost use Rattle.std.specs.Prelude.{◌≡◌, IsTrue, length};
+ghost use Rattle.std.specs.Str.{bytes_eq};
 ghost use Rattle.rtui_cell.specs.Cell.{is_single_byte};
 ghost use Rattle.rtui_cell.specs.Equality.{is_same, is_same_symbol};
 ghost use Rattle.rtui_diff.specs.Inner.{has_same_style};
@@ -51,11 +52,35 @@ pub fn is_always(cell: &Cell) -> bool
     matches!(cell.diff_option, CellDiffOption::AlwaysUpdate)
 }
 
+// Whether two texts of three bytes are the same.
+fn are_same_three(a: &[u8], b: &[u8]) -> bool
+    requires former { length a.now ≡ 3 }
+    requires next { length b.now ≡ 3 }
+    ensures { result ≡ bytes_eq a.now b.now }
+{
+    (a[0] == b[0]) & (a[1] == b[1]) & (a[2] == b[2])
+}
+
+// Whether two texts are the same. Many have three bytes, which are compared without a call.
+#[inline(always)]
+fn are_same(a: &[u8], b: &[u8]) -> bool
+    ensures { result ≡ bytes_eq a.now b.now }
+{
+    if a.len() != b.len() {
+        return false;
+    }
+    if a.len() == 3 {
+        return are_same_three(a, b);
+    }
+    a == b
+}
+
+#[inline(always)]
 #[tactic(auto, unfolding(rtui_cell::specs::Equality::is_same_symbol))]
 pub fn has_same_symbol(a: &Cell, b: &Cell) -> bool
     ensures { result ≡ is_same_symbol a.now b.now }
 {
-    a.symbol() == b.symbol()
+    are_same(a.symbol().as_bytes(), b.symbol().as_bytes())
 }
 
 // Whether two cells have the same colours, modifiers and flag.
