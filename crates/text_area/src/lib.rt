@@ -11,13 +11,13 @@
 //! nothing, and moves take no memory. The number of the cursor's line and of the last one are kept
 //! from one change to the next, and so are the places where the cursor's line begins and ends and
 //! whether it has nothing but printable characters of ASCII. What it costs: an edit moves all that
-//! stands after the cursor, and so does what undoes it (of 10 MB the memory takes some two thirds of
-//! a millisecond); a line by its number reads the lines from there to the cursor, or to the text's
-//! start or end if that is nearer; a cursor that comes to a line reads it a few times, many bytes at
-//! once (up or down in lines of 1 MB takes a fifth of a millisecond). From the first other character
-//! of a line on, its column and a move up or down read grapheme by grapheme (1 MB in some ten
-//! milliseconds). A gap after the cursor can come later under the same contracts, which see a text
-//! before the cursor and one after it.
+//! stands after the cursor, and so does what undoes it (of 10 MB the memory takes some two thirds
+//! of a millisecond); a line by its number reads the lines from there to the cursor, or to the
+//! text's start or end if that is nearer; a cursor that comes to a line reads it a few times, many
+//! bytes at once (up or down in lines of 1 MB takes a fifth of a millisecond). From the first other
+//! character of a line on, its column and a move up or down read grapheme by grapheme (1 MB in some
+//! ten milliseconds). A gap after the cursor can come later under the same contracts, which see a
+//! text before the cursor and one after it.
 #![tactic(auto)]
 
 mod area;

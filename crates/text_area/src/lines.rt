@@ -95,7 +95,8 @@ pub(crate) fn next_line(text: &str, at: usize) -> Option<usize>
     }
 }
 
-// How many line feeds a few bytes have. Their number is a byte, too, so that many are counted at once.
+// How many line feeds a few bytes have. Their number is a byte, too, so that many are counted at
+// once.
 #[tactic(auto, using(crate::proofs::LineLemmas::count_rules))]
 fn few_feeds(bytes: &[u8]) -> u8
     requires { length bytes.now ≤ 255 }
@@ -112,7 +113,6 @@ fn few_feeds(bytes: &[u8]) -> u8
 
 // A place above another one, and how many lines are left to go up from there. It passes over blocks
 // of bytes that have no more line feeds than that.
-#[tactic(auto, using(crate::proofs::KeptLemmas::kept_rules))]
 fn skipped_above(text: &str, at: usize, lines: usize) -> (usize, usize)
     requires { at ≤ length text.now }
     ensures within { result.0 ≤ at }
@@ -134,7 +134,6 @@ fn skipped_above(text: &str, at: usize, lines: usize) -> (usize, usize)
 
 // A place below another one, and how many lines are left to go down from there. It passes over
 // blocks of bytes that have fewer line feeds than that.
-#[tactic(auto, using(crate::proofs::KeptLemmas::kept_rules))]
 fn skipped_below(text: &str, at: usize, lines: usize) -> (usize, usize)
     requires { at ≤ length text.now }
     ensures within { result.0 ≤ length text.now }
@@ -222,7 +221,7 @@ pub(crate) fn place_below(text: &str, at: usize, lines: usize, columns: usize) -
 }
 
 // How many line feeds a text has.
-#[tactic(auto, using(crate::proofs::LineLemmas::count_rules, crate::proofs::KeptLemmas::kept_rules))]
+#[tactic(auto, using(crate::proofs::LineLemmas::count_rules))]
 pub(crate) fn feeds(text: &str) -> usize
     ensures value { result ≡ feeds text.now }
     ensures within { result ≤ length text.now }

@@ -8,7 +8,7 @@ ghost use Rattle.rtui_text.specs.Printable.{IsPrintable, ArePrintable, IsPrintab
 
 use crate::runs::{Run, run_end};
 
-// So many bytes, or one less if a character beyond ASCII stands there, which may join the one before.
+// So many bytes, or one less if a character beyond ASCII stands there: it may join the one before.
 fn front_of(bytes: &[u8], len: usize) -> usize
     requires within { len ≤ length bytes.now }
     requires printable { (k : ℕ) → k < len → IsPrintable (slice_index bytes.now k) }
