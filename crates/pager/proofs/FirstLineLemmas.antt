@@ -64,7 +64,7 @@ line-before bytes end first =
     let is : get_or bytes end 0 ≡ 10 = eqb-true _ _ first.1 in
     let next : suc end ≡ end + 1 = omega arith in
     let at : drop end bytes ≡ 10 ∷ after = drop-cons bytes end 0 first.0.high
-        ∙ ap (λ b. b ∷ drop (suc end) bytes) is ∙ ap (λ n. 10 ∷ drop n bytes) next in
+    ∙ ap (λ b. b ∷ drop (suc end) bytes) is ∙ ap (λ n. 10 ∷ drop n bytes) next in
     ap lines (sym (take-append-drop end bytes) ∙ ap (λ l. front ++ l) at)
     ∙ ap lines_of_parts (slice_split_at (is_byte 10) front 10 after (none-before bytes end first) refl)
     ∙ first-part front (parts after) (omega (arith, length-slice_split (is_byte 10) after))

@@ -50,10 +50,10 @@ pub through-last : (bytes : List ℕ) (from last : ℕ)
     → AreWholeLines (take (from + last + 1) bytes)
 through-last bytes from last within ends =
     let part : take (length bytes - from) (drop from bytes) ≡ drop from bytes =
-        take_all _ _ (omega (arith, length-drop from bytes)) in
+    take_all _ _ (omega (arith, length-drop from bytes)) in
     let here : get_or bytes (from + last) 0 ≡ 10 =
-        sym (get_or-drop from bytes last 0) ∙ ap (λ l. get_or l last 0) (sym part) ∙ eqb-true _ _ ends in
+    sym (get_or-drop from bytes last 0) ∙ ap (λ l. get_or l last 0) (sym part) ∙ eqb-true _ _ ends in
     let below : from + last < length bytes =
-        omega (arith, within, ap length part, length-drop from bytes) in
+    omega (arith, within, ap length part, length-drop from bytes) in
     let front = take (from + last) bytes in
     inr (front, take_more bytes (from + last) 0 below ∙ ap (λ b. front ++ b ∷ []) here)
