@@ -66,7 +66,8 @@ unfolding is_always
 single_byte_always n e = plain_always n.diff_option (single_byte_option n e)
 
 -- a cell of a single byte that is the same as the former one is not given
-pub same_byte_stays : (p n : Cell) (same : Bool) → is_single_byte n ≡ true → same ≡ is_same p n → same ≡ true → false ≡ gives_other p n
+pub same_byte_stays : (p n : Cell) (same : Bool) → is_single_byte n ≡ true → same ≡ is_same p n → same ≡ true
+    → false ≡ gives_other p n
 same_byte_stays p n same single is holds =
     rw (single_byte_always n single, ← is, holds) (sym (and-false (not (is_skipped n))))
 

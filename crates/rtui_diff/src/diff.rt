@@ -70,6 +70,7 @@ impl<'prev, 'next> Iterator for BufferDiff<'prev, 'next> {
             if self.walk.advance() {
                 return Some(self.walk.item(at));
             }
+            // after a cell that didn't change and has one column there are mostly more of them
             if self.walk.pos == at + 1 {
                 self.walk.pass_same();
             }

@@ -15,7 +15,8 @@ loop-self-preserved c =
     record {
       left = sym (given-narrow s.prev.now s.next.now s.len s.pos s.end s.force false _ _ (omega arith) was.past stays
           (prev.narrow c.if-not-is_single_byte-2.false) (next.narrow c.if-not-is_single_byte.false)
-          (get_or_default s.prev.now s.pos _ empty_cell (omega arith)) (get_or_default s.next.now s.pos _ empty_cell (omega arith)))
+          (get_or_default s.prev.now s.pos _ empty_cell (omega arith))
+          (get_or_default s.next.now s.pos _ empty_cell (omega arith)))
           ∙ was.left;
       further = omega arith;
       past = omega arith;
