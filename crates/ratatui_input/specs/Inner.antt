@@ -4,7 +4,8 @@ use Rattle.ratatui_events.specs.declared.event.Event.{Event}
 use Rattle.ratatui_input.specs.{declared.reader.Kept.Kept, Reading.kept_told}
 use Rattle.ratatui_input.specs.declared.decoder.State.{State}
 use Rattle.ratatui_input.specs.declared.decoder.Partial.{Partial}
-use Rattle.ratatui_input.specs.declared.decoder.State.TheVariants.{Ground, Escape, Bracket, Numbers, Character}
+use Rattle.ratatui_input.specs.declared.decoder.State.TheVariants.{Ground, Escape, Bracket}
+use Rattle.ratatui_input.specs.declared.decoder.State.TheVariants.{Numbers, Character}
 use Rattle.ratatui_input.specs.Decoding.{Next, Whole, More}
 
 -- whether a byte goes on, and to which state; and the event that it makes whole
