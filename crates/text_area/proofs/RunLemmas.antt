@@ -127,9 +127,6 @@ module _ (test : ℕ → Bool) (text bytes : List ℕ) (at : ℕ) (same : bytes 
   size-after = omega (arith, ap length rest-is, length-drop at text, le)
 
   module _ (n : ℕ) (none : NoneBefore (Passes test rest) 0 (length rest) n) (found : Passes test rest n) where
-    pub end-within : at + n < length text
-    end-within = omega (arith, none.high, size-after)
-
     pub end-value : at + n ≡ at + prefix_len (λ b. not (test b)) (drop at text)
     end-value = omega (
       arith,
