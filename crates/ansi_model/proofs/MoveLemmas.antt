@@ -14,15 +14,14 @@ more_digits n several fits = ap length (decimal_step n several fits) ∙ length-
 pub one_digit : (n : ℕ) → n < 10 → length (decimal n) ≡ 1
 one_digit n small = ap length (decimal_digit n small)
 
--- the number of a column or of a row
-pub short_number : (n : ℕ) → n < 65536 → length (decimal (n + 1)) ≤ 5
-short_number n fits = length-decimal-le 5 (n + 1) (omega arith) (omega arith) (omega arith)
+-- a number of 32 bits has at most ten
+pub short_number : (n : ℕ) → n < 2 ^ 32 → length (decimal n) ≤ 10
+short_number n fits = length-decimal-le 10 n (omega arith) (omega arith) (omega arith)
 
 -- a text that it was appended to
-pub number_room : (old new : List ℕ) (n most : ℕ) → n < 65536 → new ≡ old ++ decimal (n + 1) → length old ≤ most
-    → length new ≤ most + 5
-number_room old new n most fits is short =
-    let all = ap length is ∙ length-append old (decimal (n + 1)) in
+pub number_room : (old new : List ℕ) (n : ℕ) → n < 2 ^ 32 → new ≡ old ++ decimal n → length new ≤ length old + 10
+number_room old new n fits is =
+    let all = ap length is ∙ length-append old (decimal n) in
     let few = short_number n fits in
     omega arith
 

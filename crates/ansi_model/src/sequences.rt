@@ -68,8 +68,9 @@ fn write_digits(text: &mut ArrayString<ROOM>, n: u32)
 // Appends a number in decimal digits to a move; most have one or two.
 #[inline(always)]
 fn write_number(text: &mut ArrayString<ROOM>, n: u32)
-    requires { length text.old.bytes + length (decimal n) ≤ 24 }
-    ensures { text.new.bytes ≡ text.old.bytes ++ decimal n }
+    requires { length text.old.bytes + 10 ≤ 24 }
+    ensures number { text.new.bytes ≡ text.old.bytes ++ decimal n }
+    ensures room { length text.new.bytes ≤ length text.old.bytes + 10 }
 {
     if n < 10 {
         return write_digit(text, n);
