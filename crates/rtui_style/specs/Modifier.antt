@@ -1,19 +1,31 @@
 -- Sets of modifiers.
-use Rattle.std.specs.Prelude.{ℕ, Bool, List, [], ◌∷◌, ◌-◌, ◌^◌, ◌==◌, codes}
+use Rattle.std.specs.Prelude.{ℕ, Bool, List, [], ◌∷◌, map, length, ◌-◌, ◌^◌, ◌==◌, codes}
 use Rattle.std.specs.Int.RustNames.{bit_and, bit_or}
 use Rattle.rtui_style.specs.declared.Modifier.{Modifier}
 
--- the nine modifiers by name, each with its bit
+-- a modifier: its name, its bit in a set, and the number by which a terminal is told to set it
+pub record ModifierRow : Type 0 where
+  pub name : List ℕ
+  pub bit : ℕ
+  pub number : ℕ
+
+-- all modifiers
+abbrev pub modifiers : List ModifierRow
+modifiers =
+    record { name = codes "BOLD"; bit = 1; number = 1 }
+    ∷ record { name = codes "DIM"; bit = 2; number = 2 }
+    ∷ record { name = codes "ITALIC"; bit = 4; number = 3 }
+    ∷ record { name = codes "UNDERLINED"; bit = 8; number = 4 }
+    ∷ record { name = codes "SLOW_BLINK"; bit = 16; number = 5 }
+    ∷ record { name = codes "RAPID_BLINK"; bit = 32; number = 6 }
+    ∷ record { name = codes "REVERSED"; bit = 64; number = 7 }
+    ∷ record { name = codes "HIDDEN"; bit = 128; number = 8 }
+    ∷ record { name = codes "CROSSED_OUT"; bit = 256; number = 9 }
+    ∷ []
+
+-- their names, each with its bit
 abbrev pub modifier_table : List (List ℕ × ℕ)
-modifier_table =
-    (codes "BOLD", 1) ∷ (codes "DIM", 2) ∷ (codes "ITALIC", 4) ∷ (
-      codes "UNDERLINED",
-      8,
-    ) ∷ (codes "SLOW_BLINK", 16)
-    ∷ (codes "RAPID_BLINK", 32) ∷ (codes "REVERSED", 64) ∷ (codes "HIDDEN", 128) ∷ (
-      codes "CROSSED_OUT",
-      256,
-    ) ∷ []
+modifier_table = map (λ m. (m.name, m.bit)) modifiers
 
 -- the bits of a set, as a number
 abbrev pub bits_of : Modifier → ℕ
@@ -26,9 +38,13 @@ modifier_of bits = record { 0 = bits }
 abbrev pub no_modifier : Modifier
 no_modifier = modifier_of 0
 
--- all nine
+-- a set of them has bits below this number
+abbrev pub modifier_sets : ℕ
+modifier_sets = 2 ^ length modifiers
+
+-- all of them
 abbrev pub all_modifiers : Modifier
-all_modifiers = modifier_of 511
+all_modifiers = modifier_of (modifier_sets - 1)
 
 -- the modifiers of either set
 abbrev pub modifier_with : Modifier → Modifier → Modifier
