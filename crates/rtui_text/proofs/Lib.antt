@@ -2,3 +2,6 @@ pub mod GraphemeLemmas
 pub mod PrintableLemmas
 pub mod LineLemmas
 pub mod BreakLemmas
+pub mod TableLemmas
+pub mod ApartLemmas
+pub mod RestLemmas
