@@ -1,13 +1,15 @@
 -- A text that is read from one of its graphemes on has the graphemes that it had there.
-use Rattle.std.proofs.Common.{◌≡◌, ℕ, zero, suc, ◌+◌, ◌-◌, ◌*◌, ◌/◌, ◌%◌, ◌<◌, ◌≤◌, inl, inr, true, List, [], ◌∷◌, ◌++◌, map}
+use Rattle.std.proofs.Common.{◌≡◌, ℕ, zero, suc, ◌+◌, ◌-◌, ◌*◌, ◌/◌, ◌%◌, ◌<◌, ◌≤◌, inl, inr, true, false, List, [], ◌∷◌, ◌++◌, map}
 use Rattle.std.proofs.Common.{length, take, drop, refl, sym, ap, ◌∙◌, arith, append-nil, append_assoc, drop_at, lt-ltb, le-ltb}
 use Rattle.std.specs.{List.concat, Char.encode_utf8, Prelude.encode_utf8_all, Str.chars, Str.continuation_len, Str.lead_bits}
-use Rattle.std.specs.{Str.chars_after, Str.IsUtf8}
-use Rattle.std.proofs.lemmas.{Bool.cond_both, Bool.cases_lt, Str.chars-nil, Str.encodes-append}
-use Rattle.std.proofs.lemmas.{List.Folds.concat-append, List.take-append-drop}
+use Rattle.std.specs.{Str.chars_after, Str.IsUtf8, Char.is_control, List.All, List.list_any}
+use Rattle.std.proofs.lemmas.{Bool.cond_both, Bool.cases_lt, Bool.or_parts, Str.chars-nil, Str.encodes-append}
+use Rattle.std.proofs.lemmas.{List.Folds.concat-append, List.Folds.list_any-append, List.take-append-drop}
+use Rattle.std.proofs.lemmas.List.Elements.{All-nil, All-cons}
 use Rattle.unicode_segmentation.specs.Segments.{prepend, cut, segments}
 use Rattle.unicode_segmentation.specs.Grapheme.{graphemes}
 use Rattle.unicode_segmentation.proofs.SegmentsLemmas.{concat-segments}
+use Rattle.rtui_text.specs.{Graphemes.has_control, Graphemes.EachGrapheme}
 use Rattle.rtui_text.proofs.ApartLemmas.{breaks, cut-start}
 
 -- ---- lists of pieces
@@ -159,3 +161,20 @@ graphemes-dropped n text u =
     ap (graphemes true)
     (ap (drop (length (concat (take n gs)))) (sym whole) ∙ drop_at (concat (take n gs)) (concat (drop n gs)) _ refl)
     ∙ graphemes-rest n text
+
+-- ---- control characters
+
+control-free : (ps : List (List ℕ)) → list_any is_control (concat ps) ≡ false
+    → All (λ g. has_control g ≡ false) (map encode_utf8_all ps)
+control-free [] none = All-nil (λ g. has_control g ≡ false)
+control-free (p ∷ ps) none =
+    let parts = or_parts (list_any is_control p) (list_any is_control (concat ps))
+    (sym (list_any-append is_control p (concat ps)) ∙ none) in
+    All-cons (λ g. has_control g ≡ false) (encode_utf8_all p) (map encode_utf8_all ps)
+    (ap (list_any is_control) (chars-written p) ∙ parts.0) (control-free ps parts.1)
+
+-- no grapheme of a text without control characters has one
+pub graphemes-control_free : (text : List ℕ) → has_control text ≡ false → EachGrapheme (λ g. has_control g ≡ false) text
+unfolding segments
+graphemes-control_free text none =
+    control-free (cut breaks [] (chars text) []) (ap (list_any is_control) (concat-cut [] (chars text)) ∙ none)

@@ -1,10 +1,11 @@
 //! Laws of texts that are no single call's clause, stated over the definitions of `specs/` alone.
 //! Calling one of these functions costs nothing and tells the caller's proof its law.
 
-ghost use Rattle.std.specs.Prelude.{◌≡◌, ℕ, List, length, take, drop, true};
+ghost use Rattle.std.specs.Prelude.{◌≡◌, ℕ, List, length, take, drop, true, false};
 ghost use Rattle.std.specs.List.{concat};
 ghost use Rattle.std.specs.Str.{IsUtf8};
 ghost use Rattle.unicode_segmentation.specs.Grapheme.{graphemes};
+ghost use Rattle.rtui_text.specs.Graphemes.{EachGrapheme, has_control};
 
 /// The graphemes of a text from one of its graphemes on are the rest of its graphemes: what stands
 /// before a grapheme doesn't change how the text is cut after it.
@@ -13,4 +14,10 @@ pub fn the_rest_of_a_text_has_the_rest_of_its_graphemes()
         graphemes true (concat rest) ≡ rest }
     ensures bytes { (n : ℕ) (text : List ℕ) → IsUtf8 text → let gs = graphemes true text in
         graphemes true (drop (length (concat (take n gs))) text) ≡ drop n gs }
+{}
+
+/// No grapheme of a text without control characters has one.
+pub fn texts_without_control_characters_have_such_graphemes()
+    ensures { (text : List ℕ) → has_control text ≡ false
+        → EachGrapheme (λ g. has_control g ≡ false) text }
 {}
