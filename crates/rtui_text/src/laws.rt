@@ -7,7 +7,7 @@ ghost use Rattle.std.specs.Str.{IsUtf8};
 ghost use Rattle.unicode_segmentation.specs.Grapheme.{graphemes};
 ghost use Rattle.rtui_text.specs.Graphemes.{EachGrapheme, has_control};
 
-/// The graphemes of a text from one of its graphemes on are the rest of its graphemes: what stands
+/// The graphemes of a text from one of its graphemes on are the rest of its graphemes. So what stands
 /// before a grapheme doesn't change how the text is cut after it.
 pub fn the_rest_of_a_text_has_the_rest_of_its_graphemes()
     ensures joined { (n : ℕ) (text : List ℕ) → let rest = drop n (graphemes true text) in
@@ -17,7 +17,7 @@ pub fn the_rest_of_a_text_has_the_rest_of_its_graphemes()
 {}
 
 /// No grapheme of a text without control characters has one.
-pub fn texts_without_control_characters_have_such_graphemes()
+pub fn no_grapheme_has_a_control_character_of_its_own()
     ensures { (text : List ℕ) → has_control text ≡ false
         → EachGrapheme (λ g. has_control g ≡ false) text }
 {}
