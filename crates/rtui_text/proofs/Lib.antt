@@ -5,3 +5,4 @@ pub mod BreakLemmas
 pub mod TableLemmas
 pub mod ApartLemmas
 pub mod RestLemmas
+pub mod FrontLemmas

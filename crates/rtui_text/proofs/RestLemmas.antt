@@ -1,6 +1,6 @@
 -- A text that is read from one of its graphemes on has the graphemes that it had there.
-use Rattle.std.proofs.Common.{◌≡◌, ℕ, zero, suc, ◌+◌, ◌-◌, ◌*◌, ◌/◌, ◌%◌, ◌<◌, ◌≤◌, inl, inr, true, false, List, [], ◌∷◌, ◌++◌, map}
-use Rattle.std.proofs.Common.{length, take, drop, refl, sym, ap, ◌∙◌, arith, append-nil, append_assoc, drop_at, lt-ltb, le-ltb}
+use Rattle.std.proofs.Common.{◌≡◌, ℕ, zero, suc, ◌+◌, ◌-◌, ◌*◌, ◌/◌, ◌%◌, ◌<◌, ◌≤◌, inl, inr, true, false, List, [], ◌∷◌, ◌++◌}
+use Rattle.std.proofs.Common.{map, length, take, drop, refl, sym, ap, ◌∙◌, arith, append-nil, append_assoc, drop_at, lt-ltb, le-ltb}
 use Rattle.std.specs.{List.concat, Char.encode_utf8, Prelude.encode_utf8_all, Str.chars, Str.continuation_len, Str.lead_bits}
 use Rattle.std.specs.{Str.chars_after, Str.IsUtf8, Char.is_control, List.All, List.list_any}
 use Rattle.std.proofs.lemmas.{Bool.cond_both, Bool.cases_lt, Bool.or_parts, Str.chars-nil, Str.encodes-append}
@@ -126,11 +126,11 @@ read-char c rest =
           ]
     ]
 
-chars-written : (cs : List ℕ) → chars (encode_utf8_all cs) ≡ cs
+pub chars-written : (cs : List ℕ) → chars (encode_utf8_all cs) ≡ cs
 chars-written [] = chars-nil
 chars-written (c ∷ cs) = read-char c (encode_utf8_all cs) ∙ ap (λ xs. c ∷ xs) (chars-written cs)
 
-concat-written : (ps : List (List ℕ)) → concat (map encode_utf8_all ps) ≡ encode_utf8_all (concat ps)
+pub concat-written : (ps : List (List ℕ)) → concat (map encode_utf8_all ps) ≡ encode_utf8_all (concat ps)
 concat-written [] = refl
 concat-written (p ∷ ps) = ap (λ bs. encode_utf8_all p ++ bs) (concat-written ps) ∙ sym (encodes-append p (concat ps))
 
