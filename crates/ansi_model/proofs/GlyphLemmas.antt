@@ -6,10 +6,10 @@ use lib.Utf8.{encode}
 use Rattle.std.proofs.lemmas.{Bool.cases_lt, Bool.Decides.nat_tests, Str.length-encode, Str.is_utf8-from_IsUtf8, Str.encode_ascii}
 use Rattle.unicode_width.specs.Width.{char_width, str_width}
 use Rattle.unicode_width.proofs.{Computing.unicode_width, Rules.width_or_zero-le}
-use Rattle.ratatui_core.specs.Buffer.{text_width}
+use Rattle.ratatui_core.specs.Buffer.{text_width, columns_of_char}
 use Rattle.ratatui_core.proofs.BufferLemmas.{one_byte, char_alone}
 use Rattle.ansi_model.specs.declared.glyph.Glyph.TheVariants.{Plain, Whole}
-use Rattle.ansi_model.specs.Symbols.{is_plain_char, is_shown, columns_of_char, is_one_plain, is_printed, printed_columns}
+use Rattle.ansi_model.specs.Symbols.{is_plain_char, is_shown, is_one_plain, is_printed, printed_columns}
 use Rattle.ansi_model.specs.Symbols.{IsGlyphOf}
 use Rattle.ansi_model.proofs.{TextLemmas.one-single, SgrLemmas.up_to, SgrLemmas.up_to-at}
 use Rattle.ansi_model.proofs.SymbolLemmas.{one-char, one-encoded, plain-printed}

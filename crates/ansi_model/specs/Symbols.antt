@@ -1,10 +1,9 @@
 -- What terminals print a text as: characters, and the columns that they take.
 use Rattle.std.specs.Prelude.{◌≡◌, ℕ, ◌==◌, ◌&&◌, ◌||◌, not, nat_lt, nat_le, Bool, true, false, if◌then◌else◌}
-use Rattle.std.specs.Prelude.{List, [], ◌∷◌, length, drop, unwrap_or, chars, encode_utf8, Option, Some, None}
+use Rattle.std.specs.Prelude.{List, [], ◌∷◌, length, drop, chars, encode_utf8, Option, Some, None}
 use Rattle.std.specs.{List.list_all, List.list_any, Str.is_utf8}
-use Rattle.unicode_width.specs.Width.{char_width}
 use Rattle.unicode_segmentation.specs.Grapheme.{graphemes}
-use Rattle.ratatui_core.specs.Buffer.{text_width}
+use Rattle.ratatui_core.specs.Buffer.{text_width, columns_of_char}
 use Rattle.ansi_model.specs.{declared.glyph.Glyph.Glyph, declared.glyph.Glyph.TheVariants.Plain}
 use Rattle.ansi_model.specs.{declared.glyph.Glyph.TheVariants.Whole}
 use Rattle.ansi_model.specs.{declared.glyph.Glyph.TheVariants.Disputed}
@@ -26,10 +25,6 @@ is_shown c = not (is_control c) && not (is_directional c)
 abbrev pub is_plain_char : ℕ → Bool
 is_plain_char c = (nat_le 32 c && nat_le c 126) || (nat_le 0xC0 c && nat_le c 0x17F) ||
     (nat_le 0x2500 c && nat_le c 0x259F)
-
--- how many columns a character takes alone: none if it is a control character or joins what is before it
-abbrev pub columns_of_char : ℕ → ℕ
-columns_of_char c = unwrap_or (char_width false c) 0
 
 -- whether a character has columns of its own
 abbrev pub has_columns : ℕ → Bool

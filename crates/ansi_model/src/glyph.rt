@@ -5,8 +5,8 @@ ghost use Rattle.std.specs.List.{list_all};
 ghost use Rattle.ansi_model.specs.Symbols.{is_plain_char, is_printed, is_disputed, only_of, glyph_columns};
 ghost use Rattle.ansi_model.specs.Symbols.{IsGlyphOf};
 
-use crate::symbol::{columns_of_char, is_plain, is_shown, is_symbol, only_char};
-use ratatui_core::buffer::CellWidth;
+use crate::symbol::{is_plain, is_shown, is_symbol, only_char};
+use ratatui_core::buffer::{CellWidth, columns_of_char};
 
 /// A symbol, as terminals print it.
 #[derive(Debug, Clone, Copy, PartialEq, Eq)]

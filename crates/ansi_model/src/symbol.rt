@@ -4,14 +4,13 @@ ghost use Rattle.std.specs.Prelude.{◌≡◌, ◌≤◌, ◌&&◌, true, [], �
 ghost use Rattle.std.specs.Prelude.{encode_utf8, chars};
 ghost use Rattle.std.specs.List.{list_all};
 ghost use Rattle.unicode_segmentation.specs.Grapheme.{graphemes};
-ghost use Rattle.ansi_model.specs.Symbols.{is_plain_char, is_shown, columns_of_char, has_columns};
+ghost use Rattle.ansi_model.specs.Symbols.{is_plain_char, is_shown, has_columns};
 ghost use Rattle.ansi_model.specs.Symbols.{begins_anew, is_columnless, is_single, is_symbol, only_of};
 ghost use Rattle.ansi_model.specs.Sends.{Sends, typed};
 
-use ratatui_core::buffer::CellWidth;
+use ratatui_core::buffer::{CellWidth, columns_of_char};
 use std::alloc::AllocError;
 use unicode_segmentation::UnicodeSegmentation;
-use unicode_width::UnicodeWidthChar;
 
 /// Returns whether a character is shown, or joins one that is: no control character, and none that
 /// turns the direction.
@@ -42,17 +41,6 @@ pub fn is_plain(c: char) -> bool
     ensures { result ≡ is_plain_char c }
 {
     matches!(c, ' '..='~' | '\u{c0}'..='\u{17f}' | '\u{2500}'..='\u{259f}')
-}
-
-/// Returns how many columns a character takes alone: none if it is a control character or joins
-/// what is before it.
-pub fn columns_of_char(c: char) -> u16
-    ensures { result ≡ columns_of_char c }
-{
-    match c.width() {
-        Some(columns) => columns as u16,
-        None => 0,
-    }
 }
 
 // Whether a character has columns of its own.

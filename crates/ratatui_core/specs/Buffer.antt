@@ -2,7 +2,7 @@
 pub use Rattle.rtui_cell.specs.declared.cell.Cell.{Cell}
 pub use Rattle.rtui_cell.specs.Symbol.{blank, symbol_text, appended, joined, IsShort}
 unfoldable pub use Rattle.rtui_cell.specs.Width.{text_columns, text_width}
-pub use Rattle.rtui_cell.specs.Width.{is_sound_mark}
+pub use Rattle.rtui_cell.specs.Width.{is_sound_mark, columns_of_char}
 unfoldable pub use Rattle.rtui_cell.specs.Look.{look_of}
 pub use Rattle.rtui_cell.specs.Look.{Look, empty_look}
 unfoldable pub use Rattle.rtui_cell.specs.Cell.{width_of, is_single_byte, is_skipped}

@@ -15,6 +15,7 @@ pub mod buffer {
     pub use rtui_buffer::{
         Buffer, BufferDiff, Cell, CellDiffOption, CellWidth, diff_rows, lines_width, texts_width,
     };
+    pub use rtui_cell::columns_of_char;
     pub use rtui_widgets::{CellChange, change_area};
 
     /// Laws of cells and of buffers.

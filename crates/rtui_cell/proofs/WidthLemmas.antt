@@ -1,8 +1,8 @@
 -- The width of a text of one byte, and of one character.
 use Rattle.std.proofs.Common.{◌≡◌, ℕ, ◌+◌, ◌<◌, Bool, true, false, ◌&&◌, ◌==◌, nat_lt, nat_le, List, [], ◌∷◌, refl, sym, ap, ◌∙◌}
-use Rattle.std.proofs.Common.{arith, Some, if◌then◌else◌, length, min, chars}
+use Rattle.std.proofs.Common.{arith, ◌≤◌, Some, unwrap_or, if◌then◌else◌, length, min, chars}
 use Rattle.std.proofs.lemmas.{Bool.false≢true, Bool.Decides.nat_tests}
-use Rattle.rtui_cell.specs.Width.{text_width}
+use Rattle.rtui_cell.specs.Width.{text_width, columns_of_char}
 use Rattle.unicode_width.specs.Width.{str_width, char_width, alone, step, past_emoji, plain, added}
 
 -- a byte takes one column
@@ -36,6 +36,12 @@ char_alone c above =
     let large : nat_le 0xA0 c ≡ true = grind (arith, nat_tests) in
     let none : (alone false c).0 ≡ 0 + (alone false c).0 = omega arith in
     second (nat_lt c 0x7F) (nat_le 0xA0 c) _ _ _ small large ∙ ap (λ n. Some n) none ∙ ap (λ r. Some r.0) (sym (one_step c above))
+
+-- so a text of this character alone takes the character's columns
+pub columns_alone : (c n : ℕ) → 0xA0 < c → n ≡ columns_of_char c → n ≤ 3 → n ≡ min (str_width false (c ∷ [])) 65535
+columns_alone c n above is few =
+    let width : n ≡ str_width false (c ∷ []) = is ∙ ap (λ w. unwrap_or w 0) (char_alone c above) in
+    omega (arith, width)
 
 -- a text that is more than a byte, by its characters
 pub width_of_characters : (text cs : List ℕ) → (length text == 1) ≡ false → cs ≡ chars text

@@ -1,7 +1,17 @@
 -- How many columns a text takes.
-use Rattle.std.specs.Prelude.{ℕ, Bool, false, ◌-◌, ◌==◌, ◌||◌, min, List, length, count_by, if◌then◌else◌}
-use Rattle.std.specs.Prelude.{chars}
-use Rattle.unicode_width.specs.Width.{str_width}
+use Rattle.std.specs.Prelude.{ℕ, Bool, false, ◌-◌, ◌==◌, ◌&&◌, ◌||◌, nat_le, min, List, length, count_by}
+use Rattle.std.specs.Prelude.{chars, unwrap_or, if◌then◌else◌}
+use Rattle.unicode_width.specs.Width.{str_width, char_width}
+
+-- how many columns a character takes by itself: none if it is a control character or joins what is before it
+abbrev pub columns_of_char : ℕ → ℕ
+columns_of_char c = unwrap_or (char_width false c) 0
+
+-- a kana, an ideograph or a syllable of Hangul
+abbrev pub is_wide_letter : ℕ → Bool
+is_wide_letter c =
+    (nat_le 0x3041 c && nat_le c 0x3096) || ((nat_le 0x309B c && nat_le c 0x30FF)
+    || ((nat_le 0x3400 c && nat_le c 0x9FFF) || (nat_le 0xAC00 c && nat_le c 0xD7A3)))
 
 -- the half-width katakana sound marks
 abbrev pub is_sound_mark : ℕ → Bool

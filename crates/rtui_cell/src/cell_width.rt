@@ -1,6 +1,6 @@
-ghost use Rattle.std.specs.Prelude.{◌≡◌, ℕ, ◌<◌, false, min, chars, [], ◌∷◌};
+ghost use Rattle.std.specs.Prelude.{◌≡◌, ℕ, ◌<◌, ◌≤◌, false, min, chars, [], ◌∷◌};
 ghost use Rattle.unicode_width.specs.Width.{str_width};
-ghost use Rattle.rtui_cell.specs.Width.{text_width};
+ghost use Rattle.rtui_cell.specs.Width.{text_width, is_wide_letter, columns_of_char};
 
 use crate::cell::{Cell, CellDiffOption};
 use unicode_width::{UnicodeWidthChar, UnicodeWidthStr};
@@ -37,12 +37,38 @@ impl CellWidth for &str {
 }
 
 // The Unicode width of a text of this character alone.
-#[tactic(auto, using(crate::proofs::WidthLemmas::char_alone))]
+#[tactic(auto, using(crate::proofs::WidthLemmas::columns_alone))]
 fn character_columns(character: char) -> u16
     requires { 0xA0 < character }
     ensures { result ≡ min (str_width false (character ∷ [])) 65535 }
 {
-    match character.width() {
+    columns_of_char(character)
+}
+
+// Whether a character is a kana, an ideograph or a syllable of Hangul.
+fn is_wide_letter(c: char) -> bool
+    ensures { result ≡ is_wide_letter c }
+{
+    matches!(
+        c,
+        '\u{3041}'..='\u{3096}'
+            | '\u{309b}'..='\u{30ff}'
+            | '\u{3400}'..='\u{9fff}'
+            | '\u{ac00}'..='\u{d7a3}'
+    )
+}
+
+/// Returns how many columns a character takes by itself: none if it is a control character or joins
+/// what is before it. Of most wide characters it is known without a look at Unicode's tables.
+#[tactic(auto, using(crate::proofs::WideLemmas::wide_letter))]
+pub fn columns_of_char(c: char) -> u16
+    ensures value { result ≡ columns_of_char c }
+    ensures few { result ≤ 3 }
+{
+    if is_wide_letter(c) {
+        return 2;
+    }
+    match c.width() {
         Some(columns) => columns as u16,
         None => 0,
     }

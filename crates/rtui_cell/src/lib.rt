@@ -12,5 +12,5 @@ pub mod laws;
 mod symbol;
 
 pub use cell::{Cell, CellDiffOption};
-pub use cell_width::CellWidth;
+pub use cell_width::{CellWidth, columns_of_char};
 pub use symbol::Symbol;

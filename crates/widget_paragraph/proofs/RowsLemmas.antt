@@ -20,7 +20,7 @@ use Rattle.widget_paragraph.specs.Reflow.{after_columns, fits_row, split_row, ro
 use Rattle.widget_paragraph.specs.Paragraphs.{TextRow, alignment_of, graphemes_of, IsSingleGrapheme, row_pieces}
 use Rattle.widget_paragraph.specs.Paragraphs.{aligned_rows, cut_line, broken_line, rows_of_lines, rows_shown, indent_of}
 use Rattle.widget_paragraph.specs.Paragraphs.{PaintsGrapheme, PaintsGraphemes, PaintsRow, PaintsRows}
-use Rattle.widget_paragraph.specs.Inner.{PaintsOn}
+use Rattle.widget_paragraph.specs.{declared.paragraph.Filling.Filling, Inner.PaintsOn}
 use Rattle.widget_paragraph.proofs.ReflowLemmas.{split_row-is, fit-past, count-fits, columns-next}
 
 -- a row that fits ends in its area
@@ -85,31 +85,32 @@ rows-next width trim (g ∷ gs) fit some =
     ap (λ rows. split.0 ∷ rows) (fuel-same (length gs) (length rest) width trim rest (fit-past width split.1 (g ∷ gs) fit)
     (omega arith) (omega arith))
 
--- To paint the rows that are left, and whatever rows come after them, is to paint all: k rows are painted, and some are still to
--- be skipped.
-abbrev pub FinishesRows : Rect → ℕ → ℕ → List TextRow → ℕ → ℕ → List TextRow → BufferData → BufferData → Type 0
-FinishesRows r k skip left start first all old now =
-    (more : List TextRow) (new : BufferData) → PaintsRows r (r.y + k) (rows_shown (r.height - k) skip (left ++ more)) now new
-    → PaintsRows r (r.y + start) (rows_shown (r.height - start) first (all ++ more)) old new
+-- An area was filled so far, from a start on: to paint the rows that are left, and whatever rows come after them, is to paint all.
+abbrev pub FinishesRows : Rect → Filling → List TextRow → Filling → List TextRow → BufferData → BufferData → Type 0
+FinishesRows r at left start all old now =
+    (more : List TextRow) (new : BufferData)
+    → PaintsRows r (r.y + at.row) (rows_shown (r.height - at.row) at.skip (left ++ more)) now new
+    → PaintsRows r (r.y + start.row) (rows_shown (r.height - start.row) start.skip (all ++ more)) old new
 
 -- the rows of a line are painted, and those of the lines after it are left
-pub rows-line : (r : Rect) (k n skip skip_then start first : ℕ) (line rest left all : List TextRow) (old now mid : BufferData)
-    → left ≡ line ++ rest → FinishesRows r k skip left start first all old now → PaintsOn r k n skip skip_then line now mid
-    → FinishesRows r n skip_then rest start first all old mid
-rows-line r k n skip skip_then start first line rest left all old now mid is finishes paints = λ more new others.
+pub rows-line : (r : Rect) (at next start : Filling) (line rest left all : List TextRow) (old now mid : BufferData)
+    → left ≡ line ++ rest → FinishesRows r at left start all old now → PaintsOn r at next line now mid
+    → FinishesRows r next rest start all old mid
+rows-line r at next start line rest left all old now mid is finishes paints = λ more new others.
     let same : line ++ (rest ++ more) ≡ left ++ more = sym (append_assoc line rest more) ∙ ap (λ rows. rows ++ more) (sym is) in
-    finishes more new (subst (λ rows. PaintsRows r (r.y + k) (rows_shown (r.height - k) skip rows) now new) same
+    finishes more new (subst (λ rows. PaintsRows r (r.y + at.row) (rows_shown (r.height - at.row) at.skip rows) now new) same
     (paints (rest ++ more) new others))
 
 -- all is painted
-pub rows-done : (r : Rect) (k skip first : ℕ) (left all : List TextRow) (old now : BufferData)
-    → rows_shown (r.height - k) skip left ≡ [] → FinishesRows r k skip left 0 first all old now
+pub rows-done : (r : Rect) (at : Filling) (first : ℕ) (left all : List TextRow) (old now : BufferData)
+    → rows_shown (r.height - at.row) at.skip left ≡ [] → FinishesRows r at left (record { skip = first; row = 0 }) all old now
     → PaintsRows r r.y (rows_shown r.height first all) old now
-rows-done r k skip first left all old now none finishes =
+rows-done r at first left all old now none finishes =
     let y : r.y + 0 ≡ r.y = omega arith in
     let h : r.height - 0 ≡ r.height = omega arith in
-    let same : rows_shown (r.height - k) skip (left ++ []) ≡ [] = ap (rows_shown (r.height - k) skip) (append-nil left) ∙ none in
-    let made = finishes [] now (subst (λ rows. PaintsRows r (r.y + k) rows now now) (sym same) refl) in
+    let same : rows_shown (r.height - at.row) at.skip (left ++ []) ≡ [] =
+    ap (rows_shown (r.height - at.row) at.skip) (append-nil left) ∙ none in
+    let made = finishes [] now (subst (λ rows. PaintsRows r (r.y + at.row) rows now now) (sym same) refl) in
     subst (λ rows. PaintsRows r r.y (rows_shown r.height first rows) old now) (append-nil all)
     (subst (λ z. PaintsRows r z (rows_shown r.height first (all ++ [])) old now) y
     (subst (λ z. PaintsRows r (r.y + 0) (rows_shown z first (all ++ [])) old now) h made))

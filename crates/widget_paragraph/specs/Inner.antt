@@ -3,7 +3,7 @@
 use Rattle.std.specs.Prelude.{◌≡◌, ℕ, ◌-◌, ◌<◌, ◌≤◌, ◌⊎◌, Bool, true, List, [], ◌++◌, length}
 use Rattle.std.specs.Prelude.{filter, drop, ◌+◌}
 use Rattle.ratatui_core.specs.Text.{GraphemeData, line_graphemes_left}
-use Rattle.widget_paragraph.specs.declared.{ahead.Ahead.Ahead, cut.Cut.Cut}
+use Rattle.widget_paragraph.specs.declared.{ahead.Ahead.Ahead, cut.Cut.Cut, paragraph.Filling.Filling}
 use Rattle.widget_paragraph.specs.Reflow.{columns_taken, fits_row, trimmed_start, after_columns}
 use Rattle.widget_paragraph.specs.Reflow.{fitting_front}
 use Rattle.ratatui_core.specs.{Layout.Rect, Style.Style}
@@ -56,10 +56,10 @@ pub record IsCut (c : Cut) : Type 0 where
 abbrev pub grapheme_in : Style → List ℕ → GraphemeData
 grapheme_in style symbol = record { symbol = symbol; style = style }
 
--- A call paints the next rows from row k of an area on, up to row n, and has as many fewer to skip: whatever
--- rows come after these, to go on with those is to paint all.
-abbrev pub PaintsOn : Rect → ℕ → ℕ → ℕ → ℕ → List TextRow → BufferData → BufferData → Type 0
-PaintsOn r k n skip skip_then rows old now =
+-- A call paints the next rows of an area that was filled so far, and it is filled so far then: whatever rows
+-- come after these, to go on with those is to paint all.
+abbrev pub PaintsOn : Rect → Filling → Filling → List TextRow → BufferData → BufferData → Type 0
+PaintsOn r from to rows old now =
     (more : List TextRow) (new : BufferData)
-    → PaintsRows r (r.y + n) (rows_shown (r.height - n) skip_then more) now new
-    → PaintsRows r (r.y + k) (rows_shown (r.height - k) skip (rows ++ more)) old new
+    → PaintsRows r (r.y + to.row) (rows_shown (r.height - to.row) to.skip more) now new
+    → PaintsRows r (r.y + from.row) (rows_shown (r.height - from.row) from.skip (rows ++ more)) old new

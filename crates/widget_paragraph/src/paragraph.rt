@@ -312,43 +312,52 @@ impl<'a> Paragraph<'a> {
             OnOk result (PaintsRows part part.y shown buf.old buf.new) }
         ensures settled { IsReadyFrom part.y buf.old → OnOk result (IsSettledBuffer buf.new) }
     {
-        let mut skip = self.scroll.y;
-        let mut k = 0;
+        let mut filling = Filling {
+            skip: self.scroll.y,
+            row: 0,
+        };
         for line in self.text.lines.as_slice() {
-            if k == part.height {
+            if filling.row == part.height {
                 return Ok(());
             }
-            k = self.render_broken(line, wrap, &mut skip, part, k, buf)?;
+            filling = self.render_broken(line, wrap, filling, part, buf)?;
         }
         Ok(())
     }
 
-    // A line broken into rows, the first one in row k of a part, without as many rows as are still
-    // to be skipped; answers the row after the last one.
+    // A line broken into rows, as far as a part that is filled so has room for them; answers how far
+    // it is filled then.
     fn render_broken(
         &self,
         line: &Line<'a>,
         wrap: Wrap,
-        skip: &mut u16,
+        filling: Filling,
         part: Rect,
-        k: u16,
         buf: &mut Buffer,
-    ) -> Result<u16, AllocError>
+    ) -> Result<Filling, AllocError>
         requires some { IsBoxArea part }
         requires inside { IsInside part buf.old.area }
-        requires row { k ≤ part.height }
+        requires row { filling.row ≤ part.height }
         ensures within { ChangesWithin part buf.old buf.new }
-        ensures row { IfOk result (λ n. n ≤ part.height) }
+        ensures row { IfOk result (λ next. next.row ≤ part.height) }
         ensures ok { let rows = broken_line self.now part.width wrap line.now in
-            IfOk result (λ n. PaintsOn part k n skip.old skip.new rows buf.old buf.new) }
-        ensures ready { IsReadyFrom (part.y + k) buf.old
-            → IfOk result (λ n. IsReadyFrom (part.y + n) buf.new) }
+            IfOk result (λ next. PaintsOn part filling next rows buf.old buf.new) }
+        ensures ready { IsReadyFrom (part.y + filling.row) buf.old
+            → IfOk result (λ next. IsReadyFrom (part.y + next.row) buf.new) }
     {
         let alignment = line.alignment.unwrap_or(self.alignment);
         let graphemes = line.styled_graphemes(self.text.style);
         let ahead = Ahead::new(buf.allocator(), graphemes, part.width, wrap.trim);
-        render_line(ahead, alignment, skip, part, k, buf)
+        render_line(ahead, alignment, filling, part, buf)
     }
+}
+
+// How far a part is filled with rows: how many are still to be skipped, and in which row of the part
+// the next one stands.
+#[derive(Clone, Copy)]
+struct Filling {
+    skip: u16,
+    row: u16,
 }
 
 // How many columns a line that is aligned so is scrolled.
@@ -361,78 +370,79 @@ fn columns_scrolled(alignment: HorizontalAlignment, columns: u16) -> u16
     }
 }
 
-// Renders a row in row k of a part, if no rows are to be skipped and the part has that row; answers
-// the row after it.
+// Renders a row, if no rows are to be skipped and a part that is filled so has room for it; answers
+// how far it is filled then.
 fn render_next(
     row: &[Measured<'_>],
     alignment: HorizontalAlignment,
-    skip: &mut u16,
+    filling: Filling,
     part: Rect,
-    k: u16,
     buf: &mut Buffer,
-) -> Result<u16, AllocError>
+) -> Result<Filling, AllocError>
     requires some { IsBoxArea part }
     requires inside { IsInside part buf.old.area }
-    requires row { k ≤ part.height }
+    requires row { filling.row ≤ part.height }
     requires fits { columns_taken row.now ≤ part.width }
     ensures within { ChangesWithin part buf.old buf.new }
-    ensures row { IfOk result (λ n. n ≤ part.height) }
+    ensures row { IfOk result (λ next. next.row ≤ part.height) }
     ensures ok { let rows = aligned_row alignment row.now ∷ [] in
-        IfOk result (λ n. PaintsOn part k n skip.old skip.new rows buf.old buf.new) }
-    ensures ready { IsReadyFrom (part.y + k) buf.old
-        → IfOk result (λ n. IsReadyFrom (part.y + n) buf.new) }
+        IfOk result (λ next. PaintsOn part filling next rows buf.old buf.new) }
+    ensures ready { IsReadyFrom (part.y + filling.row) buf.old
+        → IfOk result (λ next. IsReadyFrom (part.y + next.row) buf.new) }
 {
-    if *skip > 0 {
-        *skip -= 1;
-        return Ok(k);
+    let Filling { skip, row: k } = filling;
+    if skip > 0 {
+        return Ok(Filling {
+            skip: skip - 1,
+            row: k,
+        });
     }
     if k == part.height {
-        return Ok(k);
+        return Ok(filling);
     }
     render_row(row, alignment, part, k, buf)?;
-    Ok(k + 1)
+    Ok(Filling { skip, row: k + 1 })
 }
 
-// Renders the rows of a line, the first one in row k of a part, without as many rows as are still
-// to be skipped; answers the row after the last one.
+// Renders the rows of a line, as far as a part that is filled so has room for them; answers how far
+// it is filled then.
 fn render_line(
     line: Ahead<'_, '_>,
     alignment: HorizontalAlignment,
-    skip: &mut u16,
+    filling: Filling,
     part: Rect,
-    k: u16,
     buf: &mut Buffer,
-) -> Result<u16, AllocError>
+) -> Result<Filling, AllocError>
     requires some { IsBoxArea part }
     requires inside { IsInside part buf.old.area }
-    requires row { k ≤ part.height }
+    requires row { filling.row ≤ part.height }
     requires line { IsAhead line }
     requires width { line.width ≡ part.width }
     requires fit { AllFit part.width (left_of line) }
     ensures within { ChangesWithin part buf.old buf.new }
-    ensures row { IfOk result (λ n. n ≤ part.height) }
+    ensures row { IfOk result (λ next. next.row ≤ part.height) }
     ensures ok { let broken = broken_rows part.width line.entry.trim (left_of line.entry) in
         let rows = aligned_rows alignment broken in
-        IfOk result (λ n. PaintsOn part k n skip.old skip.new rows buf.old buf.new) }
-    ensures ready { IsReadyFrom (part.y + k) buf.old
-        → IfOk result (λ n. IsReadyFrom (part.y + n) buf.new) }
+        IfOk result (λ next. PaintsOn part filling next rows buf.old buf.new) }
+    ensures ready { IsReadyFrom (part.y + filling.row) buf.old
+        → IfOk result (λ next. IsReadyFrom (part.y + next.row) buf.new) }
 {
     let mut line = line;
     line.fill()?;
     if line.is_empty() {
-        return render_next(&[], alignment, skip, part, k, buf);
+        return render_next(&[], alignment, filling, part, buf);
     }
-    let mut k = k;
+    let mut next = filling;
     while !line.is_empty() {
-        if *skip == 0 && k == part.height {
-            return Ok(k);
+        if next.skip == 0 && next.row == part.height {
+            return Ok(next);
         }
         let (row, count) = line.row();
-        k = render_next(row, alignment, skip, part, k, buf)?;
+        next = render_next(row, alignment, next, part, buf)?;
         line.pass(count);
         line.fill()?;
     }
-    Ok(k)
+    Ok(next)
 }
 
 // How many rows a line takes that is broken: one if it is empty.

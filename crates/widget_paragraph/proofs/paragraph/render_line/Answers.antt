@@ -13,8 +13,8 @@ pub render_next-requires-in-loop-alignment-clause-inside : goal.render_next-requ
 render_next-requires-in-loop-alignment-clause-inside c = subst (IsInside c.args.part)
     (sym c.loop-alignment.invariant.within.same_area) c.requires.inside
 
-pub returns-in_err-k-clause-within : goal.returns-in_err-k-clause-within
-returns-in_err-k-clause-within c =
+pub returns-in_err-next-clause-within : goal.returns-in_err-next-clause-within
+returns-in_err-next-clause-within c =
     within-then c.args.part c.args.buf.now c.loop-alignment.buf c.render_next-in-loop-alignment.new.buf
     c.loop-alignment.invariant.within c.render_next-in-loop-alignment.ensures.within
 
@@ -42,11 +42,10 @@ loop-alignment-preserved c =
       width = step.width ∙ i.width;
       trim = step.trim ∙ i.trim;
       fit = subst (AllFit c.args.part.width) (sym step.left) (fit-past c.args.part.width count gs i.fit);
-      row = c.in_ok-k.ensures.row;
+      row = c.in_ok-next.ensures.row;
       within = within-then c.args.part c.args.buf.now c.loop-alignment.buf c.render_next-in-loop-alignment.new.buf i.within
           c.render_next-in-loop-alignment.ensures.within;
-      paints = rows-line c.args.part c.loop-alignment.k c.in_ok-k.k c.loop-alignment.skip c.render_next-in-loop-alignment.new.skip
-          c.args.k c.args.skip.now (aligned_row c.args.alignment row ∷ []) _ _ _
-          c.args.buf.now c.loop-alignment.buf c.render_next-in-loop-alignment.new.buf rows i.paints c.in_ok-k.ensures.ok;
-      ready = λ from. c.in_ok-k.ensures.ready (i.ready from);
+      paints = rows-line c.args.part c.loop-alignment.next c.in_ok-next.next c.args.filling (aligned_row c.args.alignment row ∷ []) _ _ _
+          c.args.buf.now c.loop-alignment.buf c.render_next-in-loop-alignment.new.buf rows i.paints c.in_ok-next.ensures.ok;
+      ready = λ from. c.in_ok-next.ensures.ready (i.ready from);
     }

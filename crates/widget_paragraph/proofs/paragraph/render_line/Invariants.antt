@@ -10,12 +10,12 @@ invariant-loop-alignment l = record {
   width : l.line.width ≡ l.fn.part.width;
   trim : l.line.trim ≡ l.fn.line.trim;
   fit : AllFit l.fn.part.width (left_of l.line);
-  row : l.k ≤ l.fn.part.height;
+  row : l.next.row ≤ l.fn.part.height;
   within : ChangesWithin l.fn.part l.fn.buf l.buf;
-  paints : FinishesRows l.fn.part l.k l.skip
-      (aligned_rows l.fn.alignment (rows_left l.fn.part.width l.fn.line.trim (left_of l.line))) l.fn.k l.fn.skip
+  paints : FinishesRows l.fn.part l.next
+      (aligned_rows l.fn.alignment (rows_left l.fn.part.width l.fn.line.trim (left_of l.line))) l.fn.filling
       (aligned_rows l.fn.alignment (broken_rows l.fn.part.width l.fn.line.trim (left_of l.fn.line))) l.fn.buf l.buf;
-  ready : IsReadyFrom (l.fn.part.y + l.fn.k) l.fn.buf → IsReadyFrom (l.fn.part.y + l.k) l.buf;
+  ready : IsReadyFrom (l.fn.part.y + l.fn.filling.row) l.fn.buf → IsReadyFrom (l.fn.part.y + l.next.row) l.buf;
 }
 
 abbrev pub decreases-loop-alignment : goal.decreases-loop-alignment

@@ -17,5 +17,5 @@ returns-clause-ok c =
     c.new-ahead.ensures.trim
     ∙ rows-of-line p c.args.part.width c.args.wrap c.args.line.now c.unwrap_or-alignment.result
     (left_of c.new-ahead.result) alignment fits in
-    subst (λ rows. IfOk c.render_line.result (λ n. PaintsOn c.args.part c.args.k n c.args.skip.now c.render_line.new.skip rows
+    subst (λ rows. IfOk c.render_line.result (λ next. PaintsOn c.args.part c.args.filling next rows
     c.args.buf.now c.render_line.new.buf)) rows c.render_line.ensures.ok

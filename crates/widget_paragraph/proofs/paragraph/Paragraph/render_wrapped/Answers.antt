@@ -5,12 +5,12 @@ use Rattle.widget_paragraph.specs.Paragraphs.{broken_line, rows_of_lines}
 use Rattle.widget_paragraph.proofs.RowsLemmas.{rows-line, rows-done, lines-next, lines-none, shown-none, shown-full}
 use Rattle.widget_paragraph.proofs.paragraph.Paragraph.render_wrapped.Goals as goal
 
-pub returns-then-k-part-clause-ok : goal.returns-then-k-part-clause-ok
-returns-then-k-part-clause-ok c =
-    rows-done c.args.part c.loop-line.k c.loop-line.skip c.args.self.now.scroll.y _
+pub returns-then-row-part-clause-ok : goal.returns-then-row-part-clause-ok
+returns-then-row-part-clause-ok c =
+    rows-done c.args.part c.loop-line.filling c.args.self.now.scroll.y _
     (rows_of_lines (Some c.args.wrap) c.args.self.now c.args.part.width c.args.self.now.text.lines) c.args.buf.now
     c.loop-line.buf
-    (shown-full (c.args.part.height - c.loop-line.k) c.loop-line.skip _ (let e = c.if-k-part.true in
+    (shown-full (c.args.part.height - c.loop-line.filling.row) c.loop-line.filling.skip _ (let e = c.if-row-part.true in
     omega arith)) c.loop-line.invariant.paints
 
 pub render_broken-requires-clause-inside : goal.render_broken-requires-clause-inside
@@ -21,21 +21,21 @@ pub loop-line-preserved : goal.loop-line-preserved
 loop-line-preserved c =
     let i = c.loop-line.invariant in
     record {
-      row = c.in_ok-k.ensures.row;
-      within = within-then c.args.part c.args.buf.now c.loop-line.buf c.render_broken.new.buf i.within c.in_ok-k.ensures.within;
-      paints = rows-line c.args.part c.loop-line.k c.in_ok-k.k c.loop-line.skip c.render_broken.new.skip 0
-          c.args.self.now.scroll.y (broken_line c.args.self.now c.args.part.width c.args.wrap c.line-item.result) _ _ _
+      row = c.in_ok-filling.ensures.row;
+      within = within-then c.args.part c.args.buf.now c.loop-line.buf c.render_broken.new.buf i.within c.in_ok-filling.ensures.within;
+      paints = rows-line c.args.part c.loop-line.filling c.in_ok-filling.filling
+          (record { skip = c.args.self.now.scroll.y; row = 0 }) (broken_line c.args.self.now c.args.part.width c.args.wrap c.line-item.result) _ _ _
           c.args.buf.now c.loop-line.buf c.render_broken.new.buf
           (lines-next c.args.self.now c.args.part.width c.args.wrap c.as_slice-line-items.result.now c.loop-line.line-index
-          c.line-item.result c.loop-line-test.true c.line-item.is) i.paints c.in_ok-k.ensures.ok;
-      ready = λ from. c.in_ok-k.ensures.ready (i.ready from);
+          c.line-item.result c.loop-line-test.true c.line-item.is) i.paints c.in_ok-filling.ensures.ok;
+      ready = λ from. c.in_ok-filling.ensures.ready (i.ready from);
     }
 
 pub returns-clause-ok : goal.returns-clause-ok
 returns-clause-ok c =
-    rows-done c.args.part c.loop-line.k c.loop-line.skip c.args.self.now.scroll.y _
+    rows-done c.args.part c.loop-line.filling c.args.self.now.scroll.y _
     (rows_of_lines (Some c.args.wrap) c.args.self.now c.args.part.width c.args.self.now.text.lines) c.args.buf.now
     c.loop-line.buf
-    (shown-none (c.args.part.height - c.loop-line.k) c.loop-line.skip _
+    (shown-none (c.args.part.height - c.loop-line.filling.row) c.loop-line.filling.skip _
     (lines-none c.args.self.now c.args.part.width c.args.wrap c.as_slice-line-items.result.now c.loop-line.line-index
     c.loop-line-test.false)) c.loop-line.invariant.paints

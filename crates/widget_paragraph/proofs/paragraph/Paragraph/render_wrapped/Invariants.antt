@@ -6,10 +6,10 @@ use Rattle.widget_paragraph.proofs.paragraph.Paragraph.render_wrapped.Given as g
 
 abbrev pub invariant-loop-line : goal.invariant-loop-line
 invariant-loop-line l = record {
-  row : l.k ≤ l.fn.part.height;
+  row : l.filling.row ≤ l.fn.part.height;
   within : ChangesWithin l.fn.part l.fn.buf l.buf;
-  paints : FinishesRows l.fn.part l.k l.skip (rows_of_lines (Some l.fn.wrap) l.fn.self l.fn.part.width
-      (drop l.line-index l.line-items)) 0 l.fn.self.scroll.y
+  paints : FinishesRows l.fn.part l.filling (rows_of_lines (Some l.fn.wrap) l.fn.self l.fn.part.width
+      (drop l.line-index l.line-items)) (record { skip = l.fn.self.scroll.y; row = 0 })
       (rows_of_lines (Some l.fn.wrap) l.fn.self l.fn.part.width l.fn.self.text.lines) l.fn.buf l.buf;
-  ready : IsReadyFrom l.fn.part.y l.fn.buf → IsReadyFrom (l.fn.part.y + l.k) l.buf;
+  ready : IsReadyFrom l.fn.part.y l.fn.buf → IsReadyFrom (l.fn.part.y + l.filling.row) l.buf;
 }
