@@ -1,5 +1,5 @@
 -- Kana, ideographs and syllables of Hangul are wide: shown for every code point by a computation over Unicode's tables.
-use Rattle.std.proofs.Common.{◌≡◌, ℕ, ◌≤◌, ◌<◌, Bool, true, false, ◌&&◌, ◌||◌, nat_le, nat_lt, List, [], ◌∷◌, Some, refl, sym, ap, ◌∙◌, arith}
+use Rattle.std.proofs.Common.{◌≡◌, ℕ, ◌<◌, Bool, true, false, nat_le, nat_lt, List, [], ◌∷◌, Some, refl, arith}
 use Rattle.std.proofs.lemmas.{Bool.false≢true, Bool.Decides.nat_tests}
 use Rattle.ucd_table.specs.Rows.{Range, in_ranges}
 use Rattle.ucd_table.proofs.Computing.{tables}

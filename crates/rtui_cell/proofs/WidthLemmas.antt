@@ -1,6 +1,6 @@
 -- The width of a text of one byte, and of one character.
-use Rattle.std.proofs.Common.{◌≡◌, ℕ, ◌+◌, ◌<◌, Bool, true, false, ◌&&◌, ◌==◌, nat_lt, nat_le, List, [], ◌∷◌, refl, sym, ap, ◌∙◌}
-use Rattle.std.proofs.Common.{arith, ◌≤◌, Some, unwrap_or, if◌then◌else◌, length, min, chars}
+use Rattle.std.proofs.Common.{◌≡◌, ℕ, ◌+◌, ◌<◌, Bool, true, false, ◌&&◌, ◌==◌, nat_lt, nat_le, [], ◌∷◌, refl, sym, ap, ◌∙◌}
+use Rattle.std.proofs.Common.{arith, ◌≤◌, Some, unwrap_or, if◌then◌else◌, min}
 use Rattle.std.proofs.lemmas.{Bool.false≢true, Bool.Decides.nat_tests}
 use Rattle.rtui_cell.specs.Width.{text_width, columns_of_char}
 use Rattle.unicode_width.specs.Width.{str_width, char_width, alone, step, past_emoji, plain, added}
@@ -42,9 +42,3 @@ pub columns_alone : (c n : ℕ) → 0xA0 < c → n ≡ columns_of_char c → n �
 columns_alone c n above is few =
     let width : n ≡ str_width false (c ∷ []) = is ∙ ap (λ w. unwrap_or w 0) (char_alone c above) in
     omega (arith, width)
-
--- a text that is more than a byte, by its characters
-pub width_of_characters : (text cs : List ℕ) → (length text == 1) ≡ false → cs ≡ chars text
-    → min (str_width false cs) 65535 ≡ text_width text
-unfolding text_width
-width_of_characters text cs longer spelled = ap (λ ds. min (str_width false ds) 65535) spelled ∙ rw longer refl

@@ -19,21 +19,29 @@ pub trait CellWidth {
 impl CellWidth for &str {
     ghost columns = { λ text. text_width text.now };
 
-    #[tactic(auto, using(crate::proofs::WidthLemmas::char_alone), unfolding(crate::specs::Width::text_width))]
+    #[tactic(auto, unfolding(crate::specs::Width::text_width))]
     fn cell_width(&self) -> u16 {
         if self.len() == 1 {
             return 1;
         }
-        // nearly all other texts are one character; the control characters end below U+00A1
-        let mut rest = self.chars();
-        if let Some(first) = rest.next()
-            && first > '\u{A0}'
-            && rest.as_str().is_empty()
-        {
-            return character_columns(first);
-        }
-        unicode_columns(self)
+        columns_of_bytes(self)
     }
+}
+
+// The Unicode width of a text that isn't one byte; apart, so that the path of a single byte stays
+// short. Nearly all other texts are one character; the control characters end below U+00A1.
+#[inline(never)]
+fn columns_of_bytes(text: &str) -> u16
+    ensures { result ≡ min (str_width false (chars text.now)) 65535 }
+{
+    let mut rest = text.chars();
+    if let Some(first) = rest.next()
+        && first > '\u{A0}'
+        && rest.as_str().is_empty()
+    {
+        return character_columns(first);
+    }
+    unicode_columns(text)
 }
 
 // The Unicode width of a text of this character alone.
@@ -61,6 +69,7 @@ fn is_wide_letter(c: char) -> bool
 /// Returns how many columns a character takes by itself: none if it is a control character or joins
 /// what is before it. Of most wide characters it is known without a look at Unicode's tables.
 #[tactic(auto, using(crate::proofs::WideLemmas::wide_letter))]
+#[inline]
 pub fn columns_of_char(c: char) -> u16
     ensures value { result ≡ columns_of_char c }
     ensures few { result ≤ 3 }
