@@ -5,7 +5,7 @@ use std::alloc::Alloc;
 use std::fs::{self, Files};
 
 /// The version of the programs, and of the libraries below them.
-pub const VERSION: &str = "0.1.19";
+pub const VERSION: &str = "0.1.20";
 
 /// A stream that a program was begun with.
 #[derive(Debug, Clone, Copy, PartialEq, Eq)]

@@ -8,7 +8,7 @@ use Rattle.bitflags.proofs.OnLiterals.{bitflags_on_literals}
 use Rattle.bitflags.specs.Text.{flag_piece, read_text}
 use Rattle.bitflags.specs.declared.parser.ParseError.{ParseError}
 use Rattle.widget_boxes.specs.Borders.{border_table}
-use Rattle.rtui_style.specs.Modifier.{modifier_table}
+use Rattle.rtui_style.specs.Modifier.{modifier_table, modifier_sets}
 use Rattle.ratatui_serde.specs.Flags.{flags_text, ReadsFlags}
 
 reads-as : ℕ → Result ℕ ParseError → Bool
@@ -23,14 +23,14 @@ from-reads-as n (Err e) h = absurd (cc)
 modifiers-read : ℕ → Bool
 modifiers-read n = reads-as n (read_text (flag_piece modifier_table 16) (flags_text 16 modifier_table n))
 
-all-modifiers-read : agree_below modifiers-read (λ _. true) 512 ≡ true
+all-modifiers-read : agree_below modifiers-read (λ _. true) modifier_sets ≡ true
 unfolding modifiers-read reads-as bitflags_on_literals digits
 all-modifiers-read = refl
 
-pub modifiers-read-back : (n : ℕ) → n < 512 → ReadsFlags 16 modifier_table n (flags_text 16 modifier_table n)
+pub modifiers-read-back : (n : ℕ) → n < modifier_sets → ReadsFlags 16 modifier_table n (flags_text 16 modifier_table n)
 unfolding modifiers-read
 modifiers-read-back n lt =
-    from-reads-as n _ (agree_below_at modifiers-read (λ _. true) 512 n all-modifiers-read lt)
+    from-reads-as n _ (agree_below_at modifiers-read (λ _. true) modifier_sets n all-modifiers-read lt)
 
 sides-read : ℕ → Bool
 sides-read n = reads-as n (read_text (flag_piece border_table 8) (flags_text 8 border_table n))
