@@ -23,7 +23,7 @@ use std::io::{self, Write};
 /// backend.append_lines(1)?;
 /// let mut printed = Vec::new(alloc);
 /// backend.write_to(&mut printed)?;
-/// assert!(rt; printed.as_slice() == b"^ x \n|   \n");
+/// assert!(rt; printed.as_slice() == "^ x \n|   \n".as_bytes());
 /// ```
 #[derive(Drop)]
 pub struct PrintedBackend {
