@@ -1,15 +1,17 @@
 //! A backend that keeps the rows that scrolled off as text.
 
-ghost use Rattle.std.specs.Prelude.{◌≡◌, codes, length, string_bytes, IfOk, OnOk, IsNone};
+ghost use Rattle.std.specs.Prelude.{◌≡◌, ℕ, codes, length, string_bytes, IfOk, OnOk, IsNone};
 ghost use Rattle.std.specs.List.{flat_map};
 ghost use Rattle.std.specs.Io.KnownBytes.{Appends};
-ghost use Rattle.rtui_backend.specs.Screen.{IsBlankScreen};
+ghost use Rattle.rtui_backend.specs.Screen.{IsBlankScreen, screen_area};
+ghost use Rattle.rtui_backend.specs.CellGrid.{grid_of};
 ghost use Rattle.rtui_backend.specs.TestBackend.{screen_of, told_after};
 ghost use Rattle.rtui_backend.specs.Print.{printed_row, printed_screen};
 ghost use Rattle.printed_backend.specs.Inner.{looks_in};
 
 use crate::rows::Rows;
 use rtui_backend::TestBackend;
+use rtui_buffer::Buffer;
 use std::alloc::{AllocError, Global};
 use std::io::{self, Write};
 
@@ -60,6 +62,22 @@ impl PrintedBackend {
             failures: 0,
             alloc,
         })
+    }
+
+    /// Returns what the screen shows, as a buffer with its corner at (0, 0).
+    pub fn buffer(&self) -> &Buffer
+        ensures area { result.now.area ≡ screen_area (shown_on self.now) }
+        ensures shown { (a b : ℕ) → grid_of result.now.area.width result.now.cells a b
+            ≡ (shown_on self.now).grid a b }
+    {
+        self.screen.buffer()
+    }
+
+    /// Returns the rows that scrolled off, in order, as they are printed: each after `^`.
+    pub fn scrollback(&self) -> &str
+        ensures { result.now ≡ flat_map (printed_row (codes "^")) (shown_on self.now).history }
+    {
+        self.text.as_str()
     }
 
     /// Writes the rows that scrolled off, each after `^`, and those of the screen, each after `|`,

@@ -21,7 +21,9 @@ impl PrintedBackend {
         ensures memory { OnErr result (HasOnlyDrawn self.old self.new) }
         ensures failures { failed_calls self.new ≡ failed_calls self.old }
     {
-        let mut text = String::new(self.alloc);
+        // as much as one row of single bytes takes
+        let columns = usize::from(self.screen.buffer().area().width);
+        let mut text = String::with_capacity(self.alloc, columns + 2)?;
         let rows = push_rows(self.alloc, &mut text, &self.rows, &self.screen, end, n)?;
         self.raise_row(n, end)?;
         self.text.push_str(text.as_str())?;

@@ -64,7 +64,7 @@ fn plays<B: Backend>(backend: &mut B, cells: &[Cell]) -> bool {
         .all(|cell| scroll_all(backend, cell).is_ok())
 }
 
-// Whether both print the same, and some rows scrolled off.
+// Whether both print and show the same, and some rows scrolled off.
 fn prints_alike(alloc: Global, width: u16, height: u16) -> Result<bool, AllocError> {
     let cells = cells(alloc)?;
     let mut backend = PrintedBackend::new(alloc, width, height)?;
@@ -77,7 +77,11 @@ fn prints_alike(alloc: Global, width: u16, height: u16) -> Result<bool, AllocErr
     if backend.write_to(&mut printed).is_err() || other.write_to(&mut wanted).is_err() {
         return Ok(false);
     }
-    Ok(printed.as_slice() == wanted.as_slice() && other.scrollback().len() > 20)
+    let above = backend.scrollback().as_bytes();
+    Ok(printed.as_slice() == wanted.as_slice()
+        && other.buffer_is(backend.buffer())
+        && wanted.as_slice().starts_with(above)
+        && other.scrollback().len() > 20)
 }
 
 #[test]
@@ -86,18 +90,5 @@ fn prints_what_a_test_backend_prints(rt: HostRuntime) -> Result<(), Fail> {
     assert!(rt; prints_alike(rt.alloc(), 1, 1)?);
     assert!(rt; prints_alike(rt.alloc(), 0, 2)?);
     assert!(rt; prints_alike(rt.alloc(), 9, 5)?);
-    Ok(())
-}
-
-#[test]
-fn keeps_a_row_as_text(rt: HostRuntime) -> Result<(), Fail> {
-    let alloc = rt.alloc();
-    let mut backend = PrintedBackend::new(alloc, 3, 1)?;
-    let cell = Cell::new(alloc, "x")?;
-    backend.draw(iter::once((1, 0, &cell)))?;
-    backend.append_lines(1)?;
-    let mut printed = Vec::new(alloc);
-    backend.write_to(&mut printed)?;
-    assert!(rt; printed.as_slice() == "^ x \n|   \n".as_bytes());
     Ok(())
 }

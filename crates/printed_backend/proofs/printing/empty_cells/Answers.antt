@@ -1,4 +1,3 @@
-use Rattle.std.proofs.Common.{refl}
 use Rattle.rtui_cell.specs.Look.{look_of, empty_look}
 use Rattle.rtui_cell.proofs.CellLemmas.{look-empty}
 use Rattle.rtui_backend.proofs.ShiftLemmas.{looks_pushed}

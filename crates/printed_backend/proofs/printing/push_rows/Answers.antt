@@ -1,4 +1,4 @@
-use Rattle.std.proofs.Common.{codes, string_bytes, sym, ap, ◌∙◌, ◌++◌, ◌≡◌, map}
+use Rattle.std.proofs.Common.{codes, string_bytes, sym, ap, ◌∙◌, ◌++◌, map}
 use Rattle.std.specs.List.{flat_map}
 use Rattle.rtui_cell.specs.Look.{look_of}
 use Rattle.rtui_backend.specs.{TestBackend.screen_of, Print.printed_row}

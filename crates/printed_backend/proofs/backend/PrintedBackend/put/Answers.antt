@@ -1,4 +1,4 @@
-use Rattle.std.proofs.Common.{ℕ, ◌∷◌, [], Ok, refl, arith}
+use Rattle.std.proofs.Common.{ℕ, Ok, refl, arith}
 use Rattle.std.proofs.lemmas.{Grind.common_steps}
 use Rattle.rtui_cell.specs.Grid.{update_by}
 use Rattle.rtui_backend.specs.{TestBackend.screen_of}

@@ -1,7 +1,7 @@
-use Rattle.std.proofs.Common.{rules, refl, arith, ◌∙◌}
+use Rattle.std.proofs.Common.{refl, arith, ◌∙◌}
 use Rattle.rtui_backend.proofs.DrawLemmas.{Draws-push}
 use Rattle.printed_backend.specs.Printed.{shown_on}
-use Rattle.printed_backend.proofs.DrawingLemmas.{drawn_further, on_err}
+use Rattle.printed_backend.proofs.DrawingLemmas.{drawn_further}
 use Rattle.printed_backend.proofs.RaisingLemmas.{raised-more}
 use Rattle.printed_backend.proofs.backend.PrintedBackend.raise_row.Goals as goal
 

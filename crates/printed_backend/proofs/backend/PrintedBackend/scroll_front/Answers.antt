@@ -4,8 +4,11 @@ use Rattle.printed_backend.proofs.{DrawingLemmas.none_drawn, DrawingLemmas.on_er
 use Rattle.printed_backend.proofs.LeavingLemmas.{front_scrolled}
 use Rattle.printed_backend.proofs.backend.PrintedBackend.scroll_front.Goals as goal
 
+pub returns-in_err-text-clause-memory : goal.returns-in_err-text-clause-memory
+returns-in_err-text-clause-memory c = on_err _ (none_drawn c.args.self.now _ refl)
+
 pub returns-in_err-rows-clause-memory : goal.returns-in_err-rows-clause-memory
-returns-in_err-rows-clause-memory c = on_err c.from_residual.result (none_drawn c.args.self.now _ refl)
+returns-in_err-rows-clause-memory c = on_err _ (none_drawn c.args.self.now _ refl)
 
 pub returns-clause-ok : goal.returns-clause-ok
 returns-clause-ok c =
