@@ -1,12 +1,12 @@
 -- Rows that leave the screen, and how it scrolls.
 use Rattle.std.proofs.Common.{◌≡◌, ◌⊎◌, Bool, ℕ, ◌+◌, ◌-◌, ◌<◌, ◌≤◌, min, List, [], ◌∷◌, ◌++◌, map, nat_lt, true, false, ◌==◌, if◌then◌else◌, refl}
-use Rattle.std.proofs.Common.{sym, ap, ap₂, subst, ◌∙◌, arith, append_assoc, inl, inr}
+use Rattle.std.proofs.Common.{sym, ap, subst, ◌∙◌, arith, append_assoc, inl, inr}
 use Rattle.std.specs.List.{flat_map, range_with_len}
 use Rattle.std.proofs.lemmas.{List.append-nil, List.map-append, List.FromFn.map-range_with_len_more, Grind.flat_map-append}
 use Rattle.std.proofs.lemmas.{Bool.cases_lt, Bool.Decides.nat_tests}
-use Rattle.rtui_cell.specs.{declared.cell.Cell.Cell, Look.Look, Look.look_of, Look.empty_look, Grid.Grid}
-use Rattle.rtui_backend.specs.Screen.{Screen, Motion, ScrollsRegion, ScrollsUp, Scrolls, Appends, Erases, cursor_of, with_cursor}
-use Rattle.rtui_backend.specs.Screen.{seen, row_of, upper_part, rows_above, scrolling_up, moved_by, lines_past, IsOnGrid}
+use Rattle.rtui_cell.specs.{declared.cell.Cell.Cell, Look.Look, Look.look_of, Look.empty_look}
+use Rattle.rtui_backend.specs.Screen.{Screen, Motion, ScrollsRegion, ScrollsUp, Scrolls, Appends, cursor_of, with_cursor}
+use Rattle.rtui_backend.specs.Screen.{row_of, upper_part, rows_above, scrolling_up, moved_by, lines_past, IsOnGrid}
 use Rattle.printed_backend.specs.Inner.{RaisesRow, ScrollsFront, rows_leaving}
 use Rattle.printed_backend.proofs.DrawingLemmas.{below}
 

@@ -1,4 +1,4 @@
-use Rattle.std.proofs.Common.{◌≡◌, ℕ, ◌+◌, ◌-◌, min, sym, ap, subst, ◌∙◌, arith}
+use Rattle.std.proofs.Common.{◌≡◌, ℕ, ◌+◌, ◌-◌, sym, ap, subst, ◌∙◌, arith}
 use Rattle.rtui_backend.specs.Screen.{Scrolls, Appends, lines_past}
 use Rattle.printed_backend.specs.{Printed.shown_on, Inner.ScrollsFront}
 use Rattle.printed_backend.proofs.LeavingLemmas.{none_scrolled, all_scrolled, appended, past_some, past_none, row_moved}

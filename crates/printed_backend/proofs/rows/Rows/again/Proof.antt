@@ -1,5 +1,5 @@
 -- `again` makes a value of the same rows.
-use Rattle.std.proofs.Common.{◌≡◌, [], ◌∷◌, ◌++◌, refl}
+use Rattle.std.proofs.Common.{◌≡◌, [], ◌∷◌, refl}
 use Rattle.std.proofs.raw_atomic.Walks.{proved, leaves}
 use mir.Syntax.{named}
 use mir.Val.{Val, vptr, vstruct, vcons, vnil}
@@ -12,16 +12,14 @@ use types.ByLocal.{alloc_all, pass_all, free_all, look_at, get, sets}
 use contract.Monad.{fact, fact_i}
 use contract.Running.{tables}
 use denote.Exit.{yes}
-use denote.RattleType.{RattleType, owns}
+use denote.RattleType.{owns}
 use denote.Signature.{types_at, plain}
-use denote.Builtin.{RefOf, SliceRefOf}
+use denote.Builtin.{RefOf}
 use denote.Ref.{shr_vals, shr_Tells}
-use denote.Slice.{shr_slice_vals, shr_slice_Tells}
 use denote.Shadow.{makes_shadow}
 use denote.Steps.{nothing}
 use denote.Triple.Entry.{alive}
 use denote.Triple.Walked.{Stays, stay_dropped, walk_of, Goes-dropped}
-use Rattle.rtui_cell.specs.contracts.cell.Cell.{the_row as cell}
 use Rattle.printed_backend.specs.contracts.rows.Rows.{the_row as R}
 use Rattle.printed_backend.specs.contracts.rows.Rows.again as f
 use Rattle.printed_backend.proofs.rows.Rows.again.Statement.{statement}

@@ -12,7 +12,7 @@ use types.ByLocal.{alloc_all, pass_all, free_all, look_at, get, sets}
 use contract.Monad.{fact, fact_i}
 use contract.Running.{tables}
 use denote.Exit.{yes}
-use denote.RattleType.{RattleType, owns}
+use denote.RattleType.{owns}
 use denote.Signature.{types_at, plain}
 use denote.Builtin.{RefOf, SliceRefOf}
 use denote.Ref.{shr_vals, shr_Tells}

@@ -4,7 +4,7 @@ use Rattle.std.proofs.raw_atomic.Walks.{proved, leaves}
 use mir.Val.{Val, vstruct, vcons, vnil}
 use base.Logic.{SProp, emp}
 use base.Fml.{Fml}
-use types.Kit.{‵, raw, ◌⊛◌, ◌$◌, ◌∵◌, !, qed, by, keep, use0, split, fjoin}
+use types.Kit.{‵, raw, ◌⊛◌, ◌$◌, ◌∵◌, !, qed, by, keep, use0, split}
 use types.Run.{no_more, and_then, returns, enter}
 use types.Part.{agg}
 use types.ByLocal.{alloc_all, pass_all, free_all, look_at, get, sets}
