@@ -3,7 +3,10 @@ use Rattle.std.proofs.Common.{◌≡◌, ℕ, ◌+◌, ◌<◌, List, [], ◌∷
 use Rattle.std.proofs.Common.{IfSome, Result, Ok, Err, IfOk, sym, ap, ap₂, subst, ◌∙◌, arith, inr}
 use Rattle.std.specs.{Result.result_ok, Str.IsUtf8, Str.Lines.lines, Io.KnownBytes.Appends}
 use Rattle.ratatui_core.specs.Layout.{Rect, Size}
-use Rattle.ratatui_core.specs.Backend.{Screen, IsBlankScreen, rows_above, TestBackend, TestError, screen_of, printed_screen}
+use Rattle.std.specs.declared.alloc.AllocError.{AllocError}
+use Rattle.ratatui_core.specs.Backend.{Screen, IsBlankScreen, rows_above, printed_screen}
+use Rattle.printed_backend.specs.declared.backend.PrintedBackend.{PrintedBackend}
+use Rattle.printed_backend.specs.Printed.{shown_on, HasOnlyDrawn}
 use Rattle.ratatui_core.specs.Terminal.{IsBlank, IsBlankBelow, row_area, IsRendered, HasCursor, IsRowOf, rows_over}
 use Rattle.logview.specs.Rows.{counted, status_text, RendersStatus, end_place, AreRowsOfLines}
 use Rattle.logview.specs.Views.{StartsView, PushesLine, IsViewOf}
@@ -98,23 +101,23 @@ first_line [] line some is = absurd (omega arith)
 first_line (first ∷ rest) line some is = ap parsed_size is
 
 -- what was printed of the bytes that were read
-pub prints_log : {E : Type 0} (read : Option (List ℕ)) (bytes : List ℕ) (v : LogView TestBackend E) (old new : Option (List ℕ))
+pub prints_log : {E : Type 0} (read : Option (List ℕ)) (bytes : List ℕ) (v : LogView PrintedBackend E) (old new : Option (List ℕ))
     → IfSome read (λ all. bytes ≡ all) → IsUtf8 bytes → IsLogView (lines bytes) v
-    → Appends old new (printed_screen (screen_of v.terminal.backend)) → IfSome read (λ all. PrintsLog all old new)
+    → Appends old new (printed_screen (shown_on v.terminal.backend)) → IfSome read (λ all. PrintsLog all old new)
 prints_log None bytes v old new e text log written = tt
 prints_log (Some all) bytes v old new e text log written =
     subst (λ bs. PrintsLog bs old new) e
     (record {
       size = log.size;
       is = record { text = text; first = log.first };
-      screen = screen_of v.terminal.backend;
-      shown = shows_log screen_of log.size (drop 1 (lines bytes)) v log.shown;
+      screen = shown_on v.terminal.backend;
+      shown = shows_log shown_on log.size (drop 1 (lines bytes)) v log.shown;
       written = written;
     })
 
 -- a log whose pushes were refused at a line
-pub stopped_log : (bytes : List ℕ) (size : Size) (left : LogView TestBackend TestError) (f : LogFault) → IsLog bytes size
-    → StopsPushing size (lines bytes) left f → IsLogFault bytes f
+pub stopped_log : (bytes : List ℕ) (size : Size) (left : LogView PrintedBackend AllocError) (f : LogFault) → IsLog bytes size
+    → StopsPushing shown_on HasOnlyDrawn size (lines bytes) left f → IsLogFault bytes f
 stopped_log bytes size left fault.Size is stops = absurd stops
 stopped_log bytes size left (fault.Refused n) is stops = (size, is, inr (left, stops))
 stopped_log bytes size left fault.NotText is stops = absurd stops

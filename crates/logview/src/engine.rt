@@ -5,14 +5,16 @@ ghost use Rattle.std.specs.Io.KnownBytes.{Appends};
 ghost use Rattle.std.specs.Str.{IsUtf8};
 ghost use Rattle.std.specs.Str.Lines.{lines};
 ghost use Rattle.ratatui_core.specs.Layout.{Size};
-ghost use Rattle.ratatui_core.specs.Backend.{screen_of, printed_screen};
+ghost use Rattle.ratatui_core.specs.Backend.{printed_screen};
+ghost use Rattle.printed_backend.specs.Printed.{shown_on};
 ghost use Rattle.logview.specs.Views.{IsViewOf};
 ghost use Rattle.logview.specs.Engine.{size_of_log, IsLogView, IsLogFault, PrintsLog, StopsPushing};
 ghost use Rattle.logview.specs.declared.fault.LogFault.TheVariants.{Read, Write};
 
 use crate::fault::LogFault;
 use crate::view::LogView;
-use ratatui_core::backend::TestBackend;
+use printed_backend::PrintedBackend;
+use ratatui_core::backend::Backend;
 use ratatui_core::layout::Size;
 use script_words::read_size;
 use std::alloc::Global;
@@ -45,10 +47,10 @@ fn first_size(text: &str) -> Option<Size>
 }
 
 // A view over a blank screen in memory.
-fn open(alloc: Global, size: Size) -> Option<LogView<TestBackend>>
-    ensures { 0 < size.height → IfSome result (IsViewOf screen_of size []) }
+fn open(alloc: Global, size: Size) -> Option<LogView<PrintedBackend>>
+    ensures { 0 < size.height → IfSome result (IsViewOf shown_on size []) }
 {
-    let backend = TestBackend::new(alloc, size.width, size.height).ok()?;
+    let backend = PrintedBackend::new(alloc, size.width, size.height).ok()?;
     LogView::new(alloc, backend).ok()
 }
 
@@ -57,11 +59,11 @@ fn open(alloc: Global, size: Size) -> Option<LogView<TestBackend>>
 /// # Errors
 ///
 /// `Refused` names the line that was refused; the lines before it were pushed.
-pub fn push_lines(view: &mut LogView<TestBackend>, text: &str) -> Result<(), LogFault>
-    ensures ok { OnOk result ((size : Size) → IsViewOf screen_of size [] view.old
-        → IsViewOf screen_of size (drop 1 (lines text.now)) view.new) }
-    ensures err { IfErr result (λ fault. (size : Size) → IsViewOf screen_of size [] view.old
-        → StopsPushing size (lines text.now) view.new fault) }
+pub fn push_lines<B: Backend>(view: &mut LogView<B>, text: &str) -> Result<(), LogFault>
+    ensures ok { OnOk result ((size : Size) → IsViewOf B.screen size [] view.old
+        → IsViewOf B.screen size (drop 1 (lines text.now)) view.new) }
+    ensures err { IfErr result (λ fault. (size : Size) → IsViewOf B.screen size [] view.old
+        → StopsPushing B.screen B.stops_at size (lines text.now) view.new fault) }
 {
     let mut number = 1usize;
     for line in text.lines().skip(1) {
@@ -74,7 +76,7 @@ pub fn push_lines(view: &mut LogView<TestBackend>, text: &str) -> Result<(), Log
 }
 
 // The view of a log: its size, and then its lines.
-fn view_of_text(alloc: Global, text: &str) -> Result<LogView<TestBackend>, LogFault>
+fn view_of_text(alloc: Global, text: &str) -> Result<LogView<PrintedBackend>, LogFault>
     ensures ok { IfOk result (IsLogView (lines text.now)) }
     ensures err { IfErr result (IsLogFault text.now) }
     ensures not_read { IfErr result (λ fault. fault ≡ Read → ⊥) }
@@ -99,7 +101,7 @@ fn view_of_text(alloc: Global, text: &str) -> Result<LogView<TestBackend>, LogFa
 /// - `NotText`: the bytes aren't UTF-8.
 /// - `Refused`: memory was refused for the line of this number.
 /// - `Memory`: memory was refused.
-pub fn view_of(alloc: Global, bytes: &[u8]) -> Result<LogView<TestBackend>, LogFault>
+pub fn view_of(alloc: Global, bytes: &[u8]) -> Result<LogView<PrintedBackend>, LogFault>
     ensures text { OnOk result (IsUtf8 bytes.now) }
     ensures view { IfOk result (IsLogView (lines bytes.now)) }
     ensures fault { IfErr result (IsLogFault bytes.now) }
@@ -113,9 +115,9 @@ pub fn view_of(alloc: Global, bytes: &[u8]) -> Result<LogView<TestBackend>, LogF
 }
 
 // Writes what the screen of a view shows, and flushes it.
-fn write_view<W: Write>(writer: &mut W, view: &LogView<TestBackend>) -> io::Result<()>
+fn write_view<W: Write>(writer: &mut W, view: &LogView<PrintedBackend>) -> io::Result<()>
     ensures { OnOk result (Appends (W.contents writer.old) (W.contents writer.new)
-        (printed_screen (screen_of view.now.terminal.backend))) }
+        (printed_screen (shown_on view.now.terminal.backend))) }
 {
     view.terminal().backend().write_to(writer)?;
     writer.flush()

@@ -1,4 +1,5 @@
 //! Examples of backends and terminals.
+use printed_backend::PrintedBackend;
 use ratatui_ansi::AnsiBackend;
 use ratatui_core::backend::{Backend, TestBackend, TestError};
 use ratatui_core::buffer::Cell;
@@ -19,6 +20,19 @@ fn a_backend_is_drawn_to(rt: HostRuntime) -> Result<(), Fail> {
     let cell = Cell::new(alloc, "x")?;
     backend.draw(iter::once((1, 0, &cell)))?;
     assert!(rt; backend.lines_are(&[" x   "]));
+    Ok(())
+}
+
+#[test]
+fn a_row_that_scrolled_off_is_text(rt: HostRuntime) -> Result<(), Fail> {
+    let alloc = rt.alloc();
+    let mut backend = PrintedBackend::new(alloc, 3, 1)?;
+    let cell = Cell::new(alloc, "x")?;
+    backend.draw(iter::once((1, 0, &cell)))?;
+    backend.append_lines(1)?;
+    let mut printed = Vec::new(alloc);
+    backend.write_to(&mut printed)?;
+    assert!(rt; printed.as_slice() == "^ x \n|   \n".as_bytes());
     Ok(())
 }
 

@@ -1,5 +1,6 @@
 use Rattle.std.proofs.Common.{sym, subst, rules}
 use Rattle.script_words.proofs.ResultLemmas.{err-passed}
+use Rattle.printed_backend.specs.Printed.{shown_on, HasOnlyDrawn}
 use Rattle.logview.specs.Engine.{StopsPushing}
 use Rattle.logview.proofs.LogLemmas.{stopped_log}
 use Rattle.logview.proofs.engine.view_of_text.Goals as goal
@@ -24,10 +25,10 @@ returns-in_err-push_lines-clause-err c = err-passed _ _ _ c.from_residual.ensure
 
 pub returns-in_err-push_lines-clause-not_read : goal.returns-in_err-push_lines-clause-not_read
 returns-in_err-push_lines-clause-not_read c = err-passed _ _ _ c.from_residual.ensures.1 (λ is.
-    subst (StopsPushing c.in-Some.size _ c.push_lines.new.view) is
+    subst (StopsPushing shown_on HasOnlyDrawn c.in-Some.size _ c.push_lines.new.view) is
     (c.in_err-push_lines.ensures.err c.in-Some.size (c.in-Some-open.ensures c.in-Some.ensures.some.1)))
 
 pub returns-in_err-push_lines-clause-not_write : goal.returns-in_err-push_lines-clause-not_write
 returns-in_err-push_lines-clause-not_write c = err-passed _ _ _ c.from_residual.ensures.1 (λ is.
-    subst (StopsPushing c.in-Some.size _ c.push_lines.new.view) is
+    subst (StopsPushing shown_on HasOnlyDrawn c.in-Some.size _ c.push_lines.new.view) is
     (c.in_err-push_lines.ensures.err c.in-Some.size (c.in-Some-open.ensures c.in-Some.ensures.some.1)))

@@ -1,0 +1,3 @@
+pub mod DrawingLemmas
+pub mod RaisingLemmas
+pub mod LeavingLemmas
