@@ -59,7 +59,7 @@ pub fn empty_buffers_are_plain()
     ensures { (r : Rect) (s : BufferData) → IsEmptied r s → IsPlainFrom 0 s }
 {}
 
-/// What shows of a span that is cut at the left has the last of the span's graphemes, and no others.
+/// What shows of a span that is cut at the left has the last of the span's graphemes and no others.
 pub fn a_cut_span_keeps_its_last_graphemes()
     ensures { (skip : ℕ) (span : SpanData) → let gs = graphemes true span.content in
         (n : ℕ) × (graphemes true (part_of skip span).content ≡ drop n gs) }

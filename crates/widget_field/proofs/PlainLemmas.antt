@@ -1,5 +1,6 @@
 -- A field on plain cells leaves a buffer that a screen can show.
-use Rattle.std.proofs.Common.{◌≡◌, ℕ, ◌+◌, ◌-◌, ◌≤◌, List, [], All, Option, Some, None, IfSome, Result, Ok, drop, refl, sym, subst, arith}
+use Rattle.std.proofs.Common.{◌≡◌, ℕ, ◌+◌, ◌-◌, ◌≤◌, List, [], All, Option, Some, None, IfSome, Result, Ok}
+use Rattle.std.proofs.Common.{true, drop, refl, sym, subst, arith}
 use Rattle.std.specs.Prelude.{⊤}
 use Rattle.std.proofs.lemmas.{List.append-nil, List.Elements.All-drop}
 use Rattle.unicode_segmentation.specs.Grapheme.{graphemes}
@@ -111,7 +112,8 @@ input-plain input f g area old new box narrow plain is =
     let r : Rect = inner_if input.block (intersected area old.area) in
     let small = inner-narrow input.block area old.area in
     let parts = shows.parts in
-    let shown : EachGrapheme TakesOneColumn (drop g.first (masked input.mask f.before)) = subst (All TakesOneColumn) (sym parts.shown)
+    let shown : EachGrapheme TakesOneColumn (drop g.first (masked input.mask f.before)) =
+    subst (All TakesOneColumn) (sym parts.shown)
     (All-drop TakesOneColumn parts.view.count (graphemes true (masked input.mask f.before)) narrow.before) in
     let front = text-plain r.x r.y (r.width - 1) new_style (drop g.first (masked input.mask f.before)) framed parts.between
     (omega (arith, small)) shown cells parts.front in

@@ -1,11 +1,11 @@
 -- What is shown of a text from its view on: the graphemes that the view counts.
-use Rattle.std.proofs.Common.{◌≡◌, ℕ, ◌≤◌, Bool, true, false, nat_lt, if◌then◌else◌, List, [], ◌∷◌, length, map, filter, take, drop}
-use Rattle.std.proofs.Common.{sum_by, All, refl, sym, ap, subst, ◌∙◌, arith}
+use Rattle.std.proofs.Common.{◌≡◌, ℕ, ◌≤◌, Bool, true, false, nat_lt, if◌then◌else◌, List, [], ◌∷◌, length, map, filter}
+use Rattle.std.proofs.Common.{take, drop, sum_by, All, refl, sym, ap, subst, ◌∙◌, arith}
 use Rattle.std.specs.Str.{IsUtf8}
 use Rattle.std.proofs.lemmas.{Bool.cond_both, Bool.ltb-false, List.take_all, List.Sums.sum_by-cons}
 use Rattle.std.proofs.lemmas.List.Elements.{All-nil, All-cons, All-head, All-tail, All-take, All-drop, All-map}
 use Rattle.unicode_segmentation.specs.Grapheme.{graphemes}
-use Rattle.ratatui_core.specs.{Style.Style, Style.new_style, Text.has_control}
+use Rattle.ratatui_core.specs.{Style.Style, Text.has_control}
 use Rattle.ratatui_core.specs.Buffer.{IsShort, text_width, Piece, piece_of, columns, kept, painted_width, has_painted_width}
 use Rattle.ratatui_core.specs.Buffer.{text_pieces}
 use Rattle.ratatui_core.proofs.BufferLemmas.{IsLongestFront-kept, graphemes-dropped, graphemes-control_free}
@@ -59,7 +59,8 @@ kept-whole room gs fits =
     let hs = filter has_painted_width gs in
     let longest = IsLongestFront-kept room gs in
     let whole : take (length hs) hs ≡ hs = take_all (length hs) hs (omega arith) in
-    let room_for : sum_by text_width (take (length hs) hs) ≤ room = omega (arith, ap (sum_by text_width) whole, painted-le gs, fits) in
+    let room_for : sum_by text_width (take (length hs) hs) ≤ room =
+    omega (arith, ap (sum_by text_width) whole, painted-le gs, fits) in
     let all : length hs ≤ length (kept room gs) = longest.longest (length hs) (omega arith) room_for in
     longest.first ∙ take_all (length (kept room gs)) hs all
 
@@ -130,7 +131,8 @@ module _ (room behind first start : ℕ) (text : List ℕ) (view : IsView room b
 
     -- there is room for all of them
     pub view-painted : (style : Style)
-        → text_pieces room style (drop start text) ≡ map (piece_of style) (filter has_painted_width (drop view.count (graphemes true text)))
+        → text_pieces room style (drop start text)
+        ≡ map (piece_of style) (filter has_painted_width (drop view.count (graphemes true text)))
     view-painted style = ap (map (piece_of style)) view-kept
 
     -- the columns that they take

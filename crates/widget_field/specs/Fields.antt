@@ -45,8 +45,8 @@ abbrev pub style_behind : Input → FieldData → Style
 style_behind input f = if_none (field_text f) input.placeholder_style new_style
 
 -- A text before a cursor and what is after it in the first row of an area: the text in view, from a byte on,
--- whose graphemes are those that the view counts; the cursor in the column at the sum of its widths, which lies
--- in the area; and what is after, as far as the row goes. Each grapheme stands there whole or not at all.
+-- whose graphemes are those that the view counts; the cursor in the column at the sum of its widths, which
+-- lies in the area; and what is after, as far as the row goes. Each grapheme stands there whole or not at all.
 pub record ShowsParts (text : List ℕ) (first : ℕ) (behind : List ℕ) (style : Style) (r : Rect) (start column : ℕ)
     (old new : BufferData) : Type 0 where
   pub view : IsView (r.width - 1) (columns_in behind) text first start

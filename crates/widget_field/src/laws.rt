@@ -57,8 +57,8 @@ pub fn no_room_is_wasted()
 {}
 
 /// What an input shows before the cursor are the graphemes that its view counts. Each of them that
-/// takes a column is painted; and if the text has no control character, as what is typed has none,
-/// the cursor stands in the column after theirs.
+/// takes a column is painted; and if the text has no control character, the cursor stands in the
+/// column after theirs.
 pub fn the_view_shows_what_it_counts()
     ensures graphemes { (input : Input) (f g : FieldData) (r : Rect) (old new : BufferData)
         → (shows : ShowsField input f g r old new) → let text = masked input.mask f.before in
