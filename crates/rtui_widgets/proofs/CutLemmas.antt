@@ -1,5 +1,5 @@
 -- What shows of a line that is cut at the left has the graphemes that its spans had there.
-use Rattle.std.proofs.Common.{◌≡◌, ℕ, suc, ◌-◌, ◌<◌, Bool, true, false, if◌then◌else◌, nat_le, ◌==◌, List, [], ◌∷◌, drop}
+use Rattle.std.proofs.Common.{◌≡◌, ℕ, suc, ◌-◌, ◌<◌, true, nat_le, ◌==◌, List, [], ◌∷◌, drop}
 use Rattle.std.proofs.Common.{sum_by, All, refl, sym, ap, subst, ◌∙◌, arith}
 use Rattle.std.specs.List.{concat}
 use Rattle.std.proofs.lemmas.Bool.{cond_both, leb-false}

@@ -1,5 +1,6 @@
 -- A field on plain cells leaves a buffer that a screen can show.
-use Rattle.std.proofs.Common.{◌≡◌, ℕ, ◌+◌, ◌-◌, ◌≤◌, List, [], All, Option, Some, None, IfSome, Result, Ok, drop, refl, sym, subst, arith}
+use Rattle.std.proofs.Common.{◌≡◌, ℕ, ◌+◌, ◌-◌, ◌≤◌, List, [], All, Option, Some, None, IfSome, Result, Ok}
+use Rattle.std.proofs.Common.{true, drop, refl, sym, subst, arith}
 use Rattle.std.specs.Prelude.{⊤}
 use Rattle.std.proofs.lemmas.{List.append-nil, List.Elements.All-drop}
 use Rattle.unicode_segmentation.specs.Grapheme.{graphemes}

@@ -1,5 +1,5 @@
 -- Fields of ASCII take no memory.
-use Rattle.std.proofs.Common.{ℕ, ◌≡◌, ◌+◌, ◌<◌, List, [], ◌∷◌, None, drop, sym, ap, subst}
+use Rattle.std.proofs.Common.{ℕ, ◌≡◌, List, [], ◌∷◌, None, sym, ap, subst}
 use Rattle.std.specs.Str.{IsAscii}
 use Rattle.ratatui_core.specs.{Style.Style, Style.new_style, Buffer.BufferData}
 use Rattle.ratatui_core.proofs.BufferLemmas.{text-short, ascii-short}

@@ -5,7 +5,7 @@ use Rattle.std.specs.Str.{IsUtf8}
 use Rattle.std.proofs.lemmas.{Bool.cond_both, Bool.ltb-false, List.take_all, List.Sums.sum_by-cons}
 use Rattle.std.proofs.lemmas.List.Elements.{All-nil, All-cons, All-head, All-tail, All-take, All-drop, All-map}
 use Rattle.unicode_segmentation.specs.Grapheme.{graphemes}
-use Rattle.ratatui_core.specs.{Style.Style, Style.new_style, Text.has_control}
+use Rattle.ratatui_core.specs.{Style.Style, Text.has_control}
 use Rattle.ratatui_core.specs.Buffer.{IsShort, text_width, Piece, piece_of, columns, kept, painted_width, has_painted_width}
 use Rattle.ratatui_core.specs.Buffer.{text_pieces}
 use Rattle.ratatui_core.proofs.BufferLemmas.{IsLongestFront-kept, graphemes-dropped, graphemes-control_free}
