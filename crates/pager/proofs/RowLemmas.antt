@@ -1,11 +1,10 @@
--- How many rows a line takes, and the rows of a text one after the other.
+-- How many rows a line takes, and its bytes.
 use Rattle.std.proofs.Common.{◌≡◌, ℕ, ◌+◌, ◌≤◌, List, [], ◌∷◌, length, refl, ap, ◌∙◌, arith, add-one}
 use Rattle.pager.specs.declared.sought.Sought.TheVariants.{Plain}
-use Rattle.pager.specs.declared.place.Place.{Place}
 use Rattle.pager.specs.Symbols.{Reach, shown_columns, reach_after, symbols_from}
 use Rattle.pager.specs.Search.{numbered_line}
 use Rattle.pager.specs.Pages.{bytes_before}
-use Rattle.pager.specs.Places.{Breaking, last_start, next_place, previous_place, places_after, places_before}
+use Rattle.pager.specs.Places.{last_start}
 
 -- a place by its column alone
 abbrev pub reach_at : List ℕ → ℕ → Reach
@@ -46,26 +45,6 @@ pub last-none : (last : ℕ) (line : List ℕ) (column : ℕ) (gs : List (List �
     → last_start last (symbols_from (Plain []) (reach_at line column) gs) ≡ last
 unfolding symbols_from
 last-none last line column gs none = rw none refl
-
--- ---- places
-
-pub after-none : (t : Breaking) (q : Place) → places_after t 0 q ≡ q
-unfolding places_after
-after-none t q = refl
-
-pub after-next : (t : Breaking) (n : ℕ) (q r s : Place) → r ≡ places_after t n q → s ≡ next_place t r
-    → s ≡ places_after t (n + 1) q
-unfolding places_after
-after-next t n q r s before is = rw add-one (is ∙ ap (next_place t) before)
-
-pub before-none : (t : Breaking) (q : Place) → places_before t 0 q ≡ q
-unfolding places_before
-before-none t q = refl
-
-pub before-next : (t : Breaking) (n : ℕ) (q r s : Place) → r ≡ places_before t n q → s ≡ previous_place t r
-    → s ≡ places_before t (n + 1) q
-unfolding places_before
-before-next t n q r s before is = rw add-one (is ∙ ap (previous_place t) before)
 
 -- ---- bytes
 
