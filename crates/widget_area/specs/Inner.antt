@@ -1,6 +1,5 @@
 -- What private functions promise one another.
 use Rattle.std.specs.Prelude.{◌≡◌, ◌<◌, ◌≤◌, ℕ}
-use Rattle.std.specs.Str.{IsCharBoundary}
 use Rattle.text_area.specs.{Lines.feeds, Lines.nth_start, Areas.area_text}
 use Rattle.widget_area.specs.declared.widget.TextAreaWidget.{TextAreaWidget}
 
@@ -8,5 +7,4 @@ use Rattle.widget_area.specs.declared.widget.TextAreaWidget.{TextAreaWidget}
 pub record IsAtLine (w : TextAreaWidget) (stride i start : ℕ) : Type 0 where
   pub some : 0 < stride
   pub within : i ≤ feeds (area_text w.text.now)
-  pub start : start ≡ nth_start i (area_text w.text.now)
-  pub boundary : IsCharBoundary (area_text w.text.now) start
+  pub begins : start ≡ nth_start i (area_text w.text.now)

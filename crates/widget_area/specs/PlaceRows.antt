@@ -23,19 +23,27 @@ cursor-within w =
     sum_by-append (λ b. cond (is_feed b) 1 0) (area_before w.text.now) (area_after w.text.now) in
     omega (arith, all)
 
+-- a line feed counts
+feeds-first : (b : ℕ) (text : List ℕ) → feeds (b ∷ text) ≡ cond (is_feed b) 1 0 + feeds text
+feeds-first b text = let all = sum_by-append (λ c. cond (is_feed c) 1 0) (b ∷ []) text in omega (arith, all)
+
 -- after the last line there is none
 start-past : (i : ℕ) (text : List ℕ) → feeds text < i → nth_start i text ≡ length text
 start-past zero text lt = absurd (omega (arith, lt))
 start-past (suc i) [] lt = refl
-start-past (suc i) (b ∷ text) lt = by (is_feed b) refl
+start-past (suc i) (b ∷ text) lt = by (is_feed b) refl (start-past i text) (start-past (suc i) text)
   where
-    by : (t : Bool) → is_feed b ≡ t → suc (nth_start (if is_feed b then i else suc i) text) ≡ suc (length text)
-    by true is =
-        let fewer : feeds text < i = rw is at lt in
-        ap (λ t. suc (nth_start (if t then i else suc i) text)) is ∙ ap suc (start-past i text (omega (arith, fewer)))
-    by false is =
-        let fewer : feeds text < suc i = rw is at lt in
-        ap (λ t. suc (nth_start (if t then i else suc i) text)) is ∙ ap suc (start-past (suc i) text (omega (arith, fewer)))
+    by : (t : Bool) → is_feed b ≡ t → (feeds text < i → nth_start i text ≡ length text)
+        → (feeds text < suc i → nth_start (suc i) text ≡ length text)
+        → suc (nth_start (if is_feed b then i else suc i) text) ≡ suc (length text)
+    by true is next same =
+        let one = ap (λ t. cond t 1 0 + feeds text) is in
+        ap (λ t. suc (nth_start (if t then i else suc i) text)) is
+        ∙ ap suc (next (omega (arith, lt, feeds-first b text, one)))
+    by false is next same =
+        let one = ap (λ t. cond t 1 0 + feeds text) is in
+        ap (λ t. suc (nth_start (if t then i else suc i) text)) is
+        ∙ ap suc (same (omega (arith, lt, feeds-first b text, one)))
 
 none-first : first_line [] ≡ []
 none-first = refl

@@ -24,7 +24,6 @@ pub(crate) fn stride_of(room: u16) -> u16
 }
 
 // How many rows a line takes that ends before a column.
-#[tactic(auto, using(std::proofs::Math::Nat::div-le_self))]
 pub(crate) fn rows_of_columns(stride: u16, end: usize) -> usize
     requires { 0 < stride }
     ensures { result ≡ rows_of_columns stride end }
@@ -79,6 +78,7 @@ impl<'a> TextAreaWidget<'a> {
 }
 
 // The lines of a text as they are wrapped, and where the one begins that was asked for last.
+#[derive(Drop)]
 pub(crate) struct WrappedText<'b, 'a> {
     widget: &'b TextAreaWidget<'a>,
     stride: u16,
@@ -87,7 +87,7 @@ pub(crate) struct WrappedText<'b, 'a> {
 }
 
 impl<'b, 'a> Model for WrappedText<'b, 'a> {
-    ghost use Rattle.std.specs.Prelude.{◌×◌, ℕ};
+    ghost use Rattle.std.specs.Prelude.{ℕ};
     ghost use Rattle.widget_area.specs.declared.widget.TextAreaWidget.{TextAreaWidget};
     ghost use Rattle.widget_area.specs.Inner.{IsAtLine};
 
