@@ -1,10 +1,13 @@
 -- How many rows a line takes, and its bytes.
-use Rattle.std.proofs.Common.{◌≡◌, ℕ, ◌+◌, ◌≤◌, List, [], ◌∷◌, length, refl, ap, ◌∙◌, arith, add-one}
+use Rattle.std.proofs.Common.{◌≡◌, ℕ, ◌+◌, ◌-◌, ◌/◌, ◌^◌, ◌≤◌, Bool, true, false, if◌then◌else◌, min, List, [], ◌∷◌, length, refl, ap, ◌∙◌, arith}
+use Rattle.std.proofs.Common.{add-one}
+use Rattle.std.proofs.Math.Nat.{div-le_self}
+use Rattle.pager.specs.declared.pager.Pager.{Pager}
 use Rattle.pager.specs.declared.sought.Sought.TheVariants.{Plain}
-use Rattle.pager.specs.Symbols.{Reach, shown_columns, reach_after, symbols_from}
+use Rattle.pager.specs.Symbols.{Reach, shown_columns, reach_after, symbols_from, line_symbols}
 use Rattle.pager.specs.Search.{numbered_line}
 use Rattle.pager.specs.Pages.{bytes_before}
-use Rattle.pager.specs.Places.{last_start}
+use Rattle.pager.specs.Places.{last_start, breaking, stride}
 
 -- a place by its column alone
 abbrev pub reach_at : List ℕ → ℕ → Reach
@@ -56,3 +59,15 @@ pub bytes-next : (lines : List (List ℕ)) (k : ℕ)
     → bytes_before lines (k + 1) ≡ bytes_before lines k + length (numbered_line lines k) + 1
 unfolding bytes_before
 bytes-next lines k = rw add-one refl
+
+-- ---- places
+
+pub rows-most : (p : Pager) (line : ℕ) → breaking p line ≤ 2 ^ 32
+rows-most p line = by p.wraps
+  where
+    last : ℕ
+    last = min (last_start 0 (line_symbols (Plain []) [] (numbered_line p.document line))) (2 ^ 32 - 1)
+
+    by : (b : Bool) → (if b then last / stride p + 1 else 1) ≤ 2 ^ 32
+    by true = omega (arith, div-le_self last (stride p))
+    by false = omega arith

@@ -62,6 +62,7 @@ pub fn next_place<T: BrokenText>(text: &mut T, place: Place) -> Place
 /// first place of all is its own.
 pub fn previous_place<T: BrokenText>(text: &mut T, place: Place) -> Place
     ensures place { result ≡ previous_place (T.rows text.old) place }
+    ensures line { result.line ≤ place.line }
     ensures same { T.rows text.new ≡ T.rows text.old }
 {
     if place.row > 0 {
@@ -86,6 +87,7 @@ pub fn previous_place<T: BrokenText>(text: &mut T, place: Place) -> Place
 pub fn places_after<T: BrokenText>(text: &mut T, rows: usize, place: Place) -> Place
     requires { place.line + rows < 2 ^ 64 }
     ensures place { result ≡ places_after (T.rows text.old) rows place }
+    ensures line { result.line ≤ place.line + rows }
     ensures same { T.rows text.new ≡ T.rows text.old }
 {
     let count = text.line_count();
@@ -105,6 +107,7 @@ pub fn places_after<T: BrokenText>(text: &mut T, rows: usize, place: Place) -> P
 /// Returns the place so many rows before; before the first place there is none, and it is its own.
 pub fn places_before<T: BrokenText>(text: &mut T, rows: usize, place: Place) -> Place
     ensures place { result ≡ places_before (T.rows text.old) rows place }
+    ensures line { result.line ≤ place.line }
     ensures same { T.rows text.new ≡ T.rows text.old }
 {
     let mut place = place;
