@@ -3,9 +3,11 @@
 use Rattle.std.specs.Prelude.{◌<◌, ℕ, zero, suc, ◌+◌, ◌-◌, ◌==◌, ◌&&◌, ◌||◌, Bool, nat_lt, min, if◌then◌else◌}
 use Rattle.text_places.specs.declared.place.Place.{Place}
 
+-- each line takes a row or more
 abbrev pub HaveRows : (ℕ → ℕ) → Type 0
 HaveRows rows = (line : ℕ) → 0 < rows line
 
+-- a place by its line and its row
 abbrev pub text_place : ℕ → ℕ → Place
 text_place line row = record { line = line; row = row }
 

@@ -7,8 +7,8 @@ use crate::place::Place;
 
 /// A text whose lines are broken into rows.
 ///
-/// It may keep where the line stands of which it was asked last, so that the lines beside that one
-/// are found at once: so it is lent for each walk, and tells the same of its lines after it.
+/// It may keep where the line begins that it was asked for last, to find those beside it at once. So a
+/// walk borrows it as `&mut`; afterwards it tells the same of its lines.
 pub trait BrokenText {
     // how many rows each line takes
     ghost rows: { Self → ℕ → ℕ };
@@ -16,8 +16,8 @@ pub trait BrokenText {
     // how many lines there are
     ghost count: { Self → ℕ };
 
-    /// Returns how many rows a line takes: one or more. Each number is taken for a line, also one
-    /// after the last line's.
+    /// Returns how many rows the line of a number takes, from 0 on: one or more. After the last line
+    /// each one takes one row.
     fn rows_of_line(&mut self, line: usize) -> usize
         ensures rows { result ≡ rows self.old line }
         ensures same { rows self.new ≡ rows self.old };
@@ -58,8 +58,8 @@ pub fn next_place<T: BrokenText>(text: &mut T, place: Place) -> Place
     }
 }
 
-/// Returns the place before: the row before in the line, or the last one of the line before. The
-/// first place of all is its own.
+/// Returns the place before: the row before in the line, or the last row of the line before. The first
+/// place stays.
 pub fn previous_place<T: BrokenText>(text: &mut T, place: Place) -> Place
     ensures place { result ≡ previous_place (T.rows text.old) place }
     ensures line { result.line ≤ place.line }
@@ -79,7 +79,7 @@ pub fn previous_place<T: BrokenText>(text: &mut T, place: Place) -> Place
     place
 }
 
-/// Returns the place so many rows further. After the text's end it counts without a walk.
+/// Returns the place so many rows further. After the text's end it counts the rows at once.
 ///
 /// # Conditions
 ///
@@ -104,7 +104,7 @@ pub fn places_after<T: BrokenText>(text: &mut T, rows: usize, place: Place) -> P
     place
 }
 
-/// Returns the place so many rows before; before the first place there is none, and it is its own.
+/// Returns the place so many rows before. The first place stays.
 pub fn places_before<T: BrokenText>(text: &mut T, rows: usize, place: Place) -> Place
     ensures place { result ≡ places_before (T.rows text.old) rows place }
     ensures line { result.line ≤ place.line }

@@ -6,14 +6,14 @@ ghost use Rattle.text_places.specs.Places.{IsInLine, rows_between, view_begin};
 use crate::place::Place;
 use crate::text::{BrokenText, previous_place};
 
-/// Returns where a view of so many rows begins that has a place in it, as near as can be to where
-/// it began, and in which of its rows the place stands. It asks for the lines above the place, as far
-/// as a view can have them, and for no other ones.
+/// Returns where a view of so many rows begins that has a place in it, as near as can be to where it
+/// began, and in which of its rows the place stands. It asks for the lines that are above the place
+/// in that view, and for no other ones.
 ///
 /// # Conditions
 ///
-/// There is a row, and the place is a row of its line. Where the view began need not be one: it
-/// counts for the last row of its line if that has fewer.
+/// There is a row, and the place is a row of its line. Where the view began need not be one: the last
+/// row of its line counts, if that has fewer rows.
 pub fn view_begin<T: BrokenText>(
     text: &mut T,
     former: Place,
