@@ -1,24 +1,26 @@
 -- A rendition is read back as it is written.
 use Rattle.std.proofs.Common.{◌≡◌, ℕ, ◌+◌, ◌<◌, ◌^◌, ◌==◌, nat_lt, nat_eq, List, [], ◌∷◌, ◌++◌, Bool, true, false, IsTrue, zero}
 use Rattle.std.proofs.Common.{suc, inl, inr, ◌⊎◌, ◌&&◌, ◌≤◌, nat_le, length, length-append, if◌then◌else◌, refl, sym, ap, ap₂}
-use Rattle.std.proofs.Common.{◌∙◌, arith, append_assoc, append-nil, take, get_or}
+use Rattle.std.proofs.Common.{◌∙◌, arith, append_assoc, append-nil, take, get_or, map, Option, Some, None, eqb-true}
 use Rattle.std.specs.{Fmt.decimal, List.list_all, List.flat_map, Int.RustNames.bit_and, Int.RustNames.bit_or}
 use Rattle.std.proofs.lemmas.{Bool.false≢true, Bool.and_parts, Bool.Decides.nat_tests, List.Folds.list_all-append, List.take_more}
 use Rattle.std.proofs.lemmas.{Grind.flat_map-append}
 use Rattle.std.proofs.Math.ListN.{get_or-map}
 use Rattle.ratatui_core.specs.Style.{Color, Reset, Rgb, Indexed, Modifier, no_modifier, bits_of, modifier_of}
+use Rattle.ratatui_core.specs.Style.{ModifierRow, modifiers, modifier_sets}
 use Rattle.ratatui_core.proofs.StyleLemmas.{same_color, same_modifier}
 use Rattle.ansi_model.specs.contracts.sgr.SgrPartialEq.TheImpl as sgr_equality
 use Rattle.ansi_model.specs.{declared.sgr.Sgr.Sgr, Emulator.Phase.Ground, Emulator.Phase.Opened, Emulator.Phase.Sequence}
 use Rattle.ansi_model.specs.{Sequences.feed, Sends.Performs}
 use Rattle.ratatui_core.specs.Buffer.{Cell}
-use Rattle.ansi_model.specs.Sgr.{Awaits, Inking, inks, inks_in, is_known_parameter, are_known, default_sgr, sgr_of}
+use Rattle.ansi_model.specs.Sgr.{Awaits, Inking, inks, inks_in, is_known_parameter, are_known, default_sgr, done_with, sgr_of}
+use Rattle.ansi_model.specs.Sgr.{bit_numbered}
 use Rattle.ansi_model.specs.Sgr.Awaits.{Nothing, Kind, Number, Parts}
 use Rattle.ansi_model.specs.Emulator.{Emulator, rested, if_so, with_sgr}
 use Rattle.ansi_model.specs.Parameters.{color_parameters}
 use Rattle.ansi_model.specs.Inner.{underline_parameters, modifier_parameters, modifier_parameter}
 use Rattle.ansi_model.specs.Parameters.{is_underline, is_sendable, color_count}
-use Rattle.ansi_model.specs.Inner.{modifier_numbers, semicolons, led, AddsParameters}
+use Rattle.ansi_model.specs.Inner.{parameters_of, semicolons, led, AddsParameters}
 use Rattle.ansi_model.specs.Parameters.{lead_of, count_with, is_joined}
 use Rattle.ansi_model.proofs.ReadLemmas.{feed-append, number-read, first-read, begun, within, after-those}
 use Rattle.ansi_model.proofs.ReadLemmas.{and-true}
@@ -79,34 +81,30 @@ semicolons-read (p ∷ ps) small done n sgr t =
 
 -- the modifiers, each with its number
 abbrev pub numbered : List (Modifier × ℕ)
-numbered =
-    (modifier_of 1, 1) ∷ (modifier_of 2, 2) ∷ (modifier_of 4, 3) ∷ (modifier_of 8, 4) ∷ (modifier_of 16, 5) ∷ (modifier_of 32, 6)
-    ∷ (modifier_of 64, 7) ∷ (modifier_of 128, 8) ∷ (modifier_of 256, 9) ∷ []
+numbered = map (λ m. (modifier_of m.bit, m.number)) modifiers
 
 -- the parameters of the first modifiers, as many as i
 abbrev pub first_modifiers : ℕ → ℕ → List ℕ
-first_modifiers bits i = flat_map (λ m. modifier_parameter bits m.0 m.1) (take i modifier_numbers)
+first_modifiers bits i = parameters_of bits (take i modifiers)
 
 -- one more of them
-pub modifiers-more : (bits i : ℕ) → i < 9
+pub modifiers-more : (bits i : ℕ) → i < length modifiers
     → first_modifiers bits (i + 1) ≡ first_modifiers bits i ++ modifier_parameter bits (get_or numbered i (no_modifier, 0)).0.0
     (get_or numbered i (no_modifier, 0)).1
 modifiers-more bits i below =
-    let f : ℕ × ℕ → List ℕ = λ m. modifier_parameter bits m.0 m.1 in
-    let g : Modifier × ℕ → ℕ × ℕ = λ m. (bits_of m.0, m.1) in
-    ap (flat_map f) (take_more modifier_numbers i (0, 0) below)
-    ∙ flat_map-append f (take i modifier_numbers) (get_or modifier_numbers i (0, 0) ∷ [])
-    ∙ ap (λ xs. first_modifiers bits i ++ xs) (append-nil (f (get_or modifier_numbers i (0, 0)))
-    ∙ ap f (get_or-map g numbered i (no_modifier, 0)))
+    let none : ModifierRow = record { name = []; bit = 0; number = 0 } in
+    let f : ModifierRow → List ℕ = λ m. modifier_parameter bits m.bit m.number in
+    let g : ModifierRow → Modifier × ℕ = λ m. (modifier_of m.bit, m.number) in
+    let h : Modifier × ℕ → List ℕ = λ p. modifier_parameter bits p.0.0 p.1 in
+    ap (flat_map f) (take_more modifiers i none below)
+    ∙ flat_map-append f (take i modifiers) (get_or modifiers i none ∷ [])
+    ∙ ap (λ xs. first_modifiers bits i ++ xs) (append-nil (f (get_or modifiers i none))
+    ∙ ap h (sym (get_or-map g modifiers i none)))
 
 pub inks-append : (xs ys : List ℕ) (i : Inking) → inks (xs ++ ys) i ≡ inks ys (inks xs i)
 unfolding inks
 inks-append [] ys i = refl
 inks-append (x ∷ xs) ys i = inks-append xs ys (inks_in i.awaits x i.sgr)
-
--- a rendition whose parameters are all read
-abbrev done_with : Sgr → Inking
-done_with sgr = record { sgr = sgr; awaits = Nothing }
 
 fg-inks : (c : Color) (sgr : Sgr) → sgr.fg ≡ Reset
     → inks (color_parameters 30 c) (done_with sgr) ≡ done_with (record sgr { fg = c })
@@ -132,47 +130,54 @@ underline-inks (Rgb r g b) sgr sent e = refl
 underline-inks (Indexed n) sgr sent e = refl
 underline-inks _ sgr sent e = let h : ⊥ = cc in absurd h
 
+-- whether a bit is the one that was found
+abbrev is_bit : Option ℕ → ℕ → Bool
+is_bit None bit = false
+is_bit (Some found) bit = found == bit
+
+bit-found : (o : Option ℕ) (bit : ℕ) → is_bit o bit ≡ true → o ≡ Some bit
+bit-found None bit is = absurd (false≢true is)
+bit-found (Some found) bit is = ap Some (eqb-true found bit is)
+
+-- whether a modifier's number tells its bit
+abbrev is_told : ModifierRow → Bool
+is_told m = is_bit (bit_numbered m.number modifiers) m.bit
+
+all-told : list_all is_told modifiers ≡ true
+all-told = refl
+
 -- a set of modifiers with one more, unless it is left out
 abbrev marks : Bool → ℕ → Modifier → Modifier
 marks b v m = if b then m else modifier_of (bit_or (bits_of m) v)
 
 -- a modifier's number, unless it is left out, marks the modifier
-abbrev Marks : ℕ → ℕ → Type 0
-Marks k v = (m : Modifier) → inks (k ∷ []) (done_with (record default_sgr { modifier = m })) ≡ done_with
-    (record default_sgr { modifier = modifier_of (bit_or (bits_of m) v) })
-
-mark : (k v : ℕ) (b : Bool) (m : Modifier) → Marks k v
-    → inks (if b then [] else k ∷ []) (done_with (record default_sgr { modifier = m })) ≡ done_with
-    (record default_sgr { modifier = marks b v m })
+marked : (row : ModifierRow) (b : Bool) (m : Modifier) → is_told row ≡ true
+    → inks (if b then [] else row.number ∷ []) (done_with (record default_sgr { modifier = m })) ≡ done_with
+    (record default_sgr { modifier = marks b row.bit m })
 unfolding inks
-mark k v true m does = refl
-mark k v false m does = does m
+marked row true m told = refl
+marked row false m told = rw (bit-found (bit_numbered row.number modifiers) row.bit told) refl
 
-marked : (k v bits : ℕ) (rest : List ℕ) (m : Modifier) → Marks k v
-    → inks (modifier_parameter bits v k ++ rest) (done_with (record default_sgr { modifier = m })) ≡ inks rest
-    (done_with (record default_sgr { modifier = marks (bit_and bits v == 0) v m }))
-marked k v bits rest m does = inks-append (modifier_parameter bits v k) rest (done_with (record default_sgr { modifier = m }))
-    ∙ ap (inks rest) (mark k v (bit_and bits v == 0) m does)
+-- the modifiers of a list that are read back
+abbrev read_of : ℕ → List ModifierRow → Modifier → Modifier
+read_of bits [] m = m
+read_of bits (row ∷ rows) m = read_of bits rows (marks (bit_and bits row.bit == 0) row.bit m)
 
--- the modifiers that are read back
+rows-inked : (bits : ℕ) (rows : List ModifierRow) (m : Modifier) → list_all is_told rows ≡ true
+    → inks (parameters_of bits rows) (done_with (record default_sgr { modifier = m })) ≡ done_with
+    (record default_sgr { modifier = read_of bits rows m })
+unfolding inks
+rows-inked bits [] m told = refl
+rows-inked bits (row ∷ rows) m told =
+    let both = and_parts (is_told row) (list_all is_told rows) told in
+    let is_out : Bool = bit_and bits row.bit == 0 in
+    inks-append (modifier_parameter bits row.bit row.number) (parameters_of bits rows) (done_with (record default_sgr { modifier = m }))
+    ∙ ap (inks (parameters_of bits rows)) (marked row is_out m both.0)
+    ∙ rows-inked bits rows (marks is_out row.bit m) both.1
+
+-- all modifiers that are read back
 abbrev read_back : ℕ → ℕ
-read_back bits = (marks (bit_and bits 256 == 0) 256
-    (marks (bit_and bits 128 == 0) 128
-    (marks (bit_and bits 64 == 0) 64
-    (marks (bit_and bits 32 == 0) 32
-    (marks (bit_and bits 16 == 0) 16
-    (marks (bit_and bits 8 == 0) 8
-    (marks (bit_and bits 4 == 0) 4 (marks (bit_and bits 2 == 0) 2 (marks (bit_and bits 1 == 0) 1 no_modifier))))))))).0
-
-modifiers-inked : (bits : ℕ) → inks (modifier_parameters bits) (done_with default_sgr) ≡ done_with
-    (record default_sgr { modifier = modifier_of (read_back bits) })
-unfolding inks
-modifiers-inked bits =
-    marked 1 1 bits _ _ (λ m. refl) ∙ marked 2 2 bits _ _ (λ m. refl) ∙ marked 3 4 bits _ _ (λ m. refl)
-    ∙ marked 4 8 bits _ _ (λ m. refl)
-    ∙ marked 5 16 bits _ _ (λ m. refl) ∙ marked 6 32 bits _ _ (λ m. refl) ∙ marked 7 64 bits _ _ (λ m. refl)
-    ∙ marked 8 128 bits _ _ (λ m. refl)
-    ∙ marked 9 256 bits [] _ (λ m. refl)
+read_back bits = (read_of bits modifiers no_modifier).0
 
 -- whether a test holds of each number below n
 abbrev pub up_to : (ℕ → Bool) → ℕ → Bool
@@ -188,16 +193,15 @@ up_to-at f (suc n) k all below =
     let both = and_parts (f n) (up_to f n) all in
     elim (less_or_same k n (omega arith)) [ inl less ↦ up_to-at f n k both.1 less | inr same ↦ rw same both.0 ]
 
-all-back : up_to (λ k. read_back k == k) 512 ≡ true
+all-back : up_to (λ k. read_back k == k) modifier_sets ≡ true
 all-back = refl
 
--- the nine modifiers, for each set of them
-modifier-inks : (bits : ℕ) → bits < 512
+-- all modifiers, for each set of them
+modifier-inks : (bits : ℕ) → bits < modifier_sets
     → inks (modifier_parameters bits) (done_with default_sgr) ≡ done_with (record default_sgr { modifier = modifier_of bits })
 modifier-inks bits small =
-    let same : (read_back bits == bits) ≡ true = up_to-at (λ k. read_back k == k) 512 bits all-back small in
-    let e : read_back bits ≡ bits = grind (arith, nat_tests) in
-    modifiers-inked bits ∙ ap (λ k. done_with (record default_sgr { modifier = modifier_of k })) e
+    rows-inked bits modifiers no_modifier all-told ∙ ap (λ k. done_with (record default_sgr { modifier = modifier_of k }))
+    (eqb-true (read_back bits) bits (up_to-at (λ k. read_back k == k) modifier_sets bits all-back small))
 
 -- ---- terminals take a rendition's parameters alike
 
@@ -211,23 +215,21 @@ known-append (x ∷ xs) ys a first second =
     let both = and_parts (is_known_parameter a x) (are_known xs (inks_in a x default_sgr).awaits) first in
     ap₂ (λ p q. p && q) both.0 (known-append xs ys (inks_in a x default_sgr).awaits both.1 second)
 
-mark-known : (b : Bool) (k : ℕ) → are_known (k ∷ []) Nothing ≡ true → are_known (if b then [] else k ∷ []) Nothing ≡ true
+told-known : (row : ModifierRow) (b : Bool) → is_told row ≡ true → are_known (if b then [] else row.number ∷ []) Nothing ≡ true
 unfolding are_known
-mark-known true k known = refl
-mark-known false k known = known
+told-known row true told = refl
+told-known row false told = rw (bit-found (bit_numbered row.number modifiers) row.bit told) refl
+
+rows-known : (bits : ℕ) (rows : List ModifierRow) → list_all is_told rows ≡ true → are_known (parameters_of bits rows) Nothing ≡ true
+unfolding are_known
+rows-known bits [] told = refl
+rows-known bits (row ∷ rows) told =
+    let both = and_parts (is_told row) (list_all is_told rows) told in
+    known-append (modifier_parameter bits row.bit row.number) (parameters_of bits rows) Nothing
+    (told-known row (bit_and bits row.bit == 0) both.0) (rows-known bits rows both.1)
 
 modifiers-known : (bits : ℕ) → are_known (modifier_parameters bits) Nothing ≡ true
-unfolding are_known
-modifiers-known bits =
-    known-append (modifier_parameter bits 1 1) _ Nothing (mark-known (bit_and bits 1 == 0) 1 refl)
-    (known-append (modifier_parameter bits 2 2) _ Nothing (mark-known (bit_and bits 2 == 0) 2 refl)
-    (known-append (modifier_parameter bits 4 3) _ Nothing (mark-known (bit_and bits 4 == 0) 3 refl)
-    (known-append (modifier_parameter bits 8 4) _ Nothing (mark-known (bit_and bits 8 == 0) 4 refl)
-    (known-append (modifier_parameter bits 16 5) _ Nothing (mark-known (bit_and bits 16 == 0) 5 refl)
-    (known-append (modifier_parameter bits 32 6) _ Nothing (mark-known (bit_and bits 32 == 0) 6 refl)
-    (known-append (modifier_parameter bits 64 7) _ Nothing (mark-known (bit_and bits 64 == 0) 7 refl)
-    (known-append (modifier_parameter bits 128 8) _ Nothing (mark-known (bit_and bits 128 == 0) 8 refl)
-    (known-append (modifier_parameter bits 256 9) [] Nothing (mark-known (bit_and bits 256 == 0) 9 refl) refl))))))))
+modifiers-known bits = rows-known bits modifiers all-told
 
 abbrev are_bytes : List ℕ → Bool
 are_bytes ps = list_all (λ q. nat_lt q 256) ps
@@ -397,7 +399,7 @@ sgr_bytes p =
     ++ (led (lead_of (second_count p) (color_count p.underline_color)) (underline_parameters p.underline_color) ++ 109 ∷ [])))
 
 -- a rendition that can be sent is read back
-sgr-read : (p : Sgr) (t : Emulator) → bits_of p.modifier < 512 → IsTrue (is_underline p.underline_color)
+sgr-read : (p : Sgr) (t : Emulator) → bits_of p.modifier < modifier_sets → IsTrue (is_underline p.underline_color)
     → length (modifier_parameters (bits_of p.modifier)) ≤ 9
     → are_bytes (modifier_parameters (bits_of p.modifier) ++ color_parameters 30 p.fg) ≡ true
     → are_bytes (color_parameters 40 p.bg) ≡ true → are_bytes (underline_parameters p.underline_color) ≡ true
@@ -443,8 +445,8 @@ pub sgr-sent : (p : Sgr) (old a b c new : List ℕ) → IsTrue (is_sendable p) �
     → new ≡ c ++ 109 ∷ [] → Performs old new (with_sgr p)
 sgr-sent p old a b c new is few first second third e =
     let sent : is_sendable p ≡ true = grind (arith, nat_tests) in
-    let both = and_parts (is_underline p.underline_color) (nat_lt (bits_of p.modifier) 512) sent in
-    let bits : bits_of p.modifier < 512 = let test = both.1 in grind (arith, nat_tests) in
+    let both = and_parts (is_underline p.underline_color) (nat_lt (bits_of p.modifier) modifier_sets) sent in
+    let bits : bits_of p.modifier < modifier_sets = let test = both.1 in grind (arith, nat_tests) in
     let underline : IsTrue (is_underline p.underline_color) = let test = both.0 in grind (arith, nat_tests) in
     let mf = modifier_parameters (bits_of p.modifier) ++ color_parameters 30 p.fg in
     record {

@@ -4,7 +4,7 @@ use Rattle.std.specs.Prelude.{ℕ, zero, suc, ◌≡◌, ◌+◌, ◌==◌, min,
 use Rattle.std.specs.Prelude.{◌∷◌, ◌++◌}
 use Rattle.ansi_model.specs.Emulator.{Emulator, cursor_moved, line_fed, lines_inserted, fed, returned}
 use Rattle.std.specs.{Int.RustNames.bit_and, List.list_all, List.flat_map, Fmt.decimal}
-use Rattle.ratatui_core.specs.Style.{Color, Rgb, Indexed}
+use Rattle.ratatui_core.specs.Style.{Color, Rgb, Indexed, ModifierRow, modifiers}
 
 -- a terminal in none of the modes that change how it takes text, with its cursor in the corner
 abbrev pub without_modes : Emulator → Emulator
@@ -34,13 +34,12 @@ underline_parameters _ = []
 abbrev pub modifier_parameter : ℕ → ℕ → ℕ → List ℕ
 modifier_parameter bits bit n = if bit_and bits bit == 0 then [] else n ∷ []
 
--- the bits of the nine modifiers, each with its number
-abbrev pub modifier_numbers : List (ℕ × ℕ)
-modifier_numbers =
-    (1, 1) ∷ (2, 2) ∷ (4, 3) ∷ (8, 4) ∷ (16, 5) ∷ (32, 6) ∷ (64, 7) ∷ (128, 8) ∷ (256, 9) ∷ []
+-- the numbers of those of a list that are set
+abbrev pub parameters_of : ℕ → List ModifierRow → List ℕ
+parameters_of bits rows = flat_map (λ m. modifier_parameter bits m.bit m.number) rows
 
 abbrev pub modifier_parameters : ℕ → List ℕ
-modifier_parameters bits = flat_map (λ m. modifier_parameter bits m.0 m.1) modifier_numbers
+modifier_parameters bits = parameters_of bits modifiers
 
 -- parameters as they are written, each after a semicolon
 abbrev pub semicolons : List ℕ → List ℕ

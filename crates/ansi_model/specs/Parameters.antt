@@ -3,7 +3,7 @@ use Rattle.std.specs.Prelude.{ℕ, ◌+◌, ◌&&◌, ◌||◌, nat_lt, nat_le, 
 use Rattle.std.specs.Prelude.{List, [], ◌∷◌}
 use Rattle.ratatui_core.specs.Style.{Color, Reset, Black, Red, Green, Yellow, Blue, Magenta, Cyan, Gray}
 use Rattle.ratatui_core.specs.Style.{DarkGray, LightRed, LightGreen, LightYellow, LightBlue, LightMagenta}
-use Rattle.ratatui_core.specs.Style.{LightCyan, White, Rgb, Indexed, bits_of}
+use Rattle.ratatui_core.specs.Style.{LightCyan, White, Rgb, Indexed, bits_of, modifier_sets}
 use Rattle.ansi_model.specs.{Sgr.is_default_color, Sgr.most_parameters, declared.sgr.Sgr.Sgr}
 
 -- of a colour: those of the text count from 30, those of the background from 40
@@ -35,9 +35,9 @@ is_underline (Rgb r g b) = true
 is_underline (Indexed n) = true
 is_underline _ = false
 
--- whether a terminal can be sent a rendition: only the nine modifiers are set
+-- whether a terminal can be sent a rendition: only known modifiers are set
 abbrev pub is_sendable : Sgr → Bool
-is_sendable p = is_underline p.underline_color && nat_lt (bits_of p.modifier) 512
+is_sendable p = is_underline p.underline_color && nat_lt (bits_of p.modifier) modifier_sets
 
 -- the same of a terminal that reads colours of the underline, or of one that doesn't
 abbrev pub is_sendable_by : Bool → Sgr → Bool

@@ -1,10 +1,11 @@
 -- The colours and modifiers that text is printed with, and how SGR (select graphic rendition) changes them.
-use Rattle.std.specs.Prelude.{ℕ, ◌-◌, ◌^◌, ◌==◌, ◌&&◌, ◌||◌, nat_le, nat_lt, Bool, true, false, if◌then◌else◌}
-use Rattle.std.specs.Prelude.{List, [], ◌∷◌}
+use Rattle.std.specs.Prelude.{ℕ, ◌-◌, ◌==◌, ◌&&◌, ◌||◌, nat_le, nat_lt, Bool, true, false, if◌then◌else◌}
+use Rattle.std.specs.Prelude.{List, [], ◌∷◌, Option, Some, None, is_some}
 use Rattle.std.specs.Int.RustNames.{bit_or}
 use Rattle.ratatui_core.specs.Style.{Color, Reset, Black, Red, Green, Yellow, Blue, Magenta, Cyan, Gray}
 use Rattle.ratatui_core.specs.Style.{DarkGray, LightRed, LightGreen, LightYellow, LightBlue, LightMagenta}
 use Rattle.ratatui_core.specs.Style.{LightCyan, White, Rgb, Indexed, no_modifier, bits_of, modifier_of}
+use Rattle.ratatui_core.specs.Style.{ModifierRow, modifiers}
 use Rattle.ratatui_core.specs.Buffer.{Look, Cell}
 use Rattle.ansi_model.specs.declared.sgr.Sgr.{Sgr}
 
@@ -63,41 +64,40 @@ named n =
     else (if n == 12 then LightBlue else
     (if n == 13 then LightMagenta else (if n == 14 then LightCyan else White))))))))))))))
 
--- a parameter that stands for itself: 0 the own rendition, 1 to 9 a modifier, 30 and on the colours
-abbrev pub inks_alone : ℕ → Sgr → Inking
-inks_alone n sgr =
-    if n == 0 then record { sgr = default_sgr; awaits = Nothing }
-    else (if nat_le n 9 then record {
-      sgr = record sgr {
-        modifier = modifier_of (bit_or (bits_of sgr.modifier)
-            (2 ^ (n - 1)));
-      };
-      awaits = Nothing;
-    }
+-- the bit of the modifier that has this number, if one has it
+abbrev pub bit_numbered : ℕ → List ModifierRow → Option ℕ
+bit_numbered n [] = None
+bit_numbered n (m ∷ ms) = if n == m.number then Some m.bit else bit_numbered n ms
+
+-- a rendition, and nothing begun
+abbrev pub done_with : Sgr → Inking
+done_with sgr = record { sgr = sgr; awaits = Nothing }
+
+-- a parameter that is no modifier's: 0 the own rendition, 30 and on the colours
+abbrev pub inks_color : ℕ → Sgr → Inking
+inks_color n sgr =
+    if n == 0 then done_with default_sgr
     else (if (n == 38) || (n == 48) || (n == 58) then record { sgr = sgr; awaits = Kind n }
-    else (if nat_le 30 n && nat_le n 37 then record {
-      sgr = record sgr { fg = named (n - 30) };
-      awaits = Nothing;
-    }
-    else (if nat_le 40 n && nat_le n 47 then record {
-      sgr = record sgr { bg = named (n - 40) };
-      awaits = Nothing;
-    }
-    else (if nat_le 90 n && nat_le n 97 then record {
-      sgr = record sgr { fg = named (n - 82) };
-      awaits = Nothing;
-    }
-    else (if nat_le 100 n && nat_le n 107 then record {
-      sgr = record sgr { bg = named (n - 92) };
-      awaits = Nothing;
-    }
-    else record { sgr = sgr; awaits = Nothing }))))))
+    else (if nat_le 30 n && nat_le n 37 then done_with (record sgr { fg = named (n - 30) })
+    else (if nat_le 40 n && nat_le n 47 then done_with (record sgr { bg = named (n - 40) })
+    else (if nat_le 90 n && nat_le n 97 then done_with (record sgr { fg = named (n - 82) })
+    else (if nat_le 100 n && nat_le n 107 then done_with (record sgr { bg = named (n - 92) })
+    else done_with sgr)))))
+
+-- a parameter that stands for itself: a modifier that is set, or what else it says
+abbrev pub inks_modifier : Option ℕ → ℕ → Sgr → Inking
+inks_modifier (Some bit) n sgr =
+    done_with (record sgr { modifier = modifier_of (bit_or (bits_of sgr.modifier) bit) })
+inks_modifier None n sgr = inks_color n sgr
+
+abbrev pub inks_alone : ℕ → Sgr → Inking
+inks_alone n sgr = inks_modifier (bit_numbered n modifiers) n sgr
 
 -- one more part of a colour
 abbrev pub inks_part : ℕ → List ℕ → ℕ → Sgr → Inking
 inks_part target [] n sgr = record { sgr = sgr; awaits = Parts target (n ∷ []) }
 inks_part target (r ∷ []) n sgr = record { sgr = sgr; awaits = Parts target (r ∷ n ∷ []) }
-inks_part target (r ∷ g ∷ more) n sgr = record { sgr = with_color target (Rgb r g n) sgr; awaits = Nothing }
+inks_part target (r ∷ g ∷ more) n sgr = done_with (with_color target (Rgb r g n) sgr)
 
 -- one parameter
 abbrev pub inks_in : Awaits → ℕ → Sgr → Inking
@@ -106,12 +106,12 @@ inks_in (Kind target) n sgr = if n == 5 then record {
   sgr = sgr;
   awaits = Number target;
 } else record { sgr = sgr; awaits = Parts target [] }
-inks_in (Number target) n sgr = record { sgr = with_color target (Indexed n) sgr; awaits = Nothing }
+inks_in (Number target) n sgr = done_with (with_color target (Indexed n) sgr)
 inks_in (Parts target parts) n sgr = inks_part target parts n sgr
 
 -- whether terminals know a parameter that stands for itself
 abbrev pub is_known_alone : ℕ → Bool
-is_known_alone n = nat_le n 9 || (nat_le 30 n && nat_le n 38) || (nat_le 40 n && nat_le n 48) || (n == 58) ||
+is_known_alone n = is_some (bit_numbered n modifiers) || (n == 0) || (nat_le 30 n && nat_le n 38) || (nat_le 40 n && nat_le n 48) || (n == 58) ||
     (nat_le 90 n && nat_le n 97) || (nat_le 100 n && nat_le n 107)
 
 -- whether they take a parameter alike: a colour is begun by 5 or 2, and its numbers are below 256

@@ -7,7 +7,7 @@ use Rattle.std.proofs.lemmas.Bool.Decides.{nat_tests}
 use Rattle.ratatui_core.specs.{Layout.EdgesFit, Buffer.BufferData, Buffer.IsEmptied, Buffer.IsSettledBuffer}
 use Rattle.ratatui_core.specs.Text.{ArePrintable, TakesOneColumn, EachLineGrapheme, EachTextGrapheme, SpanData}
 use Rattle.ratatui_core.specs.Text.{unstyled, line_of, raw_line}
-use Rattle.rtui_widgets.proofs.{PlainLemmas.plain-emptied, PlainLemmas.settled-plain, PrintableTextLemmas.spans-narrow}
+use Rattle.rtui_widgets.proofs.{PlainLemmas.plain-emptied, PlainLemmas.settled-plain, PrintableTextLemmas.line-narrow}
 use Rattle.widget_list.specs.{declared.list.List.List as ListData, declared.item.ListItem.ListItem}
 use Rattle.widget_list.specs.{Items.HasNarrowItems, Items.raw_item}
 use Rattle.widget_list.proofs.NarrowListLemmas.{list-plain}
@@ -56,7 +56,7 @@ narrow-line : (b : ℕ) (bs : List ℕ) → list_all is_printable (b ∷ bs) ≡
 narrow-line b bs is =
     let span = unstyled (b ∷ bs) in
     let narrow : EachLineGrapheme TakesOneColumn (line_of (span ∷ [])) =
-    spans-narrow (span ∷ []) (All-cons (λ (s : SpanData). ArePrintable s.content) span [] (printable-by (b ∷ bs) is)
+    line-narrow (line_of (span ∷ [])) (All-cons (λ (s : SpanData). ArePrintable s.content) span [] (printable-by (b ∷ bs) is)
     (All-nil (λ (s : SpanData). ArePrintable s.content))) in
     subst (λ (ls : List (List ℕ)). EachLineGrapheme TakesOneColumn (line_of (map unstyled ls))) (sym (one-line b bs is)) narrow
 

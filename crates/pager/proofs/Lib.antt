@@ -18,5 +18,4 @@ pub mod KnownLemmas
 pub mod NeedsLemmas
 pub mod FollowLemmas
 pub mod HelpLemmas
-pub mod PartedLemmas
 pub mod OneFrameLemmas

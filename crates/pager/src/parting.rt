@@ -1,11 +1,10 @@
 //! A text parted into what it says, and how that is styled.
 
 ghost use Rattle.std.specs.Prelude.{◌≡◌, is_some, IfOk};
-ghost use Rattle.pager.specs.Parted.{has_signs};
+ghost use Rattle.pager.specs.Parted.{is_sign, has_signs};
 
 use crate::sgr::{sequence_at, styled_by};
 use crate::styles::{Run, Styles};
-use memchr::memchr2;
 use ratatui_core::style::{Modifier, Style};
 use std::alloc::{AllocError, Global};
 use std::mem;
@@ -131,12 +130,24 @@ impl Parting {
     }
 }
 
-// Whether an escape or a backspace stands in a text.
-#[tactic(auto, using(crate::proofs::PartedLemmas::signs_found))]
+// Whether a byte is an escape or a backspace.
+fn is_sign(byte: u8) -> bool
+    ensures { result ≡ is_sign byte }
+{
+    byte == b'\x1b' || byte == b'\x08'
+}
+
+// Whether an escape or a backspace stands in a text. No byte ends the loop early, so that many are
+// tested at once; inlined, the loop is compiled to one that tests byte by byte.
+#[inline(never)]
 fn has_signs(text: &str) -> bool
     ensures { result ≡ has_signs text.now }
 {
-    memchr2(b'\x1b', b'\x08', text.as_bytes()).is_some()
+    let mut found = false;
+    for byte in text.as_bytes() {
+        found |= is_sign(*byte);
+    }
+    found
 }
 
 /// Returns what a text says and the runs of styles of its lines, if it has an escape or a

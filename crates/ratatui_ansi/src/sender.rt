@@ -3,6 +3,7 @@
 ghost use Rattle.std.specs.Prelude.{◌≡◌, ◌+◌, ◌-◌, ◌^◌, min, [], ◌++◌, true, false, IfOk, IfErr, OnOk, OnErr};
 ghost use Rattle.std.specs.Io.KnownBytes.{Appends};
 ghost use Rattle.ratatui_ansi.specs.Backend.{IsTied};
+ghost use Rattle.ratatui_ansi.specs.Inner.Sender.{SendsAll, BreaksAt};
 ghost use Rattle.ratatui_ansi.specs.declared.error.AnsiError.TheVariants.{Broken};
 
 use crate::error::AnsiError;
@@ -88,18 +89,9 @@ impl<W: Write> Sender<W> {
     /// Writes a text whole; then as many calls failed as had before this one. After an Err it isn't
     /// known what of it was written.
     pub(crate) fn send(&mut self, text: &str, failures: u64) -> io::Result<()>
-        ensures sent { OnOk result (self.new.sent.bytes ≡ self.old.sent.bytes ++ text.now) }
-        ensures held { OnOk result (self.new.held.bytes ≡ self.old.held.bytes ++ text.now) }
+        ensures all { OnOk result (SendsAll W.contents text.now failures self.old self.new) }
         ensures before { self.new.sent.before ≡ self.old.sent.before }
-        ensures writes { OnOk result
-            (Appends (W.contents self.old.writer) (W.contents self.new.writer) text.now) }
-        ensures tied { OnOk result (
-            IsTied W.contents self.old.sent.before self.old.writer self.old.sent.bytes
-            → IsTied W.contents self.new.sent.before self.new.writer self.new.sent.bytes) }
-        ensures works { OnOk result (self.new.is_broken ≡ false) }
-        ensures finished { OnOk result (self.new.failures ≡ failures) }
-        ensures broken { OnErr result (self.new.is_broken ≡ true) }
-        ensures failed { OnErr result (self.new.failures ≡ self.old.failures) }
+        ensures fails { OnErr result (BreaksAt self.old self.new) }
     {
         self.is_broken = true;
         self.writer.write_all(text.as_bytes())?;
@@ -157,18 +149,9 @@ impl<W: Write> Sender<W> {
         failures: u64,
         is_synchronized: bool,
     ) -> io::Result<()>
-        ensures sent { OnOk result (self.new.sent.bytes ≡ self.old.sent.bytes ++ text.now) }
-        ensures held { OnOk result (self.new.held.bytes ≡ self.old.held.bytes ++ text.now) }
+        ensures all { OnOk result (SendsAll W.contents text.now failures self.old self.new) }
         ensures before { self.new.sent.before ≡ self.old.sent.before }
-        ensures writes { OnOk result
-            (Appends (W.contents self.old.writer) (W.contents self.new.writer) text.now) }
-        ensures tied { OnOk result (
-            IsTied W.contents self.old.sent.before self.old.writer self.old.sent.bytes
-            → IsTied W.contents self.new.sent.before self.new.writer self.new.sent.bytes) }
-        ensures works { OnOk result (self.new.is_broken ≡ false) }
-        ensures finished { OnOk result (self.new.failures ≡ failures) }
-        ensures broken { OnErr result (self.new.is_broken ≡ true) }
-        ensures failed { OnErr result (self.new.failures ≡ self.old.failures) }
+        ensures fails { OnErr result (BreaksAt self.old self.new) }
     {
         match self.send(text, failures) {
             Ok(()) => Ok(()),

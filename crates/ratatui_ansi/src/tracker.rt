@@ -14,9 +14,8 @@ ghost use Rattle.ansi_model.specs.Commands.{command_bytes, keyboard_bytes, title
 ghost use Rattle.ansi_model.specs.Sends.{IsWithinUpdate};
 ghost use Rattle.ansi_model.specs.Places.{PlacesEach};
 ghost use Rattle.ratatui_ansi.specs.Cells.{is_sendable_on};
-ghost use Rattle.ratatui_ansi.specs.Inner.Draw.{Drafts};
 ghost use Rattle.ratatui_ansi.specs.Refusals.{RefusesTracker};
-ghost use Rattle.ratatui_ansi.specs.Inner.Draw.{has_place, StopsDraw};
+ghost use Rattle.ratatui_ansi.specs.Inner.Draw.{DraftsContent, PlacesDraft, StopsDraft};
 ghost use Rattle.ratatui_ansi.specs.Inner.Tracker.{IsTracker, KeepsTracked, Collects, CallDoes};
 ghost use Rattle.ratatui_ansi.specs.Inner.Tracker.{IsCommanded};
 ghost use Rattle.ratatui_ansi.specs.Inner.Tracker.{IsUncollected, BeginsBlank};
@@ -342,18 +341,12 @@ impl Tracker {
         requires tracker { IsTracker self.old }
         requires can { I.can_next content }
         requires finite { IsFinite (I.remaining content) }
-        ensures ok { IfOk result (λ after. (items : List (ℕ × ℕ × C))
-            × Drains I.next_gives content items
-            × Drafts self.old (map (update_by C.cell) items) after.0 after.1 self.new
-            × (list_all (is_sendable_on self.old.size.width self.old.size.height
-            self.old.has_underline_colors) (map (update_by C.cell) items) ≡ true)) }
-        ensures placed { OnOk result (self.old.ambiguous_is_wide ≡ true
-            → PlacesEach (string_bytes self.old.out) (string_bytes self.new.out)) }
+        ensures ok { IfOk result (λ after. DraftsContent I.next_gives content (update_by C.cell)
+            self.old after.0 after.1 self.new) }
+        ensures placed { OnOk result (PlacesDraft self.old self.new) }
         ensures kept { KeepsTracked self.old self.new }
-        ensures stopped { IfErr result (λ refusal. IsTrue (has_place refusal)
-            → StopsDraw I.next_gives content (update_by C.cell) self.old.size.width
-            self.old.size.height self.old.has_underline_colors self.old.cursor self.old.written
-            self.old.continuations.items refusal) }
+        ensures stopped { IfErr result
+            (StopsDraft I.next_gives content (update_by C.cell) self.old) }
     {
         let draft = self.draft.as_mut_slice();
         draft.copy_from_slice(self.continuations.as_slice());
@@ -386,20 +379,14 @@ impl Tracker {
         requires tracker { IsTracker self.old }
         requires can { I.can_next content }
         requires finite { IsFinite (I.remaining content) }
-        ensures ok { IfOk result (λ after. (items : List (ℕ × ℕ × C))
-            × Drains I.next_gives content items
-            × Drafts self.old (map (update_by C.cell) items) after.0 after.1 self.new
-            × (list_all (is_sendable_on self.old.size.width self.old.size.height
-            self.old.has_underline_colors) (map (update_by C.cell) items) ≡ true)) }
+        ensures ok { IfOk result (λ after. DraftsContent I.next_gives content (update_by C.cell)
+            self.old after.0 after.1 self.new) }
         ensures within { OnOk result
             (IsWithinUpdate (string_bytes self.old.out) (string_bytes self.new.out)) }
-        ensures placed { OnOk result (self.old.ambiguous_is_wide ≡ true
-            → PlacesEach (string_bytes self.old.out) (string_bytes self.new.out)) }
+        ensures placed { OnOk result (PlacesDraft self.old self.new) }
         ensures kept { KeepsTracked self.old self.new }
-        ensures stopped { IfErr result (λ refusal. IsTrue (has_place refusal)
-            → StopsDraw I.next_gives content (update_by C.cell) self.old.size.width
-            self.old.size.height self.old.has_underline_colors self.old.cursor self.old.written
-            self.old.continuations.items refusal) }
+        ensures stopped { IfErr result
+            (StopsDraft I.next_gives content (update_by C.cell) self.old) }
     {
         self.out.push_str(update_begin())?;
         let after = self.draft(content)?;
@@ -415,20 +402,14 @@ impl Tracker {
         requires tracker { IsTracker self.old }
         requires can { I.can_next content }
         requires finite { IsFinite (I.remaining content) }
-        ensures ok { IfOk result (λ after. (items : List (ℕ × ℕ × C))
-            × Drains I.next_gives content items
-            × Drafts self.old (map (update_by C.cell) items) after.0 after.1 self.new
-            × (list_all (is_sendable_on self.old.size.width self.old.size.height
-            self.old.has_underline_colors) (map (update_by C.cell) items) ≡ true)) }
+        ensures ok { IfOk result (λ after. DraftsContent I.next_gives content (update_by C.cell)
+            self.old after.0 after.1 self.new) }
         ensures within { OnOk result (self.old.is_synchronized ≡ true
             → IsWithinUpdate (string_bytes self.old.out) (string_bytes self.new.out)) }
-        ensures placed { OnOk result (self.old.ambiguous_is_wide ≡ true
-            → PlacesEach (string_bytes self.old.out) (string_bytes self.new.out)) }
+        ensures placed { OnOk result (PlacesDraft self.old self.new) }
         ensures kept { KeepsTracked self.old self.new }
-        ensures stopped { IfErr result (λ refusal. IsTrue (has_place refusal)
-            → StopsDraw I.next_gives content (update_by C.cell) self.old.size.width
-            self.old.size.height self.old.has_underline_colors self.old.cursor self.old.written
-            self.old.continuations.items refusal) }
+        ensures stopped { IfErr result
+            (StopsDraft I.next_gives content (update_by C.cell) self.old) }
     {
         if self.is_synchronized {
             self.draft_update(content)
@@ -453,13 +434,10 @@ impl Tracker {
             self.old.has_underline_colors) (map (update_by C.cell) items) ≡ true)) }
         ensures within { OnOk result (self.old.is_synchronized ≡ true
             → IsWithinUpdate (string_bytes self.old.out) (string_bytes self.new.out)) }
-        ensures placed { OnOk result (self.old.ambiguous_is_wide ≡ true
-            → PlacesEach (string_bytes self.old.out) (string_bytes self.new.out)) }
+        ensures placed { OnOk result (PlacesDraft self.old self.new) }
         ensures err { OnErr result (KeepsTracked self.old self.new) }
-        ensures stopped { IfErr result (λ refusal. IsTrue (has_place refusal)
-            → StopsDraw I.next_gives content (update_by C.cell) self.old.size.width
-            self.old.size.height self.old.has_underline_colors self.old.cursor self.old.written
-            self.old.continuations.items refusal) }
+        ensures stopped { IfErr result
+            (StopsDraft I.next_gives content (update_by C.cell) self.old) }
     {
         let (cursor, written) = self.draft_as_told(content)?;
         mem::swap(&mut self.continuations, &mut self.draft);

@@ -16,6 +16,10 @@ pub use Rattle.rtui_buffer.proofs.ShortLemmas.{text-short, ascii-short}
 -- What is painted within a row keeps a buffer settled; by a front only the pieces' columns differ. A text ends there.
 pub use Rattle.rtui_buffer.proofs.PaintsLemmas.{IsSettledBuffer-painted, front-beside}
 pub use Rattle.rtui_buffer.proofs.ColumnLemmas.{text-ends}
+-- The longest front of graphemes that fits is kept.
+pub use Rattle.rtui_buffer.proofs.FrontLemmas.{IsLongestFront-kept}
+-- A text from one of its graphemes on has the rest of them; without a control character it has none with one.
+pub use Rattle.rtui_text.proofs.RestLemmas.{graphemes-dropped, graphemes-control_free}
 -- A text of one byte takes one column; those of a text of one character above U+00A0 are the character's.
 pub use Rattle.rtui_cell.proofs.WidthLemmas.{one_byte, char_alone}
 -- A position is in a rectangle, or not.

@@ -32,8 +32,8 @@ pub mod buffer {
             set_style_twice_sets_patch, width_is_columns_and_sound_marks,
         };
         pub use rtui_widgets::laws::{
-            empty_buffers_are_plain, plain_buffers_are_settled,
-            printable_graphemes_take_one_column, texts_keep_cells_plain,
+            a_cut_span_keeps_its_last_graphemes, empty_buffers_are_plain,
+            plain_buffers_are_settled, printable_graphemes_take_one_column, texts_keep_cells_plain,
         };
     }
 }
@@ -105,7 +105,7 @@ pub mod terminal {
 pub mod text {
     pub use rtui_text::{
         Items, Line, LineGraphemes, Lines, Masked, Span, SpanGraphemes, Spans, StyledGrapheme,
-        Text, ToLine, ToSpan, ToText, text_columns,
+        Text, ToLine, ToSpan, ToText, laws, text_columns,
     };
 }
 

@@ -10,6 +10,7 @@
 mod columns;
 mod grapheme;
 mod items;
+pub mod laws;
 mod line;
 mod lines;
 mod masked;

@@ -13,5 +13,6 @@ pub mod SettledLemmas
 pub mod ChangeLemmas
 pub mod PlainLemmas
 pub mod PartsLemmas
+pub mod CutLemmas
 pub mod NarrowTextLemmas
 pub mod PrintableTextLemmas

@@ -10,7 +10,7 @@ use Rattle.unicode_segmentation.specs.Grapheme.{graphemes}
 use Rattle.rtui_geometry.specs.{declared.rect.Rect.Rect, declared.position.Position.Position, Rect.HasPosition, Rect.intersected}
 use Rattle.rtui_style.specs.{declared.Style.Style, Style.new_style}
 use Rattle.rtui_cell.specs.{declared.cell.Cell.Cell, Cell.empty_cell, Cell.styled, Cell.width_of, Width.text_width}
-use Rattle.rtui_text.specs.{Graphemes.has_control, Widths.line_width}
+use Rattle.rtui_text.specs.{Graphemes.has_control, Widths.span_width, Widths.line_width}
 use Rattle.rtui_text.specs.Text.{SpanData, LineData, TextData, line_of}
 use Rattle.rtui_buffer.specs.BufferData.{BufferData, cell_in, cell_index, position_of}
 use Rattle.rtui_buffer.specs.Painting.{Piece, piece_of, piece_at, piece_width, columns, shown, kept, painted_width}
@@ -23,7 +23,7 @@ use Rattle.rtui_widgets.specs.Line.{Part, parts, parts_then, parts_rendered, col
 use Rattle.rtui_widgets.specs.Rendering.{area_row, RendersRows, in_first_row, RendersSpan, RendersLine, RendersText, text_line}
 use Rattle.rtui_widgets.specs.Rendering.{text_row, alignment_or}
 use Rattle.rtui_geometry.proofs.PositionTests.{has-or-not}
-use Rattle.rtui_widgets.proofs.{PlainLemmas.plain-empty, PlainLemmas.plain-styled, PlainLemmas.plain-if}
+use Rattle.rtui_widgets.proofs.{CutLemmas.parts-have, PlainLemmas.plain-empty, PlainLemmas.plain-styled, PlainLemmas.plain-if}
 use Rattle.rtui_text.specs.Graphemes.{EachGrapheme, TakesOneColumn}
 use Rattle.rtui_widgets.specs.Graphemes.{EachLineGrapheme, EachTextGrapheme}
 
@@ -150,7 +150,8 @@ plain-line alignment line row narrow all =
     (either-row (width == 0) row _ all
     (plain-behind (columns_before alignment (length row - width)) (parts_rendered (parts skip line.spans))
     (map (styled line.style) row)
-    (λ cs plain. plain-parts (parts skip line.spans) cs (narrow skip) plain) (laid-plain line.style row all)))
+    (λ cs plain. plain-parts (parts skip line.spans) cs (parts-have TakesOneColumn skip line.spans narrow) plain)
+    (laid-plain line.style row all)))
 
 nth-plain : (cs : List Cell) (j : ℕ) → All IsPlain cs → IsPlain (slice_index_or cs j empty_cell)
 nth-plain [] j all = plain-empty
@@ -161,8 +162,7 @@ along : (q o x j : ℕ) → o ≤ x → q + (x - o) + j ≡ q + (x + j - o)
 along q o x j le = omega arith
 
 no-spans : EachLineGrapheme TakesOneColumn (line_of [])
-unfolding parts
-no-spans skip = All-nil (λ (part : Part). EachGrapheme TakesOneColumn part.content)
+no-spans = All-nil (λ (span : SpanData). 0 < span_width span → EachGrapheme TakesOneColumn span.content)
 
 -- rows of an area over plain cells
 module _ (area r : Rect) (f : ℕ → List Cell → List Cell) (old new : BufferData) (is : RendersRows area f old new)

@@ -9,10 +9,11 @@ ghost use Rattle.rtui_text.specs.Text.{LineData, TextData};
 ghost use Rattle.rtui_buffer.specs.BufferData.{BufferData, IsEmptied};
 ghost use Rattle.rtui_buffer.specs.Shown.{IsSettledBuffer};
 ghost use Rattle.rtui_widgets.specs.Span.{IsShortSpan};
-ghost use Rattle.rtui_widgets.specs.Line.{IsShortLine};
+ghost use Rattle.rtui_widgets.specs.Line.{IsShortLine, part_of};
 ghost use Rattle.rtui_widgets.specs.Rendering.{AreAscii, HasFirstRow, RendersStr, RendersShortText};
 ghost use Rattle.rtui_widgets.specs.Rendering.{RendersShortStr};
-ghost use Rattle.std.specs.Prelude.{ℕ, List, All};
+ghost use Rattle.std.specs.Prelude.{◌≡◌, ℕ, List, All, drop, true};
+ghost use Rattle.unicode_segmentation.specs.Grapheme.{graphemes};
 ghost use Rattle.rtui_geometry.specs.Rect.{EdgesFit};
 ghost use Rattle.rtui_text.specs.Text.{SpanData, LineData, TextData};
 ghost use Rattle.rtui_text.specs.Printable.{ArePrintable};
@@ -58,8 +59,13 @@ pub fn empty_buffers_are_plain()
     ensures { (r : Rect) (s : BufferData) → IsEmptied r s → IsPlainFrom 0 s }
 {}
 
-/// Texts of printable characters of ASCII take one column for each grapheme, wherever a line is
-/// cut.
+/// What shows of a span that is cut at the left has the last of the span's graphemes and no others.
+pub fn a_cut_span_keeps_its_last_graphemes()
+    ensures { (skip : ℕ) (span : SpanData) → let gs = graphemes true span.content in
+        (n : ℕ) × (graphemes true (part_of skip span).content ≡ drop n gs) }
+{}
+
+/// Texts of printable characters of ASCII take one column for each grapheme.
 pub fn printable_graphemes_take_one_column()
     ensures text { (text : List ℕ) → ArePrintable text → EachGrapheme TakesOneColumn text }
     ensures line { (line : LineData) → All (λ span. ArePrintable span.content) line.spans

@@ -1,7 +1,8 @@
 -- A field on plain cells leaves a buffer that a screen can show.
 use Rattle.std.proofs.Common.{◌≡◌, ℕ, ◌+◌, ◌-◌, ◌≤◌, List, [], All, Option, Some, None, IfSome, Result, Ok, drop, refl, sym, subst, arith}
 use Rattle.std.specs.Prelude.{⊤}
-use Rattle.std.proofs.lemmas.List.{append-nil}
+use Rattle.std.proofs.lemmas.{List.append-nil, List.Elements.All-drop}
+use Rattle.unicode_segmentation.specs.Grapheme.{graphemes}
 use Rattle.std.specs.declared.alloc.AllocError.{AllocError}
 use Rattle.ratatui_core.specs.Layout.{Rect, EdgesFit, IsInside, intersected}
 use Rattle.ratatui_core.specs.{Style.Style, Style.new_style}
@@ -110,7 +111,10 @@ input-plain input f g area old new box narrow plain is =
     let r : Rect = inner_if input.block (intersected area old.area) in
     let small = inner-narrow input.block area old.area in
     let parts = shows.parts in
+    let shown : EachGrapheme TakesOneColumn (drop g.first (masked input.mask f.before)) =
+    subst (All TakesOneColumn) (sym parts.shown)
+    (All-drop TakesOneColumn parts.view.count (graphemes true (masked input.mask f.before)) narrow.before) in
     let front = text-plain r.x r.y (r.width - 1) new_style (drop g.first (masked input.mask f.before)) framed parts.between
-    (omega (arith, small)) (narrow.before g.first) cells parts.front in
+    (omega (arith, small)) shown cells parts.front in
     text-plain shows.column r.y (r.x + r.width - shows.column) (style_behind input f) (text_behind input f) parts.between new
     (omega (arith, small, parts.cursor)) narrow.behind front parts.back) is

@@ -1,6 +1,5 @@
 -- Fields of ASCII take no memory.
 use Rattle.std.proofs.Common.{ℕ, ◌≡◌, ◌+◌, ◌<◌, List, [], ◌∷◌, None, drop, sym, ap, subst}
-use Rattle.std.proofs.lemmas.List.{get_or-drop}
 use Rattle.std.specs.Str.{IsAscii}
 use Rattle.ratatui_core.specs.{Style.Style, Style.new_style, Buffer.BufferData}
 use Rattle.ratatui_core.proofs.BufferLemmas.{text-short, ascii-short}
@@ -8,9 +7,6 @@ use Rattle.widget_boxes.specs.Framed.{IsShortFrame}
 use Rattle.text_field.specs.Field.{FieldData, field_text}
 use Rattle.widget_field.specs.declared.input.Input.{Input}
 use Rattle.widget_field.specs.Fields.{IsShortIn, IsShortInput, if_none, masked, style_behind, text_behind}
-
-ascii-drop : (n : ℕ) (text : List ℕ) → IsAscii text → IsAscii (drop n text)
-ascii-drop n text ascii = λ i. subst (λ b. b < 128) (sym (get_or-drop n text i 0)) (ascii (n + i))
 
 ascii-if : (text one other : List ℕ) → IsAscii one → IsAscii other → IsAscii (if_none text one other)
 ascii-if [] one other is also = is
@@ -27,7 +23,7 @@ input-short input f s frame none before after placeholder =
       frame = frame;
       text = record {
         unmasked = none;
-        before = λ n boundary. ascii-in new_style (drop n f.before) (ascii-drop n f.before before);
+        before = ascii-in new_style f.before before;
         behind = ascii-in (style_behind input f) (text_behind input f)
             (ascii-if (field_text f) input.placeholder.now (masked input.mask f.after) placeholder shown);
       };

@@ -1,7 +1,7 @@
 -- A field in an area: what it shows, and what it changes.
 use Rattle.std.specs.Prelude.{◌≡◌, ℕ, ◌+◌, ◌-◌, ◌<◌, List, [], ◌∷◌, drop, Option, Some, None, true}
 use Rattle.std.specs.Prelude.{encode_utf8}
-use Rattle.std.specs.{List.flat_map, Str.IsCharBoundary}
+use Rattle.std.specs.List.{flat_map}
 use Rattle.unicode_segmentation.specs.Grapheme.{graphemes}
 use Rattle.ratatui_core.specs.{Layout.Rect, Layout.Position, Style.Style, Style.new_style}
 use Rattle.ratatui_core.specs.Buffer.{BufferData, PaintsPieces, AreShort, text_pieces, columns, position_of}
@@ -44,12 +44,13 @@ text_behind input f = if_none (field_text f) input.placeholder.now (masked input
 abbrev pub style_behind : Input → FieldData → Style
 style_behind input f = if_none (field_text f) input.placeholder_style new_style
 
--- A text before a cursor and what is after it in the first row of an area: the text in view, from a byte on;
--- the cursor in the column at the sum of its widths, which lies in the area; and what is after, as far as the
--- row goes. Each grapheme stands there whole or not at all.
+-- A text before a cursor and what is after it in the first row of an area: the text in view, from a byte on,
+-- whose graphemes are those that the view counts; the cursor in the column at the sum of its widths, which
+-- lies in the area; and what is after, as far as the row goes. Each grapheme stands there whole or not at all.
 pub record ShowsParts (text : List ℕ) (first : ℕ) (behind : List ℕ) (style : Style) (r : Rect) (start column : ℕ)
     (old new : BufferData) : Type 0 where
   pub view : IsView (r.width - 1) (columns_in behind) text first start
+  pub shown : graphemes true (drop start text) ≡ drop view.count (graphemes true text)
   pub cursor : column ≡ r.x + columns (text_pieces (r.width - 1) new_style (drop start text))
   pub in_area : column < r.x + r.width
   pub between : BufferData
@@ -74,14 +75,10 @@ position_if (Some place) = Some (position_of place)
 abbrev pub IsShortIn : Style → List ℕ → Type 0
 IsShortIn style text = (room : ℕ) → AreShort (text_pieces room style text)
 
--- nor from whichever of its characters on
-abbrev pub IsShortFrom : List ℕ → Type 0
-IsShortFrom text = (n : ℕ) → IsCharBoundary text n → IsShortIn new_style (drop n text)
-
 -- nothing of a field takes memory where it is shown as it is
 pub record IsShortText (input : Input) (f : FieldData) : Type 0 where
   pub unmasked : input.mask ≡ None
-  pub before : IsShortFrom f.before
+  pub before : IsShortIn new_style f.before
   pub behind : IsShortIn (style_behind input f) (text_behind input f)
 
 -- nor does the box that it stands in
@@ -91,7 +88,7 @@ pub record IsShortInput (input : Input) (f : FieldData) (s : BufferData) : Type 
 
 -- whatever is shown of a field takes one column for each grapheme
 pub record HasNarrowText (input : Input) (f : FieldData) : Type 0 where
-  pub before : (n : ℕ) → EachGrapheme TakesOneColumn (drop n (masked input.mask f.before))
+  pub before : EachGrapheme TakesOneColumn (masked input.mask f.before)
   pub behind : EachGrapheme TakesOneColumn (text_behind input f)
 
 -- a field whose cursor is not known to stand anywhere

@@ -1,16 +1,21 @@
 //! Laws of fields that are rendered.
 
-ghost use Rattle.std.specs.Prelude.{◌≡◌, ◌+◌, ◌<◌, ◌≤◌, ℕ, List, length, true, None, Some, IfSome};
+ghost use Rattle.std.specs.Prelude.{◌≡◌, ◌+◌, ◌-◌, ◌<◌, ◌≤◌, ℕ, List, length, drop, map, filter};
+ghost use Rattle.std.specs.Prelude.{true, false, None, Some, IfSome};
 ghost use Rattle.std.specs.Str.{IsAscii};
 ghost use Rattle.unicode_segmentation.specs.Grapheme.{graphemes};
 ghost use Rattle.ratatui_core.specs.Layout.{EdgesFit, Rect};
+ghost use Rattle.ratatui_core.specs.Style.{new_style};
+ghost use Rattle.ratatui_core.specs.Text.{has_control};
 ghost use Rattle.ratatui_core.specs.Buffer.{BufferData, IsPlainFrom, IsSettledBuffer};
+ghost use Rattle.ratatui_core.specs.Buffer.{has_painted_width, piece_of, text_pieces};
 ghost use Rattle.widget_boxes.specs.Boxes.{IsNarrowBox};
 ghost use Rattle.widget_boxes.specs.Framed.{IsShortFrame};
 ghost use Rattle.text_field.specs.Field.{FieldData, field_text};
 ghost use Rattle.widget_field.specs.declared.input.Input.{Input};
 ghost use Rattle.widget_field.specs.Views.{IsView, byte_of, columns_after};
 ghost use Rattle.widget_field.specs.Fields.{HasNarrowText, IsShortInput, RendersInput, ShowsField};
+ghost use Rattle.widget_field.specs.Fields.{masked};
 
 /// A field that was rendered has its cursor in the area, in the first row.
 pub fn the_cursor_stands_in_the_area()
@@ -49,6 +54,25 @@ pub fn no_room_is_wasted()
     ensures { (room behind first start k : ℕ) (text : List ℕ) → IsView room behind text first start
         → byte_of (graphemes true text) k < start
         → room < columns_after (graphemes true text) k + behind }
+{}
+
+/// What an input shows before the cursor are the graphemes that its view counts. Each of them that
+/// takes a column is painted; and if the text has no control character, the cursor stands in the
+/// column after theirs.
+pub fn the_view_shows_what_it_counts()
+    ensures graphemes { (input : Input) (f g : FieldData) (r : Rect) (old new : BufferData)
+        → (shows : ShowsField input f g r old new) → let text = masked input.mask f.before in
+        graphemes true (drop g.first text) ≡ drop shows.parts.view.count (graphemes true text) }
+    ensures painted { (input : Input) (f g : FieldData) (r : Rect) (old new : BufferData)
+        → (shows : ShowsField input f g r old new) → let text = masked input.mask f.before in
+        let counted = drop shows.parts.view.count (graphemes true text) in
+        text_pieces (r.width - 1) new_style (drop g.first text)
+        ≡ map (piece_of new_style) (filter has_painted_width counted) }
+    ensures cursor { (input : Input) (f g : FieldData) (r : Rect) (old new : BufferData)
+        → (shows : ShowsField input f g r old new) → let text = masked input.mask f.before in
+        has_control text ≡ false
+        → let columns = columns_after (graphemes true text) shows.parts.view.count in
+        g.place ≡ Some (r.x + columns, r.y) }
 {}
 
 /// An input of ASCII takes no memory, unless it has a mask, or a box that takes some.

@@ -2,10 +2,11 @@
 
 ghost use Rattle.std.specs.Prelude.{◌≡◌, ◌+◌, ◌<◌, ◌≤◌, OnOk, IfOk, IsOk};
 ghost use Rattle.ratatui_core.specs.Layout.{IsInside};
+ghost use Rattle.ratatui_core.specs.Style.{new_style};
 ghost use Rattle.ratatui_core.specs.Buffer.{AreShort, columns, text_pieces};
 ghost use Rattle.ratatui_core.specs.Widgets.{ChangesWithin};
 ghost use Rattle.widget_boxes.specs.Boxes.{IsBoxArea};
-ghost use Rattle.widget_field.specs.Fields.{IsShortFrom, IsShortIn, PaintsTextAt, ShowsParts};
+ghost use Rattle.widget_field.specs.Fields.{IsShortIn, PaintsTextAt, ShowsParts};
 
 use crate::view::view_start;
 use ratatui_core::buffer::Buffer;
@@ -56,7 +57,7 @@ pub(crate) fn render_parts(
     ensures within { ChangesWithin part buf.old buf.new }
     ensures ok { IfOk result (λ at.
         ShowsParts text.now first behind.now style part at.0 at.1 buf.old buf.new) }
-    ensures short { IsShortFrom text.now → IsShortIn style behind.now → IsOk result }
+    ensures short { IsShortIn new_style text.now → IsShortIn style behind.now → IsOk result }
 {
     let room = part.width - 1;
     let start = view_start(text, first, part.width, behind);

@@ -1,12 +1,13 @@
 -- Words that only private contracts use: what a draw knows of the terminal, and what its bytes do to it.
 use Rattle.std.specs.Prelude.{◌≡◌, ℕ, ◌+◌, ◌-◌, ◌*◌, ◌<◌, ◌≤◌, ◌&&◌, ◌⊎◌, nat_lt, nat_le, Bool}
 use Rattle.std.specs.Prelude.{true, false, if◌then◌else◌, List, length, string_bytes, None, map}
-use Rattle.std.specs.Prelude.{Option, Some}
+use Rattle.std.specs.Prelude.{Option, Some, IsTrue}
 use Rattle.std.specs.List.{list_all}
 use Rattle.ratatui_core.specs.{Layout.Position, Backend.Draws, Backend.cursor_of}
 use Rattle.ratatui_core.specs.Buffer.{symbol_text, Update, Cell}
 use Rattle.ansi_model.specs.{declared.glyph.Glyph.Glyph, declared.sgr.Sgr.Sgr}
-use Rattle.ansi_model.specs.{Flags.AreContinuations, Flags.flag, Places.PlacesOn, Sgr.default_sgr}
+use Rattle.ansi_model.specs.{Flags.AreContinuations, Flags.flag, Places.PlacesOn, Places.PlacesEach}
+use Rattle.ansi_model.specs.{Sgr.default_sgr}
 use Rattle.ansi_model.specs.{Sgr.sgr_of, Parameters.is_sendable_by, Emulator.Emulator}
 use Rattle.ansi_model.specs.{Emulator.rested, Emulator.with_sgr, Symbols.IsGlyphOf, Sends.Leads}
 use Rattle.ansi_model.specs.{Screens.screen_shown, Screens.IsIdle}
@@ -15,7 +16,7 @@ use Rattle.ratatui_ansi.specs.{declared.tracker.Tracker.Tracker, Tracker.IsAwait
 use Rattle.ratatui_ansi.specs.declared.draw.CellError.TheVariants as Refused
 use Rattle.ansi_model.specs.Drawing.{blanked, printed_at, ChangesSgr, IsDrawnBy, PenSends}
 use Rattle.ratatui_ansi.specs.Cells.{is_fit, IsVacant, IsOnScreenAt, is_sendable_on}
-use Rattle.std.specs.{Iterator.YieldsThen}
+use Rattle.std.specs.{Iterator.YieldsThen, Iterator.Drains}
 use Rattle.ratatui_ansi.specs.Refusals.{StopsAt}
 
 -- a cell that fits into a room is printed so
@@ -205,3 +206,25 @@ pub record StopsDraw {S A : Type 0} (steps : S → Option A → S → Type 0) (c
     (flags : List Bool) (refusal : CellError) : Type 0 where
   pub stops : (t : Emulator) → IsAwaiting w h cursor flags t
       → StopsAt steps content update colors (screen_shown written (rested t)) refusal
+
+-- ---- a draft
+
+-- what a draw of an iterator's items sends was collected, with its flags in the draft, and each item can be sent
+pub record DraftsContent {S A : Type 0} (steps : S → Option A → S → Type 0) (content : S) (update : A → Update)
+    (old : Tracker) (cursor : Position) (written : ℕ) (new : Tracker) : Type 0 where
+  pub items : List A
+  pub drained : Drains steps content items
+  pub drafts : Drafts old (map update items) cursor written new
+  pub sendable : list_all (is_sendable_on old.size.width old.size.height old.has_underline_colors)
+      (map update items) ≡ true
+
+-- each symbol that was collected was placed, if ambiguous characters may be wide
+abbrev pub PlacesDraft : Tracker → Tracker → Type 0
+PlacesDraft old new = old.ambiguous_is_wide ≡ true → PlacesEach (string_bytes old.out) (string_bytes new.out)
+
+-- a refusal of a draw names the first item that can't be drawn; one for want of memory names none
+abbrev pub StopsDraft : {S A : Type 0} → (S → Option A → S → Type 0) → S → (A → Update) → Tracker → CellError
+    → Type 0
+StopsDraft steps content update old refusal =
+    IsTrue (has_place refusal) → StopsDraw steps content update old.size.width old.size.height
+    old.has_underline_colors old.cursor old.written old.continuations.items refusal

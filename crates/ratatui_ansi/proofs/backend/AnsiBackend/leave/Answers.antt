@@ -18,8 +18,8 @@ returns-clause-left g c =
     rw (← c.self.view_is) (λ whole main.
     let mended = c.mend.ensures.works whole in
     let before = ap (λ s. s.before) c.flush.ensures.sent ∙ c.send.ensures.before ∙ ap (λ s. s.sent.before) mended in
-    let bytes = ap (λ s. s.bytes) c.flush.ensures.sent ∙ c.in_ok-send.ensures.sent ∙ ap (λ s. s.sent.bytes ++ text) mended in
-    let all = (c.flush.ensures.tied (c.in_ok-send.ensures.tied (rw mended (c.self.invariant.1 whole)))).appends in
+    let bytes = ap (λ s. s.bytes) c.flush.ensures.sent ∙ c.in_ok-send.ensures.all.sent ∙ ap (λ s. s.sent.bytes ++ text) mended in
+    let all = (c.flush.ensures.tied (c.in_ok-send.ensures.all.tied (rw mended (c.self.invariant.1 whole)))).appends in
     let kept = c.self.invariant.0 in
     let sent = b.sender.sent.bytes in
     let leaves : Performs sent (sent ++ text) (left_below b.tracker.size.height) =
@@ -41,8 +41,8 @@ returns-clause-back g c =
     rw (← c.self.view_is) (λ whole alternate.
     let mended = c.mend.ensures.works whole in
     let before = ap (λ s. s.before) c.flush.ensures.sent ∙ c.send.ensures.before ∙ ap (λ s. s.sent.before) mended in
-    let bytes = ap (λ s. s.bytes) c.flush.ensures.sent ∙ c.in_ok-send.ensures.sent ∙ ap (λ s. s.sent.bytes ++ text) mended in
-    let all = (c.flush.ensures.tied (c.in_ok-send.ensures.tied (rw mended (c.self.invariant.1 whole)))).appends in
+    let bytes = ap (λ s. s.bytes) c.flush.ensures.sent ∙ c.in_ok-send.ensures.all.sent ∙ ap (λ s. s.sent.bytes ++ text) mended in
+    let all = (c.flush.ensures.tied (c.in_ok-send.ensures.all.tied (rw mended (c.self.invariant.1 whole)))).appends in
     let kept = c.self.invariant.0 in
     let sent = b.sender.sent.bytes in
     let closes : ClosesAlternate sent (sent ++ text) =

@@ -14,4 +14,4 @@ returns-clause-ok g c =
     let us = map (update_by g.C.AsCell.cell) e.0 in
     let drafted = subst (SendsDraw k.size.width k.size.height (string_bytes k.out) k.cursor k.written k.continuations.items us out
     after.0 after.1) (sym (with_items_is k.draft _ (search rules) ∙ search rules)) e.2.sends in
-    (e.0, e.1, drafted, e.2.sendable)) drawn
+    record { items = e.0; drained = e.1; drafts = drafted; sendable = e.2.sendable }) drawn

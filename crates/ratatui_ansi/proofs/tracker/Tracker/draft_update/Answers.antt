@@ -12,7 +12,7 @@ returns-clause-ok g c =
     let closes = subst (λ xs. Performs drawn xs (holding false)) (sym c.in_ok-push_str-2.ensures.bytes)
     (c.update_end.ensures drawn) in
     let d = c.in_ok-after.ensures.ok in
-    (d.0, d.1, update-drawn opens d.2 closes, d.3)
+    record d { drafts = update-drawn opens d.drafts closes }
 
 pub returns-clause-within : goal.returns-clause-within
 returns-clause-within g c =
@@ -21,7 +21,7 @@ returns-clause-within g c =
     let opens = subst (λ xs. Performs old xs (holding true)) (sym c.in_ok-push_str.ensures.bytes) (c.update_begin.ensures old) in
     let closes = subst (λ xs. Performs drawn xs (holding false)) (sym c.in_ok-push_str-2.ensures.bytes)
     (c.update_end.ensures drawn) in
-    update-within opens c.in_ok-after.ensures.ok.2 closes
+    update-within opens c.in_ok-after.ensures.ok.drafts closes
 
 pub returns-clause-placed : goal.returns-clause-placed
 returns-clause-placed g c =

@@ -17,9 +17,9 @@ returns-clause-ok g c =
     } in
     let was = ap (λ v. v.items) c.swap.ensures.y_after ∙ ap (λ (s : Tracker). s.continuations.items) kept.rest in
     let count = kept.draft_count ∙ c.requires.tracker.fits.draft_count ∙ sym c.requires.tracker.fits.count in (
-      d.0,
-      d.1,
+      d.items,
+      d.drained,
       drawn-collected k (taken u) c.in_ok-cursor.cursor c.in_ok-cursor.written u.draft.items c.requires.tracker
-          (ap taken kept.rest) was (ap (λ v. v.items) c.swap.ensures.x_after) count d.2,
-      d.3,
+          (ap taken kept.rest) was (ap (λ v. v.items) c.swap.ensures.x_after) count d.drafts,
+      d.sendable,
     )
