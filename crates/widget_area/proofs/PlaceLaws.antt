@@ -1,9 +1,8 @@
 -- The cursor's place, and the row in which it is drawn.
-use Rattle.std.proofs.Common.{◌≡◌, ℕ, zero, suc, ◌+◌, ◌-◌, ◌/◌, ◌<◌, ◌≤◌, ◌==◌, min, true, false, if◌then◌else◌, refl, arith, ap, sym, ◌∙◌}
+use Rattle.std.proofs.Common.{◌≡◌, ℕ, zero, suc, ◌+◌, ◌-◌, ◌/◌, ◌<◌, ◌==◌, min, true, false, if◌then◌else◌, refl, arith, ap, sym, ◌∙◌}
 use Rattle.std.proofs.lemmas.{Bool.Decides.nat_tests}
 use Rattle.ratatui_core.specs.Layout.{Rect}
-use Rattle.text_places.specs.declared.place.Place.{Place}
-use Rattle.text_places.specs.Places.{IsInLine, text_place, place_there, is_before, places_after, rows_between, lines_rows, view_begin}
+use Rattle.text_places.specs.Places.{IsInLine, text_place, is_before, places_after, rows_between, lines_rows}
 use Rattle.text_places.proofs.PlaceLemmas.{there-in, view-in}
 use Rattle.text_places.proofs.WalkLemmas.{walked, view-before, view-within, view-stays}
 use Rattle.text_area.specs.Lines.{nth_line}

@@ -1,16 +1,15 @@
 -- Rows of wrapped lines, as they are drawn.
 use Rattle.std.proofs.Common.{◌≡◌, ℕ, zero, suc, ◌+◌, ◌-◌, ◌<◌, ◌≤◌, nat_le, nat_lt, true, false, List, [], ◌∷◌, length, refl, arith}
-use Rattle.std.proofs.Common.{Result, Bool, cond, ◌==◌, min}
-use Rattle.std.proofs.lemmas.{Bool.Decides.nat_tests, List.Sums.sum_by-append}
+use Rattle.std.proofs.Common.{Result, Bool, ◌==◌, min}
+use Rattle.std.proofs.lemmas.{Bool.Decides.nat_tests}
 use Rattle.std.specs.declared.alloc.AllocError.{AllocError}
 use Rattle.ratatui_core.specs.{Layout.Rect, Buffer.BufferData}
 use Rattle.rtui_drawing.specs.Cuts.{cut_from}
 use Rattle.rtui_drawing.specs.declared.cut.Cut.TheVariants.{After, Rows}
 use Rattle.rtui_drawing.specs.Drawings.{nothing, over, ◌before◌, draw_if, put_style, DrawsAll, IsDone}
 use Rattle.rtui_drawing.proofs.DrawingLemmas.{done-in}
-use Rattle.text_area.specs.Extents.{is_feed}
 use Rattle.text_area.specs.Lines.{feeds}
-use Rattle.text_area.specs.Areas.{area_text, area_before, area_after}
+use Rattle.text_area.specs.Areas.{area_text}
 use Rattle.widget_area.specs.declared.plan.Plan.{Plan}
 use Rattle.widget_area.specs.declared.widget.TextAreaWidget.{TextAreaWidget}
 use Rattle.widget_area.specs.Columns.{columns_of_grapheme, past}

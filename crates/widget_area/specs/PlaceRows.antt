@@ -1,17 +1,16 @@
 -- How many rows each line of a wrapped text takes: one or more, and one after the last line.
-use Rattle.std.proofs.Common.{◌≡◌, ◌<◌, ◌≤◌, ℕ, zero, suc, ◌+◌, ◌-◌, ◌/◌, ◌==◌, Bool, true, false, if◌then◌else◌, List, [], ◌∷◌}
-use Rattle.std.proofs.Common.{length, take, drop, refl, ap, ◌∙◌, cond, arith}
+use Rattle.std.proofs.Common.{◌≡◌, ◌<◌, ◌≤◌, ℕ, zero, suc, ◌+◌, ◌==◌, Bool, true, false, if◌then◌else◌, List, [], ◌∷◌}
+use Rattle.std.proofs.Common.{length, drop, refl, ap, ◌∙◌, cond, arith}
 use Rattle.std.proofs.lemmas.{Bool.Decides.nat_tests, List.Sums.sum_by-append, List.drop_all}
 use native.Mathlib.Nat.{zero-div}
-use Rattle.unicode_segmentation.specs.Grapheme.{graphemes}
 use Rattle.unicode_segmentation.proofs.Computing.{unicode_segmentation}
-use Rattle.text_area.specs.Extents.{is_feed, line_right}
+use Rattle.text_area.specs.Extents.{is_feed}
 use Rattle.text_area.specs.Lines.{feeds, nth_start, nth_line, first_line}
 use Rattle.text_area.specs.Areas.{area_text, area_before, area_after}
 use Rattle.widget_area.specs.declared.widget.TextAreaWidget.{TextAreaWidget}
 use Rattle.widget_area.specs.Columns.{column_after_line}
 use Rattle.widget_area.specs.Wraps.{rows_of_columns}
-use Rattle.widget_area.specs.Windows.{cursor_row, cursor_column, column_after_rest, end_column, wrapped_rows}
+use Rattle.widget_area.specs.Windows.{cursor_row, cursor_column, column_after_rest, wrapped_rows}
 
 pub rows-some : (w : TextAreaWidget) (stride i : ℕ) → 0 < wrapped_rows w stride i
 rows-some w stride i = omega arith

@@ -15,7 +15,7 @@ use Rattle.text_area.specs.Areas.{AreaData, area_text, area_before, area_after, 
 use Rattle.widget_area.specs.declared.view.AreaView.{AreaView}
 use Rattle.widget_area.specs.declared.plan.Plan.{Plan}
 use Rattle.widget_area.specs.declared.widget.TextAreaWidget.{TextAreaWidget}
-use Rattle.widget_area.specs.Columns.{columns_of_grapheme, past, column_past, column_after_line}
+use Rattle.widget_area.specs.Columns.{columns_of_grapheme, past}
 use Rattle.widget_area.specs.Wraps.{rows_of_columns}
 use Rattle.widget_area.specs.Windows.{end_column, plan_of, next_view, cursor_forgotten}
 
