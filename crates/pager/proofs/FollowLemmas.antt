@@ -16,14 +16,14 @@ use Rattle.pager.specs.declared.pager.Mode.{Mode}
 use Rattle.pager.specs.declared.pager.Mode.TheVariants.{Reading, Following}
 use Rattle.pager.specs.declared.command.Command.{Command}
 use Rattle.pager.specs.declared.command.Command.TheVariants.{Quit}
-use Rattle.pager.specs.declared.place.Place.{Place}
+use Rattle.text_places.specs.declared.place.Place.{Place}
 use Rattle.pager.specs.declared.styles.Run.{Run}
 use Rattle.pager.specs.declared.piece.{More.More, Piece.Piece}
 use Rattle.pager.specs.declared.growing.{Growing.Growing, Waiting.Waiting}
 use Rattle.pager.specs.Keys.{event_command, is_press}
-use Rattle.pager.specs.Places.{Breaking, breaking, text_place, page_place, page_rows, rows_of_line, previous_place, places_before}
-use Rattle.pager.specs.Places.{last_page, is_before, earlier}
-use Rattle.pager.specs.Search.{numbered_line}
+use Rattle.text_places.specs.Places.{text_place, previous_place, places_before, is_before, earlier_place}
+use Rattle.pager.specs.Places.{breaking, page_place, page_rows, rows_of_line}
+use Rattle.pager.specs.Places.{last_page}
 use Rattle.pager.specs.Moves.{at_line, acted, obeyed, updated}
 use Rattle.pager.specs.Growing.{event_needs, mode_needs, command_needs, seeks_unknown, more_styles, piece_known, is_following, followed}
 use Rattle.pager.specs.Growing.{is_taken, heard, is_due, resumed, is_quit, told_waiting, given_up, heard_after, needs_more, asked_for_more, grown_after}
@@ -38,25 +38,25 @@ either b x y = if b then x else y
 abbrev IsUpTo : ℕ → Place → Type 0
 IsUpTo n q = (q.line < n) ⊎ (q ≡ text_place n 0)
 
-end-up : (t : Breaking) (n : ℕ) → IsUpTo n (previous_place t (text_place n 0))
+end-up : (t : ℕ → ℕ) (n : ℕ) → IsUpTo n (previous_place t (text_place n 0))
 end-up t n = by (nat_lt 0 n) refl
   where
     by : (b : Bool) → nat_lt 0 n ≡ b → IsUpTo n (either {A = Place} b
-        (text_place (n - 1) (rows_of_line t (numbered_line t.lines (n - 1)) - 1)) (text_place n 0))
+        (text_place (n - 1) (t (n - 1) - 1)) (text_place n 0))
     by true is = inl (grind (arith, nat_tests, is))
     by false is = inr refl
 
-previous-up : (t : Breaking) (n : ℕ) (q : Place) → IsUpTo n q → IsUpTo n (previous_place t q)
+previous-up : (t : ℕ → ℕ) (n : ℕ) (q : Place) → IsUpTo n q → IsUpTo n (previous_place t q)
 previous-up t n q (inl lt) = by (nat_lt 0 q.row) (nat_lt 0 q.line)
   where
     by : (a b : Bool) → IsUpTo n (if a then text_place q.line (q.row - 1)
-        else if b then text_place (q.line - 1) (rows_of_line t (numbered_line t.lines (q.line - 1)) - 1) else q)
+        else if b then text_place (q.line - 1) (t (q.line - 1) - 1) else q)
     by true b = inl lt
     by false true = inl (omega (arith, lt))
     by false false = inl lt
 previous-up t n q (inr is) = subst (λ (r : Place). IsUpTo n (previous_place t r)) (sym is) (end-up t n)
 
-before-up : (t : Breaking) (n k : ℕ) → IsUpTo n (places_before t k (text_place n 0))
+before-up : (t : ℕ → ℕ) (n k : ℕ) → IsUpTo n (places_before t k (text_place n 0))
 unfolding places_before
 before-up t n zero = inr refl
 before-up t n (suc k) = previous-up t n (places_before t k (text_place n 0)) (before-up t n k)

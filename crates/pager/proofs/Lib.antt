@@ -7,7 +7,6 @@ pub mod ShowLemmas
 pub mod SizeLemmas
 pub mod FilterLemmas
 pub mod StyleLemmas
-pub mod PastLemmas
 pub mod MeetLemmas
 pub mod BrokenLemmas
 pub mod LeaveLemmas

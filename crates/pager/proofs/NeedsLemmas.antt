@@ -22,12 +22,14 @@ use Rattle.pager.specs.declared.command.Command.TheVariants.{ToStart, ToEnd, ToL
 use Rattle.pager.specs.declared.command.Command.TheVariants.{Help, Quit, ToPart, Details, Mark, ToMark, Turn, Filter, Follow}
 use Rattle.pager.specs.declared.pager.Ending.{Ending}
 use Rattle.pager.specs.declared.pager.Ending.TheVariants as ending
-use Rattle.pager.specs.declared.place.Place.{Place}
+use Rattle.text_places.specs.declared.place.Place.{Place}
 use Rattle.pager.specs.declared.styles.Run.{Run}
 use Rattle.pager.specs.declared.sought.Sought.{Sought}
 use Rattle.pager.specs.Search.{has_match, numbered_line, next_match, last_match}
-use Rattle.pager.specs.Places.{Breaking, breaking, text_place, page_place, page_rows, rows_of_line, next_place, previous_place}
-use Rattle.pager.specs.Places.{places_after, places_before, last_page, is_before, earlier, at_place, place_after, place_before}
+use Rattle.text_places.proofs.LineLemmas.{after-line, before-line, before-low, after-same, before-same}
+use Rattle.text_places.specs.Places.{text_place, next_place, previous_place, places_after, places_before, is_before, earlier_place}
+use Rattle.pager.specs.Places.{breaking, page_place, page_rows, rows_of_line}
+use Rattle.pager.specs.Places.{last_page, at_place, place_after, place_before}
 use Rattle.pager.specs.Moves.{half_page, at_line, with_mark, jumped_to, or_number, further, back, after_move, found_at}
 use Rattle.pager.specs.Moves.{after_found, before_found, sought_on, obeyed, has_typed, gives_up}
 use Rattle.pager.specs.Moves.{with_edit, next_sought, sought_first, taken_by, taken_in, answered, letter_marked, marked_line, gone_back}
@@ -77,92 +79,10 @@ last-more sought xs ys (suc k) le =
 
 -- ---- places
 
-module _ (t : Breaking) (more : List (List ℕ)) where
-  -- the same rows, and more lines
-  abbrev longer : Breaking
-  longer = record t { lines = t.lines ++ more }
-
-  next-line : (q : Place) → (next_place t q).line ≤ q.line + 1
-  next-line q = by (nat_lt (q.row + 1) (rows_of_line t (numbered_line t.lines q.line)))
-    where
-      by : (b : Bool) → (if b then text_place q.line (q.row + 1) else text_place (q.line + 1) 0).line ≤ q.line + 1
-      by true = omega arith
-      by false = omega arith
-
-  pub after-line : (n : ℕ) (q : Place) → (places_after t n q).line ≤ q.line + n
-  unfolding places_after
-  after-line zero q = omega arith
-  after-line (suc n) q =
-      let one = next-line (places_after t n q) in
-      let rest = after-line n q in omega (arith, one, rest)
-
-  next-more : (q : Place) → q.line < length t.lines → next_place longer q ≡ next_place t q
-  next-more q lt =
-      ap (λ l. if nat_lt (q.row + 1) (rows_of_line t l) then text_place q.line (q.row + 1) else text_place (q.line + 1) 0)
-      (numbered-more t.lines more q.line lt)
-
-  pub after-more : (n : ℕ) (q : Place) → q.line + n ≤ length t.lines → places_after longer n q ≡ places_after t n q
-  unfolding places_after
-  after-more zero q le = refl
-  after-more (suc n) q le =
-      let far = after-line n q in
-      ap (next_place longer) (after-more n q (omega (arith, le)))
-      ∙ next-more (places_after t n q) (omega (arith, le, far))
-
-  previous-line : (line row : ℕ) → (previous_place t (text_place line row)).line ≤ line
-  previous-line line row = by (nat_lt 0 row) (nat_lt 0 line)
-    where
-      by : (a b : Bool) → (if a then text_place line (row - 1)
-          else if b then text_place (line - 1) (rows_of_line t (numbered_line t.lines (line - 1)) - 1)
-          else text_place line row).line ≤ line
-      by true b = omega arith
-      by false true = omega arith
-      by false false = omega arith
-
-  previous-low : (line row : ℕ) → line ≤ (previous_place t (text_place line row)).line + 1
-  previous-low line row = by (nat_lt 0 row) (nat_lt 0 line)
-    where
-      by : (a b : Bool) → line ≤ (if a then text_place line (row - 1)
-          else if b then text_place (line - 1) (rows_of_line t (numbered_line t.lines (line - 1)) - 1)
-          else text_place line row).line + 1
-      by true b = omega arith
-      by false true = omega arith
-      by false false = omega arith
-
-  pub before-line : (n : ℕ) (q : Place) → (places_before t n q).line ≤ q.line
-  unfolding places_before
-  before-line zero q = omega arith
-  before-line (suc n) q =
-      let p : Place = places_before t n q in
-      let one = previous-line p.line p.row in
-      let rest = before-line n q in omega (arith, one, rest)
-
-  pub before-low : (n : ℕ) (q : Place) → q.line ≤ (places_before t n q).line + n
-  unfolding places_before
-  before-low zero q = omega arith
-  before-low (suc n) q =
-      let p : Place = places_before t n q in
-      let one = previous-low p.line p.row in
-      let rest = before-low n q in omega (arith, one, rest)
-
-  previous-more : (line row : ℕ) → line ≤ length t.lines
-      → previous_place longer (text_place line row) ≡ previous_place t (text_place line row)
-  previous-more zero row le = by (nat_lt 0 row)
-    where
-      by : (a : Bool) → (if a then text_place 0 (row - 1) else text_place 0 row) ≡ (if a then text_place 0 (row - 1) else text_place 0 row)
-      by a = refl
-  previous-more (suc line) row le =
-      ap (λ l. if nat_lt 0 row then text_place (suc line) (row - 1)
-      else if nat_lt 0 (suc line) then text_place (suc line - 1) (rows_of_line t l - 1)
-      else text_place (suc line) row) (numbered-more t.lines more (suc line - 1) (omega (arith, le)))
-
-  pub before-more : (n : ℕ) (q : Place) → q.line ≤ length t.lines → places_before longer n q ≡ places_before t n q
-  unfolding places_before
-  before-more zero q le = refl
-  before-more (suc n) q le =
-      let p : Place = places_before t n q in
-      let low = before-line n q in
-      ap (previous_place longer) (before-more n q le) ∙ previous-more p.line p.row (omega (arith, le, low))
+-- a line takes as many rows if more lines come after it
+breaking-more : (more : List (List ℕ)) (styles : List (List Run)) (has_more : Bool) (p : Pager) (line : ℕ)
+    → line < length p.document → breaking (with_more more styles has_more p) line ≡ breaking p line
+breaking-more more styles has_more p line lt = ap (rows_of_line p) (numbered-more p.document more line lt)
 
 earlier-line : (q l : Place) → q.line < l.line → is_before q l ≡ true
 earlier-line q l lt = grind (arith, nat_tests, lt)
@@ -174,7 +94,7 @@ last-far p = by p.wraps
     by : (b : Bool) → length p.document
         ≤ (if b then places_before (breaking p) (page_rows p) (text_place (length p.document) 0)
         else text_place (length p.document - page_rows p) 0).line + page_rows p
-    by true = before-low (breaking p) [] (page_rows p) (text_place (length p.document) 0)
+    by true = before-low (breaking p) (page_rows p) (text_place (length p.document) 0)
     by false = omega arith
 
 -- a page that ends before the last line is the one that was asked for
@@ -205,7 +125,7 @@ module _ (more : List (List ℕ)) (styles : List (List Run)) (has_more : Bool) w
   after-line-of k p = by p.wraps
     where
       by : (b : Bool) → (if b then places_after (breaking p) k (page_place p) else text_place (p.top + k) 0).line ≤ p.top + k
-      by true = after-line (breaking p) [] k (page_place p)
+      by true = after-line (breaking p) k (page_place p)
       by false = omega arith
 
   after-on : (k : ℕ) (p : Pager) → p.top + k ≤ length p.document → place_after k (on p) ≡ place_after k p
@@ -213,7 +133,7 @@ module _ (more : List (List ℕ)) (styles : List (List Run)) (has_more : Bool) w
     where
       by : (b : Bool) → (if b then places_after (breaking (on p)) k (page_place p) else text_place (p.top + k) 0)
           ≡ (if b then places_after (breaking p) k (page_place p) else text_place (p.top + k) 0)
-      by true = after-more (breaking p) more k (page_place p) le
+      by true = after-same (breaking p) (breaking (on p)) (length p.document) (breaking-more more styles has_more p) k (page_place p) le
       by false = refl
 
   further-on : (n : ℕ) (p : Pager) → further_needs n p ≤ length p.document → further n (on p) ≡ on (further n p)
@@ -227,7 +147,7 @@ module _ (more : List (List ℕ)) (styles : List (List Run)) (has_more : Bool) w
   before-line-of k p = by p.wraps
     where
       by : (b : Bool) → (if b then places_before (breaking p) k (page_place p) else text_place (p.top - k) 0).line ≤ p.top
-      by true = before-line (breaking p) [] k (page_place p)
+      by true = before-line (breaking p) k (page_place p)
       by false = omega arith
 
   before-on : (k : ℕ) (p : Pager) → p.top ≤ length p.document → place_before k (on p) ≡ place_before k p
@@ -235,7 +155,7 @@ module _ (more : List (List ℕ)) (styles : List (List Run)) (has_more : Bool) w
     where
       by : (b : Bool) → (if b then places_before (breaking (on p)) k (page_place p) else text_place (p.top - k) 0)
           ≡ (if b then places_before (breaking p) k (page_place p) else text_place (p.top - k) 0)
-      by true = before-more (breaking p) more k (page_place p) le
+      by true = before-same (breaking p) (breaking (on p)) (length p.document) (breaking-more more styles has_more p) k (page_place p) le
       by false = refl
 
   back-on : (n : ℕ) (p : Pager) → page_needs p ≤ length p.document → back n (on p) ≡ on (back n p)

@@ -5,9 +5,10 @@ use Rattle.widget_boxes.specs.Titles.{InTurn}
 use Rattle.ratatui_app.specs.OneFrame.{MakesOne, HasOneFrame}
 use Rattle.ratatui_app.proofs.OneFrameLemmas.{one-pieces, one-nothing, one-on-part, one-frame}
 use Rattle.pager.specs.Symbols.{LineSymbol, symbols_in_view, line_symbols}
-use Rattle.pager.specs.Places.{page_place, places_after, breaking}
+use Rattle.text_places.specs.Places.{places_after}
+use Rattle.pager.specs.Places.{page_place, breaking}
 use Rattle.pager.specs.declared.view.View.{View}
-use Rattle.pager.specs.declared.place.Place.{Place}
+use Rattle.text_places.specs.declared.place.Place.{Place}
 use Rattle.pager.specs.declared.styles.Run.{Run}
 use Rattle.pager.specs.declared.sought.Sought.{Sought}
 use Rattle.pager.specs.declared.pager.Pager.{Pager}

@@ -19,8 +19,9 @@ use Rattle.pager.specs.declared.command.Command.TheVariants.{Help, Quit, ToPart,
 use Rattle.std.specs.Prelude.{replicate}
 use Rattle.pager.specs.declared.sought.Sought.{Sought}
 use Rattle.pager.specs.Search.{next_match, last_match, matching, picked}
-use Rattle.pager.specs.declared.place.Place.{Place}
-use Rattle.pager.specs.Places.{IsInText, text_place, last_page, is_before, at_place}
+use Rattle.text_places.specs.declared.place.Place.{Place}
+use Rattle.text_places.specs.Places.{text_place, is_before}
+use Rattle.pager.specs.Places.{IsInText, last_page, at_place}
 use Rattle.pager.specs.Moves.{started, found_at, before_found, after_found, sought_on, after_move}
 use Rattle.pager.specs.Moves.{obeyed, next_sought, answered, acted, updated_by, updated, with_mark, letter_marked, marked_line, gone_back}
 use Rattle.pager.specs.Moves.{first_match, sought_first, all_lines, relined, with_lines, taken_by, has_text, turned_to, has_typed, gives_up}

@@ -1,11 +1,13 @@
--- How many rows a line takes, and the rows of a text one after the other.
-use Rattle.std.proofs.Common.{◌≡◌, ℕ, ◌+◌, ◌≤◌, List, [], ◌∷◌, length, refl, ap, ◌∙◌, arith, add-one}
+-- How many rows a line takes, and its bytes.
+use Rattle.std.proofs.Common.{◌≡◌, ℕ, ◌+◌, ◌-◌, ◌/◌, ◌^◌, ◌≤◌, Bool, true, false, if◌then◌else◌, min, List, [], ◌∷◌, length, refl, ap, ◌∙◌, arith}
+use Rattle.std.proofs.Common.{add-one}
+use Rattle.std.proofs.Math.Nat.{div-le_self}
+use Rattle.pager.specs.declared.pager.Pager.{Pager}
 use Rattle.pager.specs.declared.sought.Sought.TheVariants.{Plain}
-use Rattle.pager.specs.declared.place.Place.{Place}
-use Rattle.pager.specs.Symbols.{Reach, shown_columns, reach_after, symbols_from}
+use Rattle.pager.specs.Symbols.{Reach, shown_columns, reach_after, symbols_from, line_symbols}
 use Rattle.pager.specs.Search.{numbered_line}
 use Rattle.pager.specs.Pages.{bytes_before}
-use Rattle.pager.specs.Places.{Breaking, last_start, next_place, previous_place, places_after, places_before}
+use Rattle.pager.specs.Places.{last_start, breaking, stride}
 
 -- a place by its column alone
 abbrev pub reach_at : List ℕ → ℕ → Reach
@@ -47,26 +49,6 @@ pub last-none : (last : ℕ) (line : List ℕ) (column : ℕ) (gs : List (List �
 unfolding symbols_from
 last-none last line column gs none = rw none refl
 
--- ---- places
-
-pub after-none : (t : Breaking) (q : Place) → places_after t 0 q ≡ q
-unfolding places_after
-after-none t q = refl
-
-pub after-next : (t : Breaking) (n : ℕ) (q r s : Place) → r ≡ places_after t n q → s ≡ next_place t r
-    → s ≡ places_after t (n + 1) q
-unfolding places_after
-after-next t n q r s before is = rw add-one (is ∙ ap (next_place t) before)
-
-pub before-none : (t : Breaking) (q : Place) → places_before t 0 q ≡ q
-unfolding places_before
-before-none t q = refl
-
-pub before-next : (t : Breaking) (n : ℕ) (q r s : Place) → r ≡ places_before t n q → s ≡ previous_place t r
-    → s ≡ places_before t (n + 1) q
-unfolding places_before
-before-next t n q r s before is = rw add-one (is ∙ ap (previous_place t) before)
-
 -- ---- bytes
 
 pub bytes-none : (lines : List (List ℕ)) → bytes_before lines 0 ≡ 0
@@ -77,3 +59,15 @@ pub bytes-next : (lines : List (List ℕ)) (k : ℕ)
     → bytes_before lines (k + 1) ≡ bytes_before lines k + length (numbered_line lines k) + 1
 unfolding bytes_before
 bytes-next lines k = rw add-one refl
+
+-- ---- places
+
+pub rows-most : (p : Pager) (line : ℕ) → breaking p line ≤ 2 ^ 32
+rows-most p line = by p.wraps
+  where
+    last : ℕ
+    last = min (last_start 0 (line_symbols (Plain []) [] (numbered_line p.document line))) (2 ^ 32 - 1)
+
+    by : (b : Bool) → (if b then last / stride p + 1 else 1) ≤ 2 ^ 32
+    by true = omega (arith, div-le_self last (stride p))
+    by false = omega arith

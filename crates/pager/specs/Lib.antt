@@ -4,6 +4,7 @@ pub mod Search
 pub mod Symbols
 pub mod Parted
 pub mod Places
+pub mod PlaceLaws
 pub mod Moves
 pub mod Pages
 pub mod PageLemmas

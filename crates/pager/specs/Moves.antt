@@ -26,7 +26,8 @@ use Rattle.pager.specs.Keys.{event_command, event_answer, event_mark, event_endi
 use Rattle.pager.specs.declared.sought.Sought.{Sought}
 use Rattle.pager.specs.declared.sought.Sought.TheVariants.{Plain}
 use Rattle.pager.specs.Search.{sought_by, next_match, last_match, matching, picked}
-use Rattle.pager.specs.Places.{text_place, page_rows, at_place, place_after, place_before}
+use Rattle.text_places.specs.Places.{text_place}
+use Rattle.pager.specs.Places.{page_rows, at_place, place_after, place_before}
 
 -- a line in which nothing is typed, of at most 80 characters
 abbrev pub empty_line : FieldData

@@ -10,10 +10,8 @@ use Rattle.ratatui_core.specs.Widgets.{ChangesWithin, OnPart}
 use Rattle.widget_boxes.specs.Titles.{InTurn}
 use Rattle.text_field.specs.Field.{field_text}
 use Rattle.pager.specs.Symbols.{LineSymbol, reversed, line_symbols, symbols_in_view, is_in_view}
-use Rattle.pager.specs.Places.{breaking, number_columns, stride, page_rows, page_place, places_after}
-use Rattle.pager.specs.Places.{rows_of_line}
-use Rattle.pager.specs.Places.{place_after}
-use Rattle.pager.specs.declared.place.Place.{Place}
+use Rattle.text_places.specs.{declared.place.Place.Place, Places.places_after}
+use Rattle.pager.specs.Places.{breaking, number_columns, stride, page_rows, page_place, rows_of_line, place_after}
 use Rattle.pager.specs.declared.view.View.{View}
 use Rattle.pager.specs.declared.styles.Run.{Run}
 use Rattle.pager.specs.declared.help.TheConstants.{HELP}
@@ -62,7 +60,7 @@ view_at p row width =
 -- one row of a line that is broken shows a symbol, and no other one does
 pub record IsInOneRow (p : Pager) (width : ℕ) (line : List ℕ) (s : LineSymbol) : Type 0 where
   pub row : ℕ
-  pub within : row < rows_of_line (breaking p) line
+  pub within : row < rows_of_line p line
   pub shown : is_in_view (view_at p row width) s ≡ true
   pub alone : (k : ℕ) → is_in_view (view_at p k width) s ≡ true → k ≡ row
 

@@ -1,14 +1,12 @@
 -- Places in a text: a line, and a row of it if lines are broken.
-use Rattle.std.specs.Prelude.{◌≡◌, ℕ, zero, suc, Bool, false, ◌+◌, ◌-◌, ◌/◌, ◌==◌, ◌&&◌, ◌||◌}
+use Rattle.std.specs.Prelude.{◌≡◌, ℕ, false, ◌+◌, ◌-◌, ◌/◌, ◌&&◌}
 use Rattle.std.specs.Prelude.{nat_lt, min, max, if◌then◌else◌, List, [], ◌∷◌, length, ◌^◌}
+use Rattle.text_places.specs.declared.place.Place.{Place}
+use Rattle.text_places.specs.Places.{text_place, places_after, places_before, is_before, earlier_place}
 use Rattle.pager.specs.declared.sought.Sought.TheVariants.{Plain}
 use Rattle.pager.specs.declared.pager.Pager.{Pager}
-use Rattle.pager.specs.declared.place.Place.{Place}
 use Rattle.pager.specs.Search.{numbered_line}
 use Rattle.pager.specs.Symbols.{LineSymbol, line_symbols}
-
-abbrev pub text_place : ℕ → ℕ → Place
-text_place line row = record { line = line; row = row }
 
 -- the place at which the page begins
 abbrev pub page_place : Pager → Place
@@ -32,42 +30,13 @@ abbrev pub last_start : ℕ → List LineSymbol → ℕ
 last_start column [] = column
 last_start column (s ∷ ss) = last_start s.column ss
 
--- the lines of a text, whether they are broken, and how many columns of them begin in a row then
-pub record Breaking : Type 0 where
-  pub lines : List (List ℕ)
-  pub wraps : Bool
-  pub stride : ℕ
-
-abbrev pub breaking : Pager → Breaking
-breaking p = record { lines = p.document; wraps = p.wraps; stride = stride p }
-
 -- how many rows a line takes
-abbrev pub rows_of_line : Breaking → List ℕ → ℕ
-rows_of_line t line = if t.wraps then min (last_start 0 (line_symbols (Plain []) [] line)) (2 ^ 32 - 1) / t.stride + 1
-    else 1
+abbrev pub rows_of_line : Pager → List ℕ → ℕ
+rows_of_line p line = if p.wraps then min (last_start 0 (line_symbols (Plain []) [] line)) (2 ^ 32 - 1) / stride p + 1 else 1
 
--- the next row of a text, which goes on after its end
-abbrev pub next_place : Breaking → Place → Place
-next_place t q =
-    if nat_lt (q.row + 1) (rows_of_line t (numbered_line t.lines q.line)) then text_place q.line (q.row + 1)
-    else text_place (q.line + 1) 0
-
--- the row before; the first one stays
-abbrev pub previous_place : Breaking → Place → Place
-previous_place t q =
-    if nat_lt 0 q.row then text_place q.line (q.row - 1)
-    else if nat_lt 0 q.line then text_place (q.line - 1)
-    (rows_of_line t (numbered_line t.lines (q.line - 1)) - 1)
-    else q
-
--- so many rows further, and back
-unfoldable pub places_after : Breaking → ℕ → Place → Place
-places_after t zero q = q
-places_after t (suc n) q = next_place t (places_after t n q)
-
-unfoldable pub places_before : Breaking → ℕ → Place → Place
-places_before t zero q = q
-places_before t (suc n) q = previous_place t (places_before t n q)
+-- the same of each line of the text, by its number
+abbrev pub breaking : Pager → ℕ → ℕ
+breaking p line = rows_of_line p (numbered_line p.document line)
 
 -- how many rows of text a page has: all but the last row, and at least one
 abbrev pub page_rows : Pager → ℕ
@@ -79,17 +48,9 @@ last_page p =
     if p.wraps then places_before (breaking p) (page_rows p) (text_place (length p.document) 0)
     else text_place (length p.document - page_rows p) 0
 
--- a place stands before another one
-abbrev pub is_before : Place → Place → Bool
-is_before a b = nat_lt a.line b.line || ((a.line == b.line) && nat_lt a.row b.row)
-
--- the earlier one of two places
-abbrev pub earlier : Place → Place → Place
-earlier a b = if is_before a b then a else b
-
 -- the page that begins at a place, or the last one
 abbrev pub at_place : Place → Pager → Pager
-at_place q p = record p { top = (earlier q (last_page p)).line; row = (earlier q (last_page p)).row }
+at_place q p = let r = earlier_place q (last_page p) in record p { top = r.line; row = r.row }
 
 -- the places so many rows further, and back
 abbrev pub place_after : ℕ → Pager → Place

@@ -17,8 +17,9 @@ ghost use Rattle.ratatui_app.specs.OneFrame.{HasOneFrame};
 ghost use Rattle.pager.specs.Pages.{IsInOneRow, PaintsPager};
 ghost use Rattle.pager.specs.declared.sought.Sought.{Sought};
 ghost use Rattle.pager.specs.declared.styles.Run.{Run};
-ghost use Rattle.pager.specs.Places.{IsInText, columns_for_line, page_rows, page_place, text_place, place_after};
-ghost use Rattle.pager.specs.Places.{places_after, breaking, last_page, earlier, is_before};
+ghost use Rattle.text_places.specs.Places.{text_place, places_after, earlier_place, is_before};
+ghost use Rattle.pager.specs.Places.{IsInText, columns_for_line, page_rows, page_place, place_after, breaking};
+ghost use Rattle.pager.specs.Places.{last_page};
 ghost use Rattle.pager.specs.declared.command.Command.TheVariants.{PageDown};
 ghost use Rattle.pager.specs.Paging.{paging_on, page_size, IsPaged, FillsScreen, FillsAlong};
 ghost use Rattle.pager.specs.declared.pager.Pager.{Pager};
@@ -78,7 +79,7 @@ pub fn broken_lines_lose_nothing()
 pub fn pages_meet()
     ensures further { (p : Pager) → p.number ≡ 0
         → page_place (after_move PageDown p)
-        ≡ earlier (place_after (page_rows p) p) (last_page p) }
+        ≡ earlier_place (place_after (page_rows p) p) (last_page p) }
     ensures ends { (p : Pager) → is_before (text_place 0 0) (last_page p) ≡ true
         → places_after (breaking p) (page_rows p) (last_page p)
         ≡ text_place (length p.document) 0 }

@@ -6,9 +6,9 @@ ghost use Rattle.pager.specs.Moves.{jumped_to, part_line, after_move, asked, fil
 
 use crate::command::Command;
 use crate::pager::{Mode, Note, Pager};
-use crate::place::Place;
 use crate::typing::empty_line;
 use std::alloc::AllocError;
+use text_places::Place;
 
 impl<'a> Pager<'a> {
     // Half of the rows of a page.
@@ -29,7 +29,10 @@ impl<'a> Pager<'a> {
     pub(crate) fn go_to(&mut self, line: u64)
         ensures { self.new ≡ at_line line self.old }
     {
-        self.go_to_place(Place { line, row: 0 });
+        self.go_to_place(Place {
+            line: line as usize,
+            row: 0,
+        });
     }
 
     // Goes so many rows further, or as many as the number says.

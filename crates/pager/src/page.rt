@@ -13,7 +13,6 @@ use crate::finder::Finder;
 use crate::help::help_text;
 use crate::pager::{Mode, Pager};
 use crate::painting::{paint_line, paint_text};
-use crate::place::Place;
 use crate::typing::typing_cursor;
 use crate::view::View;
 use itoa::Buffer as Digits;
@@ -22,6 +21,7 @@ use ratatui_core::buffer::Buffer;
 use ratatui_core::layout::{Position, Rect};
 use ratatui_core::style::Style;
 use std::alloc::AllocError;
+use text_places::Place;
 
 // Paints a number that ends in column 7 of a row.
 fn paint_number(number: u64, y: u16, part: Rect, buf: &mut Buffer) -> Result<u16, AllocError>
@@ -92,7 +92,8 @@ fn paint_plain(line: &str, y: u16, part: Rect, buf: &mut Buffer) -> Result<(), A
 
 impl<'a> Pager<'a> {
     // What a row shows of its line.
-    fn view_at(&self, row: u32, width: u16) -> View
+    fn view_at(&self, row: usize, width: u16) -> View
+        requires { row < 2 ^ 32 }
         ensures view { result ≡ view_at self.now row width }
         ensures left { result.left < 2 ^ 63 }
     {
@@ -100,7 +101,7 @@ impl<'a> Pager<'a> {
             return View::new(u64::from(self.left), width);
         }
         let stride = u64::from(self.stride());
-        let left = u64::from(row) * stride;
+        let left = row as u64 * stride;
         View {
             left,
             limit: left + stride.min(u64::from(width)),
@@ -136,6 +137,7 @@ impl<'a> Pager<'a> {
         requires top { part.y ≤ y }
         requires bottom { y < part.y + part.height }
         requires place { place.line < 2 ^ 63 }
+        requires there { place.row < 2 ^ 32 }
         ensures within { ChangesWithin part buf.old buf.new }
         ensures ok { OnOk result
             (PaintsLineAt (Some line.now) self.now place part y buf.old buf.new) }
@@ -143,7 +145,7 @@ impl<'a> Pager<'a> {
         ensures same { finder.new ≡ finder.old }
     {
         let beside = self.number_columns(part.width);
-        let line_number = self.line_number(place.line);
+        let line_number = self.line_number(place.line as u64);
         let number = if place.row == 0 { line_number + 1 } else { 0 };
         paint_number_if(beside, number, y, part, buf)?;
         let view = self.view_at(place.row, part.width - beside);
@@ -172,6 +174,7 @@ impl<'a> Pager<'a> {
         requires some { IsBoxArea part }
         requires inside { IsInside part buf.old.area }
         requires place { place.line < 2 ^ 63 }
+        requires there { place.row < 2 ^ 32 }
         requires top { part.y ≤ y }
         requires bottom { y < part.y + part.height }
         ensures within { ChangesWithin part buf.old buf.new }
@@ -179,7 +182,7 @@ impl<'a> Pager<'a> {
         ensures ready { IsReadyFrom y buf.old → OnOk result (IsReadyFrom (y + 1) buf.new) }
         ensures same { finder.new ≡ finder.old }
     {
-        match self.document.line(place.line as usize) {
+        match self.document.line(place.line) {
             Some(line) => self.paint_text_line(line, place, y, finder, part, buf),
             None => paint_plain("~", y, part, buf),
         }
@@ -198,6 +201,7 @@ impl<'a> Pager<'a> {
         requires some { IsBoxArea part }
         requires inside { IsInside part buf.old.area }
         requires place { place.line < 2 ^ 63 }
+        requires there { place.row < 2 ^ 32 }
         requires row { k < part.height }
         ensures within { ChangesWithin part buf.old buf.new }
         ensures ok { OnOk result

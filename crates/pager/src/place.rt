@@ -1,23 +1,17 @@
 //! Places in a text.
 
-ghost use Rattle.std.specs.Prelude.{◌≡◌, ◌<◌, ◌≤◌, ◌+◌, [], min, ◌^◌, ◌-◌};
+ghost use Rattle.std.specs.Prelude.{◌≡◌, ◌<◌, ◌≤◌, ◌+◌, [], min, ◌^◌, ◌-◌, length};
 ghost use Rattle.pager.specs.declared.sought.Sought.TheVariants.{Plain};
 ghost use Rattle.pager.specs.Search.{numbered_line};
 ghost use Rattle.pager.specs.Symbols.{line_symbols};
+ghost use Rattle.text_places.specs.Places.{next_place};
 ghost use Rattle.pager.specs.Places.{page_place, breaking, number_columns, stride, last_start, rows_of_line};
-ghost use Rattle.pager.specs.Places.{next_place, previous_place, places_after, places_before, page_rows};
-ghost use Rattle.pager.specs.Places.{last_page, is_before, earlier, at_place, place_after, place_before};
+ghost use Rattle.pager.specs.Places.{page_rows, last_page, at_place, place_after, place_before};
 
 use crate::pager::Pager;
 use crate::symbols::shown_columns;
+use text_places::{BrokenText, Place, next_place, places_after, places_before};
 use unicode_segmentation::UnicodeSegmentation;
-
-/// A line from 0 on, and a row of it, if lines are broken.
-#[derive(Debug, Clone, Copy, PartialEq, Eq)]
-pub struct Place {
-    pub line: u64,
-    pub row: u32,
-}
 
 // The column in which the last symbol of a line begins, at most `u32::MAX`.
 fn last_start(line: &str) -> u32
@@ -35,13 +29,6 @@ fn last_start(line: &str) -> u32
     last
 }
 
-// Whether a place stands before another one.
-fn is_before(a: Place, b: Place) -> bool
-    ensures { result ≡ is_before a b }
-{
-    a.line < b.line || (a.line == b.line && a.row < b.row)
-}
-
 impl<'a> Pager<'a> {
     // How many rows of text a page has.
     pub(crate) fn page_rows(&self) -> u32
@@ -54,10 +41,11 @@ impl<'a> Pager<'a> {
     pub(crate) fn place(&self) -> Place
         ensures place { result ≡ page_place self.now }
         ensures line { result.line < 2 ^ 32 }
+        ensures row { result.row < 2 ^ 32 }
     {
         Place {
-            line: u64::from(self.top),
-            row: self.row,
+            line: self.top as usize,
+            row: self.row as usize,
         }
     }
 
@@ -77,14 +65,15 @@ impl<'a> Pager<'a> {
     }
 
     // How many rows a line takes.
-    fn line_rows(&self, line: u64) -> u64
+    fn line_rows(&self, line: usize) -> usize
         ensures most { result ≤ 2 ^ 32 }
-        ensures rows { result ≡ rows_of_line (breaking self.now) (numbered_line self.now.document line) }
+        ensures rows { result ≡ rows_of_line self.now (numbered_line self.now.document line) }
     {
         if !self.wraps {
             return 1;
         }
-        u64::from(last_start(self.document.line_or_empty(line)) / u32::from(self.stride())) + 1
+        let last = last_start(self.document.line_or_empty(line as u64));
+        (last / u32::from(self.stride())) as usize + 1
     }
 
     // The next row of the text, which goes on after its end.
@@ -92,97 +81,39 @@ impl<'a> Pager<'a> {
         requires { place.line < 2 ^ 63 }
         ensures place { result ≡ next_place (breaking self.now) place }
         ensures line { result.line ≤ place.line + 1 }
+        ensures row { result.row < 2 ^ 32 }
     {
-        if u64::from(place.row) + 1 < self.line_rows(place.line) {
-            Place {
-                line: place.line,
-                row: place.row + 1,
-            }
-        } else {
-            Place {
-                line: place.line + 1,
-                row: 0,
-            }
-        }
-    }
-
-    // The row before; the first one stays.
-    fn previous_place(&self, place: Place) -> Place
-        ensures place { result ≡ previous_place (breaking self.now) place }
-        ensures line { result.line ≤ place.line }
-    {
-        if place.row > 0 {
-            return Place {
-                line: place.line,
-                row: place.row - 1,
-            };
-        }
-        if place.line > 0 {
-            let line = place.line - 1;
-            return Place {
-                line,
-                row: (self.line_rows(line) - 1) as u32,
-            };
-        }
-        place
-    }
-
-    // The place so many rows further.
-    fn rows_after(&self, rows: u32, place: Place) -> Place
-        requires { place.line < 2 ^ 32 }
-        ensures place { result ≡ places_after (breaking self.now) rows place }
-        ensures line { result.line ≤ place.line + rows }
-    {
-        let end = u64::from(self.document.len());
-        let mut place = place;
-        for done in 0..rows {
-            if place.line >= end && place.row == 0 {
-                // After the end each line takes one row.
-                return Place {
-                    line: place.line + u64::from(rows - done),
-                    row: 0,
-                };
-            }
-            place = self.next_place(place);
-        }
-        place
-    }
-
-    // The place so many rows before.
-    fn rows_before(&self, rows: u32, place: Place) -> Place
-        ensures place { result ≡ places_before (breaking self.now) rows place }
-        ensures line { result.line ≤ place.line }
-    {
-        let mut place = place;
-        for _ in 0..rows {
-            place = self.previous_place(place);
-        }
-        place
+        let mut text = self;
+        next_place(&mut text, place)
     }
 
     // The place so many rows after the first one of the page.
     pub(crate) fn place_after(&self, rows: u32) -> Place
         ensures place { result ≡ place_after rows self.now }
         ensures line { result.line < 2 ^ 33 }
+        ensures row { result.row < 2 ^ 32 }
     {
         if self.wraps {
-            return self.rows_after(rows, self.place());
+            let mut text = self;
+            return places_after(&mut text, rows as usize, self.place());
         }
         Place {
-            line: u64::from(self.top) + u64::from(rows),
+            line: self.top as usize + rows as usize,
             row: 0,
         }
     }
 
     // The place so many rows before the first one of the page.
     pub(crate) fn place_before(&self, rows: u32) -> Place
-        ensures { result ≡ place_before rows self.now }
+        ensures place { result ≡ place_before rows self.now }
+        ensures row { result.row < 2 ^ 32 }
     {
         if self.wraps {
-            return self.rows_before(rows, self.place());
+            let mut text = self;
+            return places_before(&mut text, rows as usize, self.place());
         }
         Place {
-            line: u64::from(self.top.saturating_sub(rows)),
+            line: self.top.saturating_sub(rows) as usize,
             row: 0,
         }
     }
@@ -191,28 +122,51 @@ impl<'a> Pager<'a> {
     fn last_place(&self) -> Place
         ensures place { result ≡ last_page self.now }
         ensures line { result.line < 2 ^ 32 }
+        ensures row { result.row < 2 ^ 32 }
     {
         let count = self.document.len();
         if self.wraps {
+            let mut text = self;
             let end = Place {
-                line: u64::from(count),
+                line: count as usize,
                 row: 0,
             };
-            return self.rows_before(self.page_rows(), end);
+            return places_before(&mut text, self.page_rows() as usize, end);
         }
         Place {
-            line: u64::from(count.saturating_sub(self.page_rows())),
+            line: count.saturating_sub(self.page_rows()) as usize,
             row: 0,
         }
     }
 
     // Goes to the page that begins at a place, or to the last one.
     pub(crate) fn go_to_place(&mut self, place: Place)
+        requires { place.row < 2 ^ 32 }
         ensures { self.new ≡ at_place place self.old }
     {
-        let last = self.last_place();
-        let place = if is_before(place, last) { place } else { last };
+        let place = place.earlier(self.last_place());
         self.top = place.line as u32;
-        self.row = place.row;
+        self.row = place.row as u32;
     }
+}
+
+// The lines of the text, as they are broken.
+impl<'b, 'a> BrokenText for &'b Pager<'a> {
+    ghost use Rattle.pager.specs.PlaceLaws.{rows-some, rows-past};
+
+    ghost rows = { λ pager. breaking pager.now };
+
+    ghost count = { λ pager. length pager.now.document };
+
+    fn rows_of_line(&mut self, line: usize) -> usize {
+        self.line_rows(line)
+    }
+
+    fn line_count(&self) -> usize {
+        self.document.len() as usize
+    }
+
+    ghost some = { λ pager. rows-some pager.now };
+
+    ghost after = { λ pager. rows-past pager.now };
 }

@@ -32,7 +32,7 @@ impl<'a> Pager<'a> {
         ensures { result ≡ last_shown self.now }
     {
         let last = self.place_after(self.page_rows() - 1);
-        (last.line + 1).min(u64::from(self.document.len()))
+        (last.line as u64 + 1).min(u64::from(self.document.len()))
     }
 
     // How many of a hundred parts of the text end with the page.

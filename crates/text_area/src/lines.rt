@@ -155,7 +155,7 @@ fn skipped_below(text: &str, at: usize, lines: usize) -> (usize, usize)
 
 // Where the line begins that is so many above the one in which a place stands.
 #[tactic(auto, using(crate::proofs::LineLemmas::step_rules))]
-fn start_above(text: &str, at: usize, lines: usize) -> usize
+pub(crate) fn start_above(text: &str, at: usize, lines: usize) -> usize
     requires { at ≤ length text.now }
     ensures value { result ≡ nth_start (feeds (take at text.now) - lines) text.now }
     ensures begins { BeginsLine text.now result }

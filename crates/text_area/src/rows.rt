@@ -1,6 +1,6 @@
 //! Lines of a text area, one after the other, for who shows them.
 
-ghost use Rattle.std.specs.Prelude.{◌≡◌, ◌≤◌, ◌<◌, ◌+◌, length, take, drop, IfSome, IfNone};
+ghost use Rattle.std.specs.Prelude.{◌≡◌, ◌≤◌, ◌<◌, ◌+◌, ◌-◌, length, take, drop, IfSome, IfNone};
 ghost use Rattle.std.specs.Prelude.{is_some, true};
 ghost use Rattle.std.specs.Str.{IsCharBoundary};
 ghost use Rattle.rtui_text.specs.Printable.{ArePrintable};
@@ -9,7 +9,7 @@ ghost use Rattle.text_area.specs.Areas.{area_text, area_before, area_after};
 
 use crate::area::TextArea;
 use crate::extent::line_end;
-use crate::lines::next_line;
+use crate::lines::{next_line, start_above};
 
 // The line that begins at a place.
 #[tactic(auto, using(crate::proofs::LineLemmas::row_rules))]
@@ -32,6 +32,22 @@ fn start_after(text: &str, number: usize, at: usize) -> Option<usize>
     ensures none { IfNone result (number ≡ feeds text.now) }
 {
     next_line(text, at)
+}
+
+// Where the line begins before the one of a number, which begins at a place.
+fn start_before(text: &str, number: usize, start: usize) -> Option<usize>
+    requires at { start ≤ length text.now }
+    requires row { feeds (take start text.now) ≡ number }
+    ensures some { IfSome result (λ before. before ≡ nth_start (number - 1) text.now) }
+    ensures boundary { IfSome result (λ before. IsCharBoundary text.now before) }
+    ensures within { is_some result ≡ true → 0 < number }
+    ensures none { IfNone result (number ≡ 0) }
+{
+    if number == 0 {
+        None
+    } else {
+        Some(start_above(text, start, 1))
+    }
 }
 
 impl TextArea {
@@ -94,6 +110,24 @@ impl TextArea {
         ensures none { IfNone result (number ≡ feeds (area_text self.now)) }
     {
         start_after(self.text(), number, self.place_in(number, start))
+    }
+
+    /// Returns the byte at which the line before a line begins, or `None` if that is the first one.
+    /// It reads the line before alone.
+    ///
+    /// # Conditions
+    ///
+    /// There is a line of this number, and it begins at this byte: `line_start` answers it.
+    pub fn start_before(&self, number: usize, start: usize) -> Option<usize>
+        requires start { start ≡ nth_start number (area_text self.now) }
+        requires within { number ≤ feeds (area_text self.now) }
+        ensures some { IfSome result (λ before.
+            before ≡ nth_start (number - 1) (area_text self.now)) }
+        ensures boundary { IfSome result (λ before. IsCharBoundary (area_text self.now) before) }
+        ensures within { is_some result ≡ true → 0 < number }
+        ensures none { IfNone result (number ≡ 0) }
+    {
+        start_before(self.text(), number, start)
     }
 
     /// Returns the part of the cursor's line before the cursor, and the part after it. It reads

@@ -1,57 +1,88 @@
--- The row of the cursor, counted from two lines on.
-use Rattle.std.proofs.Common.{◌≡◌, ℕ, zero, suc, ◌+◌, ◌-◌, ◌<◌, ◌≤◌, nat_lt, true, false, refl, arith, ⊎_elim, sym, ◌∙◌}
-use Rattle.std.proofs.lemmas.{Bool.cases_lt, Bool.Decides.nat_tests}
+-- The cursor's place, and the row in which it is drawn.
+use Rattle.std.proofs.Common.{◌≡◌, ℕ, zero, suc, ◌+◌, ◌-◌, ◌/◌, ◌<◌, ◌==◌, min, true, false, if◌then◌else◌, refl, arith, ap, sym, ◌∙◌}
+use Rattle.std.proofs.lemmas.{Bool.Decides.nat_tests}
 use Rattle.ratatui_core.specs.Layout.{Rect}
+use Rattle.text_places.specs.Places.{IsInLine, text_place, is_before, places_after, rows_between, lines_rows}
+use Rattle.text_places.proofs.PlaceLemmas.{there-in, view-in}
+use Rattle.text_places.proofs.WalkLemmas.{walked, view-before, view-within, view-stays}
+use Rattle.text_area.specs.Lines.{nth_line}
+use Rattle.text_area.specs.Areas.{area_text}
 use Rattle.widget_area.specs.declared.view.AreaView.{AreaView}
+use Rattle.widget_area.specs.declared.plan.Plan.{Plan}
 use Rattle.widget_area.specs.declared.widget.TextAreaWidget.{TextAreaWidget}
-use Rattle.widget_area.specs.Columns.{past}
-use Rattle.widget_area.specs.Wraps.{wrapped_line_rows, row_past, wrapped_place_at}
-use Rattle.widget_area.specs.Windows.{cursor_row, cursor_part, base_line, rows_above_cursor, first_shown_row, wrapped_plan}
+use Rattle.widget_area.specs.Columns.{past, column_after_line}
+use Rattle.widget_area.specs.Wraps.{rows_of_columns}
+use Rattle.widget_area.specs.Windows.{cursor_row, cursor_column, column_after_rest, end_column, wrapped_rows, cursor_place, wrapped_place}
+use Rattle.widget_area.specs.Windows.{wrapped_plan}
+use Rattle.widget_area.specs.TextAreas.{row_after_line, row_past}
+use Rattle.widget_area.specs.PlaceRows.{rows-some}
 
--- rows are counted from a row on as from 0 on
-past-counted : (w : TextAreaWidget) (stride a i n : ℕ) → a ≤ 18446744073709551615
-    → row_past w stride a i n ≡ past a (row_past w stride 0 i n)
-past-counted w stride a i zero most = omega (arith, most)
-past-counted w stride a i (suc n) most =
-    let rows = wrapped_line_rows w stride i in
-    let here = past-counted w stride (past a rows) (i + 1) n (omega arith) in
-    let there = past-counted w stride (past 0 rows) (i + 1) n (omega arith) in
-    omega (arith, most, here, there)
+pub cursor-in : (w : TextAreaWidget) (stride : ℕ) → IsInLine (wrapped_rows w stride) (cursor_place w stride)
+cursor-in w stride = there-in (wrapped_rows w stride) (rows-some w stride) (text_place (cursor_row w) (cursor_column w / stride))
 
--- so the row q after n + 1 lines is by the first one's rows further on than after the other n
-one-less : (w : TextAreaWidget) (stride i n q : ℕ) → past (row_past w stride 0 i (suc n)) q < 18446744073709551615
-    → past (row_past w stride 0 i (suc n)) q ≡ wrapped_line_rows w stride i + past (row_past w stride 0 (i + 1) n) q
-one-less w stride i n q lt =
-    let there = past-counted w stride (past 0 (wrapped_line_rows w stride i)) (i + 1) n (omega arith) in
-    omega (arith, lt, there)
+-- the cursor's line ends after both its parts
+pub cursor-is : (w : TextAreaWidget) (stride row column rows : ℕ) → row ≡ cursor_row w → column ≡ cursor_column w
+    → rows ≡ rows_of_columns stride (column_after_rest w column)
+    → text_place row (min (column / stride) (rows - 1)) ≡ cursor_place w stride
+cursor-is w stride row column rows row_is column_is rows_is =
+    let here : (cursor_row w == cursor_row w) ≡ true = grind (arith, nat_tests) in
+    let all : rows ≡ wrapped_rows w stride (cursor_row w) =
+    rows_is ∙ ap (λ c. rows_of_columns stride (column_after_rest w c)) column_is
+    ∙ sym (ap (λ t. rows_of_columns stride (if t then column_after_rest w (cursor_column w)
+    else column_after_line w.tab (nth_line (cursor_row w) (area_text w.text.now)))) here) in
+    ap (λ n. text_place row (min (column / stride) (n - 1))) all
+    ∙ ap (λ c. text_place row (min (c / stride) (wrapped_rows w stride (cursor_row w) - 1))) column_is
+    ∙ ap (λ n. text_place n (min (cursor_column w / stride) (wrapped_rows w stride (cursor_row w) - 1))) row_is
 
--- how far a row is after another one, counted from two lines
-pub wrapped_place_at-rest : (w : TextAreaWidget) (stride q n i row end : ℕ) → i + n ≡ end → row ≤ past (row_past w stride 0 i n) q
-    → past (row_past w stride 0 i n) q < 18446744073709551615
-    → past (row_past w stride 0 i n) q - row
-    ≡ past (row_past w stride 0 (wrapped_place_at w stride row i n).0 (end - (wrapped_place_at w stride row i n).0)) q - (wrapped_place_at w stride row i n).1
-wrapped_place_at-rest w stride q zero i row end is le lt = let none : end - i ≡ 0 = omega (arith, is) in rw none refl
-wrapped_place_at-rest w stride q (suc n) i row end is le lt =
-    ⊎_elim (λ (here : row < wrapped_line_rows w stride i).
-    let test : nat_lt row (wrapped_line_rows w stride i) ≡ true = grind (arith, nat_tests) in
-    let all : end - i ≡ suc n = omega (arith, is) in rw (test, all) refl)
-    (λ (later : wrapped_line_rows w stride i ≤ row).
-    let test : nat_lt row (wrapped_line_rows w stride i) ≡ false = grind (arith, nat_tests) in
-    let less = one-less w stride i n q lt in
-    let rest = wrapped_place_at-rest w stride q n (i + 1) (row - wrapped_line_rows w stride i) end (omega (arith, is))
-    (omega (arith, less, le)) (omega (arith, less, lt)) in
-    let gone : past (row_past w stride 0 i (suc n)) q - row
-    ≡ past (row_past w stride 0 (i + 1) n) q - (row - wrapped_line_rows w stride i) = omega (arith, less, later) in
-    rw test (gone ∙ rest))
-    (cases_lt row (wrapped_line_rows w stride i))
+pub stays : (w : TextAreaWidget) (v : AreaView) (stride height : ℕ)
+    → IsInLine (wrapped_rows w stride) (text_place v.top v.row)
+    → is_before (cursor_place w stride) (text_place v.top v.row) ≡ false
+    → rows_between (wrapped_rows w stride) (text_place v.top v.row) (cursor_place w stride) < height
+    → wrapped_place w v stride height ≡ text_place v.top v.row
+stays w v stride height in_line before lt =
+    view-stays (wrapped_rows w stride) (text_place v.top v.row) (cursor_place w stride) height (rows-some w stride) in_line
+    (cursor-in w stride) before lt
 
--- the cursor stands in its row of its line
+module _ (w : TextAreaWidget) (v : AreaView) (r : Rect) where
+  abbrev plan : Plan
+  plan = wrapped_plan w v r
+
+  abbrev rows : ℕ → ℕ
+  rows = wrapped_rows w plan.stride
+
+  not-after : is_before (cursor_place w plan.stride) (wrapped_place w v plan.stride r.height) ≡ false
+  not-after =
+      view-before rows (text_place v.top v.row) (cursor_place w plan.stride) r.height (rows-some w plan.stride)
+      (cursor-in w plan.stride)
+
+  pub in-view : places_after rows plan.y (text_place plan.top plan.above) ≡ cursor_place w plan.stride
+  in-view =
+      walked rows (wrapped_place w v plan.stride r.height) (cursor_place w plan.stride) (rows-some w plan.stride)
+      (view-in rows (rows-some w plan.stride) (text_place v.top v.row) (cursor_place w plan.stride) r.height
+      (cursor-in w plan.stride)) (cursor-in w plan.stride) not-after
+
+  pub within : 0 < r.height → plan.y < r.height
+  within some =
+      view-within rows (text_place v.top v.row) (cursor_place w plan.stride) r.height (rows-some w plan.stride)
+      (cursor-in w plan.stride) some
+
+-- rows are drawn as they are counted
+pub row-counted : (w : TextAreaWidget) (p : Plan) (begin i n : ℕ) → p.row ≡ cursor_row w → p.column ≡ cursor_column w
+    → begin + lines_rows (wrapped_rows w p.stride) i n < 18446744073709551615
+    → row_past w p begin i n ≡ begin + lines_rows (wrapped_rows w p.stride) i n
+row-counted w p begin i zero row column lt = omega arith
+row-counted w p begin i (suc n) row column lt =
+    let same : rows_of_columns p.stride (end_column w p.row p.column i) ≡ wrapped_rows w p.stride i =
+    ap (λ k. rows_of_columns p.stride (end_column w k p.column i)) row
+    ∙ ap (λ k. rows_of_columns p.stride (end_column w (cursor_row w) k i)) column in
+    let next : row_after_line w p begin i ≡ begin + wrapped_rows w p.stride i = omega (arith, same, lt) in
+    let rest = row-counted w p (row_after_line w p begin i) (i + 1) n row column (omega (arith, next, lt)) in
+    omega (arith, next, rest)
+
 pub cursor-shown : (w : TextAreaWidget) (v : AreaView) (r : Rect) → let p = wrapped_plan w v r in
-    rows_above_cursor w p.stride (base_line w v r.height) < 18446744073709551615
-    → past (row_past w p.stride 0 p.top (p.row - p.top)) (cursor_part w p.stride) - p.above ≡ p.y
+    lines_rows (wrapped_rows w p.stride) p.top (p.row - p.top) + (cursor_place w p.stride).row < 18446744073709551615
+    → past (row_past w p 0 p.top (p.row - p.top)) (cursor_place w p.stride).row - p.above ≡ p.y
 cursor-shown w v r lt =
     let p = wrapped_plan w v r in
-    let i = base_line w v r.height in
-    let n = cursor_row w - i in
-    sym (wrapped_place_at-rest w p.stride (cursor_part w p.stride) n i (first_shown_row w v p.stride i r.height) (cursor_row w)
-    (omega arith) (omega arith) lt)
+    let all = row-counted w p 0 p.top (p.row - p.top) refl refl (omega (arith, lt)) in
+    omega (arith, lt, all)

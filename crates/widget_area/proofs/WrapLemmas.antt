@@ -1,57 +1,21 @@
--- Rows of wrapped lines, counted and drawn.
+-- Rows of wrapped lines, as they are drawn.
 use Rattle.std.proofs.Common.{◌≡◌, ℕ, zero, suc, ◌+◌, ◌-◌, ◌<◌, ◌≤◌, nat_le, nat_lt, true, false, List, [], ◌∷◌, length, refl, arith}
-use Rattle.std.proofs.Common.{Result, Bool, cond, ◌==◌, min}
-use Rattle.std.proofs.lemmas.{Bool.Decides.nat_tests, List.Sums.sum_by-append}
+use Rattle.std.proofs.Common.{Result, Bool, ◌==◌, min}
+use Rattle.std.proofs.lemmas.{Bool.Decides.nat_tests}
 use Rattle.std.specs.declared.alloc.AllocError.{AllocError}
 use Rattle.ratatui_core.specs.{Layout.Rect, Buffer.BufferData}
 use Rattle.rtui_drawing.specs.Cuts.{cut_from}
 use Rattle.rtui_drawing.specs.declared.cut.Cut.TheVariants.{After, Rows}
 use Rattle.rtui_drawing.specs.Drawings.{nothing, over, ◌before◌, draw_if, put_style, DrawsAll, IsDone}
 use Rattle.rtui_drawing.proofs.DrawingLemmas.{done-in}
-use Rattle.text_area.specs.Extents.{is_feed}
 use Rattle.text_area.specs.Lines.{feeds}
-use Rattle.text_area.specs.Areas.{area_text, area_before, area_after}
+use Rattle.text_area.specs.Areas.{area_text}
 use Rattle.widget_area.specs.declared.plan.Plan.{Plan}
-use Rattle.widget_area.specs.declared.view.AreaView.{AreaView}
 use Rattle.widget_area.specs.declared.widget.TextAreaWidget.{TextAreaWidget}
 use Rattle.widget_area.specs.Columns.{columns_of_grapheme, past}
-use Rattle.widget_area.specs.Wraps.{wrapped_line_rows, row_past, wrapped_place_at, former_row}
-use Rattle.widget_area.specs.Windows.{window_start, cursor_row, cursor_part, base_line, rows_above_cursor, first_shown_row, wrapped_place}
 use Rattle.widget_area.specs.TextAreas.{grapheme_drawing, number_drawing, wrapped_row, turned, row_after_line}
 use Rattle.widget_area.specs.TextAreas.{row_style_drawing, first_number_drawing}
 use Rattle.widget_area.specs.TextAreas.{wrapped_grapheme_drawing, wrapped_graphemes_drawing, wrapped_line_drawing, wrapped_lines_drawing}
-
--- the cursor's line is one of the text
-pub cursor-within : (w : TextAreaWidget) → cursor_row w ≤ feeds (area_text w.text.now)
-cursor-within w =
-    let all : feeds (area_text w.text.now) ≡ feeds (area_before w.text.now) + feeds (area_after w.text.now) =
-    sum_by-append (λ b. cond (is_feed b) 1 0) (area_before w.text.now) (area_after w.text.now) in
-    omega (arith, all)
-
--- the next line is counted, and none is left
-pub row-next : (w : TextAreaWidget) (stride row i end : ℕ) → i < end
-    → row_past w stride row i (end - i) ≡ row_past w stride (past row (wrapped_line_rows w stride i)) (i + 1) (end - (i + 1))
-row-next w stride row i end lt = let more : end - i ≡ suc (end - (i + 1)) = omega arith in rw more refl
-
-pub row-end : (w : TextAreaWidget) (stride row i end : ℕ) → end ≤ i → row_past w stride row i (end - i) ≡ row
-row-end w stride row i end le = let none : end - i ≡ 0 = omega arith in rw none refl
-
--- a row stands in a line, or in a later one
-pub wrapped_place_at-here : (w : TextAreaWidget) (stride row i end : ℕ) → i < end → row < wrapped_line_rows w stride i
-    → wrapped_place_at w stride row i (end - i) ≡ (i, row)
-wrapped_place_at-here w stride row i end lt here =
-    let more : end - i ≡ suc (end - (i + 1)) = omega arith in
-    let test : nat_lt row (wrapped_line_rows w stride i) ≡ true = grind (arith, nat_tests) in rw (more, test) refl
-
-pub wrapped_place_at-next : (w : TextAreaWidget) (stride row i end : ℕ) → i < end → wrapped_line_rows w stride i ≤ row
-    → wrapped_place_at w stride row i (end - i) ≡ wrapped_place_at w stride (row - wrapped_line_rows w stride i) (i + 1) (end - (i + 1))
-wrapped_place_at-next w stride row i end lt later =
-    let more : end - i ≡ suc (end - (i + 1)) = omega arith in
-    let test : nat_lt row (wrapped_line_rows w stride i) ≡ false = grind (arith, nat_tests) in rw (more, test) refl
-
-pub wrapped_place_at-end : (w : TextAreaWidget) (stride row i end : ℕ) → end ≤ i
-    → wrapped_place_at w stride row i (end - i) ≡ (i, row)
-wrapped_place_at-end w stride row i end le = let none : end - i ≡ 0 = omega arith in rw none refl
 
 -- a grapheme in its row
 pub wrapped-drawn : {A : Type 0} (w : TextAreaWidget) (p q : Plan) (r line part : Rect) (begin column byte row : ℕ) (g : List ℕ)
@@ -141,42 +105,3 @@ lines-below w p r begin i (suc n) within le =
 pub lines-end : (w : TextAreaWidget) (p : Plan) (r : Rect) (begin i k : ℕ) → r.height ≤ k
     → wrapped_lines_drawing w p r begin i (r.height - k) ≡ nothing
 lines-end w p r begin i k le = let none : r.height - k ≡ 0 = omega arith in rw none refl
-
--- a window stays if its place is in it
-window-stays : (first place room : ℕ) → first ≤ place → place < first + room → window_start first place room ≡ first
-window-stays first place room le lt = omega (arith, le, lt)
-
-wrapped_place_at-stays : (w : TextAreaWidget) (stride row i n : ℕ) → row < wrapped_line_rows w stride i
-    → wrapped_place_at w stride row i n ≡ (i, row)
-wrapped_place_at-stays w stride row i zero lt = refl
-wrapped_place_at-stays w stride row i (suc n) lt =
-    let test : nat_lt row (wrapped_line_rows w stride i) ≡ true = grind (arith, nat_tests) in rw test refl
-
-pub wrapped-stays : (w : TextAreaWidget) (v : AreaView) (stride height : ℕ) → v.top ≤ cursor_row w
-    → cursor_row w < v.top + height → v.row < wrapped_line_rows w stride v.top → v.row ≤ rows_above_cursor w stride v.top
-    → rows_above_cursor w stride v.top < v.row + height → wrapped_place w v stride height ≡ (v.top, v.row)
-wrapped-stays w v stride height top bottom row above below =
-    let line : base_line w v height ≡ v.top = window-stays v.top (cursor_row w) height top bottom in
-    let same : (v.top == v.top) ≡ true = grind (arith, nat_tests) in
-    let former : former_row v v.top (rows_above_cursor w stride v.top) ≡ v.row = rw same refl in
-    let first : first_shown_row w v stride v.top height ≡ v.row =
-    rw former (window-stays v.row (rows_above_cursor w stride v.top) height above below) in
-    rw (line, first) (wrapped_place_at-stays w stride v.row v.top (cursor_row w - v.top) row)
-
--- the view as it is computed
-pub place-is : (w : TextAreaWidget) (v : AreaView) (stride height row part line rows cursor former first : ℕ) (place : ℕ × ℕ)
-    → row ≡ cursor_row w → part ≡ cursor_part w stride → line ≡ window_start v.top row height
-    → rows ≡ row_past w stride 0 line (row - line) → cursor ≡ past rows part
-    → former ≡ former_row v line cursor → first ≡ window_start former cursor height
-    → place ≡ wrapped_place_at w stride first line (row - line) → place ≡ wrapped_place w v stride height
-place-is w v stride height row part line rows cursor former first place row_is part_is line_is rows_is cursor_is former_is
-    first_is place_is =
-    rw (first_is, former_is, cursor_is, rows_is, line_is, row_is, part_is) at place_is
-
-pub y-is : (w : TextAreaWidget) (v : AreaView) (stride height row part line rows cursor former first y : ℕ)
-    → row ≡ cursor_row w → part ≡ cursor_part w stride → line ≡ window_start v.top row height
-    → rows ≡ row_past w stride 0 line (row - line) → cursor ≡ past rows part
-    → former ≡ former_row v line cursor → first ≡ window_start former cursor height → y ≡ cursor - first
-    → y ≡ rows_above_cursor w stride (base_line w v height) - first_shown_row w v stride (base_line w v height) height
-y-is w v stride height row part line rows cursor former first y row_is part_is line_is rows_is cursor_is former_is first_is y_is =
-    rw (first_is, former_is, cursor_is, rows_is, line_is, row_is, part_is) at y_is

@@ -2,3 +2,5 @@ pub mod Columns
 pub mod Wraps
 pub mod Windows
 pub mod TextAreas
+pub mod Inner
+pub mod PlaceRows

@@ -15,9 +15,9 @@ use Rattle.text_area.specs.Areas.{AreaData, area_text, area_before, area_after, 
 use Rattle.widget_area.specs.declared.view.AreaView.{AreaView}
 use Rattle.widget_area.specs.declared.plan.Plan.{Plan}
 use Rattle.widget_area.specs.declared.widget.TextAreaWidget.{TextAreaWidget}
-use Rattle.widget_area.specs.Columns.{columns_of_grapheme, past, column_past, column_after_line}
+use Rattle.widget_area.specs.Columns.{columns_of_grapheme, past}
 use Rattle.widget_area.specs.Wraps.{rows_of_columns}
-use Rattle.widget_area.specs.Windows.{plan_of, next_view, cursor_forgotten}
+use Rattle.widget_area.specs.Windows.{end_column, plan_of, next_view, cursor_forgotten}
 
 -- a widget of a text without a box and numbers, in which nothing has a style but what is selected, which is
 -- reversed; a tab leads to a multiple of eight columns
@@ -116,15 +116,14 @@ wrapped_graphemes_drawing w p r begin column byte (g ∷ gs) =
     before wrapped_graphemes_drawing w p r begin (past column (columns_of_grapheme w.tab column g))
     (past byte (length g)) gs)
 
--- the column after the line of a number
-abbrev pub end_column : TextAreaWidget → Plan → ℕ → ℕ
-end_column w p i =
-    if i == p.row then column_past w.tab p.column (graphemes true (first_line (area_after w.text.now)))
-    else column_after_line w.tab (nth_line i (area_text w.text.now))
-
--- the row after that line, which begins in a row
+-- the row after the line of a number, which begins in a row
 abbrev pub row_after_line : TextAreaWidget → Plan → ℕ → ℕ → ℕ
-row_after_line w p begin i = past begin (rows_of_columns p.stride (end_column w p i))
+row_after_line w p begin i = past begin (rows_of_columns p.stride (end_column w p.row p.column i))
+
+-- the row in which the line n further begins, if one begins in a row
+abbrev pub row_past : TextAreaWidget → Plan → ℕ → ℕ → ℕ → ℕ
+row_past w p begin i zero = begin
+row_past w p begin i (suc n) = row_past w p (row_after_line w p begin i) (i + 1) n
 
 -- the style of the cursor's line, over all of its rows that are in view
 abbrev pub row_style_drawing : TextAreaWidget → Plan → Rect → ℕ → ℕ → Drawing

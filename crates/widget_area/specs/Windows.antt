@@ -1,15 +1,17 @@
 -- Which part of a text is shown.
-use Rattle.std.specs.Prelude.{ℕ, ◌+◌, ◌-◌, ◌/◌, ◌%◌, min, max, length, Option, Some, None, nat_lt, true, if◌then◌else◌}
+use Rattle.std.specs.Prelude.{ℕ, ◌+◌, ◌-◌, ◌/◌, ◌%◌, ◌==◌, min, max, length, Option, Some, None, nat_lt, true, if◌then◌else◌}
 use Rattle.std.specs.Fmt.{decimal}
 use Rattle.ratatui_core.specs.{Layout.Rect, Buffer.position_of}
 use Rattle.unicode_segmentation.specs.Grapheme.{graphemes}
-use Rattle.text_area.specs.Lines.{feeds, first_line, last_line}
+use Rattle.text_area.specs.Lines.{feeds, nth_line, first_line, last_line}
 use Rattle.text_area.specs.Areas.{area_text, area_before, area_after, selection}
 use Rattle.widget_area.specs.declared.view.AreaView.{AreaView}
 use Rattle.widget_area.specs.declared.plan.Plan.{Plan}
 use Rattle.widget_area.specs.declared.widget.TextAreaWidget.{TextAreaWidget}
-use Rattle.widget_area.specs.Columns.{column_past, column_after_line, past}
-use Rattle.widget_area.specs.Wraps.{stride_of, row_past, wrapped_place_at, former_row}
+use Rattle.text_places.specs.declared.place.Place.{Place}
+use Rattle.text_places.specs.Places.{text_place, place_there, rows_between, view_begin}
+use Rattle.widget_area.specs.Columns.{column_past, column_after_line}
+use Rattle.widget_area.specs.Wraps.{stride_of, rows_of_columns}
 
 -- of all windows of so many places that have a place in them, the one that begins nearest to where it began
 abbrev pub window_start : ℕ → ℕ → ℕ → ℕ
@@ -32,9 +34,15 @@ cursor_row w = feeds (area_before w.text.now)
 abbrev pub cursor_column : TextAreaWidget → ℕ
 cursor_column w = column_after_line w.tab (last_line (area_before w.text.now))
 
--- the column after its line, which is read in two parts, before the cursor and after it
-abbrev pub cursor_end : TextAreaWidget → ℕ
-cursor_end w = column_past w.tab (cursor_column w) (graphemes true (first_line (area_after w.text.now)))
+-- the column after its line, if the cursor is in a column: the line is read in two parts, before the cursor
+-- and after it, as each is edited
+abbrev pub column_after_rest : TextAreaWidget → ℕ → ℕ
+column_after_rest w column = column_past w.tab column (graphemes true (first_line (area_after w.text.now)))
+
+-- the column after a line, if the cursor is in this row and in this column
+abbrev pub end_column : TextAreaWidget → ℕ → ℕ → ℕ → ℕ
+end_column w row column i =
+    if i == row then column_after_rest w column else column_after_line w.tab (nth_line i (area_text w.text.now))
 
 -- What is shown in an area, if the view was this one before: the view moves only as far as the cursor wants
 -- it. A line in each row:
@@ -56,44 +64,35 @@ plain_plan w v r =
       to = (selection w.text.now).1;
     }
 
--- And lines that go on in the next rows; after a full row the cursor stands in the last column. Rows are
--- counted from the first one of a line on, which is the one with which a view of lines that aren't wrapped
--- would begin: so it isn't below the cursor's line, nor far above it.
-abbrev pub base_line : TextAreaWidget → AreaView → ℕ → ℕ
-base_line w v height = window_start v.top (cursor_row w) height
+-- how many rows each line takes, if lines go on in the next rows
+abbrev pub wrapped_rows : TextAreaWidget → ℕ → ℕ → ℕ
+wrapped_rows w stride i = rows_of_columns stride (end_column w (cursor_row w) (cursor_column w) i)
 
--- the cursor's row in its line: the one of its column, or the last one if it stands after that
-abbrev pub cursor_part : TextAreaWidget → ℕ → ℕ
-cursor_part w stride = min (cursor_column w / stride) ((cursor_end w - 1) / stride)
+-- the cursor's place: the row of its column, or the last one of its line if it stands after that
+abbrev pub cursor_place : TextAreaWidget → ℕ → Place
+cursor_place w stride = place_there (wrapped_rows w stride) (text_place (cursor_row w) (cursor_column w / stride))
 
--- how many rows from there on are before the cursor's
-abbrev pub rows_above_cursor : TextAreaWidget → ℕ → ℕ → ℕ
-rows_above_cursor w stride i = past (row_past w stride 0 i (cursor_row w - i)) (cursor_part w stride)
-
--- and before the view
-abbrev pub first_shown_row : TextAreaWidget → AreaView → ℕ → ℕ → ℕ → ℕ
-first_shown_row w v stride i height =
-    window_start (former_row v i (rows_above_cursor w stride i)) (rows_above_cursor w stride i) height
-
--- the line and the row of it with which the view begins
-abbrev pub wrapped_place : TextAreaWidget → AreaView → ℕ → ℕ → ℕ × ℕ
+-- the place with which the view begins
+abbrev pub wrapped_place : TextAreaWidget → AreaView → ℕ → ℕ → Place
 wrapped_place w v stride height =
-    let i = base_line w v height in wrapped_place_at w stride (first_shown_row w v stride i height) i (cursor_row w - i)
+    view_begin (wrapped_rows w stride) (text_place v.top v.row) (cursor_place w stride) height
 
+-- And lines that go on in the next rows; after a full row the cursor stands in the last column.
 abbrev pub wrapped_plan : TextAreaWidget → AreaView → Rect → Plan
 wrapped_plan w v r =
     let n = gutter_columns w r.width in
     let stride = stride_of (r.width - n) in
-    let i = base_line w v r.height in record {
-      top = (wrapped_place w v stride r.height).0;
-      above = (wrapped_place w v stride r.height).1;
+    let begin = wrapped_place w v stride r.height in
+    let cursor = cursor_place w stride in record {
+      top = begin.line;
+      above = begin.row;
       left = v.left;
       stride = stride;
       numbers = n;
       row = cursor_row w;
       column = cursor_column w;
-      x = if nat_lt (cursor_part w stride) (cursor_column w / stride) then r.width - n - 1 else cursor_column w % stride;
-      y = rows_above_cursor w stride i - first_shown_row w v stride i r.height;
+      x = if nat_lt cursor.row (cursor_column w / stride) then r.width - n - 1 else cursor_column w % stride;
+      y = rows_between (wrapped_rows w stride) begin cursor;
       from = (selection w.text.now).0;
       to = (selection w.text.now).1;
     }

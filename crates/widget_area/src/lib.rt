@@ -3,16 +3,16 @@
 //! It shows a `TextArea` of `text_area`. `specs/Columns` says in which columns of a line its
 //! graphemes stand, `specs/Wraps` in which rows if lines are wrapped, `specs/Windows` which part of
 //! the text is shown, and `specs/TextAreas` what is drawn of it, and what a rendering makes of a
-//! buffer and of the view.
+//! buffer and of the view. Where lines are wrapped, `text_places` says what a place is, and where a
+//! view begins that has the cursor's place in it.
 //!
-//! What a rendering costs: it reads the text once from its start to the last line that is shown, to
-//! find the lines (with line numbers the whole text, to count them), the cursor's line up to the
-//! cursor, and of each line that is shown what stands before the view's last column. Beside that it
-//! costs what is shown, and it takes no memory but for graphemes that are long.
+//! What a rendering costs: it finds the lines that are shown from the cursor's line on, reads that one
+//! up to the cursor, and of each line that is shown what stands before the view's last column. Beside
+//! that it costs what is shown, and it takes no memory but for graphemes that are long.
 //!
-//! Where lines are wrapped, it reads whole each line in view, and each one between the view's first
-//! line and the cursor's, though no more of them than the area has rows. So a line of megabytes is
-//! read a few times from its start to its end, however few of its rows are in view.
+//! Where lines are wrapped, it reads whole each line in view, and those above the cursor's line once
+//! more, to find where the view begins; it reads no line that isn't in view. So a line of megabytes
+//! is read a few times from its start to its end, however few of its rows are in view.
 #![tactic(auto)]
 
 mod columns;

@@ -32,7 +32,7 @@ use unicode_segmentation::UnicodeSegmentation;
 
 // Where a grapheme stands: in a column of its line, at a byte of the text.
 #[derive(Clone, Copy)]
-pub(crate) struct Place {
+pub(crate) struct Spot {
     pub(crate) column: usize,
     pub(crate) byte: usize,
 }
@@ -71,7 +71,7 @@ fn write_if(
 
 impl<'a> TextAreaWidget<'a> {
     // At which column of a row a grapheme begins that is in view, and how many of its columns are.
-    fn in_view(&self, plan: &Plan, at: Place, grapheme: &str, room: u16) -> (u16, u16)
+    fn in_view(&self, plan: &Plan, at: Spot, grapheme: &str, room: u16) -> (u16, u16)
         requires { at.column - plan.now.left < room }
         ensures column { result.0 ≡ at.column - plan.now.left }
         ensures shown { let n = columns_of_grapheme self.now.tab at.column grapheme.now in
@@ -89,7 +89,7 @@ impl<'a> TextAreaWidget<'a> {
     pub(crate) fn draw_grapheme(
         &self,
         plan: &Plan,
-        at: Place,
+        at: Spot,
         grapheme: &str,
         row: Rect,
         buf: &mut Buffer,
@@ -109,24 +109,24 @@ impl<'a> TextAreaWidget<'a> {
         write_if(is_whole, grapheme, Style::new(), part, buf)
     }
 
-    // The place after a grapheme that stands at a place.
-    pub(crate) fn next_place(&self, at: Place, grapheme: &str) -> Place
+    // The spot after a grapheme that stands at a spot.
+    pub(crate) fn next_spot(&self, at: Spot, grapheme: &str) -> Spot
         ensures column { result.column
             ≡ past at.column (columns_of_grapheme self.now.tab at.column grapheme.now) }
         ensures byte { result.byte ≡ past at.byte (length grapheme.now) }
     {
         let columns = columns_of_grapheme(self.tab, at.column, grapheme);
-        Place {
+        Spot {
             column: past(at.column, usize::from(columns)),
             byte: past(at.byte, grapheme.len()),
         }
     }
 
-    // Draws a part of a line, which begins at a place, read grapheme by grapheme.
+    // Draws a part of a line, which begins at a spot, read grapheme by grapheme.
     fn draw_rest(
         &self,
         plan: &Plan,
-        from: Place,
+        from: Spot,
         text: &str,
         row: Rect,
         buf: &mut Buffer,
@@ -145,7 +145,7 @@ impl<'a> TextAreaWidget<'a> {
                 return Ok(());
             }
             self.draw_grapheme(plan, at, grapheme, row, buf)?;
-            at = self.next_place(at, grapheme);
+            at = self.next_spot(at, grapheme);
         }
         Ok(())
     }
@@ -155,7 +155,7 @@ impl<'a> TextAreaWidget<'a> {
     fn draw_part(
         &self,
         plan: &Plan,
-        from: Place,
+        from: Spot,
         is_plain: bool,
         text: &str,
         row: Rect,
@@ -169,7 +169,7 @@ impl<'a> TextAreaWidget<'a> {
     {
         let hidden = plan.columns_left().saturating_sub(from.column);
         let front = front_len(is_plain, text, hidden);
-        let at = Place {
+        let at = Spot {
             column: past(from.column, front),
             byte: past(from.byte, front),
         };
@@ -226,11 +226,11 @@ impl<'a> TextAreaWidget<'a> {
             IsDone d row result buf.old buf.new }
         ensures area { buf.new.area ≡ buf.old.area }
     {
-        let front = Place {
+        let front = Spot {
             column: 0,
             byte: start,
         };
-        let back = Place {
+        let back = Spot {
             column: plan.column,
             byte: self.text.cursor_byte(),
         };

@@ -3,16 +3,13 @@
 ghost use Rattle.std.specs.Prelude.{◌≡◌, ◌≤◌, ◌<◌, ◌+◌, ◌-◌, Some, None, true};
 ghost use Rattle.ratatui_core.specs.Style.{new_style};
 ghost use Rattle.widget_boxes.specs.Boxes.{IsBoxArea};
-ghost use Rattle.unicode_segmentation.specs.Grapheme.{graphemes};
-ghost use Rattle.text_area.specs.{Lines.first_line, Areas.area_after};
-ghost use Rattle.widget_area.specs.Columns.{column_past};
 ghost use Rattle.widget_area.specs.Windows.{gutter_columns, cursor_column, plain_plan, wrapped_plan, plan_of};
-ghost use Rattle.widget_area.specs.Windows.{view_of};
+ghost use Rattle.widget_area.specs.Windows.{column_after_rest, view_of};
 ghost use Rattle.widget_area.specs.TextAreas.{IsNewWidget};
 
 use crate::columns::{column_past, window_start};
 use crate::numbers::digit_count;
-use crate::places::{column_in_part, part_of, stride_of};
+use crate::places::{WrappedText, column_in_row, stride_of};
 use crate::plan::Plan;
 use crate::view::AreaView;
 use ratatui_core::buffer::Buffer;
@@ -22,6 +19,7 @@ use ratatui_core::widgets::StatefulWidget;
 use rtui_inside::{DrawStateInside, render_state_inside};
 use std::alloc::AllocError;
 use text_area::TextArea;
+use text_places::{Place, view_begin};
 use widget_boxes::Block;
 
 /// A `TextAreaWidget` shows the text of a `TextArea` over an area, in a box if it has one: a line in
@@ -161,7 +159,7 @@ impl<'a> TextAreaWidget<'a> {
     }
 
     // The cursor's column in its line.
-    fn cursor_column(&self) -> usize
+    pub(crate) fn cursor_column(&self) -> usize
         ensures { result ≡ cursor_column self.now }
     {
         let is_plain = self.text.is_plain_line();
@@ -169,9 +167,8 @@ impl<'a> TextAreaWidget<'a> {
     }
 
     // The column after the cursor's line, which has the cursor in a column.
-    pub(crate) fn cursor_end(&self, column: usize) -> usize
-        ensures { result ≡ column_past self.now.tab column
-            (graphemes true (first_line (area_after self.now.text.now))) }
+    pub(crate) fn column_after_rest(&self, column: usize) -> usize
+        ensures { result ≡ column_after_rest self.now column }
     {
         let is_plain = self.text.is_plain_line();
         column_past(is_plain, self.tab, column, self.text.cursor_line().1)
@@ -220,20 +217,24 @@ impl<'a> TextAreaWidget<'a> {
         let stride = stride_of(area.width - numbers);
         let row = self.text.cursor_row();
         let column = self.cursor_column();
-        let end = self.cursor_end(column);
-        let part = part_of(stride, column, end);
-        let (top, above, y) = self.wrapped_view(view, stride, row, part, area.height);
+        let cursor = self.cursor_place(stride, row, column);
+        let former = Place {
+            line: view.top,
+            row: view.row,
+        };
+        let mut text = WrappedText::new(self, stride);
+        let (begin, y) = view_begin(&mut text, former, cursor, usize::from(area.height));
         let (from, to) = self.text.selection();
         Plan {
-            top,
-            above,
+            top: begin.line,
+            above: begin.row,
             left: view.left,
             stride,
             numbers,
             row,
             column,
-            x: column_in_part(stride, column, part, area.width - numbers),
-            y,
+            x: column_in_row(stride, column, cursor.row, area.width - numbers),
+            y: y as u16,
             from,
             to,
         }

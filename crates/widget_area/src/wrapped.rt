@@ -9,16 +9,16 @@ ghost use Rattle.widget_boxes.specs.Boxes.{IsBoxArea};
 ghost use Rattle.rtui_drawing.specs.Drawings.{DrawsAll, IsDone};
 ghost use Rattle.text_area.specs.Lines.{feeds, nth_start};
 ghost use Rattle.text_area.specs.Areas.{area_text};
-ghost use Rattle.widget_area.specs.TextAreas.{wrapped_row, end_column, row_after_line};
+ghost use Rattle.widget_area.specs.TextAreas.{wrapped_row, row_after_line};
 ghost use Rattle.widget_area.specs.TextAreas.{row_style_drawing, first_number_drawing};
 ghost use Rattle.widget_area.specs.TextAreas.{wrapped_grapheme_drawing, wrapped_graphemes_drawing};
 ghost use Rattle.widget_area.specs.TextAreas.{wrapped_text_drawing};
 ghost use Rattle.widget_area.specs.TextAreas.{wrapped_line_drawing, wrapped_lines_drawing};
 
-use crate::columns::{column_after_line, front_len, past};
+use crate::columns::{front_len, past};
 use crate::places::rows_of_columns;
 use crate::plan::Plan;
-use crate::rows::{Place, put_style_if};
+use crate::rows::{Spot, put_style_if};
 use crate::widget::TextAreaWidget;
 use ratatui_core::buffer::Buffer;
 use ratatui_core::layout::Rect;
@@ -33,7 +33,7 @@ impl<'a> TextAreaWidget<'a> {
         &self,
         plan: &Plan,
         begin: usize,
-        at: Place,
+        at: Spot,
         grapheme: &str,
         inner: Rect,
         buf: &mut Buffer,
@@ -62,7 +62,7 @@ impl<'a> TextAreaWidget<'a> {
         &self,
         plan: &Plan,
         begin: usize,
-        from: Place,
+        from: Spot,
         text: &str,
         inner: Rect,
         buf: &mut Buffer,
@@ -83,7 +83,7 @@ impl<'a> TextAreaWidget<'a> {
                 return Ok(());
             }
             self.draw_wrapped_grapheme(plan, begin, at, grapheme, inner, buf)?;
-            at = self.next_place(at, grapheme);
+            at = self.next_spot(at, grapheme);
         }
         Ok(())
     }
@@ -94,7 +94,7 @@ impl<'a> TextAreaWidget<'a> {
         &self,
         plan: &Plan,
         begin: usize,
-        from: Place,
+        from: Spot,
         is_plain: bool,
         text: &str,
         inner: Rect,
@@ -111,24 +111,11 @@ impl<'a> TextAreaWidget<'a> {
     {
         let hidden = plan.hidden_columns(begin).saturating_sub(from.column);
         let front = front_len(is_plain, text, hidden);
-        let at = Place {
+        let at = Spot {
             column: past(from.column, front),
             byte: past(from.byte, front),
         };
         self.draw_wrapped_rest(plan, begin, at, &text[front..], inner, buf)
-    }
-
-    // The column after the line of a number, which begins at a byte.
-    fn end_column(&self, plan: &Plan, number: usize, start: usize) -> usize
-        requires start { start ≡ nth_start number (area_text self.now.text.now) }
-        requires boundary { IsCharBoundary (area_text self.now.text.now) start }
-        ensures { result ≡ end_column self.now plan.now number }
-    {
-        if number == plan.row {
-            self.cursor_end(plan.column)
-        } else {
-            column_after_line(self.tab, self.text.line_from(start))
-        }
     }
 
     // The row after the line of a number, which begins in a row and at a byte.
@@ -138,7 +125,7 @@ impl<'a> TextAreaWidget<'a> {
         requires boundary { IsCharBoundary (area_text self.now.text.now) start }
         ensures { result ≡ row_after_line self.now plan.now begin number }
     {
-        let end = self.end_column(plan, number, start);
+        let end = self.end_column(plan.row, plan.column, number, start);
         past(begin, rows_of_columns(plan.stride, end))
     }
 
@@ -211,11 +198,11 @@ impl<'a> TextAreaWidget<'a> {
             IsDone d inner result buf.old buf.new }
         ensures area { buf.new.area ≡ buf.old.area }
     {
-        let front = Place {
+        let front = Spot {
             column: 0,
             byte: start,
         };
-        let back = Place {
+        let back = Spot {
             column: plan.column,
             byte: self.text.cursor_byte(),
         };

@@ -28,7 +28,7 @@ walk-preserved c =
     c.in-Some.grapheme.now (graphemes_left c.next.new.self) (graphemes_left c.walk.left) is (omega arith) in
     record {
       area = c.in_ok-draw_grapheme.ensures.area ∙ c.walk.invariant.area;
-      rest = rw (c.next_place-at.ensures.column, c.next_place-at.ensures.byte)
+      rest = rw (c.next_spot-at.ensures.column, c.next_spot-at.ensures.byte)
           (continues-next (rw next at c.walk.invariant.rest) c.in_ok-draw_grapheme.ensures.done);
     }
 

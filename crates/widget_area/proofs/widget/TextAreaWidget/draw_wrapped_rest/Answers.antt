@@ -30,7 +30,7 @@ walk-preserved c =
     (omega (arith, c.wrapped_row-row.ensures)) in
     record {
       area = c.in_ok-draw_wrapped_grapheme.ensures.area ∙ c.walk.invariant.area;
-      rest = rw (c.next_place-at.ensures.column, c.next_place-at.ensures.byte)
+      rest = rw (c.next_spot-at.ensures.column, c.next_spot-at.ensures.byte)
           (continues-next (rw next at c.walk.invariant.rest) c.in_ok-draw_wrapped_grapheme.ensures.done);
     }
 

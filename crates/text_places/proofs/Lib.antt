@@ -1,0 +1,3 @@
+pub mod PlaceLemmas
+pub mod LineLemmas
+pub mod WalkLemmas
