@@ -12,7 +12,12 @@ returns-clause-ok g c =
     let closes = subst (λ xs. Performs drawn xs (holding false)) (sym c.in_ok-push_str-2.ensures.bytes)
     (c.update_end.ensures drawn) in
     let d = c.in_ok-after.ensures.ok in
-    record d { drafts = update-drawn opens d.drafts closes }
+    record {
+      items = d.items;
+      drained = d.drained;
+      drafts = update-drawn opens d.drafts closes;
+      sendable = d.sendable;
+    }
 
 pub returns-clause-within : goal.returns-clause-within
 returns-clause-within g c =
