@@ -3,9 +3,9 @@
 //! It stands on `ratatui_core`, on its contracts alone. [`LogView`] keeps a terminal over one row;
 //! [`LogView::push`] inserts a line above it. `specs/Rows` says what a line's row is, `specs/Views`
 //! what a push does. [`push_lines`] pushes those of a log, [`view_of`] shows one on a screen in
-//! memory; [`run`] reads a log from any reader, and writes what that screen shows to any writer,
-//! and `specs/Engine` says what it writes. [`print_log`] is a run that writes its fault
-//! (`specs/Ending`).
+//! memory whose rows that scrolled off are text (`printed_backend`); [`run`] reads a log from any
+//! reader, and writes what that screen shows to any writer, and `specs/Engine` says what it writes.
+//! [`print_log`] is a run that writes its fault (`specs/Ending`).
 #![tactic(auto)]
 
 mod engine;

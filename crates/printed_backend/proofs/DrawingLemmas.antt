@@ -4,7 +4,8 @@ use Rattle.std.proofs.Common.{IsOk, OnOk, OnErr}
 use Rattle.std.proofs.Common.{refl, sym, ap, subst, ◌∙◌}
 use Rattle.std.specs.{Iterator.Drains, Iterator.Adapters.once_item, Iterator.Adapters.once_steps}
 use Rattle.std.specs.declared.iter.Once.{Once}
-use Rattle.std.proofs.lemmas.{Bool.false≢true, Iterator.items_from_drains, Iterator.Adapters.YieldsList-from_once, Result.on_ok_weaker}
+use Rattle.std.proofs.lemmas.{Bool.false≢true, Iterator.items_from_drains, Iterator.Adapters.YieldsList-from_once}
+use Rattle.std.proofs.lemmas.{Result.on_ok_weaker}
 use Rattle.rtui_cell.specs.{Look.Look, Grid.Grid, Grid.Update, Grid.put, Grid.puts}
 use Rattle.rtui_backend.specs.{Screen.Screen, Screen.Draws, Screen.cursor_of, TestBackend.screen_of, TestBackend.HasOnlyPut}
 use Rattle.rtui_backend.proofs.DrawLemmas.{Draws-none}

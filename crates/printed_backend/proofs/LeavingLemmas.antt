@@ -1,6 +1,6 @@
 -- Rows that leave the screen, and how it scrolls.
-use Rattle.std.proofs.Common.{◌≡◌, ◌⊎◌, Bool, ℕ, ◌+◌, ◌-◌, ◌<◌, ◌≤◌, min, List, [], ◌∷◌, ◌++◌, map, nat_lt, true, false, ◌==◌, if◌then◌else◌, refl}
-use Rattle.std.proofs.Common.{sym, ap, subst, ◌∙◌, arith, append_assoc, inl, inr}
+use Rattle.std.proofs.Common.{◌≡◌, ◌⊎◌, Bool, ℕ, ◌+◌, ◌-◌, ◌<◌, ◌≤◌, min, List, [], ◌∷◌, ◌++◌, map}
+use Rattle.std.proofs.Common.{nat_lt, true, false, ◌==◌, if◌then◌else◌, refl, sym, ap, subst, ◌∙◌, arith, append_assoc, inl, inr}
 use Rattle.std.specs.List.{flat_map, range_with_len}
 use Rattle.std.proofs.lemmas.{List.append-nil, List.map-append, List.FromFn.map-range_with_len_more, Grind.flat_map-append}
 use Rattle.std.proofs.lemmas.{Bool.cases_lt, Bool.Decides.nat_tests}
@@ -75,7 +75,8 @@ front_scrolled end n s r t some fits raises moved history width height visible w
         visible = visible ∙ ap (λ (z : Screen). z.visible) rest;
         written = written ∙ ap (λ (z : Screen). z.written) rest;
         no_rows = λ none. absurd (omega (arith, none));
-        grid = λ x y x_in y_in. moved x y (omega (arith, w)) (omega (arith, h)) ∙ front_grid end n s r some fits h raises x y x_in;
+        grid = λ x y x_in y_in. moved x y (omega (arith, w)) (omega (arith, h))
+            ∙ front_grid end n s r some fits h raises x y x_in;
       };
       cursor = cursor ∙ ap cursor_of rest;
     }

@@ -2,8 +2,8 @@
 use Rattle.std.specs.Prelude.{◌≡◌, ℕ, ◌<◌, List, map}
 use Rattle.std.specs.List.{range_with_len}
 use Rattle.rtui_cell.specs.{Look.Look, Look.look_of, Look.empty_look}
-use Rattle.rtui_backend.specs.{Screen.Screen, Screen.seen, Screen.row_of, Screen.upper_part, Screen.rows_above}
-use Rattle.rtui_backend.specs.{Screen.ScrollsRegion, Screen.scrolling_up, Screen.cursor_of}
+use Rattle.rtui_backend.specs.Screen.{Screen, seen, row_of, upper_part, rows_above}
+use Rattle.rtui_backend.specs.Screen.{ScrollsRegion, scrolling_up, cursor_of}
 use Rattle.printed_backend.specs.declared.rows.Rows.{Rows}
 
 -- the looks of rows

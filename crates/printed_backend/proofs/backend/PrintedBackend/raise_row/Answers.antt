@@ -16,7 +16,8 @@ loop-x-preserved c =
     record {
       raised = raised-more c.args.from c.args.end c.loop-x.x (shown_on c.args.self.now) (shown_on c.loop-x.self)
           (shown_on c.put.new.self) _ c.requires.above (omega (arith, was.width, c.loop-x-test.true))
-          (omega (arith, c.requires.some, c.requires.rows)) was.raised refl refl c.in_ok-cell.ensures drawn c.in_ok-put.ensures.cursor;
+          (omega (arith, c.requires.some, c.requires.rows)) was.raised refl refl c.in_ok-cell.ensures drawn
+          c.in_ok-put.ensures.cursor;
       drawn = (_, Draws-push was.drawn.1 drawn);
       failures = c.put.ensures.failures ∙ was.failures;
       width = was.width;
