@@ -3,7 +3,7 @@
 ghost use Rattle.std.specs.Prelude.{◌≡◌, ◌+◌, ◌-◌, ◌^◌, min, [], ◌++◌, true, false, IfOk, IfErr, OnOk, OnErr};
 ghost use Rattle.std.specs.Io.KnownBytes.{Appends};
 ghost use Rattle.ratatui_ansi.specs.Backend.{IsTied};
-ghost use Rattle.ratatui_ansi.specs.Inner.Sender.{SendsAll, BreaksAt};
+ghost use Rattle.ratatui_ansi.specs.Inner.Sender.{WritesWhole, BreaksAt};
 ghost use Rattle.ratatui_ansi.specs.declared.error.AnsiError.TheVariants.{Broken};
 
 use crate::error::AnsiError;
@@ -89,7 +89,7 @@ impl<W: Write> Sender<W> {
     /// Writes a text whole; then as many calls failed as had before this one. After an Err it isn't
     /// known what of it was written.
     pub(crate) fn send(&mut self, text: &str, failures: u64) -> io::Result<()>
-        ensures all { OnOk result (SendsAll W.contents text.now failures self.old self.new) }
+        ensures all { OnOk result (WritesWhole W.contents text.now failures self.old self.new) }
         ensures before { self.new.sent.before ≡ self.old.sent.before }
         ensures fails { OnErr result (BreaksAt self.old self.new) }
     {
@@ -149,7 +149,7 @@ impl<W: Write> Sender<W> {
         failures: u64,
         is_synchronized: bool,
     ) -> io::Result<()>
-        ensures all { OnOk result (SendsAll W.contents text.now failures self.old self.new) }
+        ensures all { OnOk result (WritesWhole W.contents text.now failures self.old self.new) }
         ensures before { self.new.sent.before ≡ self.old.sent.before }
         ensures fails { OnErr result (BreaksAt self.old self.new) }
     {

@@ -4,7 +4,7 @@ use Rattle.std.specs.Io.KnownBytes.{Appends}
 use Rattle.ratatui_ansi.specs.{declared.sender.Sender.Sender, Backend.IsTied}
 
 -- a text was written whole, which counts as sent and as held; and as many calls have failed as before its own
-pub record SendsAll {W : Type 0} (contents : W → Option (List ℕ)) (text : List ℕ) (failures : ℕ)
+pub record WritesWhole {W : Type 0} (contents : W → Option (List ℕ)) (text : List ℕ) (failures : ℕ)
     (old new : Sender W) : Type 0 where
   pub sent : new.sent.bytes ≡ old.sent.bytes ++ text
   pub held : new.held.bytes ≡ old.held.bytes ++ text
