@@ -15,10 +15,10 @@ use Rattle.widget_area.specs.Wraps.{rows_of_columns}
 use Rattle.widget_area.specs.Windows.{cursor_row, cursor_column, column_after_rest, end_column, wrapped_rows, cursor_place, wrapped_place}
 use Rattle.widget_area.specs.Windows.{wrapped_plan}
 use Rattle.widget_area.specs.TextAreas.{row_after_line, row_past}
-use Rattle.widget_area.specs.PlaceRows.{wrapped-some}
+use Rattle.widget_area.specs.PlaceRows.{wrapped_rows-some}
 
 pub cursor-in : (w : TextAreaWidget) (stride : ℕ) → IsInLine (wrapped_rows w stride) (cursor_place w stride)
-cursor-in w stride = there-in (wrapped_rows w stride) (wrapped-some w stride) (text_place (cursor_row w) (cursor_column w / stride))
+cursor-in w stride = there-in (wrapped_rows w stride) (wrapped_rows-some w stride) (text_place (cursor_row w) (cursor_column w / stride))
 
 -- the cursor's line ends after both its parts
 pub cursor-is : (w : TextAreaWidget) (stride row column rows : ℕ) → row ≡ cursor_row w → column ≡ cursor_column w
@@ -40,7 +40,7 @@ pub stays : (w : TextAreaWidget) (v : AreaView) (stride height : ℕ)
     → rows_between (wrapped_rows w stride) (text_place v.top v.row) (cursor_place w stride) < height
     → wrapped_place w v stride height ≡ text_place v.top v.row
 stays w v stride height in_line before lt =
-    view-stays (wrapped_rows w stride) (text_place v.top v.row) (cursor_place w stride) height (wrapped-some w stride) in_line
+    view-stays (wrapped_rows w stride) (text_place v.top v.row) (cursor_place w stride) height (wrapped_rows-some w stride) in_line
     (cursor-in w stride) before lt
 
 module _ (w : TextAreaWidget) (v : AreaView) (r : Rect) where
@@ -52,18 +52,18 @@ module _ (w : TextAreaWidget) (v : AreaView) (r : Rect) where
 
   not-after : is_before (cursor_place w plan.stride) (wrapped_place w v plan.stride r.height) ≡ false
   not-after =
-      view-before rows (text_place v.top v.row) (cursor_place w plan.stride) r.height (wrapped-some w plan.stride)
+      view-before rows (text_place v.top v.row) (cursor_place w plan.stride) r.height (wrapped_rows-some w plan.stride)
       (cursor-in w plan.stride)
 
   pub in-view : places_after rows plan.y (text_place plan.top plan.above) ≡ cursor_place w plan.stride
   in-view =
-      walked rows (wrapped_place w v plan.stride r.height) (cursor_place w plan.stride) (wrapped-some w plan.stride)
-      (view-in rows (wrapped-some w plan.stride) (text_place v.top v.row) (cursor_place w plan.stride) r.height
+      walked rows (wrapped_place w v plan.stride r.height) (cursor_place w plan.stride) (wrapped_rows-some w plan.stride)
+      (view-in rows (wrapped_rows-some w plan.stride) (text_place v.top v.row) (cursor_place w plan.stride) r.height
       (cursor-in w plan.stride)) (cursor-in w plan.stride) not-after
 
   pub within : 0 < r.height → plan.y < r.height
   within some =
-      view-within rows (text_place v.top v.row) (cursor_place w plan.stride) r.height (wrapped-some w plan.stride)
+      view-within rows (text_place v.top v.row) (cursor_place w plan.stride) r.height (wrapped_rows-some w plan.stride)
       (cursor-in w plan.stride) some
 
 -- rows are drawn as they are counted

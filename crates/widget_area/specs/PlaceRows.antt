@@ -12,8 +12,8 @@ use Rattle.widget_area.specs.Columns.{column_after_line}
 use Rattle.widget_area.specs.Wraps.{rows_of_columns}
 use Rattle.widget_area.specs.Windows.{cursor_row, cursor_column, column_after_rest, wrapped_rows}
 
-pub wrapped-some : (w : TextAreaWidget) (stride i : ℕ) → 0 < wrapped_rows w stride i
-wrapped-some w stride i = omega arith
+pub wrapped_rows-some : (w : TextAreaWidget) (stride i : ℕ) → 0 < wrapped_rows w stride i
+wrapped_rows-some w stride i = omega arith
 
 -- the cursor's line is one of the text
 pub cursor-within : (w : TextAreaWidget) → cursor_row w ≤ feeds (area_text w.text.now)
@@ -55,8 +55,8 @@ no-columns : (tab : ℕ) → column_after_line tab [] ≡ 0
 unfolding unicode_segmentation
 no-columns tab = refl
 
-pub wrapped-past : (w : TextAreaWidget) (stride i : ℕ) → feeds (area_text w.text.now) + 1 ≤ i → wrapped_rows w stride i ≡ 1
-wrapped-past w stride i le =
+pub wrapped_rows-past : (w : TextAreaWidget) (stride i : ℕ) → feeds (area_text w.text.now) + 1 ≤ i → wrapped_rows w stride i ≡ 1
+wrapped_rows-past w stride i le =
     let other : (i == cursor_row w) ≡ false = grind (arith, nat_tests, le, cursor-within w) in
     ap (λ t. rows_of_columns stride (if t then column_after_rest w (cursor_column w)
     else column_after_line w.tab (nth_line i (area_text w.text.now)))) other

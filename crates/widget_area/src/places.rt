@@ -132,7 +132,7 @@ impl<'b, 'a> WrappedText<'b, 'a> {
 }
 
 impl<'b, 'a> BrokenText for WrappedText<'b, 'a> {
-    ghost use Rattle.widget_area.specs.PlaceRows.{wrapped-some, wrapped-past};
+    ghost use Rattle.widget_area.specs.PlaceRows.{wrapped_rows-some, wrapped_rows-past};
 
     ghost rows = { λ text. wrapped_rows text.0 text.1 };
 
@@ -154,7 +154,7 @@ impl<'b, 'a> BrokenText for WrappedText<'b, 'a> {
         self.widget.text.line_count()
     }
 
-    ghost some = { λ text. wrapped-some text.0 text.1 };
+    ghost some = { λ text. wrapped_rows-some text.0 text.1 };
 
-    ghost after = { λ text. wrapped-past text.0 text.1 };
+    ghost after = { λ text. wrapped_rows-past text.0 text.1 };
 }
