@@ -5,12 +5,12 @@ use Rattle.widget_paragraph.specs.Paragraphs.{broken_line, rows_of_lines}
 use Rattle.widget_paragraph.proofs.RowsLemmas.{rows-line, rows-done, lines-next, lines-none, shown-none, shown-full}
 use Rattle.widget_paragraph.proofs.paragraph.Paragraph.render_wrapped.Goals as goal
 
-pub returns-then-row-part-clause-ok : goal.returns-then-row-part-clause-ok
-returns-then-row-part-clause-ok c =
+pub returns-then-filling-part-clause-ok : goal.returns-then-filling-part-clause-ok
+returns-then-filling-part-clause-ok c =
     rows-done c.args.part c.loop-line.filling c.args.self.now.scroll.y _
     (rows_of_lines (Some c.args.wrap) c.args.self.now c.args.part.width c.args.self.now.text.lines) c.args.buf.now
     c.loop-line.buf
-    (shown-full (c.args.part.height - c.loop-line.filling.row) c.loop-line.filling.skip _ (let e = c.if-row-part.true in
+    (shown-full (c.args.part.height - c.loop-line.filling.row) c.loop-line.filling.skip _ (let e = c.if-filling-part.true in
     omega arith)) c.loop-line.invariant.paints
 
 pub render_broken-requires-clause-inside : goal.render_broken-requires-clause-inside
