@@ -59,9 +59,7 @@ fn plays<B: Backend>(backend: &mut B, cells: &[Cell]) -> bool {
     if draw_all(backend, cells).is_err() {
         return false;
     }
-    cells
-        .iter()
-        .all(|cell| scroll_all(backend, cell).is_ok())
+    cells.iter().all(|cell| scroll_all(backend, cell).is_ok())
 }
 
 // Whether both print and show the same, and some rows scrolled off.
@@ -78,10 +76,12 @@ fn prints_alike(alloc: Global, width: u16, height: u16) -> Result<bool, AllocErr
         return Ok(false);
     }
     let above = backend.scrollback().as_bytes();
-    Ok(printed.as_slice() == wanted.as_slice()
-        && other.buffer_is(backend.buffer())
-        && wanted.as_slice().starts_with(above)
-        && other.scrollback().len() > 20)
+    Ok(
+        printed.as_slice() == wanted.as_slice()
+            && other.buffer_is(backend.buffer())
+            && wanted.as_slice().starts_with(above)
+            && other.scrollback().len() > 20,
+    )
 }
 
 #[test]
