@@ -111,7 +111,8 @@ inks_in (Parts target parts) n sgr = inks_part target parts n sgr
 
 -- whether terminals know a parameter that stands for itself
 abbrev pub is_known_alone : ℕ → Bool
-is_known_alone n = is_some (bit_numbered n modifiers) || (n == 0) || (nat_le 30 n && nat_le n 38) || (nat_le 40 n && nat_le n 48) || (n == 58) ||
+is_known_alone n = is_some (bit_numbered n modifiers) || (n == 0) || (nat_le 30 n && nat_le n 38) ||
+    (nat_le 40 n && nat_le n 48) || (n == 58) ||
     (nat_le 90 n && nat_le n 97) || (nat_le 100 n && nat_le n 107)
 
 -- whether they take a parameter alike: a colour is begun by 5 or 2, and its numbers are below 256
